@@ -1,0 +1,140 @@
+//! CoarseList: one lock for the whole list (Herlihy and Shavit's coarse-grained list).
+#![tactic(auto)]
+
+ghost use Rattle.std.specs.Prelude.{◌≡◌};
+ghost use Rattle.lset_steps.specs.Rows.{IsSmall};
+ghost use Rattle.lset_coarse.specs.Coarse.{coarse, next_action, at_key, local_after};
+ghost use Rattle.lset_coarse.specs.Lawful.{coarse_lawful};
+
+use lset_steps::rows::{Targets, begun, decide, key_index, link_index, own_slot};
+use lset_steps::{Action, Fed, Local, Machine};
+use lset_words::{Call, Key, Kind, Reply};
+
+/// The list with one lock.
+#[derive(Clone, Copy, Debug, PartialEq, Eq)]
+pub struct CoarseList;
+
+/// The list's lock.
+const LOCK: u64 = 0;
+
+const HEAD: u64 = 0;
+
+/// The rows to which a call goes on from its decision.
+const TARGETS: Targets = Targets {
+    adds: 5,
+    removes: 8,
+    leaves: 10,
+};
+
+fn next_action(local: &Local) -> Action
+    requires { IsSmall local.now }
+    ensures { result ≡ next_action local.now }
+{
+    match local.pc {
+        1 => Action::Exchange(LOCK, 0, u64::from(local.thread) + 1),
+        2 => Action::Load(link_index(HEAD)),
+        3 => Action::Load(key_index(local.curr)),
+        4 | 8 => Action::Load(link_index(local.curr)),
+        5 => Action::Store(key_index(own_slot(local)), local.call.key().word()),
+        6 => Action::Store(link_index(own_slot(local)), 2 * local.curr),
+        7 => Action::Store(link_index(local.pred), 2 * own_slot(local)),
+        9 => Action::Store(link_index(local.pred), 2 * local.succ),
+        _ => Action::Store(LOCK, 0),
+    }
+}
+
+/// Walks on where the key word is below that of the call, and else decides.
+fn at_key(local: &Local, seen: u64) -> Local
+    ensures { result ≡ at_key seen local.now }
+{
+    if seen < local.call.key().word() {
+        Local {
+            pc: 4,
+            ckey: seen,
+            ..*local
+        }
+    } else {
+        decide(
+            TARGETS,
+            seen,
+            Local {
+                ckey: seen,
+                ..*local
+            },
+        )
+    }
+}
+
+fn local_after(local: &Local, seen: u64) -> Local
+    requires { IsSmall local.now }
+    ensures { result ≡ local_after local.now seen }
+{
+    match local.pc {
+        1 if seen == 0 => Local { pc: 2, ..*local },
+        1 => Local { pc: 1, ..*local },
+        2 => Local {
+            pc: 3,
+            pred: HEAD,
+            curr: seen / 2,
+            ..*local
+        },
+        3 => at_key(local, seen),
+        4 => Local {
+            pc: 3,
+            pred: local.curr,
+            curr: seen / 2,
+            ..*local
+        },
+        5 => Local { pc: 6, ..*local },
+        6 => Local { pc: 7, ..*local },
+        7 => Local {
+            pc: 10,
+            reply: Some(Reply::True),
+            used: local.used + 1,
+            ..*local
+        },
+        8 => Local {
+            pc: 9,
+            succ: seen / 2,
+            ..*local
+        },
+        9 => Local {
+            pc: 10,
+            reply: Some(Reply::True),
+            ..*local
+        },
+        _ => Local { pc: 0, ..*local },
+    }
+}
+
+impl Machine for CoarseList {
+    const KIND: Kind = Kind::Coarse;
+
+    ghost table = { coarse };
+
+    fn begin(call: Call, local: &Local) -> Local {
+        begun(1, call, local)
+    }
+
+    fn next(local: &Local) -> Action {
+        next_action(local)
+    }
+
+    fn feed(local: &Local, seen: u64) -> Fed {
+        let answer = if local.pc == 10 { local.reply } else { None };
+        Fed {
+            local: local_after(local, seen),
+            answer,
+        }
+    }
+
+    fn effect(local: &Local, _seen: u64) -> Option<(Key, bool)> {
+        match local.pc {
+            7 => Some((local.call.key(), true)),
+            9 => Some((local.call.key(), false)),
+            _ => None,
+        }
+    }
+
+    ghost lawful = { coarse_lawful };
+}

@@ -1,0 +1,83 @@
+-- The chain of a list and its content, as the words and the threads' counts give them (Herlihy and Shavit).
+use Rattle.std.specs.Prelude.{◌≡◌, ◌≢◌, ℕ, ◌+◌, ◌*◌, ◌/◌, ◌%◌, ◌<◌, ◌≤◌, ◌⊎◌, Bool, true, false, List, [], ◌∷◌, Option, slice_index}
+use Rattle.lset_words.specs.Words.{key_index, link_index, lock_index, slot_node}
+use Rattle.lset_words.specs.declared.Key.{Key}
+use Rattle.lset_words.specs.declared.Call.{Call}
+use Rattle.lset_words.specs.declared.Reply.{Reply}
+use Rattle.lset_words.specs.Account.{Changes, Contents, Counts, Fits}
+
+abbrev pub node_key : List ℕ → ℕ → ℕ
+node_key ws a = slice_index ws (key_index a)
+
+abbrev pub node_link : List ℕ → ℕ → ℕ
+node_link ws a = slice_index ws (link_index a)
+
+abbrev pub node_lock : List ℕ → ℕ → ℕ
+node_lock ws a = slice_index ws (lock_index a)
+
+-- What is read of a world: keys, link words and lock words of the nodes, the list's lock, each thread's count, the published nodes.
+pub record View : Type 1 where
+  pub key : ℕ → ℕ
+  pub link : ℕ → ℕ
+  pub lock : ℕ → ℕ
+  pub list_lock : ℕ
+  pub used : ℕ → ℕ
+  pub published : ℕ → Type 0
+
+-- Published: head, tail, and slot j of a thread t with j below its count.
+abbrev pub Published : ℕ → ℕ → (ℕ → ℕ) → ℕ → Type 0
+Published n q used i = (i < 2) ⊎ ((t : ℕ) × (j : ℕ) × (t < n) × (j < used t) × (i ≡ slot_node q t j))
+
+abbrev pub view : ℕ → ℕ → List ℕ → (ℕ → ℕ) → View
+view n q ws used = record { key = node_key ws; link = node_link ws; lock = node_lock ws; list_lock = slice_index ws 0; used = used; published = Published n q used }
+
+-- `ns` are the nodes met by `next(link)` from i up to, and without, j.
+abbrev pub Segment : View → ℕ → List ℕ → ℕ → Type 0
+Segment v i [] j = i ≡ j
+Segment v i (a ∷ ns) j = (a ≡ i) × (i ≢ 1) × Segment v (v.link i / 2) ns j
+
+-- b is met from the head.
+abbrev pub InChain : View → ℕ → Type 0
+InChain v b = (ns : List ℕ) × Segment v 0 ns b
+
+-- The chain is ns, and then the tail.
+abbrev pub IsChain : View → List ℕ → Type 0
+IsChain v ns = Segment v 0 ns 1
+
+-- k is the key of an unmarked user node of the chain.
+abbrev pub InContent : View → ℕ → Type 0
+InContent v k = (b : ℕ) × InChain v b × (1 < b) × (v.key b ≡ k + 1) × (v.link b % 2 ≡ 0)
+
+-- Each published node but the tail leads to a published node with a greater key.
+pub record IsOrdered (v : View) : Type 0 where
+  pub head_published : v.published 0
+  pub tail_published : v.published 1
+  pub top : (i : ℕ) → v.published i → v.key i ≤ v.key 1
+  pub next_published : (i : ℕ) → v.published i → i ≢ 1 → v.published (v.link i / 2)
+  pub rises : (i : ℕ) → v.published i → i ≢ 1 → v.key i < v.key (v.link i / 2)
+
+-- Lists that mark: each unmarked published node is in the chain. The others have no marks.
+abbrev pub UnmarkedInChain : Bool → View → Type 0
+UnmarkedInChain true v = (b : ℕ) → v.published b → v.link b % 2 ≡ 0 → InChain v b
+UnmarkedInChain false v = (b : ℕ) → v.published b → v.link b % 2 ≡ 0
+
+-- [Content] of a world, and of the worlds at the moments of a run
+abbrev pub Changed : Option (Key × Bool) → View → View → Type 0
+Changed change v w = Changes change (InContent v) (InContent w)
+
+abbrev pub contents_of : (ℕ → View) → Contents
+contents_of vs moment = InContent (vs moment)
+
+abbrev pub counts_of : (ℕ → View) → Counts
+counts_of vs moment thread = (vs moment).used thread
+
+abbrev pub FitsIn : ℕ → View → ℕ → Call → Reply → Type 0
+FitsIn quota v thread call reply = Fits quota (InContent v) (v.used thread) call reply
+
+-- [Unlinked stays]: node i, published in v, in a later world w. Its key stays; where it is unlinked it is frozen and never in the
+-- chain again; in a list that marks, a marked node is frozen.
+pub record UnlinkedStays (marks : Bool) (v w : View) (i : ℕ) : Type 0 where
+  pub published : w.published i
+  pub key : w.key i ≡ v.key i
+  pub unlinked : (InChain v i → ⊥) → (w.link i ≡ v.link i) × (InChain w i → ⊥)
+  pub marked : marks ≡ true → v.link i % 2 ≡ 1 → w.link i ≡ v.link i

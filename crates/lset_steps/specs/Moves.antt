@@ -1,0 +1,121 @@
+-- What one step may do to the nodes of a list, and what a thread may know of the past: the theory on which the laws are proved.
+-- A reader of the laws need not read it.
+use Rattle.std.specs.Prelude.{◌≡◌, ◌≢◌, ℕ, ◌+◌, ◌*◌, ◌/◌, ◌%◌, ◌<◌, ◌≤◌, ◌⊎◌, Bool, true, false, Option, Some, None}
+use Rattle.lset_words.specs.declared.Key.{Key}
+use Rattle.lset_steps.specs.Chain.{View, InChain, InContent, IsOrdered}
+
+-- What one step does to the nodes: keys stay, nothing comes back into the chain, and a link that changed is that of a node in the chain before and after.
+pub record KeepsNodes (v w : View) : Type 0 where
+  pub keys : (i : ℕ) → v.published i → w.key i ≡ v.key i
+  pub grows : (i : ℕ) → v.published i → w.published i
+  pub kept : (b : ℕ) → v.published b → (w.link b ≡ v.link b) ⊎ (InChain v b × InChain w b)
+  pub back : (b : ℕ) → v.published b → InChain w b → InChain v b
+
+-- THE MOVES
+-- No published node changes.
+pub record Quiet (v w : View) : Type 0 where
+  pub keys : (i : ℕ) → v.published i → w.key i ≡ v.key i
+  pub links : (i : ℕ) → v.published i → w.link i ≡ v.link i
+  pub grows : (i : ℕ) → v.published i → w.published i
+  pub published_from : (i : ℕ) → w.published i → v.published i
+
+-- own, with key k, comes between pred and the next of pred.
+pub record Inserts (v w : View) (pred own k : ℕ) : Type 0 where
+  pub keys : (i : ℕ) → v.published i → w.key i ≡ v.key i
+  pub links : (i : ℕ) → v.published i → i ≢ pred → w.link i ≡ v.link i
+  pub pred_link : w.link pred ≡ 2 * own
+  pub own_link : w.link own ≡ 2 * (v.link pred / 2)
+  pub own_key : w.key own ≡ k + 1
+  pub above : v.key pred < k + 1
+  pub below : k + 1 < v.key (v.link pred / 2)
+  pub in_chain : InChain v pred
+  pub no_tail : pred ≢ 1
+  pub unmarked : v.link pred % 2 ≡ 0
+  pub user : 1 < own
+  pub fresh : v.published own → ⊥
+  pub grows : (i : ℕ) → v.published i → w.published i
+  pub own_published : w.published own
+  pub published_from : (i : ℕ) → w.published i → v.published i ⊎ (i ≡ own)
+
+-- b, with key k, gets its mark.
+pub record Marks (v w : View) (b k : ℕ) : Type 0 where
+  pub keys : (i : ℕ) → v.published i → w.key i ≡ v.key i
+  pub links : (i : ℕ) → v.published i → i ≢ b → w.link i ≡ v.link i
+  pub unmarked : v.link b % 2 ≡ 0
+  pub marked : w.link b ≡ v.link b + 1
+  pub in_chain : InChain v b
+  pub user : 1 < b
+  pub key : v.key b ≡ k + 1
+  pub grows : (i : ℕ) → v.published i → w.published i
+  pub published_from : (i : ℕ) → w.published i → v.published i
+
+-- The next of pred, curr, is left out.
+pub record Unlinks (v w : View) (pred curr : ℕ) : Type 0 where
+  pub keys : (i : ℕ) → v.published i → w.key i ≡ v.key i
+  pub links : (i : ℕ) → v.published i → i ≢ pred → w.link i ≡ v.link i
+  pub is_next : v.link pred / 2 ≡ curr
+  pub pred_link : w.link pred ≡ 2 * (v.link curr / 2)
+  pub in_chain : InChain v pred
+  pub no_tail : pred ≢ 1
+  pub curr_no_tail : curr ≢ 1
+  pub unmarked : v.link pred % 2 ≡ 0
+  pub grows : (i : ℕ) → v.published i → w.published i
+  pub published_from : (i : ℕ) → w.published i → v.published i
+
+-- The moves of a list that marks, or does not, and what each changes.
+pub data Move (marks : Bool) (v w : View) : Option (Key × Bool) → Type 0 where
+  quiet : Quiet v w → Move marks v w None
+  inserts : (pred own : ℕ) (k : Key) → Inserts v w pred own k.0 → Move marks v w (Some (k, true))
+  sets : (b : ℕ) (k : Key) → marks ≡ true → Marks v w b k.0 → Move marks v w (Some (k, false))
+  clears : (pred curr : ℕ) → Unlinks v w pred curr → v.link curr % 2 ≡ 1 → Move marks v w None
+  removes : (pred curr : ℕ) (k : Key) → marks ≡ false → Unlinks v w pred curr → v.link curr % 2 ≡ 0 → 1 < curr → v.key curr ≡ k.0 + 1 → Move marks v w (Some (k, false))
+
+-- THE PAST
+-- The worlds of the moments 0 to n.
+pub record Course (vs : ℕ → View) (n : ℕ) : Type 0 where
+  pub ordered : (t : ℕ) → t ≤ n → IsOrdered (vs t)
+  pub goes : (t : ℕ) → t < n → KeepsNodes (vs t) (vs (t + 1))
+
+-- At some moment from first to now b was in the chain.
+pub record InPast (vs : ℕ → View) (first now b : ℕ) : Type 0 where
+  pub at : ℕ
+  pub from : first ≤ at
+  pub upto : at ≤ now
+  pub in_chain : InChain (vs at) b
+
+-- At some moment from first to now b was in the chain with the link word l.
+pub record Seen (vs : ℕ → View) (first now b l : ℕ) : Type 0 where
+  pub at : ℕ
+  pub from : first ≤ at
+  pub upto : at ≤ now
+  pub in_chain : InChain (vs at) b
+  pub link : (vs at).link b ≡ l
+
+-- At some moment from first to now k was in the content, or was not.
+pub record Had (vs : ℕ → View) (first now k : ℕ) : Type 0 where
+  pub at : ℕ
+  pub from : first ≤ at
+  pub upto : at ≤ now
+  pub has : InContent (vs at) k
+
+pub record Lacked (vs : ℕ → View) (first now k : ℕ) : Type 0 where
+  pub at : ℕ
+  pub from : first ≤ at
+  pub upto : at ≤ now
+  pub lacks : InContent (vs at) k → ⊥
+
+-- What a contains of k that began at `first` knows at the moment now, at its three places.
+pub record At20 (vs : ℕ → View) (first now k curr : ℕ) : Type 0 where
+  pub past : InPast vs first now curr
+  pub low : (vs past.at).key curr < k + 1
+
+pub record At21 (vs : ℕ → View) (first now k curr : ℕ) : Type 0 where
+  pub from : ℕ
+  pub word : ℕ
+  pub seen : Seen vs first now from word
+  pub next : word / 2 ≡ curr
+  pub low : (vs seen.at).key from < k + 1
+
+pub record At22 (vs : ℕ → View) (first now k curr : ℕ) : Type 0 where
+  pub past : InPast vs first now curr
+  pub found : (vs past.at).key curr ≡ k + 1

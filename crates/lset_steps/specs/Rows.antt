@@ -1,0 +1,57 @@
+-- What the rows of all tables share: the nodes and words that they name, and what a call does at the first key that is not below its own.
+-- (This project's own tables.)
+use Rattle.std.specs.Prelude.{◌≡◌, ℕ, ◌+◌, ◌<◌, ◌≤◌, Bool, if◌then◌else◌, Option, Some, None, ◌==◌, nat_lt}
+use Rattle.lset_words.specs.declared.Call.{Call}
+use Rattle.lset_words.specs.declared.Call.TheVariants.{Add, Remove, Contains}
+use Rattle.lset_words.specs.declared.Reply.{Reply}
+use Rattle.lset_words.specs.declared.Reply.TheVariants.{True, False, Full}
+use Rattle.lset_words.specs.Words.{slot_node, target}
+use Rattle.lset_steps.specs.declared.Local.{Local}
+use Rattle.lset_steps.specs.declared.rows.Targets.{Targets}
+
+-- the slot that the thread's next successful add puts into the chain
+abbrev pub own_slot : Local → ℕ
+own_slot l = slot_node l.quota l.thread l.used
+
+-- a thread that has begun a call
+abbrev pub begun : ℕ → Call → Local → Local
+begun pc call l = record {
+  thread = l.thread;
+  quota = l.quota;
+  used = l.used;
+  call = call;
+  pc = pc;
+  reply = None;
+  pred = 0;
+  curr = 0;
+  succ = 0;
+  node = 0;
+  pkey = 0;
+  ckey = 0;
+}
+
+-- on to another row, with a reply
+abbrev pub goes_to : ℕ → Option Reply → Local → Local
+goes_to pc reply l = record l { pc = pc; reply = reply }
+
+-- on to the row that adds, to the one that removes, or with a reply to the one that leaves, where the key was found or not, and there is
+-- room for another successful add or not
+abbrev pub decided : ℕ → ℕ → ℕ → Call → Bool → Bool → Local → Local
+decided adds removes leaves (Add k) found room l =
+    if found then goes_to leaves (Some False) l else if room then goes_to adds None l else goes_to leaves (Some Full) l
+decided adds removes leaves (Remove k) found room l = if found then goes_to removes None l else goes_to leaves (Some False) l
+decided adds removes leaves (Contains k) found room l = if found then goes_to leaves (Some True) l else goes_to leaves (Some False) l
+
+-- the decision on a key word
+abbrev pub decided_on : Targets → ℕ → Local → Local
+decided_on rows key l = decided rows.adds rows.removes rows.leaves l.call (key == target l.call) (nat_lt l.used l.quota) l
+
+-- every number is small enough to compute with
+pub record IsSmall (l : Local) : Type 0 where
+  pub thread : l.thread < 64
+  pub quota : l.quota ≤ 16384
+  pub used : l.used ≤ l.quota
+  pub pred : l.pred < 1048578
+  pub curr : l.curr < 1048578
+  pub succ : l.succ < 1048578
+  pub node : l.node < 1048578

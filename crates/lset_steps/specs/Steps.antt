@@ -1,0 +1,116 @@
+-- [Machine] and [Run]: machines as tables of steps, states, one event, and runs of events. (This project's own tables.)
+use Rattle.std.specs.Prelude.{◌≡◌, ◌≢◌, ℕ, ◌+◌, ◌*◌, ◌<◌, ◌≤◌, Bool, if◌then◌else◌, List, map, length, Option, Some, None, ◌==◌, slice_index, slice_index_or, slice_set, zero, suc}
+use Rattle.std.specs.List.{range_with_len}
+use Rattle.lset_words.specs.declared.Key.{Key}
+use Rattle.lset_words.specs.declared.Call.{Call}
+use Rattle.lset_words.specs.declared.Call.TheVariants.{Contains}
+use Rattle.lset_words.specs.Words.{IsWithin, tail_word, word_count, target}
+use Rattle.lset_words.specs.Log.{Log, Entry}
+use Rattle.lset_words.specs.Log.Entry.{began, stepped}
+use Rattle.lset_steps.specs.declared.Local.{Local}
+use Rattle.lset_steps.specs.declared.Action.{Action}
+use Rattle.lset_steps.specs.declared.Action.TheVariants.{Load, Store, Exchange}
+use Rattle.lset_steps.specs.declared.Fed.{Fed}
+use Rattle.lset_steps.specs.declared.Told.{Told}
+use Rattle.lset_steps.specs.declared.Event.{Event}
+use Rattle.lset_steps.specs.declared.Event.TheVariants.{Begin, Go}
+
+-- a machine, by its four functions, and whether it marks a node before it takes it out
+pub record Table : Type 0 where
+  pub marks : Bool
+  pub begin : Call → Local → Local
+  pub next : Local → Action
+  pub feed : Local → ℕ → Fed
+  pub effect : Local → ℕ → Option (Key × Bool)
+
+-- the words, and what each thread holds
+pub record State : Type 0 where
+  pub words : List ℕ
+  pub locals : List Local
+
+abbrev pub idle : ℕ → ℕ → Local
+idle q t = record {
+  thread = t;
+  quota = q;
+  used = 0;
+  call = Contains (record { 0 = 0 });
+  pc = 0;
+  reply = None;
+  pred = 0;
+  curr = 0;
+  succ = 0;
+  node = 0;
+  pkey = 0;
+  ckey = 0;
+}
+
+abbrev pub opening_word : ℕ → ℕ → ℕ → ℕ
+opening_word n q i =
+    if i == 1 then n else if i == 2 then q else if i == 4 then 2 else if i == 6 then tail_word else if i == 7 then 2 else 0
+
+abbrev pub opening : ℕ → ℕ → State
+opening n q = record {
+  words = map (opening_word n q) (range_with_len 0 (word_count n q));
+  locals = map (idle q) (range_with_len 0 n);
+}
+
+abbrev pub local_of : State → ℕ → Local
+local_of s t = slice_index_or s.locals t (idle 0 0)
+
+-- what an action sees
+abbrev pub seen_by : List ℕ → Action → ℕ
+seen_by ws (Load w) = slice_index ws w
+seen_by ws (Store w v) = v
+seen_by ws (Exchange w old new) = slice_index ws w
+
+-- the words that it leaves
+abbrev pub left_by : List ℕ → Action → List ℕ
+left_by ws (Load w) = ws
+left_by ws (Store w v) = slice_set ws w v
+left_by ws (Exchange w old new) = if slice_index ws w == old then slice_set ws w new else ws
+
+abbrev pub seen_next : Table → State → ℕ → ℕ
+seen_next T s t = seen_by s.words (T.next (local_of s t))
+
+abbrev pub after : Table → State → Event → State
+after T s (Begin t call) = record { words = s.words; locals = slice_set s.locals t (T.begin call (local_of s t)) }
+after T s (Go t) = record {
+  words = left_by s.words (T.next (local_of s t));
+  locals = slice_set s.locals t (T.feed (local_of s t) (seen_next T s t)).local;
+}
+
+abbrev pub told : Table → State → Event → Told
+told T s (Begin t call) = record { answer = None; change = None }
+told T s (Go t) = record {
+  answer = (T.feed (local_of s t) (seen_next T s t)).answer;
+  change = T.effect (local_of s t) (seen_next T s t);
+}
+
+abbrev pub Enabled : State → Event → Type 0
+Enabled s (Begin t call) = (t < length s.locals) × ((local_of s t).pc ≡ 0) × (target call < tail_word)
+Enabled s (Go t) = (t < length s.locals) × ((local_of s t).pc ≢ 0)
+
+-- RUNS: the events, as a function of moments, and the state after the first k of them
+abbrev pub state_at : Table → ℕ → ℕ → (ℕ → Event) → ℕ → State
+state_at T n q es zero = opening n q
+state_at T n q es (suc k) = after T (state_at T n q es k) (es k)
+
+abbrev pub Limits : ℕ → ℕ → Type 0
+Limits n q = IsWithin (record { threads = n; quota = q })
+
+-- the events up to `last` are enabled one after another
+pub record Run (T : Table) (n q : ℕ) (es : ℕ → Event) (last : ℕ) : Type 0 where
+  pub limits : Limits n q
+  pub enabled : (k : ℕ) → k < last → Enabled (state_at T n q es k) (es k)
+
+-- a list of events
+abbrev pub event_at : List Event → ℕ → Event
+event_at es k = slice_index_or es k (Go 0)
+
+-- what a run shows of its set: each event with what it told
+abbrev pub entry_of : Table → State → Event → Entry
+entry_of T s (Begin t call) = began t call
+entry_of T s (Go t) = stepped t (told T s (Go t)).change (told T s (Go t)).answer
+
+abbrev pub log_of : Table → ℕ → ℕ → (ℕ → Event) → Log
+log_of T n q es k = entry_of T (state_at T n q es k) (es k)

@@ -1,0 +1,50 @@
+-- What a world is, and what a step of it answers.
+use Rattle.std.specs.Prelude.{◌≡◌, ◌≢◌, ℕ, ◌-◌, ◌%◌, ◌<◌, ◌≤◌, List, [], ◌∷◌, length, Result, Ok, Err, if◌then◌else◌, ◌==◌, nat_lt, ◌&&◌}
+use Rattle.std.specs.List.Sorted.{IsStrictlyIncreasing}
+use Rattle.lset_words.specs.Words.{word_count}
+use Rattle.lset_steps.specs.declared.Event.{Event}
+use Rattle.lset_steps.specs.declared.Event.TheVariants.{Begin, Go}
+use Rattle.lset_steps.specs.declared.Told.{Told}
+use Rattle.lset_steps.specs.declared.world.StepFault.{StepFault}
+use Rattle.lset_steps.specs.declared.world.StepFault.TheVariants.{NoThread, Busy, Idle}
+use Rattle.lset_steps.specs.Steps.{Table, State, Run, state_at, event_at, after, told, local_of, Enabled}
+use Rattle.lset_steps.specs.Chain.{View, IsChain}
+
+pub record WorldState : Type 0 where
+  pub threads : ℕ
+  pub quota : ℕ
+  pub state : State
+
+-- the state is the last one of a run of these events
+pub record IsRun (T : Table) (w : WorldState) : Type 0 where
+  pub events : List Event
+  pub run : Run T w.threads w.quota (event_at events) (length events)
+  pub is : w.state ≡ state_at T w.threads w.quota (event_at events) (length events)
+  pub words : length w.state.words ≡ word_count w.threads w.quota
+  pub locals : length w.state.locals ≡ w.threads
+
+abbrev pub thread_of : Event → ℕ
+thread_of (Begin t call) = t
+thread_of (Go t) = t
+
+-- the first cause, in the order NoThread, Busy, Idle, for which an event is not enabled
+abbrev pub Refused : WorldState → Event → StepFault → Type 0
+Refused w e NoThread = w.threads ≤ thread_of e
+Refused w (Begin t call) Busy = (t < w.threads) × ((local_of w.state t).pc ≢ 0)
+Refused w (Go t) Busy = ⊥
+Refused w (Begin t call) Idle = ⊥
+Refused w (Go t) Idle = (t < w.threads) × ((local_of w.state t).pc ≡ 0)
+
+-- what a step answers, and the world after it: an enabled event is made, and a refused one changes nothing
+abbrev pub StepResult : Table → WorldState → Event → Result Told StepFault → WorldState → Type 0
+StepResult T w e (Ok answer) w' = Enabled w.state e × (w' ≡ record w { state = after T w.state e }) × (answer ≡ told T w.state e)
+StepResult T w e (Err cause) w' = Refused w e cause × (w' ≡ w)
+
+-- the keys of the unmarked user nodes among nodes
+abbrev pub keys_in : View → List ℕ → List ℕ
+keys_in v [] = []
+keys_in v (b ∷ bs) = if nat_lt 1 b && v.link b % 2 == 0 then (v.key b - 1) ∷ keys_in v bs else keys_in v bs
+
+-- [Content], rising: the keys of the unmarked user nodes of the chain, from the head to the tail
+abbrev pub IsContent : View → List ℕ → Type 0
+IsContent v keys = ((ns : List ℕ) × IsChain v ns × (keys ≡ keys_in v ns)) × IsStrictlyIncreasing keys

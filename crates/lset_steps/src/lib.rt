@@ -1,0 +1,113 @@
+//! Step machines over the words of a list, and worlds that run them one atomic step at a time.
+#![tactic(auto)]
+
+ghost use Rattle.std.specs.Prelude.{◌≡◌, ℕ, ◌+◌, ◌*◌, ◌<◌, ◌≤◌};
+ghost use Rattle.lset_steps.specs.Steps.{Table, idle};
+ghost use Rattle.lset_steps.specs.Laws.{Lawful, Occurs, Sees};
+
+pub mod rows;
+mod world;
+
+use lset_words::{Call, Key, Kind, Layout, Reply};
+pub use world::{StepFault, World};
+
+/// What a thread holds of its own: its number, its quota and the slots that it has used, the call with
+/// its program counter (0 where none is open) and reply, and the registers. (This project's own table.)
+#[derive(Clone, Copy, Debug, PartialEq, Eq)]
+pub struct Local {
+    pub thread: u32,
+    pub quota: u32,
+    pub used: u32,
+    pub call: Call,
+    pub pc: u8,
+    pub reply: Option<Reply>,
+    pub pred: u64,
+    pub curr: u64,
+    pub succ: u64,
+    pub node: u64,
+    pub pkey: u64,
+    pub ckey: u64,
+}
+
+impl Local {
+    /// What thread `t` holds before its first call.
+    pub fn idle(layout: &Layout, t: u32) -> Local
+        ensures { result ≡ idle layout.now.quota t }
+    {
+        Local {
+            thread: t,
+            quota: layout.quota(),
+            used: 0,
+            call: Call::Contains(Key(0)),
+            pc: 0,
+            reply: None,
+            pred: 0,
+            curr: 0,
+            succ: 0,
+            node: 0,
+            pkey: 0,
+            ckey: 0,
+        }
+    }
+}
+
+/// One access of one word: the word's index, then the values. An exchange writes its second value where
+/// the word holds the first.
+#[derive(Clone, Copy, Debug, PartialEq, Eq)]
+pub enum Action {
+    Load(u64),
+    Store(u64, u64),
+    Exchange(u64, u64, u64),
+}
+
+/// What a thread holds after a step, and its answer where the step ends the call.
+#[derive(Clone, Copy, Debug, PartialEq, Eq)]
+pub struct Fed {
+    pub local: Local,
+    pub answer: Option<Reply>,
+}
+
+/// An event of a run: a thread begins a call, or makes one atomic step of its open call.
+#[derive(Clone, Copy, Debug, PartialEq, Eq)]
+pub enum Event {
+    Begin(u32, Call),
+    Go(u32),
+}
+
+/// What an event told: the answer where it ended a call, and the key that it put in (`true`) or took out
+/// (`false`).
+#[derive(Clone, Copy, Debug, PartialEq, Eq)]
+pub struct Told {
+    pub answer: Option<Reply>,
+    pub change: Option<(Key, bool)>,
+}
+
+/// One of the five lists, step by step (Herlihy and Shavit's algorithms, by this project's own tables).
+/// `seen` is the value that was loaded or stored, or that the word held before an exchange.
+pub trait Machine {
+    const KIND: Kind;
+
+    ghost table: { Table };
+
+    /// What the thread holds when it has begun the call.
+    fn begin(call: Call, local: &Local) -> Local
+        ensures { result ≡ table.begin call local.now };
+
+    /// The next step of a thread with an open call. `local` is that of a world of a run.
+    fn next(local: &Local) -> Action
+        requires { Occurs table local.now }
+        ensures { result ≡ table.next local.now };
+
+    /// What the thread holds after its next step. `local` and `seen` are those of a world of a run.
+    fn feed(local: &Local, seen: u64) -> Fed
+        requires { Sees table local.now seen }
+        ensures { result ≡ table.feed local.now seen };
+
+    /// The key that the next step puts in (`true`) or takes out (`false`). `local` and `seen` are those
+    /// of a world of a run.
+    fn effect(local: &Local, seen: u64) -> Option<(Key, bool)>
+        requires { Sees table local.now seen }
+        ensures { result ≡ table.effect local.now seen };
+
+    ghost lawful: { Lawful table };
+}

@@ -1,0 +1,87 @@
+ghost use Rattle.std.specs.Prelude.{◌≡◌, ◌≤◌};
+ghost use Rattle.lset_words.specs.Words.{key_index, link_index, lock_index};
+ghost use Rattle.lset_steps.specs.Rows.{own_slot, begun, decided_on, IsSmall};
+
+use crate::Local;
+use lset_words::{Call, Reply};
+
+/// The index of the key word of a node, at most 1,048,578.
+pub fn key_index(node: u64) -> u64
+    requires { node ≤ 1048578 }
+    ensures { result ≡ key_index node }
+{
+    3 + 3 * node
+}
+
+/// The index of the link word of a node, at most 1,048,578.
+pub fn link_index(node: u64) -> u64
+    requires { node ≤ 1048578 }
+    ensures { result ≡ link_index node }
+{
+    4 + 3 * node
+}
+
+/// The index of the lock word of a node, at most 1,048,578.
+pub fn lock_index(node: u64) -> u64
+    requires { node ≤ 1048578 }
+    ensures { result ≡ lock_index node }
+{
+    5 + 3 * node
+}
+
+/// The slot that the thread's next successful add puts into the chain.
+pub fn own_slot(local: &Local) -> u64
+    requires { IsSmall local.now }
+    ensures node { result ≡ own_slot local.now }
+    ensures few { result ≤ 1048578 }
+{
+    2 + u64::from(local.thread) * u64::from(local.quota) + u64::from(local.used)
+}
+
+/// A thread that has begun a call, at the row `pc`: its registers are 0.
+pub fn begun(pc: u8, call: Call, local: &Local) -> Local
+    ensures { result ≡ begun pc call local.now }
+{
+    Local {
+        thread: local.thread,
+        quota: local.quota,
+        used: local.used,
+        call,
+        pc,
+        reply: None,
+        pred: 0,
+        curr: 0,
+        succ: 0,
+        node: 0,
+        pkey: 0,
+        ckey: 0,
+    }
+}
+
+/// The rows of a table to which a call goes on from its decision: to add, to remove, or to leave with a
+/// reply.
+#[derive(Clone, Copy, Debug, PartialEq, Eq)]
+pub struct Targets {
+    pub adds: u8,
+    pub removes: u8,
+    pub leaves: u8,
+}
+
+/// What a call does at the first key word that is not below its own (this project's own table): an `add`
+/// of a key that is there, and a `remove` or `contains` of one that is not, answer False, an `add` beyond
+/// the quota Full.
+pub fn decide(rows: Targets, key: u64, local: Local) -> Local
+    ensures { result ≡ decided_on rows key local }
+{
+    let found = key == local.call.key().word();
+    let room = local.used < local.quota;
+    let (pc, reply) = match local.call {
+        Call::Add(_) if found => (rows.leaves, Some(Reply::False)),
+        Call::Add(_) if room => (rows.adds, None),
+        Call::Add(_) => (rows.leaves, Some(Reply::Full)),
+        Call::Remove(_) if found => (rows.removes, None),
+        Call::Contains(_) if found => (rows.leaves, Some(Reply::True)),
+        Call::Remove(_) | Call::Contains(_) => (rows.leaves, Some(Reply::False)),
+    };
+    Local { pc, reply, ..local }
+}

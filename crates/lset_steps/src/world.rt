@@ -1,0 +1,200 @@
+ghost use Rattle.std.specs.Prelude.{◌≡◌, ◌≢◌, ℕ, ◌+◌, ◌*◌, ◌<◌, ◌≤◌, IfOk, OnErr, MatchResult, IsTrue, ◌↔◌, length, slice_index, map, List};
+ghost use Rattle.std.specs.List.{range_with_len};
+ghost use Rattle.lset_words.specs.Words.{word_count};
+ghost use Rattle.lset_steps.specs.Steps.{Enabled, Table, idle, opening, opening_word, after, told, local_of, seen_by, left_by};
+ghost use Rattle.lset_steps.specs.Laws.{Occurs, Sees, word_named};
+ghost use Rattle.lset_steps.specs.Worlds.{WorldState, IsRun, StepResult};
+
+use crate::{Action, Event, Local, Machine, Told};
+use lset_words::{Call, Layout};
+use std::alloc::{AllocError, Global};
+use std::marker::{Model, PhantomData};
+use thiserror::Error;
+
+/// Why an event is not enabled in a world.
+#[derive(Clone, Copy, Debug, PartialEq, Eq, Error)]
+pub enum StepFault {
+    /// There is no such thread.
+    #[error("no such thread")]
+    NoThread,
+    /// The thread that is to begin a call has one open.
+    #[error("a call of the thread is open")]
+    Busy,
+    /// The thread that is to make a step has no call open.
+    #[error("no call of the thread is open")]
+    Idle,
+}
+
+/// The words of a list and what each thread holds, after the events of a run of the machine `M`.
+#[derive(Drop)]
+pub struct World<M: Machine> {
+    threads: u32,
+    quota: u32,
+    words: Vec<u64>,
+    locals: Vec<Local>,
+    machine: PhantomData<M>,
+}
+
+impl<M: Machine> Model for World<M> {
+    ghost Value = { WorldState };
+
+    ghost view = { λ w. record { threads = w.threads; quota = w.quota; state = record { words = w.words.items; locals = w.locals.items } } };
+
+    ghost invariant = { λ w. IsRun M.table (record { threads = w.threads; quota = w.quota; state = record { words = w.words.items; locals = w.locals.items } }) };
+}
+
+fn opening_word_at(layout: &Layout, i: u64) -> u64
+    ensures { result ≡ opening_word layout.now.threads layout.now.quota i }
+{
+    match i {
+        1 => u64::from(layout.threads()),
+        2 => u64::from(layout.quota()),
+        4 | 7 => 2,
+        6 => 4_294_967_297,
+        _ => 0,
+    }
+}
+
+fn opening_words(alloc: Global, layout: &Layout) -> Result<Vec<u64>, AllocError>
+    ensures { IfOk result (λ v. v.items ≡ map (opening_word layout.now.threads layout.now.quota) (range_with_len 0 (word_count layout.now.threads layout.now.quota))) }
+{
+    let mut words = Vec::new(alloc);
+    for i in 0..layout.words() {
+        words.push(opening_word_at(layout, i))?;
+    }
+    Ok(words)
+}
+
+fn idle_locals(alloc: Global, layout: &Layout) -> Result<Vec<Local>, AllocError>
+    ensures { IfOk result (λ v. v.items ≡ map (idle layout.now.quota) (range_with_len 0 layout.now.threads)) }
+{
+    let mut locals = Vec::new(alloc);
+    for t in 0..layout.threads() {
+        locals.push(Local::idle(layout, t))?;
+    }
+    Ok(locals)
+}
+
+/// Does one access, and tells what it saw.
+fn access(words: &mut Vec<u64>, action: Action) -> u64
+    requires { word_named action < length words.old.items }
+    ensures seen { result ≡ seen_by words.old.items action }
+    ensures left { words.new.items ≡ left_by words.old.items action }
+{
+    match action {
+        Action::Load(w) => words[w as usize],
+        Action::Store(w, v) => {
+            words[w as usize] = v;
+            v
+        }
+        Action::Exchange(w, old, new) => {
+            let seen = words[w as usize];
+            if seen == old {
+                words[w as usize] = new;
+            }
+            seen
+        }
+    }
+}
+
+impl<M: Machine> World<M> {
+    /// The world before any event: the opening words, and every thread idle. It fails only where memory
+    /// was refused.
+    pub fn new(alloc: Global, layout: Layout) -> Result<World<M>, AllocError>
+        ensures { IfOk result (λ w. w ≡ record {
+          threads = layout.threads;
+          quota = layout.quota;
+          state = opening layout.threads layout.quota;
+        }) }
+    {
+        let words = opening_words(alloc, &layout)?;
+        let locals = idle_locals(alloc, &layout)?;
+        Ok(World {
+            threads: layout.threads(),
+            quota: layout.quota(),
+            words,
+            locals,
+            machine: PhantomData,
+        })
+    }
+
+    /// The word with the index `w`, below the number of words.
+    pub fn word(&self, w: u64) -> u64
+        requires { w < length self.now.state.words }
+        ensures { result ≡ slice_index self.now.state.words w }
+    {
+        self.words[w as usize]
+    }
+
+    /// Whether thread `t`, below the number of threads, has an open call.
+    pub fn busy(&self, t: u32) -> bool
+        requires { t < length self.now.state.locals }
+        ensures { IsTrue result ↔ ((local_of self.now.state t).pc ≢ 0) }
+    {
+        self.locals[t as usize].pc != 0
+    }
+
+    fn local(&self, t: u32) -> Local
+        requires { t < self.now.threads }
+        ensures { result ≡ local_of self.now.state t }
+    {
+        self.locals[t as usize]
+    }
+
+    fn begin(&mut self, t: u32, call: Call) -> Told
+        requires { Enabled self.old.state (Event.Begin t call) }
+        ensures new { self.new ≡ record self.old { state = after M.table self.old.state (Event.Begin t call) } }
+        ensures told { result ≡ told M.table self.old.state (Event.Begin t call) }
+    {
+        let local = self.local(t);
+        self.locals[t as usize] = M::begin(call, &local);
+        Told {
+            answer: None,
+            change: None,
+        }
+    }
+
+    fn go(&mut self, t: u32) -> Told
+        requires { Enabled self.old.state (Event.Go t) }
+        ensures new { self.new ≡ record self.old { state = after M.table self.old.state (Event.Go t) } }
+        ensures told { result ≡ told M.table self.old.state (Event.Go t) }
+    {
+        let local = self.local(t);
+        let action = M::next(&local);
+        let seen = access(&mut self.words, action);
+        let fed = M::feed(&local, seen);
+        let change = M::effect(&local, seen);
+        self.locals[t as usize] = fed.local;
+        Told {
+            answer: fed.answer,
+            change,
+        }
+    }
+
+    /// Makes one event, and tells what it answered and changed. An event that is not enabled is refused
+    /// with the first cause that applies, of `NoThread`, `Busy` and `Idle`, and changes nothing.
+    pub fn step(&mut self, event: Event) -> Result<Told, StepFault>
+        ensures { StepResult M.table self.old event result self.new }
+    {
+        match event {
+            Event::Begin(t, call) => {
+                if t >= self.threads {
+                    return Err(StepFault::NoThread);
+                }
+                if self.local(t).pc != 0 {
+                    return Err(StepFault::Busy);
+                }
+                Ok(self.begin(t, call))
+            }
+            Event::Go(t) => {
+                if t >= self.threads {
+                    return Err(StepFault::NoThread);
+                }
+                if self.local(t).pc == 0 {
+                    return Err(StepFault::Idle);
+                }
+                Ok(self.go(t))
+            }
+        }
+    }
+}

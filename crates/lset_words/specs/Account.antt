@@ -1,0 +1,84 @@
+-- What a run shows of its set, apart from any machine: the contents at its moments, which replies fit them, and what each event does.
+use Rattle.std.specs.Prelude.{◌≡◌, ◌≢◌, ℕ, suc, ◌+◌, ◌<◌, ◌≤◌, Bool, true, false, Option, Some, None}
+use Rattle.lset_words.specs.declared.Call.{Call}
+use Rattle.lset_words.specs.declared.Call.TheVariants.{Add, Remove, Contains}
+use Rattle.lset_words.specs.declared.Reply.{Reply}
+use Rattle.lset_words.specs.declared.Reply.TheVariants.{True, False, Full}
+use Rattle.lset_words.specs.Log.{Log, Entry, Change, last_call, begun_at, is_open, has_changed}
+use Rattle.lset_words.specs.Log.Entry.{began, stepped}
+
+-- a set of keys, as a fact of each key
+abbrev pub Content : Type 1
+Content = ℕ → Type 0
+
+abbrev pub Same : Content → Content → Type 0
+Same before after = (j : ℕ) → (before j → after j) × (after j → before j)
+
+-- [Named change]: what a change does to a content, and only that
+abbrev pub Changes : Option Change → Content → Content → Type 0
+Changes None before after = Same before after
+Changes (Some (k, true)) before after =
+    (before k.0 → ⊥) × after k.0 × ((j : ℕ) → j ≢ k.0 → (before j → after j) × (after j → before j))
+Changes (Some (k, false)) before after =
+    before k.0 × (after k.0 → ⊥) × ((j : ℕ) → j ≢ k.0 → (before j → after j) × (after j → before j))
+
+-- a thread's count of successful adds, after a change of its own
+abbrev pub count_after : Option Change → ℕ → ℕ
+count_after None count = count
+count_after (Some (k, true)) count = count + 1
+count_after (Some (k, false)) count = count
+
+-- [Named change]: which call makes a change: an Add of that key by a thread below its quota, a Remove of that key, and one change a call
+abbrev pub MayChange : ℕ → ℕ → Call → Bool → Option Change → Type 0
+MayChange quota count call changed None = Unit {0}
+MayChange quota count call changed (Some (k, true)) = (call ≡ Add k) × (changed ≡ false) × (count < quota)
+MayChange quota count call changed (Some (k, false)) = (call ≡ Remove k) × (changed ≡ false)
+
+-- [Fits]: with this content, and this count of the thread, the sequential set gives this reply to the call without a change
+abbrev pub Fits : ℕ → Content → ℕ → Call → Reply → Type 0
+Fits quota content count (Add k) True = ⊥
+Fits quota content count (Add k) False = content k.0
+Fits quota content count (Add k) Full = (content k.0 → ⊥) × (count ≡ quota)
+Fits quota content count (Remove k) True = ⊥
+Fits quota content count (Remove k) False = content k.0 → ⊥
+Fits quota content count (Remove k) Full = ⊥
+Fits quota content count (Contains k) True = content k.0
+Fits quota content count (Contains k) False = content k.0 → ⊥
+Fits quota content count (Contains k) Full = ⊥
+
+-- the contents at the moments, and each thread's count
+abbrev pub Contents : Type 1
+Contents = ℕ → Content
+
+abbrev pub Counts : Type 0
+Counts = ℕ → ℕ → ℕ
+
+-- the reply fits a moment of a call of that thread that begins at `first` and has not ended before `last`
+pub record FitsSometime (quota : ℕ) (contents : Contents) (counts : Counts) (first last thread : ℕ) (call : Call) (reply : Reply) : Type 0 where
+  pub moment : ℕ
+  pub from : first ≤ moment
+  pub upto : moment ≤ last
+  pub fits : Fits quota (contents moment) (counts moment thread) call reply
+
+-- a reply is True where the call has made a change; else it fits a moment of the call
+abbrev pub RightReply : Bool → ℕ → Contents → Counts → ℕ → ℕ → ℕ → Call → Option Reply → Type 0
+RightReply changed quota contents counts first last thread call None = Unit {0}
+RightReply true quota contents counts first last thread call (Some reply) = reply ≡ True
+RightReply false quota contents counts first last thread call (Some reply) = FitsSometime quota contents counts first last thread call reply
+
+-- one entry, between the moments k and k + 1: threads begin a call only when they have none open, and make steps only in one
+abbrev pub Enters : ℕ → ℕ → Log → Contents → Counts → ℕ → Entry → Type 0
+Enters threads quota log contents counts k (began t call) =
+    (t < threads) × (is_open log t k ≡ false) × Same (contents k) (contents (suc k))
+    × ((u : ℕ) → u < threads → counts (suc k) u ≡ counts k u)
+Enters threads quota log contents counts k (stepped t change reply) =
+    (t < threads) × (is_open log t k ≡ true) × Changes change (contents k) (contents (suc k))
+    × (counts (suc k) t ≡ count_after change (counts k t)) × ((u : ℕ) → u < threads → u ≢ t → counts (suc k) u ≡ counts k u)
+    × MayChange quota (counts k t) (last_call log t k) (has_changed log t k) change
+    × RightReply (has_changed log t (suc k)) quota contents counts (begun_at log t k) (suc k) t (last_call log t k) reply
+
+-- THE ACCOUNT of a run of `last` events
+pub record Account (threads quota last : ℕ) (log : Log) (contents : Contents) (counts : Counts) : Type 0 where
+  pub empty : (k : ℕ) → contents 0 k → ⊥
+  pub none_yet : (t : ℕ) → t < threads → counts 0 t ≡ 0
+  pub enters : (k : ℕ) → k < last → Enters threads quota log contents counts k (log k)

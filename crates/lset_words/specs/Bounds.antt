@@ -1,0 +1,23 @@
+-- How many nodes and words a table has at most, and that its slots are different nodes.
+use Rattle.std.specs.Prelude.{◌≡◌, ℕ, ◌+◌, ◌*◌, ◌<◌, ◌≤◌}
+use Rattle.std.proofs.Common.{arith, ap}
+use Rattle.lset_words.specs.Words.{Sizes, IsWithin, node_count, slot_node}
+
+pub few_nodes : (threads quota : ℕ) → threads ≤ 64 → quota ≤ 16384 → node_count threads quota ≤ 1048578
+few_nodes threads quota few small =
+    let most : threads * quota ≤ 64 * quota = grind arith in omega arith
+
+pub nodes_within : (s : Sizes) → IsWithin s → node_count s.threads s.quota ≤ 1048578
+nodes_within s w = few_nodes s.threads s.quota w.few w.small
+
+-- a slot is among the nodes
+pub slot_inside : (threads quota thread slot : ℕ) → thread < threads → slot < quota → slot_node quota thread slot < node_count threads quota
+slot_inside threads quota thread slot below j =
+    let row : thread * quota + slot < threads * quota = grind arith in omega arith
+
+-- a number has one row and one place in it
+pub row_once : (quota t u i j : ℕ) → i < quota → j < quota → t * quota + i ≡ u * quota + j → (t ≡ u) × (i ≡ j)
+row_once quota t u i j a b e =
+    let row : t ≡ u = grind arith in
+    let same : t * quota ≡ u * quota = ap (λ x. x * quota) row in
+    (row, omega arith)

@@ -1,0 +1,7 @@
+pub mod Words
+pub mod Bounds
+pub mod SequentialSet
+pub mod History
+pub mod Log
+pub mod Account
+pub mod Placement

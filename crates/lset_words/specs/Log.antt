@@ -1,0 +1,101 @@
+-- What happens in a run, and the calls that it makes. No machine is named here: a log tells of each event what a set shows of it.
+-- Moment k is after the first k events, and entry k of a log is the event between the moments k and k + 1.
+use Rattle.std.specs.Prelude.{ℕ, zero, suc, ◌==◌, ◌||◌, ◌&&◌, Bool, true, false, if◌then◌else◌, List, [], ◌∷◌, ◌++◌, map, Option, Some, None, is_none}
+use Rattle.lset_words.specs.declared.Key.{Key}
+use Rattle.lset_words.specs.declared.Call.{Call}
+use Rattle.lset_words.specs.declared.Call.TheVariants.{Contains}
+use Rattle.lset_words.specs.declared.Reply.{Reply}
+use Rattle.lset_words.specs.declared.history.CallRecord.{CallRecord}
+
+-- a key that is put in (true) or taken out (false)
+abbrev pub Change : Type 0
+Change = Key × Bool
+
+-- a thread begins a call, or makes a step, which may change the set and may answer
+pub data Entry : Type 0 where
+  began : (thread : ℕ) → Call → Entry
+  stepped : (thread : ℕ) → Option Change → Option Reply → Entry
+
+abbrev pub Log : Type 0
+Log = ℕ → Entry
+
+-- THE CALLS OF A LOG
+-- a call: the moments just after its Begin, its changing step and its answering step, where there are such
+pub record TracedCall : Type 0 where
+  pub thread : ℕ
+  pub call : Call
+  pub begun : ℕ
+  pub changed : Option ℕ
+  pub ended : Option (ℕ × Reply)
+
+-- an open call of that thread
+abbrev pub is_under_way : ℕ → TracedCall → Bool
+is_under_way thread x = x.thread == thread && is_none x.ended
+
+abbrev pub changed_by : ℕ → Option Change → Option ℕ → Option ℕ
+changed_by moment None before = before
+changed_by moment (Some change) before = Some moment
+
+abbrev pub ended_by : ℕ → Option Reply → Option (ℕ × Reply)
+ended_by moment None = None
+ended_by moment (Some reply) = Some (moment, reply)
+
+-- a step of its thread, up to that moment
+abbrev pub traced_on : ℕ → Option Change → Option Reply → TracedCall → TracedCall
+traced_on moment change reply x = record x { changed = changed_by moment change x.changed; ended = ended_by moment reply }
+
+abbrev pub calls_after : ℕ → Entry → List TracedCall → List TracedCall
+calls_after moment (began t call) xs = xs ++ record { thread = t; call = call; begun = moment; changed = None; ended = None } ∷ []
+calls_after moment (stepped t change reply) xs = map (λ x. if is_under_way t x then traced_on moment change reply x else x) xs
+
+-- the calls that have begun at the moment, by their numbers, which count from 0
+abbrev pub calls_at : Log → ℕ → List TracedCall
+calls_at log zero = []
+calls_at log (suc k) = calls_after (suc k) (log k) (calls_at log k)
+
+-- what a history has of a call
+abbrev pub record_of : TracedCall → CallRecord
+record_of x = record { thread = x.thread; call = x.call; begun = x.begun; ended = x.ended }
+
+-- the history of the first k events
+abbrev pub history_at : Log → ℕ → List CallRecord
+history_at log k = map record_of (calls_at log k)
+
+-- THE LAST CALL OF A THREAD, open or ended: which it is, whether it is open, the moment just after its Begin, whether it has made
+-- a change. What stood before an entry is the last argument.
+abbrev pub call_after : Entry → ℕ → Call → Call
+call_after (began u call) t before = if u == t then call else before
+call_after (stepped u change reply) t before = before
+
+abbrev pub begun_after : ℕ → Entry → ℕ → ℕ → ℕ
+begun_after moment (began u call) t before = if u == t then moment else before
+begun_after moment (stepped u change reply) t before = before
+
+abbrev pub open_after : Entry → ℕ → Bool → Bool
+open_after (began u call) t before = if u == t then true else before
+open_after (stepped u change None) t before = before
+open_after (stepped u change (Some reply)) t before = if u == t then false else before
+
+abbrev pub is_change : Option Change → Bool
+is_change None = false
+is_change (Some change) = true
+
+abbrev pub changed_after : Entry → ℕ → Bool → Bool
+changed_after (began u call) t before = if u == t then false else before
+changed_after (stepped u change reply) t before = if u == t then before || is_change change else before
+
+abbrev pub last_call : Log → ℕ → ℕ → Call
+last_call log t zero = Contains (record { 0 = 0 })
+last_call log t (suc k) = call_after (log k) t (last_call log t k)
+
+abbrev pub begun_at : Log → ℕ → ℕ → ℕ
+begun_at log t zero = 0
+begun_at log t (suc k) = begun_after (suc k) (log k) t (begun_at log t k)
+
+abbrev pub is_open : Log → ℕ → ℕ → Bool
+is_open log t zero = false
+is_open log t (suc k) = open_after (log k) t (is_open log t k)
+
+abbrev pub has_changed : Log → ℕ → ℕ → Bool
+has_changed log t zero = false
+has_changed log t (suc k) = changed_after (log k) t (has_changed log t k)

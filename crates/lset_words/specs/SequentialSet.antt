@@ -1,0 +1,59 @@
+-- The sequential set: Herlihy and Shavit's interface, and this project's quota of successful adds for each thread.
+use Rattle.std.specs.Prelude.{◌≡◌, ℕ, ◌+◌, ◌==◌, ◌||◌, nat_lt, Bool, false, if◌then◌else◌, List, [], ◌∷◌, replicate, slice_index, slice_set}
+use Rattle.lset_words.specs.declared.Call.{Call}
+use Rattle.lset_words.specs.declared.Call.TheVariants.{Add, Remove, Contains}
+use Rattle.lset_words.specs.declared.Reply.{Reply}
+use Rattle.lset_words.specs.declared.Reply.TheVariants.{True, False, Full}
+
+-- its keys, rising, and how many successful adds each thread has made
+pub record SetState : Type 0 where
+  pub keys : List ℕ
+  pub counts : List ℕ
+
+-- the empty set of that many threads
+abbrev pub empty_set : ℕ → SetState
+empty_set threads = record { keys = []; counts = replicate threads 0 }
+
+abbrev pub has_key : ℕ → List ℕ → Bool
+has_key k [] = false
+has_key k (x ∷ xs) = x == k || has_key k xs
+
+-- rising keys, and k in its place
+abbrev pub with_key : ℕ → List ℕ → List ℕ
+with_key k [] = k ∷ []
+with_key k (x ∷ xs) = if nat_lt k x then k ∷ x ∷ xs else x ∷ with_key k xs
+
+abbrev pub without_key : ℕ → List ℕ → List ℕ
+without_key k [] = []
+without_key k (x ∷ xs) = if x == k then without_key k xs else x ∷ without_key k xs
+
+abbrev pub count_of : SetState → ℕ → ℕ
+count_of s thread = slice_index s.counts thread
+
+-- the reply to a call of a thread
+abbrev pub reply_to : ℕ → SetState → ℕ → Call → Reply
+reply_to quota s thread (Add k) = if has_key k.0 s.keys then False else if count_of s thread == quota then Full else True
+reply_to quota s thread (Remove k) = if has_key k.0 s.keys then True else False
+reply_to quota s thread (Contains k) = if has_key k.0 s.keys then True else False
+
+-- the state after a call with its reply: only a successful add or remove changes it
+abbrev pub after_call : SetState → ℕ → Call → Reply → SetState
+after_call s thread (Add k) True = record { keys = with_key k.0 s.keys; counts = slice_set s.counts thread (count_of s thread + 1) }
+after_call s thread (Remove k) True = record { keys = without_key k.0 s.keys; counts = s.counts }
+after_call s thread _ _ = s
+
+-- a call of a thread, with a reply
+pub record Answered : Type 0 where
+  pub thread : ℕ
+  pub call : Call
+  pub reply : Reply
+
+-- the set gives each reply in turn
+abbrev pub IsLegal : ℕ → SetState → List Answered → Type 0
+IsLegal quota s [] = Unit {0}
+IsLegal quota s (x ∷ xs) = (reply_to quota s x.thread x.call ≡ x.reply) × IsLegal quota (after_call s x.thread x.call x.reply) xs
+
+-- the set that a list of calls leaves
+abbrev pub set_left : SetState → List Answered → SetState
+set_left s [] = s
+set_left s (x ∷ xs) = set_left (after_call s x.thread x.call x.reply) xs

@@ -1,0 +1,12 @@
+use thiserror::Error;
+
+/// Why there is no layout for the numbers asked for.
+#[derive(Clone, Copy, Debug, PartialEq, Eq, Error)]
+pub enum LayoutFault {
+    /// The threads are none, or more than 64.
+    #[error("threads outside 1 to 64")]
+    Threads,
+    /// The quota is above 16,384.
+    #[error("quota above 16384")]
+    Quota,
+}

@@ -1,0 +1,107 @@
+//! Keys, calls, replies, the layout of a list's words, and the records of which histories are made.
+#![tactic(auto)]
+
+ghost use Rattle.std.specs.Prelude.{◌≡◌, ℕ, ◌+◌, ◌/◌, ◌%◌, ◌<◌, ◌^◌, IsTrue, ◌↔◌, Bool, IfOk, IfErr};
+ghost use Rattle.lset_words.specs.Words.{key_word_of, key_of, packed, Refuses};
+
+mod fault;
+mod history;
+mod table;
+
+pub use fault::LayoutFault;
+pub use history::{CallRecord, Placed};
+pub use table::{Layout, words_are_apart};
+
+/// The most threads of a list.
+const MOST_THREADS: u32 = 64;
+
+/// The most slots of a thread.
+const MOST_QUOTA: u32 = 16_384;
+
+/// A key of the set: every `u32` is one.
+#[derive(Clone, Copy, Debug, PartialEq, Eq, PartialOrd, Ord, Hash)]
+pub struct Key(pub u32);
+
+impl Key {
+    /// The key word of a node that has this key, above the head's 0 and below the tail's `2^32 + 1`.
+    /// (This project's own table.)
+    pub fn word(self) -> u64
+        ensures { result ≡ key_word_of self }
+    {
+        u64::from(self.0) + 1
+    }
+}
+
+/// The five lists of Herlihy and Shavit's chapter on linked lists.
+#[derive(Clone, Copy, Debug, PartialEq, Eq, Hash)]
+pub enum Kind {
+    Coarse,
+    Fine,
+    Optimistic,
+    Lazy,
+    LockFree,
+}
+
+/// A call of a set (Herlihy and Shavit's interface).
+#[derive(Clone, Copy, Debug, PartialEq, Eq, Hash)]
+pub enum Call {
+    Add(Key),
+    Remove(Key),
+    Contains(Key),
+}
+
+impl Call {
+    /// The key that the call is about.
+    pub fn key(self) -> Key
+        ensures { result ≡ key_of self }
+    {
+        match self {
+            Call::Add(key) | Call::Remove(key) | Call::Contains(key) => key,
+        }
+    }
+}
+
+/// What a call answers. `Full` is this project's own: an `add` of a thread whose quota is used up.
+#[derive(Clone, Copy, Debug, PartialEq, Eq, Hash)]
+pub enum Reply {
+    True,
+    False,
+    Full,
+}
+
+/// The layout for `threads` threads, 1 to 64, with a quota of `quota` slots, 0 to 16,384.
+/// `LayoutFault::Threads` where the threads are outside their limits, else `LayoutFault::Quota` where
+/// the quota is.
+pub fn layout(threads: u32, quota: u32) -> Result<Layout, LayoutFault>
+    ensures sizes { IfOk result (λ l. l ≡ record { threads = threads; quota = quota }) }
+    ensures refused { IfErr result (Refuses (record { threads = threads; quota = quota })) }
+{
+    if threads == 0 || threads > MOST_THREADS {
+        return Err(LayoutFault::Threads);
+    }
+    if quota > MOST_QUOTA {
+        return Err(LayoutFault::Quota);
+    }
+    Ok(Layout::of(threads, quota))
+}
+
+/// The link word of a node whose next node has the number `next`, below `2^63`. (This project's own
+/// table; that mark and link share one word is Harris's.)
+pub fn pack(next: u64, mark: bool) -> u64
+    requires { next < 2 ^ 63 }
+    ensures { result ≡ packed next mark }
+{
+    if mark { 2 * next + 1 } else { 2 * next }
+}
+
+/// The next node's number and the mark of a link word. Every word is one.
+pub fn unpack(word: u64) -> (u64, bool)
+    ensures next { result.0 ≡ word / 2 }
+    ensures mark { IsTrue result.1 ↔ (word % 2 ≡ 1) }
+    ensures undoes_pack { (next : ℕ) → (mark : Bool) → word ≡ packed next mark → result ≡ (next, mark) }
+{
+    (word / 2, word % 2 == 1)
+}
+
+#[cfg(test)]
+mod tests;
