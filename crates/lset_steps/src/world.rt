@@ -1,15 +1,20 @@
-ghost use Rattle.std.specs.Prelude.{◌≡◌, ◌≢◌, ℕ, ◌+◌, ◌*◌, ◌<◌, ◌≤◌, IfOk, OnErr, MatchResult, IsTrue, ◌↔◌, length, slice_index, map, List};
+ghost use Rattle.std.specs.Prelude.{◌≡◌, ◌≢◌, ℕ, ◌+◌, ◌*◌, ◌/◌, ◌%◌, ◌<◌, ◌≤◌, IfOk, OnErr, MatchResult, IsTrue, ◌↔◌, length, slice_index, map, List};
 ghost use Rattle.std.specs.List.{range_with_len};
-ghost use Rattle.lset_words.specs.Words.{word_count};
+ghost use Rattle.lset_words.specs.Words.{word_count, lock_index};
+ghost use Rattle.lset_steps.specs.Chain.{node_key, node_link};
 ghost use Rattle.lset_steps.specs.Steps.{Enabled, Table, idle, opening, opening_word, after, told, local_of, seen_by, left_by};
-ghost use Rattle.lset_steps.specs.Laws.{Occurs, Sees, word_named};
-ghost use Rattle.lset_steps.specs.Worlds.{WorldState, IsRun, StepResult};
+ghost use Rattle.lset_steps.specs.Laws.{Occurs, Sees, StateLaws, word_named, view_of};
+ghost use Rattle.lset_steps.specs.Worlds.{WorldState, IsRun, StepResult, IsContent};
 
 use crate::{Action, Event, Local, Machine, Told};
 use lset_words::{Call, Layout};
 use std::alloc::{AllocError, Global};
 use std::marker::{Model, PhantomData};
 use thiserror::Error;
+
+const HEAD: u64 = 0;
+
+const TAIL: u64 = 1;
 
 /// Why an event is not enabled in a world.
 #[derive(Clone, Copy, Debug, PartialEq, Eq, Error)]
@@ -132,6 +137,51 @@ impl<M: Machine> World<M> {
         ensures { IsTrue result ↔ ((local_of self.now.state t).pc ≢ 0) }
     {
         self.locals[t as usize].pc != 0
+    }
+
+    /// The keys of the set, rising: those of the unmarked nodes of the chain between head and tail. It
+    /// fails only where memory was refused.
+    pub fn content(&self, alloc: Global) -> Result<Vec<u32>, AllocError>
+        ensures { IfOk result (λ v. IsContent (view_of self.now.threads self.now.quota self.now.state) v.items) }
+    {
+        self.keeps_its_laws();
+        let mut keys = Vec::new(alloc);
+        let mut node = self.next_node(HEAD);
+        while node != TAIL {
+            if !self.is_marked(node) {
+                keys.push((self.node_key(node) - 1) as u32)?;
+            }
+            node = self.next_node(node);
+        }
+        Ok(keys)
+    }
+
+    /// What is so in every state of every run.
+    fn keeps_its_laws(&self)
+        ensures { StateLaws M.table.marks self.now.threads self.now.quota self.now.state }
+    {
+        let _words = &self.words;
+    }
+
+    fn node_key(&self, node: u64) -> u64
+        requires { lock_index node < length self.now.state.words }
+        ensures { result ≡ node_key self.now.state.words node }
+    {
+        self.words[(3 + 3 * node) as usize]
+    }
+
+    fn next_node(&self, node: u64) -> u64
+        requires { lock_index node < length self.now.state.words }
+        ensures { result ≡ node_link self.now.state.words node / 2 }
+    {
+        self.words[(4 + 3 * node) as usize] / 2
+    }
+
+    fn is_marked(&self, node: u64) -> bool
+        requires { lock_index node < length self.now.state.words }
+        ensures { IsTrue result ↔ (node_link self.now.state.words node % 2 ≡ 1) }
+    {
+        self.words[(4 + 3 * node) as usize] % 2 == 1
     }
 
     fn local(&self, t: u32) -> Local
