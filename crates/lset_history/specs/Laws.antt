@@ -1,0 +1,60 @@
+-- The laws of placement, as public functions state them: over plain data that names no machine.
+use Rattle.std.specs.Prelude.{◌≡◌, ◌↔◌, ℕ, ◌≤◌, List, map, Contains}
+use Rattle.std.specs.List.Sorted.{IsStrictlyIncreasing}
+use Rattle.lset_words.specs.declared.Call.{Call}
+use Rattle.lset_words.specs.declared.Reply.{Reply}
+use Rattle.lset_words.specs.declared.history.Placed.{Placed}
+use Rattle.lset_words.specs.SequentialSet.{SetState, empty_set, count_of, reply_to, after_call, set_left}
+use Rattle.lset_words.specs.History.{IsHistory, answered, Linearizes}
+use Rattle.lset_words.specs.Log.{Log, TracedCall, calls_at, history_at}
+use Rattle.lset_words.specs.Account.{Content, Contents, Counts, Fits, Account}
+use Rattle.lset_words.specs.Placement.{IsPlacement}
+
+-- the content of a list of keys, and the contents of a list of keys at each moment
+abbrev pub content_of : List ℕ → Content
+content_of keys j = Contains keys j
+
+abbrev pub contents_of : (ℕ → List ℕ) → Contents
+contents_of lists m = content_of (lists m)
+
+-- A set has the keys of a content, rising, and no other rising list has them.
+pub record HasKeysOf (s : SetState) (content : List ℕ) : Type 0 where
+  pub rising : IsStrictlyIncreasing s.keys
+  pub members : (j : ℕ) → Contains content j ↔ Contains s.keys j
+  pub alone : (keys : List ℕ) → IsStrictlyIncreasing keys → ((j : ℕ) → Contains content j ↔ Contains keys j) → s.keys ≡ keys
+
+-- the set that the calls of a log leave in that order, from the empty set
+abbrev pub set_of_order : ℕ → Log → ℕ → List Placed → SetState
+set_of_order threads log last order = set_left (empty_set threads) (map (answered (history_at log last)) order)
+
+-- THE PLACEMENT THEOREM: the order of placement linearizes the history from the empty set, and leaves the last content.
+abbrev pub PlacementLinearizes : Type 0
+PlacementLinearizes = (threads quota last : ℕ) (log : Log) (lists : ℕ → List ℕ) (counts : Counts) (order : List Placed)
+    → Account threads quota last log (contents_of lists) counts
+    → IsPlacement quota last (calls_at log last) (contents_of lists) counts order
+    → Linearizes quota (empty_set threads) (history_at log last) order × HasKeysOf (set_of_order threads log last order) (lists last)
+
+-- Every call has its place: no run is without an order of placement.
+abbrev pub EveryCallHasAPlace : Type 0
+EveryCallHasAPlace = (threads quota last : ℕ) (log : Log) (lists : ℕ → List ℕ) (counts : Counts)
+    → Account threads quota last log (contents_of lists) counts
+    → (order : List Placed) × IsPlacement quota last (calls_at log last) (contents_of lists) counts order
+
+-- The calls of a run, at each of its moments, are a history.
+abbrev pub LogsTellHistories : Type 0
+LogsTellHistories = (threads quota last : ℕ) (log : Log) (lists : ℕ → List ℕ) (counts : Counts)
+    → Account threads quota last log (contents_of lists) counts → (k : ℕ) → k ≤ last → IsHistory threads (history_at log k)
+
+-- A reply fits just where the sequential set gives it and stays as it is.
+abbrev pub FitsAreReplies : Type 0
+FitsAreReplies = (quota thread count : ℕ) (keys : List ℕ) (s : SetState) (call : Call) (reply : Reply)
+    → ((j : ℕ) → Contains keys j ↔ Contains s.keys j) → count_of s thread ≡ count
+    → Fits quota (content_of keys) count call reply
+    ↔ ((reply_to quota s thread call ≡ reply) × (after_call s thread call reply ≡ s))
+
+-- A run has one order of placement.
+abbrev pub PlacementIsOneOrder : Type 0
+PlacementIsOneOrder = (quota last : ℕ) (calls : List TracedCall) (lists : ℕ → List ℕ) (counts : Counts)
+    (order other : List Placed)
+    → IsPlacement quota last calls (contents_of lists) counts order
+    → IsPlacement quota last calls (contents_of lists) counts other → order ≡ other

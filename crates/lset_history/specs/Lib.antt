@@ -1,0 +1,16 @@
+pub mod Lists
+pub mod Keys
+pub mod Calls
+pub mod CallSteps
+pub mod Fitting
+pub mod States
+pub mod Standings
+pub mod Order
+pub mod Turns
+pub mod Linearizing
+pub mod Histories
+pub mod Placing
+pub mod Laws
+pub mod OpenCalls
+pub mod Firsts
+pub mod Agreeing

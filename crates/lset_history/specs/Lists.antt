@@ -1,0 +1,209 @@
+-- Lists, by recursion: facts of each element, of each pair in the order of the list, of some element. And tests of numbers.
+use Rattle.std.proofs.Common.{◌≢◌, ◌≡◌, ℕ, zero, suc, ◌<◌, ◌⊎◌, Bool, true, false, inl, inr, List, [], ◌∷◌, ◌++◌, length, get_or, map, refl, arith}
+use Rattle.std.specs.Prelude.{◌==◌, filter, Contains, AllPairs}
+use Rattle.std.specs.List.{AllByRecursion}
+use Rattle.std.proofs.lemmas.List.Elements.{All-from_recursion}
+use Rattle.std.proofs.lemmas.List.Kept.{AllPairs-cons}
+use Rattle.std.proofs.lemmas.Bool.Decides.{nat_tests}
+
+pub bool_cases : (t : Bool) → (t ≡ true) ⊎ (t ≡ false)
+bool_cases true = inl refl
+bool_cases false = inr refl
+
+-- tests of numbers
+pub equal_test : (a b : ℕ) → a ≡ b → (a == b) ≡ true
+equal_test a b e = grind (arith, nat_tests)
+
+pub unequal_test : (a b : ℕ) → a ≢ b → (a == b) ≡ false
+unequal_test a b e = grind (arith, nat_tests)
+
+pub same_number : (a b : ℕ) → (a == b) ≡ true → a ≡ b
+same_number a b e = grind (arith, nat_tests)
+
+pub same_or_not : (a b : ℕ) → (a ≡ b) ⊎ (a ≢ b)
+same_or_not a b = grind arith
+
+-- a fact of each element and each later one
+abbrev pub Pairs : {X : Type 0} → (X → X → Type 0) → List X → Type 0
+Pairs R [] = Unit {0}
+Pairs R (x ∷ xs) = AllByRecursion (R x) xs × Pairs R xs
+
+-- some element, where it stands
+abbrev pub SomeOf : {X : Type 0} → (X → Type 0) → List X → Type 0
+SomeOf P [] = ⊥
+SomeOf P (x ∷ xs) = P x ⊎ SomeOf P xs
+
+module _ {X : Type 0} (P Q : X → Type 0) where
+  pub all_imply : ((x : X) → P x → Q x) → (xs : List X) → AllByRecursion P xs → AllByRecursion Q xs
+  all_imply f [] a = tt
+  all_imply f (x ∷ xs) a = (f x a.0, all_imply f xs a.1)
+
+  pub all_both : (xs : List X) → AllByRecursion P xs → AllByRecursion Q xs → AllByRecursion (λ x. P x × Q x) xs
+  all_both [] a b = tt
+  all_both (x ∷ xs) a b = ((a.0, b.0), all_both xs a.1 b.1)
+
+  pub some_imply : ((x : X) → P x → Q x) → (xs : List X) → SomeOf P xs → SomeOf Q xs
+  some_imply f [] a = a
+  some_imply f (x ∷ xs) (inl a) = inl (f x a)
+  some_imply f (x ∷ xs) (inr a) = inr (some_imply f xs a)
+
+  pub some_of_all : (xs : List X) → SomeOf P xs → AllByRecursion Q xs → SomeOf (λ x. P x × Q x) xs
+  some_of_all [] a b = a
+  some_of_all (x ∷ xs) (inl a) b = inl (a, b.0)
+  some_of_all (x ∷ xs) (inr a) b = inr (some_of_all xs a b.1)
+
+module _ {X Y : Type 0} (f : X → Y) where
+  pub all_map : (P : Y → Type 0) (xs : List X) → AllByRecursion (λ x. P (f x)) xs → AllByRecursion P (map f xs)
+  all_map P [] a = tt
+  all_map P (x ∷ xs) a = (a.0, all_map P xs a.1)
+
+  pub some_map : (P : Y → Type 0) (xs : List X) → SomeOf (λ x. P (f x)) xs → SomeOf P (map f xs)
+  some_map P [] a = a
+  some_map P (x ∷ xs) (inl a) = inl a
+  some_map P (x ∷ xs) (inr a) = inr (some_map P xs a)
+
+  pub pairs_map : (R : Y → Y → Type 0) (xs : List X) → Pairs (λ x y. R (f x) (f y)) xs → Pairs R (map f xs)
+  pairs_map R [] a = tt
+  pairs_map R (x ∷ xs) a = (all_map (R (f x)) xs a.0, pairs_map R xs a.1)
+
+  pub map_twice : {Z : Type 0} (g : Y → Z) (h : X → Z) (xs : List X) → AllByRecursion (λ x. g (f x) ≡ h x) xs
+      → map g (map f xs) ≡ map h xs
+  map_twice g h [] a = refl
+  map_twice g h (x ∷ xs) a = let e : g (f x) ≡ h x = a.0 in let r : map g (map f xs) ≡ map h xs =
+      map_twice g h xs a.1 in rw (e, r) refl
+
+  pub get_or_mapped : (xs : List X) (i : ℕ) (d : X) → get_or (map f xs) i (f d) ≡ f (get_or xs i d)
+  get_or_mapped [] i d = refl
+  get_or_mapped (x ∷ xs) zero d = refl
+  get_or_mapped (x ∷ xs) (suc i) d = get_or_mapped xs i d
+
+module _ {X : Type 0} (P : X → Type 0) where
+  pub all_filter : (p : X → Bool) (xs : List X) → AllByRecursion P xs → AllByRecursion P (filter p xs)
+  all_filter p [] a = tt
+  all_filter p (x ∷ xs) a = elim (bool_cases (p x)) [
+    | inl b ↦ rw b (a.0, all_filter p xs a.1)
+    | inr b ↦ rw b (all_filter p xs a.1)
+  ]
+
+  pub all-append : (xs ys : List X) → AllByRecursion P xs → AllByRecursion P ys → AllByRecursion P (xs ++ ys)
+  all-append [] ys a b = b
+  all-append (x ∷ xs) ys a b = (a.0, all-append xs ys a.1 b)
+
+  pub some_first : (xs ys : List X) → SomeOf P xs → SomeOf P (xs ++ ys)
+  some_first [] ys a = absurd a
+  some_first (x ∷ xs) ys (inl a) = inl a
+  some_first (x ∷ xs) ys (inr a) = inr (some_first xs ys a)
+
+  pub some_second : (xs ys : List X) → SomeOf P ys → SomeOf P (xs ++ ys)
+  some_second [] ys a = a
+  some_second (x ∷ xs) ys a = inr (some_second xs ys a)
+
+  pub some_last : (xs : List X) (y : X) → P y → SomeOf P (xs ++ y ∷ [])
+  some_last [] y a = inl a
+  some_last (x ∷ xs) y a = inr (some_last xs y a)
+
+  pub some_at : (xs : List X) (d : X) → SomeOf P xs → (i : ℕ) × (i < length xs) × P (get_or xs i d)
+  some_at [] d a = absurd a
+  some_at (x ∷ xs) d (inl a) = (0, omega arith, a)
+  some_at (x ∷ xs) d (inr a) =
+      let r : (i : ℕ) × (i < length xs) × P (get_or xs i d) = some_at xs d a in
+      let l : r.0 < length xs = r.1 in
+      (suc r.0, omega arith, r.2)
+
+  pub all_at : (xs : List X) (d : X) (i : ℕ) → i < length xs → AllByRecursion P xs → P (get_or xs i d)
+  all_at [] d i l a = absurd (omega arith)
+  all_at (x ∷ xs) d zero l a = a.0
+  all_at (x ∷ xs) d (suc i) l a = all_at xs d i (omega arith) a.1
+
+-- an element of a list with an equal element
+pub some_contains : {X : Type 0} (y : X) (xs : List X) → SomeOf (λ x. x ≡ y) xs → Contains xs y
+some_contains y [] a = absurd a
+some_contains y (x ∷ xs) (inl a) = (0, omega arith, a)
+some_contains y (x ∷ xs) (inr a) =
+    let r : Contains xs y = some_contains y xs a in
+    let l : r.0 < length xs = r.1 in
+    (suc r.0, omega arith, r.2)
+
+-- a fact of each element of one list with each of another
+pub all_across : {X : Type 0} (P Q : X → Type 0) (R : X → X → Type 0) → ((x y : X) → P x → Q y → R x y) → (xs ys : List X)
+    → AllByRecursion P xs → AllByRecursion Q ys → AllByRecursion (λ x. AllByRecursion (R x) ys) xs
+all_across P Q R f [] ys a b = tt
+all_across P Q R f (x ∷ xs) ys a b = (all_imply Q (R x) (λ y q. f x y a.0 q) ys b, all_across P Q R f xs ys a.1 b)
+
+-- from a fact of each and a fact of each pair
+pub pairs_imply : {X : Type 0} (P : X → Type 0) (R S : X → X → Type 0) → ((x y : X) → P x → P y → R x y → S x y) → (xs : List X)
+    → AllByRecursion P xs → Pairs R xs → Pairs S xs
+pairs_imply P R S f [] a b = tt
+pairs_imply P R S f (x ∷ xs) a b = (
+  all_imply (λ y. P y × R x y) (S x) (λ y q. f x y a.0 q.0 q.1) xs (all_both P (R x) xs a.1 b.0),
+  pairs_imply P R S f xs
+      a.1 b.1,
+)
+
+module _ {X : Type 0} (R : X → X → Type 0) where
+  pub pairs_filter : (p : X → Bool) (xs : List X) → Pairs R xs → Pairs R (filter p xs)
+  pairs_filter p [] a = tt
+  pairs_filter p (x ∷ xs) a = elim (bool_cases (p x)) [
+    | inl b ↦ rw b (all_filter (R x) p xs a.0, pairs_filter p xs a.1)
+    | inr b ↦ rw b (pairs_filter p xs a.1)
+  ]
+
+  pub pairs-append : (xs ys : List X) → Pairs R xs → Pairs R ys → AllByRecursion (λ x. AllByRecursion (R x) ys) xs
+      → Pairs R (xs ++ ys)
+  pairs-append [] ys a b c = b
+  pairs-append (x ∷ xs) ys a b c = (all-append (R x) xs ys a.0 c.0, pairs-append xs ys a.1 b c.1)
+
+  pub pairs_last : (xs : List X) (y : X) → Pairs R xs → AllByRecursion (λ x. R x y) xs → Pairs R (xs ++ y ∷ [])
+  pairs_last [] y a b = (tt, tt)
+  pairs_last (x ∷ xs) y a b = (all-append (R x) xs (y ∷ []) a.0 (b.0, tt), pairs_last xs y a.1 b.1)
+
+  pub pairs_std : (xs : List X) → Pairs R xs → AllPairs R xs
+  pairs_std [] a = λ i j d l m. absurd (omega arith)
+  pairs_std (x ∷ xs) a = AllPairs-cons R x xs (All-from_recursion (R x) xs a.0) (pairs_std xs a.1)
+
+  -- where the elements that pass exclude each other, and one passes, it alone is left
+  pub one_left : (p : X → Bool) → ((x y : X) → R x y → p x ≡ true → p y ≡ true → ⊥) → (xs : List X) → Pairs R xs
+      → SomeOf (λ x. p x ≡ true) xs → (x : X) × (filter p xs ≡ x ∷ []) × (p x ≡ true)
+  one_left p h [] a s = absurd s
+  one_left p h (x ∷ xs) a (inl s) =
+      let e : filter p xs ≡ [] = none_left p h x s xs a.0 in (x, (rw (s, e) refl), s)
+    where
+      none_left : (p : X → Bool) → ((x y : X) → R x y → p x ≡ true → p y ≡ true → ⊥) → (x : X) → p x ≡ true
+          → (ys : List X) → AllByRecursion (R x) ys → filter p ys ≡ []
+      none_left p h x s [] b = refl
+      none_left p h x s (y ∷ ys) b = elim (bool_cases (p y)) [
+        | inl t ↦ absurd (h x y b.0 s t)
+        | inr t ↦ rw t (none_left p h x s ys b.1)
+      ]
+  one_left p h (x ∷ xs) a (inr s) =
+      let r : (z : X) × (filter p xs ≡ z ∷ []) × (p z ≡ true) = one_left p h xs a.1 s in
+      elim (bool_cases (p x)) [
+        | inl t ↦ absurd (clash p h x t xs a.0 s)
+        | inr t ↦ (r.0, rw t r.1, r.2)
+      ]
+    where
+      clash : (p : X → Bool) → ((x y : X) → R x y → p x ≡ true → p y ≡ true → ⊥) → (x : X) → p x ≡ true
+          → (ys : List X) → AllByRecursion (R x) ys → SomeOf (λ y. p y ≡ true) ys → ⊥
+      clash p h x t [] b c = c
+      clash p h x t (y ∷ ys) b (inl c) = h x y b.0 t c
+      clash p h x t (y ∷ ys) b (inr c) = clash p h x t ys b.1 c
+
+-- no element passes
+pub filter_none : {X : Type 0} (p : X → Bool) (xs : List X) → AllByRecursion (λ x. p x ≡ false) xs → filter p xs ≡ []
+filter_none p [] a = refl
+filter_none p (x ∷ xs) a = let e : p x ≡ false = a.0 in rw e (filter_none p xs a.1)
+
+-- what is left passes
+pub all_left : {X : Type 0} (p : X → Bool) (xs : List X) → AllByRecursion (λ x. p x ≡ true) (filter p xs)
+all_left p [] = tt
+all_left p (x ∷ xs) = elim (bool_cases (p x)) [ inl b ↦ rw b (b, all_left p xs) | inr b ↦ rw b (all_left p xs) ]
+
+-- an element that passes is left
+pub some_filter : {X : Type 0} (P : X → Type 0) (p : X → Bool) (xs : List X) → SomeOf (λ x. P x × (p x ≡ true)) xs
+    → SomeOf P (filter p xs)
+some_filter P p [] a = a
+some_filter P p (x ∷ xs) (inl a) = let e : p x ≡ true = a.1 in rw e (inl a.0)
+some_filter P p (x ∷ xs) (inr a) = elim (bool_cases (p x)) [
+  | inl b ↦ rw b (inr (some_filter P p xs a))
+  | inr b ↦ rw b (some_filter P p xs a)
+]

@@ -1,0 +1,197 @@
+-- The two laws: what is read is the text of the schedule, and the text of a schedule is read.
+use Rattle.std.proofs.Common.{◌≡◌, ℕ, ◌+◌, ◌<◌, ◌≤◌, Bool, true, false, cond, eqb, List, [], ◌∷◌, ◌++◌, map, length, get_or}
+use Rattle.std.proofs.Common.{take, Result, Ok, Err, refl, sym, ap, subst, ◌∙◌, arith}
+use Rattle.std.specs.Prelude.{IfOk, MatchResult, ◌≢◌}
+use Rattle.std.specs.List.{sum_by, AllByRecursion}
+use Rattle.std.proofs.lemmas.Bool.{eqb-true, le-ltb}
+use Rattle.std.proofs.lemmas.List.{append-nil, nil_from_length, map_push, take_more}
+use Rattle.std.proofs.lemmas.List.Concat.{flat_map-append}
+use Rattle.std.proofs.lemmas.List.Sums.{sum_by-cons}
+use Rattle.lset_text.specs.declared.headers.Header.{Header}
+use Rattle.lset_text.specs.Parts.{cut_at, ended, text_of, Lacks}
+use Rattle.lset_text.specs.Reading.{◌>>=◌, map_fault}
+use Rattle.lset_text.specs.Headers.{header_lines, header_of}
+use Rattle.lset_text.proofs.PartLaws.{Lacks-from_test, text_from_lines, cut_lines}
+use Rattle.lset_text.proofs.ReadingLaws.{bind_ok, map_fault_ok, ok_is}
+use Rattle.lset_text.proofs.HeaderLaws.{header_ok, header_again, header_lacks}
+use Rattle.lset_schedule.specs.declared.value.Line.{Line}
+use Rattle.lset_schedule.specs.declared.value.Schedule.{Schedule}
+use Rattle.lset_schedule.specs.declared.fault.Cause.{Cause}
+use Rattle.lset_schedule.specs.declared.fault.Cause.TheVariants.{Header as OfHeader, Kind, Threads, Quota, Event, Number}
+use Rattle.lset_schedule.specs.declared.fault.Cause.TheVariants.{TooMany, NotEnded, Memory}
+use Rattle.lset_schedule.specs.declared.fault.ScheduleFault.{ScheduleFault}
+use Rattle.lset_schedule.specs.Plan.{Plan, view, header_in, line_text, title, schedule_lines, schedule_text, event_count}
+use Rattle.lset_schedule.specs.Plan.{IsLine, IsSchedule}
+use Rattle.lset_schedule.specs.Reading.{fault, in_schedule, event_of, within, event_after, events_at, plan_of, reading, Gives}
+use Rattle.lset_schedule.proofs.EventLaws.{event_ok, event_again, event_lacks}
+use Rattle.lset_schedule.proofs.LoopLaws.{within_ok}
+
+-- ---- the lines of events
+
+abbrev counted : ℕ → ℕ → List ℕ → Result Line ScheduleFault
+counted line total x = map_fault (fault line) (event_after total x)
+
+-- a line of an event that the total has room for
+abbrev IsCounted : ℕ → List ℕ → Line → Type 0
+IsCounted total x e = (x ≡ line_text e) × IsLine e × (total + event_count e ≤ 10000)
+
+counted_ok : (line total : ℕ) (x : List ℕ) (e : Line) → counted line total x ≡ Ok e → IsCounted total x e
+counted_ok line total x e is =
+    let event = bind_ok (event_of x) (within total) e (map_fault_ok (fault line) (event_after total x) e is) in
+    let few = within_ok total event.0 e event.2 in
+    let text = event_ok x event.0 event.1 in
+    subst (IsCounted total x) few.0 (text.0, text.1, few.1)
+
+abbrev AreRead : ℕ → List (List ℕ) → List Line → Type 0
+AreRead total parts es =
+    (parts ≡ map line_text es ++ [] ∷ []) × AllByRecursion IsLine es × (total + sum_by event_count es ≤ 10000)
+
+last_ok : (b : Bool) (line : ℕ) (es : List Line) → cond b (Ok []) (Err (fault line NotEnded)) ≡ Ok es → (b ≡ true) × ([] ≡ es)
+last_ok true line es is = (refl, cc)
+last_ok false line es is = absurd cc
+
+-- what is left to read after an event
+abbrev events_from : ℕ → ℕ → List (List ℕ) → Line → Result (List Line) ScheduleFault
+events_from line total parts e = events_at (line + 1) (total + event_count e) parts >>= λ es. Ok (e ∷ es)
+
+events_ok : (line total : ℕ) (x : List ℕ) (parts : List (List ℕ)) (es : List Line) → total ≤ 10000
+    → events_at line total (x ∷ parts) ≡ Ok es → AreRead total (x ∷ parts) es
+unfolding events_at
+events_ok line total x [] es few is =
+    let last = last_ok (eqb (length x) 0) line es is in
+    let none : x ≡ [] = nil_from_length x (eqb-true _ _ last.0) in
+    subst (AreRead total (x ∷ [])) last.1 (ap (λ (t : List ℕ). t ∷ []) none, tt, omega (arith, few))
+events_ok line total x (y ∷ more) es few is =
+    let e = bind_ok (counted line total x) (events_from line total (y ∷ more)) es is in
+    let rest = bind_ok (events_at (line + 1) (total + event_count e.0) (y ∷ more)) (λ rest. Ok (e.0 ∷ rest)) es e.2 in
+    let one = counted_ok line total x e.0 e.1 in
+    let others = events_ok (line + 1) (total + event_count e.0) y more rest.0 one.2 rest.1 in
+    let parts : x ∷ y ∷ more ≡ map line_text (e.0 ∷ rest.0) ++ [] ∷ [] =
+    cons_same x (line_text e.0) (y ∷ more) (map line_text rest.0 ++ [] ∷ []) one.0 others.0 in
+    subst (AreRead total (x ∷ y ∷ more)) (ok_is (e.0 ∷ rest.0) es rest.2)
+    (parts, (one.1, others.1), omega (arith, others.2, sum_by-cons event_count e.0 rest.0))
+  where
+    cons_same : (a b : List ℕ) (xs ys : List (List ℕ)) → a ≡ b → xs ≡ ys → a ∷ xs ≡ b ∷ ys
+    cons_same a b xs ys e f = cc
+
+some_more : (ls : List (List ℕ)) → (y : List ℕ) × (more : List (List ℕ)) × (ls ++ [] ∷ [] ≡ y ∷ more)
+some_more [] = ([], [], refl)
+some_more (l ∷ ls) = (l, ls ++ [] ∷ [], refl)
+
+counted_again : (line total : ℕ) (e : Line) → IsLine e → total + event_count e ≤ 10000 → counted line total (line_text e) ≡ Ok e
+counted_again line total e is few = rw (event_again e is, le-ltb 10000 (total + event_count e) few) refl
+
+events_go : (line total : ℕ) (x : List ℕ) (parts : List (List ℕ)) (e : Line)
+    → ((y : List ℕ) × (more : List (List ℕ)) × (parts ≡ y ∷ more))
+    → counted line total x ≡ Ok e → events_at line total (x ∷ parts) ≡ events_from line total parts e
+unfolding events_at
+events_go line total x parts e some is = rw some.2 (rw is refl)
+
+events_again : (line total : ℕ) (es : List Line) → AllByRecursion IsLine es → total + sum_by event_count es ≤ 10000
+    → events_at line total (map line_text es ++ [] ∷ []) ≡ Ok es
+unfolding events_at
+events_again line total [] are few = refl
+events_again line total (e ∷ es) are few =
+    let sum = sum_by-cons event_count e es in
+    let one = counted_again line total e are.0 (omega (arith, sum, few)) in
+    let go = events_go line total (line_text e) (map line_text es ++ [] ∷ []) e (some_more (map line_text es)) one in
+    go ∙ rw (events_again (line + 1) (total + event_count e) es are.1 (omega (arith, sum, few))) refl
+
+-- ---- the whole
+
+abbrev plan : Header → List Line → Plan
+plan h ls = record { kind = h.kind; threads = h.threads; quota = h.quota; lines = ls }
+
+abbrev IsFound : List (List ℕ) → Plan → Type 0
+IsFound parts p = (parts ≡ schedule_lines p ++ [] ∷ []) × IsSchedule p
+
+events_found : (parts : List (List ℕ)) (es : List Line) → 0 < length parts → events_at 5 0 parts ≡ Ok es → AreRead 0 parts es
+events_found [] es some is = absurd (omega arith)
+events_found (x ∷ parts) es some is = events_ok 5 0 x parts es (omega arith) is
+
+-- what is left to read after the header
+abbrev plan_from : Header × List (List ℕ) → Result Plan ScheduleFault
+plan_from head = events_at 5 0 head.1 >>= λ lines. Ok (plan head.0 lines)
+
+plan_ok : (parts : List (List ℕ)) (p : Plan) → plan_of parts ≡ Ok p → IsFound parts p
+unfolding plan_of
+plan_ok parts p is =
+    let head = bind_ok (map_fault in_schedule (header_of title parts)) plan_from p is in
+    let lines = bind_ok (events_at 5 0 head.0.1) (λ lines. Ok (plan head.0.0 lines)) p head.2 in
+    let header = header_ok title parts head.0 (map_fault_ok in_schedule (header_of title parts) head.0 head.1) in
+    let events = events_found head.0.1 lines.0 header.2 lines.1 in
+    let all : parts ≡ schedule_lines (plan head.0.0 lines.0) ++ [] ∷ [] =
+    header.0 ∙ ap (λ (ps : List (List ℕ)). header_lines title head.0.0 ++ ps) events.0 in
+    subst (IsFound parts) (ok_is (plan head.0.0 lines.0) p lines.2)
+    (all, record { header = header.1; lines = events.1; few = omega (arith, events.2) })
+
+plan_again : (p : Plan) → IsSchedule p → plan_of (schedule_lines p ++ [] ∷ []) ≡ Ok p
+unfolding plan_of
+plan_again p is =
+    let rest : List (List ℕ) = map line_text p.lines ++ [] ∷ [] in
+    let some = some_more (map line_text p.lines) in
+    let head : header_of title (header_lines title (header_in p) ++ rest) ≡ Ok (header_in p, rest) =
+    rw some.2 (header_again title (header_in p) some.0 some.1 is.header) in
+    rw (head, events_again 5 0 p.lines is.lines (omega (arith, is.few))) refl
+
+lines_lack : (es : List Line) → AllByRecursion IsLine es → AllByRecursion (Lacks 10) (map line_text es)
+lines_lack [] are = tt
+lines_lack (e ∷ es) are = (event_lacks e are.0, lines_lack es are.1)
+
+schedule_lacks : (p : Plan) → IsSchedule p → AllByRecursion (Lacks 10) (schedule_lines p)
+schedule_lacks p is =
+    let h = header_lacks title (header_in p) (Lacks-from_test 10 title refl) is.header in
+    (h.0, (h.1.0, (h.1.1.0, (h.1.1.1.0, lines_lack p.lines is.lines))))
+
+pub is_found : (bytes : List ℕ) (p : Plan) → reading bytes ≡ Ok p → IsSchedule p × (bytes ≡ schedule_text p)
+is_found bytes p is =
+    let found = plan_ok (cut_at 10 bytes) p is in
+    (found.1, text_from_lines bytes (schedule_lines p) found.0)
+
+pub reads_text : (p : Plan) → IsSchedule p → reading (schedule_text p) ≡ Ok p
+reads_text p is = ap plan_of (cut_lines (schedule_lines p) (schedule_lacks p is)) ∙ plan_again p is
+
+-- ---- as a reader's clauses
+
+pub found_in : (bytes : List ℕ) (r : Result Schedule ScheduleFault) → Gives view r (reading bytes)
+    → IfOk r (λ s. IsSchedule (view s) × (bytes ≡ schedule_text (view s)))
+found_in bytes (Ok s) gives = is_found bytes (view s) gives
+found_in bytes (Err e) gives = tt
+
+-- a cause that cannot be another one is want of memory
+is_memory : (c : Cause) → (c ≢ Memory → ⊥) → c ≡ Memory
+is_memory Memory h = refl
+is_memory OfHeader h = absurd (h (λ e. cc))
+is_memory Kind h = absurd (h (λ e. cc))
+is_memory Threads h = absurd (h (λ e. cc))
+is_memory Quota h = absurd (h (λ e. cc))
+is_memory Event h = absurd (h (λ e. cc))
+is_memory Number h = absurd (h (λ e. cc))
+is_memory TooMany h = absurd (h (λ e. cc))
+is_memory NotEnded h = absurd (h (λ e. cc))
+
+gives_ok : (r : Result Schedule ScheduleFault) (p : Plan) → Gives view r (Ok p)
+    → MatchResult r (λ s. view s ≡ p) (λ e. e.cause ≡ Memory)
+gives_ok (Ok s) p gives = sym (ok_is p (view s) gives)
+gives_ok (Err e) p gives = is_memory e.cause (λ other. let bad = gives other in cc)
+
+pub only_in : (bytes : List ℕ) (r : Result Schedule ScheduleFault) → Gives view r (reading bytes) → (p : Plan) → IsSchedule p
+    → bytes ≡ schedule_text p → MatchResult r (λ s. view s ≡ p) (λ e. e.cause ≡ Memory)
+only_in bytes r gives p is text =
+    let read : reading bytes ≡ Ok p = ap reading text ∙ reads_text p is in
+    gives_ok r p (subst (Gives view r) read gives)
+
+-- ---- writing line after line
+
+pub text_more : (h : Header) (ls ms : List Line) (i : ℕ) (d : Line) → ms ≡ ls → i < length ms
+    → schedule_text (plan h (take i ls)) ++ ended (line_text (get_or ms i d)) ≡ schedule_text (plan h (take (i + 1) ls))
+text_more h ls ms i d same lt =
+    let front = schedule_lines (plan h (take i ls)) in
+    let last = line_text (get_or ms i d) in
+    let more : take (i + 1) ls ≡ take i ls ++ get_or ms i d ∷ [] = rw (← same) (take_more ms i d lt) in
+    let mapped : map line_text (take (i + 1) ls) ≡ map line_text (take i ls) ++ last ∷ [] =
+    rw more (map_push line_text (take i ls) (get_or ms i d)) in
+    let pushed : schedule_lines (plan h (take (i + 1) ls)) ≡ front ++ last ∷ [] =
+    ap (λ (ps : List (List ℕ)). header_lines title h ++ ps) mapped in
+    let end = ap (λ (t : List ℕ). text_of front ++ t) (append-nil (ended last)) in
+    sym (ap text_of pushed ∙ flat_map-append ended front (last ∷ []) ∙ end)

@@ -1,0 +1,15 @@
+use Rattle.std.proofs.Common.{◌≡◌, ◌≤◌, ◌+◌, length}
+use Rattle.lset_text.specs.Parts.{cut_at}
+use Rattle.lset_schedule.specs.Reading.{events_at}
+use Rattle.lset_schedule.proofs.LoopLaws.{with_front}
+use Rattle.lset_schedule.proofs.reading.events.Given as goal
+
+abbrev pub invariant-loop-rest : goal.invariant-loop-rest
+invariant-loop-rest l = record {
+  so_far : with_front l.lines.items (events_at l.line l.total (cut_at 10 l.rest)) ≡ events_at 5 0 (cut_at 10 l.text);
+  lines_left : l.line + length l.rest ≤ 5 + length l.text;
+  few : l.total ≤ 10000;
+}
+
+abbrev pub decreases-loop-rest : goal.decreases-loop-rest
+decreases-loop-rest l = length l.rest

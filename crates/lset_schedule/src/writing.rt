@@ -1,0 +1,48 @@
+ghost use Rattle.std.specs.Prelude.{◌≡◌, ◌++◌, ◌∷◌, [], IfOk, OnOk, Some, string_bytes};
+ghost use Rattle.lset_text.specs.Parts.{ended};
+ghost use Rattle.lset_schedule.specs.Plan.{view, line_text, schedule_text};
+
+use crate::TITLE;
+use crate::value::{Line, Schedule};
+use lset_text::{Header, call_word, put_header};
+use std::alloc::{AllocError, Global};
+use std::fmt;
+
+impl fmt::Display for Line {
+    ghost output = { λ l. Some (line_text l) };
+
+    fn fmt<W: fmt::Write>(&self, f: &mut fmt::Formatter<W>) -> fmt::Result {
+        match *self {
+            Line::Begin(thread, call) => {
+                let word = call_word(call);
+                let key = call.key().0;
+                write!(f, "begin {thread} {word} {key}")
+            }
+            Line::Go(thread, steps) => write!(f, "go {thread} {steps}"),
+        }
+    }
+}
+
+fn put_line(out: &mut String, line: &Line) -> Result<(), AllocError>
+    ensures { OnOk result (string_bytes out.new ≡ string_bytes out.old ++ ended (line_text line.now)) }
+{
+    writeln!(out, "{line}")?;
+    Ok(())
+}
+
+/// The text of a schedule, the only one that is read as this schedule. The only error is want of memory.
+pub fn write_schedule(alloc: Global, schedule: &Schedule) -> Result<Vec<u8>, AllocError>
+    ensures { IfOk result (λ v. v.items ≡ schedule_text (view schedule.now)) }
+{
+    let header = Header {
+        kind: schedule.kind,
+        threads: schedule.threads,
+        quota: schedule.quota,
+    };
+    let mut out = String::new(alloc);
+    put_header(&mut out, TITLE, header)?;
+    for line in &schedule.lines {
+        put_line(&mut out, line)?;
+    }
+    Ok(out.into_bytes())
+}

@@ -1,0 +1,232 @@
+-- A header is read from its four lines, and from nothing else.
+use Rattle.std.proofs.Common.{◌≡◌, Result, ℕ, ◌<◌, ◌≤◌, ◌^◌, true, List, [], ◌∷◌, ◌++◌, length, Option, Some, None, Ok}
+use Rattle.std.proofs.Common.{refl, ap, subst, ◌∙◌, arith, codes}
+use Rattle.std.specs.Fmt.{decimal}
+use Rattle.std.specs.List.{AllByRecursion}
+use Rattle.std.specs.Str.{bytes_eq}
+use Rattle.std.proofs.lemmas.Slice.Eq.{bytes_eq-Decides}
+use Rattle.lset_words.specs.declared.Kind.{Kind}
+use Rattle.lset_text.specs.declared.headers.Header.{Header}
+use Rattle.lset_text.specs.declared.headers.HeaderCause.{HeaderCause}
+use Rattle.lset_text.specs.declared.headers.HeaderFault.{HeaderFault}
+use Rattle.lset_text.specs.declared.headers.HeaderCause.TheVariants as wrong
+use Rattle.lset_text.specs.Parts.{cut_at, text_of, Lacks}
+use Rattle.lset_text.specs.Numbers.{number_in}
+use Rattle.lset_text.specs.Words.{kind_text, kind_of}
+use Rattle.lset_text.specs.Reading.{◌>>=◌, or_fail}
+use Rattle.lset_text.specs.Headers.{kind_line, number_line, header_lines, IsHeader, fault, title_in, kind_in_pieces}
+use Rattle.lset_text.specs.Headers.{kind_in, number_in_pieces, number_after, line_due, told_by_line, title_told, kind_told}
+use Rattle.lset_text.specs.Headers.{threads_told, quota_told, header_of}
+use Rattle.lset_text.proofs.PartLaws.{some_part, Lacks-from_test, line_lacks, cut_line, line_from_cut, cut_text, text_from_cut}
+use Rattle.lset_text.proofs.NumberLaws.{number_ok, number_again, decimal_lacks}
+use Rattle.lset_text.proofs.ReadingLaws.{bind_ok, or_fail_ok, test_some, ok_is}
+use Rattle.lset_text.proofs.WordLaws.{same_bytes, kind_ok, kind_again, kind_lacks}
+
+-- ---- one line
+
+two : (a b x y : List ℕ) → a ≡ x → b ≡ y → a ∷ b ∷ [] ≡ x ∷ y ∷ []
+two a b x y e f = cc
+
+title_ok : (title line told : List ℕ) → title_in title line ≡ Some told → line ≡ title
+title_ok title line told is = same_bytes line title (test_some (bytes_eq line title) (Some title) told is).0
+
+kind_pieces_ok : (ps : List (List ℕ)) (k : Kind) → kind_in_pieces ps ≡ Some k → ps ≡ codes "list" ∷ kind_text k ∷ []
+kind_pieces_ok [] k is = absurd cc
+kind_pieces_ok (a ∷ []) k is = absurd cc
+kind_pieces_ok (a ∷ b ∷ []) k is =
+    let found = test_some (bytes_eq a (codes "list")) (kind_of b) k is in
+    two a b (codes "list") (kind_text k) (same_bytes a (codes "list") found.0) (kind_ok b k found.1)
+kind_pieces_ok (a ∷ b ∷ c ∷ more) k is = absurd cc
+
+pub kind_in_ok : (line : List ℕ) (k : Kind) → kind_in line ≡ Some k → line ≡ kind_line k
+kind_in_ok line k is = line_from_cut line (codes "list" ∷ kind_text k ∷ []) (kind_pieces_ok (cut_at 32 line) k is)
+
+pub kind_in_again : (k : Kind) → kind_in (kind_line k) ≡ Some k
+kind_in_again k =
+    let word = Lacks-from_test 32 (codes "list") refl in
+    let cut = cut_line (codes "list") (kind_text k ∷ []) word (kind_lacks 32 k (omega arith), tt) in
+    rw cut (kind_again k)
+
+number_pieces_ok : (word : List ℕ) (low high : ℕ) (ps : List (List ℕ)) (n : ℕ) → high < 2 ^ 64
+    → number_in_pieces word low high ps ≡ Some n → (ps ≡ word ∷ decimal n ∷ []) × (low ≤ n) × (n ≤ high)
+number_pieces_ok word low high [] n wide is = absurd cc
+number_pieces_ok word low high (a ∷ []) n wide is = absurd cc
+number_pieces_ok word low high (a ∷ b ∷ []) n wide is =
+    let found = test_some (bytes_eq a word) (number_in low high b) n is in
+    let number = number_ok low high b n wide found.1 in
+    (two a b word (decimal n) (same_bytes a word found.0) number.0, number.1, number.2)
+number_pieces_ok word low high (a ∷ b ∷ c ∷ more) n wide is = absurd cc
+
+pub number_after_ok : (word : List ℕ) (low high : ℕ) (line : List ℕ) (n : ℕ) → high < 2 ^ 64
+    → number_after word low high line ≡ Some n → (line ≡ number_line word n) × (low ≤ n) × (n ≤ high)
+number_after_ok word low high line n wide is =
+    let found = number_pieces_ok word low high (cut_at 32 line) n wide is in
+    (line_from_cut line (word ∷ decimal n ∷ []) found.0, found.1, found.2)
+
+same_true : (w : List ℕ) → bytes_eq w w ≡ true
+same_true w = (bytes_eq-Decides w w).1 refl
+
+pub number_after_again : (word : List ℕ) (low high n : ℕ) → Lacks 32 word → high < 2 ^ 64 → low ≤ n → n ≤ high
+    → number_after word low high (number_line word n) ≡ Some n
+number_after_again word low high n lacks wide low_ok high_ok =
+    let cut = cut_line word (decimal n ∷ []) lacks (decimal_lacks 32 n (omega arith) (omega arith), tt) in
+    rw (cut, same_true word) (number_again low high n wide low_ok high_ok)
+
+-- a line of more pieces is none of these
+pub kind_many : (a b : List ℕ) (parts : List (List ℕ)) → 0 < length parts → None ≡ kind_in_pieces (a ∷ b ∷ parts)
+kind_many a b [] h = absurd (omega arith)
+kind_many a b (c ∷ more) h = refl
+
+pub number_many : (word : List ℕ) (low high : ℕ) (a b : List ℕ) (parts : List (List ℕ)) → 0 < length parts
+    → None ≡ number_in_pieces word low high (a ∷ b ∷ parts)
+number_many word low high a b [] h = absurd (omega arith)
+number_many word low high a b (c ∷ more) h = refl
+
+-- ---- a line that is due
+
+pub line_due_goes : (line : ℕ) (cause : HeaderCause) (x : List ℕ) (parts : List (List ℕ)) → 0 < length parts
+    → line_due line cause (x ∷ parts) ≡ Ok (x, parts)
+line_due_goes line cause x [] h = absurd (omega arith)
+line_due_goes line cause x (y ∷ more) h = refl
+
+-- a line with the parts after it
+abbrev Due : Type 0
+Due = List ℕ × List (List ℕ)
+
+abbrev IsDue : List (List ℕ) → Due → Type 0
+IsDue parts due = (parts ≡ due.0 ∷ due.1) × (0 < length due.1)
+
+line_due_ok : (line : ℕ) (cause : HeaderCause) (parts : List (List ℕ)) (due : Due)
+    → line_due line cause parts ≡ Ok due → IsDue parts due
+line_due_ok line cause [] due is = absurd cc
+line_due_ok line cause (rest ∷ []) due is = absurd cc
+line_due_ok line cause (a ∷ b ∷ more) due is = subst (IsDue (a ∷ b ∷ more)) (ok_is (a, b ∷ more) due is) (refl, omega arith)
+
+-- a line that tells this stands first, and further parts after it
+abbrev IsToldBy : {A : Type 0} → (List ℕ → Option A) → List (List ℕ) → A × List (List ℕ) → Type 0
+IsToldBy read parts told = (x : List ℕ) × (parts ≡ x ∷ told.1) × (read x ≡ Some told.0) × (0 < length told.1)
+
+told_ok : {A : Type 0} (line : ℕ) (cause : HeaderCause) (read : List ℕ → Option A) (parts : List (List ℕ))
+    (told : A × List (List ℕ)) → told_by_line line cause read parts ≡ Ok told → IsToldBy read parts told
+unfolding told_by_line
+told_ok line cause read parts told is =
+    let due = bind_ok (line_due line cause parts) (λ p. or_fail (fault line cause) (read p.0) >>= λ a. Ok (a, p.1)) told is in
+    let value = bind_ok (or_fail (fault line cause) (read due.0.0)) (λ a. Ok (a, due.0.1)) told due.2 in
+    let first = line_due_ok line cause parts due.0 due.1 in
+    let some = or_fail_ok (fault line cause) (read due.0.0) value.0 value.1 in
+    subst (IsToldBy read parts) (ok_is (value.0, due.0.1) told value.2) (due.0.0, first.0, some, first.1)
+
+told_again : {A : Type 0} (line : ℕ) (cause : HeaderCause) (read : List ℕ → Option A) (x y : List ℕ) (more : List (List ℕ))
+    (told : A) → read x ≡ Some told → told_by_line line cause read (x ∷ y ∷ more) ≡ Ok (told, y ∷ more)
+unfolding told_by_line
+told_again line cause read x y more told is = rw is refl
+
+-- ---- the header
+
+abbrev Found : Type 0
+Found = Header × List (List ℕ)
+
+-- what is left to read after each of the lines
+abbrev after_quota : Kind → ℕ → ℕ × List (List ℕ) → Result Found HeaderFault
+after_quota kind threads quota = Ok (record { kind = kind; threads = threads; quota = quota.0 }, quota.1)
+
+abbrev after_threads : Kind → ℕ × List (List ℕ) → Result Found HeaderFault
+after_threads kind threads = quota_told threads.1 >>= after_quota kind threads.0
+
+abbrev after_kind : Kind × List (List ℕ) → Result Found HeaderFault
+after_kind kind = threads_told kind.1 >>= after_threads kind.0
+
+abbrev after_title : List ℕ × List (List ℕ) → Result Found HeaderFault
+after_title first = kind_told first.1 >>= after_kind
+
+-- the lines of a header stand first, and further parts after them
+abbrev BeginsWith : List ℕ → List (List ℕ) → Found → Type 0
+BeginsWith title parts found = (parts ≡ header_lines title found.0 ++ found.1) × IsHeader found.0 × (0 < length found.1)
+
+joined : {xs ys zs : List (List ℕ)} {x y : List ℕ} → xs ≡ x ∷ ys → x ≡ y → ys ≡ zs → xs ≡ y ∷ zs
+joined e f g = cc
+
+pub header_ok : (title : List ℕ) (parts : List (List ℕ)) (found : Found)
+    → header_of title parts ≡ Ok found → BeginsWith title parts found
+unfolding header_of
+header_ok title parts found is =
+    let first = bind_ok (title_told title parts) after_title found is in
+    let kind = bind_ok (kind_told first.0.1) after_kind found first.2 in
+    let threads = bind_ok (threads_told kind.0.1) (after_threads kind.0.0) found kind.2 in
+    let quota = bind_ok (quota_told threads.0.1) (after_quota kind.0.0 threads.0.0) found threads.2 in
+    let line1 = told_ok 1 wrong.Header (title_in title) parts first.0 first.1 in
+    let line2 = told_ok 2 wrong.Kind kind_in first.0.1 kind.0 kind.1 in
+    let line3 = told_ok 3 wrong.Threads (number_after (codes "threads") 1 64) kind.0.1 threads.0 threads.1 in
+    let line4 = told_ok 4 wrong.Quota (number_after (codes "quota") 0 16384) threads.0.1 quota.0 quota.1 in
+    let is_title = title_ok title line1.0 first.0.0 line1.2 in
+    let is_kind = kind_in_ok line2.0 kind.0.0 line2.2 in
+    let is_threads = number_after_ok (codes "threads") 1 64 line3.0 threads.0.0 (omega arith) line3.2 in
+    let is_quota = number_after_ok (codes "quota") 0 16384 line4.0 quota.0.0 (omega arith) line4.2 in
+    let header : Header = record { kind = kind.0.0; threads = threads.0.0; quota = quota.0.0 } in
+    let within : IsHeader header = record { some = omega (arith, is_threads.1); few = is_threads.2; small = is_quota.2 } in
+    let all : parts ≡ header_lines title header ++ quota.0.1 =
+    joined line1.1 is_title (joined line2.1 is_kind (joined line3.1 is_threads.0 (joined line4.1 is_quota.0 refl))) in
+    subst (BeginsWith title parts) (ok_is (header, quota.0.1) found quota.2) (all, within, line4.3)
+
+title_again : (title : List ℕ) → title_in title title ≡ Some title
+title_again title = rw (same_true title) refl
+
+threads_again : (n : ℕ) → 0 < n → n ≤ 64 → number_after (codes "threads") 1 64 (number_line (codes "threads") n) ≡ Some n
+threads_again n some few =
+    let word = Lacks-from_test 32 (codes "threads") refl in
+    number_after_again (codes "threads") 1 64 n word (omega arith) (omega (arith, some)) few
+
+quota_again : (n : ℕ) → n ≤ 16384 → number_after (codes "quota") 0 16384 (number_line (codes "quota") n) ≡ Some n
+quota_again n small =
+    number_after_again (codes "quota") 0 16384 n (Lacks-from_test 32 (codes "quota") refl) (omega arith) (omega arith) small
+
+pub header_again : (title : List ℕ) (h : Header) (y : List ℕ) (more : List (List ℕ)) → IsHeader h
+    → header_of title (header_lines title h ++ y ∷ more) ≡ Ok (h, y ∷ more)
+unfolding header_of
+header_again title h y more within =
+    let line2 = kind_line h.kind in
+    let line3 = number_line (codes "threads") h.threads in
+    let line4 = number_line (codes "quota") h.quota in
+    let parts4 : List (List ℕ) = line4 ∷ y ∷ more in
+    let is_title = told_again 1 wrong.Header (title_in title) title line2 (line3 ∷ parts4) title (title_again title) in
+    let is_kind = told_again 2 wrong.Kind kind_in line2 line3 parts4 h.kind (kind_in_again h.kind) in
+    let is_threads = told_again 3 wrong.Threads (number_after (codes "threads") 1 64) line3 line4 (y ∷ more) h.threads
+    (threads_again h.threads within.some within.few) in
+    let is_quota = told_again 4 wrong.Quota (number_after (codes "quota") 0 16384) line4 y more h.quota
+    (quota_again h.quota within.small) in
+    rw (is_title, is_kind, is_threads, is_quota) refl
+
+kind_line_lacks : (k : Kind) → Lacks 10 (kind_line k)
+kind_line_lacks k =
+    let word = Lacks-from_test 10 (codes "list") refl in
+    line_lacks (codes "list" ∷ kind_text k ∷ []) (word, (kind_lacks 10 k (omega arith), tt))
+
+number_line_lacks : (word : List ℕ) (n : ℕ) → Lacks 10 word → n < 2 ^ 64 → Lacks 10 (number_line word n)
+number_line_lacks word n free small = line_lacks (word ∷ decimal n ∷ []) (free, (decimal_lacks 10 n (omega arith) small, tt))
+
+-- no line of a header has a newline in it
+pub header_lacks : (title : List ℕ) (h : Header) → Lacks 10 title → IsHeader h → AllByRecursion (Lacks 10) (header_lines title h)
+header_lacks title h lacks within =
+    let word3 = Lacks-from_test 10 (codes "threads") refl in
+    let line3 = number_line_lacks (codes "threads") h.threads word3 (omega (arith, within.few)) in
+    let word4 = Lacks-from_test 10 (codes "quota") refl in
+    let line4 = number_line_lacks (codes "quota") h.quota word4 (omega (arith, within.small)) in
+    (lacks, (kind_line_lacks h.kind, (line3, (line4, tt))))
+
+-- ---- texts that begin with a header
+
+pub header_in_text : (title text : List ℕ) (h : Header) (rest : List ℕ)
+    → header_of title (cut_at 10 text) ≡ Ok (h, cut_at 10 rest) → IsHeader h × (text ≡ text_of (header_lines title h) ++ rest)
+header_in_text title text h rest is =
+    let found = header_ok title (cut_at 10 text) (h, cut_at 10 rest) is in
+    (found.1, text_from_cut text (header_lines title h) rest found.0)
+
+pub header_from_text : (title : List ℕ) (h : Header) (rest : List ℕ) → Lacks 10 title → IsHeader h
+    → header_of title (cut_at 10 (text_of (header_lines title h) ++ rest)) ≡ Ok (h, cut_at 10 rest)
+header_from_text title h rest lacks within =
+    let cut = cut_text (header_lines title h) rest (header_lacks title h lacks within) in
+    ap (header_of title) cut ∙ again (cut_at 10 rest) (some_part 10 rest)
+  where
+    again : (parts : List (List ℕ)) → 0 < length parts → header_of title (header_lines title h ++ parts) ≡ Ok (h, parts)
+    again [] some = absurd (omega arith)
+    again (y ∷ more) some = header_again title h y more within

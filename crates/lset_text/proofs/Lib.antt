@@ -1,0 +1,5 @@
+pub mod PartLaws
+pub mod NumberLaws
+pub mod WordLaws
+pub mod ReadingLaws
+pub mod HeaderLaws

@@ -1,0 +1,100 @@
+-- The four lines at the head of a text: its title, the kind of list, the number of threads and their quota.
+use Rattle.std.specs.Prelude.{◌≡◌, ℕ, ◌==◌, List, [], ◌∷◌, ◌++◌, length, codes, Option, Some, None, Result, Ok, Err}
+use Rattle.std.specs.Prelude.{if◌then◌else◌}
+use Rattle.std.specs.Fmt.{decimal}
+use Rattle.std.specs.Str.{bytes_eq}
+use Rattle.lset_words.specs.declared.Kind.{Kind}
+use Rattle.lset_words.specs.Words.{IsWithin}
+use Rattle.lset_text.specs.declared.headers.Header.{Header}
+use Rattle.lset_text.specs.declared.headers.HeaderCause.{HeaderCause}
+use Rattle.lset_text.specs.declared.headers.HeaderCause.TheVariants as wrong
+use Rattle.lset_text.specs.declared.headers.HeaderFault.{HeaderFault}
+use Rattle.lset_text.specs.Parts.{cut_at, line_of, text_of, Lacks}
+use Rattle.lset_text.specs.Numbers.{number_in}
+use Rattle.lset_text.specs.Words.{kind_text, kind_of}
+use Rattle.lset_text.specs.Reading.{◌>>=◌, or_fail}
+
+-- ---- the text of a header
+
+abbrev pub kind_line : Kind → List ℕ
+kind_line k = line_of (codes "list" ∷ kind_text k ∷ [])
+
+-- a line of a word and a number
+abbrev pub number_line : List ℕ → ℕ → List ℕ
+number_line word n = line_of (word ∷ decimal n ∷ [])
+
+abbrev pub header_lines : List ℕ → Header → List (List ℕ)
+header_lines title h =
+    title ∷ kind_line h.kind ∷ number_line (codes "threads") h.threads ∷ number_line (codes "quota") h.quota ∷ []
+
+-- 1 to 64 threads, with a quota of 0 to 16,384
+abbrev pub IsHeader : Header → Type 0
+IsHeader h = IsWithin (record { threads = h.threads; quota = h.quota })
+
+-- ---- reading a header
+
+abbrev pub fault : ℕ → HeaderCause → HeaderFault
+fault line cause = record { line = line; cause = cause }
+
+abbrev pub title_in : List ℕ → List ℕ → Option (List ℕ)
+title_in title line = if bytes_eq line title then Some title else None
+
+abbrev pub kind_in_pieces : List (List ℕ) → Option Kind
+kind_in_pieces [] = None
+kind_in_pieces (a ∷ []) = None
+kind_in_pieces (a ∷ b ∷ []) = if bytes_eq a (codes "list") then kind_of b else None
+kind_in_pieces (a ∷ b ∷ c ∷ more) = None
+
+-- the kind that a line tells
+abbrev pub kind_in : List ℕ → Option Kind
+kind_in line = kind_in_pieces (cut_at 32 line)
+
+abbrev pub number_in_pieces : List ℕ → ℕ → ℕ → List (List ℕ) → Option ℕ
+number_in_pieces word low high [] = None
+number_in_pieces word low high (a ∷ []) = None
+number_in_pieces word low high (a ∷ b ∷ []) = if bytes_eq a word then number_in low high b else None
+number_in_pieces word low high (a ∷ b ∷ c ∷ more) = None
+
+-- the number of a range that a line tells after a word
+abbrev pub number_after : List ℕ → ℕ → ℕ → List ℕ → Option ℕ
+number_after word low high line = number_in_pieces word low high (cut_at 32 line)
+
+-- The header line that is due, and the parts after it. Where no byte is left the fault is the one of the line that is due.
+abbrev pub line_due : ℕ → HeaderCause → List (List ℕ) → Result (List ℕ × List (List ℕ)) HeaderFault
+line_due line cause [] = Err (fault line cause)
+line_due line cause (rest ∷ []) = Err (fault line (if length rest == 0 then cause else wrong.NotEnded))
+line_due line cause (x ∷ y ∷ more) = Ok (x, y ∷ more)
+
+-- what the line that is due tells, and the parts after it
+unfoldable pub told_by_line : {A : Type 0} → ℕ → HeaderCause → (List ℕ → Option A) → List (List ℕ)
+    → Result (A × List (List ℕ)) HeaderFault
+told_by_line line cause read parts = do
+  due ← line_due line cause parts
+  told ← or_fail (fault line cause) (read due.0)
+  Ok (told, due.1)
+
+abbrev pub title_told : List ℕ → List (List ℕ) → Result (List ℕ × List (List ℕ)) HeaderFault
+title_told title = told_by_line 1 wrong.Header (title_in title)
+
+abbrev pub kind_told : List (List ℕ) → Result (Kind × List (List ℕ)) HeaderFault
+kind_told = told_by_line 2 wrong.Kind kind_in
+
+abbrev pub threads_told : List (List ℕ) → Result (ℕ × List (List ℕ)) HeaderFault
+threads_told = told_by_line 3 wrong.Threads (number_after (codes "threads") 1 64)
+
+abbrev pub quota_told : List (List ℕ) → Result (ℕ × List (List ℕ)) HeaderFault
+quota_told = told_by_line 4 wrong.Quota (number_after (codes "quota") 0 16384)
+
+-- the header of a text's parts, and the parts after it
+unfoldable pub header_of : List ℕ → List (List ℕ) → Result (Header × List (List ℕ)) HeaderFault
+header_of title parts = do
+  first ← title_told title parts
+  kind ← kind_told first.1
+  threads ← threads_told kind.1
+  quota ← quota_told threads.1
+  Ok (record { kind = kind.0; threads = threads.0; quota = quota.0 }, quota.1)
+
+-- a header is read from its text, whatever comes after it
+abbrev pub HeadersReadBack : Type 0
+HeadersReadBack = (title : List ℕ) (h : Header) (rest : List ℕ) → Lacks 10 title → IsHeader h
+    → header_of title (cut_at 10 (text_of (header_lines title h) ++ rest)) ≡ Ok (h, cut_at 10 rest)

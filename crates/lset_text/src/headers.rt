@@ -1,0 +1,223 @@
+ghost use Rattle.std.specs.Prelude.{◌≡◌, ◌<◌, ◌++◌, [], ◌∷◌, length, string_bytes, IfOk, OnOk, Ok, Err, MatchResult};
+ghost use Rattle.lset_text.specs.Parts.{cut_at, text_of};
+ghost use Rattle.lset_text.specs.Headers.{
+  kind_in,
+  number_after,
+  line_due,
+  title_told,
+  kind_told,
+  threads_told,
+  quota_told,
+  header_of,
+  header_lines,
+  IsHeader,
+  HeadersReadBack,
+};
+
+use crate::numbers::number;
+use crate::parts::cut;
+use crate::words::{kind_word, read_kind};
+use lset_words::Kind;
+use std::alloc::AllocError;
+use thiserror::Error;
+
+const MOST_THREADS: u32 = 64;
+
+const MOST_QUOTA: u32 = 16_384;
+
+/// What the header of a text tells: the kind of list, its threads, 1 to 64, and the slots of each, 0 to
+/// 16,384.
+#[derive(Clone, Copy, Debug, PartialEq, Eq)]
+pub struct Header {
+    pub kind: Kind,
+    pub threads: u32,
+    pub quota: u32,
+}
+
+/// What is wrong with the line of a header.
+#[derive(Clone, Copy, Debug, PartialEq, Eq)]
+pub enum HeaderCause {
+    /// The line is not the title.
+    Header,
+    /// The line is not `list` and the word for a kind.
+    Kind,
+    /// The line is not `threads` and a number from 1 to 64.
+    Threads,
+    /// The line is not `quota` and a number from 0 to 16384.
+    Quota,
+    /// The line has bytes and no newline.
+    NotEnded,
+}
+
+/// The first fault of a header, and its line, counted from 1.
+#[derive(Clone, Copy, Debug, PartialEq, Eq, Error)]
+#[error("line {line}: {cause:?}")]
+pub struct HeaderFault {
+    pub line: u64,
+    pub cause: HeaderCause,
+}
+
+fn kind_of_line(line: &[u8]) -> Option<Kind>
+    ensures { result ≡ kind_in line.now }
+{
+    let (word, kind) = cut(line, b' ')?;
+    if word != b"list".as_slice() {
+        return None;
+    }
+    if let Some((_, _more)) = cut(kind, b' ') {
+        return None;
+    }
+    read_kind(kind)
+}
+
+fn number_of_line(line: &[u8], word: &[u8], low: u32, high: u32) -> Option<u32>
+    ensures { result ≡ number_after word.now low high line.now }
+{
+    let (first, count) = cut(line, b' ')?;
+    if first != word {
+        return None;
+    }
+    if let Some((_, _more)) = cut(count, b' ') {
+        return None;
+    }
+    number(count, low, high)
+}
+
+/// The header line that is due, and what comes after it.
+fn due(text: &[u8], line: u64, cause: HeaderCause) -> Result<(&[u8], &[u8]), HeaderFault>
+    ensures value { MatchResult result
+        (λ p. line_due line cause (cut_at 10 text.now) ≡ Ok (p.0.now, cut_at 10 p.1.now))
+        (λ e. line_due line cause (cut_at 10 text.now) ≡ Err e) }
+    ensures shorter { IfOk result (λ p. length p.1.now < length text.now) }
+{
+    if let Some((first, rest)) = cut(text, b'\n') {
+        return Ok((first, rest));
+    }
+    let cause = if text.is_empty() {
+        cause
+    } else {
+        HeaderCause::NotEnded
+    };
+    Err(HeaderFault { line, cause })
+}
+
+#[tactic(auto, unfolding(crate::specs::Headers::told_by_line))]
+fn title_due<'a>(text: &'a [u8], title: &[u8]) -> Result<&'a [u8], HeaderFault>
+    ensures value { MatchResult result
+        (λ rest. title_told title.now (cut_at 10 text.now) ≡ Ok (title.now, cut_at 10 rest.now))
+        (λ e. title_told title.now (cut_at 10 text.now) ≡ Err e) }
+    ensures shorter { IfOk result (λ rest. length rest.now < length text.now) }
+{
+    let (first, rest) = due(text, 1, HeaderCause::Header)?;
+    if first != title {
+        return Err(HeaderFault {
+            line: 1,
+            cause: HeaderCause::Header,
+        });
+    }
+    Ok(rest)
+}
+
+#[tactic(auto, unfolding(crate::specs::Headers::told_by_line))]
+fn kind_due(text: &[u8]) -> Result<(Kind, &[u8]), HeaderFault>
+    ensures value { MatchResult result
+        (λ p. kind_told (cut_at 10 text.now) ≡ Ok (p.0, cut_at 10 p.1.now))
+        (λ e. kind_told (cut_at 10 text.now) ≡ Err e) }
+    ensures shorter { IfOk result (λ p. length p.1.now < length text.now) }
+{
+    let (first, rest) = due(text, 2, HeaderCause::Kind)?;
+    let Some(kind) = kind_of_line(first) else {
+        return Err(HeaderFault {
+            line: 2,
+            cause: HeaderCause::Kind,
+        });
+    };
+    Ok((kind, rest))
+}
+
+#[tactic(auto, unfolding(crate::specs::Headers::told_by_line))]
+fn threads_due(text: &[u8]) -> Result<(u32, &[u8]), HeaderFault>
+    ensures value { MatchResult result
+        (λ p. threads_told (cut_at 10 text.now) ≡ Ok (p.0, cut_at 10 p.1.now))
+        (λ e. threads_told (cut_at 10 text.now) ≡ Err e) }
+    ensures shorter { IfOk result (λ p. length p.1.now < length text.now) }
+{
+    let (first, rest) = due(text, 3, HeaderCause::Threads)?;
+    let Some(threads) = number_of_line(first, b"threads", 1, MOST_THREADS) else {
+        return Err(HeaderFault {
+            line: 3,
+            cause: HeaderCause::Threads,
+        });
+    };
+    Ok((threads, rest))
+}
+
+#[tactic(auto, unfolding(crate::specs::Headers::told_by_line))]
+fn quota_due(text: &[u8]) -> Result<(u32, &[u8]), HeaderFault>
+    ensures value { MatchResult result
+        (λ p. quota_told (cut_at 10 text.now) ≡ Ok (p.0, cut_at 10 p.1.now))
+        (λ e. quota_told (cut_at 10 text.now) ≡ Err e) }
+    ensures shorter { IfOk result (λ p. length p.1.now < length text.now) }
+{
+    let (first, rest) = due(text, 4, HeaderCause::Quota)?;
+    let Some(quota) = number_of_line(first, b"quota", 0, MOST_QUOTA) else {
+        return Err(HeaderFault {
+            line: 4,
+            cause: HeaderCause::Quota,
+        });
+    };
+    Ok((quota, rest))
+}
+
+/// The header at the head of a text with this title, and what comes after it, or the first fault of the
+/// header. Where a header line is due and no byte is left, the fault is the one of that line; a line that
+/// has bytes and no newline is `NotEnded` before anything else of it is looked at.
+pub fn read_header<'a>(title: &[u8], text: &'a [u8]) -> Result<(Header, &'a [u8]), HeaderFault>
+    // What is read stands there.
+    ensures found { IfOk result (λ p. IsHeader p.0 × (text.now ≡ text_of (header_lines title.now p.0) ++ p.1.now)) }
+    // Which fault it is.
+    ensures exact { MatchResult result
+        (λ p. header_of title.now (cut_at 10 text.now) ≡ Ok (p.0, cut_at 10 p.1.now))
+        (λ e. header_of title.now (cut_at 10 text.now) ≡ Err e) }
+    ensures shorter { IfOk result (λ p. length p.1.now < length text.now) }
+{
+    header_due(title, text)
+}
+
+/// A header is read from its text, whatever comes after it.
+pub fn headers_read_back()
+    ensures { HeadersReadBack }
+{}
+
+#[tactic(auto, unfolding(crate::specs::Headers::header_of))]
+fn header_due<'a>(title: &[u8], text: &'a [u8]) -> Result<(Header, &'a [u8]), HeaderFault>
+    ensures value { MatchResult result
+        (λ p. header_of title.now (cut_at 10 text.now) ≡ Ok (p.0, cut_at 10 p.1.now))
+        (λ e. header_of title.now (cut_at 10 text.now) ≡ Err e) }
+    ensures shorter { IfOk result (λ p. length p.1.now < length text.now) }
+{
+    let rest = title_due(text, title)?;
+    let (kind, rest) = kind_due(rest)?;
+    let (threads, rest) = threads_due(rest)?;
+    let (quota, rest) = quota_due(rest)?;
+    let header = Header {
+        kind,
+        threads,
+        quota,
+    };
+    Ok((header, rest))
+}
+
+/// Writes the four lines of the header at the end of `out`. The only error is want of memory.
+pub fn put_header(out: &mut String, title: &str, header: Header) -> Result<(), AllocError>
+    ensures { OnOk result (string_bytes out.new ≡ string_bytes out.old ++ text_of (header_lines title.now header)) }
+{
+    let kind = kind_word(header.kind);
+    let threads = header.threads;
+    let quota = header.quota;
+    write!(
+        out,
+        "{title}\nlist {kind}\nthreads {threads}\nquota {quota}\n"
+    )?;
+    Ok(())
+}

@@ -1,0 +1,18 @@
+//! What the texts of schedules and of reports share: lines and their pieces, numbers, words, and the four
+//! lines of the header. (This project's own format.)
+#![tactic(auto)]
+
+mod headers;
+mod numbers;
+mod parts;
+mod words;
+
+pub use headers::{Header, HeaderCause, HeaderFault, headers_read_back, put_header, read_header};
+pub use numbers::{number, numbers_read_back};
+pub use parts::cut;
+pub use words::{
+    CallWord, call_word, kind_word, read_call, read_kind, read_reply, reply_word, words_read_back,
+};
+
+#[cfg(test)]
+mod tests;

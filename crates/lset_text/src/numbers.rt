@@ -1,0 +1,32 @@
+ghost use Rattle.std.specs.Prelude.{◌≡◌};
+ghost use Rattle.lset_text.specs.Numbers.{number_in, NumbersReadBack};
+
+/// The number from `low` to `high` that the piece spells: `0`, or digits of which the first is not `0`.
+/// `None` for any other piece. It looks no further than the digit that passes `high`.
+#[tactic(auto, unfolding(crate::specs::Numbers::number_in))]
+pub fn number(piece: &[u8], low: u32, high: u32) -> Option<u32>
+    ensures { result ≡ number_in low high piece.now }
+{
+    if piece.is_empty() || (piece.len() > 1 && piece[0] == b'0') {
+        return None;
+    }
+    let mut value: u64 = 0;
+    for b in piece {
+        if !b.is_ascii_digit() {
+            return None;
+        }
+        value = value * 10 + u64::from(*b - b'0');
+        if value > u64::from(high) {
+            return None;
+        }
+    }
+    if value < u64::from(low) {
+        return None;
+    }
+    Some(value as u32)
+}
+
+/// The numbers of a range are read from their decimals, and from nothing else.
+pub fn numbers_read_back()
+    ensures { NumbersReadBack }
+{}

@@ -1,0 +1,19 @@
+ghost use Rattle.std.specs.Prelude.{◌≡◌, ◌≤◌, ◌+◌, ◌∷◌, [], ◌==◌, length, position, MatchOption};
+ghost use Rattle.lset_text.specs.Parts.{cut_at};
+
+fn first_of(text: &[u8], byte: u8) -> Option<usize>
+    ensures { result ≡ position (λ b. b == byte) text.now }
+{
+    text.iter().position(|b| *b == byte)
+}
+
+/// What stands before the first `byte` of the text, and what stands after it; `None` where the text has
+/// no such byte. It looks no further than that byte.
+pub fn cut(text: &[u8], byte: u8) -> Option<(&[u8], &[u8])>
+    ensures parts { MatchOption result (cut_at byte text.now ≡ text.now ∷ [])
+        (λ p. cut_at byte text.now ≡ p.0.now ∷ cut_at byte p.1.now) }
+    ensures shorter { MatchOption result (0 ≤ 0) (λ p. length p.0.now + length p.1.now + 1 ≡ length text.now) }
+{
+    let at = first_of(text, byte)?;
+    Some((&text[..at], &text[at + 1..]))
+}
