@@ -1,7 +1,6 @@
 -- CoarseList: the rows of its table (Herlihy and Shavit's coarse-grained list; the rows are this project's own).
 use Rattle.std.specs.Prelude.{ℕ, ◌+◌, ◌*◌, ◌/◌, Bool, true, false, if◌then◌else◌, Option, Some, None, ◌==◌, nat_lt}
 use Rattle.lset_words.specs.declared.Key.{Key}
-use Rattle.lset_words.specs.declared.Reply.{Reply}
 use Rattle.lset_words.specs.declared.Reply.TheVariants.{True}
 use Rattle.lset_words.specs.Words.{key_index, link_index, key_of, target}
 use Rattle.lset_steps.specs.declared.Local.{Local}

@@ -138,3 +138,6 @@ impl Machine for CoarseList {
 
     ghost lawful = { coarse_lawful };
 }
+
+#[cfg(test)]
+mod tests;

@@ -1,1 +1,2 @@
 mod WalkedTo
+mod Promised

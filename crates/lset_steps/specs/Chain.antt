@@ -1,5 +1,5 @@
 -- The chain of a list and its content, as the words and the threads' counts give them (Herlihy and Shavit).
-use Rattle.std.specs.Prelude.{◌≡◌, ◌≢◌, ℕ, ◌+◌, ◌*◌, ◌/◌, ◌%◌, ◌<◌, ◌≤◌, ◌⊎◌, Bool, true, false, List, [], ◌∷◌, Option, slice_index}
+use Rattle.std.specs.Prelude.{◌≡◌, ◌≢◌, ℕ, ◌+◌, ◌/◌, ◌%◌, ◌<◌, ◌≤◌, ◌⊎◌, Bool, true, false, List, [], ◌∷◌, Option, slice_index}
 use Rattle.lset_words.specs.Words.{key_index, link_index, lock_index, slot_node}
 use Rattle.lset_words.specs.declared.Key.{Key}
 use Rattle.lset_words.specs.declared.Call.{Call}
@@ -15,7 +15,8 @@ node_link ws a = slice_index ws (link_index a)
 abbrev pub node_lock : List ℕ → ℕ → ℕ
 node_lock ws a = slice_index ws (lock_index a)
 
--- What is read of a world: keys, link words and lock words of the nodes, the list's lock, each thread's count, the published nodes.
+-- What is read of a world: keys, link words and lock words of the nodes, the list's lock, each thread's count, the published
+-- nodes.
 pub record View : Type 1 where
   pub key : ℕ → ℕ
   pub link : ℕ → ℕ
@@ -29,7 +30,14 @@ abbrev pub Published : ℕ → ℕ → (ℕ → ℕ) → ℕ → Type 0
 Published n q used i = (i < 2) ⊎ ((t : ℕ) × (j : ℕ) × (t < n) × (j < used t) × (i ≡ slot_node q t j))
 
 abbrev pub view : ℕ → ℕ → List ℕ → (ℕ → ℕ) → View
-view n q ws used = record { key = node_key ws; link = node_link ws; lock = node_lock ws; list_lock = slice_index ws 0; used = used; published = Published n q used }
+view n q ws used = record {
+  key = node_key ws;
+  link = node_link ws;
+  lock = node_lock ws;
+  list_lock = slice_index ws 0;
+  used = used;
+  published = Published n q used;
+}
 
 -- `ns` are the nodes met by `next(link)` from i up to, and without, j.
 abbrev pub Segment : View → ℕ → List ℕ → ℕ → Type 0

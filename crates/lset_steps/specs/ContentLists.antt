@@ -1,3 +1,5 @@
+-- The chain and the content as lists: the chain reaches the tail, and the keys of its unmarked user nodes rise and are the
+-- content.
 use Rattle.std.proofs.Common.{◌≡◌, ◌≢◌, ℕ, zero, suc, ◌+◌, ◌-◌, ◌/◌, ◌%◌, ◌<◌, ◌≤◌, ◌⊎◌, Bool, true, false, inl, inr, List, [], ◌∷◌, length, get_or, sym, refl, ap, subst, ◌∙◌, arith, rules}
 use Rattle.std.specs.Prelude.{Contains, nat_lt, nat_eq, ◌&&◌}
 use Rattle.lset_steps.specs.Chain.{View, Segment, InChain, IsChain, InContent, IsOrdered}
@@ -17,7 +19,8 @@ reaches-by v ord zero i m le = elim (at_one i) [
 reaches-by v ord (suc d) i m le = elim (at_one i) [
   | inl e ↦ ([], e)
   | inr n ↦ (let a : v.key i < v.key (v.link i / 2) = ord.rises i m n in
-      let r : (ns : List ℕ) × Segment v (v.link i / 2) ns 1 = reaches-by v ord d (v.link i / 2) (ord.next_published i m n) (omega arith) in
+      let r : (ns : List ℕ) × Segment v (v.link i / 2) ns 1 =
+      reaches-by v ord d (v.link i / 2) (ord.next_published i m n) (omega arith) in
       (i ∷ r.0, (refl, n, r.1)))
 ]
 
@@ -75,13 +78,15 @@ bool_cases : (t : Bool) → (t ≡ true) ⊎ (t ≡ false)
 bool_cases true = inl refl
 bool_cases false = inr refl
 
-keys-yes : (v : View) (a : ℕ) (ns : List ℕ) → (nat_lt 1 a && nat_eq (v.link a % 2) 0) ≡ true → keys_in v (a ∷ ns) ≡ (v.key a - 1) ∷ keys_in v ns
+keys-yes : (v : View) (a : ℕ) (ns : List ℕ) → (nat_lt 1 a && nat_eq (v.link a % 2) 0) ≡ true
+    → keys_in v (a ∷ ns) ≡ (v.key a - 1) ∷ keys_in v ns
 keys-yes v a ns e = rw e refl
 
 keys-no : (v : View) (a : ℕ) (ns : List ℕ) → (nat_lt 1 a && nat_eq (v.link a % 2) 0) ≡ false → keys_in v (a ∷ ns) ≡ keys_in v ns
 keys-no v a ns e = rw e refl
 
-pub keys_have : (v : View) (ns : List ℕ) (b k : ℕ) → Contains ns b → 1 < b → v.link b % 2 ≡ 0 → v.key b ≡ k + 1 → Contains (keys_in v ns) k
+pub keys_have : (v : View) (ns : List ℕ) (b k : ℕ) → Contains ns b → 1 < b → v.link b % 2 ≡ 0 → v.key b ≡ k + 1
+    → Contains (keys_in v ns) k
 keys_have v [] b k c u e f = absurd (contains-nil b c)
 keys_have v (a ∷ ns) b k c u e f = elim (bool_cases (nat_lt 1 a && nat_eq (v.link a % 2) 0)) [
   | inl t ↦ subst (λ x. Contains x k) (sym (keys-yes v a ns t)) (elim (contains-cons a b ns c) [
@@ -90,13 +95,15 @@ keys_have v (a ∷ ns) b k c u e f = elim (bool_cases (nat_lt 1 a && nat_eq (v.l
   ])
   | inr t ↦ subst (λ x. Contains x k) (sym (keys-no v a ns t)) (elim (contains-cons a b ns c) [
     | inl s ↦ (let g : (nat_lt 1 b && nat_eq (v.link b % 2) 0) ≡ true = kept-yes v b u e in
-        let h : (nat_lt 1 b && nat_eq (v.link b % 2) 0) ≡ false = subst (λ x. (nat_lt 1 x && nat_eq (v.link x % 2) 0) ≡ false) s t in
+        let h : (nat_lt 1 b && nat_eq (v.link b % 2) 0) ≡ false =
+        subst (λ x. (nat_lt 1 x && nat_eq (v.link x % 2) 0) ≡ false) s t in
         absurd (cc))
     | inr d ↦ keys_have v ns b k d u e f
   ])
 ]
 
-pub keys_from : (v : View) (ns : List ℕ) (k : ℕ) → Contains (keys_in v ns) k → (b : ℕ) × Contains ns b × (1 < b) × (v.link b % 2 ≡ 0) × (v.key b - 1 ≡ k)
+pub keys_from : (v : View) (ns : List ℕ) (k : ℕ) → Contains (keys_in v ns) k
+    → (b : ℕ) × Contains ns b × (1 < b) × (v.link b % 2 ≡ 0) × (v.key b - 1 ≡ k)
 keys_from v [] k c = absurd (contains-nil k c)
 keys_from v (a ∷ ns) k c = elim (bool_cases (nat_lt 1 a && nat_eq (v.link a % 2) 0)) [
   | inl t ↦ elim (contains-cons (v.key a - 1) k (keys_in v ns) (subst (λ x. Contains x k) (keys-yes v a ns t) c)) [
@@ -139,11 +146,12 @@ abbrev pub RisesFrom : ℕ → List ℕ → Type 0
 RisesFrom lo [] = Unit {0}
 RisesFrom lo (x ∷ xs) = (lo ≤ x) × RisesFrom (x + 1) xs
 
-rises_less : (lo hi : ℕ) (xs : List ℕ) → lo ≤ hi → RisesFrom hi xs → RisesFrom lo xs
+pub rises_less : (lo hi : ℕ) (xs : List ℕ) → lo ≤ hi → RisesFrom hi xs → RisesFrom lo xs
 rises_less lo hi [] l r = tt
 rises_less lo hi (x ∷ xs) l r = let a : hi ≤ x = r.0 in (omega arith, r.1)
 
-keys_rise : (v : View) → IsOrdered v → (i j lo : ℕ) (ns : List ℕ) → v.published i → Segment v i ns j → lo + 1 ≤ v.key i → RisesFrom lo (keys_in v ns)
+keys_rise : (v : View) → IsOrdered v → (i j lo : ℕ) (ns : List ℕ) → v.published i → Segment v i ns j
+    → lo + 1 ≤ v.key i → RisesFrom lo (keys_in v ns)
 keys_rise v ord i j lo [] m s l = tt
 keys_rise v ord i j lo (a ∷ ns) m s l =
     let h : v.key i < v.key (v.link i / 2) = ord.rises i m s.1 in
@@ -195,7 +203,8 @@ same_rising lo mo (x ∷ xs) (y ∷ ys) r s f g =
     heads : x ≡ y
     heads =
         let a : mo ≤ y = s.0 in
-        let below : (u v : ℕ) (us vs : List ℕ) → RisesFrom (v + 1) vs → Contains (v ∷ vs) u → v ≤ u = λ u v us vs q c. elim (contains-cons v u vs c) [
+        let below : (u v : ℕ) (us vs : List ℕ) → RisesFrom (v + 1) vs → Contains (v ∷ vs) u
+        → v ≤ u = λ u v us vs q c. elim (contains-cons v u vs c) [
           | inl e ↦ omega arith
           | inr d ↦ (let b : v + 1 ≤ u = rise_bound (v + 1) u vs q d in omega arith)
         ] in
@@ -210,7 +219,8 @@ same_rising lo mo (x ∷ xs) (y ∷ ys) r s f g =
       | inr d ↦ d
     ]
 
-rises_inc : (x : ℕ) (xs : List ℕ) → ((k : ℕ) → k + 1 < length (x ∷ xs) → get_or (x ∷ xs) k 0 < get_or (x ∷ xs) (k + 1) 0) → RisesFrom (x + 1) xs
+rises_inc : (x : ℕ) (xs : List ℕ)
+    → ((k : ℕ) → k + 1 < length (x ∷ xs) → get_or (x ∷ xs) k 0 < get_or (x ∷ xs) (k + 1) 0) → RisesFrom (x + 1) xs
 rises_inc x [] h = tt
 rises_inc x (y ∷ ys) h =
     let a : x < y = h 0 (omega arith) in (

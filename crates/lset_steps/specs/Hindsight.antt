@@ -1,3 +1,5 @@
+-- HINDSIGHT (after O'Hearn and others): a node that was in the chain at some moment of a call had there, at one of the call's
+-- moments, the link word that it has now. So what a walk finds at its end was so at a moment of the call.
 use Rattle.std.proofs.Common.{◌≡◌, ◌≢◌, ℕ, zero, suc, ◌+◌, ◌-◌, ◌/◌, ◌%◌, ◌<◌, ◌≤◌, inl, inr, [], sym, refl, ap, subst, ◌∙◌, arith}
 use Rattle.lset_steps.specs.Chain.{View, InChain, IsOrdered}
 use Rattle.lset_steps.specs.Moves.{KeepsNodes}
@@ -6,7 +8,8 @@ use Rattle.lset_steps.specs.Segments.{gap, one_key}
 use Rattle.lset_steps.specs.QuietMove.{in_chain_published, chain_on}
 
 -- what was published stays so, with its key
-pub later_published : (vs : ℕ → View) (n b d m t : ℕ) → Course vs n → t ≡ m + d → t ≤ n → (vs m).published b → (vs t).published b × ((vs t).key b ≡ (vs m).key b)
+pub later_published : (vs : ℕ → View) (n b d m t : ℕ) → Course vs n → t ≡ m + d → t ≤ n → (vs m).published b
+    → (vs t).published b × ((vs t).key b ≡ (vs m).key b)
 later_published vs n b zero m t r e l mb =
     let f : m ≡ t = omega arith in
     subst (λ x. (vs x).published b × ((vs x).key b ≡ (vs m).key b)) f (mb, refl)
@@ -21,7 +24,8 @@ pub key_stays : (vs : ℕ → View) (n b m t : ℕ) → Course vs n → m ≤ t 
 key_stays vs n b m t r l h mb = (later_published vs n b (t - m) m t r (omega arith) h mb).1
 
 -- HINDSIGHT: what is read of a node that was in the chain, it had while it was in the chain
-hindsight-by : (vs : ℕ → View) (n b d m t : ℕ) → Course vs n → t ≡ m + d → t ≤ n → InChain (vs m) b → Seen vs m t b ((vs t).link b)
+hindsight-by : (vs : ℕ → View) (n b d m t : ℕ) → Course vs n → t ≡ m + d → t ≤ n → InChain (vs m) b
+    → Seen vs m t b ((vs t).link b)
 hindsight-by vs n b zero m t r e l i =
     let f : m ≡ t = omega arith in
     record { at = m; from = omega arith; upto = omega arith; in_chain = i; link = ap (λ x. (vs x).link b) f }
@@ -41,7 +45,8 @@ hindsight-by vs n b (suc d) m t r e l i =
       | inr both ↦ record { at = m + d + 1; from = omega arith; upto = omega arith; in_chain = both.1; link = refl }
     ])
 
-pub hindsight : (vs : ℕ → View) (n first now b : ℕ) → Course vs n → now ≤ n → InPast vs first now b → Seen vs first now b ((vs now).link b)
+pub hindsight : (vs : ℕ → View) (n first now b : ℕ) → Course vs n → now ≤ n → InPast vs first now b
+    → Seen vs first now b ((vs now).link b)
 hindsight vs n first now b r l p =
     let a : first ≤ p.at = p.from in
     let c : p.at ≤ now = p.upto in
@@ -95,7 +100,8 @@ had_at vs n first now b k r le p user kb even =
     let s : Seen vs first now b ((vs now).link b) = hindsight vs n first now b r le p in
     let u : s.at ≤ now = s.upto in
     let ord : IsOrdered (vs s.at) = r.ordered s.at (omega arith) in
-    let ks : (vs now).key b ≡ (vs s.at).key b = key_stays vs n b s.at now r u le (in_chain_published (vs s.at) ord b s.in_chain) in
+    let ks : (vs now).key b ≡ (vs s.at).key b =
+    key_stays vs n b s.at now r u le (in_chain_published (vs s.at) ord b s.in_chain) in
     record {
       at = s.at;
       from = s.from;
@@ -110,7 +116,8 @@ lacked_at vs n first now b k r le p kb odd =
     let s : Seen vs first now b ((vs now).link b) = hindsight vs n first now b r le p in
     let u : s.at ≤ now = s.upto in
     let ord : IsOrdered (vs s.at) = r.ordered s.at (omega arith) in
-    let ks : (vs now).key b ≡ (vs s.at).key b = key_stays vs n b s.at now r u le (in_chain_published (vs s.at) ord b s.in_chain) in
+    let ks : (vs now).key b ≡ (vs s.at).key b =
+    key_stays vs n b s.at now r u le (in_chain_published (vs s.at) ord b s.in_chain) in
     let lk : (vs s.at).link b ≡ (vs now).link b = s.link in
     record {
       at = s.at;

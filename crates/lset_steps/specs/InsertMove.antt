@@ -1,3 +1,4 @@
+-- What inserting a node between a node of the chain and its next does to order, chain and content.
 use Rattle.std.proofs.Common.{◌≡◌, ◌≢◌, ℕ, ◌+◌, ◌*◌, ◌/◌, ◌%◌, ◌<◌, ◌≤◌, ◌⊎◌, inl, inr, List, [], ◌∷◌, sym, refl, ap, subst, ◌∙◌, arith}
 use Rattle.lset_steps.specs.Chain.{View, Segment, InChain, InContent, IsOrdered}
 use Rattle.lset_steps.specs.Moves.{Inserts, KeepsNodes}
@@ -51,7 +52,8 @@ insert-ordered v w ord pred own k q = record {
   next_published = λ i m n. elim (q.published_from i m) [
     | inl o ↦ old_next i o n
     | inr e ↦
-        subst (λ x. w.published (w.link x / 2)) (sym e) (subst (λ x. w.published x) (sym f.own_next) (q.grows curr f.curr_published))
+        subst (λ x. w.published (w.link x / 2)) (sym e)
+        (subst (λ x. w.published x) (sym f.own_next) (q.grows curr f.curr_published))
   ];
   rises = λ i m n. elim (q.published_from i m) [
     | inl o ↦ old_rises i o n (cases i)
@@ -125,7 +127,8 @@ insert_keeps v w ord pred own k q b ib = elim (sides v ord pred b q.in_chain ib)
     after a m l = ap (λ x. x / 2) (q.links a m (apart' v pred a (omega arith)))
 
 -- and nothing but own is new
-pub insert_back : (v w : View) → IsOrdered v → (pred own k : ℕ) → Inserts v w pred own k → (b : ℕ) → InChain w b → InChain v b ⊎ (b ≡ own)
+pub insert_back : (v w : View) → IsOrdered v → (pred own k : ℕ) → Inserts v w pred own k → (b : ℕ) → InChain w b
+    → InChain v b ⊎ (b ≡ own)
 insert_back v w ord pred own k q b ib =
     elim (sides w ws pred b (insert_pred v w ord pred own k q) ib) [
       | inl le ↦ inl (chain_before w v ws pred b before le ib)
@@ -193,7 +196,8 @@ insert_has v w ord pred own k q =
     (own, insert_own v w ord pred own k q, q.user, q.own_key, omega arith)
 
 -- the mark of each published node stays
-pub insert_mark : (v w : View) → IsOrdered v → (pred own k : ℕ) → Inserts v w pred own k → (b : ℕ) → v.published b → w.link b % 2 ≡ v.link b % 2
+pub insert_mark : (v w : View) → IsOrdered v → (pred own k : ℕ) → Inserts v w pred own k → (b : ℕ) → v.published b
+    → w.link b % 2 ≡ v.link b % 2
 insert_mark v w ord pred own k q b m = elim (cases b) [
   | inl e ↦ subst (λ x. w.link x % 2 ≡ v.link x % 2) (sym e)
       (let g : w.link pred ≡ 2 * own = q.pred_link in
@@ -209,7 +213,8 @@ insert_adds v w ord pred own k q j c =
     let m : v.published c.0 = in_chain_published v ord c.0 c.1 in
     (c.0, insert_keeps v w ord pred own k q c.0 c.1, c.2, q.keys c.0 m ∙ c.3, insert_mark v w ord pred own k q c.0 m ∙ c.4)
 
-pub insert_only : (v w : View) → IsOrdered v → (pred own k : ℕ) → Inserts v w pred own k → (j : ℕ) → InContent w j → InContent v j ⊎ (j ≡ k)
+pub insert_only : (v w : View) → IsOrdered v → (pred own k : ℕ) → Inserts v w pred own k → (j : ℕ) → InContent w j
+    → InContent v j ⊎ (j ≡ k)
 insert_only v w ord pred own k q j c = elim (insert_back v w ord pred own k q c.0 c.1) [
   | inl i ↦ (let m : v.published c.0 = in_chain_published v ord c.0 i in
       inl (c.0, i, c.2, sym (q.keys c.0 m) ∙ c.3, sym (insert_mark v w ord pred own k q c.0 m) ∙ c.4))

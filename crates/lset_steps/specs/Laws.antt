@@ -1,5 +1,5 @@
 -- What holds of every run of a machine: the law that each list carries.
-use Rattle.std.specs.Prelude.{◌≡◌, ◌≢◌, ℕ, suc, ◌+◌, ◌*◌, ◌<◌, ◌≤◌, ◌⊎◌, Bool, List, Option, Some, None, slice_index, length}
+use Rattle.std.specs.Prelude.{◌≡◌, ◌≢◌, ℕ, suc, ◌+◌, ◌<◌, ◌≤◌, ◌⊎◌, Bool, List, Option, Some, None, slice_index, length}
 use Rattle.lset_words.specs.Words.{lock_index, word_count, node_count, tail_word, target}
 use Rattle.lset_words.specs.declared.Key.{Key}
 use Rattle.lset_words.specs.declared.Call.{Call}
@@ -72,7 +72,8 @@ Answered done q vs first now t call pc None = pc ≢ 0
 Answered done q vs first now t call pc (Some r) = (pc ≡ 0) × Due done q vs first now t call r
 
 -- Each step of thread t with l, the one after the first k events; `change` is what it tells:
-pub record StepLaws (T : Table) (n q : ℕ) (es : ℕ → Event) (k t : ℕ) (s : State) (l : Local) (change : Option (Key × Bool)) : Type 0 where
+pub record StepLaws (T : Table) (n q : ℕ) (es : ℕ → Event) (k t : ℕ) (s : State) (l : Local)
+    (change : Option (Key × Bool)) : Type 0 where
   -- its word is one of the table,
   pub in_table : word_named (T.next l) < word_count n q
   -- it touches a lock word only as a lock,
@@ -84,22 +85,26 @@ pub record StepLaws (T : Table) (n q : ℕ) (es : ℕ → Event) (k t : ℕ) (s 
   pub by_call : MayChange q l.used l.call (has_changed (log_of T n q es) t k) change
   pub counts : (T.feed l (seen_next T s t)).local.used ≡ count_after change l.used
   -- and where it answers, the call ends with a right reply.
-  pub answered : Answered (has_changed (log_of T n q es) t (suc k)) q (views T n q es) (begun_at (log_of T n q es) t (suc k)) (suc k) t l.call
+  pub answered : Answered (has_changed (log_of T n q es) t (suc k)) q (views T n q es)
+      (begun_at (log_of T n q es) t (suc k)) (suc k) t l.call
       (T.feed l (seen_next T s t)).local.pc (T.feed l (seen_next T s t)).answer
 
 abbrev pub StepAt : Table → ℕ → ℕ → (ℕ → Event) → ℕ → ℕ → Type 0
 StepAt T n q es k t =
-    StepLaws T n q es k t (state_at T n q es k) (local_of (state_at T n q es k) t) (T.effect (local_of (state_at T n q es k) t) (seen_next T (state_at T n q es k) t))
+    StepLaws T n q es k t (state_at T n q es k) (local_of (state_at T n q es k) t)
+    (T.effect (local_of (state_at T n q es k) t) (seen_next T (state_at T n q es k) t))
 
 -- THE LAW OF A MACHINE
 pub record Lawful (T : Table) : Type 0 where
-  pub begins : (call : Call) (l : Local) → ((T.begin call l).call ≡ call) × ((T.begin call l).used ≡ l.used) × ((T.begin call l).pc ≢ 0)
+  pub begins : (call : Call) (l : Local)
+      → ((T.begin call l).call ≡ call) × ((T.begin call l).used ≡ l.used) × ((T.begin call l).pc ≢ 0)
   -- what is so in every state of every run,
   pub states : (n q last k : ℕ) (es : ℕ → Event) → Run T n q es last → k ≤ last → StateLaws T.marks n q (state_at T n q es k)
   -- at every step,
   pub steps : (n q last k t : ℕ) (es : ℕ → Event) → Run T n q es last → k < last → es k ≡ Go t → StepAt T n q es k t
   -- and of a node from a moment to a later one
-  pub unlinked_stays : (n q last j k i : ℕ) (es : ℕ → Event) → Run T n q es last → j ≤ k → k ≤ last → (views T n q es j).published i
+  pub unlinked_stays : (n q last j k i : ℕ) (es : ℕ → Event) → Run T n q es last → j ≤ k → k ≤ last
+      → (views T n q es j).published i
       → UnlinkedStays T.marks (views T n q es j) (views T n q es k) i
 
 -- the limits are met, k events have run, and thread t has an open call
@@ -110,8 +115,10 @@ pub record UnderWay (T : Table) (n q : ℕ) (es : ℕ → Event) (k t : ℕ) : T
 
 -- a thread with an open call has this Local in some run, and sees this value at its next step
 abbrev pub Occurs : Table → Local → Type 0
-Occurs T l = (n : ℕ) × (q : ℕ) × (es : ℕ → Event) × (k : ℕ) × (t : ℕ) × UnderWay T n q es k t × (local_of (state_at T n q es k) t ≡ l)
+Occurs T l = (n : ℕ) × (q : ℕ) × (es : ℕ → Event) × (k : ℕ) × (t : ℕ) × UnderWay T n q es k t
+    × (local_of (state_at T n q es k) t ≡ l)
 
 abbrev pub Sees : Table → Local → ℕ → Type 0
-Sees T l seen = (n : ℕ) × (q : ℕ) × (es : ℕ → Event) × (k : ℕ) × (t : ℕ) × UnderWay T n q es k t × (local_of (state_at T n q es k) t ≡ l)
+Sees T l seen = (n : ℕ) × (q : ℕ) × (es : ℕ → Event) × (k : ℕ) × (t : ℕ) × UnderWay T n q es k t
+    × (local_of (state_at T n q es k) t ≡ l)
     × (seen_next T (state_at T n q es k) t ≡ seen)

@@ -3,6 +3,7 @@ pub mod Chain
 pub mod Laws
 pub mod Rows
 pub mod Worlds
+pub mod Promises
 pub mod Moves
 pub mod Segments
 pub mod QuietMove

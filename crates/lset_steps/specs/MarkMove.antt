@@ -1,3 +1,4 @@
+-- What marking a node of the chain does to order, chain and content.
 use Rattle.std.proofs.Common.{◌≡◌, ◌≢◌, ℕ, ◌+◌, ◌/◌, ◌%◌, ◌<◌, ◌≤◌, ◌⊎◌, inl, inr, sym, ap, subst, ◌∙◌, arith}
 use Rattle.lset_steps.specs.Chain.{View, InChain, InContent, IsOrdered}
 use Rattle.lset_steps.specs.Moves.{Marks, KeepsNodes}

@@ -1,7 +1,7 @@
 -- What every move keeps.
-use Rattle.std.proofs.Common.{◌≡◌, ◌≢◌, ℕ, zero, suc, ◌+◌, ◌-◌, ◌%◌, ◌<◌, ◌≤◌, ◌⊎◌, Bool, true, false, inl, inr, sym, refl, ap, subst, ◌∙◌, arith, Option, Some, None, ◌*◌, ◌/◌}
+use Rattle.std.proofs.Common.{◌≡◌, ◌≢◌, ℕ, ◌%◌, ◌⊎◌, Bool, true, false, inl, inr, sym, refl, ap, subst, ◌∙◌, arith, Option, ◌*◌, ◌/◌}
 use Rattle.lset_words.specs.declared.Key.{Key}
-use Rattle.lset_steps.specs.Chain.{View, InChain, InContent, IsOrdered, Changed, UnmarkedInChain, UnlinkedStays}
+use Rattle.lset_steps.specs.Chain.{View, InChain, IsOrdered, Changed, UnmarkedInChain, UnlinkedStays}
 use Rattle.lset_steps.specs.Moves.{KeepsNodes, Move}
 use Rattle.lset_steps.specs.Moves.Move.{quiet, inserts, sets, clears, removes}
 use Rattle.lset_steps.specs.QuietMove.{quiet-ordered, quiet-goes, quiet_keeps, quiet_content, quiet_back}
@@ -30,7 +30,10 @@ module _ (marks : Bool) (v w : View) (ord : IsOrdered v) where
   move-changed ch (inserts pred own k q) = (
     insert_absent v w ord pred own k.0 q,
     insert_has v w ord pred own k.0 q,
-    λ j n. (insert_adds v w ord pred own k.0 q j, λ c. elim (insert_only v w ord pred own k.0 q j c) [ inl i ↦ i | inr e ↦ absurd (n e) ]),
+    λ j n. (
+      insert_adds v w ord pred own k.0 q j,
+      λ c. elim (insert_only v w ord pred own k.0 q j c) [ inl i ↦ i | inr e ↦ absurd (n e) ],
+    ),
   )
   move-changed ch (sets b k y q) = (
     mark_present v w ord b k.0 q,
@@ -46,7 +49,8 @@ module _ (marks : Bool) (v w : View) (ord : IsOrdered v) where
   )
 
   -- a marked node keeps its link
-  pub marked_stays : (ch : Option (Key × Bool)) → Move marks v w ch → (b : ℕ) → v.published b → v.link b % 2 ≡ 1 → w.link b ≡ v.link b
+  pub marked_stays : (ch : Option (Key × Bool)) → Move marks v w ch → (b : ℕ) → v.published b → v.link b % 2 ≡ 1
+      → w.link b ≡ v.link b
   marked_stays ch (quiet q) b i o = q.links b i
   marked_stays ch (inserts pred own k q) b i o = q.links b i
       (λ e. let u : v.link pred % 2 ≡ 0 = q.unmarked in let f : v.link b ≡ v.link pred = ap v.link e in omega arith)
@@ -74,7 +78,8 @@ module _ (v w : View) (ord : IsOrdered v) where
   ]
   live_stays ch (sets c k y q) h b mb e = elim (at_node b c) [
     | inl f ↦ subst (λ z. InChain w z) (sym f) (mark_keeps v w ord c k.0 q c q.in_chain)
-    | inr n ↦ mark_keeps v w ord c k.0 q b (h b (q.published_from b mb) (ap (λ z. z % 2) (sym (q.links b (q.published_from b mb) n)) ∙ e))
+    | inr n ↦ mark_keeps v w ord c k.0 q b (h b (q.published_from b mb)
+        (ap (λ z. z % 2) (sym (q.links b (q.published_from b mb) n)) ∙ e))
   ]
   live_stays ch (clears pred curr q m) h b mb e =
       let o : v.link b % 2 ≡ 0 = sym (unlink_mark v w pred curr q b (q.published_from b mb)) ∙ e in
@@ -91,10 +96,13 @@ module _ (v w : View) (ord : IsOrdered v) where
     | inr f ↦ subst (λ z. w.link z % 2 ≡ 0) (sym f) (let e : w.link own ≡ 2 * (v.link pred / 2) = q.own_link in omega arith)
   ]
   plain_stays ch (sets c k y q) h b mb = not_both false y refl
-  plain_stays ch (clears pred curr q m) h b mb = unlink_mark v w pred curr q b (q.published_from b mb) ∙ h b (q.published_from b mb)
-  plain_stays ch (removes pred curr k y q m u e) h b mb = unlink_mark v w pred curr q b (q.published_from b mb) ∙ h b (q.published_from b mb)
+  plain_stays ch (clears pred curr q m) h b mb = unlink_mark v w pred curr q b (q.published_from b mb)
+      ∙ h b (q.published_from b mb)
+  plain_stays ch (removes pred curr k y q m u e) h b mb = unlink_mark v w pred curr q b (q.published_from b mb)
+      ∙ h b (q.published_from b mb)
 
-pub marked_after : (marks : Bool) (v w : View) → IsOrdered v → (ch : Option (Key × Bool)) → Move marks v w ch → UnmarkedInChain marks v → UnmarkedInChain marks w
+pub marked_after : (marks : Bool) (v w : View) → IsOrdered v → (ch : Option (Key × Bool)) → Move marks v w ch
+    → UnmarkedInChain marks v → UnmarkedInChain marks w
 marked_after true v w ord ch m h = live_stays v w ord ch m h
 marked_after false v w ord ch m h = plain_stays v w ord ch m h
 
@@ -102,7 +110,9 @@ marked_after false v w ord ch m h = plain_stays v w ord ch m h
 pub later_same : (marks : Bool) (v : View) (i : ℕ) → v.published i → UnlinkedStays marks v v i
 later_same marks v i m = record { published = m; key = refl; unlinked = λ c. (refl, c); marked = λ e o. refl }
 
-pub later_more : (marks : Bool) (u v w : View) (i : ℕ) → KeepsNodes v w → ((b : ℕ) → v.published b → v.link b % 2 ≡ 1 → w.link b ≡ v.link b) → UnlinkedStays marks u v i → UnlinkedStays marks u w i
+pub later_more : (marks : Bool) (u v w : View) (i : ℕ) → KeepsNodes v w
+    → ((b : ℕ) → v.published b → v.link b % 2 ≡ 1 → w.link b ≡ v.link b) → UnlinkedStays marks u v i
+    → UnlinkedStays marks u w i
 later_more marks u v w i g f x = record {
   published = g.grows i x.published;
   key = g.keys i x.published ∙ x.key;

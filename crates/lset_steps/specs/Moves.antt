@@ -4,7 +4,8 @@ use Rattle.std.specs.Prelude.{◌≡◌, ◌≢◌, ℕ, ◌+◌, ◌*◌, ◌/�
 use Rattle.lset_words.specs.declared.Key.{Key}
 use Rattle.lset_steps.specs.Chain.{View, InChain, InContent, IsOrdered}
 
--- What one step does to the nodes: keys stay, nothing comes back into the chain, and a link that changed is that of a node in the chain before and after.
+-- What one step does to the nodes: keys stay, nothing comes back into the chain, and a link that changed is that of a node in the
+-- chain before and after.
 pub record KeepsNodes (v w : View) : Type 0 where
   pub keys : (i : ℕ) → v.published i → w.key i ≡ v.key i
   pub grows : (i : ℕ) → v.published i → w.published i
@@ -68,7 +69,8 @@ pub data Move (marks : Bool) (v w : View) : Option (Key × Bool) → Type 0 wher
   inserts : (pred own : ℕ) (k : Key) → Inserts v w pred own k.0 → Move marks v w (Some (k, true))
   sets : (b : ℕ) (k : Key) → marks ≡ true → Marks v w b k.0 → Move marks v w (Some (k, false))
   clears : (pred curr : ℕ) → Unlinks v w pred curr → v.link curr % 2 ≡ 1 → Move marks v w None
-  removes : (pred curr : ℕ) (k : Key) → marks ≡ false → Unlinks v w pred curr → v.link curr % 2 ≡ 0 → 1 < curr → v.key curr ≡ k.0 + 1 → Move marks v w (Some (k, false))
+  removes : (pred curr : ℕ) (k : Key) → marks ≡ false → Unlinks v w pred curr → v.link curr % 2 ≡ 0 → 1 < curr
+      → v.key curr ≡ k.0 + 1 → Move marks v w (Some (k, false))
 
 -- THE PAST
 -- The worlds of the moments 0 to n.

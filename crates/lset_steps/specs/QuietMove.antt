@@ -1,3 +1,4 @@
+-- What a step that changes no published node leaves as it was, and first facts of nodes in the chain.
 use Rattle.std.proofs.Common.{◌≡◌, ◌≢◌, ℕ, ◌/◌, ◌%◌, ◌<◌, ◌≤◌, inl, List, ◌∷◌, ◌++◌, sym, refl, ap, subst, ◌∙◌, arith}
 use Rattle.lset_steps.specs.Chain.{View, Segment, InChain, InContent, IsOrdered}
 use Rattle.lset_steps.specs.Moves.{Quiet, KeepsNodes}
@@ -7,11 +8,13 @@ pub in_chain_published : (v : View) → IsOrdered v → (b : ℕ) → InChain v 
 in_chain_published v ord b ib = segment_published v ord 0 b ib.0 ord.head_published ib.1
 
 -- all nexts the same: the chain the same
-pub chain_same : (v w : View) → IsOrdered v → ((a : ℕ) → v.published a → w.link a / 2 ≡ v.link a / 2) → (b : ℕ) → InChain v b → InChain w b
+pub chain_same : (v w : View) → IsOrdered v → ((a : ℕ) → v.published a → w.link a / 2 ≡ v.link a / 2) → (b : ℕ)
+    → InChain v b → InChain w b
 chain_same v w ord h b ib = (ib.0, segment_same v w ord 0 b 0 ib.0 (λ a m l t. h a m) ord.head_published (omega arith) ib.1)
 
 -- a node at or before p stays in the chain where no link of a node before p changes
-pub chain_before : (v w : View) → IsOrdered v → (p b : ℕ) → ((a : ℕ) → v.published a → v.key a < v.key p → w.link a / 2 ≡ v.link a / 2)
+pub chain_before : (v w : View) → IsOrdered v → (p b : ℕ)
+    → ((a : ℕ) → v.published a → v.key a < v.key p → w.link a / 2 ≡ v.link a / 2)
     → v.key b ≤ v.key p → InChain v b → InChain w b
 chain_before v w ord p b h le ib =
     (ib.0, segment_same v w ord 0 b 0 ib.0 (λ a m l t. h a m (omega arith)) ord.head_published (omega arith) ib.1)
@@ -22,7 +25,8 @@ chain_on v p q b cs ip n e s =
     (ip.0 ++ (p ∷ cs), segment-append v 0 p b ip.0 (p ∷ cs) ip.1 (refl, n, subst (λ x. Segment v x cs b) (sym e) s))
 
 -- a segment after p
-pub segment_after : (v w : View) → IsOrdered v → (i j : ℕ) (cs : List ℕ) → ((a : ℕ) → v.published a → v.key i ≤ v.key a → w.link a / 2 ≡ v.link a / 2)
+pub segment_after : (v w : View) → IsOrdered v → (i j : ℕ) (cs : List ℕ)
+    → ((a : ℕ) → v.published a → v.key i ≤ v.key a → w.link a / 2 ≡ v.link a / 2)
     → v.published i → Segment v i cs j → Segment w i cs j
 segment_after v w ord i j cs h m s = segment_same v w ord i j (v.key i) cs (λ a ma l t. h a ma l) m (omega arith) s
 

@@ -1,13 +1,12 @@
 -- The replies that fit where a call decides, and what the proofs of all tables use.
-use Rattle.std.specs.Prelude.{◌≡◌, ◌≢◌, ℕ, ◌+◌, ◌*◌, ◌/◌, ◌%◌, ◌<◌, ◌≤◌, ◌⊎◌, Bool, true, false, if◌then◌else◌, Option, Some, None, ◌==◌, ◌||◌, nat_lt, refl}
-use Rattle.std.proofs.Common.{arith, inl, inr, sym, ◌∙◌, ap, subst}
+use Rattle.std.specs.Prelude.{◌≡◌, ◌≢◌, ℕ, ◌+◌, ◌/◌, ◌<◌, ◌≤◌, ◌⊎◌, Bool, true, false, if◌then◌else◌, Option, Some, None, ◌==◌, ◌||◌, nat_lt, refl}
+use Rattle.std.proofs.Common.{arith, inl, inr}
 use Rattle.std.proofs.lemmas.Bool.Decides.{nat_tests}
-use Rattle.lset_words.specs.declared.Key.{Key}
 use Rattle.lset_words.specs.declared.Call.{Call}
 use Rattle.lset_words.specs.declared.Call.TheVariants.{Add, Remove, Contains}
 use Rattle.lset_words.specs.declared.Reply.{Reply}
 use Rattle.lset_words.specs.declared.Reply.TheVariants.{True, False, Full}
-use Rattle.lset_words.specs.Words.{key_of, target, tail_word, node_count}
+use Rattle.lset_words.specs.Words.{key_of, tail_word, node_count}
 use Rattle.lset_steps.specs.declared.Local.{Local}
 use Rattle.lset_steps.specs.declared.Fed.{Fed}
 use Rattle.lset_steps.specs.Chain.{View, InChain, InContent, IsOrdered, FitsIn, contents_of, counts_of}
@@ -30,11 +29,19 @@ decided_cases a d u q t v (Contains k) true room l hit miss full = inl (True, re
 decided_cases a d u q t v (Contains k) false room l hit miss full = inl (False, refl, miss refl)
 
 -- no key of the content lies between those of a node of the chain and its next
-pub absent_between : (v : View) → IsOrdered v → (p k : ℕ) → InChain v p → p ≢ 1 → v.key p < k + 1 → k + 1 < v.key (v.link p / 2) → InContent v k → ⊥
+pub absent_between : (v : View) → IsOrdered v → (p k : ℕ) → InChain v p → p ≢ 1 → v.key p < k + 1
+    → k + 1 < v.key (v.link p / 2) → InContent v k → ⊥
 absent_between v ord p k i d lo hi c = let e : v.key c.0 ≡ k + 1 = c.3 in gap v ord p c.0 i c.1 d (omega arith) (omega arith)
 
-pub fitted_on : (q : ℕ) (vs : ℕ → View) (first now later t : ℕ) (call : Call) (r : Reply) → now ≤ later → FitsSometime q (contents_of vs) (counts_of vs) first now t call r → FitsSometime q (contents_of vs) (counts_of vs) first later t call r
-fitted_on q vs first now later t call r l f = record { moment = f.moment; from = f.from; upto = (let u : f.moment ≤ now = f.upto in omega arith); fits = f.fits }
+pub fitted_on : (q : ℕ) (vs : ℕ → View) (first now later t : ℕ) (call : Call) (r : Reply) → now ≤ later
+    → FitsSometime q (contents_of vs) (counts_of vs) first now t call r
+    → FitsSometime q (contents_of vs) (counts_of vs) first later t call r
+fitted_on q vs first now later t call r l f = record {
+  moment = f.moment;
+  from = f.from;
+  upto = (let u : f.moment ≤ now = f.upto in omega arith);
+  fits = f.fits;
+}
 
 -- tests of a table
 pub if_same : {A : Type 0} (a b : ℕ) → a ≡ b → (x y : A) → (if a == b then x else y) ≡ x
@@ -76,13 +83,60 @@ fed_is l m a b e f = cc
 
 -- a step that leaves the registers
 pub keep : (n q t p : ℕ) (y : Option Reply) (l : Local) → Registers n q t l → Registers n q t (record l { pc = p; reply = y })
-keep n q t p y l r = record { thread = r.thread; quota = r.quota; used = r.used; low = r.low; pred = r.pred; curr = r.curr; succ = r.succ; node = r.node; pkey = r.pkey; ckey = r.ckey }
+keep n q t p y l r = record {
+  thread = r.thread;
+  quota = r.quota;
+  used = r.used;
+  low = r.low;
+  pred = r.pred;
+  curr = r.curr;
+  succ = r.succ;
+  node = r.node;
+  pkey = r.pkey;
+  ckey = r.ckey;
+}
 
-pub keep_ckey : (n q t p c : ℕ) (y : Option Reply) (l : Local) → c ≤ tail_word → Registers n q t l → Registers n q t (record l { pc = p; reply = y; ckey = c })
-keep_ckey n q t p c y l le r = record { thread = r.thread; quota = r.quota; used = r.used; low = r.low; pred = r.pred; curr = r.curr; succ = r.succ; node = r.node; pkey = r.pkey; ckey = le }
+pub keep_ckey : (n q t p c : ℕ) (y : Option Reply) (l : Local) → c ≤ tail_word → Registers n q t l
+    → Registers n q t (record l { pc = p; reply = y; ckey = c })
+keep_ckey n q t p c y l le r = record {
+  thread = r.thread;
+  quota = r.quota;
+  used = r.used;
+  low = r.low;
+  pred = r.pred;
+  curr = r.curr;
+  succ = r.succ;
+  node = r.node;
+  pkey = r.pkey;
+  ckey = le;
+}
 
-pub keep_succ : (n q t p c : ℕ) (y : Option Reply) (l : Local) → c < node_count n q → Registers n q t l → Registers n q t (record l { pc = p; reply = y; succ = c })
-keep_succ n q t p c y l le r = record { thread = r.thread; quota = r.quota; used = r.used; low = r.low; pred = r.pred; curr = r.curr; succ = le; node = r.node; pkey = r.pkey; ckey = r.ckey }
+pub keep_succ : (n q t p c : ℕ) (y : Option Reply) (l : Local) → c < node_count n q → Registers n q t l
+    → Registers n q t (record l { pc = p; reply = y; succ = c })
+keep_succ n q t p c y l le r = record {
+  thread = r.thread;
+  quota = r.quota;
+  used = r.used;
+  low = r.low;
+  pred = r.pred;
+  curr = r.curr;
+  succ = le;
+  node = r.node;
+  pkey = r.pkey;
+  ckey = r.ckey;
+}
 
-pub keep_walk : (n q t p a b : ℕ) (l : Local) → a < node_count n q → b < node_count n q → Registers n q t l → Registers n q t (record l { pc = p; pred = a; curr = b })
-keep_walk n q t p a b l le ge r = record { thread = r.thread; quota = r.quota; used = r.used; low = r.low; pred = le; curr = ge; succ = r.succ; node = r.node; pkey = r.pkey; ckey = r.ckey }
+pub keep_walk : (n q t p a b : ℕ) (l : Local) → a < node_count n q → b < node_count n q → Registers n q t l
+    → Registers n q t (record l { pc = p; pred = a; curr = b })
+keep_walk n q t p a b l le ge r = record {
+  thread = r.thread;
+  quota = r.quota;
+  used = r.used;
+  low = r.low;
+  pred = le;
+  curr = ge;
+  succ = r.succ;
+  node = r.node;
+  pkey = r.pkey;
+  ckey = r.ckey;
+}

@@ -1,6 +1,6 @@
--- What the rows of all tables share: the nodes and words that they name, and what a call does at the first key that is not below its own.
--- (This project's own tables.)
-use Rattle.std.specs.Prelude.{◌≡◌, ℕ, ◌+◌, ◌<◌, ◌≤◌, Bool, if◌then◌else◌, Option, Some, None, ◌==◌, nat_lt}
+-- What the rows of all tables share: the nodes and words that they name, and what a call does at the first key that is not below
+-- its own. (This project's own tables.)
+use Rattle.std.specs.Prelude.{ℕ, ◌<◌, ◌≤◌, Bool, if◌then◌else◌, Option, Some, None, ◌==◌, nat_lt}
 use Rattle.lset_words.specs.declared.Call.{Call}
 use Rattle.lset_words.specs.declared.Call.TheVariants.{Add, Remove, Contains}
 use Rattle.lset_words.specs.declared.Reply.{Reply}
@@ -34,13 +34,14 @@ begun pc call l = record {
 abbrev pub goes_to : ℕ → Option Reply → Local → Local
 goes_to pc reply l = record l { pc = pc; reply = reply }
 
--- on to the row that adds, to the one that removes, or with a reply to the one that leaves, where the key was found or not, and there is
--- room for another successful add or not
+-- on to the row that adds, to the one that removes, or with a reply to the one that leaves, where the key was found or not, and
+-- there is room for another successful add or not
 abbrev pub decided : ℕ → ℕ → ℕ → Call → Bool → Bool → Local → Local
 decided adds removes leaves (Add k) found room l =
     if found then goes_to leaves (Some False) l else if room then goes_to adds None l else goes_to leaves (Some Full) l
 decided adds removes leaves (Remove k) found room l = if found then goes_to removes None l else goes_to leaves (Some False) l
-decided adds removes leaves (Contains k) found room l = if found then goes_to leaves (Some True) l else goes_to leaves (Some False) l
+decided adds removes leaves (Contains k) found room l = if found then goes_to leaves (Some True) l
+    else goes_to leaves (Some False) l
 
 -- the decision on a key word
 abbrev pub decided_on : Targets → ℕ → Local → Local

@@ -1,5 +1,5 @@
 -- The content of each moment of a run is one rising list of keys, each below 2^32.
-use Rattle.std.proofs.Common.{◌≡◌, ◌≢◌, ℕ, ◌+◌, ◌-◌, ◌/◌, ◌%◌, ◌<◌, ◌≤◌, ◌⊎◌, inl, inr, List, [], ◌∷◌, sym, refl, ap, subst, arith}
+use Rattle.std.proofs.Common.{◌≡◌, ◌≢◌, ℕ, ◌+◌, ◌/◌, ◌<◌, ◌≤◌, List, arith}
 use Rattle.std.specs.Prelude.{Contains}
 use Rattle.lset_words.specs.Words.{tail_word}
 use Rattle.lset_steps.specs.declared.Event.{Event}
@@ -25,7 +25,8 @@ key_low v ord e b k i f d =
     let t : v.key (v.link b / 2) ≤ v.key 1 = ord.top (v.link b / 2) (ord.next_published b m d) in
     omega arith
 
-pub content_at : (T : Table) (n q last k : ℕ) (es : ℕ → Event) → Lawful T → Run T n q es last → k ≤ last → ContentList (views T n q es k)
+pub content_at : (T : Table) (n q last k : ℕ) (es : ℕ → Event) → Lawful T → Run T n q es last → k ≤ last
+    → ContentList (views T n q es k)
 content_at T n q last k es law r l =
     let o : StateLaws T.marks n q (state_at T n q es k) = law.states n q last k es r l in
     let v : View = views T n q es k in

@@ -1,3 +1,4 @@
+-- Segments of the chain: they join, their keys rise, and two nodes of the chain with one key are one node.
 use Rattle.std.proofs.Common.{◌≡◌, ◌≢◌, ℕ, ◌/◌, ◌<◌, ◌≤◌, ◌⊎◌, inl, inr, List, [], ◌∷◌, ◌++◌, sym, refl, ap, subst, arith}
 use Rattle.lset_steps.specs.Chain.{View, Segment, InChain, IsOrdered}
 
@@ -60,7 +61,8 @@ gap v ord a c ia ic na lo hi = elim (sides v ord a c ia ic) [
 ]
 
 -- Two nodes of the chain with one key are one node.
-pub segment_strict : (v : View) → IsOrdered v → (i j : ℕ) (ns : List ℕ) → v.published i → Segment v i ns j → v.key i ≡ v.key j → i ≡ j
+pub segment_strict : (v : View) → IsOrdered v → (i j : ℕ) (ns : List ℕ) → v.published i → Segment v i ns j
+    → v.key i ≡ v.key j → i ≡ j
 segment_strict v ord i j [] m s e = s
 segment_strict v ord i j (a ∷ ns) m s e =
     let h : v.key i < v.key (v.link i / 2) = ord.rises i m s.1 in

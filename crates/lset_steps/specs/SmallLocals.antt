@@ -31,7 +31,8 @@ small_registers n q t l lim below r =
       node = omega arith;
     }
 
-small_under_way : (T : Table) → Lawful T → (n q : ℕ) (es : ℕ → Event) (k t : ℕ) → UnderWay T n q es k t → IsSmall (local_of (state_at T n q es k) t)
+small_under_way : (T : Table) → Lawful T → (n q : ℕ) (es : ℕ → Event) (k t : ℕ) → UnderWay T n q es k t
+    → IsSmall (local_of (state_at T n q es k) t)
 small_under_way T law n q es k t u =
     small_registers n q t (local_of (state_at T n q es k) t) u.run.limits u.thread
     ((law.states n q k k es u.run (omega arith)).threads t u.thread)

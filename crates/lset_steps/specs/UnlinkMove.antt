@@ -1,3 +1,4 @@
+-- What leaving out the next of a node of the chain does to order, chain and content.
 use Rattle.std.proofs.Common.{◌≡◌, ◌≢◌, ℕ, ◌+◌, ◌*◌, ◌/◌, ◌%◌, ◌<◌, ◌≤◌, ◌⊎◌, inl, inr, List, [], ◌∷◌, sym, refl, ap, subst, ◌∙◌, arith}
 use Rattle.lset_steps.specs.Chain.{View, Segment, InChain, InContent, IsOrdered}
 use Rattle.lset_steps.specs.Moves.{Unlinks, KeepsNodes}
@@ -59,7 +60,8 @@ unlink-ordered v w ord pred curr q = record {
     next' : (i : ℕ) → v.published i → i ≢ 1 → (i ≡ pred) ⊎ (i ≢ pred) → w.published (w.link i / 2)
     next' i m n (inl e) = subst (λ x. w.published (w.link x / 2)) (sym e)
         (subst (λ x. w.published x) (sym f.pred_next) (q.grows (v.link curr / 2) f.s_published))
-    next' i m n (inr d) = subst (λ x. w.published (x / 2)) (sym (q.links i m d)) (q.grows (v.link i / 2) (ord.next_published i m n))
+    next' i m n (inr d) = subst (λ x. w.published (x / 2)) (sym (q.links i m d))
+        (q.grows (v.link i / 2) (ord.next_published i m n))
 
     rises' : (i : ℕ) → v.published i → i ≢ 1 → (i ≡ pred) ⊎ (i ≢ pred) → w.key i < w.key (w.link i / 2)
     rises' i m n (inl e) = subst (λ x. w.key x < w.key (w.link x / 2)) (sym e)
@@ -79,7 +81,8 @@ unlink_pred v w ord pred curr q =
 pub unlink_curr : (v w : View) → IsOrdered v → (pred curr : ℕ) → Unlinks v w pred curr → InChain v curr
 unlink_curr v w ord pred curr q = chain_on v pred curr curr [] q.in_chain q.no_tail q.is_next refl
 
-pub unlink_keeps : (v w : View) → IsOrdered v → (pred curr : ℕ) → Unlinks v w pred curr → (b : ℕ) → InChain v b → InChain w b ⊎ (b ≡ curr)
+pub unlink_keeps : (v w : View) → IsOrdered v → (pred curr : ℕ) → Unlinks v w pred curr → (b : ℕ) → InChain v b
+    → InChain w b ⊎ (b ≡ curr)
 unlink_keeps v w ord pred curr q b ib = elim (sides v ord pred b q.in_chain ib) [
   | inl le ↦ inl (chain_before v w ord pred b (λ a m l. ap (λ x. x / 2) (q.links a m (apart v a pred l))) le ib)
   | inr t ↦ from_curr t.0 (subst (λ x. Segment v x t.0 b) q.is_next t.1)
@@ -97,7 +100,8 @@ unlink_keeps v w ord pred curr q b ib = elim (sides v ord pred b q.in_chain ib) 
     from_curr (c ∷ cs) s = inl (chain_on w pred (v.link curr / 2) b cs (unlink_pred v w ord pred curr q) q.no_tail f.pred_next
         (segment_after v w ord (v.link curr / 2) b cs after f.s_published s.2))
 
-pub unlink_back : (v w : View) → IsOrdered v → (pred curr : ℕ) → Unlinks v w pred curr → (b : ℕ) → InChain w b → InChain v b × (b ≢ curr)
+pub unlink_back : (v w : View) → IsOrdered v → (pred curr : ℕ) → Unlinks v w pred curr → (b : ℕ) → InChain w b
+    → InChain v b × (b ≢ curr)
 unlink_back v w ord pred curr q b ib =
     elim (sides w ws pred b (unlink_pred v w ord pred curr q) ib) [
       | inl le ↦ (
@@ -169,7 +173,8 @@ unlink_others v w ord pred curr q j h c = elim (unlink_keeps v w ord pred curr q
     not_curr e (inr n) = n (sym (ap v.key e) ∙ c.3)
 
 -- the key of curr is gone
-pub unlink_absent : (v w : View) → IsOrdered v → (pred curr k : ℕ) → Unlinks v w pred curr → v.key curr ≡ k + 1 → InContent w k → ⊥
+pub unlink_absent : (v w : View) → IsOrdered v → (pred curr k : ℕ) → Unlinks v w pred curr → v.key curr ≡ k + 1
+    → InContent w k → ⊥
 unlink_absent v w ord pred curr k q e c =
     let r : InChain v c.0 × (c.0 ≢ curr) = unlink_back v w ord pred curr q c.0 c.1 in
     let a : w.key c.0 ≡ v.key c.0 = q.keys c.0 (in_chain_published v ord c.0 r.0) in

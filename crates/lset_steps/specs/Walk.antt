@@ -1,3 +1,4 @@
+-- What a walk without locks knows from step to step, and the moment of its end (after O'Hearn and others).
 use Rattle.std.proofs.Common.{◌≡◌, ◌≢◌, ℕ, ◌+◌, ◌/◌, ◌%◌, ◌<◌, ◌≤◌, [], sym, refl, ap, subst, ◌∙◌, arith}
 use Rattle.lset_steps.specs.Chain.{View, IsOrdered}
 use Rattle.lset_steps.specs.Moves.{Course, InPast, Seen, Had, Lacked}
@@ -35,7 +36,8 @@ from20 vs n first now k curr r l a =
     let ls : s.at ≤ now = s.upto in
     let low : (vs a.past.at).key curr < k + 1 = a.low in
     let kp : (vs now).key curr ≡ (vs a.past.at).key curr =
-    key_stays vs n curr a.past.at now r lp l (in_chain_published (vs a.past.at) (r.ordered a.past.at (omega arith)) curr a.past.in_chain) in
+    key_stays vs n curr a.past.at now r lp l
+    (in_chain_published (vs a.past.at) (r.ordered a.past.at (omega arith)) curr a.past.in_chain) in
     let ks : (vs now).key curr ≡ (vs s.at).key curr =
     key_stays vs n curr s.at now r ls l (in_chain_published (vs s.at) (r.ordered s.at (omega arith)) curr s.in_chain) in
     record { from = curr; word = (vs now).link curr; seen = s; next = refl; low = omega arith }
@@ -49,7 +51,8 @@ from21_on vs n first now k curr r l a top =
     subst (InPast vs first now) a.next (next_in_past vs first now a.from a.word
     (no_tail (vs a.seen.at) (r.ordered a.seen.at (omega arith)) a.from k (top a.seen.at (omega arith)) a.low) a.seen)
 
-key_then : (vs : ℕ → View) (n first now curr : ℕ) → Course vs n → now ≤ n → (p : InPast vs first now curr) → (vs now).key curr ≡ (vs p.at).key curr
+key_then : (vs : ℕ → View) (n first now curr : ℕ) → Course vs n → now ≤ n → (p : InPast vs first now curr)
+    → (vs now).key curr ≡ (vs p.at).key curr
 key_then vs n first now curr r l p =
     let lp : p.at ≤ now = p.upto in
     key_stays vs n curr p.at now r lp l (in_chain_published (vs p.at) (r.ordered p.at (omega arith)) curr p.in_chain)
@@ -74,7 +77,8 @@ from21_more vs n first now k curr r l a top s =
     let la : a.seen.at ≤ now = a.seen.upto in
     let low : (vs a.seen.at).key a.from < k + 1 = a.low in
     let ka : (vs now).key a.from ≡ (vs a.seen.at).key a.from =
-    key_stays vs n a.from a.seen.at now r la l (in_chain_published (vs a.seen.at) (r.ordered a.seen.at (omega arith)) a.from a.seen.in_chain) in
+    key_stays vs n a.from a.seen.at now r la l
+    (in_chain_published (vs a.seen.at) (r.ordered a.seen.at (omega arith)) a.from a.seen.in_chain) in
     lacked_between vs n first now a.from a.word k r l
     (no_tail (vs a.seen.at) (r.ordered a.seen.at (omega arith)) a.from k (top a.seen.at (omega arith)) a.low) a.seen
     (omega arith) (subst (λ x. k + 1 < (vs now).key x) (sym a.next) s)

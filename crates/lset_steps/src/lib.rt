@@ -5,6 +5,7 @@ ghost use Rattle.std.specs.Prelude.{◌≡◌, ℕ, ◌+◌, ◌*◌, ◌<◌, �
 ghost use Rattle.lset_steps.specs.Steps.{Table, idle};
 ghost use Rattle.lset_steps.specs.Laws.{Lawful, Occurs, Sees};
 
+pub mod laws;
 pub mod rows;
 mod world;
 

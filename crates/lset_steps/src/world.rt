@@ -43,9 +43,17 @@ pub struct World<M: Machine> {
 impl<M: Machine> Model for World<M> {
     ghost Value = { WorldState };
 
-    ghost view = { λ w. record { threads = w.threads; quota = w.quota; state = record { words = w.words.items; locals = w.locals.items } } };
+    ghost view = { λ w. record {
+      threads = w.threads;
+      quota = w.quota;
+      state = record { words = w.words.items; locals = w.locals.items };
+    } };
 
-    ghost invariant = { λ w. IsRun M.table (record { threads = w.threads; quota = w.quota; state = record { words = w.words.items; locals = w.locals.items } }) };
+    ghost invariant = { λ w. IsRun M.table (record {
+      threads = w.threads;
+      quota = w.quota;
+      state = record { words = w.words.items; locals = w.locals.items };
+    }) };
 }
 
 fn opening_word_at(layout: &Layout, i: u64) -> u64
@@ -61,7 +69,8 @@ fn opening_word_at(layout: &Layout, i: u64) -> u64
 }
 
 fn opening_words(alloc: Global, layout: &Layout) -> Result<Vec<u64>, AllocError>
-    ensures { IfOk result (λ v. v.items ≡ map (opening_word layout.now.threads layout.now.quota) (range_with_len 0 (word_count layout.now.threads layout.now.quota))) }
+    ensures { IfOk result (λ v. v.items ≡ map (opening_word layout.now.threads layout.now.quota)
+        (range_with_len 0 (word_count layout.now.threads layout.now.quota))) }
 {
     let mut words = Vec::new(alloc);
     for i in 0..layout.words() {

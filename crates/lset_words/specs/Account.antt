@@ -1,4 +1,5 @@
--- What a run shows of its set, apart from any machine: the contents at its moments, which replies fit them, and what each event does.
+-- What a run shows of its set, apart from any machine: the contents at its moments, which replies fit them, and what each
+-- event does.
 use Rattle.std.specs.Prelude.{◌≡◌, ◌≢◌, ℕ, suc, ◌+◌, ◌<◌, ◌≤◌, Bool, true, false, Option, Some, None}
 use Rattle.lset_words.specs.declared.Call.{Call}
 use Rattle.lset_words.specs.declared.Call.TheVariants.{Add, Remove, Contains}
@@ -28,7 +29,8 @@ count_after None count = count
 count_after (Some (k, true)) count = count + 1
 count_after (Some (k, false)) count = count
 
--- [Named change]: which call makes a change: an Add of that key by a thread below its quota, a Remove of that key, and one change a call
+-- [Named change]: which call makes a change: an Add of that key by a thread below its quota, a Remove of that key, and one
+-- change a call
 abbrev pub MayChange : ℕ → ℕ → Call → Bool → Option Change → Type 0
 MayChange quota count call changed None = Unit {0}
 MayChange quota count call changed (Some (k, true)) = (call ≡ Add k) × (changed ≡ false) × (count < quota)
@@ -54,7 +56,8 @@ abbrev pub Counts : Type 0
 Counts = ℕ → ℕ → ℕ
 
 -- the reply fits a moment of a call of that thread that begins at `first` and has not ended before `last`
-pub record FitsSometime (quota : ℕ) (contents : Contents) (counts : Counts) (first last thread : ℕ) (call : Call) (reply : Reply) : Type 0 where
+pub record FitsSometime (quota : ℕ) (contents : Contents) (counts : Counts) (first last thread : ℕ) (call : Call)
+    (reply : Reply) : Type 0 where
   pub moment : ℕ
   pub from : first ≤ moment
   pub upto : moment ≤ last
@@ -64,7 +67,8 @@ pub record FitsSometime (quota : ℕ) (contents : Contents) (counts : Counts) (f
 abbrev pub RightReply : Bool → ℕ → Contents → Counts → ℕ → ℕ → ℕ → Call → Option Reply → Type 0
 RightReply changed quota contents counts first last thread call None = Unit {0}
 RightReply true quota contents counts first last thread call (Some reply) = reply ≡ True
-RightReply false quota contents counts first last thread call (Some reply) = FitsSometime quota contents counts first last thread call reply
+RightReply false quota contents counts first last thread call (Some reply) =
+    FitsSometime quota contents counts first last thread call reply
 
 -- one entry, between the moments k and k + 1: threads begin a call only when they have none open, and make steps only in one
 abbrev pub Enters : ℕ → ℕ → Log → Contents → Counts → ℕ → Entry → Type 0

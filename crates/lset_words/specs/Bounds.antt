@@ -11,7 +11,8 @@ pub nodes_within : (s : Sizes) → IsWithin s → node_count s.threads s.quota �
 nodes_within s w = few_nodes s.threads s.quota w.few w.small
 
 -- a slot is among the nodes
-pub slot_inside : (threads quota thread slot : ℕ) → thread < threads → slot < quota → slot_node quota thread slot < node_count threads quota
+pub slot_inside : (threads quota thread slot : ℕ) → thread < threads → slot < quota
+    → slot_node quota thread slot < node_count threads quota
 slot_inside threads quota thread slot below j =
     let row : thread * quota + slot < threads * quota = grind arith in omega arith
 

@@ -23,7 +23,8 @@ pub record MayFollow (threads : ℕ) (earlier : List CallRecord) (x : CallRecord
   pub ends_later : IfSome x.ended (λ (e : ℕ × Reply). x.begun < e.0)
   -- no moment has two entries,
   pub begins_alone : All (λ (y : CallRecord). IfSome y.ended (λ (e : ℕ × Reply). e.0 ≢ x.begun)) earlier
-  pub ends_alone : IfSome x.ended (λ (e : ℕ × Reply). All (λ (y : CallRecord). (e.0 ≢ y.begun) × IfSome y.ended (λ (d : ℕ × Reply). e.0 ≢ d.0)) earlier)
+  pub ends_alone : IfSome x.ended (λ (e : ℕ × Reply). All
+      (λ (y : CallRecord). (e.0 ≢ y.begun) × IfSome y.ended (λ (d : ℕ × Reply). e.0 ≢ d.0)) earlier)
   -- and a thread begins a call only when it has none open.
   pub none_open : All (λ (y : CallRecord). y.thread ≡ x.thread → IsSomeAnd y.ended (λ (e : ℕ × Reply). e.0 < x.begun)) earlier
 
@@ -54,7 +55,8 @@ pub record Linearizes (quota : ℕ) (start : SetState) (history : List CallRecor
   -- each at most once,
   pub once : AllPairs (λ (p r : Placed). p.call ≢ r.call) order
   -- each ended call with its reply,
-  pub ended : (number : ℕ) (end : ℕ) (reply : Reply) → number < length history → (call_numbered history number).ended ≡ Some (end, reply)
+  pub ended : (number : ℕ) (end : ℕ) (reply : Reply) → number < length history
+      → (call_numbered history number).ended ≡ Some (end, reply)
       → Contains order (record { call = number; reply = reply })
   -- the set gives the replies in turn,
   pub legal : IsLegal quota start (map (answered history) order)

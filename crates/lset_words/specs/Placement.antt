@@ -8,17 +8,20 @@ use Rattle.lset_words.specs.Log.{TracedCall}
 use Rattle.lset_words.specs.Account.{Contents, Counts, Fits}
 
 -- the least moment of the call, which ended at `end`, that its reply fits
-pub record IsLeastFit (quota : ℕ) (contents : Contents) (counts : Counts) (x : TracedCall) (end : ℕ) (reply : Reply) (moment : ℕ) : Type 0 where
+pub record IsLeastFit (quota : ℕ) (contents : Contents) (counts : Counts) (x : TracedCall) (end : ℕ) (reply : Reply)
+    (moment : ℕ) : Type 0 where
   pub from : x.begun ≤ moment
   pub upto : moment ≤ end
   pub fits : Fits quota (contents moment) (counts moment x.thread) x.call reply
   pub least : (m : ℕ) → x.begun ≤ m → m < moment → Fits quota (contents m) (counts m x.thread) x.call reply → ⊥
 
--- The moment at which a call stands: that of its change; else, where it has ended, the least that its reply fits; else it does not stand.
+-- The moment at which a call stands: that of its change; else, where it has ended, the least that its reply fits; else it does
+-- not stand.
 abbrev pub StandsBy : ℕ → Contents → Counts → TracedCall → Option ℕ → Option (ℕ × Reply) → Option ℕ → Type 0
 StandsBy quota contents counts x (Some changed) ended place = place ≡ Some changed
 StandsBy quota contents counts x None None place = place ≡ None
-StandsBy quota contents counts x None (Some end) place = (moment : ℕ) × (place ≡ Some moment) × IsLeastFit quota contents counts x end.0 end.1 moment
+StandsBy quota contents counts x None (Some end) place =
+    (moment : ℕ) × (place ≡ Some moment) × IsLeastFit quota contents counts x end.0 end.1 moment
 
 abbrev pub StandsAt : ℕ → Contents → Counts → TracedCall → Option ℕ → Type 0
 StandsAt quota contents counts x place = StandsBy quota contents counts x x.changed x.ended place
@@ -50,7 +53,8 @@ abbrev pub standing : ℕ → List TracedCall → List (Option ℕ) → List Sta
 standing number [] places = []
 standing number (x ∷ xs) [] = []
 standing number (x ∷ xs) (None ∷ places) = standing (suc number) xs places
-standing number (x ∷ xs) (Some moment ∷ places) = record { number = number; traced = x; moment = moment } ∷ standing (suc number) xs places
+standing number (x ∷ xs) (Some moment ∷ places) =
+    record { number = number; traced = x; moment = moment } ∷ standing (suc number) xs places
 
 -- those of one moment: the change first, then the others by their numbers
 abbrev pub at_moment : ℕ → List Standing → List Standing
@@ -74,9 +78,11 @@ abbrev pub place_at : List (Option ℕ) → ℕ → Option ℕ
 place_at places number = slice_index_or places number None
 
 -- The order of placement of the calls of a run, up to the moment `last`
-pub record IsPlacement (quota last : ℕ) (calls : List TracedCall) (contents : Contents) (counts : Counts) (order : List Placed) : Type 0 where
+pub record IsPlacement (quota last : ℕ) (calls : List TracedCall) (contents : Contents) (counts : Counts)
+    (order : List Placed) : Type 0 where
   -- the moment at which each call stands
   pub places : List (Option ℕ)
   pub one_each : length places ≡ length calls
-  pub stands : (number : ℕ) → number < length calls → StandsAt quota contents counts (traced_at calls number) (place_at places number)
+  pub stands : (number : ℕ) → number < length calls
+      → StandsAt quota contents counts (traced_at calls number) (place_at places number)
   pub in_order : order ≡ map placed_of (by_moments last (standing 0 calls places))

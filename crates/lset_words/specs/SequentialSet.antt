@@ -38,7 +38,10 @@ reply_to quota s thread (Contains k) = if has_key k.0 s.keys then True else Fals
 
 -- the state after a call with its reply: only a successful add or remove changes it
 abbrev pub after_call : SetState → ℕ → Call → Reply → SetState
-after_call s thread (Add k) True = record { keys = with_key k.0 s.keys; counts = slice_set s.counts thread (count_of s thread + 1) }
+after_call s thread (Add k) True = record {
+  keys = with_key k.0 s.keys;
+  counts = slice_set s.counts thread (count_of s thread + 1);
+}
 after_call s thread (Remove k) True = record { keys = without_key k.0 s.keys; counts = s.counts }
 after_call s thread _ _ = s
 

@@ -8,6 +8,10 @@ fn a_table_of_two_threads_and_four_slots(rt: HostRuntime) -> Result<(), Fail> {
     assert_eq!(rt; table.quota(), 4);
     assert_eq!(rt; table.nodes(), 10);
     assert_eq!(rt; table.words(), 33);
+    assert_eq!(rt; table.slot(1, 0), 6);
+    assert_eq!(rt; table.key_word(6), 21);
+    assert_eq!(rt; table.link_word(6), 22);
+    assert_eq!(rt; table.lock_word(6), 23);
     Ok(())
 }
 

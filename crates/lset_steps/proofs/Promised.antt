@@ -1,0 +1,147 @@
+-- That every lawful machine keeps the promises.
+use Rattle.std.specs.Prelude.{◌≡◌, ◌≢◌, ℕ, suc, ◌+◌, ◌/◌, ◌<◌, ◌≤◌, ◌⊎◌, Bool, true, false, if◌then◌else◌, ◌==◌, List, [], ◌∷◌, ◌++◌, map, Some, length, refl}
+use Rattle.std.proofs.Common.{arith, inl, inr, sym, ap, subst}
+use Rattle.lset_words.specs.declared.Call.{Call}
+use Rattle.lset_words.specs.declared.Call.TheVariants as call
+use Rattle.lset_words.specs.declared.Reply.TheVariants.{True}
+use Rattle.lset_words.specs.Words.{word_count}
+use Rattle.lset_words.specs.Log.{Log, Entry, last_call, begun_at, has_changed}
+use Rattle.lset_words.specs.Log.Entry.{began, stepped}
+use Rattle.lset_words.specs.Account.{Enters, Contents, Counts, RightReply}
+use Rattle.lset_steps.specs.declared.Event.{Event}
+use Rattle.lset_steps.specs.declared.Event.TheVariants.{Go}
+use Rattle.lset_steps.specs.Steps.{Table, State, Run, Enabled, state_at, local_of, log_of}
+use Rattle.lset_steps.specs.Chain.{View, IsOrdered, IsChain, Segment, contents_of, counts_of}
+use Rattle.lset_steps.specs.Laws.{Lawful, StateLaws, StepAt, word_named, views}
+use Rattle.lset_steps.specs.Worlds.{keys_in}
+use Rattle.lset_steps.specs.WorldRuns.{state_agree}
+use Rattle.lset_steps.specs.Replies.{if_same, if_other}
+use Rattle.lset_steps.specs.ContentLists.{RisesFrom, rises_less, chain_is, increasing_from}
+use Rattle.lset_steps.specs.RunContents.{ContentList, content_at}
+use Rattle.lset_steps.specs.RunAccount.{account_of}
+use Rattle.lset_steps.specs.LockWords.{lock_word}
+use Rattle.lset_steps.specs.Promises.{InRange, ThreadInRange, SortedChain, ChainIsSorted, LockWords, LockUses, UnlinkedNodesStay, UnmarkedNodesInChain, ChangeIsNamed, NamedChange, RepliesFit, IsRead, TrueMeansChange, HasAccount, ContentIsListed, ListedContent}
+
+-- the run goes on with a step of a thread with an open call
+module _ (T : Table) (law : Lawful T) (n q last k t : ℕ) (es : ℕ → Event) (r : Run T n q es last) (l : k ≤ last)
+    (below : t < n) where
+  abbrev more : ℕ → Event
+  more j = if j == k then Go t else es j
+
+  same_state : (j : ℕ) → j ≤ k → state_at T n q more j ≡ state_at T n q es j
+  same_state j h = state_agree T n q es more j (λ i g. if_other i k (omega arith) (Go t) (es i))
+
+  goes_now : more k ≡ Go t
+  goes_now = if_same k k refl (Go t) (es k)
+
+  enabled_more : (local_of (state_at T n q es k) t).pc ≢ 0 → (j : ℕ) → (j ≡ k) ⊎ (j < k)
+      → Enabled (state_at T n q more j) (more j)
+  enabled_more h j (inl e) =
+      let o : StateLaws T.marks n q (state_at T n q es k) = law.states n q last k es r l in
+      let th : t < length (state_at T n q es k).locals = rw o.locals below in
+      subst (λ i. Enabled (state_at T n q more i) (more i)) (sym e)
+      (subst (λ z. Enabled (state_at T n q more k) z) (sym goes_now)
+      (subst (λ z. Enabled z (Go t)) (sym (same_state k (omega arith))) (th, h)))
+  enabled_more h j (inr g) =
+      subst (λ z. Enabled (state_at T n q more j) z) (sym (if_other j k (omega arith) (Go t) (es j)))
+      (subst (λ z. Enabled z (es j)) (sym (same_state j (omega arith))) (r.enabled j (omega arith)))
+
+  last_or_before : (j : ℕ) → j < suc k → (j ≡ k) ⊎ (j < k)
+  last_or_before j h = grind arith
+
+  run_more : (local_of (state_at T n q es k) t).pc ≢ 0 → Run T n q more (suc k)
+  run_more h = record { limits = r.limits; enabled = λ j g. enabled_more h j (last_or_before j g) }
+
+  action_in_table : (local_of (state_at T n q es k) t).pc ≢ 0
+      → word_named (T.next (local_of (state_at T n q es k) t)) < word_count n q
+  action_in_table h =
+      let st : StepAt T n q more k t = law.steps n q (suc k) k t more (run_more h) (omega arith) goes_now in
+      subst (λ (s : State). word_named (T.next (local_of s t)) < word_count n q) (same_state k (omega arith)) st.in_table
+
+  pub thread_in_range : ThreadInRange T n q t (local_of (state_at T n q es k) t)
+  thread_in_range = record {
+    registers = (law.states n q last k es r l).threads t below;
+    action = action_in_table;
+  }
+
+pub in_range_of : (T : Table) → Lawful T → InRange T
+in_range_of T law n q last k t es r l below = thread_in_range T law n q last k t es r l below
+
+chain_rises : (v : View) → IsOrdered v → (i : ℕ) (ns : List ℕ) → v.published i → Segment v i ns 1
+    → RisesFrom (v.key i) (map v.key (ns ++ 1 ∷ []))
+chain_rises v ord i [] m s = let e : v.key i ≡ v.key 1 = ap v.key s in (omega arith, tt)
+chain_rises v ord i (a ∷ ns) m s =
+    let e : v.key a ≡ v.key i = ap v.key s.0 in
+    let up : v.key i < v.key (v.link i / 2) = ord.rises i m s.1 in
+    let rest : RisesFrom (v.key (v.link i / 2)) (map v.key (ns ++ 1 ∷ [])) =
+    chain_rises v ord (v.link i / 2) ns (ord.next_published i m s.1) s.2 in
+    (omega arith, rises_less (v.key a + 1) (v.key (v.link i / 2)) (map v.key (ns ++ 1 ∷ [])) (omega arith) rest)
+
+sorted_of : (v : View) → IsOrdered v → (c : (ns : List ℕ) × IsChain v ns) → ChainIsSorted v
+sorted_of v ord c = record {
+  nodes = c.0;
+  chain = c.1;
+  rising = λ k l. increasing_from (v.key 0) (map v.key (c.0 ++ 1 ∷ [])) (chain_rises v ord 0 c.0 ord.head_published c.1) k l;
+}
+
+pub sorted_chain_of : (T : Table) → Lawful T → SortedChain T
+sorted_chain_of T law n q last k es r l =
+    let o : StateLaws T.marks n q (state_at T n q es k) = law.states n q last k es r l in
+    sorted_of (views T n q es k) o.ordered (chain_is (views T n q es k) o.ordered)
+
+pub lock_words_of : (T : Table) → Lawful T → LockWords T
+lock_words_of T law n q last k x es r l i h = lock_word T law n q es last x r i h k l
+
+pub lock_uses_of : (T : Table) → Lawful T → LockUses T
+lock_uses_of T law n q last k t es r l e = (law.steps n q last k t es r l e).lock_use
+
+pub unlinked_stays_of : (T : Table) → Lawful T → UnlinkedNodesStay T
+unlinked_stays_of T law n q last j k i es r below l m = law.unlinked_stays n q last j k i es r below l m
+
+pub unmarked_in_chain_of : (T : Table) → Lawful T → UnmarkedNodesInChain T
+unmarked_in_chain_of T law n q last k es r l = (law.states n q last k es r l).marked
+
+-- an account says what each entry does
+pub account_is : (T : Table) → Lawful T → HasAccount T
+account_is T law n q last es r = account_of T law n q es last r
+
+change_named : (n q : ℕ) (log : Log) (contents : Contents) (counts : Counts) (k : ℕ) (e : Entry)
+    → Enters n q log contents counts k e
+    → ChangeIsNamed n q log contents counts k e
+change_named n q log contents counts k (began t call) a = (a.2, a.3)
+change_named n q log contents counts k (stepped t change reply) a = (a.2, a.5, a.3, a.4)
+
+pub named_change_of : (T : Table) → Lawful T → NamedChange T
+named_change_of T law n q last k es r l =
+    change_named n q (log_of T n q es) (contents_of (views T n q es)) (counts_of (views T n q es)) k (log_of T n q es k)
+    ((account_is T law n q last es r).enters k l)
+
+pub replies_fit_of : (T : Table) → Lawful T → RepliesFit T
+replies_fit_of T law n q last k t es change reply r l e =
+    (subst (λ z. Enters n q (log_of T n q es) (contents_of (views T n q es)) (counts_of (views T n q es)) k z) e
+    ((account_is T law n q last es r).enters k l)).6
+
+true_or_read : (done : Bool) (q : ℕ) (contents : Contents) (counts : Counts) (first now t : ℕ) (called : Call)
+    → RightReply done q contents counts first now t called (Some True) → (done ≡ true) ⊎ IsRead called
+true_or_read true q contents counts first now t called h = inl refl
+true_or_read false q contents counts first now t (call.Add k) h = absurd h.fits
+true_or_read false q contents counts first now t (call.Remove k) h = absurd h.fits
+true_or_read false q contents counts first now t (call.Contains k) h = inr tt
+
+pub true_means_change_of : (T : Table) → Lawful T → TrueMeansChange T
+true_means_change_of T law n q last k t es change r l e =
+    true_or_read (has_changed (log_of T n q es) t (suc k)) q (contents_of (views T n q es)) (counts_of (views T n q es))
+    (begun_at (log_of T n q es) t k) (suc k) t (last_call (log_of T n q es) t k)
+    (replies_fit_of T law n q last k t es change True r l e)
+
+listed : (v : View) → ContentList v → ContentIsListed v
+listed v c = record {
+  keys = keys_in v c.nodes;
+  rising = ((c.nodes, c.chain, refl), λ k l. increasing_from 0 (keys_in v c.nodes) c.rises k l);
+  member = c.have;
+  only = c.from;
+  low = c.low;
+}
+
+pub listed_content_of : (T : Table) → Lawful T → ListedContent T
+listed_content_of T law n q last k es r l = listed (views T n q es k) (content_at T n q last k es law r l)

@@ -1,0 +1,126 @@
+-- What is promised of every run of a machine, each promise under its own name. In all of them n is the number of threads, q the
+-- quota, es the events of a run of `last` events, and k a moment: k events have happened.
+use Rattle.std.specs.Prelude.{◌≡◌, ◌≢◌, ℕ, zero, suc, ◌+◌, ◌^◌, ◌<◌, ◌≤◌, ◌⊎◌, true, if◌then◌else◌, ◌==◌, List, [], ◌∷◌, ◌++◌, map, Option, Some, Contains, slice_index}
+use Rattle.std.specs.List.Sorted.{IsStrictlyIncreasing}
+use Rattle.lset_words.specs.declared.Call.{Call}
+use Rattle.lset_words.specs.declared.Call.TheVariants as call
+use Rattle.lset_words.specs.declared.Reply.{Reply}
+use Rattle.lset_words.specs.declared.Reply.TheVariants.{True}
+use Rattle.lset_words.specs.Words.{word_count}
+use Rattle.lset_words.specs.Log.{Log, Entry, Change, last_call, begun_at, has_changed}
+use Rattle.lset_words.specs.Log.Entry.{began, stepped}
+use Rattle.lset_words.specs.Account.{Account, Contents, Counts, Same, Changes, MayChange, RightReply, count_after}
+use Rattle.lset_steps.specs.declared.Local.{Local}
+use Rattle.lset_steps.specs.declared.Action.{Action}
+use Rattle.lset_steps.specs.declared.Action.TheVariants.{Load, Store, Exchange}
+use Rattle.lset_steps.specs.declared.Event.{Event}
+use Rattle.lset_steps.specs.declared.Event.TheVariants.{Begin, Go}
+use Rattle.lset_steps.specs.Steps.{Table, State, Run, state_at, local_of, log_of}
+use Rattle.lset_steps.specs.Chain.{View, InContent, IsChain, UnmarkedInChain, UnlinkedStays, contents_of, counts_of}
+use Rattle.lset_steps.specs.Laws.{Registers, IsLockWord, LockUse, word_named, views}
+use Rattle.lset_steps.specs.Worlds.{IsContent}
+
+-- [In range]: the registers of each thread are in range, and the next action of an open call names a word of the table.
+pub record ThreadInRange (T : Table) (n q t : ℕ) (l : Local) : Type 0 where
+  pub registers : Registers n q t l
+  pub action : l.pc ≢ 0 → word_named (T.next l) < word_count n q
+
+abbrev pub InRange : Table → Type 0
+InRange T = (n q last k t : ℕ) (es : ℕ → Event) → Run T n q es last → k ≤ last → t < n
+    → ThreadInRange T n q t (local_of (state_at T n q es k) t)
+
+-- [Sorted chain]: the chain reaches the tail, node 1, and its keys rise strictly, the tail's too.
+pub record ChainIsSorted (v : View) : Type 0 where
+  pub nodes : List ℕ
+  pub chain : IsChain v nodes
+  pub rising : IsStrictlyIncreasing (map v.key (nodes ++ 1 ∷ []))
+
+abbrev pub SortedChain : Table → Type 0
+SortedChain T = (n q last k : ℕ) (es : ℕ → Event) → Run T n q es last → k ≤ last → ChainIsSorted (views T n q es k)
+
+-- [Lock words]: a lock word is t + 1 from the successful try of thread t to its storing of 0, and else 0. What it is, by the
+-- tries and the storings of a run alone: first after one action of thread t,
+abbrev pub held : ℕ → ℕ → ℕ → Action → ℕ
+held x t old (Load w) = old
+held x t old (Store w v) = if w == x then 0 else old
+held x t old (Exchange w o v) = if w == x then (if old == 0 then t + 1 else old) else old
+
+-- then after one event,
+abbrev pub held_after : Table → State → ℕ → ℕ → Event → ℕ
+held_after T s x old (Begin t call) = old
+held_after T s x old (Go t) = held x t old (T.next (local_of s t))
+
+-- and at each moment of a run.
+abbrev pub holder : Table → ℕ → ℕ → (ℕ → Event) → ℕ → ℕ → ℕ
+holder T n q es x zero = 0
+holder T n q es x (suc k) = held_after T (state_at T n q es k) x (holder T n q es x k) (es k)
+
+abbrev pub LockWords : Table → Type 0
+LockWords T = (n q last k x : ℕ) (es : ℕ → Event) → Run T n q es last → k ≤ last → IsLockWord x → x < word_count n q
+    → slice_index (state_at T n q es k).words x ≡ holder T n q es x k
+
+-- An exchange of a lock word is a try of its thread, and 0 is stored there only by the thread that has the lock; nothing else is.
+abbrev pub LockUses : Table → Type 0
+LockUses T = (n q last k t : ℕ) (es : ℕ → Event) → Run T n q es last → k < last → es k ≡ Go t
+    → LockUse (state_at T n q es k).words t (T.next (local_of (state_at T n q es k) t))
+
+-- [Unlinked stays]: what a node that is published at the moment j keeps up to a later moment k
+abbrev pub UnlinkedNodesStay : Table → Type 0
+UnlinkedNodesStay T = (n q last j k i : ℕ) (es : ℕ → Event) → Run T n q es last → j ≤ k → k ≤ last
+    → (views T n q es j).published i → UnlinkedStays T.marks (views T n q es j) (views T n q es k) i
+
+-- [Unmarked in chain]
+abbrev pub UnmarkedNodesInChain : Table → Type 0
+UnmarkedNodesInChain T = (n q last k : ℕ) (es : ℕ → Event) → Run T n q es last → k ≤ last
+    → UnmarkedInChain T.marks (views T n q es k)
+
+-- [Named change]: what the entry k of a log does to the content and to the threads' counts of successful adds, and which call may
+-- do it: the one that its thread has begun last, once a call.
+abbrev pub ChangeIsNamed : ℕ → ℕ → Log → Contents → Counts → ℕ → Entry → Type 0
+ChangeIsNamed threads quota log contents counts k (began t call) =
+    Same (contents k) (contents (suc k))
+    × ((u : ℕ) → u < threads → counts (suc k) u ≡ counts k u)
+ChangeIsNamed threads quota log contents counts k (stepped t change reply) =
+    Changes change (contents k) (contents (suc k))
+    × MayChange quota (counts k t) (last_call log t k) (has_changed log t k) change
+    × (counts (suc k) t ≡ count_after change (counts k t))
+    × ((u : ℕ) → u < threads → u ≢ t → counts (suc k) u ≡ counts k u)
+
+abbrev pub NamedChange : Table → Type 0
+NamedChange T = (n q last k : ℕ) (es : ℕ → Event) → Run T n q es last → k < last
+    → ChangeIsNamed n q (log_of T n q es) (contents_of (views T n q es)) (counts_of (views T n q es)) k (log_of T n q es k)
+
+-- [Replies fit]: a call that ends at the entry k has made a change and answers True, or its reply fits one of its moments.
+abbrev pub RepliesFit : Table → Type 0
+RepliesFit T = (n q last k t : ℕ) (es : ℕ → Event) (change : Option Change) (reply : Reply) → Run T n q es last → k < last
+    → log_of T n q es k ≡ stepped t change (Some reply)
+    → RightReply (has_changed (log_of T n q es) t (suc k)) q (contents_of (views T n q es)) (counts_of (views T n q es))
+    (begun_at (log_of T n q es) t k) (suc k) t (last_call (log_of T n q es) t k) (Some reply)
+
+-- a call that only reads
+abbrev pub IsRead : Call → Type 0
+IsRead (call.Add k) = ⊥
+IsRead (call.Remove k) = ⊥
+IsRead (call.Contains k) = Unit {0}
+
+-- An Add or a Remove that ends without a change does not answer True.
+abbrev pub TrueMeansChange : Table → Type 0
+TrueMeansChange T = (n q last k t : ℕ) (es : ℕ → Event) (change : Option Change) → Run T n q es last → k < last
+    → log_of T n q es k ≡ stepped t change (Some True)
+    → (has_changed (log_of T n q es) t (suc k) ≡ true) ⊎ IsRead (last_call (log_of T n q es) t k)
+
+-- All of it together, with no word of nodes or locks: every run has an account.
+abbrev pub HasAccount : Table → Type 0
+HasAccount T = (n q last : ℕ) (es : ℕ → Event) → Run T n q es last
+    → Account n q last (log_of T n q es) (contents_of (views T n q es)) (counts_of (views T n q es))
+
+-- The content at each moment is one rising list of keys, each below 2^32.
+pub record ContentIsListed (v : View) : Type 0 where
+  pub keys : List ℕ
+  pub rising : IsContent v keys
+  pub member : (k : ℕ) → InContent v k → Contains keys k
+  pub only : (k : ℕ) → Contains keys k → InContent v k
+  pub low : (k : ℕ) → InContent v k → k < 2 ^ 32
+
+abbrev pub ListedContent : Table → Type 0
+ListedContent T = (n q last k : ℕ) (es : ℕ → Event) → Run T n q es last → k ≤ last → ContentIsListed (views T n q es k)
