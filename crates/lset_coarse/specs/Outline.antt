@@ -458,7 +458,7 @@ coarse_discipline = record {
     ckey = omega arith;
   };
   begins = λ q t vs now v call l e s k. at1 refl refl;
-  waits = waits;
+  waits = λ q t vs first now v done l e. waits q t vs first now v done l;
   goes = λ n q t vs first now ws used done locals h ths tn busy. go_by n q t vs first now ws used done locals h ths tn
       (ths t tn).at busy;
 }

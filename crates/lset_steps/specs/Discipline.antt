@@ -68,7 +68,7 @@ pub record Discipline (T : Table) (marks : Bool) (At : Outline) : Type 1 where
       → Registers n q t (T.begin call l)
   pub begins : (q t : ℕ) (vs : ℕ → View) (now : ℕ) (v : View) (call : Call) (l : Local) → vs now ≡ v → IsOrdered v
       → v.key 0 ≡ 0 → At q t vs now now v false (T.begin call l)
-  pub waits : (q t : ℕ) (vs : ℕ → View) (first now : ℕ) (v : View) (done : Bool) (l : Local)
+  pub waits : (q t : ℕ) (vs : ℕ → View) (first now : ℕ) (v : View) (done : Bool) (l : Local) → vs now ≡ v
       → At q t vs first now v done l → At q t vs first (suc now) v done l
   pub goes : (n q t : ℕ) (vs : ℕ → View) (first : ℕ → ℕ) (now : ℕ) (ws : List ℕ) (used : ℕ → ℕ) (done : ℕ → Bool)
       (locals : ℕ → Local)
@@ -284,7 +284,7 @@ module _ (T : Table) (marks : Bool) (At : Outline) (d : Discipline T marks At) (
                 registers = x.registers;
                 counts = x.counts;
                 begun = (let b : first u ≤ k = x.begun in omega arith);
-                at = d.waits q u vs (first u) k (view n q s.words (used_in s)) (done u) (local_of s u) x.at;
+                at = d.waits q u vs (first u) k (view n q s.words (used_in s)) (done u) (local_of s u) i.present x.at;
               }))
         ];
       }

@@ -23,3 +23,5 @@ pub mod RunContents
 pub mod LockWords
 pub mod RunAccount
 pub mod SmallLocals
+pub mod Held
+pub mod Turns

@@ -1,0 +1,7 @@
+use Rattle.lset_steps.specs.SmallLocals.{small_sees}
+use Rattle.lset_fine.specs.Fine.{fine}
+use Rattle.lset_fine.specs.Lawful.{fine_lawful}
+use Rattle.lset_fine.proofs.FineListMachine.feed.Goals as goal
+
+pub local_after-requires : goal.local_after-requires
+local_after-requires c = small_sees fine fine_lawful c.args.local.now c.args.seen c.requires

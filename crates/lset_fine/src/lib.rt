@@ -1,0 +1,153 @@
+//! FineList: node locks, taken hand over hand (Herlihy and Shavit's fine-grained list).
+#![tactic(auto)]
+
+ghost use Rattle.std.specs.Prelude.{◌≡◌, ◌+◌, ◌≤◌};
+ghost use Rattle.lset_words.specs.Words.{lock_index};
+ghost use Rattle.lset_steps.specs.Rows.{IsSmall};
+ghost use Rattle.lset_fine.specs.Fine.{fine, next_action, at_key, local_after};
+ghost use Rattle.lset_fine.specs.Lawful.{fine_lawful};
+
+use lset_steps::rows::{Targets, begun, decide, key_index, link_index, lock_index, own_slot};
+use lset_steps::{Action, Fed, Local, Machine};
+use lset_words::{Call, Key, Kind, Reply};
+
+/// The list with a lock in each node: a walk locks a node before it gives up the one behind it (Herlihy
+/// and Shavit's fine-grained list, by this project's own table).
+#[derive(Clone, Copy, Debug, PartialEq, Eq)]
+pub struct FineList;
+
+const HEAD: u64 = 0;
+
+/// The rows to which a call goes on from its decision.
+const TARGETS: Targets = Targets {
+    adds: 7,
+    removes: 10,
+    leaves: 12,
+};
+
+/// The try of a node's lock.
+fn try_lock(node: u64, local: &Local) -> Action
+    requires local { IsSmall local.now }
+    requires node { node ≤ 1048578 }
+    ensures { result ≡ Action.Exchange (lock_index node) 0 (local.now.thread + 1) }
+{
+    Action::Exchange(lock_index(node), 0, u64::from(local.thread) + 1)
+}
+
+fn next_action(local: &Local) -> Action
+    requires { IsSmall local.now }
+    ensures { result ≡ next_action local.now }
+{
+    match local.pc {
+        1 => try_lock(HEAD, local),
+        2 => Action::Load(link_index(HEAD)),
+        3 => try_lock(local.curr, local),
+        4 => Action::Load(key_index(local.curr)),
+        6 | 10 => Action::Load(link_index(local.curr)),
+        7 => Action::Store(key_index(own_slot(local)), local.call.key().word()),
+        8 => Action::Store(link_index(own_slot(local)), 2 * local.curr),
+        9 => Action::Store(link_index(local.pred), 2 * own_slot(local)),
+        11 => Action::Store(link_index(local.pred), 2 * local.succ),
+        12 => Action::Store(lock_index(local.curr), 0),
+        _ => Action::Store(lock_index(local.pred), 0),
+    }
+}
+
+/// Walks on where the key word is below that of the call, and else decides.
+fn at_key(local: &Local, seen: u64) -> Local
+    ensures { result ≡ at_key seen local.now }
+{
+    let local = Local {
+        ckey: seen,
+        ..*local
+    };
+    if seen < local.call.key().word() {
+        Local { pc: 5, ..local }
+    } else {
+        decide(TARGETS, seen, local)
+    }
+}
+
+fn local_after(local: &Local, seen: u64) -> Local
+    requires { IsSmall local.now }
+    ensures { result ≡ local_after local.now seen }
+{
+    match local.pc {
+        1 if seen == 0 => Local {
+            pc: 2,
+            pred: HEAD,
+            ..*local
+        },
+        1 => Local { pc: 1, ..*local },
+        2 => Local {
+            pc: 3,
+            curr: seen / 2,
+            ..*local
+        },
+        3 if seen == 0 => Local { pc: 4, ..*local },
+        3 => Local { pc: 3, ..*local },
+        4 => at_key(local, seen),
+        5 => Local { pc: 6, ..*local },
+        6 => Local {
+            pc: 3,
+            pred: local.curr,
+            curr: seen / 2,
+            ..*local
+        },
+        7 => Local { pc: 8, ..*local },
+        8 => Local { pc: 9, ..*local },
+        9 => Local {
+            pc: 12,
+            reply: Some(Reply::True),
+            used: local.used + 1,
+            ..*local
+        },
+        10 => Local {
+            pc: 11,
+            succ: seen / 2,
+            ..*local
+        },
+        11 => Local {
+            pc: 12,
+            reply: Some(Reply::True),
+            ..*local
+        },
+        12 => Local { pc: 13, ..*local },
+        _ => Local { pc: 0, ..*local },
+    }
+}
+
+impl Machine for FineList {
+    const KIND: Kind = Kind::Fine;
+
+    ghost table = { fine };
+
+    fn begin(call: Call, local: &Local) -> Local {
+        begun(1, call, local)
+    }
+
+    fn next(local: &Local) -> Action {
+        next_action(local)
+    }
+
+    fn feed(local: &Local, seen: u64) -> Fed {
+        let answer = if local.pc == 13 { local.reply } else { None };
+        Fed {
+            local: local_after(local, seen),
+            answer,
+        }
+    }
+
+    fn effect(local: &Local, _seen: u64) -> Option<(Key, bool)> {
+        match local.pc {
+            9 => Some((local.call.key(), true)),
+            11 => Some((local.call.key(), false)),
+            _ => None,
+        }
+    }
+
+    ghost lawful = { fine_lawful };
+}
+
+#[cfg(test)]
+mod tests;
