@@ -1,3 +1,7 @@
+pub mod History
+pub mod Oracle
+pub mod Faults
+pub mod Checks
 pub mod Lists
 pub mod Keys
 pub mod Calls

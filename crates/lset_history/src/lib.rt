@@ -1,9 +1,23 @@
-//! Histories of calls: the order in which a run's calls stand, and why it linearizes their history.
+//! The sequential set, histories of calls, the check of an order of calls, and the order of placement:
+//! where a run's calls stand, and why that order linearizes their history. Nothing here knows nodes,
+//! links, locks or marks.
 #![tactic(auto)]
 
+mod checker;
+mod fault;
+mod history;
+mod oracle;
 mod placement;
 
+pub use checker::check_order;
+pub use fault::{HistoryFault, OrderFault};
+pub use history::History;
+pub use lset_words::{CallRecord, Placed};
+pub use oracle::Oracle;
 pub use placement::{
     every_call_has_a_place, fits_are_replies, logs_tell_histories, placement_is_one_order,
     placement_linearizes,
 };
+
+#[cfg(test)]
+mod tests;

@@ -1,0 +1,156 @@
+-- The walk from the last place of an order to the first: the least end so far, and the calls that stand too early.
+use Rattle.std.proofs.Common.{◌≡◌, ℕ, ◌<◌, ◌≤◌, List, length, Option, Some, None, refl, sym, subst, ⊎_elim, inl, inr, ◌⊎◌, suc, arith}
+use Rattle.std.proofs.lemmas.Bool.{cases_order, cases_lt}
+use Rattle.std.specs.Option.{IsSomeAnd, MatchOption}
+use Rattle.lset_words.specs.declared.Reply.{Reply}
+use Rattle.lset_words.specs.declared.history.CallRecord.{CallRecord}
+use Rattle.lset_words.specs.declared.history.Placed.{Placed}
+use Rattle.lset_history.specs.Checks.{least_with}
+use Rattle.lset_history.specs.Faults.{place_at, placed_call, IsTooEarly, Passes, RefusesFirst}
+
+-- a call that ended before a moment stands at a place from i on
+abbrev pub EndsBefore : ℕ → Option (ℕ × Reply) → Type 0
+EndsBefore moment ended = IsSomeAnd ended (λ (end : ℕ × Reply). end.0 < moment)
+
+abbrev pub EndsFrom : List CallRecord → List Placed → ℕ → ℕ → Type 0
+EndsFrom calls order i moment =
+    (later : ℕ) × (i ≤ later) × (later < length order) × EndsBefore moment (placed_call calls order later).ended
+
+-- the least end of the calls at the places from i on, if one of them has ended
+pub record EndsLeast (calls : List CallRecord) (order : List Placed) (i : ℕ) (least : Option ℕ) : Type 0 where
+  pub below : (moment : ℕ) → IsSomeAnd least (λ end. end < moment) → EndsFrom calls order i moment
+  pub ends : (moment : ℕ) → EndsFrom calls order i moment → IsSomeAnd least (λ end. end < moment)
+
+-- the first place from i on that stands too early
+pub record EarlyFrom (calls : List CallRecord) (order : List Placed) (i number : ℕ) : Type 0 where
+  pub place : ℕ
+  pub from : i ≤ place
+  pub inside : place < length order
+  pub names : (place_at order place).call ≡ number
+  pub refused : IsTooEarly calls order place
+  pub first : (earlier : ℕ) → i ≤ earlier → earlier < place → IsTooEarly calls order earlier → ⊥
+
+abbrev pub FindsEarly : List CallRecord → List Placed → ℕ → Option ℕ → Type 0
+FindsEarly calls order i early =
+    MatchOption early ((place : ℕ) → i ≤ place → place < length order → IsTooEarly calls order place → ⊥)
+    (EarlyFrom calls order i)
+
+-- ONE PLACE BEFORE
+holds_there : (o : Option (ℕ × Reply)) (end : ℕ) (reply : Reply) (moment : ℕ) → o ≡ Some (end, reply) → EndsBefore moment o
+    → end < moment
+holds_there o end reply moment e h = let P : Option (ℕ × Reply) → Type 0 = EndsBefore moment in subst P e h
+
+from_there : (o : Option (ℕ × Reply)) (end : ℕ) (reply : Reply) (moment : ℕ) → o ≡ Some (end, reply) → end < moment
+    → EndsBefore moment o
+from_there o end reply moment e h = let P : Option (ℕ × Reply) → Type 0 = EndsBefore moment in subst P (sym e) h
+
+never_there : (o : Option (ℕ × Reply)) (moment : ℕ) → o ≡ None → EndsBefore moment o → ⊥
+never_there o moment e h = let P : Option (ℕ × Reply) → Type 0 = EndsBefore moment in subst P e h
+
+-- of the places from j on, either j itself or one after it
+first_or_later : (calls : List CallRecord) (order : List Placed) (j moment : ℕ) → EndsFrom calls order j moment
+    → EndsBefore moment (placed_call calls order j).ended ⊎ EndsFrom calls order (suc j) moment
+first_or_later calls order j moment (k, from, inside, ends) =
+    ⊎_elim
+    (λ (e : k ≡ j). let P : ℕ → Type 0 = λ n. EndsBefore moment (placed_call calls order n).ended in inl (subst P e ends))
+    (λ (ne : (k < j) ⊎ (j < k)). inr (k, omega arith, inside, ends))
+    (cases_order k j)
+
+later_from : (calls : List CallRecord) (order : List Placed) (j moment : ℕ) → EndsFrom calls order (suc j) moment
+    → EndsFrom calls order j moment
+later_from calls order j moment (k, from, inside, ends) = (k, omega arith, inside, ends)
+
+pub least_some : (calls : List CallRecord) (order : List Placed) (j : ℕ) (least : Option ℕ) (end : ℕ) (reply : Reply)
+    → j < length order
+    → (placed_call calls order j).ended ≡ Some (end, reply) → EndsLeast calls order (suc j) least
+    → EndsLeast calls order j (Some (least_with least end))
+least_some calls order j None end reply inside e h = record {
+  below = λ moment low. (j, omega arith, inside, from_there _ end reply moment e low);
+  ends = λ moment from. ⊎_elim
+      (holds_there _ end reply moment e)
+      (λ later. absurd (h.ends moment later))
+      (first_or_later calls order j moment from);
+}
+least_some calls order j (Some m) end reply inside e h = record {
+  below = λ moment low. ⊎_elim
+      (λ (b : m < moment). later_from calls order j moment (h.below moment b))
+      (λ (a : moment ≤ m). (j, omega arith, inside, from_there _ end reply moment e (omega arith)))
+      (cases_lt m moment);
+  ends = λ moment from. ⊎_elim
+      (λ here. let low : end < moment = holds_there _ end reply moment e here in omega arith)
+      (λ later. let low : m < moment = h.ends moment later in omega arith)
+      (first_or_later calls order j moment from);
+}
+
+pub least_none : (calls : List CallRecord) (order : List Placed) (j : ℕ) (least : Option ℕ)
+    → (placed_call calls order j).ended ≡ None → EndsLeast calls order (suc j) least → EndsLeast calls order j least
+least_none calls order j least e h = record {
+  below = λ moment low. later_from calls order j moment (h.below moment low);
+  ends = λ moment from. ⊎_elim
+      (λ here. absurd (never_there _ moment e here))
+      (h.ends moment)
+      (first_or_later calls order j moment from);
+}
+
+-- the place itself is too early, or it is not
+too_early_here : (calls : List CallRecord) (order : List Placed) (j : ℕ)
+    → EndsFrom calls order (suc j) (placed_call calls order j).begun → IsTooEarly calls order j
+too_early_here calls order j (k, from, inside, ends) = (k, omega arith, inside, ends)
+
+ends_after : (calls : List CallRecord) (order : List Placed) (j : ℕ) → IsTooEarly calls order j
+    → EndsFrom calls order (suc j) (placed_call calls order j).begun
+ends_after calls order j (k, later, inside, ends) = (k, omega arith, inside, ends)
+
+pub early_here : (calls : List CallRecord) (order : List Placed) (j moment : ℕ) (least : Option ℕ) → j < length order
+    → moment ≡ (placed_call calls order j).begun → EndsLeast calls order (suc j) least → IsSomeAnd least (λ end. end < moment)
+    → FindsEarly calls order j (Some (place_at order j).call)
+early_here calls order j moment least inside e h low = record {
+  place = j;
+  from = omega arith;
+  inside = inside;
+  names = refl;
+  refused = too_early_here calls order j (let P : ℕ → Type 0 = EndsFrom calls order (suc j) in subst P e (h.below moment low));
+  first = λ earlier from before. absurd (omega arith);
+}
+
+pub early_later : (calls : List CallRecord) (order : List Placed) (j moment : ℕ) (least early : Option ℕ)
+    → moment ≡ (placed_call calls order j).begun → EndsLeast calls order (suc j) least
+    → (IsSomeAnd least (λ end. end < moment) → ⊥)
+    → FindsEarly calls order (suc j) early → FindsEarly calls order j early
+early_later calls order j moment least early e h other found = later early found
+  where
+    here : (place : ℕ) → place ≡ j → IsTooEarly calls order place → ⊥
+    here place at early =
+        let P : ℕ → Type 0 = IsTooEarly calls order in
+        let Q : ℕ → Type 0 = EndsFrom calls order (suc j) in
+        other (h.ends moment (subst Q (sym e) (ends_after calls order j (subst P at early))))
+
+    later : (early : Option ℕ) → FindsEarly calls order (suc j) early → FindsEarly calls order j early
+    later None found = λ place from inside early.
+        ⊎_elim
+        (λ (at : place ≡ j). here place at early)
+        (λ (side : (place < j) ⊎ (j < place)). found place (omega arith) inside early)
+        (cases_order place j)
+    later (Some n) found = record {
+      place = found.place;
+      from = let f = found.from in omega arith;
+      inside = found.inside;
+      names = found.names;
+      refused = found.refused;
+      first = λ earlier from before early. ⊎_elim
+          (λ (at : earlier ≡ j). here earlier at early)
+          (λ (side : (earlier < j) ⊎ (j < earlier)). found.first earlier (omega arith) before early)
+          (cases_order earlier j);
+    }
+
+-- the walk is at its end
+pub early_first : (calls : List CallRecord) (order : List Placed) (early : Option ℕ) → FindsEarly calls order 0 early
+    → MatchOption early (Passes (IsTooEarly calls order) order) (RefusesFirst (IsTooEarly calls order) order)
+early_first calls order None found = λ place inside. found place (omega arith) inside
+early_first calls order (Some n) found = record {
+  place = found.place;
+  inside = found.inside;
+  names = found.names;
+  refused = found.refused;
+  first = λ earlier before. found.first earlier (omega arith) before;
+}

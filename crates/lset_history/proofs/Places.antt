@@ -1,0 +1,176 @@
+-- Places of an order: which calls stand at the earlier ones, and what their replies come to.
+use Rattle.std.proofs.Common.{◌⊎◌, ◌≡◌, ◌≢◌, ℕ, zero, suc, ◌<◌, ◌≤◌, ◌+◌, ◌==◌, ◌||◌, true, false, cond, List, [], ◌∷◌, length, take, map, Option, Some, None, refl, sym, ap, ◌∙◌, subst, ⊎_elim, inl, inr, arith, add-one}
+use Rattle.std.specs.Ordering.{nat_cmp, is_eq}
+use Rattle.std.proofs.lemmas.List.{take-take, get_or-take, length-take}
+use Rattle.std.proofs.lemmas.List.Folds.{list_any_more}
+use Rattle.std.proofs.lemmas.Bool.{cases_eq, eqb-true, eq-eqb, ne_eqb, or_cases, or_parts, or_right, false≢true, cond-true, cond-false}
+use Rattle.std.proofs.Math.Bool.{or-false}
+use Rattle.std.specs.Option.{IfSome, IsSomeAnd}
+use Rattle.std.proofs.lemmas.List.Elements.{All-more}
+use Rattle.lset_words.specs.declared.Reply.{Reply}
+use Rattle.lset_words.specs.declared.history.CallRecord.{CallRecord}
+use Rattle.lset_words.specs.declared.history.Placed.{Placed}
+use Rattle.lset_words.specs.SequentialSet.{SetState, reply_to, after_call, IsLegal}
+use Rattle.lset_words.specs.History.{answered, call_numbered}
+use Rattle.lset_history.specs.Faults.{HasWrongReply, Passes, place_at, placed_call, left_by}
+use Rattle.lset_history.specs.Checks.{stands, in_tree, HoldsCalls, HasReply, HasOtherReply, HasReplies, after_order, after_reply}
+use Rattle.lset_history.specs.Oracle.{OracleValue}
+use Rattle.lset_history.proofs.KeySets.{same_test}
+
+-- THE CALLS THAT STAND
+-- a call that stands among the first i places stands at one of them
+pub stands_earlier : (order : List Placed) (i n : ℕ) → stands (take i order) n ≡ true
+    → (k : ℕ) × (k < i) × (k < length order) × ((place_at order k).call ≡ n)
+stands_earlier [] zero n h = absurd (false≢true h)
+stands_earlier [] (suc i) n h = absurd (false≢true h)
+stands_earlier (p ∷ ps) zero n h = absurd (false≢true h)
+stands_earlier (p ∷ ps) (suc i) n h =
+    elim (or_cases (p.call == n) (stands (take i ps) n) h) [
+      | inl e ↦ (zero, omega arith, omega arith, eqb-true p.call n e)
+      | inr e ↦
+          let rest : (k : ℕ) × (k < i) × (k < length ps) × ((place_at ps k).call ≡ n) = stands_earlier ps i n e in
+          (suc rest.0, (let low = rest.1 in omega arith), (let low = rest.2 in omega arith), rest.3)
+    ]
+
+pub stands_nowhere : (order : List Placed) (i n : ℕ) → stands (take i order) n ≡ false → (k : ℕ) → k < i → k < length order
+    → (place_at order k).call ≢ n
+stands_nowhere [] i n h k low inside = absurd (omega arith)
+stands_nowhere (p ∷ ps) zero n h k low inside = absurd (omega arith)
+stands_nowhere (p ∷ ps) (suc i) n h zero low inside = λ e.
+    let parts = or_parts (p.call == n) (stands (take i ps) n) h in false≢true (sym parts.0 ∙ eq-eqb p.call n e)
+stands_nowhere (p ∷ ps) (suc i) n h (suc k) low inside =
+    let parts = or_parts (p.call == n) (stands (take i ps) n) h in stands_nowhere ps i n parts.1 k (omega arith) (omega arith)
+
+-- one more place, whose call goes into the tree
+pub holds_more : (old new : List ℕ) (order : List Placed) (i : ℕ) → i < length order → HoldsCalls old (take i order)
+    → ((q : ℕ) → in_tree new q ≡ cond (is_eq (nat_cmp (place_at order i).call q)) true (in_tree old q))
+    → HoldsCalls new (take (i + 1) order)
+holds_more old new order i inside holds after q =
+    let call = (place_at order i).call in
+    let more = list_any_more (λ (p : Placed). p.call == q) order i (place_at [] 0) inside in
+    ⊎_elim
+    (λ (e : call ≡ q).
+    after q ∙ cond-true (is_eq (nat_cmp call q)) true (in_tree old q) (sym (same_test call q) ∙ eq-eqb q call (sym e))
+    ∙ sym (more ∙ or_right _ _ (eq-eqb call q e)))
+    (λ (ne : call ≢ q).
+    after q ∙ cond-false (is_eq (nat_cmp call q)) true (in_tree old q) (sym (same_test call q) ∙ ne_eqb q call (λ e. ne (sym e)))
+    ∙ holds q ∙ sym (more ∙ ap (λ b. stands (take i order) q || b) (ne_eqb call q ne) ∙ or-false _))
+    (cases_eq call q)
+
+-- THE REPLIES
+-- the reply of the set after the earlier places
+abbrev GivesReply : ℕ → List CallRecord → List Placed → ℕ → SetState → Type 0
+GivesReply quota calls order i s =
+    reply_to quota (left_by s calls (take i order)) (placed_call calls order i).thread (placed_call calls order i).call
+    ≡ (place_at order i).reply
+
+-- the set after one more place
+abbrev after_place : List CallRecord → List Placed → ℕ → SetState → SetState
+after_place calls order i s = after_call s (placed_call calls order i).thread (placed_call calls order i).call
+    (place_at order i).reply
+
+left_suc : (calls : List CallRecord) (order : List Placed) (i : ℕ) (s : SetState) → i < length order
+    → left_by s calls (take (suc i) order) ≡ after_place calls order i (left_by s calls (take i order))
+left_suc calls [] i s inside = absurd (omega arith)
+left_suc calls (p ∷ ps) zero s inside = refl
+left_suc calls (p ∷ ps) (suc i) s inside = left_suc calls ps i (after_place calls (p ∷ ps) 0 s) (omega arith)
+
+pub left_more : (calls : List CallRecord) (order : List Placed) (i : ℕ) (s : SetState) → i < length order
+    → left_by s calls (take (i + 1) order) ≡ after_place calls order i (left_by s calls (take i order))
+left_more calls order i s inside = rw add-one (left_suc calls order i s inside)
+
+legal_suc : (quota : ℕ) (calls : List CallRecord) (order : List Placed) (i : ℕ) (s : SetState) → i < length order
+    → IsLegal quota s (map (answered calls) (take i order)) → GivesReply quota calls order i s
+    → IsLegal quota s (map (answered calls) (take (suc i) order))
+legal_suc quota calls [] i s inside h e = absurd (omega arith)
+legal_suc quota calls (p ∷ ps) zero s inside h e = (e, tt)
+legal_suc quota calls (p ∷ ps) (suc i) s inside h e =
+    (h.0, legal_suc quota calls ps i (after_place calls (p ∷ ps) 0 s) (omega arith) h.1 e)
+
+pub legal_more : (quota : ℕ) (calls : List CallRecord) (order : List Placed) (i : ℕ) (s : SetState) → i < length order
+    → IsLegal quota s (map (answered calls) (take i order)) → GivesReply quota calls order i s
+    → IsLegal quota s (map (answered calls) (take (i + 1) order))
+legal_more quota calls order i s inside h e = rw add-one (legal_suc quota calls order i s inside h e)
+
+-- in a legal order each place has the reply of the set after the earlier ones
+pub legal_at : (quota : ℕ) (calls : List CallRecord) (order : List Placed) (i : ℕ) (s : SetState) → i < length order
+    → IsLegal quota s (map (answered calls) order) → GivesReply quota calls order i s
+legal_at quota calls [] i s inside h = absurd (omega arith)
+legal_at quota calls (p ∷ ps) zero s inside h = h.0
+legal_at quota calls (p ∷ ps) (suc i) s inside h = legal_at quota calls ps i (after_place calls (p ∷ ps) 0 s) (omega arith) h.1
+
+-- one more place with its reply
+pub replies_more : (o : OracleValue) (calls : List CallRecord) (order : List Placed) (i : ℕ) → i < length order
+    → HasReplies o calls (take i order)
+    → HasReply (after_order o calls (take i order)) (placed_call calls order i) (place_at order i).reply
+    → HasReplies o calls (take (i + 1) order)
+replies_more o calls order i inside h r = record {
+  recorded = All-more (λ (p : Placed). IfSome (call_numbered calls p.call).ended (λ (end : ℕ × Reply). end.1 ≡ p.reply))
+      order i (place_at [] 0) inside h.recorded r.recorded;
+  legal = legal_more o.quota calls order i o.state inside h.legal r.given;
+}
+
+pub order_more : (o : OracleValue) (calls : List CallRecord) (order : List Placed) (i : ℕ) → i < length order
+    → after_order o calls (take (i + 1) order)
+    ≡ after_reply (after_order o calls (take i order)) (placed_call calls order i) (place_at order i).reply
+order_more o calls order i inside =
+    ap (λ (s : SetState). let v : OracleValue = record { threads = o.threads; quota = o.quota; state = s } in v)
+    (left_more calls order i o.state inside)
+
+-- what the loop over the places knows of one place, whose call it reads as x
+pub reply_there : (o now : OracleValue) (calls : List CallRecord) (order : List Placed) (i : ℕ) (x : CallRecord)
+    → now ≡ after_order o calls (take i order) → x ≡ placed_call calls order i → HasReply now x (place_at order i).reply
+    → HasReply (after_order o calls (take i order)) (placed_call calls order i) (place_at order i).reply
+reply_there o now calls order i x e f h =
+    let F : OracleValue → Type 0 = λ v. HasReply v x (place_at order i).reply in
+    let G : CallRecord → Type 0 = λ y. HasReply (after_order o calls (take i order)) y (place_at order i).reply in
+    subst G f (subst F e h)
+
+pub other_reply_there : (o now : OracleValue) (calls : List CallRecord) (order : List Placed) (i : ℕ) (x : CallRecord)
+    → now ≡ after_order o calls (take i order) → x ≡ placed_call calls order i → HasOtherReply now x (place_at order i).reply
+    → HasWrongReply o.quota o.state calls order i
+other_reply_there o now calls order i x e f h =
+    let F : OracleValue → Type 0 = λ v. HasOtherReply v x (place_at order i).reply in
+    let G : CallRecord → Type 0 = λ y. HasOtherReply (after_order o calls (take i order)) y (place_at order i).reply in
+    subst G f (subst F e h)
+
+pub goes_on_there : (o now : OracleValue) (calls : List CallRecord) (order : List Placed) (i : ℕ) (x : CallRecord)
+    → i < length order
+    → now ≡ after_order o calls (take i order) → x ≡ placed_call calls order i
+    → after_reply now x (place_at order i).reply ≡ after_order o calls (take (i + 1) order)
+goes_on_there o now calls order i x inside e f =
+    let reply = (place_at order i).reply in
+    ap (λ (v : OracleValue). after_reply v x reply) e
+    ∙ ap (λ (y : CallRecord). after_reply (after_order o calls (take i order)) y reply) f
+    ∙ sym (order_more o calls order i inside)
+
+-- no wrong reply
+other_end : (o : Option (ℕ × Reply)) (reply : Reply) → IfSome o (λ (end : ℕ × Reply). end.1 ≡ reply)
+    → IsSomeAnd o (λ (end : ℕ × Reply). end.1 ≢ reply) → ⊥
+other_end None reply h w = w
+other_end (Some e) reply h w = w h
+
+pub passes_replies : (o : OracleValue) (calls : List CallRecord) (order : List Placed) → HasReplies o calls order
+    → Passes (HasWrongReply o.quota o.state calls order) order
+passes_replies o calls order h place low (inl w) = other_end _ _ (h.recorded place (place_at [] 0) low) w
+passes_replies o calls order h place low (inr w) = w (legal_at o.quota calls order place o.state low h.legal)
+
+-- a wrong reply of an earlier place shows in the first i places alone
+abbrev IsWrong : ℕ → SetState → List CallRecord → List Placed → Placed → Type 0
+IsWrong quota s calls front p =
+    IsSomeAnd (call_numbered calls p.call).ended (λ (end : ℕ × Reply). end.1 ≢ p.reply)
+    ⊎ (reply_to quota (left_by s calls front) (call_numbered calls p.call).thread (call_numbered calls p.call).call ≢ p.reply)
+
+wrong_in_front : (quota : ℕ) (s : SetState) (calls : List CallRecord) (order : List Placed) (i k : ℕ) → k < i
+    → HasWrongReply quota s calls order k → HasWrongReply quota s calls (take i order) k
+wrong_in_front quota s calls order i k low w =
+    let F : Placed → Type 0 = IsWrong quota s calls (take k order) in
+    let G : List Placed → Type 0 = λ front. IsWrong quota s calls front (place_at (take i order) k) in
+    subst G (sym (take-take k i order (omega arith))) (subst F (sym (get_or-take i order k (place_at [] 0) low)) w)
+
+pub right_before : (o : OracleValue) (calls : List CallRecord) (order : List Placed) (i : ℕ) → i ≤ length order
+    → HasReplies o calls (take i order)
+    → (k : ℕ) → k < i → HasWrongReply o.quota o.state calls order k → ⊥
+right_before o calls order i inside h k low w =
+    passes_replies o calls (take i order) h k (omega (arith, length-take i order))
+    (wrong_in_front o.quota o.state calls order i k low w)

@@ -1,0 +1,87 @@
+-- What the sequential set answers, from what its tree of keys and its counts tell.
+use Rattle.std.proofs.Common.{◌≡◌, ℕ, ◌≤◌, ◌≢◌, ◌==◌, ◌+◌, Bool, true, false, cond, List, get_or, refl, sym, ◌∙◌, arith}
+use Rattle.std.specs.List.{list_any}
+use Rattle.std.specs.List.Sorted.{IsStrictlyIncreasing, IsStrictlySortedBy}
+use Rattle.std.specs.Ordering.{nat_cmp}
+use Rattle.std.specs.BTreeMap.{is_at}
+use Rattle.std.specs.BTreeSet.{insert_key}
+use Rattle.std.specs.Set.{remove_key}
+use Rattle.std.proofs.Math.ListN.{set}
+use Rattle.std.proofs.lemmas.List.{length-set}
+use Rattle.std.proofs.lemmas.List.Elements.{All-set}
+use Rattle.std.proofs.lemmas.Map.Keys.{sorted_from_strictly_increasing, IsStrictlyIncreasing-from_sorted}
+use Rattle.std.proofs.lemmas.Bool.{cond-true, cond-false, eq-eqb, ne_eqb}
+use Rattle.lset_words.specs.declared.Key.{Key}
+use Rattle.lset_words.specs.declared.Call.TheVariants.{Add, Remove, Contains}
+use Rattle.lset_words.specs.declared.Reply.TheVariants.{True, False, Full}
+use Rattle.lset_words.specs.SequentialSet.{SetState, has_key}
+use Rattle.lset_history.specs.Oracle.{OracleValue, set_of, Answers, KeepsCounts}
+use Rattle.lset_history.proofs.KeySets.{has_key_tree, with_key_tree, without_key_tree, without_absent}
+
+abbrev in_tree : ℕ → List ℕ → Bool
+in_tree k keys = list_any (is_at (nat_cmp k)) keys
+
+pub add_present : (o : OracleValue) (t : ℕ) (k : Key) → in_tree k.0 o.state.keys ≡ true → Answers o o t (Add k) False
+add_present o t k h = record {
+  reply_is = sym (cond-true (has_key k.0 o.state.keys) False _ (has_key_tree k.0 o.state.keys ∙ h));
+  state_is = refl;
+}
+
+pub add_full : (o : OracleValue) (t : ℕ) (k : Key) (count : ℕ) → count ≡ get_or o.state.counts t 0
+    → in_tree k.0 o.state.keys ≡ false → count ≡ o.quota
+    → Answers o o t (Add k) Full
+add_full o t k count read h full = record {
+  reply_is = sym (cond-false (has_key k.0 o.state.keys) False _ (has_key_tree k.0 o.state.keys ∙ h)
+      ∙ cond-true (get_or o.state.counts t 0 == o.quota) Full True (eq-eqb _ _ (sym read ∙ full)));
+  state_is = refl;
+}
+
+pub add_new : (quota : ℕ) (s : SetState) (t : ℕ) (k : Key) (count : ℕ) → count ≡ get_or s.counts t 0
+    → in_tree k.0 s.keys ≡ false → count ≢ quota
+    → Answers (set_of quota s.keys s.counts)
+    (set_of quota (insert_key nat_cmp s.keys k.0) (set s.counts t (count + 1)))
+    t (Add k) True
+add_new quota s t k count read h room =
+    let absent = has_key_tree k.0 s.keys ∙ h in
+    record {
+      reply_is = sym (cond-false (has_key k.0 s.keys) False _ absent
+          ∙ cond-false (get_or s.counts t 0 == quota) Full True (ne_eqb _ _ (λ e. room (read ∙ e))));
+      state_is = rw (length-set s.counts t (count + 1), ← with_key_tree k.0 s.keys absent, read) refl;
+    }
+
+pub removed : (quota : ℕ) (s : SetState) (t : ℕ) (k : Key) (found : Bool) → found ≡ in_tree k.0 s.keys
+    → IsStrictlyIncreasing s.keys
+    → Answers (set_of quota s.keys s.counts)
+    (set_of quota (remove_key (is_at (nat_cmp k.0)) s.keys) s.counts)
+    t (Remove k) (cond found True False)
+removed quota s t k true e rising = record {
+  reply_is = sym (cond-true (has_key k.0 s.keys) True False (has_key_tree k.0 s.keys ∙ sym e));
+  state_is = rw (← without_key_tree k.0 s.keys (sorted_from_strictly_increasing s.keys rising)) refl;
+}
+removed quota s t k false e rising = record {
+  reply_is = sym (cond-false (has_key k.0 s.keys) True False (has_key_tree k.0 s.keys ∙ sym e));
+  state_is = rw (
+    ← without_key_tree k.0 s.keys (sorted_from_strictly_increasing s.keys rising),
+    without_absent k.0 s.keys
+        (has_key_tree k.0 s.keys ∙ sym e),
+  ) refl;
+}
+
+pub contained : (o : OracleValue) (t : ℕ) (k : Key) (found : Bool) → found ≡ in_tree k.0 o.state.keys
+    → Answers o o t (Contains k) (cond found True False)
+contained o t k true e = record {
+  reply_is = sym (cond-true (has_key k.0 o.state.keys) True False (has_key_tree k.0 o.state.keys ∙ sym e));
+  state_is = refl;
+}
+contained o t k false e = record {
+  reply_is = sym (cond-false (has_key k.0 o.state.keys) True False (has_key_tree k.0 o.state.keys ∙ sym e));
+  state_is = refl;
+}
+
+pub keeps_add : (quota : ℕ) (s : SetState) (t count : ℕ) (keys : List ℕ) → KeepsCounts quota s
+    → IsStrictlySortedBy nat_cmp keys → count ≤ quota → count ≢ quota
+    → KeepsCounts quota (record { keys = keys; counts = set s.counts t (count + 1) })
+keeps_add quota s t count keys kept sorted low room = record {
+  rising = IsStrictlyIncreasing-from_sorted keys sorted;
+  few = All-set (λ c. c ≤ quota) s.counts t (count + 1) (omega arith) kept.few;
+}

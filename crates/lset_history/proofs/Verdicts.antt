@@ -1,0 +1,327 @@
+-- What the single checks of an order come to: its faults, and that it explains the history.
+use Rattle.std.proofs.Common.{◌≡◌, ◌≢◌, ℕ, ◌<◌, ◌==◌, true, false, List, [], length, get_or, Option, Some, None, is_some, refl, sym, ap, ◌∙◌, subst, ⊎_elim, inl, inr, ◌⊎◌, arith}
+use Rattle.std.specs.List.{All, AllPairs, Contains}
+use Rattle.std.specs.List.Sorted.{IsStrictlyIncreasing}
+use Rattle.std.specs.Option.{IfSome, IsSomeAnd, IsSome, MatchOption}
+use Rattle.std.proofs.lemmas.Option.{MatchOption-at_none}
+use Rattle.std.proofs.lemmas.List.{get_or_default, take_all}
+use Rattle.std.proofs.lemmas.List.Folds.{list_any_none}
+use Rattle.std.proofs.lemmas.Bool.{cases_Bool, cases_order, ne_eqb, false≢true}
+use Rattle.lset_words.specs.declared.Reply.{Reply}
+use Rattle.lset_words.specs.declared.history.CallRecord.{CallRecord}
+use Rattle.lset_words.specs.declared.history.Placed.{Placed}
+use Rattle.lset_words.specs.SequentialSet.{SetState, empty_set}
+use Rattle.lset_words.specs.History.{call_numbered, Precedes, Linearizes, IsHistory}
+use Rattle.lset_history.specs.History.{HistoryValue}
+use Rattle.lset_history.specs.Oracle.{OracleValue}
+use Rattle.lset_history.specs.declared.fault.OrderFault.{OrderFault}
+use Rattle.lset_history.specs.declared.fault.OrderFault.TheVariants.{Unknown, Twice, Missing, WrongReply, TooEarly, WrongSet, Memory}
+use Rattle.lset_history.specs.Faults.{Explains, IsFault, Passes, RefusesFirst, MissesNone, MissesFirst, IsMissing, IsUnknown, IsTwice, HasWrongReply, IsTooEarly, place_at, left_by}
+use Rattle.lset_history.specs.Checks.{HasKnownCalls, stands, HoldsCalls, IsLeftOut, HasReplies, after_order}
+use Rattle.lset_history.proofs.Histories.{IsCall, calls_of}
+use Rattle.lset_history.proofs.Places.{stands_earlier, stands_nowhere, legal_at, passes_replies}
+
+-- a place, read with any default
+read_place : (order : List Placed) (i : ℕ) (d : Placed) → i < length order → get_or order i d ≡ place_at order i
+read_place order i d low = get_or_default order i d (place_at [] 0) low
+
+-- NO UNKNOWN CALL
+pub passes_known : (calls : List CallRecord) (order : List Placed) → HasKnownCalls calls order
+    → Passes (IsUnknown calls order) order
+passes_known calls order known place low unknown = let h = known place (place_at [] 0) low in omega arith
+
+-- NO MISSING CALL
+absent_stands : (order : List Placed) (n : ℕ) → All (λ (p : Placed). p.call ≢ n) order → stands order n ≡ false
+absent_stands order n absent = list_any_none (λ (p : Placed). p.call == n) order (λ k d low. ne_eqb _ n (absent k d low))
+
+stands_absent : (order : List Placed) (n : ℕ) → stands order n ≡ false → All (λ (p : Placed). p.call ≢ n) order
+stands_absent order n h k d low =
+    let P : Placed → Type 0 = λ p. p.call ≢ n in
+    let Q : List Placed → Type 0 = λ ps. stands ps n ≡ false in
+    let whole = subst Q (sym (take_all (length order) order (omega arith))) h in
+    subst P (sym (read_place order k d low)) (stands_nowhere order (length order) n whole k low low)
+
+left_out : (calls : List CallRecord) (order : List Placed) (keys : List ℕ) (n : ℕ) → HoldsCalls keys order
+    → IsMissing calls order n → IsLeftOut calls keys n
+left_out calls order keys n holds m =
+    record { known = m.known; ended = m.ended; absent = holds n ∙ absent_stands order n m.absent }
+
+pub misses_none : (calls : List CallRecord) (order : List Placed) (keys : List ℕ) → HoldsCalls keys order
+    → ((n : ℕ) → IsLeftOut calls keys n → ⊥) → MissesNone calls order
+misses_none calls order keys holds none n m = none n (left_out calls order keys n holds m)
+
+pub misses_first : (calls : List CallRecord) (order : List Placed) (keys : List ℕ) (n : ℕ) → HoldsCalls keys order
+    → IsLeftOut calls keys n × ((k : ℕ) → k < n → IsLeftOut calls keys k → ⊥) → MissesFirst calls order n
+misses_first calls order keys n holds h = record {
+  missing = record { known = h.0.known; ended = h.0.ended; absent = stands_absent order n (sym (holds n) ∙ h.0.absent) };
+  least = λ k low m. h.1 k low (left_out calls order keys k holds m);
+}
+
+-- THE ORDER LINEARIZES THE HISTORY
+pairs_of_places : (R : Placed → Placed → Type 0) (order : List Placed)
+    → ((i j : ℕ) → i < j → j < length order → R (place_at order i) (place_at order j)) → AllPairs R order
+pairs_of_places R order h i j d low inside =
+    let F : Placed → Type 0 = λ p. R p (get_or order j d) in
+    let G : Placed → Type 0 = λ r. R (place_at order i) r in
+    subst F (sym (read_place order i d (omega arith))) (subst G (sym (read_place order j d inside)) (h i j low inside))
+
+reply_of_end : (o : Option (ℕ × Reply)) (end : ℕ) (reply other : Reply) → o ≡ Some (end, reply)
+    → IfSome o (λ (e : ℕ × Reply). e.1 ≡ other) → reply ≡ other
+reply_of_end o end reply other e h =
+    let P : Option (ℕ × Reply) → Type 0 = λ v. IfSome v (λ (w : ℕ × Reply). w.1 ≡ other) in subst P e h
+
+placed_as : (p : Placed) (number : ℕ) (reply : Reply) → p.call ≡ number → p.reply ≡ reply
+    → p ≡ record { call = number; reply = reply }
+placed_as p number reply e f =
+    ap (λ (n : ℕ). let v : Placed = record { call = n; reply = p.reply } in v) e
+    ∙ ap (λ (r : Reply). let v : Placed = record { call = number; reply = r } in v) f
+
+pub linearizes : (o : OracleValue) (calls : List CallRecord) (order : List Placed)
+    → HasKnownCalls calls order → Passes (IsTwice order) order → MissesNone calls order → HasReplies o calls order → Passes
+    (IsTooEarly calls order) order
+    → Linearizes o.quota o.state calls order
+linearizes o calls order known once none replies early = record {
+  known = known;
+  once = pairs_of_places (λ (p r : Placed). p.call ≢ r.call) order (λ i j low inside e. once j inside (i, low, e));
+  ended = λ number end reply low e. stands_there number end reply low e (cases_Bool (stands order number));
+  legal = replies.legal;
+  in_time = pairs_of_places (λ (p r : Placed). Precedes (call_numbered calls r.call) (call_numbered calls p.call) → ⊥) order
+      (λ i j low inside w. early i (omega arith) (j, low, inside, w));
+}
+  where
+    ended_is : (number end : ℕ) (reply : Reply) → (call_numbered calls number).ended ≡ Some (end, reply)
+        → is_some (call_numbered calls number).ended ≡ true
+    ended_is number end reply e = ap is_some e
+
+    stands_there : (number end : ℕ) (reply : Reply) → number < length calls
+        → (call_numbered calls number).ended ≡ Some (end, reply)
+        → (stands order number ≡ true) ⊎ (stands order number ≡ false) → Contains order (record { call = number; reply = reply })
+    stands_there number end reply low e (inr absent) =
+        absurd (none number (record {
+          known = low;
+          ended = ended_is number end reply e;
+          absent = stands_absent order number
+              absent;
+        }))
+    stands_there number end reply low e (inl there) =
+        let Q : List Placed → Type 0 = λ ps. stands ps number ≡ true in
+        let at : (k : ℕ) × (k < length order) × (k < length order) × ((place_at order k).call ≡ number) =
+        stands_earlier order (length order) number (subst Q (sym (take_all (length order) order (omega arith))) there) in
+        let k = at.0 in
+        let P : ℕ → Type 0 = λ n. IfSome (call_numbered calls n).ended (λ (w : ℕ × Reply). w.1 ≡ (place_at order k).reply) in
+        let recorded = subst P at.3 (replies.recorded k (place_at [] 0) at.1) in (
+          k,
+          at.1,
+          read_place order k _ at.1 ∙ placed_as (place_at order k) number reply at.3 (sym
+              (reply_of_end _ end reply _ e recorded)),
+        )
+
+-- THE ANSWERS of the check, from what its single checks tell of the calls that it reads
+abbrev opening_of : HistoryValue → OracleValue
+opening_of h = record { threads = h.threads; quota = h.quota; state = empty_set h.threads }
+
+-- the calls of the order are known and stand once, and a tree has their numbers
+pub record StandsOnce (h : HistoryValue) (calls : List CallRecord) (order : List Placed) (tree : List ℕ) : Type 0 where
+  pub calls_are : calls ≡ h.calls
+  pub known : HasKnownCalls calls order
+  pub once : Passes (IsTwice order) order
+  pub holds : HoldsCalls tree order
+
+-- and no ended call is left out, and the sequential set has opened
+pub record LeavesNoneOut (h : HistoryValue) (calls : List CallRecord) (order : List Placed) (tree : List ℕ)
+    (oracle : OracleValue) : Type 0 where
+  pub stands_once : StandsOnce h calls order tree
+  pub none_out : (number : ℕ) → IsLeftOut calls tree number → ⊥
+  pub opens : oracle ≡ opening_of h
+
+pub stands_once : (h : HistoryValue) (calls : List CallRecord) (order : List Placed) (tree : List ℕ) (twice : Option ℕ)
+    → calls ≡ h.calls → HasKnownCalls calls order → twice ≡ None
+    → MatchOption twice (Passes (IsTwice order) order) (RefusesFirst (IsTwice order) order)
+    → MatchOption twice (HoldsCalls tree order) (λ _. Unit {0})
+    → StandsOnce h calls order tree
+stands_once h calls order tree twice e known none once holds = record {
+  calls_are = e;
+  known = known;
+  once = MatchOption-at_none _ _ none once;
+  holds = MatchOption-at_none _ _ none holds;
+}
+
+pub leaves_none_out : (h : HistoryValue) (calls : List CallRecord) (order : List Placed) (tree : List ℕ)
+    (oracle : OracleValue) (threads quota : ℕ)
+    → StandsOnce h calls order tree → ((number : ℕ) → IsLeftOut calls tree number → ⊥)
+    → oracle ≡ record { threads = threads; quota = quota; state = empty_set threads } → threads ≡ h.threads → quota ≡ h.quota
+    → LeavesNoneOut h calls order tree oracle
+leaves_none_out h calls order tree oracle threads quota once none opens e f =
+    record { stands_once = once; none_out = none; opens = rw (opens, e, f) refl }
+
+-- the threads of the calls are those of the set
+pub threads_below : (h : HistoryValue) (calls : List CallRecord) (oracle : OracleValue) (threads quota : ℕ) → calls ≡ h.calls
+    → IsHistory h.threads h.calls
+    → oracle ≡ record { threads = threads; quota = quota; state = empty_set threads } → threads ≡ h.threads
+    → All (λ (x : CallRecord). x.thread < oracle.threads) calls
+threads_below h calls oracle threads quota e history opens f k d low =
+    let P : List CallRecord → Type 0 = λ xs. All (IsCall h.threads) xs in
+    let call : IsCall h.threads (get_or calls k d) = subst P (sym e) (calls_of h.threads h.calls history) k d low in
+    let own : (get_or calls k d).thread < h.threads = call.of_a_thread in
+    rw (opens, f) own
+
+none_missing : (h : HistoryValue) (order : List Placed) (tree : List ℕ) (oracle : OracleValue)
+    → LeavesNoneOut h h.calls order tree oracle → MissesNone h.calls order
+none_missing h order tree oracle l = misses_none h.calls order tree l.stands_once.holds l.none_out
+
+pub missing_fault : (h : HistoryValue) (calls : List CallRecord) (order : List Placed) (keys tree : List ℕ) (number : ℕ)
+    → StandsOnce h calls order tree
+    → IsLeftOut calls tree number × ((smaller : ℕ) → smaller < number → IsLeftOut calls tree smaller → ⊥)
+    → IsFault h order keys (Missing number)
+missing_fault h calls order keys tree number s out =
+    let P : List CallRecord → Type 0 = λ xs. HasKnownCalls xs order in
+    let Q : List CallRecord → Type 0 = λ xs.
+    IsLeftOut xs tree number × ((smaller : ℕ) → smaller < number → IsLeftOut xs tree smaller → ⊥) in (
+      passes_known h.calls order (subst P s.calls_are s.known),
+      s.once,
+      misses_first h.calls order tree number s.holds (subst Q s.calls_are out),
+    )
+
+-- the same facts of the calls of the history itself, from the opening of its set
+settled : (h : HistoryValue) (calls : List CallRecord) (order : List Placed) (tree : List ℕ) (oracle : OracleValue)
+    → LeavesNoneOut h calls order tree oracle → LeavesNoneOut h h.calls order tree (opening_of h)
+settled h calls order tree oracle l =
+    let P : List CallRecord → Type 0 = λ xs. StandsOnce h xs order tree in
+    let Q : List CallRecord → Type 0 = λ xs. (number : ℕ) → IsLeftOut xs tree number → ⊥ in
+    record {
+      stands_once = subst P l.stands_once.calls_are l.stands_once;
+      none_out = subst Q l.stands_once.calls_are l.none_out;
+      opens = refl;
+    }
+
+pub wrong_reply_fault : (h : HistoryValue) (calls : List CallRecord) (order : List Placed) (keys tree : List ℕ)
+    (oracle : OracleValue) (number : ℕ)
+    → LeavesNoneOut h calls order tree oracle → RefusesFirst (HasWrongReply oracle.quota oracle.state calls order) order number
+    → IsFault h order keys (WrongReply number)
+wrong_reply_fault h calls order keys tree oracle number l w =
+    let own = settled h calls order tree oracle l in
+    let P : OracleValue → Type 0 = λ o. RefusesFirst (HasWrongReply o.quota o.state calls order) order number in
+    let Q : List CallRecord → Type 0 = λ xs. RefusesFirst (HasWrongReply h.quota (empty_set h.threads) xs order) order number in (
+      passes_known h.calls order own.stands_once.known,
+      own.stands_once.once,
+      none_missing h order tree _ own,
+      subst Q l.stands_once.calls_are (subst P l.opens w),
+    )
+
+own_replies : (h : HistoryValue) (calls : List CallRecord) (order : List Placed) (tree : List ℕ) (oracle : OracleValue)
+    → LeavesNoneOut h calls order tree oracle → HasReplies oracle calls order → HasReplies (opening_of h) h.calls order
+own_replies h calls order tree oracle l r =
+    let P : OracleValue → Type 0 = λ o. HasReplies o calls order in
+    let Q : List CallRecord → Type 0 = λ xs. HasReplies (opening_of h) xs order in
+    subst Q l.stands_once.calls_are (subst P l.opens r)
+
+pub too_early_fault : (h : HistoryValue) (calls : List CallRecord) (order : List Placed) (keys tree : List ℕ)
+    (oracle : OracleValue) (number : ℕ)
+    → LeavesNoneOut h calls order tree oracle → HasReplies oracle calls order
+    → RefusesFirst (IsTooEarly calls order) order number
+    → IsFault h order keys (TooEarly number)
+too_early_fault h calls order keys tree oracle number l r e =
+    let own = settled h calls order tree oracle l in
+    let Q : List CallRecord → Type 0 = λ xs. RefusesFirst (IsTooEarly xs order) order number in (
+      passes_known h.calls order own.stands_once.known,
+      own.stands_once.once,
+      none_missing h order tree _ own,
+      passes_replies _ h.calls order (own_replies h calls order tree oracle l r),
+      subst Q l.stands_once.calls_are e,
+    )
+
+-- the keys that the set has after the order
+keys_after : (h : HistoryValue) (calls : List CallRecord) (order : List Placed) (tree : List ℕ) (oracle : OracleValue)
+    → LeavesNoneOut h calls order tree oracle
+    → (after_order oracle calls order).state.keys ≡ (left_by (empty_set h.threads) h.calls order).keys
+keys_after h calls order tree oracle l =
+    ap (λ (o : OracleValue). (after_order o calls order).state.keys) l.opens
+    ∙ ap (λ (xs : List CallRecord). (left_by (empty_set h.threads) xs order).keys) l.stands_once.calls_are
+
+pub wrong_set_fault : (h : HistoryValue) (calls : List CallRecord) (order : List Placed) (keys tree : List ℕ)
+    (oracle now : OracleValue)
+    → LeavesNoneOut h calls order tree oracle → HasReplies oracle calls order → Passes (IsTooEarly calls order) order
+    → now ≡ after_order oracle calls order → now.state.keys ≢ keys
+    → IsFault h order keys WrongSet
+wrong_set_fault h calls order keys tree oracle now l r e after other =
+    let own = settled h calls order tree oracle l in
+    let Q : List CallRecord → Type 0 = λ xs. Passes (IsTooEarly xs order) order in (
+      passes_known h.calls order own.stands_once.known,
+      own.stands_once.once,
+      none_missing h order tree _ own,
+      passes_replies _ h.calls order (own_replies h calls order tree oracle l r),
+      subst Q l.stands_once.calls_are e,
+      λ same. other (ap (λ (o : OracleValue). o.state.keys) after ∙ keys_after h calls order tree oracle l ∙ sym same),
+    )
+
+pub explained : (h : HistoryValue) (calls : List CallRecord) (order : List Placed) (keys tree : List ℕ) (oracle now : OracleValue)
+    → LeavesNoneOut h calls order tree oracle → HasReplies oracle calls order → Passes (IsTooEarly calls order) order
+    → now ≡ after_order oracle calls order → now.state.keys ≡ keys → IsStrictlyIncreasing now.state.keys
+    → Explains h order keys
+explained h calls order keys tree oracle now l r e after same rising =
+    let own = settled h calls order tree oracle l in
+    let P : List CallRecord → Type 0 = λ xs. Passes (IsTooEarly xs order) order in
+    record {
+      linearizes = linearizes (opening_of h) h.calls order own.stands_once.known own.stands_once.once
+          (none_missing h order tree _ own)
+          (own_replies h calls order tree oracle l r) (subst P l.stands_once.calls_are e);
+      keys_left = sym same ∙ ap (λ (o : OracleValue). o.state.keys) after ∙ keys_after h calls order tree oracle l;
+      rising = subst IsStrictlyIncreasing same rising;
+    }
+
+-- A FAULT IS NONE OF AN ORDER THAT EXPLAINS THE HISTORY
+pair_of_places : (R : Placed → Placed → Type 0) (order : List Placed) (i j : ℕ) → AllPairs R order → i < j → j < length order
+    → R (place_at order i) (place_at order j)
+pair_of_places R order i j pairs low inside = pairs i j (place_at [] 0) low inside
+
+ended_there : (o : Option (ℕ × Reply)) → IsSome o → (end : ℕ × Reply) × (o ≡ Some end)
+ended_there None h = absurd (false≢true h)
+ended_there (Some e) h = (e, refl)
+
+other_ended : (o : Option (ℕ × Reply)) (reply : Reply) → IsSomeAnd o (λ (end : ℕ × Reply). end.1 ≢ reply)
+    → (end : ℕ × Reply) × (o ≡ Some end) × (end.1 ≢ reply)
+other_ended None reply h = absurd h
+other_ended (Some e) reply h = (e, refl, h)
+
+never_missing : (quota : ℕ) (start : SetState) (calls : List CallRecord) (order : List Placed) (number : ℕ)
+    → Linearizes quota start calls order → IsMissing calls order number → ⊥
+never_missing quota start calls order number l m =
+    let end = ended_there (call_numbered calls number).ended m.ended in
+    let at : Contains order (record { call = number; reply = end.0.1 }) = l.ended number end.0.0 end.0.1 m.known end.1 in
+    m.absent at.0 (record { call = number; reply = end.0.1 }) at.1 (ap (λ (p : Placed). p.call) at.2)
+
+never_wrong : (quota : ℕ) (start : SetState) (calls : List CallRecord) (order : List Placed) (i : ℕ) → i < length order
+    → Linearizes quota start calls order → HasWrongReply quota start calls order i → ⊥
+never_wrong quota start calls order i inside l (inr w) = w (legal_at quota calls order i start inside l.legal)
+never_wrong quota start calls order i inside l (inl w) =
+    let p = place_at order i in
+    let end = other_ended (call_numbered calls p.call).ended p.reply w in
+    let x : Placed = record { call = p.call; reply = end.0.1 } in
+    let at : Contains order x = l.ended p.call end.0.0 end.0.1 (l.known i (place_at [] 0) inside) end.1 in
+    let there : place_at order at.0 ≡ x = sym (read_place order at.0 x at.1) ∙ at.2 in
+    let apart = pair_of_places (λ (q r : Placed). q.call ≢ r.call) order in
+    ⊎_elim
+    (λ (e : at.0 ≡ i). end.2 (ap (λ (q : Placed). q.reply) (sym there ∙ ap (place_at order) e)))
+    (λ (side : (at.0 < i) ⊎ (i < at.0)). ⊎_elim
+    (λ (b : at.0 < i). apart at.0 i l.once b inside (ap (λ (q : Placed). q.call) there))
+    (λ (a : i < at.0). apart i at.0 l.once a at.1 (ap (λ (q : Placed). q.call) (sym there)))
+    side)
+    (cases_order at.0 i)
+
+pub not_explained : (h : HistoryValue) (order : List Placed) (keys : List ℕ) (fault : OrderFault)
+    → IsFault h order keys fault → fault ≢ Memory → Explains h order keys → ⊥
+not_explained h order keys (Unknown number) f ne x =
+    let low = x.linearizes.known f.place (place_at [] 0) f.inside in
+    let past = f.refused in omega arith
+not_explained h order keys (Twice number) f ne x =
+    let twice = f.1.refused in
+    pair_of_places (λ (p r : Placed). p.call ≢ r.call) order twice.0 f.1.place x.linearizes.once twice.1 f.1.inside twice.2
+not_explained h order keys (Missing number) f ne x = never_missing h.quota _ h.calls order number x.linearizes f.2.missing
+not_explained h order keys (WrongReply number) f ne x =
+    never_wrong h.quota _ h.calls order f.3.place f.3.inside x.linearizes f.3.refused
+not_explained h order keys (TooEarly number) f ne x =
+    let early = f.4.refused in
+    pair_of_places (λ (p r : Placed). Precedes (call_numbered h.calls r.call) (call_numbered h.calls p.call) → ⊥) order
+    f.4.place early.0 x.linearizes.in_time early.1 early.2 early.3
+not_explained h order keys WrongSet f ne x = f.5 x.keys_left
+not_explained h order keys Memory f ne x = ne refl

@@ -1,0 +1,30 @@
+use Rattle.std.proofs.Common.{refl, sym, ◌∙◌, arith}
+use Rattle.lset_history.proofs.Keeping.{may_begin, too_early, kept_begun}
+use Rattle.lset_history.proofs.history.History.begin.Goals as goal
+
+pub returns-then-at-self-clause-refused : goal.returns-then-at-self-clause-refused
+returns-then-at-self-clause-refused c =
+    let i = c.self.inside in
+    let kept = c.self.invariant in
+    rw (← c.self.view_is) (
+      c.if-thread-self.false,
+      sym (kept.busy_if_open c.args.thread c.if-thread-self.false) ∙ c.if-self-thread.false,
+      too_early _ i.busy i.latest c.args.at kept c.if-at-self.true,
+    )
+
+pub returns-clause-accepted : goal.returns-clause-accepted
+returns-clause-accepted c =
+    rw (← c.self.view_is) (may_begin _ c.self.inside.busy c.self.inside.latest _ _ c.self.invariant c.if-thread-self.false
+    c.if-self-thread.false c.if-at-self.false)
+
+pub returns-in_default-clause-refused : goal.returns-in_default-clause-refused
+returns-in_default-clause-refused c =
+    rw (← c.self.view_is) (may_begin _ c.self.inside.busy c.self.inside.latest _ _ c.self.invariant c.if-thread-self.false
+    c.if-self-thread.false c.if-at-self.false)
+
+pub invariant_of-self-2 : goal.invariant_of-self-2
+invariant_of-self-2 c =
+    let may = may_begin _ c.self.inside.busy c.self.inside.latest c.args.thread c.args.at c.self.invariant
+    c.if-thread-self.false c.if-self-thread.false c.if-at-self.false in
+    rw c.in-Ok.ensures.items (kept_begun _ c.self.inside.busy c.self.inside.latest _ c.self.invariant may c.if-at-self.false
+    (omega arith) refl)

@@ -1,0 +1,7 @@
+use Rattle.lset_history.proofs.oracle.Oracle.apply.Goals as goal
+
+pub returns-in-Remove-clause-answers : goal.returns-in-Remove-clause-answers
+returns-in-Remove-clause-answers c = rw c.in-Remove.is (c.remove.ensures c.args.thread)
+
+pub returns-in-Contains-clause-answers : goal.returns-in-Contains-clause-answers
+returns-in-Contains-clause-answers c = rw c.in-Contains.is (c.contains.ensures c.args.thread)

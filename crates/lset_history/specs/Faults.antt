@@ -1,0 +1,96 @@
+-- When an order of calls explains a history, and else what is wrong with it first.
+use Rattle.std.specs.Prelude.{◌≡◌, ◌≢◌, ℕ, ◌<◌, ◌≤◌, ◌⊎◌, List, map, take, length, All, IsSome, IsSomeAnd, slice_index_or}
+use Rattle.std.specs.List.Sorted.{IsStrictlyIncreasing}
+use Rattle.lset_words.specs.declared.Reply.{Reply}
+use Rattle.lset_words.specs.declared.Reply.TheVariants.{True}
+use Rattle.lset_words.specs.declared.history.CallRecord.{CallRecord}
+use Rattle.lset_words.specs.declared.history.Placed.{Placed}
+use Rattle.lset_words.specs.SequentialSet.{SetState, empty_set, reply_to, set_left}
+use Rattle.lset_words.specs.History.{call_numbered, Precedes, answered, Linearizes}
+use Rattle.lset_history.specs.declared.fault.OrderFault.{OrderFault}
+use Rattle.lset_history.specs.declared.fault.OrderFault.TheVariants.{Unknown, Twice, Missing, WrongReply, TooEarly, WrongSet, Memory}
+use Rattle.lset_history.specs.History.{HistoryValue}
+
+-- the set that an order of calls leaves
+abbrev pub left_by : SetState → List CallRecord → List Placed → SetState
+left_by start calls order = set_left start (map (answered calls) order)
+
+-- The order linearizes the history, and the keys are those of the set that it leaves, rising.
+pub record Explains (h : HistoryValue) (order : List Placed) (keys : List ℕ) : Type 0 where
+  pub linearizes : Linearizes h.quota (empty_set h.threads) h.calls order
+  pub keys_left : keys ≡ (left_by (empty_set h.threads) h.calls order).keys
+  pub rising : IsStrictlyIncreasing keys
+
+-- THE CHECKS of a place in the order
+abbrev pub place_at : List Placed → ℕ → Placed
+place_at order i = slice_index_or order i (record { call = 0; reply = True })
+
+-- the call that stands at a place
+abbrev pub placed_call : List CallRecord → List Placed → ℕ → CallRecord
+placed_call calls order i = call_numbered calls (place_at order i).call
+
+-- no call has this number
+abbrev pub IsUnknown : List CallRecord → List Placed → ℕ → Type 0
+IsUnknown calls order i = length calls ≤ (place_at order i).call
+
+-- the call stands at an earlier place too
+abbrev pub IsTwice : List Placed → ℕ → Type 0
+IsTwice order i = (earlier : ℕ) × (earlier < i) × ((place_at order earlier).call ≡ (place_at order i).call)
+
+-- the history has another reply, or the sequential set gives another one after the earlier places
+abbrev pub HasWrongReply : ℕ → SetState → List CallRecord → List Placed → ℕ → Type 0
+HasWrongReply quota start calls order i =
+    let x = placed_call calls order i in
+    let reply = (place_at order i).reply in
+    IsSomeAnd x.ended (λ (end : ℕ × Reply). end.1 ≢ reply)
+    ⊎ (reply_to quota (left_by start calls (take i order)) x.thread x.call ≢ reply)
+
+-- a call that ended before this one began stands at a later place
+abbrev pub IsTooEarly : List CallRecord → List Placed → ℕ → Type 0
+IsTooEarly calls order i =
+    (later : ℕ) × (i < later) × (later < length order) × Precedes (placed_call calls order later) (placed_call calls order i)
+
+-- an ended call that does not stand in the order
+pub record IsMissing (calls : List CallRecord) (order : List Placed) (number : ℕ) : Type 0 where
+  pub known : number < length calls
+  pub ended : IsSome (call_numbered calls number).ended
+  pub absent : All (λ (p : Placed). p.call ≢ number) order
+
+-- WHAT IS WRONG FIRST
+-- a check refuses no place
+abbrev pub Passes : (ℕ → Type 0) → List Placed → Type 0
+Passes Refuses order = (place : ℕ) → place < length order → Refuses place → ⊥
+
+-- the first place that a check refuses has the call with this number
+pub record RefusesFirst (Refuses : ℕ → Type 0) (order : List Placed) (number : ℕ) : Type 0 where
+  pub place : ℕ
+  pub inside : place < length order
+  pub names : (place_at order place).call ≡ number
+  pub refused : Refuses place
+  pub first : (earlier : ℕ) → earlier < place → Refuses earlier → ⊥
+
+abbrev pub MissesNone : List CallRecord → List Placed → Type 0
+MissesNone calls order = (number : ℕ) → IsMissing calls order number → ⊥
+
+pub record MissesFirst (calls : List CallRecord) (order : List Placed) (number : ℕ) : Type 0 where
+  pub missing : IsMissing calls order number
+  pub least : (smaller : ℕ) → smaller < number → IsMissing calls order smaller → ⊥
+
+-- this is the fault, and no earlier check failed
+abbrev pub IsFault : HistoryValue → List Placed → List ℕ → OrderFault → Type 0
+IsFault h order keys (Unknown number) = RefusesFirst (IsUnknown h.calls order) order number
+IsFault h order keys (Twice number) = Passes (IsUnknown h.calls order) order × RefusesFirst (IsTwice order) order number
+IsFault h order keys (Missing number) =
+    Passes (IsUnknown h.calls order) order × Passes (IsTwice order) order × MissesFirst h.calls order number
+IsFault h order keys (WrongReply number) =
+    Passes (IsUnknown h.calls order) order × Passes (IsTwice order) order × MissesNone h.calls order
+    × RefusesFirst (HasWrongReply h.quota (empty_set h.threads) h.calls order) order number
+IsFault h order keys (TooEarly number) =
+    Passes (IsUnknown h.calls order) order × Passes (IsTwice order) order × MissesNone h.calls order
+    × Passes (HasWrongReply h.quota (empty_set h.threads) h.calls order) order
+    × RefusesFirst (IsTooEarly h.calls order) order number
+IsFault h order keys WrongSet =
+    Passes (IsUnknown h.calls order) order × Passes (IsTwice order) order × MissesNone h.calls order
+    × Passes (HasWrongReply h.quota (empty_set h.threads) h.calls order) order × Passes (IsTooEarly h.calls order) order
+    × (keys ≢ (left_by (empty_set h.threads) h.calls order).keys)
+IsFault h order keys Memory = Unit {0}

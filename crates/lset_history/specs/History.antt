@@ -1,0 +1,90 @@
+-- A history of calls as a value, and which beginnings and ends go on with it.
+use Rattle.std.specs.Prelude.{◌≡◌, ℕ, ◌<◌, ◌≤◌, ◌^◌, ◌==◌, ◌&&◌, max, Bool, true, false, List, [], ◌∷◌, ◌++◌, length, Option, Some, None, is_none, All, IfSome, slice_index_or, slice_set}
+use Rattle.std.specs.List.{list_any}
+use Rattle.lset_words.specs.declared.Reply.{Reply}
+use Rattle.lset_words.specs.declared.history.CallRecord.{CallRecord}
+use Rattle.lset_words.specs.Words.{IsWithin}
+use Rattle.lset_words.specs.History.{IsHistory, call_numbered}
+use Rattle.lset_history.specs.declared.fault.HistoryFault.{HistoryFault}
+use Rattle.lset_history.specs.declared.fault.HistoryFault.TheVariants.{NoThread, Busy, NotOpen, Time, Memory}
+
+-- the threads, their quota, and the calls by their numbers
+pub record HistoryValue : Type 0 where
+  pub threads : ℕ
+  pub quota : ℕ
+  pub calls : List CallRecord
+
+-- a thread has an open call
+abbrev pub has_open : List CallRecord → ℕ → Bool
+has_open calls thread = list_any (λ x. x.thread == thread && is_none x.ended) calls
+
+-- a moment, counted from 1, that is above every earlier one
+pub record IsLater (calls : List CallRecord) (at : ℕ) : Type 0 where
+  pub counted : 0 < at
+  pub begins : All (λ (x : CallRecord). x.begun < at) calls
+  pub ends : All (λ (x : CallRecord). IfSome x.ended (λ (e : ℕ × Reply). e.0 < at)) calls
+
+-- A CALL BEGINS
+pub record MayBegin (h : HistoryValue) (thread at : ℕ) : Type 0 where
+  pub of_a_thread : thread < h.threads
+  pub idle : has_open h.calls thread ≡ false
+  pub later : IsLater h.calls at
+
+-- the first cause why it does not
+abbrev pub CannotBegin : HistoryValue → ℕ → ℕ → HistoryFault → Type 0
+CannotBegin h thread at NoThread = h.threads ≤ thread
+CannotBegin h thread at Busy = (thread < h.threads) × (has_open h.calls thread ≡ true)
+CannotBegin h thread at NotOpen = ⊥
+CannotBegin h thread at Time = (thread < h.threads) × (has_open h.calls thread ≡ false) × (IsLater h.calls at → ⊥)
+CannotBegin h thread at Memory = MayBegin h thread at
+
+abbrev pub with_begun : HistoryValue → CallRecord → HistoryValue
+with_begun h x = record h { calls = h.calls ++ x ∷ [] }
+
+-- A CALL ENDS
+-- there is an open call with that number
+pub record IsOpen (calls : List CallRecord) (number : ℕ) : Type 0 where
+  pub known : number < length calls
+  pub not_ended : (call_numbered calls number).ended ≡ None
+
+pub record MayEnd (h : HistoryValue) (number at : ℕ) : Type 0 where
+  pub open_call : IsOpen h.calls number
+  pub later : IsLater h.calls at
+
+-- the first cause why it does not
+abbrev pub CannotEnd : HistoryValue → ℕ → ℕ → HistoryFault → Type 0
+CannotEnd h number at NoThread = ⊥
+CannotEnd h number at Busy = ⊥
+CannotEnd h number at NotOpen = IsOpen h.calls number → ⊥
+CannotEnd h number at Time = IsOpen h.calls number × (IsLater h.calls at → ⊥)
+CannotEnd h number at Memory = ⊥
+
+-- the call with that number, ended at a moment with a reply
+abbrev pub ended_with : CallRecord → ℕ × Reply → CallRecord
+ended_with x end = record x { ended = Some end }
+
+abbrev pub with_ended : HistoryValue → ℕ → ℕ × Reply → HistoryValue
+with_ended h number end = record h { calls = slice_set h.calls number (ended_with (call_numbered h.calls number) end) }
+
+-- WHAT A HISTORY KEEPS OF ITSELF
+abbrev pub moment_of : Option (ℕ × Reply) → ℕ
+moment_of None = 0
+moment_of (Some end) = end.0
+
+-- the last moment of a call
+abbrev pub last_moment : CallRecord → ℕ
+last_moment x = max x.begun (moment_of x.ended)
+
+-- the latest moment, 0 where there is none
+abbrev pub latest_moment : List CallRecord → ℕ
+latest_moment [] = 0
+latest_moment (x ∷ xs) = max (last_moment x) (latest_moment xs)
+
+pub record IsKept (h : HistoryValue) (busy : List Bool) (latest : ℕ) : Type 0 where
+  pub within : IsWithin (record { threads = h.threads; quota = h.quota })
+  pub history : IsHistory h.threads h.calls
+  pub flags : h.threads ≤ length busy
+  pub busy_if_open : (t : ℕ) → t < h.threads → slice_index_or busy t false ≡ has_open h.calls t
+  pub latest_is : latest ≡ latest_moment h.calls
+  pub numbered : length h.calls ≤ latest
+  pub fits : latest < 2 ^ 32

@@ -1,0 +1,25 @@
+-- The sequential set as a value, and what a call of it does.
+use Rattle.std.specs.Prelude.{◌≡◌, ℕ, ◌≤◌, List, length, All}
+use Rattle.std.specs.List.Sorted.{IsStrictlyIncreasing}
+use Rattle.lset_words.specs.declared.Call.{Call}
+use Rattle.lset_words.specs.declared.Reply.{Reply}
+use Rattle.lset_words.specs.SequentialSet.{SetState, reply_to, after_call}
+
+pub record OracleValue : Type 0 where
+  pub threads : ℕ
+  pub quota : ℕ
+  pub state : SetState
+
+-- the set with these keys, and with a count for each of its threads
+abbrev pub set_of : ℕ → List ℕ → List ℕ → OracleValue
+set_of quota keys counts = record { threads = length counts; quota = quota; state = record { keys = keys; counts = counts } }
+
+-- the set gives that reply to a call of a thread, and goes on
+pub record Answers (old new : OracleValue) (thread : ℕ) (call : Call) (reply : Reply) : Type 0 where
+  pub reply_is : reply ≡ reply_to old.quota old.state thread call
+  pub state_is : new ≡ record old { state = after_call old.state thread call reply }
+
+-- what a set keeps of itself
+pub record KeepsCounts (quota : ℕ) (s : SetState) : Type 0 where
+  pub rising : IsStrictlyIncreasing s.keys
+  pub few : All (λ count. count ≤ quota) s.counts

@@ -1,0 +1,174 @@
+ghost use Rattle.std.specs.Prelude.{◌≡◌, ◌≢◌, ◌<◌, ◌^◌, ℕ, List, [], IfOk, OnOk, IfErr, MatchOption, MatchBool, IsSomeAnd, IsTrue, ◌↔◌, length, All};
+ghost use Rattle.lset_words.specs.declared.history.CallRecord.{CallRecord};
+ghost use Rattle.lset_history.specs.Faults.{Explains, IsFault, Passes, RefusesFirst, IsUnknown, IsTwice, HasWrongReply, IsTooEarly};
+ghost use Rattle.lset_history.specs.Checks.{HasKnownCalls, HoldsCalls, IsLeftOut, HasReply, HasOtherReply, after_reply, HasReplies, after_order, least_with};
+ghost use Rattle.lset_history.specs.declared.fault.OrderFault.TheVariants.{Memory};
+
+use crate::{History, Oracle, OrderFault};
+use lset_words::{CallRecord, Placed, Reply};
+use std::alloc::{AllocError, Global};
+use std::collections::BTreeSet;
+
+/// The first place whose call the history has not.
+fn first_unknown(calls: &[CallRecord], order: &[Placed]) -> Option<u32>
+    ensures { MatchOption result
+        (HasKnownCalls calls.now order.now)
+        (RefusesFirst (IsUnknown calls.now order.now) order.now) }
+{
+    for place in order {
+        if place.call as usize >= calls.len() {
+            return Some(place.call);
+        }
+    }
+    None
+}
+
+/// The first place whose call stands earlier too; `placed`, empty at first, takes the calls that stand.
+fn first_twice(order: &[Placed], placed: &mut BTreeSet<u32>) -> Result<Option<u32>, AllocError>
+    requires { placed.old.keys ≡ [] }
+    ensures once { IfOk result (λ twice. MatchOption twice
+        (Passes (IsTwice order.now) order.now)
+        (RefusesFirst (IsTwice order.now) order.now)) }
+    ensures calls { IfOk result (λ twice. MatchOption twice (HoldsCalls placed.new.keys order.now) (λ _. Unit {0})) }
+{
+    for place in order {
+        if !placed.insert(place.call)? {
+            return Ok(Some(place.call));
+        }
+    }
+    Ok(None)
+}
+
+/// The least number of an ended call that is not among `placed`.
+fn first_missing(calls: &[CallRecord], placed: &BTreeSet<u32>) -> Option<u32>
+    requires { length calls.now < 2 ^ 32 }
+    ensures { MatchOption result
+        ((number : ℕ) → IsLeftOut calls.now placed.now.keys number → ⊥)
+        (λ number. IsLeftOut calls.now placed.now.keys number
+        × ((smaller : ℕ) → smaller < number → IsLeftOut calls.now placed.now.keys smaller → ⊥)) }
+{
+    for (index, record) in calls.iter().enumerate() {
+        let number = index as u32;
+        if record.ended.is_some() && !placed.contains(&number) {
+            return Some(number);
+        }
+    }
+    None
+}
+
+/// Whether the call has this reply in the history, if it has ended, and of the sequential set, which goes on
+/// by the call.
+fn has_reply(oracle: &mut Oracle, call_record: CallRecord, reply: Reply) -> Result<bool, AllocError>
+    requires { call_record.thread < oracle.old.threads }
+    ensures { IfOk result (λ right. MatchBool right
+        (HasReply oracle.old call_record reply × (oracle.new ≡ after_reply oracle.old call_record reply))
+        (HasOtherReply oracle.old call_record reply)) }
+{
+    if let Some((_, recorded)) = call_record.ended
+        && recorded != reply
+    {
+        return Ok(false);
+    }
+    Ok(oracle.apply(call_record.thread, call_record.call)? == reply)
+}
+
+/// The first place that has another reply than the history, or than the sequential set after the earlier
+/// places; `oracle` goes on by the calls of the order.
+fn first_wrong_reply(
+    oracle: &mut Oracle,
+    calls: &[CallRecord],
+    order: &[Placed],
+) -> Result<Option<u32>, AllocError>
+    requires known { HasKnownCalls calls.now order.now }
+    requires threads { All (λ (x : CallRecord). x.thread < oracle.old.threads) calls.now }
+    ensures { IfOk result (λ wrong. MatchOption wrong
+        (HasReplies oracle.old calls.now order.now × (oracle.new ≡ after_order oracle.old calls.now order.now))
+        (RefusesFirst (HasWrongReply oracle.old.quota oracle.old.state calls.now order.now) order.now)) }
+{
+    for place in order {
+        if !has_reply(oracle, calls[place.call as usize], place.reply)? {
+            return Ok(Some(place.call));
+        }
+    }
+    Ok(None)
+}
+
+/// Whether there is an end, and it is below the moment.
+fn is_below(end: Option<u32>, moment: u32) -> bool
+    ensures { IsTrue result ↔ IsSomeAnd end (λ e. e < moment) }
+{
+    end.is_some_and(|end| end < moment)
+}
+
+/// The lesser of an end and the least end so far.
+fn lesser(least: Option<u32>, end: u32) -> u32
+    ensures { result ≡ least_with least end }
+{
+    least.map_or(end, |least| least.min(end))
+}
+
+/// The first place whose call began after a call had ended that stands later.
+fn first_too_early(calls: &[CallRecord], order: &[Placed]) -> Option<u32>
+    requires { HasKnownCalls calls.now order.now }
+    ensures { MatchOption result
+        (Passes (IsTooEarly calls.now order.now) order.now)
+        (RefusesFirst (IsTooEarly calls.now order.now) order.now) }
+{
+    let mut early = None;
+    let mut least_end: Option<u32> = None;
+    for i in (0..order.len()).rev() {
+        let number = order[i].call;
+        let record = calls[number as usize];
+        if is_below(least_end, record.begun) {
+            early = Some(number);
+        }
+        if let Some((end, _)) = record.ended {
+            least_end = Some(lesser(least_end, end));
+        }
+    }
+    early
+}
+
+/// Checks that an order of calls explains a history: that it linearizes the history (Herlihy and Wing, with
+/// completion of open calls) for the sequential set of the history's threads and quota, and that `keys` are the
+/// keys of the set that it leaves, rising.
+///
+/// Else it gives the first fault: a place whose call the history has not (`OrderFault::Unknown`), or which stands
+/// at an earlier place too (`Twice`); the least number of an ended call that does not stand (`Missing`); a place
+/// with another reply than the history's, or than the sequential set gives there (`WrongReply`); a place before
+/// that of a call which ended before this one began (`TooEarly`); other keys (`WrongSet`). `Memory` stands in
+/// place of any other answer, where a growth was refused. With n places and k keys it makes about `(n + k) log n`
+/// steps.
+pub fn check_order(
+    alloc: Global,
+    history: &History,
+    order: &[Placed],
+    keys: &[u32],
+) -> Result<(), OrderFault>
+    ensures explained { OnOk result (Explains history.now order.now keys.now) }
+    ensures first_fault { IfErr result (IsFault history.now order.now keys.now) }
+    ensures not_explained { IfErr result (λ fault. fault ≢ Memory → Explains history.now order.now keys.now → ⊥) }
+{
+    let calls = history.calls();
+    if let Some(number) = first_unknown(calls, order) {
+        return Err(OrderFault::Unknown(number));
+    }
+    let mut placed = BTreeSet::new(alloc);
+    if let Some(number) = first_twice(order, &mut placed)? {
+        return Err(OrderFault::Twice(number));
+    }
+    if let Some(number) = first_missing(calls, &placed) {
+        return Err(OrderFault::Missing(number));
+    }
+    let mut oracle = Oracle::new(alloc, history.threads(), history.quota())?;
+    if let Some(number) = first_wrong_reply(&mut oracle, calls, order)? {
+        return Err(OrderFault::WrongReply(number));
+    }
+    if let Some(number) = first_too_early(calls, order) {
+        return Err(OrderFault::TooEarly(number));
+    }
+    if oracle.keys()?.as_slice() != keys {
+        return Err(OrderFault::WrongSet);
+    }
+    Ok(())
+}

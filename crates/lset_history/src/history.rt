@@ -1,0 +1,178 @@
+ghost use Rattle.std.specs.Prelude.{◌≡◌, ◌<◌, ◌^◌, length, IfOk, OnOk, IfErr, OnErr, [], None};
+ghost use Rattle.lset_words.specs.Words.{IsWithin};
+ghost use Rattle.lset_words.specs.History.{IsHistory};
+ghost use Rattle.lset_history.specs.History.{MayBegin, CannotBegin, with_begun, MayEnd, CannotEnd, with_ended, last_moment};
+
+use crate::HistoryFault;
+use lset_words::{Call, CallRecord, Reply};
+use std::alloc::Global;
+use std::marker::Model;
+
+/// The most threads of a history.
+const MOST_THREADS: usize = 64;
+
+/// A history of calls (Herlihy and Wing): which thread began which call, and when, and when it ended with
+/// which reply. Calls are numbered from 0 in the order of their beginnings. A moment is a number from 1,
+/// and each entry has a later one than all entries before it.
+#[derive(Drop)]
+pub struct History {
+    threads: u32,
+    quota: u32,
+    calls: Vec<CallRecord>,
+    busy: [bool; MOST_THREADS],
+    latest: u32,
+}
+
+impl Model for History {
+    ghost use Rattle.lset_history.specs.History.{HistoryValue, IsKept};
+
+    ghost Value = { HistoryValue };
+
+    ghost view = { λ h. record { threads = h.threads; quota = h.quota; calls = h.calls.items } };
+
+    ghost invariant = { λ h. IsKept (record { threads = h.threads; quota = h.quota; calls = h.calls.items }) h.busy h.latest };
+}
+
+/// The last moment of a call: that of its end, if it has ended, and else that of its beginning.
+fn last_moment(call_record: &CallRecord) -> u32
+    ensures { result ≡ last_moment call_record.now }
+{
+    match call_record.ended {
+        None => call_record.begun,
+        Some((end, _)) => call_record.begun.max(end),
+    }
+}
+
+impl History {
+    /// The history without calls, of `threads` threads, 1 to 64, with a quota of `quota` slots each, 0 to
+    /// 16,384. It takes no memory.
+    pub fn new(alloc: Global, threads: u32, quota: u32) -> History
+        requires { IsWithin (record { threads = threads; quota = quota }) }
+        ensures { result ≡ record { threads = threads; quota = quota; calls = [] } }
+    {
+        History {
+            threads,
+            quota,
+            calls: Vec::new(alloc),
+            busy: [false; MOST_THREADS],
+            latest: 0,
+        }
+    }
+
+    /// The history of given calls, of `threads` threads, 1 to 64, with a quota of `quota` slots each, 0 to
+    /// 16,384. The calls stand by their numbers, and each of them may follow those before it. It takes no
+    /// memory.
+    pub fn from_calls(threads: u32, quota: u32, calls: Vec<CallRecord>) -> History
+        requires within { IsWithin (record { threads = threads; quota = quota }) }
+        requires history { IsHistory threads calls.items }
+        ensures { result ≡ record { threads = threads; quota = quota; calls = calls.items } }
+    {
+        let mut busy = [false; MOST_THREADS];
+        let mut latest = 0u32;
+        for call_record in &calls {
+            latest = latest.max(last_moment(call_record));
+            if call_record.ended.is_none() {
+                busy[call_record.thread as usize] = true;
+            }
+        }
+        History {
+            threads,
+            quota,
+            calls,
+            busy,
+            latest,
+        }
+    }
+
+    /// Thread `thread` begins a call at the moment `at`; gives the call's number.
+    ///
+    /// `HistoryFault::NoThread` where the history has no such thread, else `Busy` where the thread has an
+    /// open call, else `Time` where `at` is 0 or not above every earlier moment, else `Memory` where a
+    /// growth was refused. A refusal changes nothing.
+    pub fn begin(&mut self, thread: u32, call: Call, at: u32) -> Result<u32, HistoryFault>
+        ensures number { IfOk result (λ number. number ≡ length self.old.calls) }
+        ensures begun { OnOk result
+            (self.new ≡ with_begun self.old (record { thread = thread; call = call; begun = at; ended = None })) }
+        ensures accepted { OnOk result (MayBegin self.old thread at) }
+        ensures refused { IfErr result (CannotBegin self.old thread at) }
+        ensures unchanged { OnErr result (self.new ≡ self.old) }
+    {
+        if thread >= self.threads {
+            return Err(HistoryFault::NoThread);
+        }
+        if self.busy[thread as usize] {
+            return Err(HistoryFault::Busy);
+        }
+        if at <= self.latest {
+            return Err(HistoryFault::Time);
+        }
+        let number = self.calls.len() as u32;
+        let record = CallRecord {
+            thread,
+            call,
+            begun: at,
+            ended: None,
+        };
+        let Ok(()) = self.calls.push(record) else {
+            return Err(HistoryFault::Memory);
+        };
+        self.busy[thread as usize] = true;
+        self.latest = at;
+        Ok(number)
+    }
+
+    /// The call with the number `id` ends at the moment `at` with a reply. It takes no memory.
+    ///
+    /// `HistoryFault::NotOpen` where there is no such call, or it has ended, else `Time` where `at` is 0 or
+    /// not above every earlier moment. A refusal changes nothing.
+    pub fn end(&mut self, id: u32, reply: Reply, at: u32) -> Result<(), HistoryFault>
+        ensures ended { OnOk result (self.new ≡ with_ended self.old id (at, reply)) }
+        ensures accepted { OnOk result (MayEnd self.old id at) }
+        ensures refused { IfErr result (CannotEnd self.old id at) }
+        ensures unchanged { OnErr result (self.new ≡ self.old) }
+    {
+        let index = id as usize;
+        if index >= self.calls.len() {
+            return Err(HistoryFault::NotOpen);
+        }
+        let record = self.calls[index];
+        if record.ended.is_some() {
+            return Err(HistoryFault::NotOpen);
+        }
+        if at <= self.latest {
+            return Err(HistoryFault::Time);
+        }
+        self.calls[index] = CallRecord {
+            ended: Some((at, reply)),
+            ..record
+        };
+        self.busy[record.thread as usize] = false;
+        self.latest = at;
+        Ok(())
+    }
+
+    /// The calls, by their numbers.
+    pub fn calls(&self) -> &[CallRecord]
+        ensures value { result.now ≡ self.now.calls }
+        ensures history { IsHistory self.now.threads self.now.calls }
+        ensures few { length self.now.calls < 2 ^ 32 }
+    {
+        &self.calls
+    }
+
+    /// The number of threads, 1 to 64.
+    pub fn threads(&self) -> u32
+        ensures value { result ≡ self.now.threads }
+        ensures within { IsWithin (record { threads = self.now.threads; quota = self.now.quota }) }
+    {
+        self.threads
+    }
+
+    /// The slots of each thread, 0 to 16,384.
+    pub fn quota(&self) -> u32
+        ensures value { result ≡ self.now.quota }
+        ensures within { IsWithin (record { threads = self.now.threads; quota = self.now.quota }) }
+    {
+        self.quota
+    }
+}

@@ -1,0 +1,106 @@
+ghost use Rattle.std.specs.Prelude.{◌≡◌, ℕ, ◌<◌, IfOk, OnErr, if◌then◌else◌};
+ghost use Rattle.std.specs.List.Sorted.{IsStrictlyIncreasing};
+ghost use Rattle.lset_words.specs.declared.Call.{Call};
+ghost use Rattle.lset_words.specs.declared.Reply.{Reply};
+ghost use Rattle.lset_words.specs.SequentialSet.{empty_set};
+ghost use Rattle.lset_history.specs.Oracle.{Answers};
+
+use lset_words::{Call, Key, Reply};
+use std::alloc::{AllocError, Global};
+use std::collections::BTreeSet;
+use std::marker::Model;
+
+fn reply_of(found: bool) -> Reply
+    ensures { result ≡ (if found then Reply.True else Reply.False) }
+{
+    if found { Reply::True } else { Reply::False }
+}
+
+/// The sequential set (Herlihy and Shavit's interface) with this project's quota: a set of keys, and for each
+/// thread how many successful adds it has made.
+#[derive(Drop)]
+pub struct Oracle {
+    alloc: Global,
+    quota: u32,
+    keys: BTreeSet<u32>,
+    counts: Vec<u32>,
+}
+
+impl Model for Oracle {
+    ghost use Rattle.lset_history.specs.Oracle.{OracleValue, set_of, KeepsCounts};
+
+    ghost Value = { OracleValue };
+
+    ghost view = { λ o. set_of o.quota o.keys.keys o.counts.items };
+
+    ghost invariant = { λ o. KeepsCounts o.quota (record { keys = o.keys.keys; counts = o.counts.items }) };
+}
+
+impl Oracle {
+    /// The empty set for `threads` threads, each with a quota of `quota` successful adds. An error is want of
+    /// memory.
+    pub fn new(alloc: Global, threads: u32, quota: u32) -> Result<Oracle, AllocError>
+        ensures { IfOk result (λ o. o ≡ record { threads = threads; quota = quota; state = empty_set threads }) }
+    {
+        let counts = vec![in alloc; 0; threads as usize]?;
+        Ok(Oracle {
+            alloc,
+            quota,
+            keys: BTreeSet::new(alloc),
+            counts,
+        })
+    }
+
+    /// Makes a call of the thread `thread`, below the threads, and gives its reply: `Add` of a present key is
+    /// `False`, of an absent key `Full` where the thread's count is at the quota, and else `True`; `Remove` and
+    /// `Contains` are `True` where the key is present, and else `False`. Nothing changes but by an `Add` or a
+    /// `Remove` that is `True`. An error is want of memory, and changes nothing.
+    pub fn apply(&mut self, thread: u32, call: Call) -> Result<Reply, AllocError>
+        requires { thread < self.old.threads }
+        ensures answers { IfOk result (Answers self.old self.new thread call) }
+        ensures unchanged { OnErr result (self.new ≡ self.old) }
+    {
+        match call {
+            Call::Add(key) => self.add(thread, key),
+            Call::Remove(key) => Ok(self.remove(key)),
+            Call::Contains(key) => Ok(self.contains(key)),
+        }
+    }
+
+    fn add(&mut self, thread: u32, key: Key) -> Result<Reply, AllocError>
+        requires { thread < self.old.threads }
+        ensures answers { IfOk result (Answers self.old self.new thread (Call.Add key)) }
+        ensures unchanged { OnErr result (self.new ≡ self.old) }
+    {
+        if self.keys.contains(&key.0) {
+            return Ok(Reply::False);
+        }
+        let count = self.counts[thread as usize];
+        if count == self.quota {
+            return Ok(Reply::Full);
+        }
+        self.keys.insert(key.0)?;
+        self.counts[thread as usize] = count + 1;
+        Ok(Reply::True)
+    }
+
+    fn remove(&mut self, key: Key) -> Reply
+        ensures { (thread : ℕ) → Answers self.old self.new thread (Call.Remove key) result }
+    {
+        reply_of(self.keys.remove(&key.0))
+    }
+
+    fn contains(&self, key: Key) -> Reply
+        ensures { (thread : ℕ) → Answers self.now self.now thread (Call.Contains key) result }
+    {
+        reply_of(self.keys.contains(&key.0))
+    }
+
+    /// The keys, rising. An error is want of memory.
+    pub fn keys(&self) -> Result<Vec<u32>, AllocError>
+        ensures keys { IfOk result (λ v. v.items ≡ self.now.state.keys) }
+        ensures rising { IsStrictlyIncreasing self.now.state.keys }
+    {
+        self.keys.iter().copied().collect(self.alloc)
+    }
+}

@@ -1,0 +1,120 @@
+-- From event to event of a run: the recorder is ready for each enabled one, and follows it.
+use Rattle.std.proofs.Common.{◌≡◌, ℕ, suc, ◌<◌, ◌⊎◌, inl, inr, List, length, sym, refl, subst, ap, ◌∙◌, arith}
+use Rattle.lset_words.specs.Log.{Log}
+use Rattle.lset_words.specs.Account.{Account, Contents, Counts, Enters}
+use Rattle.lset_steps.specs.declared.Event.{Event}
+use Rattle.lset_steps.specs.declared.Event.TheVariants.{Begin, Go}
+use Rattle.lset_steps.specs.declared.Told.{Told}
+use Rattle.lset_steps.specs.declared.world.StepFault.{StepFault}
+use Rattle.lset_steps.specs.Steps.{Table, State, Run, Limits, Enabled, state_at, event_at, entry_of, log_of, told, after, opening}
+use Rattle.lset_steps.specs.Laws.{Lawful}
+use Rattle.lset_steps.specs.Worlds.{WorldState, Refused}
+use Rattle.lset_steps.specs.RunAccount.{contents_at, counts_at, account_of}
+use Rattle.lset_replay.specs.declared.events.LineEvent.{LineEvent}
+use Rattle.lset_replay.specs.declared.recorder.Recorder.{Recorder}
+use Rattle.lset_replay.specs.Events.{only_events, line_at}
+use Rattle.lset_replay.specs.Reports.{IsFirstRefused}
+use Rattle.lset_replay.specs.Trace.{trace_of, trace_after, entry_told, MayFollow, no_trace}
+use Rattle.lset_replay.specs.Follows.{HasFollowed}
+use Rattle.lset_replay.proofs.Ready.{may_begin, may_step}
+
+-- what an event told is its entry
+told_entry : (T : Table) (s : State) (e : Event) → entry_told e (told T s e) ≡ entry_of T s e
+told_entry T s (Begin t call) = refl
+told_entry T s (Go t) = refl
+
+run_more : (T : Table) (n q : ℕ) (es : ℕ → Event) (k : ℕ) → Run T n q es k → Enabled (state_at T n q es k) (es k)
+    → Run T n q es (suc k)
+run_more T n q es k r e = record {
+  limits = r.limits;
+  enabled = λ j l. elim (last_or_before j k l) [
+    | inl y ↦ subst (λ z. Enabled (state_at T n q es z) (es z)) (sym y) e
+    | inr y ↦ r.enabled j y
+  ];
+}
+  where
+    last_or_before : (j k : ℕ) → j < suc k → (j ≡ k) ⊎ (j < k)
+    last_or_before j k l = grind arith
+
+module _ (T : Table) (law : Lawful T) (n q : ℕ) (events : List LineEvent) (k : ℕ) (w : WorldState) (r : Recorder)
+    (h : HasFollowed T n q events k w r)
+    (e : Event) (is : event_at (only_events events) k ≡ e) where
+  abbrev es : ℕ → Event
+  es = event_at (only_events events)
+
+  abbrev log : Log
+  log = log_of T n q es
+
+  abbrev contents : Contents
+  contents = contents_at T n q es
+
+  abbrev counts : Counts
+  counts = counts_at T n q es
+
+  state_is : w.state ≡ state_at T n q es k
+  state_is = ap (λ (x : WorldState). x.state) h.world
+
+  enabled_now : Enabled w.state e → Enabled (state_at T n q es k) (event_at (only_events events) k)
+  enabled_now en = subst (λ z. Enabled (state_at T n q es k) z) (sym is) (subst (λ z. Enabled z e) state_is en)
+
+  run_on : Enabled w.state e → Run T n q es (suc k)
+  run_on en = run_more T n q es k h.run (enabled_now en)
+
+  entry_now : log_of T n q es k ≡ entry_of T (state_at T n q es k) e
+  entry_now = ap (λ z. entry_of T (state_at T n q es k) z) is
+
+  pub ready : Enabled w.state e → MayFollow r (suc k) e
+  ready en = at e is
+    where
+      account : Account n q (suc k) log contents counts
+      account = account_of T law n q es (suc k) (run_on en)
+
+      entered : (d : Event) → event_at (only_events events) k ≡ d → Enters n q log contents
+          counts k (entry_of T (state_at T n q es k) d)
+      entered d i = subst (λ z. Enters n q log contents
+          counts k (entry_of T (state_at T n q es k) z)) i (account.enters k (omega arith))
+
+      at : (d : Event) → event_at (only_events events) k ≡ d → MayFollow r (suc k) d
+      at (Begin t call) i = may_begin n q (suc k) log contents counts
+          account k (omega arith) r h.threads_are h.trace t call (entered (Begin t call) i)
+      at (Go t) i = may_step n q (suc k) log contents counts
+          account k (omega arith) r h.threads_are h.trace t _ _ (entered (Go t) i)
+
+  pub followed : (w' : WorldState) (r' : Recorder) (a : Told) → Enabled w.state e
+      → w' ≡ record w { state = after T w.state e } → a ≡ told T w.state e
+      → trace_of r' ≡ trace_after (suc k) (entry_told e a) (trace_of r) → r'.history.threads ≡ r.history.threads
+      → r'.history.quota ≡ r.history.quota
+      → HasFollowed T n q events (suc k) w' r'
+  followed w' r' a en world says trace threads quota = record {
+    run = run_on en;
+    world = world ∙ ap (λ (z : WorldState). record z { state = after T z.state e }) h.world
+        ∙ ap (λ z. record { threads = n; quota = q; state = after T (state_at T n q es k) z }) (sym is);
+    trace = trace ∙ ap (λ z. trace_after (suc k) (entry_told e z) (trace_of r)) says
+        ∙ ap (λ z. trace_after (suc k) z (trace_of r)) (told_entry T w.state e ∙ ap (λ z. entry_of T z e) state_is ∙ sym entry_now)
+        ∙ ap (λ z. trace_after (suc k) (log_of T n q es k) z) h.trace;
+    threads_are = threads ∙ h.threads_are;
+    quota_is = quota ∙ h.quota_is;
+  }
+
+  pub stopped : (cause : StepFault) (line : ℕ) → k < length events → line ≡ line_at events k → Refused w e cause
+      → IsFirstRefused T n q events line cause
+  stopped cause line below line_is refused = record {
+    index = k;
+    known = below;
+    line_is = line_is;
+    before = h.run;
+    refused = subst (λ z. Refused (record { threads = n; quota = q; state = state_at T n q es k }) z cause) (sym is)
+        (subst (λ z. Refused z e cause) h.world refused);
+  }
+
+-- nothing has been followed
+pub at_first : (T : Table) (n q : ℕ) (events : List LineEvent) (w : WorldState) (r : Recorder) → Limits n q
+    → w ≡ record { threads = n; quota = q; state = opening n q }
+    → trace_of r ≡ no_trace n → r.history.threads ≡ n → r.history.quota ≡ q → HasFollowed T n q events 0 w r
+at_first T n q events w r limits world trace threads quota = record {
+  run = record { limits = limits; enabled = λ k l. absurd (omega arith) };
+  world = world;
+  trace = trace;
+  threads_are = threads;
+  quota_is = quota;
+}

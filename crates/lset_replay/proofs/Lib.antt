@@ -1,0 +1,11 @@
+pub mod EventLists
+pub mod Putting
+pub mod Watching
+pub mod Fitting
+pub mod Following
+pub mod Stepping
+pub mod Ready
+pub mod Ordered
+pub mod EventSteps
+pub mod Reported
+pub mod Recorded

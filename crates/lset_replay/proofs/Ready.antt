@@ -1,0 +1,152 @@
+-- A run's next event finds the recorder ready for it.
+use Rattle.std.proofs.Common.{◌≡◌, ℕ, zero, suc, ◌<◌, ◌≤◌, Bool, true, false, ◌&&◌, inl, inr, List, [], ◌∷◌, length, sym, refl, subst, ap, ◌∙◌, arith}
+use Rattle.std.specs.Prelude.{◌==◌, Option, Some, None, is_none, IfSome, IsSomeAnd}
+use Rattle.std.specs.List.{AllByRecursion, list_any}
+use Rattle.std.proofs.lemmas.List.{length-map, length-replicate, get_or-replicate}
+use Rattle.std.proofs.lemmas.List.Elements.{All-from_recursion}
+use Rattle.lset_words.specs.declared.Call.{Call}
+use Rattle.lset_words.specs.declared.Reply.{Reply}
+use Rattle.lset_words.specs.declared.history.CallRecord.{CallRecord}
+use Rattle.lset_words.specs.Log.{Log, Entry, Change, TracedCall, is_under_way, calls_at, history_at, record_of, is_open}
+use Rattle.lset_words.specs.Log.Entry.{began, stepped}
+use Rattle.lset_words.specs.Account.{Contents, Counts, Enters, Account}
+use Rattle.lset_words.specs.Placement.{no_traced}
+use Rattle.lset_words.specs.History.{call_numbered}
+use Rattle.lset_history.specs.History.{IsLater, MayBegin, MayEnd, has_open}
+use Rattle.lset_history.specs.Lists.{all_imply, all_map, bool_cases, get_or_mapped}
+use Rattle.lset_history.specs.Calls.{Traced, EndedBy, OpenAt}
+use Rattle.lset_history.specs.CallSteps.{run_of, calls_of, way_of}
+use Rattle.lset_history.specs.OpenCalls.{OpenNumber, open_number, last_number, length_began, length_stepped}
+use Rattle.lset_replay.specs.declared.places.OpenCall.{OpenCall}
+use Rattle.lset_replay.specs.declared.recorder.Recorder.{Recorder}
+use Rattle.lset_replay.specs.Trace.{Trace, open_call_at, trace_at, trace_after, trace_of, MayStep}
+use Rattle.lset_replay.proofs.Following.{Follows, IsWatched, follows_beginning}
+use Rattle.lset_replay.proofs.Stepping.{follows_step}
+
+none_passes : {X : Type 0} (p : X → Bool) (xs : List X) → AllByRecursion (λ x. p x ≡ false) xs → list_any p xs ≡ false
+none_passes p [] h = refl
+none_passes p (x ∷ xs) h = rw (h.0, none_passes p xs h.1) refl
+
+module _ (n q last : ℕ) (log : Log) (contents : Contents) (counts : Counts) (account : Account n q last log contents counts) where
+  -- THE TRACE of a run is what it has to be
+  entered : (k : ℕ) → k < last → (s : Trace) → (e : Entry) → log k ≡ e → Enters n q log contents counts k e
+      → Follows n q log contents counts k s
+      → Follows n q log contents counts (suc k) (trace_after (suc k) e s)
+  entered k l s (began t call) at en f = follows_beginning n q log contents counts k t call s at en f
+  entered k l s (stepped t change reply) at en f = follows_step n q last log contents counts account k
+      (omega arith) t change reply s at en f
+
+  pub follows : (k : ℕ) → k ≤ last → Follows n q log contents counts k (trace_at n log k)
+  follows zero l = record {
+    history = refl;
+    seats = length-replicate n None;
+    numbered = refl;
+    keys = λ j. ((λ e. absurd (cc)), (λ e c. account.empty j c));
+    idle = λ t m e. get_or-replicate n t None None m;
+    busy = λ t m e. absurd (cc);
+    placed = λ i m. absurd (omega arith);
+  }
+  follows (suc k) l = entered k l (trace_at n log k) (log k) refl (account.enters k l) (follows k (omega arith))
+
+  module _ (k : ℕ) (below : k ≤ last) (r : Recorder) (threads : r.history.threads ≡ n) (is : trace_of r ≡ trace_at n log k) where
+    now : Follows n q log contents counts k (trace_of r)
+    now = subst (λ s. Follows n q log contents counts k s) (sym is) (follows k below)
+
+    each : AllByRecursion (Traced (run_of n q log contents counts) k) (calls_at log k)
+    each = (calls_of n q last log contents counts account k below).each
+
+    begun_before : (x : TracedCall) → Traced (run_of n q log contents counts) k x → (record_of x).begun < suc k
+    begun_before x t = let a : x.begun ≤ k = t.already in omega arith
+
+    ended_before : (x : TracedCall) → Traced (run_of n q log contents counts) k x
+        → IfSome (record_of x).ended (λ (e : ℕ × Reply). e.0 < suc k)
+    ended_before x t = at x.ended t.ends
+      where
+        at : (ended : Option (ℕ × Reply)) → EndedBy (run_of n q log contents counts) k x.thread x.call x.begun x.changed ended
+            → IfSome ended (λ (e : ℕ × Reply). e.0 < suc k)
+        at None h = tt
+        at (Some e) h = let a : e.0 ≤ k = h.0 in omega arith
+
+    later : IsLater r.history.calls (suc k)
+    later = subst (λ (xs : List CallRecord). IsLater xs (suc k)) (sym now.history) (record {
+      counted = omega arith;
+      begins = All-from_recursion (λ (y : CallRecord). y.begun < suc k) (history_at log k)
+          (all_map record_of (λ (y : CallRecord). y.begun < suc k) (calls_at log k) (all_imply (Traced
+          (run_of n q log contents counts) k) (λ x. (record_of x).begun < suc k) begun_before (calls_at log k) each));
+      ends = All-from_recursion (λ (y : CallRecord). IfSome y.ended (λ (e : ℕ × Reply). e.0 < suc k)) (history_at log k)
+          (all_map record_of (λ (y : CallRecord). IfSome y.ended (λ (e : ℕ × Reply). e.0 < suc k)) (calls_at log k)
+          (all_imply (Traced (run_of n q log contents counts) k) (λ x. IfSome (record_of x).ended
+          (λ (e : ℕ × Reply). e.0 < suc k)) ended_before (calls_at log k) each));
+    })
+
+    shut : (t : ℕ) → is_open log t k ≡ false → (x : TracedCall) → Traced (run_of n q log contents counts) k x
+        → is_under_way t x ≡ false
+    shut t e x h = elim (bool_cases (is_under_way t x)) [
+      | inl y ↦ absurd (
+          let w : (t ≡ x.thread) × (x.ended ≡ None) = way_of t x y in
+          let o : OpenAt (run_of n q log contents counts) k x.thread x.call x.begun x.changed =
+          subst (EndedBy (run_of n q log contents counts) k x.thread x.call x.begun x.changed) w.1 h.ends in
+          let a : is_open log x.thread k ≡ true = o.is in
+          let b : is_open log x.thread k ≡ false = subst (λ z. is_open log z k ≡ false) w.0 e in
+          cc)
+      | inr y ↦ y
+    ]
+
+    pub may_begin : (t : ℕ) (call : Call) → Enters n q log contents counts k (began t call)
+        → MayBegin r.history t (suc k) × (t < length r.under_way.items)
+    may_begin t call en = (
+      record {
+        of_a_thread = rw threads en.0;
+        idle = ap (λ (xs : List CallRecord). has_open xs t) now.history
+            ∙ none_passes (λ (x : CallRecord). x.thread == t && is_none x.ended) (history_at log k)
+            (all_map record_of (λ (x : CallRecord). (x.thread == t && is_none x.ended) ≡ false) (calls_at log k)
+            (all_imply (Traced (run_of n q log contents counts) k)
+            (λ x. is_under_way t x ≡ false) (shut t en.1) (calls_at log k) each));
+        later = later;
+      },
+      (let a : t < n = en.0 in let b : length r.under_way.items ≡ n = now.seats in omega arith),
+    )
+
+    pub may_step : (t : ℕ) (change : Option Change) (reply : Option Reply)
+        → Enters n q log contents counts k (stepped t change reply)
+        → MayStep r.history r.under_way.items r.places.items t (suc k)
+    may_step t change reply en =
+        let o : (o : OpenCall) × (open_call_at r.under_way.items t ≡ Some o) × IsWatched log contents counts k t o =
+        now.busy t en.0 en.1 in
+        let number : OpenNumber (calls_at log k) t (last_number log t k) =
+        open_number n q last log contents counts account k below t en.1 in
+        let inside : last_number log t k < length (calls_at log k) = number.below in
+        let places : length r.places.items ≡ length (calls_at log k) = now.numbered in
+        let records : length r.history.calls ≡ length (calls_at log k) =
+        ap (λ (xs : List CallRecord). length xs) now.history ∙ length-map (calls_at log k) record_of in
+        let seats : length r.under_way.items ≡ n = now.seats in
+        let th : t < n = en.0 in
+        let e : o.0.number ≡ last_number log t k = o.2.number_is in
+        record {
+          of_a_thread = omega arith;
+          goes = subst (λ (z : Option OpenCall). IsSomeAnd z (λ y.
+              (y.number < length r.places.items) × MayEnd r.history y.number (suc k))) (sym o.1) (
+                omega arith,
+                record {
+                  open_call = record {
+                    known = omega arith;
+                    not_ended = ap (λ (xs : List CallRecord). (call_numbered xs o.0.number).ended) now.history
+                        ∙ ap (λ z. (call_numbered (history_at log k) z).ended) o.2.number_is
+                        ∙ ap (λ (x : CallRecord). x.ended) (get_or_mapped record_of (calls_at log k)
+                        (last_number log t k) no_traced) ∙ number.open_call.1;
+                  };
+                  later = later;
+                },
+              );
+        }
+
+-- there are no more calls than events
+pub few_calls : (log : Log) (k : ℕ) → length (calls_at log k) ≤ k
+few_calls log zero = omega arith
+few_calls log (suc k) = at (log k) refl (few_calls log k)
+  where
+    at : (e : Entry) → log k ≡ e → length (calls_at log k) ≤ k → length (calls_at log (suc k)) ≤ suc k
+    at (began t call) h b = let a : length (calls_at log (suc k)) ≡ suc (length
+        (calls_at log k)) = length_began log k t call h in omega arith
+    at (stepped t change reply) h b = let a : length (calls_at log (suc k)) ≡ length
+        (calls_at log k) = length_stepped log k t change reply h in omega arith

@@ -1,0 +1,305 @@
+-- What replay keeps at a step: the history, the open calls, the places and the keys after it.
+use Rattle.std.proofs.Common.{◌≡◌, ◌≢◌, ℕ, suc, ◌<◌, ◌≤◌, Bool, true, false, ◌||◌, inl, inr, List, length, map, set, sym, refl, subst, ap, ◌∙◌, arith, get_or-set_same, get_or-set_other}
+use Rattle.std.specs.Prelude.{◌==◌, Option, Some, None, is_some, if◌then◌else◌}
+use Rattle.std.proofs.lemmas.List.{map-set, set-get_or}
+use Rattle.lset_words.specs.declared.Reply.{Reply}
+use Rattle.lset_words.specs.Log.{Log, Change, TracedCall, traced_on, changed_by, ended_by, calls_at, history_at, record_of, last_call, begun_at, is_open, has_changed, is_change, open_after}
+use Rattle.lset_words.specs.Log.Entry.{stepped}
+use Rattle.lset_words.specs.Account.{Contents, Counts, Changes, FitsSometime, RightReply, Enters, Account, count_after}
+use Rattle.lset_words.specs.Placement.{traced_at, no_traced, IsLeastFit}
+use Rattle.lset_words.specs.History.{call_numbered, no_call}
+use Rattle.lset_history.specs.History.{ended_with}
+use Rattle.lset_history.specs.Lists.{equal_test, unequal_test, same_or_not, same_number, get_or_mapped, all_at}
+use Rattle.lset_history.specs.Calls.{Run, Traced, EndedBy, OpenAt, open_is, call_is, begun_is, changed_is}
+use Rattle.lset_history.specs.CallSteps.{run_of, calls_of}
+use Rattle.lset_history.specs.OpenCalls.{OpenNumber, open_number, last_number, length_stepped, step_sets}
+use Rattle.lset_replay.specs.declared.places.OpenCall.{OpenCall}
+use Rattle.lset_replay.specs.declared.places.Place.{Place}
+use Rattle.lset_replay.specs.Trace.{Trace, open_call_at, place_at, number_of, fit, changed_at, read_at, settled, changed_on, ended_on}
+use Rattle.lset_replay.proofs.Watching.{watched_on}
+use Rattle.lset_replay.proofs.Fitting.{fit_least, least_of}
+use Rattle.lset_replay.proofs.Following.{IsWatched, Follows, PlaceBy, PlaceOf, change_place, end_place, changed_calls, changed_seats, changed_open, changed_shut, changed_count, changed_other, changed_here, ended_seats, ended_others, ended_seat, ended_count, ended_other, ended_here, ended_has, watched_number, last_number_is, calls_are, pick, pick_not, watched_next}
+
+-- the place of the call that steps
+module _ (q : ℕ) (contents : Contents) (counts : Counts) (x : TracedCall) (m : ℕ) (o : OpenCall) where
+  changed_place : (ch : Option Change) (r : Option Reply) (p : Option Place) (c : ℕ) → p ≡ Some (changed_at c)
+      → end_place r o p ≡ Some (changed_at c)
+  changed_place ch None p c e = e
+  changed_place ch (Some r) p c e = ap (λ z. settled z (fit o r) r) e
+
+  place_next : (changed : Option ℕ) (p : Option Place) (ch : Option Change) (r : Option Reply)
+      → PlaceBy q contents counts x changed None p
+      → (changed ≡ None → ch ≡ None → (a : Reply) → r ≡ Some a
+      → (k : ℕ) × (fit o a ≡ Some k) × IsLeastFit q contents counts x m a k)
+      → PlaceBy q contents counts (traced_on m ch r x) (changed_by m ch changed) (ended_by m r) (end_place r o
+      (change_place ch m p))
+  place_next changed p (Some c) r h f = changed_place (Some c) r (Some (changed_at m)) m refl
+  place_next (Some c) p None r h f = changed_place None r p c h
+  place_next None p None None h f = h
+  place_next None p None (Some a) h f =
+      let w : (k : ℕ) × (fit o a ≡ Some k) × IsLeastFit q contents counts x m a k = f refl refl a refl in (
+        w.0,
+        ap (λ z. settled z (fit o a) a) h ∙ ap (λ z. read_at z a) w.1,
+        record { from = w.2.from; upto = w.2.upto; fits = w.2.fits; least = w.2.least },
+      )
+
+-- the keys after a change
+module _ (contents : Contents) (k m t : ℕ) (s : Trace) (keys : (j : ℕ) → (s.has j ≡ true → contents k j) ×
+    (s.has j ≡ false → contents k j → ⊥)) where
+  put_in : (b : Bool) (j key : ℕ) → (j == key) ≡ b → contents (suc k) key → (j ≢ key → (contents k j
+      → contents (suc k) j) × (contents (suc k) j → contents k j))
+      → ((if b then true else s.has j) ≡ true → contents (suc k) j) × ((if b then true else s.has j) ≡ false
+      → contents (suc k) j → ⊥)
+  put_in true j key e c f = ((λ z. subst (λ y. contents (suc k) y) (sym (same_number j key e)) c), (λ z. absurd (cc)))
+  put_in false j key e c f =
+      let g = f (λ y. let w : (j == key) ≡ true = equal_test j key y in cc) in
+      ((λ z. g.0 ((keys j).0 z)), (λ z y. (keys j).1 z (g.1 y)))
+
+  taken_out : (b : Bool) (j key : ℕ) → (j == key) ≡ b → (contents (suc k) key → ⊥) → (j ≢ key → (contents k j
+      → contents (suc k) j) × (contents (suc k) j → contents k j))
+      → ((if b then false else s.has j) ≡ true → contents (suc k) j) × ((if b then false else s.has j) ≡ false
+      → contents (suc k) j → ⊥)
+  taken_out true j key e c f = ((λ z. absurd (cc)), (λ z y. c (subst (λ w. contents (suc k) w) (same_number j key e) y)))
+  taken_out false j key e c f =
+      let g = f (λ y. let w : (j == key) ≡ true = equal_test j key y in cc) in
+      ((λ z. g.0 ((keys j).0 z)), (λ z y. (keys j).1 z (g.1 y)))
+
+  changed_keys : (ch : Option Change) → Changes ch (contents k) (contents (suc k))
+      → (j : ℕ) → ((changed_on m t ch s).has j ≡ true → contents (suc k) j) × ((changed_on m t ch s).has j ≡ false
+      → contents (suc k) j → ⊥)
+  changed_keys None c j = ((λ e. (c j).0 ((keys j).0 e)), (λ e y. (keys j).1 e ((c j).1 y)))
+  changed_keys (Some (x, true)) c j = put_in (j == x.0) j x.0 refl c.1 (c.2 j)
+  changed_keys (Some (x, false)) c j = taken_out (j == x.0) j x.0 refl c.1 (c.2 j)
+
+-- the history after an answer
+module _ (m t num : ℕ) (cs : List TracedCall) (ch : Option Change) (o : OpenCall) (s : Trace) where
+  ended_history : (r : Option Reply) → open_call_at s.under_way t ≡ Some o → o.number ≡ num → s.calls ≡ map record_of cs
+      → (traced_at cs num).ended ≡ None
+      → (ended_on m t r s).calls ≡ map record_of (set cs num (traced_on m ch r (traced_at cs num)))
+  ended_history None e f g h =
+      let x : TracedCall = traced_at cs num in
+      g ∙ sym (map-set record_of cs num (traced_on m ch None (traced_at cs num))
+      ∙ ap (λ z. set (map record_of cs) num (record {
+        thread = (traced_at cs num).thread;
+        call =
+            (traced_at cs num).call;
+        begun = (traced_at cs num).begun;
+        ended = z;
+      })) (sym h)
+      ∙ ap (λ z. set (map record_of cs) num z) (sym (get_or_mapped record_of cs num no_traced))
+      ∙ set-get_or (map record_of cs) num no_call)
+  ended_history (Some a) e f g h =
+      ap (λ z. set s.calls (number_of z) (ended_with (call_numbered s.calls (number_of z)) (m, a))) e
+      ∙ ap (λ z. set s.calls z (ended_with (call_numbered s.calls z) (m, a))) f
+      ∙ ap (λ z. set z num (ended_with (call_numbered z num) (m, a))) g
+      ∙ ap (λ z. set (map record_of cs) num (ended_with z (m, a))) (get_or_mapped record_of cs num no_traced)
+      ∙ sym (map-set record_of cs num (traced_on m ch (Some a) (traced_at cs num)))
+
+or_false : (b c : Bool) → (b || c) ≡ false → (b ≡ false) × (c ≡ false)
+or_false true c e = absurd (cc)
+or_false false c e = (refl, e)
+
+no_count : (ch : Option Change) (c : ℕ) → is_change ch ≡ false → count_after ch c ≡ c
+no_count None c e = refl
+no_count (Some x) c e = absurd (cc)
+
+or_nothing : (b : Bool) → b ≡ false → (b || false) ≡ false
+or_nothing b e = rw e refl
+
+module _ (n q last : ℕ) (log : Log) (contents : Contents) (counts : Counts) (account : Account n q last log contents counts)
+    (k : ℕ) (below : k ≤ last)
+    (t : ℕ) (ch : Option Change) (r : Option Reply) (s : Trace)
+    (at : log k ≡ stepped t ch r) (en : Enters n q log contents counts k (stepped t ch r))
+    (f : Follows n q log contents counts k s) where
+  abbrev run : Run
+  run = run_of n q log contents counts
+
+  -- the number of the call that steps, and the call
+  abbrev number_here : ℕ
+  number_here = last_number log t k
+
+  abbrev here : TracedCall
+  here = traced_at (calls_at log k) number_here
+
+  -- what is kept after its change, and after its end
+  abbrev changed : Trace
+  changed = changed_on (suc k) t ch s
+
+  abbrev kept : Trace
+  kept = ended_on (suc k) t r changed
+
+  number : OpenNumber (calls_at log k) t number_here
+  number = open_number n q last log contents counts account k below t en.1
+
+  traced : Traced run k here
+  traced = all_at (Traced run k) (calls_at log k) no_traced number_here number.below
+      (calls_of n q last log contents counts account k below).each
+
+  told : OpenAt run k here.thread here.call
+      here.begun here.changed
+  told = subst (EndedBy run k here.thread here.call
+      here.begun here.changed) number.open_call.1 traced.ends
+
+  calls_next : calls_at log (suc k) ≡ set (calls_at log k) number_here (traced_on (suc k) ch r here)
+  calls_next = calls_are log k (stepped t ch r) at ∙ step_sets n q last log contents counts account k t ch r below en.1
+
+  abbrev open_now : (o : OpenCall) × (open_call_at s.under_way t ≡ Some o) × IsWatched log contents counts k t o
+  open_now = f.busy t en.0 en.1
+
+  -- the open call, which has seen the change
+  abbrev watching : OpenCall
+  watching = watched_on ch (suc k) open_now.0
+
+  open_next : open_call_at changed.under_way t ≡ Some watching
+  open_next = changed_open (suc k) t ch s t open_now.0 (let a : t < n = en.0 in let b : length s.under_way ≡ n = f.seats in
+      omega arith) open_now.1
+
+  number_next : watching.number ≡ last_number log t k
+  number_next = watched_number ch (suc k) open_now.0 ∙ open_now.2.number_is
+
+  quiet_here : has_changed log t (suc k) ≡ false → (has_changed log t k ≡ false) × (counts (suc k) t ≡ counts k t)
+  quiet_here e =
+      let w : (has_changed log t k ≡ false) × (is_change ch ≡ false) = or_false (has_changed log t k) (is_change ch)
+      (sym (pick (t == t) (has_changed log t k || is_change ch) (has_changed log t k) (equal_test t t refl))
+      ∙ sym (changed_is log k (stepped t ch r) at t) ∙ e) in
+      (w.0, en.3 ∙ no_count ch (counts k t) w.1)
+
+  watched_here : IsWatched log contents counts (suc k) t watching
+  watched_here = watched_next log contents counts k t ch open_now.0 en.2 (last_number_is log k (stepped t ch r) at t)
+      (call_is log k (stepped t ch r) at t)
+      (begun_is log k (stepped t ch r) at t) quiet_here open_now.2
+
+  step_history : kept.calls ≡ history_at log (suc k)
+  step_history = ended_history (suc k) t number_here (calls_at log k) ch watching changed r open_next number_next
+      (changed_calls (suc k) t ch s ∙ f.history) number.open_call.1 ∙ sym (ap (λ xs. map record_of xs) calls_next)
+
+  step_keys : (j : ℕ) → (kept.has j ≡ true → contents (suc k) j)
+      × (kept.has j ≡ false → contents (suc k) j → ⊥)
+  step_keys j =
+      let w = changed_keys contents k (suc k) t s f.keys ch en.2 j in
+      let e : kept.has j ≡ changed.has j = ap (λ (h : ℕ → Bool). h j) (ended_has (suc k) t r changed) in
+      ((λ z. w.0 (sym e ∙ z)), (λ z. w.1 (sym e ∙ z)))
+
+  in_seats : (u : ℕ) → u < n → u < length s.under_way
+  in_seats u l = let b : length s.under_way ≡ n = f.seats in omega arith
+
+  idle_by : (a : Option Reply) (u : ℕ) → u < n → open_after (stepped t ch a) u (is_open log u k) ≡ false
+      → open_call_at (ended_on (suc k) t a changed).under_way u ≡ None
+  idle_by None u l e = changed_shut (suc k) t ch s u (in_seats u l) (f.idle u l e)
+  idle_by (Some a) u l e = elim (same_or_not t u) [
+    | inl y ↦ subst (λ z. open_call_at (ended_on (suc k) t (Some a) changed).under_way z ≡ None) y
+        (ended_seat (suc k) t a changed (let b : length changed.under_way ≡ length s.under_way = changed_seats (suc k) t ch s in
+        let c : t < length s.under_way = in_seats t en.0 in omega arith))
+    | inr d ↦ (ended_others (suc k) t (Some a) changed u (λ z. d (sym z))
+        ∙ changed_shut (suc k) t ch s u (in_seats u l) (f.idle u l (sym (pick_not (t == u) false (is_open log u k)
+        (unequal_test t u d)) ∙ e)))
+  ]
+
+  open_other : (a : Option Reply) (u : ℕ) → t ≢ u → open_after (stepped t ch a) u (is_open log u k) ≡ true → is_open log u k ≡ true
+  open_other None u d e = e
+  open_other (Some a) u d e = sym (pick_not (t == u) false (is_open log u k) (unequal_test t u d)) ∙ e
+
+  open_here : (a : Option Reply) → open_after (stepped t ch a) t (is_open log t k) ≡ true
+      → open_call_at (ended_on (suc k) t a changed).under_way t ≡ Some watching
+  open_here None e = open_next
+  open_here (Some a) e = absurd (let g : false ≡ true = sym (pick (t == t) false (is_open log t k) (equal_test t t refl))
+      ∙ e in cc)
+
+  step_busy : (u : ℕ) → u < n → is_open log u (suc k) ≡ true
+      → (o : OpenCall) × (open_call_at kept.under_way u ≡ Some o) × IsWatched log contents counts (suc k) u o
+  step_busy u l e = elim (same_or_not t u) [
+    | inl y ↦ subst (λ z. (o : OpenCall) × (open_call_at kept.under_way z ≡ Some o) × IsWatched log contents counts
+        (suc k) z o) y (
+          watched_on ch (suc k) open_now.0,
+          open_here r (sym (open_is log k (stepped t ch r) at t) ∙ subst (λ z. is_open log z (suc k) ≡ true) (sym y) e),
+          watched_here,
+        )
+    | inr d ↦ (let w = f.busy u l (open_other r u d (sym (open_is log k (stepped t ch r) at u) ∙ e)) in (
+      watched_on ch (suc k) w.0,
+      ended_others (suc k) t r changed u (λ z. d (sym z)) ∙ changed_open (suc k) t ch s u w.0 (in_seats u l) w.1,
+      watched_next log contents counts k u ch w.0 en.2 (last_number_is log k (stepped t ch r) at u) (call_is log k
+          (stepped t ch r) at u) (begun_is log k (stepped t ch r) at u)
+          (λ g. (
+            sym (changed_is log k (stepped t ch r) at u ∙ pick_not (t == u) (has_changed log u k || is_change ch)
+                (has_changed log u k) (unequal_test t u d)) ∙ g,
+            en.4 u l (λ z. d (sym z)),
+          )) w.2,
+    ))
+  ]
+
+  fits_first : here.changed ≡ None → ch ≡ None → (a : Reply) → r ≡ Some a
+      → (m : ℕ) × (fit watching a ≡ Some m) × IsLeastFit q contents counts here (suc k) a m
+  fits_first e g a h =
+      let x : TracedCall = traced_at (calls_at log k) number_here in
+      let o : OpenCall = watched_on ch (suc k) open_now.0 in
+      let th : here.thread ≡ t = number.open_call.0 in
+      let unchanged : has_changed log t k ≡ false = subst (λ z. has_changed log z k ≡ false) th (told.changed_is
+      ∙ ap (λ (z : Option ℕ). is_some z) e) in
+      let still : has_changed log t (suc k) ≡ false = changed_is log k (stepped t ch r) at t
+      ∙ pick (t == t) (has_changed log t k || is_change ch) (has_changed log t k) (equal_test t t refl)
+      ∙ ap (λ z. has_changed log t k || is_change z) g ∙ or_nothing (has_changed log t k) unchanged in
+      let sometime : FitsSometime q contents counts (begun_at log t k) (suc k) t (last_call log t k) a =
+      subst (λ z. RightReply z q contents counts (begun_at log t k) (suc k) t (last_call log t k) (Some a)) still
+      (subst (λ z. RightReply (has_changed log t (suc k)) q contents counts (begun_at log t k) (suc k) t
+      (last_call log t k) z) h en.6) in
+      let call_same : last_call log t (suc k) ≡ last_call log t k = call_is log k (stepped t ch r) at t in
+      let begun_same : begun_at log t (suc k) ≡ begun_at log t k = begun_is log k (stepped t ch r) at t in
+      let oc : watching.call ≡ last_call log t k = watched_here.call_is ∙ call_same in
+      let sometime' : FitsSometime q contents counts (begun_at log t (suc k)) (suc k) t watching.call a =
+      subst (λ z. FitsSometime q contents counts z (suc k) t watching.call a) (sym begun_same)
+      (subst (λ z. FitsSometime q contents counts (begun_at log t k) (suc k) t z a) (sym oc) sometime) in
+      let w = fit_least q contents counts (begun_at log t (suc k)) (suc k) t watching.call a
+      watching.first_present watching.first_absent watched_here.seen.present watched_here.seen.absent
+      (watched_here.steady still) sometime' in (
+        w.0,
+        w.1,
+        least_of q contents counts here (begun_at log t (suc k)) (suc k) t watching.call a w.0
+            (subst (λ z. here.begun ≡ begun_at log z k) th (sym told.begun_is) ∙ sym begun_same)
+            th (subst (λ z. here.call ≡ last_call log z k) th (sym told.call_is) ∙ sym oc) w.2,
+      )
+
+  step_placed : (i : ℕ) → i < length (calls_at log (suc k))
+      → PlaceOf q contents counts (traced_at (calls_at log (suc k)) i) (place_at kept.places i)
+  step_placed i l =
+      let long : length (calls_at log (suc k)) ≡ length (calls_at log k) = length_stepped log k t ch r at in
+      let o : OpenCall = open_now.0 in
+      let same_num : number_of (open_call_at s.under_way t) ≡ last_number log t k =
+      ap number_of open_now.1 ∙ open_now.2.number_is in
+      let places : length s.places ≡ length (calls_at log k) = f.numbered in
+      let inside : last_number log t k < length (calls_at log k) = number.below in
+      let count1 : length changed.places ≡ length s.places = changed_count (suc k) t ch s in
+      elim (same_or_not i number_here) [
+        | inl y ↦ subst (λ z. PlaceOf q contents counts (traced_at (calls_at log (suc k)) z) (place_at kept.places z)) (sym y)
+            (subst (λ xs. PlaceOf q contents counts (traced_at xs number_here) (place_at kept.places number_here)) (sym calls_next)
+            (subst (λ z. PlaceOf q contents counts z (place_at kept.places number_here))
+            (sym (get_or-set_same (calls_at log k) number_here (traced_on (suc k) ch r here) no_traced inside))
+            (subst (λ z. PlaceOf q contents counts (traced_on (suc k) ch r here) z)
+            (sym (ap (λ z. place_at kept.places z) (sym number_next)
+            ∙ ended_here (suc k) t r changed watching open_next
+            (let e : watching.number ≡ last_number log t k = number_next in omega arith)
+            ∙ ap (λ z. end_place r watching (place_at changed.places z)) (number_next ∙ sym same_num)
+            ∙ ap (λ z. end_place r watching z) (changed_here (suc k) t ch s (omega arith))
+            ∙ ap (λ z. end_place r watching (change_place ch (suc k) (place_at s.places z))) same_num))
+            (place_next q contents counts here (suc k) watching
+            here.changed (place_at s.places number_here) ch r
+            (subst (λ z. PlaceBy q contents counts here here.changed z (place_at s.places number_here))
+            number.open_call.1 (f.placed number_here inside)) fits_first))))
+        | inr d ↦ subst (λ xs. PlaceOf q contents counts (traced_at xs i) (place_at kept.places i)) (sym calls_next)
+            (subst (λ z. PlaceOf q contents counts z (place_at kept.places i))
+            (sym (get_or-set_other (calls_at log k) number_here i (traced_on (suc k) ch r here) no_traced d))
+            (subst (λ z. PlaceOf q contents counts (traced_at (calls_at log k) i) z)
+            (sym (ended_other (suc k) t r changed watching i open_next (λ z. d (z ∙ number_next))
+            ∙ changed_other (suc k) t ch s i (λ z. d (z ∙ same_num))))
+            (f.placed i (omega arith))))
+      ]
+
+  pub follows_step : Follows n q log contents counts (suc k) kept
+  follows_step = record {
+    history = step_history;
+    seats = ended_seats (suc k) t r changed ∙ changed_seats (suc k) t ch s ∙ f.seats;
+    numbered = ended_count (suc k) t r changed ∙ changed_count (suc k) t ch s ∙ f.numbered ∙ sym (length_stepped log k t ch r at);
+    keys = step_keys;
+    idle = λ u l e. idle_by r u l (sym (open_is log k (stepped t ch r) at u) ∙ e);
+    busy = step_busy;
+    placed = step_placed;
+  }

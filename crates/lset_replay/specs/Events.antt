@@ -1,0 +1,35 @@
+-- The events of a schedule, each with the number of its line in the schedule's text.
+use Rattle.std.specs.Prelude.{ℕ, ◌+◌, List, [], ◌∷◌, ◌++◌, map, replicate, slice_index_or}
+use Rattle.lset_steps.specs.declared.Event.{Event}
+use Rattle.lset_steps.specs.declared.Event.TheVariants as event
+use Rattle.lset_schedule.specs.declared.value.Line.{Line}
+use Rattle.lset_schedule.specs.declared.value.Line.TheVariants as line
+use Rattle.lset_schedule.specs.Plan.{Plan}
+use Rattle.lset_replay.specs.declared.events.LineEvent.{LineEvent}
+
+-- a line stands for one beginning, or for that many steps
+abbrev pub events_of_line : ℕ → Line → List LineEvent
+events_of_line number (line.Begin t call) = record { line = number; event = event.Begin t call } ∷ []
+events_of_line number (line.Go t steps) = replicate steps (record { line = number; event = event.Go t })
+
+abbrev pub events_from : ℕ → List Line → List LineEvent
+events_from number [] = []
+events_from number (l ∷ ls) = events_of_line number l ++ events_from (number + 1) ls
+
+-- four header lines come before the first event line
+abbrev pub first_event_line : ℕ
+first_event_line = 5
+
+abbrev pub events_of : Plan → List LineEvent
+events_of p = events_from first_event_line p.lines
+
+-- without the numbers of the lines
+abbrev pub event_in : LineEvent → Event
+event_in e = e.event
+
+abbrev pub only_events : List LineEvent → List Event
+only_events es = map event_in es
+
+-- the number of the line of the event at that index
+abbrev pub line_at : List LineEvent → ℕ → ℕ
+line_at es index = (slice_index_or es index (record { line = 0; event = event.Go 0 })).line

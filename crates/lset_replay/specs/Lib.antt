@@ -1,0 +1,6 @@
+pub mod Events
+pub mod Reports
+pub mod Texts
+pub mod Trace
+pub mod Blocks
+pub mod Follows

@@ -1,0 +1,107 @@
+-- [Replay]: what a report tells of a schedule, and which event of a schedule is refused.
+use Rattle.std.specs.Prelude.{◌≡◌, ℕ, ◌<◌, List, map, length, Option, Some, None, Result, Ok, Err}
+use Rattle.std.specs.List.Sorted.{IsStrictlyIncreasing}
+use Rattle.lset_words.specs.declared.Kind.{Kind}
+use Rattle.lset_words.specs.declared.Kind.TheVariants as kind
+use Rattle.lset_words.specs.declared.history.CallRecord.{CallRecord}
+use Rattle.lset_words.specs.declared.history.Placed.{Placed}
+use Rattle.lset_words.specs.Log.{calls_at, history_at}
+use Rattle.lset_words.specs.Placement.{IsPlacement}
+use Rattle.lset_words.specs.History.{Linearizes, answered}
+use Rattle.lset_words.specs.SequentialSet.{empty_set, set_left}
+use Rattle.lset_steps.specs.declared.Event.{Event}
+use Rattle.lset_steps.specs.declared.world.StepFault.{StepFault}
+use Rattle.lset_steps.specs.declared.world.StepFault.TheVariants as step
+use Rattle.lset_steps.specs.Steps.{Table, Run, event_at, state_at, log_of}
+use Rattle.lset_steps.specs.Laws.{view_of}
+use Rattle.lset_steps.specs.Worlds.{WorldState, Refused, IsContent}
+use Rattle.lset_steps.specs.RunAccount.{contents_at, counts_at}
+use Rattle.lset_coarse.specs.Coarse.{coarse}
+use Rattle.lset_fine.specs.Fine.{fine}
+use Rattle.lset_history.specs.History.{HistoryValue}
+use Rattle.lset_schedule.specs.Plan.{Plan}
+use Rattle.lset_replay.specs.declared.events.LineEvent.{LineEvent}
+use Rattle.lset_replay.specs.declared.fault.ReplayFault.{ReplayFault}
+use Rattle.lset_replay.specs.declared.fault.ReplayFault.TheVariants as fault
+use Rattle.lset_replay.specs.declared.report.Report.{Report}
+use Rattle.lset_replay.specs.Events.{events_of, only_events, line_at}
+
+-- a report without where its lists lie in memory
+pub record ReportValue : Type 0 where
+  pub kind : Kind
+  pub history : HistoryValue
+  pub order : List Placed
+  pub keys : List ℕ
+
+abbrev pub view : Report → ReportValue
+view r = record { kind = r.kind; history = r.history; order = r.order.items; keys = r.keys.items }
+
+-- the machine of each list that is built
+abbrev pub table_of : Kind → Option Table
+table_of kind.Coarse = Some coarse
+table_of kind.Fine = Some fine
+table_of kind.Optimistic = None
+table_of kind.Lazy = None
+table_of kind.LockFree = None
+
+-- The run of these events, and what is told of it:
+pub record IsReportOf (T : Table) (threads quota : ℕ) (events : List Event)
+    (history : List CallRecord) (order : List Placed) (keys : List ℕ) : Type 0 where
+  -- every event is enabled,
+  pub run : Run T threads quota (event_at events) (length events)
+  -- the history is the run's,
+  pub history_is : history ≡ history_at (log_of T threads quota (event_at events)) (length events)
+  -- the order is [Placement], by the contents of the run's worlds,
+  pub placement : IsPlacement quota (length events) (calls_at (log_of T threads quota (event_at events)) (length events))
+      (contents_at T threads quota (event_at events)) (counts_at T threads quota (event_at events)) order
+  -- and the keys are the content of the last world.
+  pub content : IsContent (view_of threads quota (state_at T threads quota (event_at events) (length events))) keys
+
+-- the world after the first k events
+abbrev pub world_after : Table → ℕ → ℕ → List Event → ℕ → WorldState
+world_after T threads quota events k =
+    record { threads = threads; quota = quota; state = state_at T threads quota (event_at events) k }
+
+-- The first event that is not enabled: its line, and the first cause of it
+pub record IsFirstRefused (T : Table) (threads quota : ℕ) (events : List LineEvent)
+    (line : ℕ) (cause : StepFault) : Type 0 where
+  pub index : ℕ
+  pub known : index < length events
+  pub line_is : line ≡ line_at events index
+  pub before : Run T threads quota (event_at (only_events events)) index
+  pub refused : Refused (world_after T threads quota (only_events events) index) (event_at (only_events events) index) cause
+
+abbrev pub fault_at : ℕ → StepFault → ReplayFault
+fault_at line step.NoThread = fault.NoThread line
+fault_at line step.Busy = fault.Busy line
+fault_at line step.Idle = fault.Idle line
+
+-- what a refused replay answers: that line and cause, or that memory ran out
+abbrev pub IsRefusal : Table → ℕ → ℕ → List LineEvent → ReplayFault → Type 0
+IsRefusal T threads quota events (fault.NoThread line) = IsFirstRefused T threads quota events line step.NoThread
+IsRefusal T threads quota events (fault.Busy line) = IsFirstRefused T threads quota events line step.Busy
+IsRefusal T threads quota events (fault.Idle line) = IsFirstRefused T threads quota events line step.Idle
+IsRefusal T threads quota events fault.Memory = Unit {0}
+IsRefusal T threads quota events fault.Kind = ⊥
+
+-- the report of a schedule
+pub record IsReplay (T : Table) (p : Plan) (r : ReportValue) : Type 0 where
+  pub kind_is : r.kind ≡ p.kind
+  pub threads_are : r.history.threads ≡ p.threads
+  pub quota_is : r.history.quota ≡ p.quota
+  pub report : IsReportOf T p.threads p.quota (only_events (events_of p)) r.history.calls r.order r.keys
+
+-- what a replay by a machine answers; where the list is not built, that and nothing else
+abbrev pub ReplaysBy : Table → Plan → Result Report ReplayFault → Type 0
+ReplaysBy T p (Ok r) = IsReplay T p (view r)
+ReplaysBy T p (Err refusal) = IsRefusal T p.threads p.quota (events_of p) refusal
+
+abbrev pub Replays : Option Table → Plan → Result Report ReplayFault → Type 0
+Replays (Some T) p result = ReplaysBy T p result
+Replays None p result = result ≡ Err fault.Kind
+
+-- [Headline]: one order explains the history, and leaves the keys.
+pub record IsExplained (r : ReportValue) : Type 0 where
+  pub linearizes : Linearizes r.history.quota (empty_set r.history.threads) r.history.calls r.order
+  pub leaves : (set_left (empty_set r.history.threads) (map (answered r.history.calls) r.order)).keys ≡ r.keys
+  pub rising : IsStrictlyIncreasing r.keys

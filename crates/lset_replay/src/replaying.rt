@@ -1,0 +1,87 @@
+ghost use Rattle.std.specs.Prelude.{◌≡◌, ◌≤◌, length, IfOk};
+ghost use Rattle.lset_schedule.specs.Plan.{IsSchedule, view};
+ghost use Rattle.lset_replay.specs.Follows.{HasFollowed, FollowsAll};
+ghost use Rattle.lset_replay.specs.Reports.{table_of, Replays, ReplaysBy, IsExplained, fault_at};
+ghost use Rattle.lset_replay.specs.Reports as report;
+
+use crate::events::{LineEvent, events_of};
+use crate::order::in_order;
+use crate::recorder::Recorder;
+use crate::{ReplayFault, Report};
+use lset_coarse::CoarseList;
+use lset_fine::FineList;
+use lset_schedule::Schedule;
+use lset_steps::{Machine, StepFault, World};
+use lset_words::{Kind, layout};
+use std::alloc::Global;
+
+fn refusal(cause: StepFault, line: u64) -> ReplayFault
+    ensures { result ≡ fault_at line cause }
+{
+    match cause {
+        StepFault::NoThread => ReplayFault::NoThread(line),
+        StepFault::Busy => ReplayFault::Busy(line),
+        StepFault::Idle => ReplayFault::Idle(line),
+    }
+}
+
+fn follow_all<M: Machine>(
+    world: &mut World<M>,
+    recorder: &mut Recorder,
+    events: &[LineEvent],
+) -> Result<(), ReplayFault>
+    requires few { length events.now ≤ 10000 }
+    requires start { HasFollowed M.table world.old.threads world.old.quota events.now 0 world.old recorder.old }
+    ensures { FollowsAll M.table world.old.threads world.old.quota events.now result world.new recorder.new }
+{
+    for (index, next) in events.iter().enumerate() {
+        match world.step(next.event) {
+            Ok(told) => recorder.follow(next.event, told, index as u32 + 1)?,
+            Err(cause) => return Err(refusal(cause, next.line)),
+        }
+    }
+    Ok(())
+}
+
+/// Replays a schedule on the list of the machine `M`.
+fn replay_on<M: Machine>(alloc: Global, schedule: &Schedule) -> Result<Report, ReplayFault>
+    requires { IsSchedule (view schedule.now) }
+    ensures replays { ReplaysBy M.table (view schedule.now) result }
+    ensures explained { IfOk result (λ r. IsExplained (report.view r)) }
+{
+    let Ok(layout) = layout(schedule.threads, schedule.quota) else {
+        unreachable!();
+    };
+    let events = events_of(alloc, schedule)?;
+    let mut world = World::<M>::new(alloc, layout)?;
+    let mut recorder = Recorder::new(alloc, schedule.threads, schedule.quota)?;
+    follow_all(&mut world, &mut recorder, &events)?;
+    let order = in_order(alloc, &recorder.places, events.len() as u32)?;
+    let keys = world.content(alloc)?;
+    Ok(Report {
+        kind: schedule.kind,
+        history: recorder.history,
+        order,
+        keys,
+    })
+}
+
+/// Replays a schedule, of at most 10,000 events, on the list of its kind, one event after another.
+///
+/// `ReplayFault::Kind` where the list is not built yet, before any event. Else, at the first event that is
+/// not enabled, with the number of its line: `NoThread` where there is no such thread, `Busy` where a thread
+/// begins a call and has one open, `Idle` where a thread makes a step and has no call open. `Memory` where a
+/// growth was refused. The order of the report has each call that changed the set at the event that did,
+/// also while it is open, and each other ended call at its least moment that its reply fits. (Herlihy and
+/// Wing's linearizability; the schedules are this project's own.)
+pub fn replay(alloc: Global, schedule: &Schedule) -> Result<Report, ReplayFault>
+    requires { IsSchedule (view schedule.now) }
+    ensures replays { Replays (table_of schedule.now.kind) (view schedule.now) result }
+    ensures explained { IfOk result (λ r. IsExplained (report.view r)) }
+{
+    match schedule.kind {
+        Kind::Coarse => replay_on::<CoarseList>(alloc, schedule),
+        Kind::Fine => replay_on::<FineList>(alloc, schedule),
+        Kind::Optimistic | Kind::Lazy | Kind::LockFree => Err(ReplayFault::Kind),
+    }
+}
