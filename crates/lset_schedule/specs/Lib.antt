@@ -1,2 +1,5 @@
+pub mod Draws
+pub mod Generating
 pub mod Plan
 pub mod Reading
+pub mod Turns

@@ -1,7 +1,11 @@
 ghost use Rattle.std.specs.Prelude.{◌≡◌};
+ghost use Rattle.lset_schedule.specs.Generating.{layout_fault};
 ghost use Rattle.lset_schedule.specs.Reading.{fault, cause_of, in_schedule};
+ghost use Rattle.lset_schedule.specs.declared.fault.GenFault.TheVariants.{Memory};
 
 use lset_text::{HeaderCause, HeaderFault};
+use lset_words::LayoutFault;
+use std::alloc::{AllocError, AllocFailed};
 use thiserror::Error;
 
 /// What is wrong with a line.
@@ -65,5 +69,49 @@ impl From<HeaderFault> for ScheduleFault {
             line: fault.line,
             cause: Cause::from(fault.cause),
         }
+    }
+}
+
+/// Why there is no schedule, or are no programs, of the numbers asked for: the first cause that applies.
+#[derive(Clone, Copy, Debug, PartialEq, Eq, Error)]
+pub enum GenFault {
+    /// The threads are none, or more than 64.
+    #[error("threads outside 1 to 64")]
+    Threads,
+    /// The quota is above 16,384.
+    #[error("quota above 16384")]
+    Quota,
+    /// There are no keys to choose from.
+    #[error("no keys")]
+    Keys,
+    /// There was no memory for it.
+    #[error("out of memory")]
+    Memory,
+}
+
+impl From<LayoutFault> for GenFault {
+    ghost from_gives = { λ l g. g ≡ layout_fault l };
+
+    fn from(fault: LayoutFault) -> GenFault {
+        match fault {
+            LayoutFault::Threads => GenFault::Threads,
+            LayoutFault::Quota => GenFault::Quota,
+        }
+    }
+}
+
+impl From<AllocError> for GenFault {
+    ghost from_gives = { λ _ g. g ≡ Memory };
+
+    fn from(_error: AllocError) -> GenFault {
+        GenFault::Memory
+    }
+}
+
+impl<T: Drop> From<AllocFailed<T>> for GenFault {
+    ghost from_gives = { λ _ g. g ≡ Memory };
+
+    fn from(_error: AllocFailed<T>) -> GenFault {
+        GenFault::Memory
     }
 }

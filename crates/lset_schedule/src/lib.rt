@@ -1,13 +1,17 @@
 //! Schedules, which tell which thread begins which call and which thread takes its next steps, and their
-//! text. (This project's own format.)
+//! text, read, written and drawn at random. (This project's own format.)
 #![tactic(auto)]
 
+mod draws;
 mod fault;
+mod generator;
 mod reading;
 mod value;
 mod writing;
 
-pub use fault::{Cause, ScheduleFault};
+pub use draws::programs;
+pub use fault::{Cause, GenFault, ScheduleFault};
+pub use generator::generate;
 pub use reading::{read_schedule, schedules_read_back};
 pub use value::{Line, Schedule};
 pub use writing::write_schedule;

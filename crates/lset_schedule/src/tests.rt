@@ -1,4 +1,8 @@
 use super::*;
+use lset_coarse::CoarseList;
+use lset_words::{Call, Key};
+use rand_core::{Rng, SeedableRng};
+use rand_pcg::Pcg32;
 use std::test::Fail;
 
 /// The header of a coarse list of one thread with one slot.
@@ -66,5 +70,103 @@ fn first_faults_of_the_events(rt: HostRuntime) -> Result<(), Fail> {
 fn a_fault_shows_its_line_and_its_cause(rt: HostRuntime) -> Result<(), Fail> {
     let fault = ScheduleFault::at(6, Cause::TooMany);
     assert_eq!(rt; fault.to_string(rt.alloc())?.as_str(), "line 6: TooMany");
+    Ok(())
+}
+
+#[test]
+fn the_first_numbers_of_three_seeds(rt: HostRuntime) {
+    let rows: [(u64, [u32; 4]); 3] = [
+        (0, [298703107, 4236525527, 336081875, 1056616254]),
+        (1, [866585574, 2109535214, 3403630417, 296513984]),
+        (u64::MAX, [2553256318, 1362994822, 3759657484, 3366838333]),
+    ];
+    for (seed, numbers) in rows {
+        let mut rng = Pcg32::seed_from_u64(seed);
+        for number in numbers {
+            assert_eq!(rt; rng.next_u32(), number, "seed {seed}");
+        }
+    }
+}
+
+#[test]
+fn each_thread_draws_from_the_sum_of_the_seed_and_its_number(rt: HostRuntime) -> Result<(), Fail> {
+    let from_0 = [Call::Remove(Key(7)), Call::Contains(Key(6))];
+    let from_1 = [Call::Add(Key(6)), Call::Remove(Key(0))];
+    let drawn = programs(rt.alloc(), 2, 2, 8, 0)?;
+    assert_eq!(rt; drawn.len(), 2);
+    assert_eq!(rt; drawn[0].as_slice(), from_0.as_slice());
+    assert_eq!(rt; drawn[1].as_slice(), from_1.as_slice());
+    let wrapped = programs(rt.alloc(), 3, 2, 8, u64::MAX)?;
+    assert_eq!(rt; wrapped[1].as_slice(), from_0.as_slice());
+    assert_eq!(rt; wrapped[2].as_slice(), from_1.as_slice());
+    Ok(())
+}
+
+#[test]
+fn no_calls_are_empty_programs(rt: HostRuntime) -> Result<(), Fail> {
+    let drawn = programs(rt.alloc(), 2, 0, 8, 1)?;
+    assert_eq!(rt; drawn.len(), 2);
+    assert!(rt; drawn[0].is_empty() && drawn[1].is_empty());
+    Ok(())
+}
+
+#[test]
+fn refused_numbers_in_their_order(rt: HostRuntime) {
+    let rows = [
+        (0, 16_385, 0, GenFault::Threads),
+        (65, 16_385, 0, GenFault::Threads),
+        (64, 16_385, 0, GenFault::Quota),
+        (64, 16_384, 0, GenFault::Keys),
+    ];
+    for (threads, quota, keys, fault) in rows {
+        let found = generate::<CoarseList>(rt.alloc(), threads, quota, 0, keys, 1).err();
+        assert_eq!(rt; found, Some(fault), "{threads} {quota} {keys}");
+    }
+    let many = programs(rt.alloc(), 65, 0, 0, 1).err();
+    assert_eq!(rt; many, Some(GenFault::Threads));
+    let no_keys = programs(rt.alloc(), 64, 0, 0, 1).err();
+    assert_eq!(rt; no_keys, Some(GenFault::Keys));
+}
+
+#[test]
+fn no_calls_are_a_schedule_of_no_lines(rt: HostRuntime) -> Result<(), Fail> {
+    let schedule = generate::<CoarseList>(rt.alloc(), 2, 4, 0, 8, 1)?;
+    let text = write_schedule(rt.alloc(), &schedule)?;
+    assert_eq!(rt;
+        text.as_slice(),
+        b"listset-schedule 1\nlist coarse\nthreads 2\nquota 4\n".as_slice()
+    );
+    Ok(())
+}
+
+#[test]
+fn a_seed_stands_for_one_schedule(rt: HostRuntime) -> Result<(), Fail> {
+    let schedule = generate::<CoarseList>(rt.alloc(), 2, 4, 50, 8, 1)?;
+    let first_lines = [
+        Line::Begin(0, Call::Contains(Key(1))),
+        Line::Go(0, 1),
+        Line::Begin(1, Call::Contains(Key(0))),
+        Line::Go(0, 1),
+    ];
+    assert!(rt; schedule.lines.starts_with(&first_lines));
+    let again = generate::<CoarseList>(rt.alloc(), 2, 4, 50, 8, 1)?;
+    let text = write_schedule(rt.alloc(), &schedule)?;
+    assert_eq!(rt;
+        write_schedule(rt.alloc(), &again)?.as_slice(),
+        text.as_slice()
+    );
+    Ok(())
+}
+
+#[test]
+fn one_thread_makes_all_its_calls(rt: HostRuntime) -> Result<(), Fail> {
+    let schedule = generate::<CoarseList>(rt.alloc(), 1, 60, 50, 8, 1)?;
+    let begins = schedule
+        .lines
+        .iter()
+        .filter(|line| matches!(line, Line::Begin(_, _)))
+        .count();
+    assert_eq!(rt; begins, 50);
+    assert_eq!(rt; schedule.lines.last(), Some(&Line::Go(0, 1)));
     Ok(())
 }

@@ -1,0 +1,63 @@
+ghost use Rattle.std.specs.Prelude.{◌≡◌, ◌++◌, ℕ, List, ◌<◌, length, Err, IfOk, IfSome, IsTrue};
+ghost use Rattle.std.specs.Io.KnownBytes.{Appends};
+
+use std::alloc::Global;
+use std::io::{Read, Write};
+
+/// The most bytes that an input may have.
+pub const LONGEST: usize = 67_108_864;
+
+/// Why an input was not read.
+#[derive(Clone, Copy, Debug, PartialEq, Eq)]
+pub enum InputFault {
+    CannotRead,
+    TooLong,
+    Memory,
+}
+
+/// All bytes of the input, which is read until a read gives no byte. `CannotRead` where a read failed,
+/// which is not tried again, `TooLong` where the input has more than `LONGEST` bytes, `Memory` where
+/// memory was refused.
+pub fn input_of<R: Read>(alloc: Global, input: &mut R) -> Result<Vec<u8>, InputFault>
+    ensures whole { IfOk result (λ v. IfSome (R.remaining input.old) (λ bytes. v.items ≡ bytes)) }
+    ensures too_long { result ≡ Err InputFault.TooLong → IfSome (R.remaining input.old) (λ bytes. 67108864 < length bytes) }
+{
+    let mut bytes = Vec::new(alloc);
+    let mut buffer = [0u8; 4096];
+    loop {
+        let count = match input.read(&mut buffer) {
+            Ok(count) => count,
+            Err(_) => return Err(InputFault::CannotRead),
+        };
+        if count == 0 {
+            return Ok(bytes);
+        }
+        if count > LONGEST - bytes.len() {
+            return Err(InputFault::TooLong);
+        }
+        if bytes.extend_from_slice(&buffer[..count]).is_err() {
+            return Err(InputFault::Memory);
+        }
+    }
+}
+
+/// Writes the text, and tells whether all of it was written. A write that fails, or takes no byte, is not
+/// tried again.
+pub fn put<W: Write>(output: &mut W, text: &[u8]) -> bool
+    ensures front { (done rest : List ℕ) × (text.now ≡ done ++ rest)
+        × Appends (W.contents output.old) (W.contents output.new) done }
+    ensures whole { IsTrue result → Appends (W.contents output.old) (W.contents output.new) text.now }
+{
+    let mut rest = text;
+    while !rest.is_empty() {
+        let count = match output.write(rest) {
+            Ok(count) => count,
+            Err(_) => return false,
+        };
+        if count == 0 {
+            return false;
+        }
+        rest = &rest[count..];
+    }
+    true
+}

@@ -1,0 +1,67 @@
+-- What a generated schedule is, and what the generator refuses.
+use Rattle.std.specs.Prelude.{◌≡◌, ℕ, ◌<◌, ◌≤◌, ◌⊎◌, Bool, true, false, List, [], ◌∷◌, length, count_by, flat_map, replicate}
+use Rattle.std.specs.List.{AllByRecursion}
+use Rattle.lset_words.specs.declared.fault.LayoutFault.{LayoutFault}
+use Rattle.lset_words.specs.declared.fault.LayoutFault.TheVariants as layout
+use Rattle.lset_words.specs.Words.{IsWithin, key_of}
+use Rattle.lset_steps.specs.declared.Event.{Event}
+use Rattle.lset_steps.specs.declared.Event.TheVariants as event
+use Rattle.lset_steps.specs.Steps.{Table, Run, state_at, event_at, local_of}
+use Rattle.lset_schedule.specs.declared.value.Line.{Line}
+use Rattle.lset_schedule.specs.declared.value.Line.TheVariants as line
+use Rattle.lset_schedule.specs.declared.fault.GenFault.{GenFault}
+use Rattle.lset_schedule.specs.declared.fault.GenFault.TheVariants.{Threads, Quota, Keys, Memory}
+
+-- the events of a line, and of lines: steps are counted one by one
+abbrev pub events_of_line : Line → List Event
+events_of_line (line.Begin t call) = event.Begin t call ∷ []
+events_of_line (line.Go t steps) = replicate steps (event.Go t)
+
+abbrev pub events_of_lines : List Line → List Event
+events_of_lines lines = flat_map events_of_line lines
+
+abbrev pub is_begin : Line → Bool
+is_begin (line.Begin t call) = true
+is_begin (line.Go t steps) = false
+
+-- one event of one of the threads; keys are below `keys`
+abbrev pub IsGeneratedLine : ℕ → ℕ → Line → Type 0
+IsGeneratedLine threads keys (line.Begin t call) = (t < threads) × ((key_of call).0 < keys)
+IsGeneratedLine threads keys (line.Go t steps) = (t < threads) × (steps ≡ 1)
+
+abbrev pub StartsWithBegin : List Line → Type 0
+StartsWithBegin [] = ⊥
+StartsWithBegin (l ∷ ls) = is_begin l ≡ true
+
+-- thread t has no call open after these events
+abbrev pub NoneOpenAfter : Table → ℕ → ℕ → List Event → ℕ → Type 0
+NoneOpenAfter T threads quota es t = (local_of (state_at T threads quota (event_at es) (length es)) t).pc ≡ 0
+
+-- what a generated schedule of these sizes, with at most `calls` calls, has for lines
+pub record IsGenerated (T : Table) (threads quota calls keys : ℕ) (lines : List Line) : Type 0 where
+  -- every line is one event
+  pub each : AllByRecursion (IsGeneratedLine threads keys) lines
+  -- every event is enabled in its run
+  pub run : Run T threads quota (event_at (events_of_lines lines)) (length (events_of_lines lines))
+  pub first : 0 < calls → StartsWithBegin lines
+  pub few : count_by is_begin lines ≤ calls
+  -- with one thread all calls were begun and have ended, or the events are as many as a schedule may have
+  pub alone : threads ≡ 1
+      → (length lines ≡ 10000)
+      ⊎ ((count_by is_begin lines ≡ calls) × NoneOpenAfter T threads quota (events_of_lines lines) 0)
+
+-- what is refused by the limits of a layout
+abbrev pub layout_fault : LayoutFault → GenFault
+layout_fault layout.Threads = Threads
+layout_fault layout.Quota = Quota
+
+-- no check fails
+abbrev pub IsAccepted : ℕ → ℕ → ℕ → Type 0
+IsAccepted threads quota keys = IsWithin (record { threads = threads; quota = quota }) × (0 < keys)
+
+-- the first of the checks that fails, and Memory where none does
+abbrev pub Refuses : ℕ → ℕ → ℕ → GenFault → Type 0
+Refuses threads quota keys Threads = (threads ≡ 0) ⊎ (64 < threads)
+Refuses threads quota keys Quota = (0 < threads) × (threads ≤ 64) × (16384 < quota)
+Refuses threads quota keys Keys = IsWithin (record { threads = threads; quota = quota }) × (keys ≡ 0)
+Refuses threads quota keys Memory = IsAccepted threads quota keys

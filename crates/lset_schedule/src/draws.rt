@@ -1,0 +1,97 @@
+ghost use Rattle.std.specs.Prelude.{◌≡◌, ◌<◌, map, IfOk, IfErr};
+ghost use Rattle.lset_words.specs.Words.{key_of};
+ghost use Rattle.lset_schedule.specs.Draws.{chosen, drawn_call, drawn_calls, program_of, programs_of};
+ghost use Rattle.lset_schedule.specs.Generating.{IsAccepted, Refuses};
+
+use crate::fault::GenFault;
+use lset_words::{Call, Key, layout};
+use rand_core::{Rng, SeedableRng};
+use rand_pcg::Pcg32;
+use std::alloc::{AllocError, Global};
+
+/// The call that two draws choose: `a` the kind of call, `b` its key, below `keys`.
+#[tactic(auto, unfolding(crate::specs::Draws::chosen))]
+fn chosen(keys: u32, a: u32, b: u32) -> Call
+    requires { 0 < keys }
+    ensures value { result ≡ chosen keys a b }
+    ensures below { (key_of result).0 < keys }
+{
+    let key = Key(b % keys);
+    match a % 3 {
+        0 => Call::Add(key),
+        1 => Call::Remove(key),
+        _ => Call::Contains(key),
+    }
+}
+
+/// The next call that a generator draws.
+#[tactic(auto, unfolding(crate::specs::Draws::drawn_call))]
+pub(crate) fn draw_call<R: Rng>(keys: u32, rng: &mut R) -> Call
+    requires { 0 < keys }
+    ensures drawn { (result, R.stream rng.new) ≡ drawn_call keys (R.stream rng.old) }
+    ensures below { (key_of result).0 < keys }
+{
+    let a = rng.next_u32();
+    let b = rng.next_u32();
+    chosen(keys, a, b)
+}
+
+/// The next calls that a generator draws.
+fn draw_calls<R: Rng>(
+    alloc: Global,
+    calls: u32,
+    keys: u32,
+    rng: &mut R,
+) -> Result<Vec<Call>, AllocError>
+    requires { 0 < keys }
+    ensures { IfOk result (λ v. (v.items, R.stream rng.new) ≡ drawn_calls keys calls (R.stream rng.old)) }
+{
+    let mut drawn = Vec::new(alloc);
+    for _ in 0..calls {
+        drawn.push(draw_call(keys, rng))?;
+    }
+    Ok(drawn)
+}
+
+#[tactic(auto, unfolding(crate::specs::Draws::program_of))]
+fn program(
+    alloc: Global,
+    thread: u32,
+    calls: u32,
+    keys: u32,
+    seed: u64,
+) -> Result<Vec<Call>, AllocError>
+    requires { 0 < keys }
+    ensures { IfOk result (λ v. v.items ≡ program_of calls keys seed thread) }
+{
+    let mut rng = Pcg32::seed_from_u64(seed.wrapping_add(u64::from(thread)));
+    draw_calls(alloc, calls, keys, &mut rng)
+}
+
+/// A program of `calls` calls for each of `threads` threads, 1 to 64. Each thread has a generator of its
+/// own, made from the wrapping sum of `seed` and the thread; each call draws two numbers from it, which
+/// choose the kind of the call and its key, below `keys`. (This project's own format.)
+///
+/// `GenFault::Threads` where the threads are outside their limits, else `GenFault::Keys` where `keys` is 0,
+/// and `GenFault::Memory` where memory was refused; never `GenFault::Quota`.
+pub fn programs(
+    alloc: Global,
+    threads: u32,
+    calls: u32,
+    keys: u32,
+    seed: u64,
+) -> Result<Vec<Vec<Call>>, GenFault>
+    ensures drawn { IfOk result (λ ps. map (λ p. p.items) ps.items ≡ programs_of threads calls keys seed) }
+    ensures accepted { IfOk result (λ _. IsAccepted threads 0 keys) }
+    ensures refused { IfErr result (Refuses threads 0 keys) }
+{
+    let _layout = layout(threads, 0)?;
+    if keys == 0 {
+        return Err(GenFault::Keys);
+    }
+    let mut all = Vec::new(alloc);
+    for thread in 0..threads {
+        all.push(program(alloc, thread, calls, keys, seed)?)?;
+    }
+    Ok(all)
+}

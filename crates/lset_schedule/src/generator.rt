@@ -1,0 +1,159 @@
+ghost use Rattle.std.specs.Prelude.{◌≡◌, ◌≢◌, ℕ, ◌<◌, ◌≤◌, ◌↔◌, IsTrue, IfOk, IfErr, MatchOption, length};
+ghost use Rattle.lset_steps.specs.Steps.{Enabled, after};
+ghost use Rattle.lset_schedule.specs.Generating.{IsAccepted, IsGenerated, Refuses};
+ghost use Rattle.lset_schedule.specs.Plan.{IsSchedule, view};
+ghost use Rattle.lset_schedule.specs.Turns.{line_of_event, left_after, HasOpenCall, IsIdle, IsNextEvent, IsOver};
+
+use crate::MOST_EVENTS;
+use crate::draws::draw_call;
+use crate::fault::GenFault;
+use crate::value::{Line, Schedule};
+use lset_steps::{Event, Machine, World};
+use lset_words::{Layout, layout};
+use rand_core::{Rng, SeedableRng};
+use rand_pcg::Pcg32;
+use std::alloc::{AllocError, Global};
+
+/// The most turns of a generator.
+const MOST_TURNS: u32 = 100_000;
+
+/// The line of one event.
+fn line_of(event: Event) -> Line
+    ensures { result ≡ line_of_event event }
+{
+    match event {
+        Event::Begin(thread, call) => Line::Begin(thread, call),
+        Event::Go(thread) => Line::Go(thread, 1),
+    }
+}
+
+/// How many of `left` calls are left after an event.
+fn left_by(left: u32, event: Event) -> u32
+    ensures { result ≡ left_after left event }
+{
+    match event {
+        Event::Begin(_, _) => left.saturating_sub(1),
+        Event::Go(_) => left,
+    }
+}
+
+/// Whether one of the threads has an open call.
+fn has_open_call<M: Machine>(world: &World<M>, threads: u32) -> bool
+    requires { length world.now.state.locals ≡ threads }
+    ensures { IsTrue result ↔ ((t : ℕ) × (t < threads) × HasOpenCall world.now.state t) }
+{
+    for thread in 0..threads {
+        if world.busy(thread) {
+            return true;
+        }
+    }
+    false
+}
+
+/// Whether no turn follows after so many events, with `left` calls left.
+fn is_over<M: Machine>(world: &World<M>, threads: u32, events: usize, left: u32) -> bool
+    requires { length world.now.state.locals ≡ threads }
+    ensures { IsTrue result ↔ IsOver world.now.state events left }
+{
+    if events == MOST_EVENTS as usize {
+        return true;
+    }
+    left == 0 && !has_open_call(world, threads)
+}
+
+/// The event of a thread's turn, where `left` calls are left to begin.
+fn next_event<M: Machine>(
+    world: &World<M>,
+    thread: u32,
+    left: u32,
+    keys: u32,
+    rng: &mut Pcg32,
+) -> Option<Event>
+    requires thread { thread < length world.now.state.locals }
+    requires keys { 0 < keys }
+    ensures { MatchOption result (IsIdle world.now.state thread left) (IsNextEvent world.now.state thread left keys) }
+{
+    if world.busy(thread) {
+        return Some(Event::Go(thread));
+    }
+    if left == 0 {
+        return None;
+    }
+    Some(Event::Begin(thread, draw_call(keys, rng)))
+}
+
+/// Makes an event that is enabled.
+fn make<M: Machine>(world: &mut World<M>, event: Event)
+    requires enabled { Enabled world.old.state event }
+    requires threads { length world.old.state.locals ≡ world.old.threads }
+    ensures { world.new ≡ record world.old { state = after M.table world.old.state event } }
+{
+    let _told = world.step(event).unwrap();
+}
+
+/// The lines of at most 100,000 turns.
+fn generated_lines<M: Machine>(
+    alloc: Global,
+    layout: Layout,
+    calls: u32,
+    keys: u32,
+    rng: &mut Pcg32,
+) -> Result<Vec<Line>, AllocError>
+    requires { 0 < keys }
+    ensures made { IfOk result (λ v. IsGenerated M.table layout.threads layout.quota calls keys v.items) }
+    ensures few { IfOk result (λ v. length v.items ≤ 10000) }
+{
+    let threads = layout.threads();
+    let mut world: World<M> = World::new(alloc, layout)?;
+    let mut lines = Vec::new(alloc);
+    let mut left = calls;
+    for _ in 0..MOST_TURNS {
+        if is_over(&world, threads, lines.len(), left) {
+            break;
+        }
+        let thread = rng.next_u32() % threads;
+        if let Some(event) = next_event(&world, thread, left, keys, rng) {
+            make(&mut world, event);
+            lines.push(line_of(event))?;
+            left = left_by(left, event);
+        }
+    }
+    Ok(lines)
+}
+
+/// A schedule of at most 10,000 events, one a line, that `replay` refuses for nothing but want of memory:
+/// of the machine's kind, for `threads` threads, 1 to 64, with a quota of `quota` slots, 0 to 16,384. Every
+/// draw is a number from one generator, which is made from `seed`. In each of at most 100,000 turns a draw
+/// chooses a thread. If it has an open call, it goes one step; else, while fewer than `calls` calls were
+/// begun, two draws choose the kind of the call that it begins and its key, below `keys`. The turns end
+/// where no call is open and none is left. (This project's own format.)
+///
+/// `GenFault::Threads` where the threads are outside their limits, else `GenFault::Quota` where the quota
+/// is, else `GenFault::Keys` where `keys` is 0, and `GenFault::Memory` where memory was refused.
+pub fn generate<M: Machine>(
+    alloc: Global,
+    threads: u32,
+    quota: u32,
+    calls: u32,
+    keys: u32,
+    seed: u64,
+) -> Result<Schedule, GenFault>
+    ensures sizes { IfOk result (λ s. (s.threads ≡ threads) × (s.quota ≡ quota)) }
+    ensures schedule { IfOk result (λ s. IsSchedule (view s)) }
+    ensures generated { IfOk result (λ s. IsGenerated M.table threads quota calls keys s.lines.items) }
+    ensures accepted { IfOk result (λ _. IsAccepted threads quota keys) }
+    ensures refused { IfErr result (Refuses threads quota keys) }
+{
+    let layout = layout(threads, quota)?;
+    if keys == 0 {
+        return Err(GenFault::Keys);
+    }
+    let mut rng = Pcg32::seed_from_u64(seed);
+    let lines = generated_lines::<M>(alloc, layout, calls, keys, &mut rng)?;
+    Ok(Schedule {
+        kind: M::KIND,
+        threads,
+        quota,
+        lines,
+    })
+}
