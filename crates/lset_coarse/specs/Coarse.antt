@@ -28,7 +28,7 @@ next_action l =
     else if l.pc == 9 then Store (link_index l.pred) (2 * l.succ)
     else Store 0 0
 
--- row 3, where the key word is seen
+-- where the walk sees the key word of curr
 abbrev pub at_key : ℕ → Local → Local
 at_key seen l =
     if nat_lt seen (target l.call) then record l { pc = 4; ckey = seen }

@@ -31,7 +31,7 @@ next_action l =
     else if l.pc == 12 then Store (lock_index l.curr) 0
     else Store (lock_index l.pred) 0
 
--- row 4, where the key word is seen
+-- where the walk sees the key word of curr
 abbrev pub at_key : ℕ → Local → Local
 at_key seen l =
     if nat_lt seen (target l.call) then record l { pc = 5; ckey = seen }

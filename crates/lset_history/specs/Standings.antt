@@ -195,13 +195,13 @@ module _ (r : Run) (last : ℕ) (calls : List TracedCall) (places : List (Option
   traced_of i l = all_at (Traced r last) calls (traced_at [] 0) i l h.each
 
   pub stood : AllByRecursion (Stood r last calls places) (standing 0 calls places)
-  stood = all_imply (λ (s : Standing). Row s.number s.traced (Some s.moment)) (Stood r last calls places)
+  stood = all_imply (λ (s : Standing). OfACall s.number s.traced (Some s.moment)) (Stood r last calls places)
       (λ s p. record { known = p.0; call_is = p.1; place_is = p.2; trace = p.3; stands = p.4 }) (standing 0 calls places)
-      (standing_each Row 0 calls places (λ i l. let e : i ≡ 0 + i = omega arith in
-      subst (λ z. Row z (traced_at calls i) (place_at places i)) e (l, refl, refl, traced_of i l, stands i l)))
+      (standing_each OfACall 0 calls places (λ i l. let e : i ≡ 0 + i = omega arith in
+      subst (λ z. OfACall z (traced_at calls i) (place_at places i)) e (l, refl, refl, traced_of i l, stands i l)))
     where
-      Row : ℕ → TracedCall → Option ℕ → Type 0
-      Row number x place = (number < length calls) × (traced_at calls number ≡ x) × (place_at places number ≡ place)
+      OfACall : ℕ → TracedCall → Option ℕ → Type 0
+      OfACall number x place = (number < length calls) × (traced_at calls number ≡ x) × (place_at places number ≡ place)
           × Traced r last x × StandsAt r.quota r.contents r.counts x place
 
   pub follow : Pairs Follows (standing 0 calls places)
