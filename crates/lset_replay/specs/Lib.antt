@@ -4,3 +4,6 @@ pub mod Texts
 pub mod Trace
 pub mod Blocks
 pub mod Follows
+pub mod Reading
+pub mod ReportCalls
+pub mod ReportReader

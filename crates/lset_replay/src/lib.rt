@@ -6,15 +6,22 @@ mod events;
 mod fault;
 mod order;
 mod places;
+mod reading;
 mod recorder;
 mod replaying;
 mod report;
+mod report_fault;
 mod writing;
 
 pub use fault::ReplayFault;
+pub use reading::{read_report, reports_read_back};
 pub use replaying::replay;
 pub use report::Report;
+pub use report_fault::{ReportCause, ReportFault};
 pub use writing::write_report;
+
+/// The first line of a report's text.
+const TITLE: &str = "listset-report 1";
 
 #[cfg(test)]
 mod tests;

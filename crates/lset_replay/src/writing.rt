@@ -3,13 +3,10 @@ ghost use Rattle.lset_text.specs.Parts.{ended, text_of};
 ghost use Rattle.lset_replay.specs.Reports.{view};
 ghost use Rattle.lset_replay.specs.Texts.{call_line, call_lines, place_line, key_line, last_line, report_text};
 
-use crate::Report;
+use crate::{Report, TITLE};
 use lset_text::{Header, call_word, put_header, reply_word};
 use lset_words::{CallRecord, Placed};
 use std::alloc::{AllocError, Global};
-
-/// The first line of a report's text.
-const TITLE: &str = "listset-report 1";
 
 fn put_call(out: &mut String, number: usize, made: CallRecord) -> Result<(), AllocError>
     ensures { OnOk result (string_bytes out.new ≡ string_bytes out.old ++ ended (call_line number made)) }
