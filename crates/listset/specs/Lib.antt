@@ -1,2 +1,3 @@
 pub mod Trouble
-pub mod Tool
+pub mod Tools
+pub mod Replaying

@@ -1,16 +1,17 @@
 //! Replays recorded schedules of concurrent list sets.
 #![tactic(auto)]
 
+mod answer;
+mod replaying;
 mod streams;
 #[cfg(test)]
 mod tests;
-mod tool;
 mod trouble;
 mod words;
 
+use replaying::tool_replay;
 use std::io;
 use std::process::ExitCode;
-use tool::tool_replay;
 use words::no_words;
 
 fn main(rt: HostRuntime) -> io::Result<ExitCode> {
