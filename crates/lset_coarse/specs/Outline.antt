@@ -1,9 +1,9 @@
 -- What is known at each place of the list with one lock.
 use Rattle.std.specs.Prelude.{◌≡◌, ◌≢◌, ℕ, suc, ◌+◌, ◌*◌, ◌/◌, ◌%◌, ◌<◌, ◌≤◌, Bool, true, false, Some, None, List, [], slice_index, slice_set, length, refl, if◌then◌else◌, ◌==◌, nat_lt}
 use Rattle.std.proofs.Common.{arith, inl, inr, sym, ◌∙◌, ap, subst}
+use Rattle.lset_words.specs.Numbers.{same_or_not, below_or_not, if_same, if_other, if_below, if_not_below, same_number, other_number, lower_number, not_lower_number}
 use Rattle.lset_words.specs.Words.{key_index, link_index, tail_word, node_count, word_count, slot_node, target, key_of}
 use Rattle.lset_words.specs.declared.Call.{Call}
-use Rattle.lset_words.specs.declared.Call.TheVariants.{Add, Remove}
 use Rattle.lset_words.specs.declared.Key.{Key}
 use Rattle.lset_words.specs.declared.Reply.{Reply}
 use Rattle.lset_words.specs.declared.Reply.TheVariants.{True}
@@ -15,10 +15,10 @@ use Rattle.lset_steps.specs.Chain.{View, view, InChain, InContent, FitsIn, node_
 use Rattle.lset_steps.specs.Moves.{Quiet}
 use Rattle.lset_steps.specs.Laws.{Registers, Due}
 use Rattle.lset_words.specs.Account.{MayChange}
-use Rattle.lset_steps.specs.Memory.{WordStep, Memory, reads, fails, takes, gives, own_key, own_link, puts, drops, own_of, one_more, set_same, key_after_link, list_lock_after_link, list_lock_after_key, link_wrote, key_wrote, own_in, inner, next_in, chain_in, inside, same_or_not, mine_counted, at_own_key, at_own_link}
+use Rattle.lset_steps.specs.Memory.{WordStep, Memory, reads, fails, takes, gives, own_key, own_link, puts, drops, own_of, one_more, set_same, key_after_link, list_lock_after_link, list_lock_after_key, link_wrote, key_wrote, own_in, inner, next_in, chain_in, inside, mine_counted, at_own_key, at_own_link}
 use Rattle.lset_steps.specs.QuietMove.{in_chain_published, quiet_keeps}
 use Rattle.lset_steps.specs.Discipline.{Discipline, StepOf, Here, Thread}
-use Rattle.lset_steps.specs.Replies.{decided_cases, absent_between, fitted_on, if_same, if_other, if_below, if_not_below, eq_is, eq_not, lt_is, lt_not, below_or_not, or_false, fed, fed_is, keep, keep_ckey, keep_succ, keep_walk}
+use Rattle.lset_steps.specs.Replies.{Adding, Removing, registers_begun, keep_more, decided_cases, absent_between, fitted_on, or_false, fed, fed_is, keep, keep_ckey, keep_succ, keep_walk}
 use Rattle.lset_steps.specs.Rows.{decided, goes_to, own_slot}
 use Rattle.lset_coarse.specs.Coarse.{coarse, next_action, local_after, fed_by, effect_of}
 
@@ -28,15 +28,6 @@ pub record Walking (v : View) (me key pred curr : ℕ) : Type 0 where
   pub at : InChain v pred
   pub follows : v.link pred ≡ 2 * curr
   pub below : v.key pred < key
-
-pub record Adding (v : View) (t q curr : ℕ) (op : Call) : Type 0 where
-  pub call : op ≡ Add (key_of op)
-  pub room : v.used t < q
-  pub above : target op < v.key curr
-
-pub record Removing (v : View) (curr : ℕ) (op : Call) : Type 0 where
-  pub call : op ≡ Remove (key_of op)
-  pub found : v.key curr ≡ target op
 
 -- one line for each place
 pub data At (q t : ℕ) (vs : ℕ → View) (first now : ℕ) (v : View) (done : Bool) (l : Local) : Type 0 where
@@ -231,16 +222,16 @@ module _ (n q t : ℕ) (vs : ℕ → View) (first : ℕ → ℕ) (now : ℕ) (ws
         | inr ge ↦
             (let go = if_not_below s k ge (record l0 { pc = 4 }) (decided 5 8 10 l.call found room l0) in
             let hit : found ≡ true → InContent (view n q ws used) (key_of l.call).0 = λ y.
-            (let z : s ≡ k = eq_is s k y in let hk : node_key ws 0 ≡ 0 = M.head_key in
+            (let z : s ≡ k = same_number s k y in let hk : node_key ws 0 ≡ 0 = M.head_key in
             let c0 : l.curr ≢ 0 = λ f. (let g : node_key ws l.curr ≡ node_key ws 0 = ap (node_key ws) f in omega arith) in
             let c1 : l.curr ≢ 1 = λ f. (let g : node_key ws l.curr ≡ node_key ws 1 = ap (node_key ws) f in omega arith) in
             (l.curr, ci, omega arith, z, M.marked l.curr cm)) in
             let miss : found ≡ false → InContent (view n q ws used) (key_of l.call).0 → ⊥ = λ y.
-            (let z : s ≢ k = eq_not s k y in let half : node_link ws p / 2 ≡ l.curr = omega arith in
+            (let z : s ≢ k = other_number s k y in let half : node_link ws p / 2 ≡ l.curr = omega arith in
             absent_between (view n q ws used) M.ordered p (key_of l.call).0 w.at
             (inner false n q ws used M p k w.below low) w.below (rw half (omega arith))) in
             let full : room ≡ false → used t ≡ q = λ y.
-            (let z : l.quota ≤ l.used = lt_not l.used l.quota y in let c = counts in let qu = regs.quota in
+            (let z : l.quota ≤ l.used = not_lower_number l.used l.quota y in let c = counts in let qu = regs.quota in
             let m : used t ≤ q = M.room t tn in omega arith) in
             elim (decided_cases 5 8 10 q t (view n q ws used) l.call found room l0 hit miss full) [
               | inl r ↦ step a ws (goes_to 10 (Some r.0) l0) (rw e refl) (rw e (go ∙ r.1)) (rw e refl) (rw e refl) ch
@@ -257,13 +248,13 @@ module _ (n q t : ℕ) (vs : ℕ → View) (first : ℕ → ℕ) (now : ℕ) (ws
                     (keep_ckey n q t 5 s None l small regs) refl refl (λ x. omega arith)
                     (at5 refl d w (record {
                       call = r.1;
-                      room = (let y = lt_is l.used l.quota r.3 in let c = counts in let qu = regs.quota in omega arith);
-                      above = (let y = eq_not s k r.2 in omega arith);
+                      room = (let y = lower_number l.used l.quota r.3 in let c = counts in let qu = regs.quota in omega arith);
+                      above = (let y = other_number s k r.2 in omega arith);
                     }))
                     (alone v w.mine)
                 | inr r ↦ step a ws (goes_to 8 None l0) (rw e refl) (rw e (go ∙ r.0)) (rw e refl) (rw e refl) ch
                     (keep_ckey n q t 8 s None l small regs) refl refl (λ x. omega arith)
-                    (at8 refl d w (record { call = r.1; found = eq_is s k r.2 }))
+                    (at8 refl d w (record { call = r.1; found = same_number s k r.2 }))
                     (alone v w.mine)
               ]
             ])
@@ -354,18 +345,7 @@ module _ (n q t : ℕ) (vs : ℕ → View) (first : ℕ → ℕ) (now : ℕ) (ws
       change (Store (link_index p) x) ws' (one_more used t)
       (record l { pc = 10; reply = Some True; used = l.used + 1 }) (key_of l.call) true
       (rw (e, own_is) refl) (rw e refl) (rw e refl) ch
-      (record {
-        thread = regs.thread;
-        quota = regs.quota;
-        used = (omega arith);
-        low = regs.low;
-        pred = regs.pred;
-        curr = regs.curr;
-        succ = regs.succ;
-        node = regs.node;
-        pkey = regs.pkey;
-        ckey = regs.ckey;
-      })
+      (keep_more n q t 10 l (rw counts a.room) regs)
       refl (omega arith) refl refl (a.call, d, a.room) d (list_lock_after_link ws p x ∙ w.mine) w.mine
 
   go_8 : (locals t).pc ≡ 8 → done t ≡ false
@@ -445,18 +425,7 @@ pub coarse_discipline : Discipline coarse false At
 coarse_discipline = record {
   idle_at = λ q t vs v. at0 refl;
   begun = λ call l. (refl, refl, (λ e. omega arith));
-  begin_registers = λ n q t call l low r. record {
-    thread = r.thread;
-    quota = r.quota;
-    used = r.used;
-    low = low;
-    pred = omega arith;
-    curr = omega arith;
-    succ = omega arith;
-    node = omega arith;
-    pkey = omega arith;
-    ckey = omega arith;
-  };
+  begin_registers = λ n q t call l low r. registers_begun n q t 1 call l low r;
   begins = λ q t vs now v call l e s k. at1 refl refl;
   waits = λ q t vs first now v done l e. waits q t vs first now v done l;
   goes = λ n q t vs first now ws used done locals h ths tn busy. go_by n q t vs first now ws used done locals h ths tn

@@ -1,6 +1,7 @@
 -- What is known at each place of the list with node locks hand over hand.
 use Rattle.std.specs.Prelude.{◌≡◌, ◌≢◌, ℕ, suc, ◌+◌, ◌*◌, ◌/◌, ◌%◌, ◌<◌, ◌≤◌, Bool, true, false, Some, None, List, slice_set, refl}
 use Rattle.std.proofs.Common.{arith, inl, inr, sym, ◌∙◌, subst}
+use Rattle.lset_words.specs.Numbers.{if_below, if_not_below, below_or_not}
 use Rattle.lset_words.specs.Words.{key_index, link_index, lock_index, tail_word, node_count, slot_node, target, key_of}
 use Rattle.lset_words.specs.declared.Reply.{Reply}
 use Rattle.lset_words.specs.declared.Reply.TheVariants.{True}
@@ -11,10 +12,10 @@ use Rattle.lset_steps.specs.Laws.{Registers, Due}
 use Rattle.lset_steps.specs.Memory.{Memory, own_of, one_more, one_more_same, lock_after_link, lock_after_lock, key_after_lock, key_after_link, link_wrote, key_wrote, lock_wrote, own_in, inside}
 use Rattle.lset_steps.specs.Rely.{Rely}
 use Rattle.lset_steps.specs.Discipline.{Here, Thread}
-use Rattle.lset_steps.specs.Replies.{if_below, if_not_below, below_or_not, keep, keep_ckey, keep_succ, keep_walk}
+use Rattle.lset_steps.specs.Replies.{Adding, Removing, registers_begun, keep_more, keep, keep_ckey, keep_succ, keep_walk}
 use Rattle.lset_steps.specs.Rows.{decided_on, goes_to, own_slot}
-use Rattle.lset_steps.specs.Held.{Held, Behind, Between, Adding, Removing, Leaves, LockedStep, in_chain, head_held, leaves_of, held_on, below_on, behind_on, between_on, adding_on, removing_on, own_key_on, own_link_on, reads_word, frees, writes_own_key, writes_own_link, puts_between, held_from, behind_from, curr_is_not_pred, found_next, drops_between, decides, leaves_locked, held_past, leaves_own_key, leaves_own_link}
-use Rattle.lset_steps.specs.Turns.{Turn, NodeLocks, due_on, due_now, registers_begun, keep_more, tries}
+use Rattle.lset_steps.specs.Held.{Held, Behind, Between, Leaves, LockedStep, in_chain, head_held, leaves_of, held_on, below_on, behind_on, between_on, adding_on, removing_on, own_key_on, own_link_on, reads_word, frees, writes_own_key, writes_own_link, puts_between, held_from, behind_from, curr_is_not_pred, found_next, drops_between, decides, leaves_locked, held_past, leaves_own_key, leaves_own_link}
+use Rattle.lset_steps.specs.Turns.{Turn, NodeLocks, due_on, due_now, tries}
 use Rattle.lset_steps.specs.Turns.Turn.{passes, changes, answers}
 use Rattle.lset_fine.specs.Fine.{fine, targets}
 

@@ -14,9 +14,10 @@ use Rattle.lset_steps.specs.Steps.{Table, State, Run, Enabled, state_at, local_o
 use Rattle.lset_steps.specs.Chain.{View, IsOrdered, IsChain, Segment, contents_of, counts_of}
 use Rattle.lset_steps.specs.Laws.{Lawful, StateLaws, StepAt, word_named, views}
 use Rattle.lset_steps.specs.Worlds.{keys_in}
-use Rattle.lset_steps.specs.WorldRuns.{state_agree}
-use Rattle.lset_steps.specs.Replies.{if_same, if_other}
-use Rattle.lset_steps.specs.ContentLists.{RisesFrom, rises_less, chain_is, increasing_from}
+use Rattle.lset_steps.specs.MoreEvents.{state_agree}
+use Rattle.lset_words.specs.Numbers.{if_same, if_other}
+use Rattle.lset_words.specs.RisingLists.{RisesFrom, rises_less, increasing_from_rises}
+use Rattle.lset_steps.specs.ContentLists.{chain_is}
 use Rattle.lset_steps.specs.RunContents.{ContentList, content_at}
 use Rattle.lset_steps.specs.RunAccount.{account_of}
 use Rattle.lset_steps.specs.LockWords.{lock_word}
@@ -81,7 +82,7 @@ sorted_of : (v : View) → IsOrdered v → (c : (ns : List ℕ) × IsChain v ns)
 sorted_of v ord c = record {
   nodes = c.0;
   chain = c.1;
-  rising = λ k l. increasing_from (v.key 0) (map v.key (c.0 ++ 1 ∷ [])) (chain_rises v ord 0 c.0 ord.head_published c.1) k l;
+  rising = λ k l. increasing_from_rises (v.key 0) (map v.key (c.0 ++ 1 ∷ [])) (chain_rises v ord 0 c.0 ord.head_published c.1) k l;
 }
 
 pub sorted_chain_of : (T : Table) → Lawful T → SortedChain T
@@ -137,7 +138,7 @@ true_means_change_of T law n q last k t es change r l e =
 listed : (v : View) → ContentList v → ContentIsListed v
 listed v c = record {
   keys = keys_in v c.nodes;
-  rising = ((c.nodes, c.chain, refl), λ k l. increasing_from 0 (keys_in v c.nodes) c.rises k l);
+  rising = ((c.nodes, c.chain, refl), λ k l. increasing_from_rises 0 (keys_in v c.nodes) c.rises k l);
   member = c.have;
   only = c.from;
   low = c.low;

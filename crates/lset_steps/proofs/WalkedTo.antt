@@ -1,10 +1,12 @@
 -- What `World::content` knows on its walk along the chain.
-use Rattle.std.proofs.Common.{◌≡◌, ◌≢◌, ℕ, ◌-◌, ◌/◌, ◌%◌, ◌<◌, ◌≤◌, ◌⊎◌, Bool, true, false, inl, inr, List, [], ◌∷◌, ◌++◌, sym, refl, ap, subst, arith, rules}
+use Rattle.std.proofs.Common.{◌≡◌, ◌≢◌, ℕ, ◌-◌, ◌/◌, ◌%◌, ◌<◌, ◌≤◌, Bool, true, false, inl, inr, List, [], ◌∷◌, ◌++◌, sym, refl, ap, subst, arith, rules}
 use Rattle.std.specs.Prelude.{nat_lt, nat_eq, ◌&&◌, IsTrue, ◌↔◌}
 use Rattle.lset_steps.specs.Chain.{View, Segment, IsChain, IsOrdered}
 use Rattle.std.specs.List.Sorted.{IsStrictlyIncreasing}
 use Rattle.lset_steps.specs.Worlds.{keys_in, IsContent}
-use Rattle.lset_steps.specs.ContentLists.{content_rises, increasing_from}
+use Rattle.std.proofs.lemmas.Bool.{cases_Bool}
+use Rattle.lset_words.specs.RisingLists.{increasing_from_rises}
+use Rattle.lset_steps.specs.ContentLists.{content_rises}
 use Rattle.lset_steps.specs.Segments.{segment-append}
 use Rattle.lset_steps.specs.QuietMove.{not_one}
 
@@ -32,11 +34,7 @@ walk_starts v ord top =
 keys-append : (v : View) (xs ys : List ℕ) → keys_in v (xs ++ ys) ≡ keys_in v xs ++ keys_in v ys
 keys-append v [] ys = refl
 keys-append v (x ∷ xs) ys = let i : keys_in v (xs ++ ys) ≡ keys_in v xs ++ keys_in v ys = keys-append v xs ys in
-    elim (bool_cases (nat_lt 1 x && nat_eq (v.link x % 2) 0)) [ inl e ↦ rw (e, i) refl | inr e ↦ rw (e, i) refl ]
-  where
-    bool_cases : (t : Bool) → (t ≡ true) ⊎ (t ≡ false)
-    bool_cases true = inl refl
-    bool_cases false = inr refl
+    elim (cases_Bool (nat_lt 1 x && nat_eq (v.link x % 2) 0)) [ inl e ↦ rw (e, i) refl | inr e ↦ rw (e, i) refl ]
 
 walk_goes : (v : View) → IsOrdered v → (items more : List ℕ) (curr next : ℕ) → curr ≢ 1 → next ≡ v.link curr / 2
     → keys_in v (curr ∷ []) ≡ more
@@ -104,7 +102,7 @@ walk_ends v ord items curr e w =
     let chain : IsChain v w.nodes = subst (λ z. Segment v 0 w.nodes z) e w.seg in (
       (w.nodes, chain, w.keys),
       subst IsStrictlyIncreasing (sym w.keys)
-          (increasing_from 0 (keys_in v w.nodes) (content_rises v ord w.nodes chain)),
+          (increasing_from_rises 0 (keys_in v w.nodes) (content_rises v ord w.nodes chain)),
     )
 
 -- what the test of a mark says of the word

@@ -1,22 +1,22 @@
 -- The chain and the content as lists: the chain reaches the tail, and the keys of its unmarked user nodes rise and are the
 -- content.
-use Rattle.std.proofs.Common.{◌≡◌, ◌≢◌, ℕ, zero, suc, ◌+◌, ◌-◌, ◌/◌, ◌%◌, ◌<◌, ◌≤◌, ◌⊎◌, Bool, true, false, inl, inr, List, [], ◌∷◌, length, get_or, sym, refl, ap, subst, ◌∙◌, arith, rules}
+use Rattle.std.proofs.Common.{◌≡◌, ◌≢◌, ℕ, zero, suc, ◌+◌, ◌-◌, ◌/◌, ◌%◌, ◌<◌, ◌≤◌, true, false, inl, inr, List, [], ◌∷◌, sym, refl, ap, subst, ◌∙◌, arith, rules}
 use Rattle.std.specs.Prelude.{Contains, nat_lt, nat_eq, ◌&&◌}
+use Rattle.std.proofs.lemmas.Bool.{cases_Bool}
+use Rattle.lset_words.specs.Numbers.{same_or_not}
+use Rattle.lset_words.specs.RisingLists.{contains-cons, contains-head, contains-tail, contains-nil, RisesFrom, rises_less}
 use Rattle.lset_steps.specs.Chain.{View, Segment, InChain, IsChain, InContent, IsOrdered}
 use Rattle.lset_steps.specs.Worlds.{keys_in}
 use Rattle.lset_steps.specs.Segments.{segment_rises}
 
-at_one : (i : ℕ) → (i ≡ 1) ⊎ (i ≢ 1)
-at_one i = grind arith
-
 -- The chain reaches the tail.
 reaches-by : (v : View) → IsOrdered v → (d i : ℕ) → v.published i → v.key 1 ≤ v.key i + d → (ns : List ℕ) × Segment v i ns 1
-reaches-by v ord zero i m le = elim (at_one i) [
+reaches-by v ord zero i m le = elim (same_or_not i 1) [
   | inl e ↦ ([], e)
   | inr n ↦ absurd (let a : v.key i < v.key (v.link i / 2) = ord.rises i m n in
       let b : v.key (v.link i / 2) ≤ v.key 1 = ord.top (v.link i / 2) (ord.next_published i m n) in omega arith)
 ]
-reaches-by v ord (suc d) i m le = elim (at_one i) [
+reaches-by v ord (suc d) i m le = elim (same_or_not i 1) [
   | inl e ↦ ([], e)
   | inr n ↦ (let a : v.key i < v.key (v.link i / 2) = ord.rises i m n in
       let r : (ns : List ℕ) × Segment v (v.link i / 2) ns 1 =
@@ -31,22 +31,6 @@ pub chain_is : (v : View) → IsOrdered v → (ns : List ℕ) × IsChain v ns
 chain_is v ord = reaches v ord 0 ord.head_published
 
 -- MEMBERS
-pub contains-cons : (x y : ℕ) (xs : List ℕ) → Contains (x ∷ xs) y → (x ≡ y) ⊎ Contains xs y
-contains-cons x y xs c = at c.0 c.1 c.2
-  where
-    at : (k : ℕ) → k < length (x ∷ xs) → get_or (x ∷ xs) k y ≡ y → (x ≡ y) ⊎ Contains xs y
-    at zero l e = inl e
-    at (suc k) l e = inr (k, omega arith, e)
-
-pub contains-head : (x y : ℕ) (xs : List ℕ) → x ≡ y → Contains (x ∷ xs) y
-contains-head x y xs e = (0, omega arith, e)
-
-pub contains-tail : (x y : ℕ) (xs : List ℕ) → Contains xs y → Contains (x ∷ xs) y
-contains-tail x y xs c = let l : c.0 < length xs = c.1 in (suc c.0, omega arith, c.2)
-
-pub contains-nil : (y : ℕ) → Contains [] y → ⊥
-contains-nil y c = let l : c.0 < 0 = c.1 in omega arith
-
 -- a node of a segment is met from its start
 pub segment_prefix : (v : View) (i j b : ℕ) (ns : List ℕ) → Segment v i ns j → Contains ns b → (ps : List ℕ) × Segment v i ps b
 segment_prefix v i j b [] s c = absurd (contains-nil b c)
@@ -74,10 +58,6 @@ kept-yes v b u e = search rules
 kept-no : (v : View) (b : ℕ) → (nat_lt 1 b && nat_eq (v.link b % 2) 0) ≡ true → (1 < b) × (v.link b % 2 ≡ 0)
 kept-no v b e = search rules
 
-bool_cases : (t : Bool) → (t ≡ true) ⊎ (t ≡ false)
-bool_cases true = inl refl
-bool_cases false = inr refl
-
 keys-yes : (v : View) (a : ℕ) (ns : List ℕ) → (nat_lt 1 a && nat_eq (v.link a % 2) 0) ≡ true
     → keys_in v (a ∷ ns) ≡ (v.key a - 1) ∷ keys_in v ns
 keys-yes v a ns e = rw e refl
@@ -88,7 +68,7 @@ keys-no v a ns e = rw e refl
 pub keys_have : (v : View) (ns : List ℕ) (b k : ℕ) → Contains ns b → 1 < b → v.link b % 2 ≡ 0 → v.key b ≡ k + 1
     → Contains (keys_in v ns) k
 keys_have v [] b k c u e f = absurd (contains-nil b c)
-keys_have v (a ∷ ns) b k c u e f = elim (bool_cases (nat_lt 1 a && nat_eq (v.link a % 2) 0)) [
+keys_have v (a ∷ ns) b k c u e f = elim (cases_Bool (nat_lt 1 a && nat_eq (v.link a % 2) 0)) [
   | inl t ↦ subst (λ x. Contains x k) (sym (keys-yes v a ns t)) (elim (contains-cons a b ns c) [
     | inl s ↦ contains-head (v.key a - 1) k (keys_in v ns) (let g : v.key a ≡ v.key b = ap v.key s in omega arith)
     | inr d ↦ contains-tail (v.key a - 1) k (keys_in v ns) (keys_have v ns b k d u e f)
@@ -105,7 +85,7 @@ keys_have v (a ∷ ns) b k c u e f = elim (bool_cases (nat_lt 1 a && nat_eq (v.l
 pub keys_from : (v : View) (ns : List ℕ) (k : ℕ) → Contains (keys_in v ns) k
     → (b : ℕ) × Contains ns b × (1 < b) × (v.link b % 2 ≡ 0) × (v.key b - 1 ≡ k)
 keys_from v [] k c = absurd (contains-nil k c)
-keys_from v (a ∷ ns) k c = elim (bool_cases (nat_lt 1 a && nat_eq (v.link a % 2) 0)) [
+keys_from v (a ∷ ns) k c = elim (cases_Bool (nat_lt 1 a && nat_eq (v.link a % 2) 0)) [
   | inl t ↦ elim (contains-cons (v.key a - 1) k (keys_in v ns) (subst (λ x. Contains x k) (keys-yes v a ns t) c)) [
     | inl s ↦ (a, contains-head a a ns refl, (kept-no v a t).0, (kept-no v a t).1, s)
     | inr d ↦ (let r : (b : ℕ) × Contains ns b × (1 < b) × (v.link b % 2 ≡ 0) × (v.key b - 1 ≡ k) = keys_from v ns k d in
@@ -142,14 +122,6 @@ content_from v ord ns k s c =
     (r.0, ib, r.2, omega arith, r.3)
 
 -- AND RISES
-abbrev pub RisesFrom : ℕ → List ℕ → Type 0
-RisesFrom lo [] = Unit {0}
-RisesFrom lo (x ∷ xs) = (lo ≤ x) × RisesFrom (x + 1) xs
-
-pub rises_less : (lo hi : ℕ) (xs : List ℕ) → lo ≤ hi → RisesFrom hi xs → RisesFrom lo xs
-rises_less lo hi [] l r = tt
-rises_less lo hi (x ∷ xs) l r = let a : hi ≤ x = r.0 in (omega arith, r.1)
-
 keys_rise : (v : View) → IsOrdered v → (i j lo : ℕ) (ns : List ℕ) → v.published i → Segment v i ns j
     → lo + 1 ≤ v.key i → RisesFrom lo (keys_in v ns)
 keys_rise v ord i j lo [] m s l = tt
@@ -158,7 +130,7 @@ keys_rise v ord i j lo (a ∷ ns) m s l =
     let ka : v.key a ≡ v.key i = ap v.key s.0 in
     let r : RisesFrom (v.key a - 1 + 1) (keys_in v ns) =
     keys_rise v ord (v.link i / 2) j (v.key a - 1 + 1) ns (ord.next_published i m s.1) s.2 (omega arith) in
-    elim (bool_cases (nat_lt 1 a && nat_eq (v.link a % 2) 0)) [
+    elim (cases_Bool (nat_lt 1 a && nat_eq (v.link a % 2) 0)) [
       | inl t ↦ subst (RisesFrom lo) (sym (keys-yes v a ns t)) (omega arith, r)
       | inr t ↦ subst (RisesFrom lo) (sym (keys-no v a ns t)) (rises_less lo (v.key a - 1 + 1) (keys_in v ns) (omega arith) r)
     ]
@@ -169,66 +141,7 @@ content_rises v ord (a ∷ ns) s =
     let h : v.key 0 < v.key (v.link 0 / 2) = ord.rises 0 ord.head_published s.1 in
     let r : RisesFrom 0 (keys_in v ns) =
     keys_rise v ord (v.link 0 / 2) 1 0 ns (ord.next_published 0 ord.head_published s.1) s.2 (omega arith) in
-    elim (bool_cases (nat_lt 1 a && nat_eq (v.link a % 2) 0)) [
+    elim (cases_Bool (nat_lt 1 a && nat_eq (v.link a % 2) 0)) [
       | inl t ↦ absurd (let u : 1 < a = (kept-no v a t).0 in let e : a ≡ 0 = s.0 in omega arith)
       | inr t ↦ subst (RisesFrom 0) (sym (keys-no v a ns t)) r
     ]
-
-pub increasing_from : (lo : ℕ) (xs : List ℕ) → RisesFrom lo xs → (k : ℕ) → k + 1 < length xs → get_or xs k 0 < get_or xs (k + 1) 0
-increasing_from lo [] r k l = absurd (omega arith)
-increasing_from lo (x ∷ []) r k l = absurd (omega arith)
-increasing_from lo (x ∷ (y ∷ xs)) r zero l = let a : x + 1 ≤ y = r.1.0 in omega arith
-increasing_from lo (x ∷ (y ∷ xs)) r (suc k) l =
-    let e : suc (k + 1) ≡ suc k + 1 = omega arith in
-    subst (λ n. get_or (y ∷ xs) k 0 < get_or (x ∷ (y ∷ xs)) n 0) e (increasing_from (x + 1) (y ∷ xs) r.1 k (omega arith))
-
--- Two rising lists with the same members are one list.
-rise_bound : (lo y : ℕ) (xs : List ℕ) → RisesFrom lo xs → Contains xs y → lo ≤ y
-rise_bound lo y [] r c = absurd (contains-nil y c)
-rise_bound lo y (x ∷ xs) r c = elim (contains-cons x y xs c) [
-  | inl e ↦ (let a : lo ≤ x = r.0 in omega arith)
-  | inr d ↦ (let a : lo ≤ x = r.0 in let b : x + 1 ≤ y = rise_bound (x + 1) y xs r.1 d in omega arith)
-]
-
-pub same_rising : (lo mo : ℕ) (xs ys : List ℕ) → RisesFrom lo xs → RisesFrom mo ys
-    → ((k : ℕ) → Contains xs k → Contains ys k) → ((k : ℕ) → Contains ys k → Contains xs k) → xs ≡ ys
-same_rising lo mo [] [] r s f g = refl
-same_rising lo mo [] (y ∷ ys) r s f g = absurd (contains-nil y (g y (contains-head y y ys refl)))
-same_rising lo mo (x ∷ xs) [] r s f g = absurd (contains-nil x (f x (contains-head x x xs refl)))
-same_rising lo mo (x ∷ xs) (y ∷ ys) r s f g =
-    let e : x ≡ y = heads in
-    let t : xs ≡ ys = same_rising (x + 1) (y + 1) xs ys r.1 s.1 (down x y xs ys r.1 f e) (down y x ys xs s.1 g (sym e)) in
-    cc
-  where
-    heads : x ≡ y
-    heads =
-        let a : mo ≤ y = s.0 in
-        let below : (u v : ℕ) (us vs : List ℕ) → RisesFrom (v + 1) vs → Contains (v ∷ vs) u
-        → v ≤ u = λ u v us vs q c. elim (contains-cons v u vs c) [
-          | inl e ↦ omega arith
-          | inr d ↦ (let b : v + 1 ≤ u = rise_bound (v + 1) u vs q d in omega arith)
-        ] in
-        let p : y ≤ x = below x y xs ys s.1 (f x (contains-head x x xs refl)) in
-        let q : x ≤ y = below y x ys xs r.1 (g y (contains-head y y ys refl)) in
-        omega arith
-
-    down : (x y : ℕ) (xs ys : List ℕ) → RisesFrom (x + 1) xs → ((k : ℕ) → Contains (x ∷ xs) k → Contains (y ∷ ys) k) → x ≡ y
-        → (k : ℕ) → Contains xs k → Contains ys k
-    down x y xs ys q h e k c = elim (contains-cons y k ys (h k (contains-tail x k xs c))) [
-      | inl i ↦ absurd (let b : x + 1 ≤ k = rise_bound (x + 1) k xs q c in omega arith)
-      | inr d ↦ d
-    ]
-
-rises_inc : (x : ℕ) (xs : List ℕ)
-    → ((k : ℕ) → k + 1 < length (x ∷ xs) → get_or (x ∷ xs) k 0 < get_or (x ∷ xs) (k + 1) 0) → RisesFrom (x + 1) xs
-rises_inc x [] h = tt
-rises_inc x (y ∷ ys) h =
-    let a : x < y = h 0 (omega arith) in (
-      omega arith,
-      rises_inc y ys (λ k l. let e : suc k + 1 ≡ suc (k + 1) = omega arith in
-          subst (λ n. get_or (y ∷ ys) k 0 < get_or (x ∷ (y ∷ ys)) n 0) e (h (suc k) (omega arith))),
-    )
-
-pub rises_from_increasing : (xs : List ℕ) → ((k : ℕ) → k + 1 < length xs → get_or xs k 0 < get_or xs (k + 1) 0) → RisesFrom 0 xs
-rises_from_increasing [] h = tt
-rises_from_increasing (x ∷ xs) h = (omega arith, rises_inc x xs h)

@@ -1,8 +1,8 @@
 -- A machine whose every step is one of the changes keeps its laws over every run.
 use Rattle.std.specs.Prelude.{◌≡◌, ◌≢◌, ℕ, ◌+◌, ◌/◌, ◌%◌, ◌<◌, ◌≤◌, ◌⊎◌, ◌-◌, Bool, true, false, Option, Some, None, List, [], ◌∷◌, slice_index, slice_set, slice_index_or, length, refl, if◌then◌else◌, ◌==◌, ◌||◌}
 use Rattle.std.proofs.Common.{arith, inl, inr, sym, ◌∙◌, ap, subst, zero, suc, get_or-set_other, get_or-set_same, length-set}
-use Rattle.std.proofs.lemmas.Bool.Decides.{nat_tests}
 use Rattle.std.proofs.lemmas.List.FromFn.{get_or-map-range_with_len, length-map-range_with_len}
+use Rattle.lset_words.specs.Numbers.{same_or_not, equal_test, unequal_test}
 use Rattle.lset_words.specs.Words.{tail_word, word_count, target}
 use Rattle.lset_words.specs.declared.Call.{Call}
 use Rattle.lset_words.specs.declared.Key.{Key}
@@ -18,7 +18,7 @@ use Rattle.lset_steps.specs.Moves.{Move, KeepsNodes, Course}
 use Rattle.lset_words.specs.Account.{FitsSometime}
 use Rattle.lset_steps.specs.Laws.{Lawful, StateLaws, Registers, StepLaws, StepAt, Answered, used_in, view_of, views}
 use Rattle.lset_words.specs.Account.{MayChange, count_after}
-use Rattle.lset_steps.specs.Memory.{WordStep, Memory, moved, left_is, named_in, lock_use, mine_counted, others_counted, goes_on, memory_after, inside, same_or_not}
+use Rattle.lset_steps.specs.Memory.{WordStep, Memory, moved, left_is, named_in, lock_use, mine_counted, others_counted, goes_on, memory_after, inside}
 use Rattle.lset_steps.specs.MoveLaws.{move-changed, marked_stays, later_same, later_more}
 
 -- what a machine says of a thread at a moment: quota, thread, past, first moment of the call, now, the memory now, whether it has
@@ -180,12 +180,6 @@ answered_on false q vs first now t call pc (Some r) a = (
       record { moment = f.moment; from = f.from; upto = (let u : f.moment ≤ now = f.upto in omega arith); fits = f.fits }),
 )
 
-eq_yes : (a b : ℕ) → a ≡ b → (a == b) ≡ true
-eq_yes a b e = grind (arith, nat_tests)
-
-eq_not : (a b : ℕ) → a ≢ b → (a == b) ≡ false
-eq_not a b e = grind (arith, nat_tests)
-
 pick_yes : {A : Type 0} (b : Bool) (x y : A) → b ≡ true → (if b then x else y) ≡ x
 pick_yes b x y e = rw e refl
 
@@ -275,10 +269,10 @@ module _ (T : Table) (marks : Bool) (At : Outline) (d : Discipline T marks At) (
               } in
               subst (λ z. Thread At n q z vs (if t == z then suc k else first z) (suc k) s'.words (used_in s')
               (if t == z then false else done z) (local_of s' z)) (sym y)
-              (thread_to t (suc k) refl used_is (pick_yes (t == t) (suc k) (first t) (eq_yes t t refl))
-              (pick_yes (t == t) false (done t) (eq_yes t t refl)) (put_same s t l' en.0) at_t))
+              (thread_to t (suc k) refl used_is (pick_yes (t == t) (suc k) (first t) (equal_test t t refl))
+              (pick_yes (t == t) false (done t) (equal_test t t refl)) (put_same s t l' en.0) at_t))
           | inr y ↦ (let x : Thread At n q u vs (first u) k s.words (used_in s) (done u) (local_of s u) = i.threads u h in
-              let f : (t == u) ≡ false = eq_not t u (λ z. y (sym z)) in
+              let f : (t == u) ≡ false = unequal_test t u (λ z. y (sym z)) in
               thread_to u (suc k) refl used_is (pick_not (t == u) (suc k) (first u) f)
               (pick_not (t == u) false (done u) f) (put_other s t u l' y) (record {
                 registers = x.registers;
@@ -374,13 +368,13 @@ module _ (T : Table) (marks : Bool) (At : Outline) (d : Discipline T marks At) (
                 (local_of (after T s (Go t)) z)) (sym y)
                 (thread_to t (suc k) words_are used_is refl
                 (pick_yes (t == t) (done t || is_change (T.effect (local_of s t) (seen_next T s t))) (done t)
-                (eq_yes t t refl) ∙ ap (λ c. done t || is_change c) told_is) local_is at_t))
+                (equal_test t t refl) ∙ ap (λ c. done t || is_change c) told_is) local_is at_t))
             | inr y ↦ (let x : Thread At n q u vs (first u) k s.words (used_in s) (done u) (local_of s u) = i.threads u h in
                 let c : m.used' u ≡ used_in s u = others_counted marks n q s.words (used_in s) i.memory t th u y
                 m.action m.words' m.used' m.effect m.change in
                 thread_to u (suc k) words_are used_is refl
                 (pick_not (t == u) (done u || is_change (T.effect (local_of s t) (seen_next T s t))) (done u)
-                (eq_not t u (λ z. y (sym z)))) (local_other u y) (record {
+                (unequal_test t u (λ z. y (sym z)))) (local_other u y) (record {
                   registers = x.registers;
                   counts = x.counts ∙ sym c;
                   begun = (let b : first u ≤ k = x.begun in omega arith);
@@ -400,7 +394,7 @@ module _ (T : Table) (marks : Bool) (At : Outline) (d : Discipline T marks At) (
         let first_is : begun_at (log_of T n q es) t (suc k) ≡ first t = rw ee (sym fe) in
         let done_is : has_changed (log_of T n q es) t (suc k) ≡ (done t || is_change m.effect) =
         rw (ee, se) (pick_yes (t == t) (has_changed (log_of T n q es) t k || is_change
-        (T.effect (local_of s t) (seen_next T s t))) (has_changed (log_of T n q es) t k) (eq_yes t t refl)
+        (T.effect (local_of s t) (seen_next T s t))) (has_changed (log_of T n q es) t k) (equal_test t t refl)
         ∙ ap (λ c. has_changed (log_of T n q es) t k || is_change c) told_is ∙ ap (λ b. b || is_change m.effect) (sym de)) in
         record {
           in_table = rw m.acts (named_in marks n q s.words (used_in s) i.memory t th m.action m.words' m.used' m.effect m.change);

@@ -2,9 +2,9 @@
 -- written under node locks.
 use Rattle.std.specs.Prelude.{◌≡◌, ◌≢◌, ℕ, ◌+◌, ◌*◌, ◌/◌, ◌%◌, ◌<◌, ◌≤◌, ◌⊎◌, Bool, true, false, Option, Some, None, List, [], ◌==◌, nat_lt, slice_set, refl}
 use Rattle.std.proofs.Common.{arith, inl, inr, sym, ◌∙◌, ap}
+use Rattle.lset_words.specs.Numbers.{same_number, other_number, lower_number, not_lower_number}
 use Rattle.lset_words.specs.Words.{key_index, link_index, lock_index, tail_word, node_count, word_count, slot_node, target, key_of}
 use Rattle.lset_words.specs.declared.Call.{Call}
-use Rattle.lset_words.specs.declared.Call.TheVariants.{Add, Remove}
 use Rattle.lset_words.specs.declared.Key.{Key}
 use Rattle.lset_words.specs.declared.Reply.{Reply}
 use Rattle.lset_steps.specs.declared.Local.{Local}
@@ -17,7 +17,7 @@ use Rattle.lset_steps.specs.Memory.{WordStep, Memory, reads, fails, takes, gives
 use Rattle.lset_steps.specs.QuietMove.{in_chain_published, quiet_keeps, chain_on}
 use Rattle.lset_steps.specs.Rely.{Rely, Guarded}
 use Rattle.lset_steps.specs.Rows.{decided_on, goes_to}
-use Rattle.lset_steps.specs.Replies.{decided_cases, absent_between, eq_is, eq_not, lt_is, lt_not}
+use Rattle.lset_steps.specs.Replies.{Adding, Removing, decided_cases, absent_between}
 
 -- a node of the chain that thread t has locked
 pub record Held (v : View) (t a : ℕ) : Type 0 where
@@ -41,16 +41,6 @@ pub record Behind (v : View) (t key pred curr : ℕ) : Type 0 where
 pub record Between (v : View) (t key pred curr : ℕ) : Type 0 where
   pub walk : Behind v t key pred curr
   pub mine : v.lock curr ≡ t + 1
-
--- what the rows that add and those that remove have from the decision
-pub record Adding (v : View) (t q curr : ℕ) (op : Call) : Type 0 where
-  pub call : op ≡ Add (key_of op)
-  pub room : v.used t < q
-  pub above : target op < v.key curr
-
-pub record Removing (v : View) (curr : ℕ) (op : Call) : Type 0 where
-  pub call : op ≡ Remove (key_of op)
-  pub found : v.key curr ≡ target op
 
 pub in_chain : {v : View} {t key pred curr : ℕ} → Behind v t key pred curr → InChain v curr
 in_chain {v} {t} {key} {pred} {curr} b =
@@ -234,17 +224,17 @@ module _ {marks : Bool} {n q : ℕ} {ws : List ℕ} {used : ℕ → ℕ} (m : Me
       let v : View = view n q ws used in let k : ℕ = target l.call in
       let half : node_link ws pred / 2 ≡ curr = (let follows : node_link ws pred ≡ 2 * curr = b.follows in omega arith) in
       let hit : (c == k) ≡ true → InContent (view n q ws used) (key_of l.call).0 = λ y.
-      (let z : c ≡ k = eq_is c k y in
+      (let z : c ≡ k = same_number c k y in
       let head : node_key ws 0 ≡ 0 = m.head_key in let tail : node_key ws 1 ≡ tail_word = m.tail_key in
       let c0 : curr ≢ 0 = λ f. (let g : node_key ws curr ≡ node_key ws 0 = ap (node_key ws) f in omega arith) in
       let c1 : curr ≢ 1 = λ f. (let g : node_key ws curr ≡ node_key ws 1 = ap (node_key ws) f in omega arith) in
       (curr, in_chain b, omega arith, sym is ∙ z, even)) in
       let miss : (c == k) ≡ false → InContent (view n q ws used) (key_of l.call).0 → ⊥ = λ y.
-      (let z : c ≢ k = eq_not c k y in
+      (let z : c ≢ k = other_number c k y in
       absent_between (view n q ws used) m.ordered pred (key_of l.call).0 b.held.at b.inner b.below
       (rw half (omega arith))) in
       let full : nat_lt l.used l.quota ≡ false
-      → used t ≡ q = λ y. (let z : l.quota ≤ l.used = lt_not l.used l.quota y in omega arith) in
+      → used t ≡ q = λ y. (let z : l.quota ≤ l.used = not_lower_number l.used l.quota y in omega arith) in
       elim (decided_cases rows.adds rows.removes rows.leaves q t (view n q ws used) l.call (c == k)
       (nat_lt l.used l.quota) l hit miss full) [
         | inl r ↦ inl r
@@ -253,11 +243,11 @@ module _ {marks : Bool} {n q : ℕ} {ws : List ℕ} {used : ℕ → ℕ} (m : Me
             r.0,
             record {
               call = r.1;
-              room = (let y : l.used < l.quota = lt_is l.used l.quota r.3 in omega arith);
-              above = (let y : c ≢ k = eq_not c k r.2 in omega arith);
+              room = (let y : l.used < l.quota = lower_number l.used l.quota r.3 in omega arith);
+              above = (let y : c ≢ k = other_number c k r.2 in omega arith);
             },
           ))
-          | inr r ↦ inr (inr (r.0, record { call = r.1; found = sym is ∙ eq_is c k r.2 }))
+          | inr r ↦ inr (inr (r.0, record { call = r.1; found = sym is ∙ same_number c k r.2 }))
         ]
       ]
 

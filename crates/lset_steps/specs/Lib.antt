@@ -17,6 +17,7 @@ pub mod Memory
 pub mod Rely
 pub mod Discipline
 pub mod Replies
+pub mod MoreEvents
 pub mod WorldRuns
 pub mod ContentLists
 pub mod RunContents

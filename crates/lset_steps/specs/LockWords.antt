@@ -2,7 +2,7 @@
 use Rattle.std.specs.Prelude.{◌≡◌, ◌≢◌, ℕ, ◌+◌, ◌<◌, ◌≤◌, ◌⊎◌, if◌then◌else◌, ◌==◌, List, slice_index, slice_set, length, refl}
 use Rattle.std.proofs.Common.{arith, inl, inr, sym, ◌∙◌, ap, subst, zero, suc, get_or-set_other, get_or-set_same}
 use Rattle.std.proofs.lemmas.List.FromFn.{get_or-map-range_with_len}
-use Rattle.std.proofs.lemmas.Bool.Decides.{nat_tests}
+use Rattle.lset_words.specs.Numbers.{same_or_not, if_same, if_other}
 use Rattle.lset_words.specs.Words.{word_count, lock_index}
 use Rattle.lset_steps.specs.declared.Action.{Action}
 use Rattle.lset_steps.specs.declared.Action.TheVariants.{Load, Store, Exchange}
@@ -12,57 +12,48 @@ use Rattle.lset_steps.specs.Steps.{Table, Run, state_at, after, left_by, local_o
 use Rattle.lset_steps.specs.Laws.{Lawful, StateLaws, StepAt, IsLockWord, LockUse}
 use Rattle.lset_steps.specs.Promises.{held, held_after, holder}
 
-word_or_not : (a b : ℕ) → (a ≡ b) ⊎ (a ≢ b)
-word_or_not a b = grind arith
-
-pick_same : {A : Type 0} (a b : ℕ) → a ≡ b → (x y : A) → (if a == b then x else y) ≡ x
-pick_same a b d x y = grind (arith, nat_tests)
-
-pick_other : {A : Type 0} (a b : ℕ) → a ≢ b → (x y : A) → (if a == b then x else y) ≡ y
-pick_other a b d x y = grind (arith, nat_tests)
-
 lock_left : (ws : List ℕ) (x t : ℕ) (a : Action) → IsLockWord x → x < length ws → LockUse ws t a
     → slice_index (left_by ws a) x ≡ held x t (slice_index ws x) a
 lock_left ws x t (Load w) i h u = refl
-lock_left ws x t (Store w v) i h u = elim (word_or_not w x) [
+lock_left ws x t (Store w v) i h u = elim (same_or_not w x) [
   | inl e ↦ (let z = u (subst (λ y. IsLockWord y) (sym e) i) in
       ap (λ y. slice_index (slice_set ws y v) x) e ∙ get_or-set_same ws x v 0 h ∙ z.0
-      ∙ sym (pick_same w x e 0 (slice_index ws x)))
-  | inr d ↦ get_or-set_other ws w x v 0 (λ e. d (sym e)) ∙ sym (pick_other w x d 0 (slice_index ws x))
+      ∙ sym (if_same w x e 0 (slice_index ws x)))
+  | inr d ↦ get_or-set_other ws w x v 0 (λ e. d (sym e)) ∙ sym (if_other w x d 0 (slice_index ws x))
 ]
-lock_left ws x t (Exchange w o v) i h u = elim (word_or_not w x) [
+lock_left ws x t (Exchange w o v) i h u = elim (same_or_not w x) [
   | inl e ↦ (let z = u (subst (λ y. IsLockWord y) (sym e) i) in
       ap (λ y. slice_index (if slice_index ws y == o then slice_set ws y v else ws) x) e ∙ tried o v z.0 z.1
-      ∙ sym (pick_same w x e (if slice_index ws x == 0 then t + 1 else slice_index ws x) (slice_index ws x)))
-  | inr d ↦ missed d (word_or_not (slice_index ws w) o)
-      ∙ sym (pick_other w x d (if slice_index ws x == 0 then t + 1 else slice_index ws x) (slice_index ws x))
+      ∙ sym (if_same w x e (if slice_index ws x == 0 then t + 1 else slice_index ws x) (slice_index ws x)))
+  | inr d ↦ missed d (same_or_not (slice_index ws w) o)
+      ∙ sym (if_other w x d (if slice_index ws x == 0 then t + 1 else slice_index ws x) (slice_index ws x))
 ]
   where
     tried : (o v : ℕ) → o ≡ 0 → v ≡ t + 1
         → slice_index (if slice_index ws x == o then slice_set ws x v else ws) x
         ≡ (if slice_index ws x == 0 then t + 1 else slice_index ws x)
-    tried o v eo ev = elim (word_or_not (slice_index ws x) o) [
-      | inl y ↦ ap (λ z. slice_index z x) (pick_same (slice_index ws x) o y (slice_set ws x v) ws)
-          ∙ get_or-set_same ws x v 0 h ∙ ev ∙ sym (pick_same (slice_index ws x) 0 (y ∙ eo) (t + 1) (slice_index ws x))
-      | inr y ↦ ap (λ z. slice_index z x) (pick_other (slice_index ws x) o y (slice_set ws x v) ws)
-          ∙ sym (pick_other (slice_index ws x) 0 (λ f. y (f ∙ sym eo)) (t + 1) (slice_index ws x))
+    tried o v eo ev = elim (same_or_not (slice_index ws x) o) [
+      | inl y ↦ ap (λ z. slice_index z x) (if_same (slice_index ws x) o y (slice_set ws x v) ws)
+          ∙ get_or-set_same ws x v 0 h ∙ ev ∙ sym (if_same (slice_index ws x) 0 (y ∙ eo) (t + 1) (slice_index ws x))
+      | inr y ↦ ap (λ z. slice_index z x) (if_other (slice_index ws x) o y (slice_set ws x v) ws)
+          ∙ sym (if_other (slice_index ws x) 0 (λ f. y (f ∙ sym eo)) (t + 1) (slice_index ws x))
     ]
 
     missed : w ≢ x → (slice_index ws w ≡ o) ⊎ (slice_index ws w ≢ o)
         → slice_index (if slice_index ws w == o then slice_set ws w v else ws) x ≡ slice_index ws x
-    missed d (inl y) = ap (λ z. slice_index z x) (pick_same (slice_index ws w) o y (slice_set ws w v) ws)
+    missed d (inl y) = ap (λ z. slice_index z x) (if_same (slice_index ws w) o y (slice_set ws w v) ws)
         ∙ get_or-set_other ws w x v 0 (λ e. d (sym e))
-    missed d (inr y) = ap (λ z. slice_index z x) (pick_other (slice_index ws w) o y (slice_set ws w v) ws)
+    missed d (inr y) = ap (λ z. slice_index z x) (if_other (slice_index ws w) o y (slice_set ws w v) ws)
 
 opens_free : (n q x : ℕ) → IsLockWord x → opening_word n q x ≡ 0
 opens_free n q x (inl e) = rw e refl
 opens_free n q x (inr i) = let e : x ≡ lock_index i.0 = i.1 in
-    pick_other x 1 (omega arith) n (if x == 2 then q else if x == 4 then 2 else if x == 6 then 4294967297
+    if_other x 1 (omega arith) n (if x == 2 then q else if x == 4 then 2 else if x == 6 then 4294967297
     else if x == 7 then 2 else 0)
-    ∙ pick_other x 2 (omega arith) q (if x == 4 then 2 else if x == 6 then 4294967297 else if x == 7 then 2 else 0)
-    ∙ pick_other x 4 (omega arith) 2 (if x == 6 then 4294967297 else if x == 7 then 2 else 0)
-    ∙ pick_other x 6 (omega arith) 4294967297 (if x == 7 then 2 else 0)
-    ∙ pick_other x 7 (omega arith) 2 0
+    ∙ if_other x 2 (omega arith) q (if x == 4 then 2 else if x == 6 then 4294967297 else if x == 7 then 2 else 0)
+    ∙ if_other x 4 (omega arith) 2 (if x == 6 then 4294967297 else if x == 7 then 2 else 0)
+    ∙ if_other x 6 (omega arith) 4294967297 (if x == 7 then 2 else 0)
+    ∙ if_other x 7 (omega arith) 2 0
 
 module _ (T : Table) (law : Lawful T) (n q : ℕ) (es : ℕ → Event) (last x : ℕ) (r : Run T n q es last)
     (i : IsLockWord x) (h : x < word_count n q) where

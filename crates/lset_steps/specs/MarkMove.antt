@@ -1,16 +1,14 @@
 -- What marking a node of the chain does to order, chain and content.
-use Rattle.std.proofs.Common.{◌≡◌, ◌≢◌, ℕ, ◌+◌, ◌/◌, ◌%◌, ◌<◌, ◌≤◌, ◌⊎◌, inl, inr, sym, ap, subst, ◌∙◌, arith}
+use Rattle.std.proofs.Common.{◌≡◌, ◌≢◌, ℕ, ◌+◌, ◌/◌, ◌%◌, ◌<◌, ◌≤◌, inl, inr, sym, ap, subst, ◌∙◌, arith}
+use Rattle.lset_words.specs.Numbers.{same_or_not}
 use Rattle.lset_steps.specs.Chain.{View, InChain, InContent, IsOrdered}
 use Rattle.lset_steps.specs.Moves.{Marks, KeepsNodes}
 use Rattle.lset_steps.specs.Segments.{one_key}
 use Rattle.lset_steps.specs.QuietMove.{in_chain_published, chain_same}
 
-cases_at : (i b : ℕ) → (i ≡ b) ⊎ (i ≢ b)
-cases_at i b = grind arith
-
 -- each next stays
 pub mark_next : (v w : View) (b k : ℕ) → Marks v w b k → (a : ℕ) → v.published a → w.link a / 2 ≡ v.link a / 2
-mark_next v w b k q a m = elim (cases_at a b) [
+mark_next v w b k q a m = elim (same_or_not a b) [
   | inl e ↦ subst (λ x. w.link x / 2 ≡ v.link x / 2) (sym e)
       (let g : w.link b ≡ v.link b + 1 = q.marked in let h : v.link b % 2 ≡ 0 = q.unmarked in omega arith)
   | inr d ↦ ap (λ x. x / 2) (q.links a m d)
@@ -44,7 +42,7 @@ pub mark-goes : (v w : View) → IsOrdered v → (b k : ℕ) → Marks v w b k �
 mark-goes v w ord b k q = record {
   keys = q.keys;
   grows = q.grows;
-  kept = λ a m. elim (cases_at a b) [
+  kept = λ a m. elim (same_or_not a b) [
     | inl e ↦ inr (subst (λ x. InChain v x × InChain w x) (sym e) (q.in_chain, mark_keeps v w ord b k q b q.in_chain))
     | inr d ↦ inl (q.links a m d)
   ];
@@ -74,7 +72,7 @@ mark_others v w ord b k q j n c =
     (c.0, mark_keeps v w ord b k q c.0 c.1, c.2, q.keys c.0 m ∙ c.3, ap (λ x. x % 2) (q.links c.0 m d) ∙ c.4)
 
 pub mark_only : (v w : View) → IsOrdered v → (b k : ℕ) → Marks v w b k → (j : ℕ) → InContent w j → InContent v j
-mark_only v w ord b k q j c = elim (cases_at c.0 b) [
+mark_only v w ord b k q j c = elim (same_or_not c.0 b) [
   | inl e ↦ (let u : w.link b % 2 ≡ 0 = subst (λ x. w.link x % 2 ≡ 0) e c.4 in
       let h : w.link b ≡ v.link b + 1 = q.marked in
       let o : v.link b % 2 ≡ 0 = q.unmarked in absurd (omega arith))

@@ -2,6 +2,7 @@
 use Rattle.std.specs.Prelude.{◌≡◌, ◌≢◌, ℕ, ◌+◌, ◌*◌, ◌/◌, ◌%◌, ◌<◌, ◌≤◌, ◌⊎◌, Bool, true, false, Option, Some, None, List, [], slice_index, slice_set, length, refl, if◌then◌else◌, ◌==◌}
 use Rattle.std.proofs.Common.{arith, inl, inr, sym, ◌∙◌, ap, subst, get_or-set_other, get_or-set_same, length-set}
 use Rattle.std.proofs.lemmas.Bool.Decides.{nat_tests}
+use Rattle.lset_words.specs.Numbers.{same_or_not, if_same, if_other}
 use Rattle.lset_words.specs.Words.{key_index, link_index, lock_index, tail_word, node_count, word_count, slot_node, key_word_of}
 use Rattle.lset_words.specs.declared.Key.{Key}
 use Rattle.lset_steps.specs.declared.Action.{Action}
@@ -132,9 +133,6 @@ pub record Memory (marks : Bool) (n q : ℕ) (ws : List ℕ) (used : ℕ → ℕ
   pub tail_key : node_key ws 1 ≡ tail_word
   pub marked : UnmarkedInChain marks (view n q ws used)
 
-pub same_or_not : (a b : ℕ) → (a ≡ b) ⊎ (a ≢ b)
-same_or_not a b = grind arith
-
 module _ (marks : Bool) (n q : ℕ) (ws : List ℕ) (used : ℕ → ℕ) (m : Memory marks n q ws used) where
   pub inside : (i : ℕ) → Published n q used i → i < node_count n q
   inside i (inl h) = omega arith
@@ -232,10 +230,7 @@ grown_from n q t used i (inr h) = elim (same_or_not h.0 t) [
 module _ (ws : List ℕ) where
   written : (a : Action) (i x : ℕ) → Writes ws a i x → left_by ws a ≡ slice_set ws i x
   written a i x (inl e) = rw e refl
-  written a i x (inr e) = rw e (if_same (slice_index ws i) (slice_set ws i x) ws)
-    where
-      if_same : {A : Type 0} (a : ℕ) (x y : A) → (if a == a then x else y) ≡ x
-      if_same a x y = grind (arith, nat_tests)
+  written a i x (inr e) = rw e (if_same (slice_index ws i) (slice_index ws i) refl (slice_set ws i x) ws)
 
   at_write : (a : Action) (i x : ℕ) → Writes ws a i x → word_named a ≡ i
   at_write a i x (inl e) = rw e refl
@@ -366,9 +361,6 @@ module _ (marks : Bool) (n q : ℕ) (ws : List ℕ) (used : ℕ → ℕ) (m : Me
       → WordStep marks n q t ws used a ws' used' ch → left_by ws a ≡ ws'
   left_is a ws' used' ch (reads x i) = refl
   left_is a ws' used' ch (fails x old new i d k) = if_other (slice_index ws x) old d (slice_set ws x new) ws
-    where
-      if_other : {A : Type 0} (a b : ℕ) → a ≢ b → (x y : A) → (if a == b then x else y) ≡ y
-      if_other a b d x y = grind (arith, nat_tests)
   left_is a ws' used' ch (takes x i k z) = rw z refl
   left_is a ws' used' ch (gives x i k z) = refl
   left_is a ws' used' ch (own_key x r) = refl

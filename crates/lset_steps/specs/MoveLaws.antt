@@ -1,5 +1,6 @@
 -- What every move keeps.
-use Rattle.std.proofs.Common.{◌≡◌, ◌≢◌, ℕ, ◌%◌, ◌⊎◌, Bool, true, false, inl, inr, sym, refl, ap, subst, ◌∙◌, arith, Option, ◌*◌, ◌/◌}
+use Rattle.std.proofs.Common.{◌≡◌, ℕ, ◌%◌, Bool, true, false, inl, inr, sym, refl, ap, subst, ◌∙◌, arith, Option, ◌*◌, ◌/◌}
+use Rattle.lset_words.specs.Numbers.{same_or_not}
 use Rattle.lset_words.specs.declared.Key.{Key}
 use Rattle.lset_steps.specs.Chain.{View, InChain, IsOrdered, Changed, UnmarkedInChain, UnlinkedStays}
 use Rattle.lset_steps.specs.Moves.{KeepsNodes, Move}
@@ -61,9 +62,6 @@ module _ (marks : Bool) (v w : View) (ord : IsOrdered v) where
   marked_stays ch (removes pred curr k y q m u e) b i o = q.links b i
       (λ g. let u : v.link pred % 2 ≡ 0 = q.unmarked in let f : v.link b ≡ v.link pred = ap v.link g in omega arith)
 
-at_node : (i b : ℕ) → (i ≡ b) ⊎ (i ≢ b)
-at_node i b = grind arith
-
 not_both : {A : Type 0} (b : Bool) → b ≡ true → b ≡ false → A
 not_both b x y = absurd (let z : true ≡ false = sym x ∙ y in cc)
 
@@ -76,7 +74,7 @@ module _ (v w : View) (ord : IsOrdered v) where
     | inl o ↦ insert_keeps v w ord pred own k.0 q b (h b o (sym (insert_mark v w ord pred own k.0 q b o) ∙ e))
     | inr f ↦ subst (λ z. InChain w z) (sym f) (insert_own v w ord pred own k.0 q)
   ]
-  live_stays ch (sets c k y q) h b mb e = elim (at_node b c) [
+  live_stays ch (sets c k y q) h b mb e = elim (same_or_not b c) [
     | inl f ↦ subst (λ z. InChain w z) (sym f) (mark_keeps v w ord c k.0 q c q.in_chain)
     | inr n ↦ mark_keeps v w ord c k.0 q b (h b (q.published_from b mb)
         (ap (λ z. z % 2) (sym (q.links b (q.published_from b mb) n)) ∙ e))

@@ -1,6 +1,7 @@
 -- What the step of one thread leaves to another, where links are written under locks.
 use Rattle.std.specs.Prelude.{◌≡◌, ◌≢◌, ℕ, ◌+◌, ◌*◌, ◌<◌, ◌⊎◌, Bool, Option, List, slice_index, slice_set, refl}
 use Rattle.std.proofs.Common.{arith, inl, inr, sym, ◌∙◌, ap}
+use Rattle.lset_words.specs.Numbers.{same_or_not}
 use Rattle.lset_words.specs.Words.{link_index, lock_index, slot_node}
 use Rattle.lset_words.specs.declared.Key.{Key}
 use Rattle.lset_steps.specs.declared.Action.{Action}
@@ -11,7 +12,7 @@ use Rattle.lset_steps.specs.QuietMove.{in_chain_published, quiet_keeps}
 use Rattle.lset_steps.specs.InsertMove.{insert_keeps}
 use Rattle.lset_steps.specs.MarkMove.{mark_keeps}
 use Rattle.lset_steps.specs.UnlinkMove.{unlink_keeps}
-use Rattle.lset_steps.specs.Memory.{WordStep, Memory, reads, fails, takes, gives, own_key, own_link, puts, sets_mark, cuts, drops, own_of, row_once, no_own, goes_on, others_counted, at_put, at_mark, at_unlink, at_lock, at_own_key, at_own_link, set_other, key_after_link, link_after_link, lock_after_link, list_lock_after_link, link_after_key, key_after_key, lock_after_key, list_lock_after_key, key_after_lock, link_after_lock, same_or_not}
+use Rattle.lset_steps.specs.Memory.{WordStep, Memory, reads, fails, takes, gives, own_key, own_link, puts, sets_mark, cuts, drops, own_of, row_once, no_own, goes_on, others_counted, at_put, at_mark, at_unlink, at_lock, at_own_key, at_own_link, set_other, key_after_link, link_after_link, lock_after_link, list_lock_after_link, link_after_key, key_after_key, lock_after_key, list_lock_after_key, key_after_lock, link_after_lock}
 
 pub record Rely (v w : View) (q u : ℕ) : Type 0 where
   pub goes : KeepsNodes v w

@@ -1,19 +1,28 @@
 -- The replies that fit where a call decides, and what the proofs of all tables use.
-use Rattle.std.specs.Prelude.{◌≡◌, ◌≢◌, ℕ, ◌+◌, ◌/◌, ◌<◌, ◌≤◌, ◌⊎◌, Bool, true, false, if◌then◌else◌, Option, Some, None, ◌==◌, ◌||◌, nat_lt, refl}
+use Rattle.std.specs.Prelude.{◌≡◌, ◌≢◌, ℕ, ◌+◌, ◌/◌, ◌<◌, ◌≤◌, ◌⊎◌, Bool, true, false, Option, Some, None, ◌||◌, refl}
 use Rattle.std.proofs.Common.{arith, inl, inr}
-use Rattle.std.proofs.lemmas.Bool.Decides.{nat_tests}
 use Rattle.lset_words.specs.declared.Call.{Call}
 use Rattle.lset_words.specs.declared.Call.TheVariants.{Add, Remove, Contains}
 use Rattle.lset_words.specs.declared.Reply.{Reply}
 use Rattle.lset_words.specs.declared.Reply.TheVariants.{True, False, Full}
-use Rattle.lset_words.specs.Words.{key_of, tail_word, node_count}
+use Rattle.lset_words.specs.Words.{key_of, target, tail_word, node_count}
 use Rattle.lset_steps.specs.declared.Local.{Local}
 use Rattle.lset_steps.specs.declared.Fed.{Fed}
 use Rattle.lset_steps.specs.Chain.{View, InChain, InContent, IsOrdered, FitsIn, contents_of, counts_of}
 use Rattle.lset_words.specs.Account.{FitsSometime}
 use Rattle.lset_steps.specs.Laws.{Registers}
-use Rattle.lset_steps.specs.Rows.{decided, goes_to}
+use Rattle.lset_steps.specs.Rows.{begun, decided, goes_to}
 use Rattle.lset_steps.specs.Segments.{gap}
+
+-- what the rows that add and those that remove have from the decision
+pub record Adding (v : View) (t q curr : ℕ) (op : Call) : Type 0 where
+  pub call : op ≡ Add (key_of op)
+  pub room : v.used t < q
+  pub above : target op < v.key curr
+
+pub record Removing (v : View) (curr : ℕ) (op : Call) : Type 0 where
+  pub call : op ≡ Remove (key_of op)
+  pub found : v.key curr ≡ target op
 
 pub decided_cases : (a d u q t : ℕ) (v : View) (cl : Call) (found room : Bool) (l : Local)
     → (found ≡ true → InContent v (key_of cl).0) → (found ≡ false → InContent v (key_of cl).0 → ⊥) → (room ≡ false → v.used t ≡ q)
@@ -43,34 +52,6 @@ fitted_on q vs first now later t call r l f = record {
   fits = f.fits;
 }
 
--- tests of a table
-pub if_same : {A : Type 0} (a b : ℕ) → a ≡ b → (x y : A) → (if a == b then x else y) ≡ x
-if_same a b d x y = grind (arith, nat_tests)
-
-pub if_other : {A : Type 0} (a b : ℕ) → a ≢ b → (x y : A) → (if a == b then x else y) ≡ y
-if_other a b d x y = grind (arith, nat_tests)
-
-pub if_below : {A : Type 0} (a b : ℕ) → a < b → (x y : A) → (if nat_lt a b then x else y) ≡ x
-if_below a b h x y = grind (arith, nat_tests)
-
-pub if_not_below : {A : Type 0} (a b : ℕ) → b ≤ a → (x y : A) → (if nat_lt a b then x else y) ≡ y
-if_not_below a b h x y = grind (arith, nat_tests)
-
-pub eq_is : (a b : ℕ) → (a == b) ≡ true → a ≡ b
-eq_is a b h = grind (arith, nat_tests)
-
-pub eq_not : (a b : ℕ) → (a == b) ≡ false → a ≢ b
-eq_not a b h e = grind (arith, nat_tests)
-
-pub lt_is : (a b : ℕ) → nat_lt a b ≡ true → a < b
-lt_is a b h = grind (arith, nat_tests)
-
-pub lt_not : (a b : ℕ) → nat_lt a b ≡ false → b ≤ a
-lt_not a b h = grind (arith, nat_tests)
-
-pub below_or_not : (a b : ℕ) → (a < b) ⊎ (b ≤ a)
-below_or_not a b = grind arith
-
 pub or_false : (b : Bool) → (b || false) ≡ b
 or_false true = refl
 or_false false = refl
@@ -80,6 +61,38 @@ fed l a = record { local = l; answer = a }
 
 pub fed_is : (l m : Local) (a b : Option Reply) → l ≡ m → a ≡ b → fed l a ≡ fed m b
 fed_is l m a b e f = cc
+
+-- what a begin and a step leave of the bounds of the registers
+pub registers_begun : (n q t pc : ℕ) (call : Call) (l : Local) → target call < tail_word → Registers n q t l
+    → Registers n q t (begun pc call l)
+registers_begun n q t pc call l low r = record {
+  thread = r.thread;
+  quota = r.quota;
+  used = r.used;
+  low = low;
+  pred = omega arith;
+  curr = omega arith;
+  succ = omega arith;
+  node = omega arith;
+  pkey = omega arith;
+  ckey = omega arith;
+}
+
+-- a successful add counts one more slot
+pub keep_more : (n q t p : ℕ) (l : Local) → l.used < q → Registers n q t l
+    → Registers n q t (record l { pc = p; reply = Some True; used = l.used + 1 })
+keep_more n q t p l room r = record {
+  thread = r.thread;
+  quota = r.quota;
+  used = omega arith;
+  low = r.low;
+  pred = r.pred;
+  curr = r.curr;
+  succ = r.succ;
+  node = r.node;
+  pkey = r.pkey;
+  ckey = r.ckey;
+}
 
 -- a step that leaves the registers
 pub keep : (n q t p : ℕ) (y : Option Reply) (l : Local) → Registers n q t l → Registers n q t (record l { pc = p; reply = y })

@@ -7,28 +7,16 @@ use Rattle.lset_words.specs.declared.Reply.{Reply}
 use Rattle.lset_words.specs.declared.Reply.TheVariants.{True, False, Full}
 use Rattle.lset_words.specs.Words.{slot_node, target}
 use Rattle.lset_steps.specs.declared.Local.{Local}
+use Rattle.lset_steps.specs.Steps.{idle}
 use Rattle.lset_steps.specs.declared.rows.Targets.{Targets}
 
 -- the slot that the thread's next successful add puts into the chain
 abbrev pub own_slot : Local → ℕ
 own_slot l = slot_node l.quota l.thread l.used
 
--- a thread that has begun a call
+-- a thread that has begun a call: as one that is idle, but for the call and what it has used
 abbrev pub begun : ℕ → Call → Local → Local
-begun pc call l = record {
-  thread = l.thread;
-  quota = l.quota;
-  used = l.used;
-  call = call;
-  pc = pc;
-  reply = None;
-  pred = 0;
-  curr = 0;
-  succ = 0;
-  node = 0;
-  pkey = 0;
-  ckey = 0;
-}
+begun pc call l = record (idle l.quota l.thread) { used = l.used; call = call; pc = pc }
 
 -- on to another row, with a reply
 abbrev pub goes_to : ℕ → Option Reply → Local → Local

@@ -1,8 +1,8 @@
 -- A run of a lawful machine has an account: what the placement of its calls rests on.
-use Rattle.std.specs.Prelude.{◌≡◌, ◌≢◌, ℕ, ◌<◌, ◌≤◌, ◌⊎◌, Bool, true, false, if◌then◌else◌, ◌==◌, Option, Some, None, slice_set, slice_index_or, length, refl}
+use Rattle.std.specs.Prelude.{◌≡◌, ◌≢◌, ℕ, ◌<◌, ◌≤◌, Bool, true, false, if◌then◌else◌, ◌==◌, Option, Some, None, slice_set, slice_index_or, length, refl}
 use Rattle.std.proofs.Common.{arith, inl, inr, sym, ◌∙◌, ap, subst, zero, suc, get_or-set_other, get_or-set_same}
-use Rattle.std.proofs.lemmas.Bool.Decides.{nat_tests}
 use Rattle.std.proofs.lemmas.List.FromFn.{get_or-map-range_with_len}
+use Rattle.lset_words.specs.Numbers.{same_or_not, equal_test, unequal_test}
 use Rattle.lset_words.specs.declared.Key.{Key}
 use Rattle.lset_words.specs.declared.Call.{Call}
 use Rattle.lset_words.specs.declared.Reply.{Reply}
@@ -23,15 +23,6 @@ contents_at T n q es = contents_of (views T n q es)
 
 abbrev pub counts_at : Table → ℕ → ℕ → (ℕ → Event) → Counts
 counts_at T n q es = counts_of (views T n q es)
-
-same_or_not : (a b : ℕ) → (a ≡ b) ⊎ (a ≢ b)
-same_or_not a b = grind arith
-
-eq_yes : (a b : ℕ) → a ≡ b → (a == b) ≡ true
-eq_yes a b e = grind (arith, nat_tests)
-
-eq_not : (a b : ℕ) → a ≢ b → (a == b) ≡ false
-eq_not a b e = grind (arith, nat_tests)
 
 -- the log and the local of a thread
 pub record Tied (open_now : Bool) (call : Call) (l : Local) : Type 0 where
@@ -60,7 +51,7 @@ open_other (Some r) ch u t old e = pick_not (u == t) false old e
 open_same : (a : Option Reply) (ch : Option (Key × Bool)) (t : ℕ) (old : Bool)
     → open_after (stepped t ch a) t old ≡ left_open a old
 open_same None ch t old = refl
-open_same (Some r) ch t old = pick_yes (t == t) false old (eq_yes t t refl)
+open_same (Some r) ch t old = pick_yes (t == t) false old (equal_test t t refl)
 
 module _ (T : Table) (law : Lawful T) (n q : ℕ) (es : ℕ → Event) (last : ℕ) (r : Run T n q es last) where
   S : ℕ → State
@@ -103,7 +94,7 @@ module _ (T : Table) (law : Lawful T) (n q : ℕ) (es : ℕ → Event) (last : �
       (call_after (entry_of T (state_at T n q es k) e) t (last_call (log_of T n q es) t k))
       (local_of (after T (state_at T n q es k) e) t)
   tied_step t th k l (Begin u call) ee en h = elim (same_or_not t u) [
-    | inl y ↦ (let b : (u == t) ≡ true = eq_yes u t (sym y) in
+    | inl y ↦ (let b : (u == t) ≡ true = equal_test u t (sym y) in
         let lo : local_of (after T (state_at T n q es k) (Begin u call)) t
         ≡ T.begin call (local_of (state_at T n q es k) u) =
         ap (λ z. local_of (after T (state_at T n q es k) (Begin u call)) z) y
@@ -112,20 +103,20 @@ module _ (T : Table) (law : Lawful T) (n q : ℕ) (es : ℕ → Event) (last : �
         tied_to (pick_yes (u == t) true (is_open (log_of T n q es) t k) b)
         (pick_yes (u == t) call (last_call (log_of T n q es) t k) b) lo
         (record { closed = λ e. absurd (bg.2 e); opened = λ e. (refl, bg.0) }))
-    | inr y ↦ (let b : (u == t) ≡ false = eq_not u t (λ z. y (sym z)) in
+    | inr y ↦ (let b : (u == t) ≡ false = unequal_test u t (λ z. y (sym z)) in
         tied_to (pick_not (u == t) true (is_open (log_of T n q es) t k) b)
         (pick_not (u == t) call (last_call (log_of T n q es) t k) b)
         (local_other (state_at T n q es k) u t (T.begin call (local_of (state_at T n q es k) u)) y) h)
   ]
   tied_step t th k l (Go u) ee en h = elim (same_or_not t u) [
-    | inl y ↦ (let b : (u == t) ≡ true = eq_yes u t (sym y) in
+    | inl y ↦ (let b : (u == t) ≡ true = equal_test u t (sym y) in
         let en' : Enabled (state_at T n q es k) (Go t) = subst (λ z. Enabled (state_at T n q es k) (Go z)) (sym y) en in
         let st : StepAt T n q es k t = law.steps n q last k t es r l (ee ∙ ap (λ z. Go z) (sym y)) in
         let was = h.opened en'.1 in
         subst (λ z. Tied (open_after (entry_of T (state_at T n q es k) (Go z)) t (is_open (log_of T n q es) t k))
         (last_call (log_of T n q es) t k) (local_of (after T (state_at T n q es k) (Go z)) t)) y
         (go_tied t k en'.0 was st))
-    | inr y ↦ (let b : (u == t) ≡ false = eq_not u t (λ z. y (sym z)) in
+    | inr y ↦ (let b : (u == t) ≡ false = unequal_test u t (λ z. y (sym z)) in
         tied_to (open_other (told T (state_at T n q es k) (Go u)).answer (told T (state_at T n q es k) (Go u)).change
         u t (is_open (log_of T n q es) t k) b) refl
         (local_other (state_at T n q es k) u t (T.feed (local_of (state_at T n q es k) u)

@@ -8,7 +8,8 @@ use Rattle.lset_steps.specs.Chain.{View, IsOrdered, IsChain, InContent, InChain}
 use Rattle.lset_steps.specs.Laws.{Lawful, StateLaws, views}
 use Rattle.lset_steps.specs.QuietMove.{in_chain_published}
 use Rattle.lset_steps.specs.Worlds.{keys_in}
-use Rattle.lset_steps.specs.ContentLists.{chain_is, content_rises, content_have, content_from, RisesFrom}
+use Rattle.lset_words.specs.RisingLists.{RisesFrom}
+use Rattle.lset_steps.specs.ContentLists.{chain_is, content_rises, content_have, content_from}
 
 pub record ContentList (v : View) : Type 0 where
   pub nodes : List ℕ

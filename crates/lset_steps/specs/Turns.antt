@@ -1,10 +1,10 @@
 -- A list whose links are written under node locks keeps its laws: what it has to say of each row, and that this is enough.
 use Rattle.std.specs.Prelude.{◌≡◌, ◌≢◌, ℕ, suc, ◌+◌, ◌<◌, ◌≤◌, Bool, true, false, Option, Some, None, List, ◌||◌, if◌then◌else◌, ◌==◌, slice_set, refl}
 use Rattle.std.proofs.Common.{arith, inl, inr, sym, ◌∙◌, ap, subst}
+use Rattle.lset_words.specs.Numbers.{same_or_not, if_same, if_other}
 use Rattle.lset_words.specs.declared.Call.{Call}
 use Rattle.lset_words.specs.declared.Key.{Key}
 use Rattle.lset_words.specs.declared.Reply.{Reply}
-use Rattle.lset_words.specs.declared.Reply.TheVariants.{True}
 use Rattle.lset_words.specs.Words.{lock_index, node_count, target, tail_word}
 use Rattle.lset_words.specs.Account.{MayChange}
 use Rattle.lset_steps.specs.declared.Local.{Local}
@@ -13,11 +13,9 @@ use Rattle.lset_steps.specs.declared.Action.TheVariants.{Exchange}
 use Rattle.lset_steps.specs.Steps.{Table, idle, seen_by}
 use Rattle.lset_steps.specs.Chain.{View, view, FitsIn, IsOrdered, node_lock}
 use Rattle.lset_steps.specs.Laws.{Registers, Due}
-use Rattle.lset_steps.specs.Memory.{same_or_not}
 use Rattle.lset_steps.specs.Rely.{Rely, rely_of}
 use Rattle.lset_steps.specs.Discipline.{Outline, Discipline, StepOf, Here, Thread}
-use Rattle.lset_steps.specs.Rows.{begun}
-use Rattle.lset_steps.specs.Replies.{fed, fitted_on, or_false, if_same, if_other}
+use Rattle.lset_steps.specs.Replies.{fed, fitted_on, or_false}
 use Rattle.lset_steps.specs.Held.{LockedStep, rely_same, locks_free, finds_locked}
 
 -- a call that has made no change is due a reply that fits at the moment of its decision,
@@ -35,37 +33,6 @@ pub due_on : (done : Bool) (q : ℕ) (vs : ℕ → View) (first now t : ℕ) (ca
     → Due done q vs first (suc now) t call r
 due_on true q vs first now t call r d = d
 due_on false q vs first now t call r d = fitted_on q vs first now (suc now) t call r (omega arith) d
-
-pub registers_begun : (n q t pc : ℕ) (call : Call) (l : Local) → target call < tail_word → Registers n q t l
-    → Registers n q t (begun pc call l)
-registers_begun n q t pc call l low r = record {
-  thread = r.thread;
-  quota = r.quota;
-  used = r.used;
-  low = low;
-  pred = omega arith;
-  curr = omega arith;
-  succ = omega arith;
-  node = omega arith;
-  pkey = omega arith;
-  ckey = omega arith;
-}
-
--- a successful add counts one more slot
-pub keep_more : (n q t p : ℕ) (l : Local) → l.used < q → Registers n q t l
-    → Registers n q t (record l { pc = p; reply = Some True; used = l.used + 1 })
-keep_more n q t p l room r = record {
-  thread = r.thread;
-  quota = r.quota;
-  used = omega arith;
-  low = r.low;
-  pred = r.pred;
-  curr = r.curr;
-  succ = r.succ;
-  node = r.node;
-  pkey = r.pkey;
-  ckey = r.ckey;
-}
 
 -- what the outline says of a thread stays so through the steps of the others
 abbrev pub Stands : Outline → Type 1

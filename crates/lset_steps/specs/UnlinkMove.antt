@@ -1,12 +1,10 @@
 -- What leaving out the next of a node of the chain does to order, chain and content.
 use Rattle.std.proofs.Common.{◌≡◌, ◌≢◌, ℕ, ◌+◌, ◌*◌, ◌/◌, ◌%◌, ◌<◌, ◌≤◌, ◌⊎◌, inl, inr, List, [], ◌∷◌, sym, refl, ap, subst, ◌∙◌, arith}
+use Rattle.lset_words.specs.Numbers.{same_or_not}
 use Rattle.lset_steps.specs.Chain.{View, Segment, InChain, InContent, IsOrdered}
 use Rattle.lset_steps.specs.Moves.{Unlinks, KeepsNodes}
 use Rattle.lset_steps.specs.Segments.{segment_rises, sides, one_key}
 use Rattle.lset_steps.specs.QuietMove.{in_chain_published, chain_before, chain_on, segment_after, apart, apart'}
-
-cases_at : (i b : ℕ) → (i ≡ b) ⊎ (i ≢ b)
-cases_at i b = grind arith
 
 -- the plain facts of an unlinking; s is the node after curr
 pub record Facts (v w : View) (pred curr s : ℕ) : Type 0 where
@@ -50,8 +48,8 @@ unlink-ordered v w ord pred curr q = record {
       let a : w.key i ≡ v.key i = q.keys i m' in
       let b : w.key 1 ≡ v.key 1 = q.keys 1 ord.tail_published in
       let c : v.key i ≤ v.key 1 = ord.top i m' in omega arith;
-  next_published = λ i m n. next' i (q.published_from i m) n (cases_at i pred);
-  rises = λ i m n. rises' i (q.published_from i m) n (cases_at i pred);
+  next_published = λ i m n. next' i (q.published_from i m) n (same_or_not i pred);
+  rises = λ i m n. rises' i (q.published_from i m) n (same_or_not i pred);
 }
   where
     f : Facts v w pred curr (v.link curr / 2)
@@ -136,7 +134,7 @@ pub unlink-goes : (v w : View) → IsOrdered v → (pred curr : ℕ) → Unlinks
 unlink-goes v w ord pred curr q = record {
   keys = q.keys;
   grows = q.grows;
-  kept = λ b m. elim (cases_at b pred) [
+  kept = λ b m. elim (same_or_not b pred) [
     | inl e ↦ inr (subst (λ x. InChain v x × InChain w x) (sym e) (q.in_chain, unlink_pred v w ord pred curr q))
     | inr d ↦ inl (q.links b m d)
   ];
@@ -144,7 +142,7 @@ unlink-goes v w ord pred curr q = record {
 }
 
 pub unlink_mark : (v w : View) → (pred curr : ℕ) → Unlinks v w pred curr → (b : ℕ) → v.published b → w.link b % 2 ≡ v.link b % 2
-unlink_mark v w pred curr q b m = elim (cases_at b pred) [
+unlink_mark v w pred curr q b m = elim (same_or_not b pred) [
   | inl e ↦ subst (λ x. w.link x % 2 ≡ v.link x % 2) (sym e)
       (let g : w.link pred ≡ 2 * (v.link curr / 2) = q.pred_link in
       let h : v.link pred % 2 ≡ 0 = q.unmarked in omega arith)

@@ -35,9 +35,16 @@ impl Local {
     pub fn idle(layout: &Layout, t: u32) -> Local
         ensures { result ≡ idle layout.now.quota t }
     {
+        Local::at_rest(t, layout.quota())
+    }
+
+    /// A thread that has used no slot and begun no call.
+    pub(crate) fn at_rest(thread: u32, quota: u32) -> Local
+        ensures { result ≡ idle quota thread }
+    {
         Local {
-            thread: t,
-            quota: layout.quota(),
+            thread,
+            quota,
             used: 0,
             call: Call::Contains(Key(0)),
             pc: 0,

@@ -43,18 +43,10 @@ pub fn begun(pc: u8, call: Call, local: &Local) -> Local
     ensures { result ≡ begun pc call local.now }
 {
     Local {
-        thread: local.thread,
-        quota: local.quota,
         used: local.used,
         call,
         pc,
-        reply: None,
-        pred: 0,
-        curr: 0,
-        succ: 0,
-        node: 0,
-        pkey: 0,
-        ckey: 0,
+        ..Local::at_rest(local.thread, local.quota)
     }
 }
 

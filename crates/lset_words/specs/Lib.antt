@@ -5,3 +5,5 @@ pub mod History
 pub mod Log
 pub mod Account
 pub mod Placement
+pub mod RisingLists
+pub mod Numbers
