@@ -1,4 +1,4 @@
-//! Checks the order of a long history of one thread, for `bench/order`: each word is a number of calls, and
+//! Checks the order of a long history of one thread, for `bench/run`: each word is a number of calls, and
 //! for each a line tells what the check answers. The time is taken outside.
 #![tactic(auto)]
 
