@@ -1,0 +1,3 @@
+pub mod Chosen
+pub mod Commands
+pub mod FoundValues

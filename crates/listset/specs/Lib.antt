@@ -1,3 +1,6 @@
 pub mod Trouble
 pub mod Tools
 pub mod Replaying
+pub mod Checking
+pub mod Generating
+pub mod Words

@@ -1,2 +1,5 @@
+mod checking;
 mod devices;
+mod generating;
 mod replaying;
+mod words;
