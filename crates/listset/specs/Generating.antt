@@ -6,6 +6,7 @@ use Rattle.lset_steps.specs.Steps.{Table}
 use Rattle.lset_text.specs.Numbers.{number_in}
 use Rattle.lset_text.specs.Reading.{◌>>=◌, or_fail}
 use Rattle.lset_text.specs.Words.{kind_of}
+use Rattle.lset_schedule.specs.Drawing.{AreOfSeed}
 use Rattle.lset_schedule.specs.Generating.{IsAccepted, IsGenerated}
 use Rattle.lset_schedule.specs.Plan.{Plan, IsSchedule, schedule_text}
 use Rattle.lset_schedule.specs.declared.fault.GenFault.{GenFault}
@@ -47,11 +48,14 @@ request_of values = do
 
 -- A schedule as a request asks for it, of the machine of this table:
 pub record IsRequested (T : Table) (request : Request) (p : Plan) : Type 0 where
+  pub kind_is : p.kind ≡ request.kind
   pub threads_are : p.threads ≡ request.threads
   pub quota_is : p.quota ≡ request.quota
   pub schedule : IsSchedule p
   -- its events are enabled, and its calls and keys are within those asked for
   pub generated : IsGenerated T request.threads request.quota request.calls request.keys p.lines
+  -- they are the lines that the seed stands for
+  pub drawn : AreOfSeed T request.threads request.quota request.calls request.keys request.seed p.lines
 
 -- the schedule of a list that is built
 abbrev pub IsRequestedBy : Option Table → Request → Plan → Type 0

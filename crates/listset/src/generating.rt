@@ -42,7 +42,8 @@ impl From<GenFault> for Trouble {
 
 /// A schedule of the machine `M`, drawn as the request asks.
 fn schedule_by<M: Machine>(alloc: Global, request: Request) -> Result<Schedule, GenFault>
-    requires { IsAccepted request.threads request.quota request.keys }
+    requires kind { M.KIND ≡ request.kind }
+    requires accepted { IsAccepted request.threads request.quota request.keys }
     ensures schedule { IfOk result (λ s. IsRequested M.table request (view s)) }
     ensures fault { IfErr result (λ fault. fault ≡ Memory) }
 {

@@ -2,6 +2,7 @@
 #![tactic(auto)]
 
 ghost use Rattle.std.specs.Prelude.{◌≡◌};
+ghost use Rattle.lset_words.specs.declared.Kind.TheVariants.{Coarse};
 ghost use Rattle.lset_steps.specs.Rows.{IsSmall};
 ghost use Rattle.lset_coarse.specs.Coarse.{coarse, next_action, at_key, local_after};
 ghost use Rattle.lset_coarse.specs.Lawful.{coarse_lawful};
@@ -109,6 +110,8 @@ fn local_after(local: &Local, seen: u64) -> Local
 
 impl Machine for CoarseList {
     const KIND: Kind = Kind::Coarse;
+
+    ghost KIND = { Coarse };
 
     ghost table = { coarse };
 

@@ -3,6 +3,7 @@
 
 ghost use Rattle.std.specs.Prelude.{◌≡◌, ◌+◌, ◌≤◌};
 ghost use Rattle.lset_words.specs.Words.{lock_index};
+ghost use Rattle.lset_words.specs.declared.Kind.TheVariants.{Fine};
 ghost use Rattle.lset_steps.specs.Rows.{IsSmall};
 ghost use Rattle.lset_fine.specs.Fine.{fine, next_action, at_key, local_after};
 ghost use Rattle.lset_fine.specs.Lawful.{fine_lawful};
@@ -119,6 +120,8 @@ fn local_after(local: &Local, seen: u64) -> Local
 
 impl Machine for FineList {
     const KIND: Kind = Kind::Fine;
+
+    ghost KIND = { Fine };
 
     ghost table = { fine };
 

@@ -15,7 +15,7 @@ use Rattle.lset_words.specs.declared.Key.{Key}
 use Rattle.lset_words.specs.declared.Call.TheVariants.{Add, Remove, Contains}
 use Rattle.lset_words.specs.declared.Reply.TheVariants.{True, False, Full}
 use Rattle.lset_words.specs.SequentialSet.{SetState, has_key}
-use Rattle.lset_history.specs.Oracle.{OracleValue, set_of, Answers, KeepsCounts}
+use Rattle.lset_history.specs.Oracle.{OracleValue, set_of, Answers, PutsIn, KeepsCounts}
 use Rattle.lset_history.proofs.KeySets.{has_key_tree, with_key_tree, without_key_tree, without_absent}
 
 abbrev in_tree : ℕ → List ℕ → Bool
@@ -48,6 +48,11 @@ add_new quota s t k count read h room =
           ∙ cond-false (get_or s.counts t 0 == quota) Full True (ne_eqb _ _ (λ e. room (read ∙ e))));
       state_is = rw (length-set s.counts t (count + 1), ← with_key_tree k.0 s.keys absent, read) refl;
     }
+
+pub puts_in : (quota : ℕ) (s : SetState) (t : ℕ) (k : Key) (count : ℕ) → count ≡ get_or s.counts t 0
+    → in_tree k.0 s.keys ≡ false → count ≢ quota
+    → PutsIn (set_of quota s.keys s.counts) t (Add k)
+puts_in quota s t k count read h room = sym (add_new quota s t k count read h room).reply_is
 
 pub removed : (quota : ℕ) (s : SetState) (t : ℕ) (k : Key) (found : Bool) → found ≡ in_tree k.0 s.keys
     → IsStrictlyIncreasing s.keys

@@ -8,7 +8,9 @@ use Rattle.lset_words.specs.declared.Reply.{Reply}
 use Rattle.lset_words.specs.Log.{Log, Entry, Change, TracedCall, is_under_way, traced_on, changed_by, ended_by, calls_at, calls_after, last_call, begun_at, is_open, has_changed, is_change}
 use Rattle.lset_words.specs.Log.Entry.{began, stepped}
 use Rattle.lset_words.specs.Account.{Contents, Counts, FitsSometime, RightReply, MayChange, Enters, Account}
-use Rattle.lset_history.specs.Lists.{equal_test, unequal_test, same_or_not, bool_cases, Pairs, SomeOf, all_imply, all_map, pairs_map, some_imply, some_of_all, some_map}
+use Rattle.lset_words.specs.Numbers.{equal_test, unequal_test, same_or_not}
+use Rattle.std.proofs.lemmas.Bool.{cases_Bool}
+use Rattle.lset_history.specs.Lists.{Pairs, SomeOf, all_imply, all_map, pairs_map, some_imply, some_of_all, some_map}
 use Rattle.lset_history.specs.Calls.{Run, ChangedBy, ReplyOf, OpenAt, EndedBy, Traced, Later, IsOpenOf, ChangesAt, Calls, open_is, call_is, begun_is, changed_is, stays_stepped, changed_on, after_beginning}
 
 -- a step of a thread, as the account tells of it
@@ -146,7 +148,7 @@ traced_step : (r : Run) (k t : ℕ) (change : Option Change) (reply : Option Rep
     → Traced r k x → Traced r (suc k) (step_of k t change reply x)
 traced_step r k t change reply x s p =
     let a : x.begun ≤ k = p.already in
-    elim (bool_cases (is_under_way t x)) [
+    elim (cases_Bool (is_under_way t x)) [
       | inl u ↦ rw u (let w : (t ≡ x.thread) × (x.ended ≡ None) = way_of t x u in
           let v : Stepping r k x.thread change reply = subst (λ z. Stepping r k z change reply) w.0 s in
           let o : OpenAt r k x.thread x.call x.begun x.changed = open_call r k x w.1 p in
@@ -170,12 +172,12 @@ traced_step r k t change reply x s p =
 
 later_step : (k t : ℕ) (change : Option Change) (reply : Option Reply) (x y : TracedCall) → Later x y
     → Later (step_of k t change reply x) (step_of k t change reply y)
-later_step k t change reply x y p = elim (bool_cases (is_under_way t x)) [
-  | inl u ↦ elim (bool_cases (is_under_way t y)) [
+later_step k t change reply x y p = elim (cases_Bool (is_under_way t x)) [
+  | inl u ↦ elim (cases_Bool (is_under_way t y)) [
     | inl v ↦ rw (u, v) (record { begins = p.begins; one_thread = λ e. absurd (never u e) })
     | inr v ↦ rw (u, v) (record { begins = p.begins; one_thread = λ e. absurd (never u e) })
   ]
-  | inr u ↦ elim (bool_cases (is_under_way t y)) [
+  | inr u ↦ elim (cases_Bool (is_under_way t y)) [
     | inl v ↦ rw (u, v) (record { begins = p.begins; one_thread = p.one_thread })
     | inr v ↦ rw (u, v) p
   ]
@@ -193,7 +195,7 @@ opens_step r k t u change None xs e h o = some_imply (IsOpenOf u) (λ x. IsOpenO
     (h u (sym (open_is r.log k (stepped t change None) e u) ∙ o))
   where
     each : (x : TracedCall) → IsOpenOf u x → IsOpenOf u (step_of k t change None x)
-    each x p = elim (bool_cases (is_under_way t x)) [ inl b ↦ rw b (p.0, refl) | inr b ↦ rw b p ]
+    each x p = elim (cases_Bool (is_under_way t x)) [ inl b ↦ rw b (p.0, refl) | inr b ↦ rw b p ]
 opens_step r k t u change (Some reply) xs e h o = elim (same_or_not t u) [
   | inl i ↦ absurd (let f : (t == u) ≡ true = equal_test t u i in
       let g : false ≡ true = (rw f at (sym (open_is r.log k (stepped t change (Some reply)) e u) ∙ o)) in cc)
@@ -203,7 +205,7 @@ opens_step r k t u change (Some reply) xs e h o = elim (same_or_not t u) [
 ]
   where
     each : t ≢ u → (x : TracedCall) → IsOpenOf u x → IsOpenOf u (step_of k t change (Some reply) x)
-    each n x p = elim (bool_cases (is_under_way t x)) [
+    each n x p = elim (cases_Bool (is_under_way t x)) [
       | inl b ↦ absurd (n ((way_of t x b).0 ∙ p.0))
       | inr b ↦ rw b p
     ]
@@ -216,8 +218,8 @@ changer_now k t change reply x p = let b : is_under_way t x ≡ true = is_way t 
 changer_stays : (r : Run) (k t m : ℕ) (change : Option Change) (reply : Option Reply) (x : TracedCall)
     → Stepping r k t change reply
     → ChangesAt m x × Traced r k x → ChangesAt m (step_of k t change reply x)
-changer_stays r k t m None reply x s p = elim (bool_cases (is_under_way t x)) [ inl b ↦ rw b p.0 | inr b ↦ rw b p.0 ]
-changer_stays r k t m (Some change) reply x s p = elim (bool_cases (is_under_way t x)) [
+changer_stays r k t m None reply x s p = elim (cases_Bool (is_under_way t x)) [ inl b ↦ rw b p.0 | inr b ↦ rw b p.0 ]
+changer_stays r k t m (Some change) reply x s p = elim (cases_Bool (is_under_way t x)) [
   | inl b ↦ absurd (let w : (t ≡ x.thread) × (x.ended ≡ None) = way_of t x b in
       let o : OpenAt r k x.thread x.call x.begun x.changed = open_call r k x w.1 p.1 in
       let c : has_changed r.log x.thread k ≡ is_some x.changed = o.changed_is in

@@ -8,7 +8,8 @@ use Rattle.lset_words.specs.declared.Reply.TheVariants.{True}
 use Rattle.lset_words.specs.Log.{Log, Entry, Change, TracedCall, last_call, begun_at, is_open, has_changed, call_after, begun_after, open_after, changed_after}
 use Rattle.lset_words.specs.Log.Entry.{began, stepped}
 use Rattle.lset_words.specs.Account.{Contents, Counts, FitsSometime, MayChange}
-use Rattle.lset_history.specs.Lists.{equal_test, unequal_test, same_or_not, Pairs, SomeOf, all_imply, all-append, pairs_last, some_first, some_last}
+use Rattle.lset_words.specs.Numbers.{equal_test, unequal_test, same_or_not}
+use Rattle.lset_history.specs.Lists.{Pairs, SomeOf, all_imply, all-append, pairs_last, some_first, some_last}
 
 -- A RUN, as an account of it tells
 pub record Run : Type 1 where

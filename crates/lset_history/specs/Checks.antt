@@ -33,6 +33,13 @@ pub record IsLeftOut (calls : List CallRecord) (keys : List ℕ) (number : ℕ) 
   pub ended : is_some (call_numbered calls number).ended ≡ true
   pub absent : in_tree keys number ≡ false
 
+abbrev pub LeavesNoneOut : List CallRecord → List ℕ → Type 0
+LeavesNoneOut calls keys = (number : ℕ) → IsLeftOut calls keys number → ⊥
+
+-- the least number of an ended call that is not among the keys
+abbrev pub LeavesOutFirst : List CallRecord → List ℕ → ℕ → Type 0
+LeavesOutFirst calls keys number = IsLeftOut calls keys number × ((smaller : ℕ) → smaller < number → IsLeftOut calls keys smaller → ⊥)
+
 -- a call has this reply in the history, if it has ended, and of the sequential set
 pub record HasReply (o : OracleValue) (x : CallRecord) (reply : Reply) : Type 0 where
   pub recorded : IfSome x.ended (λ (end : ℕ × Reply). end.1 ≡ reply)

@@ -8,7 +8,8 @@ use Rattle.lset_words.specs.declared.Reply.{Reply}
 use Rattle.lset_words.specs.declared.Reply.TheVariants.{True, False, Full}
 use Rattle.lset_words.specs.SequentialSet.{SetState, has_key, with_key, without_key, count_of, reply_to, after_call}
 use Rattle.lset_words.specs.Account.{Content, Fits}
-use Rattle.lset_history.specs.Lists.{same_or_not, bool_cases}
+use Rattle.lset_words.specs.Numbers.{same_or_not}
+use Rattle.std.proofs.lemmas.Bool.{cases_Bool}
 use Rattle.lset_history.specs.Keys.{has_true, has_from, has_false, has_none, with_keeps, without_from, member_or_not}
 
 -- a content and a list have the same keys
@@ -52,47 +53,47 @@ module _ (quota : ℕ) (content : Content) (s : SetState) (same : SameKeys conte
   -- and the set's reply fits, where the set stays as it is
   pub fits_from_replies : (thread count : ℕ) (call : Call) (reply : Reply) → count_of s thread ≡ count
       → Replies quota s thread call reply → Fits quota content count call reply
-  fits_from_replies t n (call.Add k) True e f = elim (bool_cases (has_key k.0 s.keys)) [
+  fits_from_replies t n (call.Add k) True e f = elim (cases_Bool (has_key k.0 s.keys)) [
     | inl a ↦ absurd (let g : False ≡ True = rw a at f.0 in cc)
     | inr a ↦ (let g : with_key k.0 s.keys ≡ s.keys = ap (λ z. z.keys) f.1 in
         has_none k.0 s.keys a (subst (λ z. Contains z k.0) g (with_keeps k.0 k.0 s.keys (inl refl))))
   ]
-  fits_from_replies t n (call.Add k) False e f = elim (bool_cases (has_key k.0 s.keys)) [
+  fits_from_replies t n (call.Add k) False e f = elim (cases_Bool (has_key k.0 s.keys)) [
     | inl a ↦ is_member k.0 a
-    | inr a ↦ elim (bool_cases (count_of s t == quota)) [
+    | inr a ↦ elim (cases_Bool (count_of s t == quota)) [
       | inl b ↦ absurd (let g : Full ≡ False = rw (a, b) at f.0 in cc)
       | inr b ↦ absurd (let g : True ≡ False = rw (a, b) at f.0 in cc)
     ]
   ]
-  fits_from_replies t n (call.Add k) Full e f = elim (bool_cases (has_key k.0 s.keys)) [
+  fits_from_replies t n (call.Add k) Full e f = elim (cases_Bool (has_key k.0 s.keys)) [
     | inl a ↦ absurd (let g : False ≡ Full = rw a at f.0 in cc)
-    | inr a ↦ elim (bool_cases (count_of s t == quota)) [
+    | inr a ↦ elim (cases_Bool (count_of s t == quota)) [
       | inl b ↦ (is_none k.0 a, (let g : count_of s t ≡ quota = grind (arith, nat_tests) in sym e ∙ g))
       | inr b ↦ absurd (let g : True ≡ Full = rw (a, b) at f.0 in cc)
     ]
   ]
-  fits_from_replies t n (call.Remove k) True e f = elim (bool_cases (has_key k.0 s.keys)) [
+  fits_from_replies t n (call.Remove k) True e f = elim (cases_Bool (has_key k.0 s.keys)) [
     | inl a ↦ (let g : without_key k.0 s.keys ≡ s.keys = ap (λ z. z.keys) f.1 in
         (without_from k.0 k.0 s.keys (subst (λ z. Contains z k.0) (sym g) (has_from k.0 s.keys a))).1 refl)
     | inr a ↦ absurd (let g : False ≡ True = rw a at f.0 in cc)
   ]
-  fits_from_replies t n (call.Remove k) False e f = elim (bool_cases (has_key k.0 s.keys)) [
+  fits_from_replies t n (call.Remove k) False e f = elim (cases_Bool (has_key k.0 s.keys)) [
     | inl a ↦ absurd (let g : True ≡ False = rw a at f.0 in cc)
     | inr a ↦ is_none k.0 a
   ]
-  fits_from_replies t n (call.Remove k) Full e f = elim (bool_cases (has_key k.0 s.keys)) [
+  fits_from_replies t n (call.Remove k) Full e f = elim (cases_Bool (has_key k.0 s.keys)) [
     | inl a ↦ absurd (let g : True ≡ Full = rw a at f.0 in cc)
     | inr a ↦ absurd (let g : False ≡ Full = rw a at f.0 in cc)
   ]
-  fits_from_replies t n (call.Contains k) True e f = elim (bool_cases (has_key k.0 s.keys)) [
+  fits_from_replies t n (call.Contains k) True e f = elim (cases_Bool (has_key k.0 s.keys)) [
     | inl a ↦ is_member k.0 a
     | inr a ↦ absurd (let g : False ≡ True = rw a at f.0 in cc)
   ]
-  fits_from_replies t n (call.Contains k) False e f = elim (bool_cases (has_key k.0 s.keys)) [
+  fits_from_replies t n (call.Contains k) False e f = elim (cases_Bool (has_key k.0 s.keys)) [
     | inl a ↦ absurd (let g : True ≡ False = rw a at f.0 in cc)
     | inr a ↦ is_none k.0 a
   ]
-  fits_from_replies t n (call.Contains k) Full e f = elim (bool_cases (has_key k.0 s.keys)) [
+  fits_from_replies t n (call.Contains k) Full e f = elim (cases_Bool (has_key k.0 s.keys)) [
     | inl a ↦ absurd (let g : True ≡ Full = rw a at f.0 in cc)
     | inr a ↦ absurd (let g : False ≡ Full = rw a at f.0 in cc)
   ]

@@ -15,7 +15,7 @@ use Rattle.lset_words.specs.Log.Entry.{stepped}
 use Rattle.lset_words.specs.Account.{Contents, Counts, Account}
 use Rattle.lset_words.specs.Placement.{IsPlacement, StandsBy, StandsAt, Standing, standing, makes_change, placed_of, reply_by, at_moment, by_moments, no_traced, traced_at, place_at}
 use Rattle.lset_history.specs.Lists.{Pairs, SomeOf, all_imply, all_at, all_map, some_at, some_map, some_imply, some_contains, pairs_map, pairs_std, pairs_imply, map_twice, get_or_mapped}
-use Rattle.lset_history.specs.Keys.{same_rising, rises_from_increasing}
+use Rattle.lset_words.specs.RisingLists.{same_rising, rises_from_increasing}
 use Rattle.lset_history.specs.Calls.{Run, Traced, ChangesAt, Calls}
 use Rattle.lset_history.specs.CallSteps.{run_of, calls_of}
 use Rattle.lset_history.specs.States.{Shows, set_at, shows_at}

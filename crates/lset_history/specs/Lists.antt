@@ -1,27 +1,10 @@
--- Lists, by recursion: facts of each element, of each pair in the order of the list, of some element. And tests of numbers.
-use Rattle.std.proofs.Common.{◌≢◌, ◌≡◌, ℕ, zero, suc, ◌<◌, ◌⊎◌, Bool, true, false, inl, inr, List, [], ◌∷◌, ◌++◌, length, get_or, map, refl, arith}
-use Rattle.std.specs.Prelude.{◌==◌, filter, Contains, AllPairs}
+-- Lists, by recursion: facts of each element, of each pair in the order of the list, of some element.
+use Rattle.std.proofs.Common.{◌≡◌, ℕ, zero, suc, ◌<◌, ◌⊎◌, Bool, true, false, inl, inr, List, [], ◌∷◌, ◌++◌, length, get_or, map, refl, arith}
+use Rattle.std.specs.Prelude.{filter, Contains, AllPairs}
 use Rattle.std.specs.List.{AllByRecursion}
 use Rattle.std.proofs.lemmas.List.Elements.{All-from_recursion}
 use Rattle.std.proofs.lemmas.List.Kept.{AllPairs-cons}
-use Rattle.std.proofs.lemmas.Bool.Decides.{nat_tests}
-
-pub bool_cases : (t : Bool) → (t ≡ true) ⊎ (t ≡ false)
-bool_cases true = inl refl
-bool_cases false = inr refl
-
--- tests of numbers
-pub equal_test : (a b : ℕ) → a ≡ b → (a == b) ≡ true
-equal_test a b e = grind (arith, nat_tests)
-
-pub unequal_test : (a b : ℕ) → a ≢ b → (a == b) ≡ false
-unequal_test a b e = grind (arith, nat_tests)
-
-pub same_number : (a b : ℕ) → (a == b) ≡ true → a ≡ b
-same_number a b e = grind (arith, nat_tests)
-
-pub same_or_not : (a b : ℕ) → (a ≡ b) ⊎ (a ≢ b)
-same_or_not a b = grind arith
+use Rattle.std.proofs.lemmas.Bool.{cases_Bool}
 
 -- a fact of each element and each later one
 abbrev pub Pairs : {X : Type 0} → (X → X → Type 0) → List X → Type 0
@@ -80,7 +63,7 @@ module _ {X Y : Type 0} (f : X → Y) where
 module _ {X : Type 0} (P : X → Type 0) where
   pub all_filter : (p : X → Bool) (xs : List X) → AllByRecursion P xs → AllByRecursion P (filter p xs)
   all_filter p [] a = tt
-  all_filter p (x ∷ xs) a = elim (bool_cases (p x)) [
+  all_filter p (x ∷ xs) a = elim (cases_Bool (p x)) [
     | inl b ↦ rw b (a.0, all_filter p xs a.1)
     | inr b ↦ rw b (all_filter p xs a.1)
   ]
@@ -143,7 +126,7 @@ pairs_imply P R S f (x ∷ xs) a b = (
 module _ {X : Type 0} (R : X → X → Type 0) where
   pub pairs_filter : (p : X → Bool) (xs : List X) → Pairs R xs → Pairs R (filter p xs)
   pairs_filter p [] a = tt
-  pairs_filter p (x ∷ xs) a = elim (bool_cases (p x)) [
+  pairs_filter p (x ∷ xs) a = elim (cases_Bool (p x)) [
     | inl b ↦ rw b (all_filter (R x) p xs a.0, pairs_filter p xs a.1)
     | inr b ↦ rw b (pairs_filter p xs a.1)
   ]
@@ -171,13 +154,13 @@ module _ {X : Type 0} (R : X → X → Type 0) where
       none_left : (p : X → Bool) → ((x y : X) → R x y → p x ≡ true → p y ≡ true → ⊥) → (x : X) → p x ≡ true
           → (ys : List X) → AllByRecursion (R x) ys → filter p ys ≡ []
       none_left p h x s [] b = refl
-      none_left p h x s (y ∷ ys) b = elim (bool_cases (p y)) [
+      none_left p h x s (y ∷ ys) b = elim (cases_Bool (p y)) [
         | inl t ↦ absurd (h x y b.0 s t)
         | inr t ↦ rw t (none_left p h x s ys b.1)
       ]
   one_left p h (x ∷ xs) a (inr s) =
       let r : (z : X) × (filter p xs ≡ z ∷ []) × (p z ≡ true) = one_left p h xs a.1 s in
-      elim (bool_cases (p x)) [
+      elim (cases_Bool (p x)) [
         | inl t ↦ absurd (clash p h x t xs a.0 s)
         | inr t ↦ (r.0, rw t r.1, r.2)
       ]
@@ -196,14 +179,14 @@ filter_none p (x ∷ xs) a = let e : p x ≡ false = a.0 in rw e (filter_none p 
 -- what is left passes
 pub all_left : {X : Type 0} (p : X → Bool) (xs : List X) → AllByRecursion (λ x. p x ≡ true) (filter p xs)
 all_left p [] = tt
-all_left p (x ∷ xs) = elim (bool_cases (p x)) [ inl b ↦ rw b (b, all_left p xs) | inr b ↦ rw b (all_left p xs) ]
+all_left p (x ∷ xs) = elim (cases_Bool (p x)) [ inl b ↦ rw b (b, all_left p xs) | inr b ↦ rw b (all_left p xs) ]
 
 -- an element that passes is left
 pub some_filter : {X : Type 0} (P : X → Type 0) (p : X → Bool) (xs : List X) → SomeOf (λ x. P x × (p x ≡ true)) xs
     → SomeOf P (filter p xs)
 some_filter P p [] a = a
 some_filter P p (x ∷ xs) (inl a) = let e : p x ≡ true = a.1 in rw e (inl a.0)
-some_filter P p (x ∷ xs) (inr a) = elim (bool_cases (p x)) [
+some_filter P p (x ∷ xs) (inr a) = elim (cases_Bool (p x)) [
   | inl b ↦ rw b (inr (some_filter P p xs a))
   | inr b ↦ rw b (some_filter P p xs a)
 ]

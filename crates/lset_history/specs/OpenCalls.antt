@@ -8,7 +8,9 @@ use Rattle.lset_words.specs.Log.{Log, Entry, Change, TracedCall, is_under_way, t
 use Rattle.lset_words.specs.Log.Entry.{began, stepped}
 use Rattle.lset_words.specs.Account.{Contents, Counts, Enters, Account}
 use Rattle.lset_words.specs.Placement.{no_traced, traced_at}
-use Rattle.lset_history.specs.Lists.{equal_test, unequal_test, same_or_not, same_number, bool_cases, Pairs, pairs_std}
+use Rattle.lset_words.specs.Numbers.{equal_test, unequal_test, same_or_not, same_number}
+use Rattle.std.proofs.lemmas.Bool.{cases_Bool}
+use Rattle.lset_history.specs.Lists.{Pairs, pairs_std}
 use Rattle.lset_history.specs.Calls.{Later, IsOpenOf, Calls, open_is, new_call}
 use Rattle.lset_history.specs.CallSteps.{step_of, way_of, is_way, run_of, calls_of}
 
@@ -46,7 +48,7 @@ number_began : (log : Log) (k u t : ℕ) (call : Call) → is_open log u k ≡ f
 number_began log k u t call shut h o =
     let long : length (calls_after (suc k) (began u call) (calls_at log k)) ≡ length (calls_at log k) + 1 =
     length-append (calls_at log k) (new_call k u call ∷ []) in
-    elim (bool_cases (u == t)) [
+    elim (cases_Bool (u == t)) [
       | inl b ↦ rw b (record {
         below = omega arith;
         open_call =
@@ -80,7 +82,7 @@ number_stepped k u t change reply xs number c p =
     record { below = omega arith; open_call = subst (IsOpenOf t) (sym e) (still (traced_at xs number) p.open_call) }
   where
     still : (x : TracedCall) → IsOpenOf t x → IsOpenOf t (step_of k u change reply x)
-    still x o = elim (bool_cases (is_under_way u x)) [
+    still x o = elim (cases_Bool (is_under_way u x)) [
       | inl b ↦ rw b (elim c [
         | inl n ↦ (o.0, (rw n refl))
         | inr n ↦ absurd (n ((way_of u x b).0 ∙ o.0))
@@ -169,7 +171,7 @@ step_sets threads quota last log contents counts a k t change reply l o =
     let p : OpenNumber (calls_at log k) t (last_number log t k) = open_number threads quota last log contents counts a k l t o in
     map_sets t (last_number log t k) (traced_on (suc k) change reply) (calls_at log k) p.below
     (is_way t (traced_at (calls_at log k) (last_number log t k)) p.open_call.0 p.open_call.1)
-    (λ j m n. others (calls_at log k) c.pairs p j m n (bool_cases (is_under_way t (traced_at (calls_at log k) j))))
+    (λ j m n. others (calls_at log k) c.pairs p j m n (cases_Bool (is_under_way t (traced_at (calls_at log k) j))))
   where
     others : (xs : List TracedCall) → Pairs Later xs → OpenNumber xs t (last_number log t k) → (j : ℕ) → j < length xs
         → j ≢ last_number log t k

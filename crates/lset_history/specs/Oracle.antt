@@ -2,7 +2,9 @@
 use Rattle.std.specs.Prelude.{◌≡◌, ℕ, ◌≤◌, List, length, All}
 use Rattle.std.specs.List.Sorted.{IsStrictlyIncreasing}
 use Rattle.lset_words.specs.declared.Call.{Call}
+use Rattle.lset_words.specs.declared.Call.TheVariants.{Add, Remove, Contains}
 use Rattle.lset_words.specs.declared.Reply.{Reply}
+use Rattle.lset_words.specs.declared.Reply.TheVariants.{True}
 use Rattle.lset_words.specs.SequentialSet.{SetState, reply_to, after_call}
 
 pub record OracleValue : Type 0 where
@@ -18,6 +20,12 @@ set_of quota keys counts = record { threads = length counts; quota = quota; stat
 pub record Answers (old new : OracleValue) (thread : ℕ) (call : Call) (reply : Reply) : Type 0 where
   pub reply_is : reply ≡ reply_to old.quota old.state thread call
   pub state_is : new ≡ record old { state = after_call old.state thread call reply }
+
+-- a call that puts its key in; no other call takes memory
+abbrev pub PutsIn : OracleValue → ℕ → Call → Type 0
+PutsIn o thread (Add k) = reply_to o.quota o.state thread (Add k) ≡ True
+PutsIn o thread (Remove k) = ⊥
+PutsIn o thread (Contains k) = ⊥
 
 -- what a set keeps of itself
 pub record KeepsCounts (quota : ℕ) (s : SetState) : Type 0 where

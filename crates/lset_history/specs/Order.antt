@@ -4,7 +4,9 @@ use Rattle.std.specs.Prelude.{◌==◌, filter}
 use Rattle.std.specs.List.{AllByRecursion}
 use Rattle.lset_words.specs.SequentialSet.{SetState, Answered, reply_to, after_call, IsLegal, set_left}
 use Rattle.lset_words.specs.Placement.{Standing, makes_change, at_moment, block, by_moments}
-use Rattle.lset_history.specs.Lists.{equal_test, same_number, bool_cases, Pairs, SomeOf, all_imply, all_both, all_filter, all-append, all_left, all_across, pairs_filter, pairs-append, pairs_imply, some_imply, some_first, some_second, some_filter}
+use Rattle.lset_words.specs.Numbers.{equal_test, same_number}
+use Rattle.std.proofs.lemmas.Bool.{cases_Bool}
+use Rattle.lset_history.specs.Lists.{Pairs, SomeOf, all_imply, all_both, all_filter, all-append, all_left, all_across, pairs_filter, pairs-append, pairs_imply, some_imply, some_first, some_second, some_filter}
 
 -- WHAT HOLDS OF EACH
 module _ (P : Standing → Type 0) (ss : List Standing) (h : AllByRecursion P ss) where
@@ -46,11 +48,11 @@ some_by_moments P m k ss l h = reach k l
 
     parted : (xs : List Standing) → SomeOf P xs → SomeOf P (filter makes_change xs ++ filter (λ s. not (makes_change s)) xs)
     parted [] a = a
-    parted (x ∷ xs) (inl a) = elim (bool_cases (makes_change x)) [
+    parted (x ∷ xs) (inl a) = elim (cases_Bool (makes_change x)) [
       | inl b ↦ rw b (inl a)
       | inr b ↦ rw b (some_second P (filter makes_change xs) (x ∷ filter (λ s. not (makes_change s)) xs) (inl a))
     ]
-    parted (x ∷ xs) (inr a) = elim (bool_cases (makes_change x)) [
+    parted (x ∷ xs) (inr a) = elim (cases_Bool (makes_change x)) [
       | inl b ↦ rw b (inr (parted xs a))
       | inr b ↦ rw b (more x (filter makes_change xs) (filter (λ s. not (makes_change s)) xs) (parted xs a))
     ]

@@ -6,8 +6,9 @@ use Rattle.lset_words.specs.SequentialSet.{SetState, empty_set, with_key, withou
 use Rattle.lset_words.specs.Log.{Log, Entry, Change}
 use Rattle.lset_words.specs.Log.Entry.{began, stepped}
 use Rattle.lset_words.specs.Account.{Content, Contents, Counts, Same, Changes, count_after, Enters, Account}
-use Rattle.lset_history.specs.Lists.{same_or_not}
-use Rattle.lset_history.specs.Keys.{contains-nil, with_keeps, with_from, without_keeps, without_from, RisesFrom, with_rises, without_rises}
+use Rattle.lset_words.specs.Numbers.{same_or_not}
+use Rattle.lset_words.specs.RisingLists.{contains-nil, RisesFrom}
+use Rattle.lset_history.specs.Keys.{with_keeps, with_from, without_keeps, without_from, with_rises, without_rises}
 use Rattle.lset_history.specs.Fitting.{SameKeys}
 
 -- after a change

@@ -12,7 +12,9 @@ use Rattle.lset_words.specs.Log.{Entry, Change, TracedCall}
 use Rattle.lset_words.specs.Log.Entry.{began, stepped}
 use Rattle.lset_words.specs.Account.{Content, Changes, MayChange, Enters}
 use Rattle.lset_words.specs.Placement.{Standing, makes_change, reply_by, at_moment}
-use Rattle.lset_history.specs.Lists.{equal_test, bool_cases, Pairs, SomeOf, all_imply, all_both, all_filter, pairs_filter, pairs_imply, one_left, filter_none, some_imply, some_filter}
+use Rattle.lset_words.specs.Numbers.{equal_test}
+use Rattle.std.proofs.lemmas.Bool.{cases_Bool}
+use Rattle.lset_history.specs.Lists.{Pairs, SomeOf, all_imply, all_both, all_filter, pairs_filter, pairs_imply, one_left, filter_none, some_imply, some_filter}
 use Rattle.lset_history.specs.Keys.{has_true, has_false}
 use Rattle.lset_history.specs.Calls.{Run}
 use Rattle.lset_history.specs.Fitting.{SameKeys, replies_from_fits}
@@ -86,7 +88,7 @@ module _ (r : Run) (last : ℕ) (calls : List TracedCall) (places : List (Option
       (all_imply (Here m) (λ s. makes_change s ≡ false) each (at_moment m ss) (here m))
     where
       each : (s : Standing) → Here m s → makes_change s ≡ false
-      each s a = elim (bool_cases (makes_change s)) [
+      each s a = elim (cases_Bool (makes_change s)) [
         | inl t ↦ absurd (h s (changing r last calls places s a.0 t) a.1)
         | inr t ↦ t
       ]

@@ -1,7 +1,7 @@
-ghost use Rattle.std.specs.Prelude.{◌≡◌, ◌≢◌, ◌<◌, ◌^◌, ℕ, List, [], IfOk, OnOk, IfErr, MatchOption, MatchBool, IsSomeAnd, IsTrue, ◌↔◌, length, All};
+ghost use Rattle.std.specs.Prelude.{◌≡◌, ◌≢◌, ◌<◌, ◌^◌, [], IfOk, OnOk, IfErr, MatchOption, MatchBool, IsSomeAnd, IsTrue, ◌↔◌, length, All};
 ghost use Rattle.lset_words.specs.declared.history.CallRecord.{CallRecord};
 ghost use Rattle.lset_history.specs.Faults.{Explains, IsFault, Passes, RefusesFirst, IsUnknown, IsTwice, HasWrongReply, IsTooEarly};
-ghost use Rattle.lset_history.specs.Checks.{HasKnownCalls, HoldsCalls, IsLeftOut, HasReply, HasOtherReply, after_reply, HasReplies, after_order, least_with};
+ghost use Rattle.lset_history.specs.Checks.{HasKnownCalls, HoldsCalls, LeavesNoneOut, LeavesOutFirst, HasReply, HasOtherReply, after_reply, HasReplies, after_order, least_with};
 ghost use Rattle.lset_history.specs.declared.fault.OrderFault.TheVariants.{Memory};
 
 use crate::{History, Oracle, OrderFault};
@@ -43,9 +43,8 @@ fn first_twice(order: &[Placed], placed: &mut BTreeSet<u32>) -> Result<Option<u3
 fn first_missing(calls: &[CallRecord], placed: &BTreeSet<u32>) -> Option<u32>
     requires { length calls.now < 2 ^ 32 }
     ensures { MatchOption result
-        ((number : ℕ) → IsLeftOut calls.now placed.now.keys number → ⊥)
-        (λ number. IsLeftOut calls.now placed.now.keys number
-        × ((smaller : ℕ) → smaller < number → IsLeftOut calls.now placed.now.keys smaller → ⊥)) }
+        (LeavesNoneOut calls.now placed.now.keys)
+        (LeavesOutFirst calls.now placed.now.keys) }
 {
     for (index, record) in calls.iter().enumerate() {
         let number = index as u32;

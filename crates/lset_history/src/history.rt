@@ -84,7 +84,8 @@ impl History {
         }
     }
 
-    /// Thread `thread` begins a call at the moment `at`; gives the call's number.
+    /// Thread `thread` begins a call at the moment `at`; gives the call's number: 0 for the first call, and one
+    /// more for each further one.
     ///
     /// `HistoryFault::NoThread` where the history has no such thread, else `Busy` where the thread has an
     /// open call, else `Time` where `at` is 0 or not above every earlier moment, else `Memory` where a

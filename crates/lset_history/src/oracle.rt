@@ -3,7 +3,7 @@ ghost use Rattle.std.specs.List.Sorted.{IsStrictlyIncreasing};
 ghost use Rattle.lset_words.specs.declared.Call.{Call};
 ghost use Rattle.lset_words.specs.declared.Reply.{Reply};
 ghost use Rattle.lset_words.specs.SequentialSet.{empty_set};
-ghost use Rattle.lset_history.specs.Oracle.{Answers};
+ghost use Rattle.lset_history.specs.Oracle.{Answers, PutsIn};
 
 use lset_words::{Call, Key, Reply};
 use std::alloc::{AllocError, Global};
@@ -37,8 +37,8 @@ impl Model for Oracle {
 }
 
 impl Oracle {
-    /// The empty set for `threads` threads, each with a quota of `quota` successful adds. An error is want of
-    /// memory.
+    /// The empty set for `threads` threads, each with a quota of `quota` successful adds; each may be any number.
+    /// An error is want of memory.
     pub fn new(alloc: Global, threads: u32, quota: u32) -> Result<Oracle, AllocError>
         ensures { IfOk result (λ o. o ≡ record { threads = threads; quota = quota; state = empty_set threads }) }
     {
@@ -54,10 +54,12 @@ impl Oracle {
     /// Makes a call of the thread `thread`, below the threads, and gives its reply: `Add` of a present key is
     /// `False`, of an absent key `Full` where the thread's count is at the quota, and else `True`; `Remove` and
     /// `Contains` are `True` where the key is present, and else `False`. Nothing changes but by an `Add` or a
-    /// `Remove` that is `True`. An error is want of memory, and changes nothing.
+    /// `Remove` that is `True`. An error is want of memory: it comes only to an `Add` that would be `True`, and
+    /// changes nothing.
     pub fn apply(&mut self, thread: u32, call: Call) -> Result<Reply, AllocError>
         requires { thread < self.old.threads }
         ensures answers { IfOk result (Answers self.old self.new thread call) }
+        ensures growth { OnErr result (PutsIn self.old thread call) }
         ensures unchanged { OnErr result (self.new ≡ self.old) }
     {
         match call {
@@ -70,6 +72,7 @@ impl Oracle {
     fn add(&mut self, thread: u32, key: Key) -> Result<Reply, AllocError>
         requires { thread < self.old.threads }
         ensures answers { IfOk result (Answers self.old self.new thread (Call.Add key)) }
+        ensures growth { OnErr result (PutsIn self.old thread (Call.Add key)) }
         ensures unchanged { OnErr result (self.new ≡ self.old) }
     {
         if self.keys.contains(&key.0) {

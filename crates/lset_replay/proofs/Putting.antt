@@ -1,17 +1,14 @@
 -- Putting the calls that stand into the blocks of their moments, and joining the blocks.
-use Rattle.std.proofs.Common.{◌≡◌, ◌≢◌, ℕ, zero, suc, ◌+◌, ◌<◌, ◌⊎◌, inl, inr, Bool, true, false, ◌&&◌, List, [], ◌∷◌, ◌++◌, Option, Some, None, length, get_or, set, drop, take, refl, sym, ap, ◌∙◌, arith, append_assoc, get_or-set_other, get_or-set_same, eqb}
+use Rattle.std.proofs.Common.{◌≡◌, ◌≢◌, ℕ, zero, suc, ◌+◌, ◌<◌, inl, inr, Bool, true, false, ◌&&◌, List, [], ◌∷◌, ◌++◌, Option, Some, None, length, get_or, set, drop, take, refl, sym, ap, ◌∙◌, arith, append_assoc, get_or-set_other, get_or-set_same, eqb}
 use Rattle.std.specs.List.{flat_map}
 use Rattle.std.specs.declared.alloc.Global.{Global}
 use mathlib.Core.Bool.{beq}
 use Rattle.std.specs.Prelude.{Vec}
 use Rattle.std.proofs.lemmas.List.{append-nil, at_drop_more, map-set, get_or-map, length-map, take_more, flat_map_more, take_all}
-use Rattle.std.proofs.lemmas.Bool.Decides.{nat_tests}
+use Rattle.lset_words.specs.Numbers.{same_or_not, equal_test, unequal_test}
 use Rattle.lset_words.specs.declared.history.Placed.{Placed}
 use Rattle.lset_replay.specs.declared.places.Place.{Place}
 use Rattle.lset_replay.specs.Blocks.{placed_at, block_at, blocks_upto, is_same, items_of, block_in}
-
-same_or_not : (a b : ℕ) → (a ≡ b) ⊎ (a ≢ b)
-same_or_not a b = grind arith
 
 -- the places from the one of number i on, where that one goes into the block of its moment
 placed_next : (c : Bool) (m i : ℕ) (ps : List (Option Place)) (p : Place) → i < length ps → get_or ps i None ≡ Some p
@@ -34,19 +31,13 @@ is_same_not true false n = refl
 is_same_not false true n = refl
 is_same_not false false n = absurd (n refl)
 
-eq_yes : (a b : ℕ) → a ≡ b → eqb a b ≡ true
-eq_yes a b e = grind (arith, nat_tests)
-
-eq_not : (a b : ℕ) → a ≢ b → eqb a b ≡ false
-eq_not a b e = grind (arith, nat_tests)
-
 here : (c : Bool) (m i : ℕ) (p : Place) (ps : List (Option Place)) → p.moment ≡ m → p.change ≡ c
     → placed_at c m i (Some p ∷ ps) ≡ record { call = i; reply = p.reply } ∷ placed_at c m (suc i) ps
-here c m i p ps at same = rw (eq_yes p.moment m at, is_same_yes c p.change same) refl
+here c m i p ps at same = rw (equal_test p.moment m at, is_same_yes c p.change same) refl
 
 elsewhere : (c : Bool) (m i : ℕ) (p : Place) (ps : List (Option Place)) → p.moment ≢ m
     → placed_at c m i (Some p ∷ ps) ≡ placed_at c m (suc i) ps
-elsewhere c m i p ps at = rw (eq_not p.moment m at) refl
+elsewhere c m i p ps at = rw (unequal_test p.moment m at) refl
 
 and_false : (b : Bool) → b && false ≡ false
 and_false true = refl

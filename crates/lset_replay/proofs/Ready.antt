@@ -13,7 +13,8 @@ use Rattle.lset_words.specs.Account.{Contents, Counts, Enters, Account}
 use Rattle.lset_words.specs.Placement.{no_traced}
 use Rattle.lset_words.specs.History.{call_numbered}
 use Rattle.lset_history.specs.History.{IsLater, MayBegin, MayEnd, has_open}
-use Rattle.lset_history.specs.Lists.{all_imply, all_map, bool_cases, get_or_mapped}
+use Rattle.std.proofs.lemmas.Bool.{cases_Bool}
+use Rattle.lset_history.specs.Lists.{all_imply, all_map, get_or_mapped}
 use Rattle.lset_history.specs.Calls.{Traced, EndedBy, OpenAt}
 use Rattle.lset_history.specs.CallSteps.{run_of, calls_of, way_of}
 use Rattle.lset_history.specs.OpenCalls.{OpenNumber, open_number, last_number, length_began, length_stepped}
@@ -81,7 +82,7 @@ module _ (n q last : ℕ) (log : Log) (contents : Contents) (counts : Counts) (a
 
     shut : (t : ℕ) → is_open log t k ≡ false → (x : TracedCall) → Traced (run_of n q log contents counts) k x
         → is_under_way t x ≡ false
-    shut t e x h = elim (bool_cases (is_under_way t x)) [
+    shut t e x h = elim (cases_Bool (is_under_way t x)) [
       | inl y ↦ absurd (
           let w : (t ≡ x.thread) × (x.ended ≡ None) = way_of t x y in
           let o : OpenAt (run_of n q log contents counts) k x.thread x.call x.begun x.changed =

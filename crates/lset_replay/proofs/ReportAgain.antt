@@ -1,5 +1,5 @@
 -- The text of a report is read as the report.
-use Rattle.std.proofs.Common.{◌≡◌, ◌≢◌, ℕ, ◌+◌, ◌<◌, ◌≤◌, ◌^◌, true, List, [], ◌∷◌, ◌++◌}
+use Rattle.std.proofs.Common.{◌≡◌, ℕ, ◌+◌, ◌<◌, ◌≤◌, ◌^◌, inl, inr, true, List, [], ◌∷◌, ◌++◌}
 use Rattle.std.proofs.Common.{map, length, Option, Some, None, Result, Ok, Err, refl, sym, ap, subst, ◌∙◌, arith}
 use Rattle.std.proofs.Common.{append_assoc, length-append}
 use Rattle.std.specs.Prelude.{MatchResult}
@@ -237,26 +237,8 @@ reads_text r is = ap report_of (cut_lines (report_lines r) (report_lacks r is)) 
 
 -- ---- as a reader's clause
 
--- a cause that cannot be another one is want of memory
-is_memory : (c : ReportCause) → (c ≢ wrong.Memory → ⊥) → c ≡ wrong.Memory
-is_memory wrong.Memory h = refl
-is_memory wrong.Header h = absurd (h (λ e. cc))
-is_memory wrong.Kind h = absurd (h (λ e. cc))
-is_memory wrong.Threads h = absurd (h (λ e. cc))
-is_memory wrong.Quota h = absurd (h (λ e. cc))
-is_memory wrong.Line h = absurd (h (λ e. cc))
-is_memory wrong.Number h = absurd (h (λ e. cc))
-is_memory wrong.TooMany h = absurd (h (λ e. cc))
-is_memory wrong.History h = absurd (h (λ e. cc))
-is_memory wrong.NotEnded h = absurd (h (λ e. cc))
-
-gives_ok : (r : Result Report ReportFault) (q : ReportValue) → Gives view r (Ok q)
-    → MatchResult r (λ s. view s ≡ q) (λ e. e.cause ≡ wrong.Memory)
-gives_ok (Ok s) q gives = sym (ok_is q (view s) gives)
-gives_ok (Err e) q gives = is_memory e.cause (λ other. let bad = gives other in cc)
-
-pub only_in : (bytes : List ℕ) (r : Result Report ReportFault) → Gives view r (reading bytes) → (q : ReportValue) → IsReport q
+pub only_in : (bytes : List ℕ) (r : Result Report ReportFault) → Gives view r bytes → (q : ReportValue) → IsReport q
     → bytes ≡ report_text q → MatchResult r (λ s. view s ≡ q) (λ e. e.cause ≡ wrong.Memory)
-only_in bytes r gives q is text =
-    let read : reading bytes ≡ Ok q = ap reading text ∙ reads_text q is in
-    gives_ok r q (subst (Gives view r) read gives)
+only_in bytes (Ok s) gives q is text = ok_is (view s) q (sym gives ∙ ap reading text ∙ reads_text q is)
+only_in bytes (Err e) (inl bad) q is text = absurd (let read : reading bytes ≡ Ok q = ap reading text ∙ reads_text q is in cc)
+only_in bytes (Err e) (inr out) q is text = out.cause

@@ -12,14 +12,13 @@ use Rattle.lset_words.specs.declared.history.CallRecord.{CallRecord}
 use Rattle.lset_words.specs.declared.history.Placed.{Placed}
 use Rattle.lset_words.specs.Words.{key_of}
 use Rattle.lset_text.specs.declared.words.CallWord.{CallWord}
-use Rattle.lset_text.specs.declared.words.CallWord.TheVariants as word
 use Rattle.lset_text.specs.Parts.{cut_at, line_of, Lacks}
 use Rattle.lset_text.specs.Numbers.{number_in, max_number}
 use Rattle.lset_text.specs.Words.{call_text, call_word_text, call_word_of, word_of, with_key, reply_text, reply_of}
 use Rattle.lset_text.specs.Reading.{◌>>=◌, or_fail}
 use Rattle.lset_text.proofs.PartLaws.{Lacks-below, line_lacks, cut_line, line_from_cut}
 use Rattle.lset_text.proofs.NumberLaws.{number_ok, number_again, decimal_lacks}
-use Rattle.lset_text.proofs.WordLaws.{same_bytes, call_word_ok, call_word_again, call_lacks, with_key-word_of, reply_ok}
+use Rattle.lset_text.proofs.WordLaws.{same_bytes, call_word_ok, call_word_again, call_lacks, with_key-word_of, word_of-with_key, key_of-with_key, reply_ok}
 use Rattle.lset_text.proofs.WordLaws.{reply_again, reply_lacks}
 use Rattle.lset_text.proofs.ReadingLaws.{bind_ok, or_fail_ok, ok_is}
 use Rattle.lset_replay.specs.declared.reading.lines.Line.{Line}
@@ -87,16 +86,6 @@ three a b c x y z e f g = cc
 six : (a b c d e f u v w x y z : List ℕ) (s t : List (List ℕ)) → a ≡ u → b ≡ v → c ≡ w → d ≡ x → e ≡ y → f ≡ z → s ≡ t
     → a ∷ b ∷ c ∷ d ∷ e ∷ f ∷ s ≡ u ∷ v ∷ w ∷ x ∷ y ∷ z ∷ t
 six a b c d e f u v w x y z s t h i j k l m n = cc
-
-word_of-with_key : (w : CallWord) (k : Key) → word_of (with_key w k) ≡ w
-word_of-with_key word.Add k = refl
-word_of-with_key word.Remove k = refl
-word_of-with_key word.Contains k = refl
-
-key_of-with_key : (w : CallWord) (k : Key) → key_of (with_key w k) ≡ k
-key_of-with_key word.Add k = refl
-key_of-with_key word.Remove k = refl
-key_of-with_key word.Contains k = refl
 
 -- the number and the beginning of a call, from these pieces
 record IsBegun (w : CallWord) (i t k b : List ℕ) (p : ℕ × CallRecord) : Type 0 where

@@ -1,11 +1,13 @@
 -- Reading the lines of a report one after the other, as a loop does.
-use Rattle.std.proofs.Common.{◌≡◌, ◌≢◌, ℕ, ◌+◌, ◌<◌, ◌&&◌, Bool, true, false, cond, ltb, eqb, List, [], ◌∷◌}
+use Rattle.std.proofs.Common.{◌≡◌, ℕ, ◌+◌, ◌<◌, ◌&&◌, ◌⊎◌, inl, inr, Bool, true, false, cond, ltb, eqb, List, [], ◌∷◌, ◌++◌}
 use Rattle.std.proofs.Common.{length, Result, Ok, Err, refl, sym, ap, subst, ◌∙◌, arith}
 use Rattle.std.proofs.lemmas.Bool.{ne_eqb, ltb-true, eqb-true, and_parts}
 use Rattle.std.proofs.lemmas.List.{nil_from_length}
 use Rattle.lset_text.specs.Parts.{cut_at}
 use Rattle.lset_text.proofs.PartLaws.{some_part}
 use Rattle.lset_text.proofs.ReadingLaws.{bind_ok}
+use Rattle.lset_text.proofs.HeaderLaws.{header_ok}
+use Rattle.lset_text.specs.Reading.{◌>>=◌, map_fault}
 use Rattle.lset_replay.specs.declared.reading.Reader.{Reader}
 use Rattle.lset_replay.specs.declared.reading.lines.Line.{Line}
 use Rattle.lset_replay.specs.declared.reading.lines.Line.TheVariants.{Call, Place, Key, End}
@@ -16,11 +18,11 @@ use Rattle.lset_replay.specs.declared.report_fault.ReportFault.{ReportFault}
 use Rattle.lset_replay.specs.Reports.{ReportValue}
 use Rattle.lset_replay.specs.Reading.{fault, line_in, may_follow, judged, counted, following, line_after, section_after}
 use Rattle.lset_replay.specs.Reading.{with_line}
-use Rattle.lset_replay.specs.Reading.{ended_in, report_from, report_of, reading, no_lines}
+use Rattle.lset_replay.specs.Reading.{ended_in, report_from, report_of, reading, no_lines, IsGoodUpTo, RunsOut}
 use Rattle.lset_replay.specs.Texts.{title}
 use Rattle.lset_replay.specs.declared.reading.lines.Section.TheVariants as section
 use Rattle.lset_text.specs.declared.headers.Header.{Header}
-use Rattle.lset_text.specs.Headers.{header_of}
+use Rattle.lset_text.specs.Headers.{header_of, header_lines}
 use Rattle.lset_replay.specs.ReportReader.{so_far}
 
 -- ---- the judgement of a line
@@ -89,15 +91,55 @@ goes_on s t line rest first after l whole parts read section_is told_is so_far_i
     rw (parts, section_is, told_is) step in
     sym one ∙ so_far_is
 
-pub stops : (line : ℕ) (s : Section) (r : ReportValue) (rest first after : List ℕ) (e : ReportFault)
+-- ---- where memory ran out: every fault of the lines that are left has a later line
+
+good_if : (line : ℕ) (b : Bool) (r q : Result ReportValue ReportFault) → IsGoodUpTo line r → IsGoodUpTo line q
+    → IsGoodUpTo line (cond b r q)
+good_if line true r q first second = first
+good_if line false r q first second = second
+
+good_bind : (upto line : ℕ) (read : Result Line ReportCause) (rest : Line → Result ReportValue ReportFault) → upto < line
+    → ((l : Line) → IsGoodUpTo upto (rest l)) → IsGoodUpTo upto (map_fault (fault line) read >>= rest)
+good_bind upto line (Ok l) rest later good = good l
+good_bind upto line (Err cause) rest later good = later
+
+good_end : (upto line : ℕ) (s : Section) (r : ReportValue) → upto < line → IsGoodUpTo upto (ended_in line s r)
+good_end upto line section.Calls r later = later
+good_end upto line section.Order r later = later
+good_end upto line section.Keys r later = later
+good_end upto line section.Done r later = tt
+
+pub good_from : (upto line : ℕ) (s : Section) (r : ReportValue) (parts : List (List ℕ)) → upto < line
+    → IsGoodUpTo upto (report_from line s r parts)
+unfolding report_from
+good_from upto line s r [] later = good_end upto line s r later
+good_from upto line s r (rest ∷ []) later =
+    good_if upto (eqb (length rest) 0) (ended_in line s r) (Err (fault line wrong.NotEnded)) (good_end upto line s r later) later
+good_from upto line s r (x ∷ y ∷ more) later =
+    good_bind upto line (line_after s r x) (λ l. report_from (line + 1) (section_after l) (with_line r l) (y ∷ more)) later
+    (λ l. good_from upto (line + 1) (section_after l) (with_line r l) (y ∷ more) (omega (arith, later)))
+
+-- a line with a fault, or for which memory ran out
+pub stops : (line count : ℕ) (s : Section) (r : ReportValue) (rest first after : List ℕ) (e : ReportFault)
     (whole : Result ReportValue ReportFault)
     → cut_at 10 rest ≡ first ∷ cut_at 10 after
-    → (e.cause ≢ wrong.Memory → (cause : ReportCause) × (line_after s r first ≡ Err cause) × (e ≡ fault line cause))
-    → report_from line s r (cut_at 10 rest) ≡ whole → e.cause ≢ wrong.Memory → whole ≡ Err e
-stops line s r rest first after e whole parts read so_far_is other =
-    let bad = read other in
+    → ((cause : ReportCause) × (line_after s r first ≡ Err cause) × (e ≡ fault line cause))
+    ⊎ ((l : Line) × (line_after s r first ≡ Ok l) × (e ≡ fault line wrong.Memory))
+    → report_from line s r (cut_at 10 rest) ≡ whole → line + length (cut_at 10 rest) ≡ 5 + count
+    → (whole ≡ Err e) ⊎ RunsOut (4 + count) whole e
+stops line count s r rest first after e whole parts (inl bad) so_far_is lines =
     let step = report_fails line s r first (cut_at 10 after) bad.0 (some_part 10 after) bad.1 in
-    sym so_far_is ∙ ap (report_from line s r) parts ∙ step ∙ ap (λ (f : ReportFault). Err f) (sym bad.2)
+    inl (sym so_far_is ∙ ap (report_from line s r) parts ∙ step ∙ ap (λ (f : ReportFault). Err f) (sym bad.2))
+stops line count s r rest first after e whole parts (inr full) so_far_is lines =
+    let step = report_goes line s r first (cut_at 10 after) full.0 (some_part 10 after) full.1 in
+    let left : whole ≡ report_from (line + 1) (section_after full.0) (with_line r full.0) (cut_at 10 after) =
+    sym so_far_is ∙ ap (report_from line s r) parts ∙ step in
+    let good = good_from line (line + 1) (section_after full.0) (with_line r full.0) (cut_at 10 after) (omega arith) in
+    let one_less : length (cut_at 10 rest) ≡ length (first ∷ cut_at 10 after) = ap length parts in
+    let here : line < 4 + count = omega (arith, lines, one_less, some_part 10 after) in
+    let out : RunsOut (4 + count) whole (fault line wrong.Memory) =
+    record { cause = refl; whole = here; good = subst (IsGoodUpTo line) (sym left) good } in
+    inr (subst (RunsOut (4 + count) whole) (sym full.2) out)
 
 pub not_ended : (line : ℕ) (s : Section) (r : ReportValue) (rest : List ℕ) (whole : Result ReportValue ReportFault)
     → cut_at 10 rest ≡ rest ∷ [] → (length rest ≡ 0 → ⊥)
@@ -116,15 +158,47 @@ at_end line s r rest whole none so_far_is =
     let one : report_from line s r (cut_at 10 rest) ≡ ended_in line s r = rw empty refl in
     sym so_far_is ∙ one
 
+-- a text whose header was read, and the parts of the text
+pub after_header : (bytes rest word : List ℕ) (h : Header) → word ≡ title
+    → header_of word (cut_at 10 bytes) ≡ Ok (h, cut_at 10 rest)
+    → (reading bytes ≡ report_from 5 section.Calls (no_lines h) (cut_at 10 rest))
+    × (length (cut_at 10 bytes) ≡ 4 + length (cut_at 10 rest))
+unfolding report_of
+after_header bytes rest word h word_is header_is =
+    let head : header_of title (cut_at 10 bytes) ≡ Ok (h, cut_at 10 rest) =
+    ap (λ (w : List ℕ). header_of w (cut_at 10 bytes)) (sym word_is) ∙ header_is in
+    let begins = header_ok title (cut_at 10 bytes) (h, cut_at 10 rest) head in
+    let long : length (cut_at 10 bytes) ≡ length (header_lines title h ++ cut_at 10 rest) = ap length begins.0 in
+    (rw head refl, omega (arith, long))
+
+-- where memory ran out after the header
+pub runs_out_after_header : (bytes rest word : List ℕ) (h : Header) → word ≡ title
+    → header_of word (cut_at 10 bytes) ≡ Ok (h, cut_at 10 rest)
+    → RunsOut (length (cut_at 10 bytes)) (reading bytes) (fault 4 wrong.Memory)
+runs_out_after_header bytes rest word h word_is header_is =
+    let after = after_header bytes rest word h word_is header_is in
+    let good = good_from 4 5 section.Calls (no_lines h) (cut_at 10 rest) (omega arith) in
+    record {
+      cause = refl;
+      whole = omega (arith, after.1, some_part 10 rest);
+      good = subst (IsGoodUpTo 4) (sym after.0) good;
+    }
+
 -- the lines after a header that was read
 pub report_is : (bytes rest word : List ℕ) (h : Header) (s : Reader) → word ≡ title
     → header_of word (cut_at 10 bytes) ≡ Ok (h, cut_at 10 rest)
-    → s.section ≡ section.Calls → so_far s ≡ no_lines h → reading bytes ≡ report_from 5 s.section (so_far s) (cut_at 10 rest)
-unfolding report_of
+    → s.section ≡ section.Calls → so_far s ≡ no_lines h
+    → (reading bytes ≡ report_from 5 s.section (so_far s) (cut_at 10 rest))
+    × (length (cut_at 10 bytes) ≡ 4 + length (cut_at 10 rest))
 report_is bytes rest word h s word_is header_is section_is so_far_is =
-    let head : header_of title (cut_at 10 bytes) ≡ Ok (h, cut_at 10 rest) =
-    ap (λ (w : List ℕ). header_of w (cut_at 10 bytes)) (sym word_is) ∙ header_is in
-    rw (head, section_is, so_far_is) refl
+    let after = after_header bytes rest word h word_is header_is in
+    (rw (section_is, so_far_is) after.0, after.1)
+
+-- what reading the lines after the header gives, as what reading the whole text gives
+pub whole_text : (bytes : List ℕ) (parts : ℕ) (e : ReportFault) (read : Result ReportValue ReportFault)
+    → reading bytes ≡ read → length (cut_at 10 bytes) ≡ parts
+    → (read ≡ Err e) ⊎ RunsOut parts read e → (reading bytes ≡ Err e) ⊎ RunsOut (length (cut_at 10 bytes)) (reading bytes) e
+whole_text bytes parts e read read_is parts_are told = rw (read_is, parts_are) told
 
 pub not_done : (line : ℕ) (s : Section) (r : ReportValue) → (s ≡ section.Done → ⊥)
     → ended_in line s r ≡ Err (fault line wrong.NotEnded)

@@ -259,7 +259,7 @@ is_found bytes r is =
 
 -- ---- as a reader's clauses
 
-pub found_in : (bytes : List ℕ) (r : Result Report ReportFault) → Gives view r (reading bytes)
+pub found_in : (bytes : List ℕ) (r : Result Report ReportFault) → Gives view r bytes
     → IfOk r (λ s. IsReport (view s) × (bytes ≡ report_text (view s)))
 found_in bytes (Ok s) gives = is_found bytes (view s) gives
 found_in bytes (Err e) gives = tt

@@ -1,5 +1,5 @@
 -- The report of a text, or its first fault: line by line, and in each line in the order of the checks.
-use Rattle.std.specs.Prelude.{◌≡◌, ◌≢◌, ℕ, ◌+◌, ◌<◌, ◌≤◌, ◌^◌, ◌==◌, ◌&&◌, ◌||◌, not, nat_lt, Bool, true, false, List, []}
+use Rattle.std.specs.Prelude.{◌≡◌, ◌⊎◌, ℕ, ◌+◌, ◌<◌, ◌≤◌, ◌^◌, ◌==◌, ◌&&◌, ◌||◌, not, nat_lt, Bool, true, false, List, []}
 use Rattle.std.specs.Prelude.{◌∷◌, ◌++◌, length, codes, Option, Some, None, Result, Ok, Err, if◌then◌else◌}
 use Rattle.std.specs.List.{list_any, list_all, AllByRecursion}
 use Rattle.std.specs.Str.{bytes_eq}
@@ -265,7 +265,23 @@ ReportsReadBack = (r : ReportValue) (bytes : List ℕ)
     → (IsReport r → reading (report_text r) ≡ Ok r)
     × (reading bytes ≡ Ok r → IsReport r × (bytes ≡ report_text r))
 
--- what a function returned, seen by `view`, is what reading gives, unless memory ran out
-abbrev pub Gives : {X Y : Type 0} → (X → Y) → Result X ReportFault → Result Y ReportFault → Type 0
-Gives view (Ok x) read = read ≡ Ok (view x)
-Gives view (Err e) read = e.cause ≢ wrong.Memory → read ≡ Err e
+-- ---- want of memory
+
+-- no fault of a text stands in its lines up to that number
+abbrev pub IsGoodUpTo : ℕ → Result ReportValue ReportFault → Type 0
+IsGoodUpTo line (Ok r) = Unit {0}
+IsGoodUpTo line (Err e) = line < e.line
+
+-- Memory is answered for a line after its other checks. The text has so many parts, of which the last comes after the last
+-- newline, and reading it gives `read` where memory is ample.
+pub record RunsOut (parts : ℕ) (read : Result ReportValue ReportFault) (e : ReportFault) : Type 0 where
+  pub cause : e.cause ≡ wrong.Memory
+  -- the line is a whole line of the text,
+  pub whole : e.line < parts
+  -- and neither it nor a line above it has a fault
+  pub good : IsGoodUpTo e.line read
+
+-- what a function returned, seen by `view`, is what reading the bytes gives, or want of memory
+abbrev pub Gives : {X : Type 0} → (X → ReportValue) → Result X ReportFault → List ℕ → Type 0
+Gives view (Ok x) bytes = reading bytes ≡ Ok (view x)
+Gives view (Err e) bytes = (reading bytes ≡ Err e) ⊎ RunsOut (length (cut_at 10 bytes)) (reading bytes) e

@@ -1,4 +1,4 @@
-ghost use Rattle.std.specs.Prelude.{◌≡◌, ℕ, IfOk, OnOk, MatchResult, Ok};
+ghost use Rattle.std.specs.Prelude.{◌≡◌, ◌+◌, ℕ, length, IfOk, OnOk, MatchResult, Ok};
 ghost use Rattle.lset_text.specs.Parts.{cut_at};
 ghost use Rattle.lset_text.specs.Headers.{IsHeader};
 ghost use Rattle.lset_replay.specs.Reports.{ReportValue, view};
@@ -12,7 +12,6 @@ ghost use Rattle.lset_replay.specs.Reading.{
   with_line,
   no_lines,
   report_from,
-  reading,
   ReportsReadBack,
 };
 ghost use Rattle.lset_replay.specs.ReportReader.{Holds, GoesOn, ReadsLine, so_far};
@@ -29,13 +28,19 @@ use lset_text::{Header, cut, read_header};
 use lset_words::{CallRecord, Placed};
 use std::alloc::{AllocError, Global};
 
+/// The last line of the header.
+const LAST_OF_HEADER: u64 = 4;
+
 /// The first line after the header.
 const FIRST_LINE: u64 = 5;
 
+/// The most `call` lines of a report.
 const MOST_CALLS: usize = 10_000;
 
+/// The most `place` lines of a report.
 const MOST_PLACES: usize = 10_000;
 
+/// The most `key` lines of a report.
 const MOST_KEYS: usize = 1_048_576;
 
 /// What a text has told up to some line.
@@ -131,7 +136,8 @@ impl Reader {
         requires { Holds self.old }
         ensures holds { OnOk result (Holds self.new) }
         ensures header { OnOk result (self.new.header ≡ self.old.header) }
-        ensures told { GoesOn (so_far self.new) result (report_from 5 self.old.section (so_far self.old) (cut_at 10 text.now)) }
+        ensures told { GoesOn (so_far self.new) result (4 + length (cut_at 10 text.now))
+            (report_from 5 self.old.section (so_far self.old) (cut_at 10 text.now)) }
     {
         let mut number = FIRST_LINE;
         let mut rest = text;
@@ -166,11 +172,11 @@ impl Reader {
 
 #[tactic(auto, unfolding(crate::specs::Reading::report_of))]
 fn report(alloc: Global, bytes: &[u8]) -> Result<Report, ReportFault>
-    ensures { Gives view result (reading bytes.now) }
+    ensures { Gives view result bytes.now }
 {
     let (header, rest) = read_header(TITLE.as_bytes(), bytes)?;
     let Ok(mut reader) = Reader::new(alloc, header) else {
-        return Err(ReportFault::at(FIRST_LINE, ReportCause::Memory));
+        return Err(ReportFault::at(LAST_OF_HEADER, ReportCause::Memory));
     };
     reader.read_lines(rest)?;
     Ok(reader.into_report())
@@ -178,17 +184,20 @@ fn report(alloc: Global, bytes: &[u8]) -> Result<Report, ReportFault>
 
 /// The report that the bytes are the text of, or the first fault of the bytes: its line, and the first check
 /// of that line that fails, in the order of `ReportCause` but for `NotEnded`, which comes before all others.
-/// `Memory` stands in place of any other answer, where a growth was refused. A header line that is due where
-/// no byte is left has the fault of that header line. The order and the keys are not judged. With n bytes it
-/// takes about `n log n` steps. (This project's own format.)
+/// A header line that is due where no byte is left has the fault of that header line. `Memory` stands in place
+/// of any other answer, where a growth was refused: its line is the last one that was read, which has no other
+/// fault, and neither has a line above it.
+///
+/// The order and the keys are not judged: whether they explain the history is for `check_order`. With n bytes
+/// it takes about `n log n` steps, whatever the numbers are. (This project's own format.)
 pub fn read_report(alloc: Global, bytes: &[u8]) -> Result<Report, ReportFault>
     // What is read is a report with a history, and the bytes are its text.
     ensures found { IfOk result (λ r. IsReport (view r) × (bytes.now ≡ report_text (view r))) }
     // The text of such a report is read, unless memory runs out.
     ensures only { (r : ReportValue) → IsReport r → bytes.now ≡ report_text r
         → MatchResult result (λ s. view s ≡ r) (λ e. e.cause ≡ ReportCause.Memory) }
-    // Which fault it is.
-    ensures exact { Gives view result (reading bytes.now) }
+    // Which fault it is, and for which lines `Memory` may be answered.
+    ensures exact { Gives view result bytes.now }
 {
     report(alloc, bytes)
 }

@@ -66,7 +66,8 @@ fn replay_on<M: Machine>(alloc: Global, schedule: &Schedule) -> Result<Report, R
     })
 }
 
-/// Replays a schedule, of at most 10,000 events, on the list of its kind, one event after another.
+/// Replays a schedule on the list of its kind, one event after another. The schedule is within its limits, as
+/// what `read_schedule` gives: 1 to 64 threads, a quota of 0 to 16,384, and at most 10,000 events.
 ///
 /// `ReplayFault::Kind` where the list is not built yet, before any event. Else, at the first event that is
 /// not enabled, with the number of its line: `NoThread` where there is no such thread, `Busy` where a thread

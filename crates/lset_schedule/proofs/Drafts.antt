@@ -17,7 +17,8 @@ use Rattle.lset_schedule.specs.Generating.{events_of_line, events_of_lines, is_b
 use Rattle.lset_schedule.specs.Generating.{NoneOpenAfter, IsGenerated}
 use Rattle.lset_steps.specs.MoreEvents.{RunsTo, runs_to_opening, runs_to_more}
 use Rattle.lset_schedule.proofs.RunLaws.{opening_rests}
-use Rattle.lset_schedule.specs.Turns.{line_of_event, left_after, IsIdle, IsNextEvent, IsOver}
+use Rattle.lset_schedule.specs.Drawing.{line_of_event, left_after, IsOver}
+use Rattle.lset_schedule.specs.Turns.{IsIdle, IsNextEvent}
 
 abbrev pub Resting : State → ℕ → Type 0
 Resting s n = (t : ℕ) → t < n → (local_of s t).pc ≡ 0

@@ -8,14 +8,13 @@ use Rattle.lset_words.specs.declared.Key.{Key}
 use Rattle.lset_words.specs.declared.Call.{Call}
 use Rattle.lset_words.specs.Words.{key_of}
 use Rattle.lset_text.specs.declared.words.CallWord.{CallWord}
-use Rattle.lset_text.specs.declared.words.CallWord.TheVariants as word
 use Rattle.lset_text.specs.Parts.{cut_at, Lacks}
 use Rattle.lset_text.specs.Numbers.{number_in, max_number}
 use Rattle.lset_text.specs.Words.{call_text, call_word_text, call_word_of, word_of, with_key}
 use Rattle.lset_text.specs.Reading.{◌>>=◌, or_fail}
 use Rattle.lset_text.proofs.PartLaws.{Lacks-below, line_lacks, cut_line, line_from_cut}
 use Rattle.lset_text.proofs.NumberLaws.{number_ok, number_again, decimal_lacks}
-use Rattle.lset_text.proofs.WordLaws.{same_bytes, call_word_ok, call_word_again, call_lacks, with_key-word_of}
+use Rattle.lset_text.proofs.WordLaws.{same_bytes, call_word_ok, call_word_again, call_lacks, with_key-word_of, word_of-with_key, key_of-with_key}
 use Rattle.lset_text.proofs.ReadingLaws.{bind_ok, or_fail_ok, ok_is}
 use Rattle.lset_schedule.specs.declared.value.Line.{Line}
 use Rattle.lset_schedule.specs.declared.value.Line.TheVariants.{Begin, Go}
@@ -57,16 +56,6 @@ go_ok a b c e is =
     let steps = number_told 1 10000 c n.0 (omega arith) n.1 in
     let pieces = three a b c (codes "go") (decimal t.0) (decimal n.0) (same_bytes a (codes "go") test.0) thread.0 steps.0 in
     subst (AreOf (a ∷ b ∷ c ∷ [])) (ok_is (Go t.0 n.0) e n.2) (pieces, (omega (arith, thread.2), steps.1, steps.2))
-
-word_of-with_key : (w : CallWord) (k : Key) → word_of (with_key w k) ≡ w
-word_of-with_key word.Add k = refl
-word_of-with_key word.Remove k = refl
-word_of-with_key word.Contains k = refl
-
-key_of-with_key : (w : CallWord) (k : Key) → key_of (with_key w k) ≡ k
-key_of-with_key word.Add k = refl
-key_of-with_key word.Remove k = refl
-key_of-with_key word.Contains k = refl
 
 -- the line of a thread, the word of a call and its key
 abbrev begun : ℕ → CallWord → ℕ → Line

@@ -1,3 +1,4 @@
+pub mod Drawing
 pub mod Draws
 pub mod Generating
 pub mod Plan

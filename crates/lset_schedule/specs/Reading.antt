@@ -1,5 +1,5 @@
 -- The schedule of a text, or its first fault: line by line, and in each line in the order of the checks.
-use Rattle.std.specs.Prelude.{◌≡◌, ◌≢◌, ℕ, ◌+◌, ◌==◌, nat_lt, List, [], ◌∷◌, length, codes, Result, Ok, Err, if◌then◌else◌}
+use Rattle.std.specs.Prelude.{◌≡◌, ◌≢◌, ℕ, ◌+◌, ◌<◌, ◌≤◌, ◌==◌, nat_lt, List, [], ◌∷◌, length, codes, Result, Ok, Err, if◌then◌else◌}
 use Rattle.std.specs.Str.{bytes_eq}
 use Rattle.lset_text.specs.declared.headers.HeaderCause.{HeaderCause}
 use Rattle.lset_text.specs.declared.headers.HeaderCause.TheVariants as head
@@ -96,3 +96,17 @@ SchedulesReadBack = (p : Plan) (bytes : List ℕ)
 abbrev pub Gives : {X Y : Type 0} → (X → Y) → Result X ScheduleFault → Result Y ScheduleFault → Type 0
 Gives view (Ok x) read = read ≡ Ok (view x)
 Gives view (Err e) read = e.cause ≢ Memory → read ≡ Err e
+
+-- no fault stands in this line or above it
+abbrev pub IsFaultlessTo : {X : Type 0} → ℕ → Result X ScheduleFault → Type 0
+IsFaultlessTo line (Ok x) = Unit {0}
+IsFaultlessTo line (Err e) = line < e.line
+
+-- a line of an event that ends with a newline, with no fault in it or above it; the last of the parts of a text comes
+-- after the last newline
+abbrev pub IsGoodLine : List ℕ → ℕ → Type 0
+IsGoodLine bytes line = (5 ≤ line) × (line < length (cut_at 10 bytes)) × IsFaultlessTo line (reading bytes)
+
+-- the same, of the parts from the fifth line on
+abbrev pub IsGoodEvent : List (List ℕ) → ℕ → Type 0
+IsGoodEvent parts line = (5 ≤ line) × (line < 4 + length parts) × IsFaultlessTo line (events_at 5 0 parts)

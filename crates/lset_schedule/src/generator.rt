@@ -1,8 +1,9 @@
 ghost use Rattle.std.specs.Prelude.{◌≡◌, ◌≢◌, ℕ, ◌<◌, ◌≤◌, ◌↔◌, IsTrue, IfOk, IfErr, MatchOption, length};
 ghost use Rattle.lset_steps.specs.Steps.{Enabled, after};
+ghost use Rattle.lset_schedule.specs.Drawing.{line_of_event, left_after, event_drawn, begun, IsOver, AreDrawn, AreOfSeed};
 ghost use Rattle.lset_schedule.specs.Generating.{IsAccepted, IsGenerated, Refuses};
 ghost use Rattle.lset_schedule.specs.Plan.{IsSchedule, view};
-ghost use Rattle.lset_schedule.specs.Turns.{line_of_event, left_after, HasOpenCall, IsIdle, IsNextEvent, IsOver};
+ghost use Rattle.lset_schedule.specs.Turns.{HasOpenCall, IsIdle, IsNextEvent};
 
 use crate::MOST_EVENTS;
 use crate::draws::draw_call;
@@ -62,16 +63,17 @@ fn is_over<M: Machine>(world: &World<M>, threads: u32, events: usize, left: u32)
 }
 
 /// The event of a thread's turn, where `left` calls are left to begin.
-fn next_event<M: Machine>(
+fn next_event<M: Machine, R: Rng>(
     world: &World<M>,
     thread: u32,
     left: u32,
     keys: u32,
-    rng: &mut Pcg32,
+    rng: &mut R,
 ) -> Option<Event>
     requires thread { thread < length world.now.state.locals }
     requires keys { 0 < keys }
-    ensures { MatchOption result (IsIdle world.now.state thread left) (IsNextEvent world.now.state thread left keys) }
+    ensures drawn { (result, R.stream rng.new) ≡ event_drawn world.now.state thread left keys (R.stream rng.old) }
+    ensures event { MatchOption result (IsIdle world.now.state thread left) (IsNextEvent world.now.state thread left keys) }
 {
     if world.busy(thread) {
         return Some(Event::Go(thread));
@@ -92,16 +94,18 @@ fn make<M: Machine>(world: &mut World<M>, event: Event)
 }
 
 /// The lines of at most 100,000 turns.
-fn generated_lines<M: Machine>(
+fn generated_lines<M: Machine, R: Rng>(
     alloc: Global,
     layout: Layout,
     calls: u32,
     keys: u32,
-    rng: &mut Pcg32,
+    rng: &mut R,
 ) -> Result<Vec<Line>, AllocError>
     requires { 0 < keys }
     ensures made { IfOk result (λ v. IsGenerated M.table layout.threads layout.quota calls keys v.items) }
     ensures few { IfOk result (λ v. length v.items ≤ 10000) }
+    ensures drawn { IfOk result (λ v. AreDrawn M.table layout.threads keys 100000
+        (begun layout.threads layout.quota calls (R.stream rng.old)) v.items) }
 {
     let threads = layout.threads();
     let mut world: World<M> = World::new(alloc, layout)?;
@@ -138,9 +142,11 @@ pub fn generate<M: Machine>(
     keys: u32,
     seed: u64,
 ) -> Result<Schedule, GenFault>
+    ensures kind { IfOk result (λ s. s.kind ≡ M.KIND) }
     ensures sizes { IfOk result (λ s. (s.threads ≡ threads) × (s.quota ≡ quota)) }
     ensures schedule { IfOk result (λ s. IsSchedule (view s)) }
     ensures generated { IfOk result (λ s. IsGenerated M.table threads quota calls keys s.lines.items) }
+    ensures drawn { IfOk result (λ s. AreOfSeed M.table threads quota calls keys seed s.lines.items) }
     ensures accepted { IfOk result (λ _. IsAccepted threads quota keys) }
     ensures refused { IfErr result (Refuses threads quota keys) }
 {
@@ -149,7 +155,7 @@ pub fn generate<M: Machine>(
         return Err(GenFault::Keys);
     }
     let mut rng = Pcg32::seed_from_u64(seed);
-    let lines = generated_lines::<M>(alloc, layout, calls, keys, &mut rng)?;
+    let lines = generated_lines::<M, Pcg32>(alloc, layout, calls, keys, &mut rng)?;
     Ok(Schedule {
         kind: M::KIND,
         threads,

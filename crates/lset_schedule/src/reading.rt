@@ -1,4 +1,4 @@
-ghost use Rattle.std.specs.Prelude.{◌≡◌, ◌≤◌, IfOk, MatchResult};
+ghost use Rattle.std.specs.Prelude.{◌≡◌, ◌≤◌, IfOk, IfErr, MatchResult};
 ghost use Rattle.lset_text.specs.Parts.{cut_at};
 ghost use Rattle.lset_schedule.specs.Plan.{Plan, IsSchedule, view, schedule_text};
 ghost use Rattle.lset_schedule.specs.Reading.{
@@ -9,6 +9,8 @@ ghost use Rattle.lset_schedule.specs.Reading.{
   event_after,
   events_at,
   reading,
+  IsGoodEvent,
+  IsGoodLine,
   SchedulesReadBack,
 };
 
@@ -78,7 +80,8 @@ fn counted_event(line: &[u8], total: u32) -> Result<Line, Cause>
 }
 
 fn events(alloc: Global, text: &[u8]) -> Result<Vec<Line>, ScheduleFault>
-    ensures { Gives (λ v. v.items) result (events_at 5 0 (cut_at 10 text.now)) }
+    ensures exact { Gives (λ v. v.items) result (events_at 5 0 (cut_at 10 text.now)) }
+    ensures memory { IfErr result (λ e. e.cause ≡ Cause.Memory → IsGoodEvent (cut_at 10 text.now) e.line) }
 {
     let mut lines = Vec::new(alloc);
     let mut total: u32 = 0;
@@ -104,7 +107,8 @@ fn events(alloc: Global, text: &[u8]) -> Result<Vec<Line>, ScheduleFault>
 
 #[tactic(auto, unfolding(crate::specs::Reading::plan_of))]
 fn schedule(alloc: Global, bytes: &[u8]) -> Result<Schedule, ScheduleFault>
-    ensures { Gives view result (reading bytes.now) }
+    ensures exact { Gives view result (reading bytes.now) }
+    ensures memory { IfErr result (λ e. e.cause ≡ Cause.Memory → IsGoodLine bytes.now e.line) }
 {
     let (header, rest) = read_header(TITLE.as_bytes(), bytes)?;
     let lines = events(alloc, rest)?;
@@ -128,6 +132,8 @@ pub fn read_schedule(alloc: Global, bytes: &[u8]) -> Result<Schedule, ScheduleFa
         → MatchResult result (λ s. view s ≡ p) (λ e. e.cause ≡ Cause.Memory) }
     // Which fault it is.
     ensures exact { Gives view result (reading bytes.now) }
+    // Want of memory is told of a line of an event, where neither it nor a line above has a fault.
+    ensures memory { IfErr result (λ e. e.cause ≡ Cause.Memory → IsGoodLine bytes.now e.line) }
 {
     schedule(alloc, bytes)
 }

@@ -1,6 +1,6 @@
 use super::*;
 use lset_coarse::CoarseList;
-use lset_words::{Call, Key};
+use lset_words::{Call, Key, Kind};
 use rand_core::{Rng, SeedableRng};
 use rand_pcg::Pcg32;
 use std::test::Fail;
@@ -8,14 +8,64 @@ use std::test::Fail;
 /// The header of a coarse list of one thread with one slot.
 const HEAD: &str = "listset-schedule 1\nlist coarse\nthreads 1\nquota 1\n";
 
+/// An add that is made to its end.
+const ADD: &str = "listset-schedule 1\nlist coarse\nthreads 1\nquota 4\nbegin 0 add 5\ngo 0 7\n";
+
+/// A `contains` beside a remove and an add of its key by another thread.
+const PASSING: &str = "listset-schedule 1\nlist lazy\nthreads 2\nquota 4\nbegin 1 add 5\ngo 1 11\n\
+begin 0 contains 5\ngo 0 2\nbegin 1 remove 5\ngo 1 10\nbegin 1 add 5\ngo 1 11\ngo 0 1\n";
+
 #[test]
-fn an_add_on_a_coarse_list_is_read_and_written_back(rt: HostRuntime) -> Result<(), Fail> {
-    let text = b"listset-schedule 1\nlist coarse\nthreads 1\nquota 1\nbegin 0 add 5\ngo 0 10\n";
-    let schedule = read_schedule(rt.alloc(), text)?;
+fn an_add_is_read(rt: HostRuntime) -> Result<(), Fail> {
+    let schedule = read_schedule(rt.alloc(), ADD.as_bytes())?;
+    let lines = [Line::Begin(0, Call::Add(Key(5))), Line::Go(0, 7)];
+    assert_eq!(rt; schedule.kind, Kind::Coarse);
     assert_eq!(rt; schedule.threads, 1);
-    assert_eq!(rt; schedule.lines.len(), 2);
-    let written = write_schedule(rt.alloc(), &schedule)?;
-    assert_eq!(rt; written.as_slice(), text.as_slice());
+    assert_eq!(rt; schedule.quota, 4);
+    assert_eq!(rt; schedule.lines.as_slice(), lines.as_slice());
+    Ok(())
+}
+
+#[test]
+fn texts_are_written_back_also_where_replay_refuses_them(rt: HostRuntime) -> Result<(), Fail> {
+    let texts = [
+        ADD,
+        PASSING,
+        "listset-schedule 1\nlist fine\nthreads 2\nquota 0\n",
+        "listset-schedule 1\nlist coarse\nthreads 1\nquota 4\ngo 0 1\n",
+        "listset-schedule 1\nlist coarse\nthreads 1\nquota 4\nbegin 0 add 5\nbegin 0 add 6\n",
+        "listset-schedule 1\nlist coarse\nthreads 64\nquota 4\nbegin 64 add 5\n",
+        "listset-schedule 1\nlist coarse\nthreads 1\nquota 4\nbegin 0 add 5\ngo 0 8\n",
+    ];
+    for text in texts {
+        let schedule = read_schedule(rt.alloc(), text.as_bytes())?;
+        let written = write_schedule(rt.alloc(), &schedule)?;
+        assert_eq!(rt; written.as_slice(), text.as_bytes(), "{text:?}");
+    }
+    Ok(())
+}
+
+#[test]
+fn every_prefix_has_its_own_answer(rt: HostRuntime) -> Result<(), Fail> {
+    let due = [Cause::Header, Cause::Kind, Cause::Threads, Cause::Quota];
+    for text in [ADD, PASSING] {
+        for length in 0..text.len() {
+            let prefix = &text.as_bytes()[..length];
+            let whole_lines = prefix.iter().filter(|byte| **byte == b'\n').count();
+            let cause = if prefix.is_empty() || prefix.ends_with(b"\n") {
+                due.get(whole_lines).copied()
+            } else {
+                Some(Cause::NotEnded)
+            };
+            let line = (whole_lines as u64).saturating_add(1);
+            let wanted = match cause {
+                Some(cause) => Err(ScheduleFault { line, cause }),
+                None => Ok(whole_lines.saturating_sub(due.len())),
+            };
+            let found = read_schedule(rt.alloc(), prefix).map(|schedule| schedule.lines.len());
+            assert_eq!(rt; found, wanted, "{length}");
+        }
+    }
     Ok(())
 }
 
@@ -56,6 +106,7 @@ fn first_faults_of_the_events(rt: HostRuntime) -> Result<(), Fail> {
         ("take 0 5\n", 5, Cause::Event),
         ("go  0 1\n", 5, Cause::Event),
         ("begin 0 add 5", 5, Cause::NotEnded),
+        ("begin 0 add 5\ngo 0 7", 6, Cause::NotEnded),
         ("begin 0 add 5\ngo 0 10000\n", 6, Cause::TooMany),
     ];
     for (events, line, cause) in rows {
@@ -96,7 +147,10 @@ fn each_thread_draws_from_the_sum_of_the_seed_and_its_number(rt: HostRuntime) ->
     assert_eq!(rt; drawn.len(), 2);
     assert_eq!(rt; drawn[0].as_slice(), from_0.as_slice());
     assert_eq!(rt; drawn[1].as_slice(), from_1.as_slice());
+    let from_last = [Call::Remove(Key(6)), Call::Remove(Key(5))];
     let wrapped = programs(rt.alloc(), 3, 2, 8, u64::MAX)?;
+    assert_eq!(rt; wrapped.len(), 3);
+    assert_eq!(rt; wrapped[0].as_slice(), from_last.as_slice());
     assert_eq!(rt; wrapped[1].as_slice(), from_0.as_slice());
     assert_eq!(rt; wrapped[2].as_slice(), from_1.as_slice());
     Ok(())
@@ -169,4 +223,30 @@ fn one_thread_makes_all_its_calls(rt: HostRuntime) -> Result<(), Fail> {
     assert_eq!(rt; begins, 50);
     assert_eq!(rt; schedule.lines.last(), Some(&Line::Go(0, 1)));
     Ok(())
+}
+
+#[test]
+fn want_of_memory_stands_in_place_of_a_schedule(rt: HostRuntime) {
+    match read_schedule(rt.alloc(), PASSING.as_bytes()) {
+        Ok(schedule) => match write_schedule(rt.alloc(), &schedule) {
+            Ok(written) => assert_eq!(rt; written.as_slice(), PASSING.as_bytes()),
+            Err(AllocError) => {}
+        },
+        Err(fault) => {
+            assert_eq!(rt; fault.cause, Cause::Memory);
+            assert!(rt; (5..=13).contains(&fault.line), "{fault:?}");
+        }
+    }
+}
+
+#[test]
+fn want_of_memory_stands_in_place_of_what_is_drawn(rt: HostRuntime) {
+    match generate::<CoarseList>(rt.alloc(), 1, 60, 50, 8, 1) {
+        Ok(schedule) => assert_eq!(rt; schedule.lines.last(), Some(&Line::Go(0, 1))),
+        Err(fault) => assert_eq!(rt; fault, GenFault::Memory),
+    }
+    match programs(rt.alloc(), 2, 9, 8, 1) {
+        Ok(drawn) => assert!(rt; drawn.iter().map(|program| program.len()).eq([9, 9])),
+        Err(fault) => assert_eq!(rt; fault, GenFault::Memory),
+    }
 }

@@ -2,6 +2,7 @@
 #![tactic(auto)]
 
 ghost use Rattle.std.specs.Prelude.{◌≡◌, ℕ, ◌+◌, ◌*◌, ◌<◌, ◌≤◌};
+ghost use Rattle.lset_words.specs.declared.Kind.{Kind};
 ghost use Rattle.lset_steps.specs.Steps.{Table, idle};
 ghost use Rattle.lset_steps.specs.Laws.{Lawful, Occurs, Sees};
 
@@ -94,6 +95,8 @@ pub struct Told {
 /// `seen` is the value that was loaded or stored, or that the word held before an exchange.
 pub trait Machine {
     const KIND: Kind;
+
+    ghost KIND: { Kind };
 
     ghost table: { Table };
 

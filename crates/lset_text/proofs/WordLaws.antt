@@ -3,6 +3,7 @@ use Rattle.std.proofs.Common.{◌≡◌, ℕ, ◌<◌, true, cond, List, Option,
 use Rattle.std.specs.Str.{bytes_eq}
 use Rattle.std.proofs.lemmas.Bool.{cases_Bool}
 use Rattle.std.proofs.lemmas.Slice.Eq.{bytes_eq-Decides}
+use Rattle.lset_words.specs.declared.Key.{Key}
 use Rattle.lset_words.specs.declared.Kind.{Kind}
 use Rattle.lset_words.specs.declared.Kind.TheVariants as kind
 use Rattle.lset_words.specs.declared.Call.{Call}
@@ -106,3 +107,14 @@ pub reply_lacks : (byte : ℕ) (r : Reply) → byte < 45 → Lacks byte (reply_t
 reply_lacks byte reply.True low = Lacks-below 45 byte (codes "true") low refl
 reply_lacks byte reply.False low = Lacks-below 45 byte (codes "false") low refl
 reply_lacks byte reply.Full low = Lacks-below 45 byte (codes "full") low refl
+
+-- a call is its word with its key
+pub word_of-with_key : (w : CallWord) (k : Key) → word_of (with_key w k) ≡ w
+word_of-with_key word.Add k = refl
+word_of-with_key word.Remove k = refl
+word_of-with_key word.Contains k = refl
+
+pub key_of-with_key : (w : CallWord) (k : Key) → key_of (with_key w k) ≡ k
+key_of-with_key word.Add k = refl
+key_of-with_key word.Remove k = refl
+key_of-with_key word.Contains k = refl

@@ -20,16 +20,30 @@ fn texts(alloc: Global, values: &[&str]) -> Result<Vec<String>, Fail> {
     Ok(texts)
 }
 
-fn gen_run(alloc: Global, values: &[&str]) -> Result<Run, Fail> {
-    let values = texts(alloc, values)?;
+/// Six right values, but for the one with the index, which is spelled as given.
+fn texts_with(alloc: Global, wrong: usize, spelling: &str) -> Result<Vec<String>, Fail> {
+    let mut texts = Vec::new(alloc);
+    for (index, value) in ["fine", "2", "4", "10", "8", "1"].iter().enumerate() {
+        let text = if index == wrong { spelling } else { *value };
+        texts.push(String::from_str(alloc, text)?)?;
+    }
+    Ok(texts)
+}
+
+fn run_of(alloc: Global, values: &[String]) -> Run {
     let mut output = Vec::new(alloc);
     let mut faults = Vec::new(alloc);
-    let status = tool_gen(alloc, &values, &mut output, &mut faults);
-    Ok(Run {
+    let status = tool_gen(alloc, values, &mut output, &mut faults);
+    Run {
         output,
         faults,
         status,
-    })
+    }
+}
+
+fn gen_run(alloc: Global, values: &[&str]) -> Result<Run, Fail> {
+    let values = texts(alloc, values)?;
+    Ok(run_of(alloc, &values))
 }
 
 /// How many lines of the text begin with the front.
@@ -93,15 +107,10 @@ fn a_wrong_value_is_named(rt: HostRuntime) -> Result<(), Fail> {
         ),
     ];
     for (wrong, name, spellings) in rows {
+        let line = format!(in rt.alloc(); "listset: bad {name}\n")?;
         for spelling in spellings {
-            let mut values = ["fine", "2", "4", "10", "8", "1"];
-            for (index, value) in values.iter_mut().enumerate() {
-                if index == wrong {
-                    *value = spelling;
-                }
-            }
-            let run = gen_run(rt.alloc(), &values)?;
-            let line = format!(in rt.alloc(); "listset: bad {name}\n")?;
+            let values = texts_with(rt.alloc(), wrong, spelling)?;
+            let run = run_of(rt.alloc(), &values);
             assert_eq!(rt; run.status, 2, "{name} {spelling}");
             assert_eq!(rt; run.faults.as_slice(), line.as_bytes(), "{name} {spelling}");
             assert!(rt; run.output.is_empty(), "{name} {spelling}");

@@ -1,6 +1,7 @@
 use Rattle.std.proofs.Common.{◌≤◌, sym}
 use Rattle.std.proofs.lemmas.List.{get_or_read}
-use Rattle.lset_history.proofs.Replies.{add_present, add_full, add_new, keeps_add}
+use Rattle.std.proofs.lemmas.Result.{MatchResult-from_err}
+use Rattle.lset_history.proofs.Replies.{add_present, add_full, add_new, puts_in, keeps_add}
 use Rattle.lset_history.proofs.oracle.Oracle.add.Goals as goal
 
 pub returns-then-contains-clause-answers : goal.returns-then-contains-clause-answers
@@ -27,3 +28,12 @@ returns-clause-answers c =
     rw (← c.self.view_is, c.in_ok-insert.ensures.keys)
     (add_new c.self.inside.quota (record { keys = c.self.inside.keys.keys; counts = c.self.inside.counts.items })
     c.args.thread c.args.key _ count (sym c.if-contains.ensures) c.if-count-self.false)
+
+pub returns-in_err-insert-clause-growth : goal.returns-in_err-insert-clause-growth
+returns-in_err-insert-clause-growth c =
+    let low = rw (← c.self.view_is) at c.requires in
+    let count = get_or_read c.self.inside.counts.items _ _ low c.index-count.ensures 0 in
+    MatchResult-from_err _ _ _ c.from_residual.ensures.0 (λ _.
+    rw (← c.self.view_is)
+    (puts_in c.self.inside.quota (record { keys = c.self.inside.keys.keys; counts = c.self.inside.counts.items })
+    c.args.thread c.args.key _ count (sym c.if-contains.ensures) c.if-count-self.false))

@@ -1,23 +1,25 @@
-use Rattle.std.proofs.Common.{sym, ◌∙◌, arith}
+use Rattle.std.proofs.Common.{sym, ap, ◌∙◌, inl, length, arith}
 use Rattle.std.proofs.lemmas.Bool.{eqb-true, eqb-false}
 use Rattle.std.proofs.lemmas.Result.{err_from_is_err_and}
+use Rattle.lset_text.specs.Parts.{cut_at}
 use Rattle.lset_replay.specs.ReportReader.{so_far}
 use Rattle.lset_replay.proofs.ReportLoops.{goes_on, stops, not_ended, at_end, not_done}
 use Rattle.lset_replay.proofs.reading.Reader.read_lines.Goals as goal
 
 pub returns-in_default-clause-told : goal.returns-in_default-clause-told
-returns-in_default-clause-told c = λ other.
+returns-in_default-clause-told c =
     let some = eqb-false _ _ (sym c.is_empty.ensures ∙ c.loop-rest-test.true) in
-    rw c.at.ensures
+    inl (rw c.at.ensures
     (not_ended c.loop-rest.number c.loop-rest.self.section (so_far c.loop-rest.self) c.loop-rest.rest.now _
-    c.in_default.ensures.parts some c.loop-rest.invariant.so_far)
+    c.in_default.ensures.parts some c.loop-rest.invariant.so_far))
 
 pub returns-in_err-read_line-clause-told : goal.returns-in_err-read_line-clause-told
 returns-in_err-read_line-clause-told c =
     let p = err_from_is_err_and c.from_residual.result c.from_residual.ensures.1 in
     rw (p.1, p.2)
-    (stops c.loop-rest.number c.loop-rest.self.section (so_far c.loop-rest.self) c.loop-rest.rest.now c.in-Some.first.now c.in-Some.after.now
-    c.in_err-read_line.field-0.0 _ c.in-Some.ensures.parts c.in_err-read_line.ensures.told c.loop-rest.invariant.so_far)
+    (stops c.loop-rest.number (length (cut_at 10 c.args.text.now)) c.loop-rest.self.section (so_far c.loop-rest.self)
+    c.loop-rest.rest.now c.in-Some.first.now c.in-Some.after.now c.in_err-read_line.field-0.0 _ c.in-Some.ensures.parts
+    c.in_err-read_line.ensures.told c.loop-rest.invariant.so_far c.loop-rest.invariant.parts_left)
 
 pub loop-rest-preserved : goal.loop-rest-preserved
 loop-rest-preserved c =
@@ -28,6 +30,7 @@ loop-rest-preserved c =
       holds = c.in_ok-read_line.ensures.holds;
       header = c.in_ok-read_line.ensures.header ∙ c.loop-rest.invariant.header;
       lines_left = omega (arith, c.loop-rest.invariant.lines_left, c.in-Some.ensures.shorter);
+      parts_left = omega (arith, c.loop-rest.invariant.parts_left, ap length c.in-Some.ensures.parts);
     }
 
 pub returns-in-Done-clause-told : goal.returns-in-Done-clause-told
@@ -36,13 +39,9 @@ returns-in-Done-clause-told c =
     rw c.in-Done.is at
     (at_end c.loop-rest.number c.loop-rest.self.section (so_far c.loop-rest.self) c.loop-rest.rest.now _ none c.loop-rest.invariant.so_far)
 
-pub returns-in_default-section : goal.returns-in_default-section
-returns-in_default-section c =
+pub returns-in_default-section-clause-told : goal.returns-in_default-section-clause-told
+returns-in_default-section-clause-told c =
     let none = eqb-true _ _ (sym c.is_empty.ensures ∙ c.loop-rest-test.false) in
-    record {
-      holds = tt;
-      header = tt;
-      told = λ other. rw c.at-in_default-section.ensures
-          (at_end c.loop-rest.number c.loop-rest.self.section (so_far c.loop-rest.self) c.loop-rest.rest.now _ none c.loop-rest.invariant.so_far
-          ∙ not_done c.loop-rest.number c.loop-rest.self.section (so_far c.loop-rest.self) c.in_default-section.not-Done);
-    }
+    inl (rw c.at-in_default-section.ensures
+    (at_end c.loop-rest.number c.loop-rest.self.section (so_far c.loop-rest.self) c.loop-rest.rest.now _ none c.loop-rest.invariant.so_far
+    ∙ not_done c.loop-rest.number c.loop-rest.self.section (so_far c.loop-rest.self) c.in_default-section.not-Done))

@@ -11,6 +11,7 @@ invariant-loop-rest l = record {
   holds : Holds l.self;
   header : l.self.header ≡ l.initial.self.header;
   lines_left : l.number + length l.rest ≤ 5 + length l.text;
+  parts_left : l.number + length (cut_at 10 l.rest) ≡ 5 + length (cut_at 10 l.text);
 }
 
 abbrev pub decreases-loop-rest : goal.decreases-loop-rest

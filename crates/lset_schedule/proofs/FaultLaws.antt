@@ -1,0 +1,159 @@
+-- At which lines faults stand, and that no line has the fault of want of memory.
+use Rattle.std.proofs.Common.{◌≡◌, ℕ, ◌+◌, ◌<◌, ◌≤◌, ◌⊎◌, inl, inr, Bool, true, false, cond, eqb, ltb, List, [], ◌∷◌, ◌++◌, length}
+use Rattle.std.proofs.Common.{Option, Some, None, Result, Ok, Err, refl, sym, ap, subst, ◌∙◌, arith, codes}
+use Rattle.std.specs.Prelude.{IfErr}
+use Rattle.std.specs.Result.{IsErrAnd}
+use Rattle.std.specs.Str.{bytes_eq}
+use Rattle.lset_text.specs.declared.words.CallWord.{CallWord}
+use Rattle.lset_text.specs.declared.headers.Header.{Header}
+use Rattle.lset_text.specs.Parts.{cut_at}
+use Rattle.lset_text.specs.Numbers.{number_in, max_number}
+use Rattle.lset_text.specs.Words.{call_word_of, with_key}
+use Rattle.lset_text.specs.Headers.{header_of}
+use Rattle.lset_text.specs.Reading.{◌>>=◌, or_fail, map_fault}
+use Rattle.lset_text.proofs.PartLaws.{some_part}
+use Rattle.lset_text.proofs.HeaderLaws.{header_ok}
+use Rattle.lset_schedule.specs.declared.value.Line.{Line}
+use Rattle.lset_schedule.specs.declared.value.Line.TheVariants.{Begin, Go}
+use Rattle.lset_schedule.specs.declared.value.Schedule.{Schedule}
+use Rattle.lset_schedule.specs.declared.fault.Cause.{Cause}
+use Rattle.lset_schedule.specs.declared.fault.Cause.TheVariants.{Event, Number, TooMany, NotEnded, Memory}
+use Rattle.lset_schedule.specs.declared.fault.ScheduleFault.{ScheduleFault}
+use Rattle.lset_schedule.specs.Plan.{Plan, title, event_count}
+use Rattle.lset_schedule.specs.Reading.{fault, go_of, begin_of, event_of_pieces, event_of, within, event_after, events_at}
+use Rattle.lset_schedule.specs.Reading.{plan_of, reading, IsFaultlessTo, IsGoodEvent, IsGoodLine}
+use Rattle.lset_schedule.proofs.LoopLaws.{with_front, goes_on}
+
+-- ---- the faults of lines of events stand at the first of them or below
+
+-- where a chain of checks failed
+bind_err : {A B E : Type 0} (r : Result A E) (f : A → Result B E) (d : E) → (r >>= f) ≡ Err d
+    → (r ≡ Err d) ⊎ ((x : A) × (r ≡ Ok x) × (f x ≡ Err d))
+bind_err (Ok x) f d is = inr (x, refl, is)
+bind_err (Err e) f d is = inl cc
+
+line_of_fault : {A : Type 0} (line : ℕ) (r : Result A Cause) (e : ScheduleFault) → map_fault (fault line) r ≡ Err e
+    → e.line ≡ line
+line_of_fault line (Ok x) e is = absurd cc
+line_of_fault line (Err c) e is = let same : fault line c ≡ e = cc in ap (λ (f : ScheduleFault). f.line) (sym same)
+
+line_not_ended : (b : Bool) (line : ℕ) (es : List Line) (e : ScheduleFault)
+    → cond b (Ok es) (Err (fault line NotEnded)) ≡ Err e → e.line ≡ line
+line_not_ended true line es e is = absurd cc
+line_not_ended false line es e is =
+    let same : fault line NotEnded ≡ e = cc in ap (λ (f : ScheduleFault). f.line) (sym same)
+
+no_fault : (es : List Line) (e : ScheduleFault) → Ok es ≡ Err e → ⊥
+no_fault es e is = cc
+
+faults_below : (line total : ℕ) (parts : List (List ℕ)) (e : ScheduleFault) → events_at line total parts ≡ Err e → line ≤ e.line
+unfolding events_at
+faults_below line total [] e is = absurd cc
+faults_below line total (x ∷ []) e is = omega (arith, line_not_ended (eqb (length x) 0) line [] e is)
+faults_below line total (x ∷ y ∷ more) e is =
+    elim (bind_err (map_fault (fault line) (event_after total x)) _ e is) [
+      | inl here ↦ omega (arith, line_of_fault line (event_after total x) e here)
+      | inr later ↦ elim (bind_err (events_at (line + 1) (total + event_count later.0) (y ∷ more)) _ e later.2) [
+        | inl below ↦ omega (arith, faults_below (line + 1) (total + event_count later.0) (y ∷ more) e below)
+        | inr none ↦ absurd (no_fault (later.0 ∷ none.0) e none.2)
+      ]
+    ]
+
+-- ---- a line that was read, and its memory refused
+
+pub one_more : (parts more : List (List ℕ)) (x : List ℕ) → parts ≡ x ∷ more → length parts ≡ 1 + length more
+one_more parts more x is = rw is (omega arith)
+
+four_more : (parts more : List (List ℕ)) (a b c d : List ℕ) → parts ≡ a ∷ b ∷ c ∷ d ∷ more → length parts ≡ 4 + length more
+four_more parts more a b c d is = rw is (omega arith)
+
+faultless : (front : List Line) (line : ℕ) (read whole : Result (List Line) ScheduleFault)
+    → ((e : ScheduleFault) → read ≡ Err e → line < e.line) → with_front front read ≡ whole → IsFaultlessTo line whole
+faultless front line (Ok x) whole below so_far = subst (IsFaultlessTo line) so_far tt
+faultless front line (Err e) whole below so_far = subst (IsFaultlessTo line) so_far (below e refl)
+
+pub good_event : (front : List Line) (line total : ℕ) (text rest first after : List ℕ) (e : Line)
+    → cut_at 10 rest ≡ first ∷ cut_at 10 after → Ok e ≡ event_after total first → 5 ≤ line
+    → line + length (cut_at 10 rest) ≡ 5 + length (cut_at 10 text)
+    → with_front front (events_at line total (cut_at 10 rest)) ≡ events_at 5 0 (cut_at 10 text)
+    → IsGoodEvent (cut_at 10 text) line
+good_event front line total text rest first after e parts is low left so_far =
+    let next = events_at (line + 1) (total + event_count e) (cut_at 10 after) in
+    let more = goes_on front line total rest first after e (events_at 5 0 (cut_at 10 text)) parts is so_far in
+    let below : (d : ScheduleFault) → next ≡ Err d → line < d.line =
+    λ d bad. omega (arith, faults_below (line + 1) (total + event_count e) (cut_at 10 after) d bad) in
+    let counted = one_more (cut_at 10 rest) (cut_at 10 after) first parts in
+    (low, omega (arith, left, counted, some_part 10 after), faultless (front ++ e ∷ []) line next _ below more)
+
+-- ---- no check fails by want of memory
+
+go_fails : (b : Bool) (o p : Option ℕ)
+    → cond b (or_fail Number o >>= λ t. or_fail Number p >>= λ n. Ok (Go t n)) (Err Event) ≡ Err Memory → ⊥
+go_fails false o p is = cc
+go_fails true None p is = cc
+go_fails true (Some t) None is = cc
+go_fails true (Some t) (Some n) is = cc
+
+begin_fails : (b : Bool) (w : Option CallWord) (o p : Option ℕ)
+    → cond b (or_fail Event w >>= λ v. or_fail Number o >>= λ t. or_fail Number p >>= λ k. Ok (Begin t (with_key v (record { 0 = k }))))
+    (Err Event) ≡ Err Memory → ⊥
+begin_fails false w o p is = cc
+begin_fails true None o p is = cc
+begin_fails true (Some v) None p is = cc
+begin_fails true (Some v) (Some t) None is = cc
+begin_fails true (Some v) (Some t) (Some k) is = cc
+
+pieces_fail : (ps : List (List ℕ)) → event_of_pieces ps ≡ Err Memory → ⊥
+unfolding go_of begin_of
+pieces_fail [] is = cc
+pieces_fail (a ∷ []) is = cc
+pieces_fail (a ∷ b ∷ []) is = cc
+pieces_fail (a ∷ b ∷ c ∷ []) is = go_fails (bytes_eq a (codes "go")) (number_in 0 max_number b) (number_in 1 10000 c) is
+pieces_fail (a ∷ b ∷ c ∷ d ∷ []) is =
+    begin_fails (bytes_eq a (codes "begin")) (call_word_of c) (number_in 0 max_number b) (number_in 0 max_number d) is
+pieces_fail (a ∷ b ∷ c ∷ d ∷ e ∷ more) is = cc
+
+room_fails : (b : Bool) (e : Line) → cond b (Err TooMany) (Ok e) ≡ Err Memory → ⊥
+room_fails true e is = cc
+room_fails false e is = cc
+
+pub event_fails : (total : ℕ) (line : List ℕ) (cause : Cause) → Err cause ≡ event_after total line → cause ≡ Memory → ⊥
+event_fails total line cause is memory =
+    elim (bind_err (event_of line) (within total) Memory (sym is ∙ ap (λ (c : Cause). Err c) memory)) [
+      | inl bad ↦ pieces_fail (cut_at 32 line) bad
+      | inr bad ↦ room_fails (ltb 10000 (total + event_count bad.0)) bad.0 bad.2
+    ]
+
+-- ---- from the lines of events to the text
+
+plan_faultless : {X : Type 0} (line : ℕ) (read : Result (List Line) ScheduleFault) (f : List Line → X) → IsFaultlessTo line read
+    → IsFaultlessTo line (read >>= λ es. Ok (f es))
+plan_faultless line (Ok es) f good = tt
+plan_faultless line (Err e) f good = good
+
+module _ (bytes rest read_title : List ℕ) (h : Header) (same : read_title ≡ title)
+    (is : header_of read_title (cut_at 10 bytes) ≡ Ok (h, cut_at 10 rest)) where
+  abbrev plan : List Line → Plan
+  plan es = record { kind = h.kind; threads = h.threads; quota = h.quota; lines = es }
+
+  header : header_of title (cut_at 10 bytes) ≡ Ok (h, cut_at 10 rest)
+  header = subst (λ t. header_of t (cut_at 10 bytes) ≡ Ok (h, cut_at 10 rest)) same is
+
+  pub schedule_read : (lines : List Line) → events_at 5 0 (cut_at 10 rest) ≡ Ok lines → reading bytes ≡ Ok (plan lines)
+  unfolding plan_of
+  schedule_read lines read = rw (header, read) refl
+
+  pub good_line : (line : ℕ) → IsGoodEvent (cut_at 10 rest) line → IsGoodLine bytes line
+  unfolding plan_of
+  good_line line good =
+      let parts = (header_ok title (cut_at 10 bytes) (h, cut_at 10 rest) header).0 in
+      let counted = four_more (cut_at 10 bytes) (cut_at 10 rest) _ _ _ _ parts in
+      (good.0, omega (arith, good.1, counted), rw header (plan_faultless line (events_at 5 0 (cut_at 10 rest)) plan good.2))
+
+  -- a fault of the lines of events is passed on
+  pub good_fault : (e : ScheduleFault) (answer : Result Schedule ScheduleFault) → IsErrAnd answer (λ f. f ≡ e)
+      → (e.cause ≡ Memory → IsGoodEvent (cut_at 10 rest) e.line) → IfErr answer (λ f. f.cause ≡ Memory → IsGoodLine bytes f.line)
+  good_fault e (Ok s) is good = tt
+  good_fault e (Err f) is good = λ memory.
+      subst (λ (x : ScheduleFault). IsGoodLine bytes x.line) (sym is)
+      (good_line e.line (good (ap (λ (x : ScheduleFault). x.cause) (sym is) ∙ memory)))

@@ -1,0 +1,70 @@
+-- The lines that a seed stands for: the turns of the generator, one after another. (This project's own format.)
+use Rattle.std.specs.Prelude.{◌≡◌, ℕ, zero, suc, ◌-◌, ◌%◌, ◌<◌, ◌⊎◌, ◌==◌, if◌then◌else◌, Option, Some, None, List, [], ◌∷◌, ◌++◌, length}
+use Rattle.rand_core.specs.Stream.{Stream, next_u32}
+use Rattle.lset_steps.specs.declared.Event.{Event}
+use Rattle.lset_steps.specs.declared.Event.TheVariants as event
+use Rattle.lset_steps.specs.Steps.{Table, State, after, local_of, opening}
+use Rattle.lset_schedule.specs.declared.value.Line.{Line}
+use Rattle.lset_schedule.specs.declared.value.Line.TheVariants as line
+use Rattle.lset_schedule.specs.Draws.{drawn_call, seeded}
+
+abbrev pub line_of_event : Event → Line
+line_of_event (event.Begin t call) = line.Begin t call
+line_of_event (event.Go t) = line.Go t 1
+
+-- how many calls are left after an event
+abbrev pub left_after : ℕ → Event → ℕ
+left_after left (event.Begin t call) = left - 1
+left_after left (event.Go t) = left
+
+-- no turn follows: the events are as many as may be, or no call is left and none is open
+abbrev pub IsOver : State → ℕ → ℕ → Type 0
+IsOver s events left =
+    (events ≡ 10000) ⊎ ((left ≡ 0) × ((t : ℕ) → t < length s.locals → (local_of s t).pc ≡ 0))
+
+-- what stands between two turns, with the answers that are still to come
+pub record Progress : Type 0 where
+  pub state : State
+  pub left : ℕ
+  pub lines : List Line
+  pub answers : Stream
+
+-- the event of thread t's turn, and the answers that are left
+abbrev pub event_drawn : State → ℕ → ℕ → ℕ → Stream → Option Event × Stream
+event_drawn s t left keys answers =
+    if (local_of s t).pc == 0
+    then (if left == 0 then (None, answers) else (Some (event.Begin t (drawn_call keys answers).0), (drawn_call keys answers).1))
+    else (Some (event.Go t), answers)
+
+-- after a turn with this event, or with none
+abbrev pub progressed : Table → Progress → Option Event → Stream → Progress
+progressed T p None answers = record { state = p.state; left = p.left; lines = p.lines; answers = answers }
+progressed T p (Some e) answers = record {
+  state = after T p.state e;
+  left = left_after p.left e;
+  lines = p.lines ++ line_of_event e ∷ [];
+  answers = answers;
+}
+
+-- one turn: an answer chooses the thread
+abbrev pub after_turn : Table → ℕ → ℕ → Progress → Progress
+after_turn T threads keys p =
+    let first = next_u32 p.answers in
+    let turn = event_drawn p.state (first.0 % threads) p.left keys first.1 in
+    progressed T p turn.0 turn.1
+
+abbrev pub IsEnd : Progress → Type 0
+IsEnd p = IsOver p.state (length p.lines) p.left
+
+-- the lines after all turns that follow, of which there are at most so many
+unfoldable pub AreDrawn : Table → ℕ → ℕ → ℕ → Progress → List Line → Type 0
+AreDrawn T threads keys zero p lines = lines ≡ p.lines
+AreDrawn T threads keys (suc turns) p lines =
+    (IsEnd p × (lines ≡ p.lines)) ⊎ ((IsEnd p → ⊥) × AreDrawn T threads keys turns (after_turn T threads keys p) lines)
+
+abbrev pub begun : ℕ → ℕ → ℕ → Stream → Progress
+begun threads quota calls answers = record { state = opening threads quota; left = calls; lines = []; answers = answers }
+
+-- the lines that a seed stands for
+abbrev pub AreOfSeed : Table → ℕ → ℕ → ℕ → ℕ → ℕ → List Line → Type 0
+AreOfSeed T threads quota calls keys seed lines = AreDrawn T threads keys 100000 (begun threads quota calls (seeded seed)) lines
