@@ -279,9 +279,9 @@ after_step r k t change reply xs s h = record {
 -- AT EVERY MOMENT
 calls_on : (r : Run) (k : ℕ) (e : Entry) → r.log k ≡ e → Enters r.threads r.quota r.log r.contents r.counts k e
     → Calls r k (calls_at r.log k) → Calls r (suc k) (calls_after (suc k) e (calls_at r.log k))
-calls_on r k (began t call) e h c = after_beginning r k t call (calls_at r.log k) e h.0 h.1 c
+calls_on r k (began t call) e h c = after_beginning r k t call (calls_at r.log k) e h.of_a_thread h.idle c
 calls_on r k (stepped t change reply) e h c = after_step r k t change reply (calls_at r.log k)
-    (record { entry = e; of_a_thread = h.0; under_way = h.1; may = h.5; right = h.6 }) c
+    (record { entry = e; of_a_thread = h.of_a_thread; under_way = h.under_way; may = h.may; right = h.right }) c
 
 abbrev pub run_of : ℕ → ℕ → Log → Contents → Counts → Run
 run_of threads quota log contents counts =

@@ -118,7 +118,7 @@ open_number threads quota last log contents counts a (suc k) l t o =
   where
     shut : (u : ℕ) (call : Call) (e : Entry) → e ≡ began u call → Enters threads quota log contents counts k e
         → is_open log u k ≡ false
-    shut u call e f h = (subst (Enters threads quota log contents counts k) f h).1
+    shut u call e f h = (subst (Enters threads quota log contents counts k) f h).idle
 
 -- A STEP sets the open call anew, and leaves the others
 open_once : (xs : List TracedCall) (t i j : ℕ) → Pairs Later xs → i < length xs → j < length xs → IsOpenOf t (traced_at xs i)

@@ -96,14 +96,14 @@ shows_on : (threads quota : ℕ) (log : Log) (contents : Contents) (counts : Cou
     → Enters threads quota log contents counts k e → Shows threads (contents k) (counts k) s
     → Shows threads (contents (suc k)) (counts (suc k)) (set_after e s)
 shows_on threads quota log contents counts k (began t call) s h w = record {
-  keys = same_keys (contents k) (contents (suc k)) s.keys h.2 w.keys;
+  keys = same_keys (contents k) (contents (suc k)) s.keys h.content w.keys;
   rising = w.rising;
   long = w.long;
-  numbers = λ u l. w.numbers u l ∙ sym (h.3 u l);
+  numbers = λ u l. w.numbers u l ∙ sym (h.same_counts u l);
 }
 shows_on threads quota log contents counts k (stepped t change reply) s h w = record {
-  keys = keys_on change (contents k) (contents (suc k)) s.keys h.2 w.keys;
-  rising = rises_on change (contents k) (contents (suc k)) s.keys h.2 w.keys w.rising;
+  keys = keys_on change (contents k) (contents (suc k)) s.keys h.content w.keys;
+  rising = rises_on change (contents k) (contents (suc k)) s.keys h.content w.keys w.rising;
   long = long_on t change s.counts ∙ w.long;
   numbers = numbers;
 }
@@ -111,9 +111,9 @@ shows_on threads quota log contents counts k (stepped t change reply) s h w = re
     numbers : (u : ℕ) → u < threads → slice_index (counts_after t change s.counts) u ≡ counts (suc k) u
     numbers u l = elim (same_or_not u t) [
       | inl e ↦ subst (λ z. slice_index (counts_after t change s.counts) z ≡ counts (suc k) z) (sym e)
-          (let m : t < threads = h.0 in let n : length s.counts ≡ threads = w.long in
-          number_own t change s.counts (counts k t) (omega arith) (w.numbers t h.0) ∙ sym h.3)
-      | inr n ↦ number_other t u change s.counts n ∙ w.numbers u l ∙ sym (h.4 u l n)
+          (let m : t < threads = h.of_a_thread in let n : length s.counts ≡ threads = w.long in
+          number_own t change s.counts (counts k t) (omega arith) (w.numbers t h.of_a_thread) ∙ sym h.own_count)
+      | inr n ↦ number_other t u change s.counts n ∙ w.numbers u l ∙ sym (h.other_counts u l n)
     ]
 
 -- AT EVERY MOMENT the state shows contents and counts

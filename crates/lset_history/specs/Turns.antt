@@ -184,7 +184,7 @@ module _ (r : Run) (last : ℕ) (calls : List TracedCall) (places : List (Option
             counts = counts_after t (Some change) s.counts;
           }) =
           change_replies r.threads r.quota (r.contents j) (r.contents (suc j))
-          (r.counts j) s t x.traced.call change w h.0 h.2 m3 in
+          (r.counts j) s t x.traced.call change w h.of_a_thread h.content m3 in
           let q : reply_by x.traced.changed x.traced.ended ≡ True = (rw c.is refl) in (
             (ap (λ z. reply_to r.quota s z x.traced.call) et ∙ p.0 ∙ sym q, tt),
             ap (λ z. after_call s z x.traced.call (reply_by x.traced.changed x.traced.ended)) et

@@ -199,7 +199,7 @@ module _ (n q : ℕ) (log : Log) (contents : Contents) (counts : Counts) (k t : 
       omega arith
 
   begun_keys : (j : ℕ) → (s.has j ≡ true → contents (suc k) j) × (s.has j ≡ false → contents (suc k) j → ⊥)
-  begun_keys j = ((λ e. (en.2 j).0 ((f.keys j).0 e)), (λ e c. (f.keys j).1 e ((en.2 j).1 c)))
+  begun_keys j = ((λ e. (en.content j).0 ((f.keys j).0 e)), (λ e c. (f.keys j).1 e ((en.content j).1 c)))
 
   begun_idle : (u : ℕ) → u < n → is_open log u (suc k) ≡ false → open_call_at (begun_on (suc k) t call s).under_way u ≡ None
   begun_idle u l e = elim (same_or_not t u) [
@@ -221,7 +221,7 @@ module _ (n q : ℕ) (log : Log) (contents : Contents) (counts : Counts) (k t : 
           opened (length s.calls) call (s.has (key_of call).0) (suc k),
           subst (λ z. open_call_at (begun_on (suc k) t call s).under_way z ≡ Some (opened (length s.calls) call (s.has
               (key_of call).0) (suc k))) y
-              (get_or-set_same s.under_way t _ None (let th : t < n = en.0 in omega arith)),
+              (get_or-set_same s.under_way t _ None (let th : t < n = en.of_a_thread in omega arith)),
           record {
             number_is = noted_number (s.has (key_of call).0) (suc k) _ ∙ count_calls
                 ∙ sym (last_number_is log k (began t call) at u ∙ pick (t == u) (length (calls_at log k)) (last_number log u k) b);
@@ -241,14 +241,14 @@ module _ (n q : ℕ) (log : Log) (contents : Contents) (counts : Counts) (k t : 
         let w = f.busy u l (sym (pick_not (t == u) true (is_open log u k) b) ∙ sym (open_is log k (began t call) at u) ∙ e) in (
           w.0,
           get_or-set_other s.under_way t u _ None (λ z. d (sym z)) ∙ w.1,
-          watched_next log contents counts k u None w.0 en.2
+          watched_next log contents counts k u None w.0 en.content
               (last_number_is log k (began t call) at u ∙ pick_not (t == u) (length (calls_at log k)) (last_number log u k) b)
               (call_is log k (began t call) at u ∙ pick_not (t == u) call (last_call log u k) b)
               (begun_is log k (began t call) at u ∙ pick_not (t == u) (suc k) (begun_at log u k) b)
               (λ g. (
                 sym (changed_is log k (began t call) at u ∙ pick_not (t == u) false (has_changed log u k) b)
                     ∙ g,
-                en.3 u l,
+                en.same_counts u l,
               )) w.2,
         ))
   ]

@@ -97,15 +97,15 @@ module _ (n q last : ℕ) (log : Log) (contents : Contents) (counts : Counts) (a
         → MayBegin r.history t (suc k) × (t < length r.under_way.items)
     may_begin t call en = (
       record {
-        of_a_thread = rw threads en.0;
+        of_a_thread = rw threads en.of_a_thread;
         idle = ap (λ (xs : List CallRecord). has_open xs t) now.history
             ∙ none_passes (λ (x : CallRecord). x.thread == t && is_none x.ended) (history_at log k)
             (all_map record_of (λ (x : CallRecord). (x.thread == t && is_none x.ended) ≡ false) (calls_at log k)
             (all_imply (Traced (run_of n q log contents counts) k)
-            (λ x. is_under_way t x ≡ false) (shut t en.1) (calls_at log k) each));
+            (λ x. is_under_way t x ≡ false) (shut t en.idle) (calls_at log k) each));
         later = later;
       },
-      (let a : t < n = en.0 in let b : length r.under_way.items ≡ n = now.seats in omega arith),
+      (let a : t < n = en.of_a_thread in let b : length r.under_way.items ≡ n = now.seats in omega arith),
     )
 
     pub may_step : (t : ℕ) (change : Option Change) (reply : Option Reply)
@@ -113,15 +113,15 @@ module _ (n q last : ℕ) (log : Log) (contents : Contents) (counts : Counts) (a
         → MayStep r.history r.under_way.items r.places.items t (suc k)
     may_step t change reply en =
         let o : (o : OpenCall) × (open_call_at r.under_way.items t ≡ Some o) × IsWatched log contents counts k t o =
-        now.busy t en.0 en.1 in
+        now.busy t en.of_a_thread en.under_way in
         let number : OpenNumber (calls_at log k) t (last_number log t k) =
-        open_number n q last log contents counts account k below t en.1 in
+        open_number n q last log contents counts account k below t en.under_way in
         let inside : last_number log t k < length (calls_at log k) = number.below in
         let places : length r.places.items ≡ length (calls_at log k) = now.numbered in
         let records : length r.history.calls ≡ length (calls_at log k) =
         ap (λ (xs : List CallRecord). length xs) now.history ∙ length-map (calls_at log k) record_of in
         let seats : length r.under_way.items ≡ n = now.seats in
-        let th : t < n = en.0 in
+        let th : t < n = en.of_a_thread in
         let e : o.0.number ≡ last_number log t k = o.2.number_is in
         record {
           of_a_thread = omega arith;

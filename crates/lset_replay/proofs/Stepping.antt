@@ -130,7 +130,7 @@ module _ (n q last : ℕ) (log : Log) (contents : Contents) (counts : Counts) (a
   kept = ended_on (suc k) t r changed
 
   number : OpenNumber (calls_at log k) t number_here
-  number = open_number n q last log contents counts account k below t en.1
+  number = open_number n q last log contents counts account k below t en.under_way
 
   traced : Traced run k here
   traced = all_at (Traced run k) (calls_at log k) no_traced number_here number.below
@@ -142,17 +142,17 @@ module _ (n q last : ℕ) (log : Log) (contents : Contents) (counts : Counts) (a
       here.begun here.changed) number.open_call.1 traced.ends
 
   calls_next : calls_at log (suc k) ≡ set (calls_at log k) number_here (traced_on (suc k) ch r here)
-  calls_next = calls_are log k (stepped t ch r) at ∙ step_sets n q last log contents counts account k t ch r below en.1
+  calls_next = calls_are log k (stepped t ch r) at ∙ step_sets n q last log contents counts account k t ch r below en.under_way
 
   abbrev open_now : (o : OpenCall) × (open_call_at s.under_way t ≡ Some o) × IsWatched log contents counts k t o
-  open_now = f.busy t en.0 en.1
+  open_now = f.busy t en.of_a_thread en.under_way
 
   -- the open call, which has seen the change
   abbrev watching : OpenCall
   watching = watched_on ch (suc k) open_now.0
 
   open_next : open_call_at changed.under_way t ≡ Some watching
-  open_next = changed_open (suc k) t ch s t open_now.0 (let a : t < n = en.0 in let b : length s.under_way ≡ n = f.seats in
+  open_next = changed_open (suc k) t ch s t open_now.0 (let a : t < n = en.of_a_thread in let b : length s.under_way ≡ n = f.seats in
       omega arith) open_now.1
 
   number_next : watching.number ≡ last_number log t k
@@ -163,10 +163,10 @@ module _ (n q last : ℕ) (log : Log) (contents : Contents) (counts : Counts) (a
       let w : (has_changed log t k ≡ false) × (is_change ch ≡ false) = or_false (has_changed log t k) (is_change ch)
       (sym (pick (t == t) (has_changed log t k || is_change ch) (has_changed log t k) (equal_test t t refl))
       ∙ sym (changed_is log k (stepped t ch r) at t) ∙ e) in
-      (w.0, en.3 ∙ no_count ch (counts k t) w.1)
+      (w.0, en.own_count ∙ no_count ch (counts k t) w.1)
 
   watched_here : IsWatched log contents counts (suc k) t watching
-  watched_here = watched_next log contents counts k t ch open_now.0 en.2 (last_number_is log k (stepped t ch r) at t)
+  watched_here = watched_next log contents counts k t ch open_now.0 en.content (last_number_is log k (stepped t ch r) at t)
       (call_is log k (stepped t ch r) at t)
       (begun_is log k (stepped t ch r) at t) quiet_here open_now.2
 
@@ -177,7 +177,7 @@ module _ (n q last : ℕ) (log : Log) (contents : Contents) (counts : Counts) (a
   step_keys : (j : ℕ) → (kept.has j ≡ true → contents (suc k) j)
       × (kept.has j ≡ false → contents (suc k) j → ⊥)
   step_keys j =
-      let w = changed_keys contents k (suc k) t s f.keys ch en.2 j in
+      let w = changed_keys contents k (suc k) t s f.keys ch en.content j in
       let e : kept.has j ≡ changed.has j = ap (λ (h : ℕ → Bool). h j) (ended_has (suc k) t r changed) in
       ((λ z. w.0 (sym e ∙ z)), (λ z. w.1 (sym e ∙ z)))
 
@@ -190,7 +190,7 @@ module _ (n q last : ℕ) (log : Log) (contents : Contents) (counts : Counts) (a
   idle_by (Some a) u l e = elim (same_or_not t u) [
     | inl y ↦ subst (λ z. open_call_at (ended_on (suc k) t (Some a) changed).under_way z ≡ None) y
         (ended_seat (suc k) t a changed (let b : length changed.under_way ≡ length s.under_way = changed_seats (suc k) t ch s in
-        let c : t < length s.under_way = in_seats t en.0 in omega arith))
+        let c : t < length s.under_way = in_seats t en.of_a_thread in omega arith))
     | inr d ↦ (ended_others (suc k) t (Some a) changed u (λ z. d (sym z))
         ∙ changed_shut (suc k) t ch s u (in_seats u l) (f.idle u l (sym (pick_not (t == u) false (is_open log u k)
         (unequal_test t u d)) ∙ e)))
@@ -218,12 +218,12 @@ module _ (n q last : ℕ) (log : Log) (contents : Contents) (counts : Counts) (a
     | inr d ↦ (let w = f.busy u l (open_other r u d (sym (open_is log k (stepped t ch r) at u) ∙ e)) in (
       watched_on ch (suc k) w.0,
       ended_others (suc k) t r changed u (λ z. d (sym z)) ∙ changed_open (suc k) t ch s u w.0 (in_seats u l) w.1,
-      watched_next log contents counts k u ch w.0 en.2 (last_number_is log k (stepped t ch r) at u) (call_is log k
+      watched_next log contents counts k u ch w.0 en.content (last_number_is log k (stepped t ch r) at u) (call_is log k
           (stepped t ch r) at u) (begun_is log k (stepped t ch r) at u)
           (λ g. (
             sym (changed_is log k (stepped t ch r) at u ∙ pick_not (t == u) (has_changed log u k || is_change ch)
                 (has_changed log u k) (unequal_test t u d)) ∙ g,
-            en.4 u l (λ z. d (sym z)),
+            en.other_counts u l (λ z. d (sym z)),
           )) w.2,
     ))
   ]
@@ -242,7 +242,7 @@ module _ (n q last : ℕ) (log : Log) (contents : Contents) (counts : Counts) (a
       let sometime : FitsSometime q contents counts (begun_at log t k) (suc k) t (last_call log t k) a =
       subst (λ z. RightReply z q contents counts (begun_at log t k) (suc k) t (last_call log t k) (Some a)) still
       (subst (λ z. RightReply (has_changed log t (suc k)) q contents counts (begun_at log t k) (suc k) t
-      (last_call log t k) z) h en.6) in
+      (last_call log t k) z) h en.right) in
       let call_same : last_call log t (suc k) ≡ last_call log t k = call_is log k (stepped t ch r) at t in
       let begun_same : begun_at log t (suc k) ≡ begun_at log t k = begun_is log k (stepped t ch r) at t in
       let oc : watching.call ≡ last_call log t k = watched_here.call_is ∙ call_same in

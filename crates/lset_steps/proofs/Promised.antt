@@ -109,8 +109,8 @@ account_is T law n q last es r = account_of T law n q es last r
 change_named : (n q : ℕ) (log : Log) (contents : Contents) (counts : Counts) (k : ℕ) (e : Entry)
     → Enters n q log contents counts k e
     → ChangeIsNamed n q log contents counts k e
-change_named n q log contents counts k (began t call) a = (a.2, a.3)
-change_named n q log contents counts k (stepped t change reply) a = (a.2, a.5, a.3, a.4)
+change_named n q log contents counts k (began t call) a = (a.content, a.same_counts)
+change_named n q log contents counts k (stepped t change reply) a = (a.content, a.may, a.own_count, a.other_counts)
 
 pub named_change_of : (T : Table) → Lawful T → NamedChange T
 named_change_of T law n q last k es r l =
@@ -120,7 +120,7 @@ named_change_of T law n q last k es r l =
 pub replies_fit_of : (T : Table) → Lawful T → RepliesFit T
 replies_fit_of T law n q last k t es change reply r l e =
     (subst (λ z. Enters n q (log_of T n q es) (contents_of (views T n q es)) (counts_of (views T n q es)) k z) e
-    ((account_is T law n q last es r).enters k l)).6
+    ((account_is T law n q last es r).enters k l)).right
 
 true_or_read : (done : Bool) (q : ℕ) (contents : Contents) (counts : Counts) (first now t : ℕ) (called : Call)
     → RightReply done q contents counts first now t called (Some True) → (done ≡ true) ⊎ IsRead called

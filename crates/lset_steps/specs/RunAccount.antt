@@ -161,12 +161,12 @@ module _ (T : Table) (law : Lawful T) (n q : ℕ) (es : ℕ → Event) (last : �
       ap (λ z. after T (state_at T n q es k) z) ee in
       let same : used_in (after T (state_at T n q es k) (Begin t call)) ≡ used_in (state_at T n q es k) = λ j u. same_used u j in
       let view_is : views T n q es (suc k) ≡ views T n q es k = ap (λ z. view_of n q z) now
-      ∙ ap (λ f. view n q (state_at T n q es k).words f) same in (
-        th,
-        ti.closed en.1,
-        (λ j. ((λ c. subst (λ v. InContent v j) (sym view_is) c), (λ c. subst (λ v. InContent v j) view_is c))),
-        (λ u h. ap (λ z. used_in z u) now ∙ same_used u),
-      )
+      ∙ ap (λ f. view n q (state_at T n q es k).words f) same in record {
+        of_a_thread = th;
+        idle = ti.closed en.1;
+        content = λ j. ((λ c. subst (λ v. InContent v j) (sym view_is) c), (λ c. subst (λ v. InContent v j) view_is c));
+        same_counts = λ u h. ap (λ z. used_in z u) now ∙ same_used u;
+      }
     where
       same_used : (u : ℕ) → used_in (after T (state_at T n q es k) (Begin t call)) u ≡ used_in (state_at T n q es k) u
       same_used u = elim (same_or_not u t) [
@@ -185,22 +185,22 @@ module _ (T : Table) (law : Lawful T) (n q : ℕ) (es : ℕ → Event) (last : �
       let st : StepAt T n q es k t = law.steps n q last k t es r l ee in
       let ch : Option (Key × Bool) = T.effect (local_of (state_at T n q es k) t) (seen_next T (state_at T n q es k) t) in
       let fl : Local = (T.feed (local_of (state_at T n q es k) t) (seen_next T (state_at T n q es k) t)).local in
-      let fa : Option Reply = (T.feed (local_of (state_at T n q es k) t) (seen_next T (state_at T n q es k) t)).answer in (
-        th,
-        was.0,
-        st.content,
-        ap (λ z. used_in z t) now ∙ ap (λ (l : Local). l.used)
-            (local_same T law n q es last r (state_at T n q es k) t fl en.0) ∙ st.counts,
-        (λ u h y. ap (λ z. used_in z u) now ∙ ap (λ (l : Local). l.used)
-            (local_other T law n q es last r (state_at T n q es k) t u fl y)),
-        subst (λ c. MayChange q (counts_at T n q es k t) c (has_changed (log_of T n q es) t k) ch) was.1 st.by_call,
-        subst (λ c. RightReply (has_changed (log_of T n q es) t (suc k)) q (contents_at T n q es) (counts_at T n q es)
+      let fa : Option Reply = (T.feed (local_of (state_at T n q es k) t) (seen_next T (state_at T n q es k) t)).answer in record {
+        of_a_thread = th;
+        under_way = was.0;
+        content = st.content;
+        own_count = ap (λ z. used_in z t) now ∙ ap (λ (l : Local). l.used)
+            (local_same T law n q es last r (state_at T n q es k) t fl en.0) ∙ st.counts;
+        other_counts = λ u h y. ap (λ z. used_in z u) now ∙ ap (λ (l : Local). l.used)
+            (local_other T law n q es last r (state_at T n q es k) t u fl y);
+        may = subst (λ c. MayChange q (counts_at T n q es k t) c (has_changed (log_of T n q es) t k) ch) was.1 st.by_call;
+        right = subst (λ c. RightReply (has_changed (log_of T n q es) t (suc k)) q (contents_at T n q es) (counts_at T n q es)
             (begun_at (log_of T n q es) t k) (suc k) t c fa) was.1
             (subst (λ f. RightReply (has_changed (log_of T n q es) t (suc k)) q (contents_at T n q es)
             (counts_at T n q es) f (suc k) t (local_of (state_at T n q es k) t).call fa) (begun_go k t ee)
             (right_reply (has_changed (log_of T n q es) t (suc k)) q (views T n q es)
-            (begun_at (log_of T n q es) t (suc k)) (suc k) t (local_of (state_at T n q es k) t).call fl.pc fa st.answered)),
-      )
+            (begun_at (log_of T n q es) t (suc k)) (suc k) t (local_of (state_at T n q es k) t).call fl.pc fa st.answered));
+      }
     where
       begun_go : (k t : ℕ) → es k ≡ Go t → begun_at (log_of T n q es) t (suc k) ≡ begun_at (log_of T n q es) t k
       begun_go k t ee = rw ee refl

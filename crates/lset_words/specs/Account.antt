@@ -70,16 +70,32 @@ RightReply true quota contents counts first last thread call (Some reply) = repl
 RightReply false quota contents counts first last thread call (Some reply) =
     FitsSometime quota contents counts first last thread call reply
 
--- one entry, between the moments k and k + 1: threads begin a call only when they have none open, and make steps only in one
+-- Thread t begins a call between the moments k and k + 1: it has none open, and nothing else changes.
+pub record Begins (threads : ℕ) (log : Log) (contents : Contents) (counts : Counts) (k t : ℕ) : Type 0 where
+  pub of_a_thread : t < threads
+  pub idle : is_open log t k ≡ false
+  pub content : Same (contents k) (contents (suc k))
+  pub same_counts : (u : ℕ) → u < threads → counts (suc k) u ≡ counts k u
+
+-- Thread t makes a step between the moments k and k + 1, which tells this change and gives this reply, or none:
+pub record Steps (threads quota : ℕ) (log : Log) (contents : Contents) (counts : Counts) (k t : ℕ) (change : Option Change)
+    (reply : Option Reply) : Type 0 where
+  -- it has a call open,
+  pub of_a_thread : t < threads
+  pub under_way : is_open log t k ≡ true
+  -- content and counts change by what it tells, and by nothing else,
+  pub content : Changes change (contents k) (contents (suc k))
+  pub own_count : counts (suc k) t ≡ count_after change (counts k t)
+  pub other_counts : (u : ℕ) → u < threads → u ≢ t → counts (suc k) u ≡ counts k u
+  -- its call may make the change,
+  pub may : MayChange quota (counts k t) (last_call log t k) (has_changed log t k) change
+  -- and the reply is right.
+  pub right : RightReply (has_changed log t (suc k)) quota contents counts (begun_at log t k) (suc k) t (last_call log t k) reply
+
+-- one entry
 abbrev pub Enters : ℕ → ℕ → Log → Contents → Counts → ℕ → Entry → Type 0
-Enters threads quota log contents counts k (began t call) =
-    (t < threads) × (is_open log t k ≡ false) × Same (contents k) (contents (suc k))
-    × ((u : ℕ) → u < threads → counts (suc k) u ≡ counts k u)
-Enters threads quota log contents counts k (stepped t change reply) =
-    (t < threads) × (is_open log t k ≡ true) × Changes change (contents k) (contents (suc k))
-    × (counts (suc k) t ≡ count_after change (counts k t)) × ((u : ℕ) → u < threads → u ≢ t → counts (suc k) u ≡ counts k u)
-    × MayChange quota (counts k t) (last_call log t k) (has_changed log t k) change
-    × RightReply (has_changed log t (suc k)) quota contents counts (begun_at log t k) (suc k) t (last_call log t k) reply
+Enters threads quota log contents counts k (began t call) = Begins threads log contents counts k t
+Enters threads quota log contents counts k (stepped t change reply) = Steps threads quota log contents counts k t change reply
 
 -- THE ACCOUNT of a run of `last` events
 pub record Account (threads quota last : ℕ) (log : Log) (contents : Contents) (counts : Counts) : Type 0 where
