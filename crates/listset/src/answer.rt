@@ -27,38 +27,43 @@ impl Answer {
     }
 }
 
-/// Writes the line about a trouble, as far as the writes succeed.
-fn tell<F: Write>(alloc: Global, faults: &mut F, trouble: Trouble)
-    ensures { AppendsFront (F.contents faults.old) (F.contents faults.new) (trouble_text trouble) }
+/// Writes a line, as far as the writes succeed.
+fn tell_text<F: Write>(faults: &mut F, text: &[u8])
+    ensures { AppendsFront (F.contents faults.old) (F.contents faults.new) text.now }
 {
-    let _told = match trouble {
-        Trouble::CannotRead => put(faults, b"listset: cannot read\n"),
-        Trouble::TooLong => put(faults, b"listset: too long\n"),
-        Trouble::CannotWrite => put(faults, b"listset: cannot write\n"),
-        Trouble::Memory => put(faults, b"listset: out of memory\n"),
-        Trouble::Line(line, cause) => tell_line(alloc, faults, line, cause),
-        Trouble::Bad(name) => tell_bad(alloc, faults, name),
-    };
+    let _whole = put(faults, text);
 }
 
-fn tell_line<F: Write>(alloc: Global, faults: &mut F, line: u64, cause: LineCause) -> bool
+fn tell_line<F: Write>(alloc: Global, faults: &mut F, line: u64, cause: LineCause)
     ensures { AppendsFront (F.contents faults.old) (F.contents faults.new) (trouble_text (Trouble.Line line cause)) }
 {
     let name = cause.name();
-    let Ok(text) = format!(in alloc; "listset: line {line}: {name}\n") else {
-        return false;
-    };
-    put(faults, text.as_bytes())
+    if let Ok(text) = format!(in alloc; "listset: line {line}: {name}\n") {
+        tell_text(faults, text.as_bytes());
+    }
 }
 
-fn tell_bad<F: Write>(alloc: Global, faults: &mut F, name: ValueName) -> bool
+fn tell_bad<F: Write>(alloc: Global, faults: &mut F, name: ValueName)
     ensures { AppendsFront (F.contents faults.old) (F.contents faults.new) (trouble_text (Trouble.Bad name)) }
 {
     let word = name.word();
-    let Ok(text) = format!(in alloc; "listset: bad {word}\n") else {
-        return false;
-    };
-    put(faults, text.as_bytes())
+    if let Ok(text) = format!(in alloc; "listset: bad {word}\n") {
+        tell_text(faults, text.as_bytes());
+    }
+}
+
+/// Writes the line about a trouble, as far as the writes succeed, and none where memory for it is refused.
+fn tell<F: Write>(alloc: Global, faults: &mut F, trouble: Trouble)
+    ensures { AppendsFront (F.contents faults.old) (F.contents faults.new) (trouble_text trouble) }
+{
+    match trouble {
+        Trouble::CannotRead => tell_text(faults, b"listset: cannot read\n"),
+        Trouble::TooLong => tell_text(faults, b"listset: too long\n"),
+        Trouble::CannotWrite => tell_text(faults, b"listset: cannot write\n"),
+        Trouble::Memory => tell_text(faults, b"listset: out of memory\n"),
+        Trouble::Line(line, cause) => tell_line(alloc, faults, line, cause),
+        Trouble::Bad(name) => tell_bad(alloc, faults, name),
+    }
 }
 
 /// Ends a tool: writes the text of an answer on `output`, or one line about a trouble on `faults`, and gives

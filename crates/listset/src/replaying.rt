@@ -1,7 +1,8 @@
-ghost use Rattle.std.specs.Prelude.{IfOk, IfErr, IfSome};
+ghost use Rattle.std.specs.Prelude.{◌≡◌, ◌⊎◌, IfErr, IfSome};
 ghost use Rattle.lset_schedule.specs.Reading.{reading};
 ghost use Rattle.listset.specs.Tools.{Ends, view};
 ghost use Rattle.listset.specs.Replaying.{IsFirstFault, Replays};
+ghost use Rattle.listset.specs.declared.trouble.Trouble.TheVariants.{Memory};
 
 use crate::answer::{Answer, deliver};
 use crate::streams::input_of;
@@ -13,7 +14,8 @@ use std::io::{Read, Write};
 
 /// The text of the report of the schedule whose text the bytes are.
 fn report_of(alloc: Global, bytes: &[u8]) -> Result<Answer, Trouble>
-    ensures { Replays bytes.now (view result) }
+    ensures replays { Replays bytes.now (view result) }
+    ensures trouble { IfErr result (λ t. (t ≡ Memory) ⊎ IsFirstFault (reading bytes.now) t) }
 {
     let schedule = read_schedule(alloc, bytes)?;
     let report = replay(alloc, &schedule)?;

@@ -2,6 +2,11 @@
 //! report's order, and tells whether the report is the text of `NAME.report`, or why the schedule is refused.
 #![tactic(auto)]
 
+ghost use Rattle.std.specs.Prelude.{◌≡◌, IfOk};
+ghost use Rattle.lset_schedule.specs.Plan.{Plan, IsSchedule, schedule_text};
+ghost use Rattle.lset_replay.specs.Reports.{ReportValue, IsExplained};
+ghost use Rattle.lset_replay.specs.Texts.{report_text};
+
 use lset_history::{OrderFault, check_order};
 use lset_replay::{ReplayFault, replay, write_report};
 use lset_schedule::{ScheduleFault, read_schedule};
@@ -23,7 +28,10 @@ enum Refusal {
 }
 
 /// The text of the report of a schedule, whose order has been checked.
-fn report_of(alloc: Global, text: &[u8]) -> Result<Vec<u8>, Refusal> {
+fn report_of(alloc: Global, text: &[u8]) -> Result<Vec<u8>, Refusal>
+    ensures { IfOk result (λ v. (p : Plan) × (r : ReportValue) × IsSchedule p × (text.now ≡ schedule_text p)
+        × IsExplained r × (v.items ≡ report_text r)) }
+{
     let schedule = read_schedule(alloc, text)?;
     let report = replay(alloc, &schedule)?;
     check_order(alloc, &report.history, &report.order, &report.keys)?;
