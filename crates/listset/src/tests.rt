@@ -1,5 +1,6 @@
 mod checking;
 mod devices;
+mod files;
 mod generating;
 mod replaying;
 mod words;
