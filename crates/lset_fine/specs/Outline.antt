@@ -15,7 +15,7 @@ use Rattle.lset_steps.specs.Discipline.{Here, Thread}
 use Rattle.lset_steps.specs.Replies.{Adding, Removing, registers_begun, keep_more, keep, keep_ckey, keep_succ, keep_walk}
 use Rattle.lset_steps.specs.Rows.{decided_on, goes_to, own_slot}
 use Rattle.lset_steps.specs.Held.{Held, Behind, Between, Leaves, LockedStep, in_chain, head_held, leaves_of, held_on, below_on, behind_on, between_on, adding_on, removing_on, own_key_on, own_link_on, reads_word, frees, writes_own_key, writes_own_link, puts_between, held_from, behind_from, curr_is_not_pred, found_next, drops_between, decides, leaves_locked, held_past, leaves_own_key, leaves_own_link}
-use Rattle.lset_steps.specs.Turns.{Turn, NodeLocks, due_on, due_now, tries}
+use Rattle.lset_steps.specs.Turns.{Turn, Follows, node_locks, due_on, due_now, tries}
 use Rattle.lset_steps.specs.Turns.Turn.{passes, changes, answers}
 use Rattle.lset_fine.specs.Fine.{fine, targets}
 
@@ -71,7 +71,7 @@ module _ (q t : ℕ) (vs : ℕ → View) (first now : ℕ) (v w : View) (done : 
 module _ (n q t : ℕ) (vs : ℕ → View) (first now : ℕ) (ws : List ℕ) (used : ℕ → ℕ) (done : Bool) (l : Local)
     (h : Here false n q vs now ws used) (th : Thread At n q t vs first now ws used done l) (tn : t < n) where
   abbrev Goal : Type 0
-  Goal = Turn fine At n q t vs first now ws used done l
+  Goal = Turn fine (node_locks false) At n q t vs first now ws used done l
 
   abbrev V : View
   V = view n q ws used
@@ -255,8 +255,8 @@ module _ (n q t : ℕ) (vs : ℕ → View) (first now : ℕ) (ws : List ℕ) (us
   go (at12 e p c x r y due) busy = go_12 e p c x r y due
   go (at13 e p r y due) busy = go_13 e p r y due
 
-pub fine_locking : NodeLocks fine At
-fine_locking = record {
+pub fine_follows : Follows fine (node_locks false) At
+fine_follows = record {
   idle_at = λ q t vs v. at0 refl;
   begun = λ call l. (refl, refl, (λ e. omega arith));
   begin_registers = λ n q t call l low r. registers_begun n q t 1 call l low r;

@@ -21,7 +21,7 @@ use Rattle.lset_steps.specs.ContentLists.{chain_is}
 use Rattle.lset_steps.specs.RunContents.{ContentList, content_at}
 use Rattle.lset_steps.specs.RunAccount.{account_of}
 use Rattle.lset_steps.specs.LockWords.{lock_word}
-use Rattle.lset_steps.specs.Promises.{InRange, ThreadInRange, SortedChain, ChainIsSorted, LockWords, LockUses, UnlinkedNodesStay, UnmarkedNodesInChain, ChangeIsNamed, NamedChange, RepliesFit, IsRead, TrueMeansChange, HasAccount, ContentIsListed, ListedContent}
+use Rattle.lset_steps.specs.Promises.{InRange, ThreadInRange, SortedChain, ChainIsSorted, LockWords, LockUses, UnlinkedNodesStay, SeenInThePast, UnmarkedNodesInChain, ChangeIsNamed, NamedChange, RepliesFit, IsRead, TrueMeansChange, HasAccount, ContentIsListed, ListedContent}
 
 -- the run goes on with a step of a thread with an open call
 module _ (T : Table) (law : Lawful T) (n q last k t : ℕ) (es : ℕ → Event) (r : Run T n q es last) (l : k ≤ last)
@@ -98,6 +98,9 @@ lock_uses_of T law n q last k t es r l e = (law.steps n q last k t es r l e).loc
 
 pub unlinked_stays_of : (T : Table) → Lawful T → UnlinkedNodesStay T
 unlinked_stays_of T law n q last j k i es r below l m = law.unlinked_stays n q last j k i es r below l m
+
+pub seen_before_of : (T : Table) → Lawful T → SeenInThePast T
+seen_before_of T law n q last j k b es r below l c = law.seen_before n q last j k b es r below l c
 
 pub unmarked_in_chain_of : (T : Table) → Lawful T → UnmarkedNodesInChain T
 unmarked_in_chain_of T law n q last k es r l = (law.states n q last k es r l).marked

@@ -89,3 +89,11 @@ pub record UnlinkedStays (marks : Bool) (v w : View) (i : ℕ) : Type 0 where
   pub key : w.key i ≡ v.key i
   pub unlinked : (InChain v i → ⊥) → (w.link i ≡ v.link i) × (InChain w i → ⊥)
   pub marked : marks ≡ true → v.link i % 2 ≡ 1 → w.link i ≡ v.link i
+
+-- [Seen]: at some moment from `first` to `now` of a run node b was in the chain with the link word l.
+pub record Seen (vs : ℕ → View) (first now b l : ℕ) : Type 0 where
+  pub at : ℕ
+  pub from : first ≤ at
+  pub upto : at ≤ now
+  pub in_chain : InChain (vs at) b
+  pub link : (vs at).link b ≡ l

@@ -20,6 +20,7 @@ use Rattle.lset_steps.specs.Laws.{Lawful, StateLaws, Registers, StepLaws, StepAt
 use Rattle.lset_words.specs.Account.{MayChange, count_after}
 use Rattle.lset_steps.specs.Memory.{WordStep, Memory, moved, left_is, named_in, lock_use, mine_counted, others_counted, goes_on, memory_after, inside}
 use Rattle.lset_steps.specs.MoveLaws.{move-changed, marked_stays, later_same, later_more}
+use Rattle.lset_steps.specs.Hindsight.{hindsight}
 
 -- what a machine says of a thread at a moment: quota, thread, past, first moment of the call, now, the memory now, whether it has
 -- changed, its own
@@ -141,6 +142,7 @@ module _ (n q : ℕ) where
     ordered = opening_ordered;
     head_key = k0;
     tail_key = k1;
+    tail_link = l1;
     marked = opening_marked marks;
   }
 
@@ -516,4 +518,7 @@ lawful_of T At d = record {
   states = λ n q last k es r l. in_order_at T T.marks At d n q es last r k l;
   steps = λ n q last k t es r l e. stepped_at T T.marks At d n q es last r k t l e;
   unlinked_stays = λ n q last j k i es r a l m. later_by T T.marks At d n q es last r j i (k - j) k (omega arith) l m;
+  seen_before = λ n q last j k b es r a l c. hindsight (views T n q es) last j k b
+      (inv_at T T.marks At d n q es last r last (omega arith)).course l
+      (record { at = j; from = omega arith; upto = a; in_chain = c });
 }

@@ -13,8 +13,8 @@ use Rattle.lset_steps.specs.declared.Action.TheVariants.{Load, Store, Exchange}
 use Rattle.lset_steps.specs.declared.rows.Targets.{Targets}
 use Rattle.lset_steps.specs.Chain.{View, view, InChain, InContent, FitsIn, node_key, node_link, node_lock}
 use Rattle.lset_steps.specs.Laws.{IsLockWord}
-use Rattle.lset_steps.specs.Memory.{WordStep, Memory, reads, fails, takes, gives, own_key, own_link, puts, sets_mark, cuts, drops, own_of, one_more, lock_after_link, link_after_link, key_after_link, lock_after_key, link_after_key, key_after_key, lock_after_lock, link_after_lock, key_after_lock, no_own, inner, at_lock, at_own_key, at_own_link}
-use Rattle.lset_steps.specs.QuietMove.{in_chain_published, quiet_keeps, chain_on}
+use Rattle.lset_steps.specs.Memory.{WordStep, Memory, reads, fails, takes, gives, own_key, own_link, puts, sets_mark, cuts, drops, own_of, one_more, lock_after_link, link_after_link, key_after_link, lock_after_key, link_after_key, key_after_key, lock_after_lock, link_after_lock, key_after_lock, no_own, inner, apart, at_lock, at_own_key, at_own_link}
+use Rattle.lset_steps.specs.QuietMove.{in_chain_published, quiet_keeps, chain_before, chain_on}
 use Rattle.lset_steps.specs.Rely.{Rely, Guarded}
 use Rattle.lset_steps.specs.Rows.{decided_on, goes_to}
 use Rattle.lset_steps.specs.Replies.{Adding, Removing, decided_cases, absent_between}
@@ -150,13 +150,20 @@ module _ {marks : Bool} {n q t : ℕ} {ws : List ℕ} {used : ℕ → ℕ} where
         b.walk.held.mine,
       )
 
-found_no_tail : {marks : Bool} {n q : ℕ} {ws : List ℕ} {used : ℕ → ℕ} (m : Memory marks n q ws used) {curr : ℕ} {op : Call}
+pub found_no_tail : {marks : Bool} {n q : ℕ} {ws : List ℕ} {used : ℕ → ℕ} (m : Memory marks n q ws used) {curr : ℕ} {op : Call}
     → Removing (view n q ws used) curr op → target op < tail_word → curr ≢ 1
 found_no_tail {ws = ws} m {curr} {op} a low e =
     let same : node_key ws curr ≡ node_key ws 1 = ap (node_key ws) e in
     let tail : node_key ws 1 ≡ tail_word = m.tail_key in
     let found : node_key ws curr ≡ target op = a.found in
     omega arith
+
+-- a write to the link of a node leaves that node in the chain
+pub stays_behind : {marks : Bool} {n q : ℕ} {ws : List ℕ} {used : ℕ → ℕ} (m : Memory marks n q ws used) {a : ℕ} (x : ℕ)
+    (used' : ℕ → ℕ) → InChain (view n q ws used) a → InChain (view n q (slice_set ws (link_index a) x) used') a
+stays_behind {marks} {n} {q} {ws} {used} m {a} x used' i =
+    chain_before (view n q ws used) (view n q (slice_set ws (link_index a) x) used') m.ordered a a
+    (λ b p less. ap (λ y. y / 2) (link_after_link ws a x b (apart marks n q ws used m b a less))) (omega arith) i
 
 module _ {marks : Bool} {n q : ℕ} {ws : List ℕ} {used : ℕ → ℕ} (m : Memory marks n q ws used) {t : ℕ} where
   pub held_from : {a : ℕ} → node_lock ws a ≡ t + 1 → InChain (view n q ws used) a → Held (view n q ws used) t a

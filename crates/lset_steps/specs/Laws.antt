@@ -12,7 +12,7 @@ use Rattle.lset_steps.specs.declared.Action.TheVariants.{Load, Store, Exchange}
 use Rattle.lset_steps.specs.declared.Event.{Event}
 use Rattle.lset_steps.specs.declared.Event.TheVariants.{Go}
 use Rattle.lset_steps.specs.Steps.{Table, State, state_at, Run, local_of, seen_next, log_of}
-use Rattle.lset_steps.specs.Chain.{View, view, IsOrdered, UnmarkedInChain, Changed, UnlinkedStays, contents_of, counts_of}
+use Rattle.lset_steps.specs.Chain.{View, view, IsOrdered, InChain, UnmarkedInChain, Changed, UnlinkedStays, Seen, contents_of, counts_of}
 
 -- the view of a state, and of each moment of a run
 abbrev pub used_in : State → ℕ → ℕ
@@ -106,6 +106,10 @@ pub record Lawful (T : Table) : Type 0 where
   pub unlinked_stays : (n q last j k i : ℕ) (es : ℕ → Event) → Run T n q es last → j ≤ k → k ≤ last
       → (views T n q es j).published i
       → UnlinkedStays T.marks (views T n q es j) (views T n q es k) i
+  -- and what is read at a later moment of a node that was in the chain
+  pub seen_before : (n q last j k b : ℕ) (es : ℕ → Event) → Run T n q es last → j ≤ k → k ≤ last
+      → InChain (views T n q es j) b
+      → Seen (views T n q es) j k b ((views T n q es k).link b)
 
 -- the limits are met, k events have run, and thread t has an open call
 pub record UnderWay (T : Table) (n q : ℕ) (es : ℕ → Event) (k t : ℕ) : Type 0 where

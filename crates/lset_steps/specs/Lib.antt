@@ -15,6 +15,7 @@ pub mod Hindsight
 pub mod Walk
 pub mod Memory
 pub mod Rely
+pub mod Remains
 pub mod Discipline
 pub mod Replies
 pub mod MoreEvents
@@ -26,3 +27,10 @@ pub mod RunAccount
 pub mod SmallLocals
 pub mod Held
 pub mod Turns
+pub mod UnlockedWalk
+pub mod SecondWalk
+pub mod ReadRows
+pub mod Reading
+pub mod BoundedReads
+pub mod ReadBound
+pub mod ReadWalk

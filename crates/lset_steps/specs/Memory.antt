@@ -14,7 +14,7 @@ use Rattle.lset_steps.specs.Moves.Move.{quiet, inserts, sets, clears, removes}
 use Rattle.lset_steps.specs.Laws.{IsLockWord, LockUse, word_named}
 use Rattle.lset_words.specs.Account.{count_after}
 use Rattle.lset_steps.specs.QuietMove.{in_chain_published, chain_on}
-use Rattle.lset_steps.specs.MoveLaws.{move-ordered, move-goes, marked_after}
+use Rattle.lset_steps.specs.MoveLaws.{move-ordered, move-goes, tail_stays, marked_after}
 
 -- what a write leaves
 pub set_other : (ws : List ℕ) (i v x : ℕ) → x ≢ i → slice_index (slice_set ws i v) x ≡ slice_index ws x
@@ -131,6 +131,7 @@ pub record Memory (marks : Bool) (n q : ℕ) (ws : List ℕ) (used : ℕ → ℕ
   pub ordered : IsOrdered (view n q ws used)
   pub head_key : node_key ws 0 ≡ 0
   pub tail_key : node_key ws 1 ≡ tail_word
+  pub tail_link : node_link ws 1 ≡ 2
   pub marked : UnmarkedInChain marks (view n q ws used)
 
 module _ (marks : Bool) (n q : ℕ) (ws : List ℕ) (used : ℕ → ℕ) (m : Memory marks n q ws used) where
@@ -183,6 +184,16 @@ module _ (marks : Bool) (n q : ℕ) (ws : List ℕ) (used : ℕ → ℕ) (m : Me
 
   pub next_in : (a b : ℕ) → InChain (view n q ws used) a → a ≢ 1 → node_link ws a / 2 ≡ b → InChain (view n q ws used) b
   next_in a b i d e = chain_on (view n q ws used) a b b [] i d e refl
+
+  -- the node behind a published one, which may be the tail, is published
+  pub next_published : (a : ℕ) → Published n q used a → Published n q used (node_link ws a / 2)
+  next_published a p = elim (same_or_not a 1) [
+    | inl e ↦ (let tail : node_link ws 1 ≡ 2 = m.tail_link in
+        let f : node_link ws a ≡ node_link ws 1 = ap (node_link ws) e in
+        let g : 1 ≡ node_link ws a / 2 = omega arith in
+        subst (λ x. Published n q used x) g m.ordered.tail_published)
+    | inr d ↦ m.ordered.next_published a p d
+  ]
 
   pub chain_in : (a : ℕ) → InChain (view n q ws used) a → a < node_count n q
   chain_in a i = inside a (in_chain_published (view n q ws used) m.ordered a i)
@@ -476,5 +487,6 @@ module _ (marks : Bool) (n q : ℕ) (ws : List ℕ) (used : ℕ → ℕ) (m : Me
         ordered = move-ordered marks (view n q ws used) (view n q ws' used') m.ordered ch mv;
         head_key = g.keys 0 m.ordered.head_published ∙ m.head_key;
         tail_key = g.keys 1 m.ordered.tail_published ∙ m.tail_key;
+        tail_link = tail_stays marks (view n q ws used) (view n q ws' used') m.ordered ch mv ∙ m.tail_link;
         marked = marked_after marks (view n q ws used) (view n q ws' used') m.ordered ch mv m.marked;
       }

@@ -1,5 +1,5 @@
 -- What every move keeps.
-use Rattle.std.proofs.Common.{◌≡◌, ℕ, ◌%◌, Bool, true, false, inl, inr, sym, refl, ap, subst, ◌∙◌, arith, Option, ◌*◌, ◌/◌}
+use Rattle.std.proofs.Common.{◌≡◌, ℕ, ◌%◌, ◌<◌, Bool, true, false, inl, inr, sym, refl, ap, subst, ◌∙◌, arith, Option, ◌*◌, ◌/◌}
 use Rattle.lset_words.specs.Numbers.{same_or_not}
 use Rattle.lset_words.specs.declared.Key.{Key}
 use Rattle.lset_steps.specs.Chain.{View, InChain, IsOrdered, Changed, UnmarkedInChain, UnlinkedStays}
@@ -61,6 +61,14 @@ module _ (marks : Bool) (v w : View) (ord : IsOrdered v) where
       (λ e. let u : v.link pred % 2 ≡ 0 = q.unmarked in let f : v.link b ≡ v.link pred = ap v.link e in omega arith)
   marked_stays ch (removes pred curr k y q m u e) b i o = q.links b i
       (λ g. let u : v.link pred % 2 ≡ 0 = q.unmarked in let f : v.link b ≡ v.link pred = ap v.link g in omega arith)
+
+-- the tail keeps its link
+pub tail_stays : (marks : Bool) (v w : View) → IsOrdered v → (ch : Option (Key × Bool)) → Move marks v w ch → w.link 1 ≡ v.link 1
+tail_stays marks v w ord ch (quiet q) = q.links 1 ord.tail_published
+tail_stays marks v w ord ch (inserts pred own k q) = q.links 1 ord.tail_published (λ e. q.no_tail (sym e))
+tail_stays marks v w ord ch (sets b k y q) = q.links 1 ord.tail_published (λ e. let u : 1 < b = q.user in omega arith)
+tail_stays marks v w ord ch (clears pred curr q m) = q.links 1 ord.tail_published (λ e. q.no_tail (sym e))
+tail_stays marks v w ord ch (removes pred curr k y q m u e) = q.links 1 ord.tail_published (λ f. q.no_tail (sym f))
 
 not_both : {A : Type 0} (b : Bool) → b ≡ true → b ≡ false → A
 not_both b x y = absurd (let z : true ≡ false = sym x ∙ y in cc)

@@ -2,7 +2,7 @@
 -- A reader of the laws need not read it.
 use Rattle.std.specs.Prelude.{◌≡◌, ◌≢◌, ℕ, ◌+◌, ◌*◌, ◌/◌, ◌%◌, ◌<◌, ◌≤◌, ◌⊎◌, Bool, true, false, Option, Some, None}
 use Rattle.lset_words.specs.declared.Key.{Key}
-use Rattle.lset_steps.specs.Chain.{View, InChain, InContent, IsOrdered}
+use Rattle.lset_steps.specs.Chain.{View, InChain, InContent, IsOrdered, Seen}
 
 -- What one step does to the nodes: keys stay, nothing comes back into the chain, and a link that changed is that of a node in the
 -- chain before and after.
@@ -84,14 +84,6 @@ pub record InPast (vs : ℕ → View) (first now b : ℕ) : Type 0 where
   pub from : first ≤ at
   pub upto : at ≤ now
   pub in_chain : InChain (vs at) b
-
--- At some moment from first to now b was in the chain with the link word l.
-pub record Seen (vs : ℕ → View) (first now b l : ℕ) : Type 0 where
-  pub at : ℕ
-  pub from : first ≤ at
-  pub upto : at ≤ now
-  pub in_chain : InChain (vs at) b
-  pub link : (vs at).link b ≡ l
 
 -- At some moment from first to now k was in the content, or was not.
 pub record Had (vs : ℕ → View) (first now k : ℕ) : Type 0 where

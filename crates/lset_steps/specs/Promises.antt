@@ -16,7 +16,7 @@ use Rattle.lset_steps.specs.declared.Action.TheVariants.{Load, Store, Exchange}
 use Rattle.lset_steps.specs.declared.Event.{Event}
 use Rattle.lset_steps.specs.declared.Event.TheVariants.{Begin, Go}
 use Rattle.lset_steps.specs.Steps.{Table, State, Run, state_at, local_of, log_of}
-use Rattle.lset_steps.specs.Chain.{View, InContent, IsChain, UnmarkedInChain, UnlinkedStays, contents_of, counts_of}
+use Rattle.lset_steps.specs.Chain.{View, InContent, IsChain, InChain, UnmarkedInChain, UnlinkedStays, Seen, contents_of, counts_of}
 use Rattle.lset_steps.specs.Laws.{Registers, IsLockWord, LockUse, word_named, views}
 use Rattle.lset_steps.specs.Worlds.{IsContent}
 
@@ -68,6 +68,12 @@ LockUses T = (n q last k t : ℕ) (es : ℕ → Event) → Run T n q es last →
 abbrev pub UnlinkedNodesStay : Table → Type 0
 UnlinkedNodesStay T = (n q last j k i : ℕ) (es : ℕ → Event) → Run T n q es last → j ≤ k → k ≤ last
     → (views T n q es j).published i → UnlinkedStays T.marks (views T n q es j) (views T n q es k) i
+
+-- [Seen in the past]: the link word that is read at a moment k of a node that was in the chain at an earlier moment j, the node had
+-- at some moment between while it was in the chain.
+abbrev pub SeenInThePast : Table → Type 0
+SeenInThePast T = (n q last j k b : ℕ) (es : ℕ → Event) → Run T n q es last → j ≤ k → k ≤ last
+    → InChain (views T n q es j) b → Seen (views T n q es) j k b ((views T n q es k).link b)
 
 -- [Unmarked in chain]
 abbrev pub UnmarkedNodesInChain : Table → Type 0

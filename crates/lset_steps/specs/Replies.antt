@@ -1,6 +1,6 @@
 -- The replies that fit where a call decides, and what the proofs of all tables use.
 use Rattle.std.specs.Prelude.{◌≡◌, ◌≢◌, ℕ, ◌+◌, ◌/◌, ◌<◌, ◌≤◌, ◌⊎◌, Bool, true, false, Option, Some, None, ◌||◌, refl}
-use Rattle.std.proofs.Common.{arith, inl, inr}
+use Rattle.std.proofs.Common.{arith, inl, inr, ◌∙◌}
 use Rattle.lset_words.specs.declared.Call.{Call}
 use Rattle.lset_words.specs.declared.Call.TheVariants.{Add, Remove, Contains}
 use Rattle.lset_words.specs.declared.Reply.{Reply}
@@ -10,6 +10,7 @@ use Rattle.lset_steps.specs.declared.Local.{Local}
 use Rattle.lset_steps.specs.declared.Fed.{Fed}
 use Rattle.lset_steps.specs.Chain.{View, InChain, InContent, IsOrdered, FitsIn, contents_of, counts_of}
 use Rattle.lset_words.specs.Account.{FitsSometime}
+use Rattle.lset_steps.specs.Moves.{KeepsNodes}
 use Rattle.lset_steps.specs.Laws.{Registers}
 use Rattle.lset_steps.specs.Rows.{begun, decided, goes_to}
 use Rattle.lset_steps.specs.Segments.{gap}
@@ -23,6 +24,15 @@ pub record Adding (v : View) (t q curr : ℕ) (op : Call) : Type 0 where
 pub record Removing (v : View) (curr : ℕ) (op : Call) : Type 0 where
   pub call : op ≡ Remove (key_of op)
   pub found : v.key curr ≡ target op
+
+-- through any step
+module _ {v w : View} (g : KeepsNodes v w) where
+  pub removing_kept : {curr : ℕ} {op : Call} → v.published curr → Removing v curr op → Removing w curr op
+  removing_kept {curr} p a = record { call = a.call; found = g.keys curr p ∙ a.found }
+
+  pub adding_kept : {t q curr : ℕ} {op : Call} → w.used t ≡ v.used t → v.published curr → Adding v t q curr op
+      → Adding w t q curr op
+  adding_kept {t} {q} {curr} u p a = record { call = a.call; room = rw u a.room; above = rw (g.keys curr p) a.above }
 
 pub decided_cases : (a d u q t : ℕ) (v : View) (cl : Call) (found room : Bool) (l : Local)
     → (found ≡ true → InContent v (key_of cl).0) → (found ≡ false → InContent v (key_of cl).0 → ⊥) → (room ≡ false → v.used t ≡ q)
@@ -94,6 +104,37 @@ keep_more n q t p l room r = record {
   ckey = r.ckey;
 }
 
+-- and where it answers at once
+pub keep_used : (n q t p : ℕ) (l : Local) → l.used < q → Registers n q t l
+    → Registers n q t (record l { pc = p; used = l.used + 1 })
+keep_used n q t p l room r = record {
+  thread = r.thread;
+  quota = r.quota;
+  used = omega arith;
+  low = r.low;
+  pred = r.pred;
+  curr = r.curr;
+  succ = r.succ;
+  node = r.node;
+  pkey = r.pkey;
+  ckey = r.ckey;
+}
+
+pub keep_curr : (n q t p c : ℕ) (l : Local) → c < node_count n q → Registers n q t l
+    → Registers n q t (record l { pc = p; curr = c })
+keep_curr n q t p c l inn r = record {
+  thread = r.thread;
+  quota = r.quota;
+  used = r.used;
+  low = r.low;
+  pred = r.pred;
+  curr = inn;
+  succ = r.succ;
+  node = r.node;
+  pkey = r.pkey;
+  ckey = r.ckey;
+}
+
 -- a step that leaves the registers
 pub keep : (n q t p : ℕ) (y : Option Reply) (l : Local) → Registers n q t l → Registers n q t (record l { pc = p; reply = y })
 keep n q t p y l r = record {
@@ -150,6 +191,37 @@ keep_walk n q t p a b l le ge r = record {
   curr = ge;
   succ = r.succ;
   node = r.node;
+  pkey = r.pkey;
+  ckey = r.ckey;
+}
+
+-- a walk that goes on by a node, and keeps the key word of the one behind
+pub keep_passed : (n q t p a b c : ℕ) (l : Local) → a < node_count n q → b ≤ tail_word → c < node_count n q → Registers n q t l
+    → Registers n q t (record l { pc = p; pred = a; pkey = b; curr = c })
+keep_passed n q t p a b c l le small ge r = record {
+  thread = r.thread;
+  quota = r.quota;
+  used = r.used;
+  low = r.low;
+  pred = le;
+  curr = ge;
+  succ = r.succ;
+  node = r.node;
+  pkey = small;
+  ckey = r.ckey;
+}
+
+pub keep_node : (n q t p a : ℕ) (l : Local) → a < node_count n q → Registers n q t l
+    → Registers n q t (record l { pc = p; node = a })
+keep_node n q t p a l le r = record {
+  thread = r.thread;
+  quota = r.quota;
+  used = r.used;
+  low = r.low;
+  pred = r.pred;
+  curr = r.curr;
+  succ = r.succ;
+  node = le;
   pkey = r.pkey;
   ckey = r.ckey;
 }

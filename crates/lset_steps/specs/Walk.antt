@@ -1,7 +1,7 @@
 -- What a walk without locks knows from step to step, and the moment of its end (after O'Hearn and others).
 use Rattle.std.proofs.Common.{◌≡◌, ◌≢◌, ℕ, ◌+◌, ◌/◌, ◌%◌, ◌<◌, ◌≤◌, [], sym, refl, ap, subst, ◌∙◌, arith}
-use Rattle.lset_steps.specs.Chain.{View, IsOrdered}
-use Rattle.lset_steps.specs.Moves.{Course, InPast, Seen, Had, Lacked}
+use Rattle.lset_steps.specs.Chain.{View, IsOrdered, Seen}
+use Rattle.lset_steps.specs.Moves.{Course, InPast, Had, Lacked}
 use Rattle.lset_steps.specs.Moves.{At20, At21, At22}
 use Rattle.lset_steps.specs.QuietMove.{in_chain_published}
 use Rattle.lset_steps.specs.Hindsight.{hindsight, next_in_past, key_stays, in_past_on, seen_on, lacked_between, had_at, lacked_at}

@@ -1,6 +1,7 @@
 //! What is promised of every run of every machine, for events of any number: each promise as a function whose
 //! contract is the law, and whose call does nothing.
 
+ghost use Rattle.lset_steps.specs.BoundedReads.{BoundedReads, WalksInChain};
 ghost use Rattle.lset_steps.specs.Promises.{
   HasAccount,
   InRange,
@@ -9,13 +10,14 @@ ghost use Rattle.lset_steps.specs.Promises.{
   LockWords,
   NamedChange,
   RepliesFit,
+  SeenInThePast,
   SortedChain,
   TrueMeansChange,
   UnlinkedNodesStay,
   UnmarkedNodesInChain,
 };
 
-use crate::Machine;
+use crate::{Machine, OpenReads};
 
 /// In every world of every run the registers are in the layout's range, and the next action of an open call names
 /// a word of the table. (This project's own table.)
@@ -45,6 +47,12 @@ pub fn lock_uses<M: Machine>()
 /// a marked node in a list that marks. (Heller and others, of their lazy list; Harris, of marks.)
 pub fn unlinked_nodes_stay<M: Machine>()
     ensures { UnlinkedNodesStay M.table }
+{}
+
+/// What is read of a node that was in the chain at some moment, it had at a moment since then while it was in the
+/// chain. (O'Hearn and others' hindsight.)
+pub fn seen_in_the_past<M: Machine>()
+    ensures { SeenInThePast M.table }
 {}
 
 /// In a list that marks, every unmarked published node is in the chain; in another one no link is marked. (Heller and
@@ -80,4 +88,16 @@ pub fn has_account<M: Machine>()
 /// The content at each moment of a run is one rising list of keys. (Herlihy and Shavit's abstraction map.)
 pub fn listed_content<M: Machine>()
     ensures { ListedContent M.table }
+{}
+
+/// Each step of a `contains` of a list with open reads is a load, and there are at most `bound` of them, whatever the
+/// other threads do. (Herlihy and Shavit's wait-free `contains`.)
+pub fn bounded_reads<M: OpenReads>()
+    ensures { BoundedReads M.table }
+{}
+
+/// Each node whose link a `contains` of a list with open reads loads was in the chain with this very link at some
+/// moment of the call. (O'Hearn and others' hindsight.)
+pub fn walks_in_chain<M: OpenReads>()
+    ensures { WalksInChain M.table }
 {}

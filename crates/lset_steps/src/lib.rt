@@ -5,8 +5,10 @@ ghost use Rattle.std.specs.Prelude.{◌≡◌, ℕ, ◌+◌, ◌*◌, ◌<◌, �
 ghost use Rattle.lset_words.specs.declared.Kind.{Kind};
 ghost use Rattle.lset_steps.specs.Steps.{Table, idle};
 ghost use Rattle.lset_steps.specs.Laws.{Lawful, Occurs, Sees};
+ghost use Rattle.lset_steps.specs.BoundedReads.{BoundedReads, WalksInChain, most_reads};
 
 pub mod laws;
+pub mod reads;
 pub mod rows;
 mod world;
 
@@ -121,4 +123,19 @@ pub trait Machine {
         ensures { result ≡ table.effect local.now seen };
 
     ghost lawful: { Lawful table };
+}
+
+/// A list whose `contains` takes no lock and writes nothing, so that it waits for nobody (Herlihy and Shavit's
+/// wait-free `contains`).
+pub trait OpenReads: Machine {
+    /// The most steps of a `contains`, whatever the other threads do. Each of them is a load.
+    fn bound(layout: &Layout) -> u64
+        ensures { result ≡ most_reads layout.now.threads layout.now.quota }
+    {
+        2 * (u64::from(layout.threads()) * u64::from(layout.quota())) + 2
+    }
+
+    ghost reads: { BoundedReads Self.table };
+
+    ghost walks: { WalksInChain Self.table };
 }
