@@ -1,0 +1,271 @@
+-- That OptimisticList keeps its promises.
+use Rattle.std.specs.Prelude.{◌≡◌, ◌≢◌, ℕ, zero, suc, ◌+◌, ◌-◌, ◌/◌, ◌<◌, ◌≤◌, ◌⊎◌, Bool, true, false, Some, None, List, if◌then◌else◌, ◌==◌, nat_lt, slice_index_or, slice_set, length, refl}
+use Rattle.std.proofs.Common.{arith, inl, inr, sym, ◌∙◌, ap, subst, get_or-set_other, get_or-set_same}
+use Rattle.lset_words.specs.Numbers.{same_or_not, below_or_not, if_same, if_other, if_below, if_not_below}
+use Rattle.lset_words.specs.declared.Call.{Call}
+use Rattle.lset_words.specs.declared.Call.TheVariants.{Add, Remove, Contains}
+use Rattle.lset_words.specs.declared.Reply.{Reply}
+use Rattle.lset_words.specs.Words.{target}
+use Rattle.lset_words.specs.Log.{begun_at, has_changed}
+use Rattle.lset_steps.specs.declared.Local.{Local}
+use Rattle.lset_steps.specs.declared.Event.{Event}
+use Rattle.lset_steps.specs.declared.Event.TheVariants.{Begin, Go}
+use Rattle.lset_steps.specs.Steps.{State, Run, Enabled, idle, state_at, local_of, after, seen_by, seen_next, log_of}
+use Rattle.lset_steps.specs.Chain.{View, view, FitsIn, node_link, node_lock}
+use Rattle.lset_steps.specs.Laws.{used_in, views}
+use Rattle.lset_steps.specs.Rows.{decided, decided_on}
+use Rattle.lset_steps.specs.Memory.{Memory}
+use Rattle.lset_steps.specs.Held.{Held}
+use Rattle.lset_steps.specs.Replies.{keep}
+use Rattle.lset_steps.specs.SecondWalk.{SecondWalk, kept_upto, second_walk_arrives}
+use Rattle.lset_steps.specs.Discipline.{Thread, inv_at}
+use Rattle.lset_steps.specs.Turns.{discipline_of, node_locks}
+use Rattle.lset_optimistic.specs.Optimistic.{optimistic, targets, at_node, at_link, local_after}
+use Rattle.lset_optimistic.specs.Outline.{At, Window, optimistic_follows, decision}
+use Rattle.lset_optimistic.specs.Outline.At.{at0, at1, at2, at3, at4, at5, at6, at7, at8, at9, at10, at11, at12, at13, at14, at15}
+use Rattle.lset_optimistic.specs.Promises.{held_at, world_at, IsWalking, HasArrived, WasInChain, IsLockedInChain, WalkedInThePast, ArrivedInChain, InChainToTheEnd, FitsAtTheLoad}
+
+-- WHAT IS KNOWN AT A PLACE
+module _ (q t : ℕ) (vs : ℕ → View) (first now : ℕ) (v : View) (done : Bool) (l : Local) where
+  elsewhere : {A : Type 0} (p : ℕ) → l.pc ≡ p → (p < 6) ⊎ (7 < p) → IsWalking l → A
+  elsewhere p e (inl a) (inl w) = absurd (omega arith)
+  elsewhere p e (inl a) (inr w) = absurd (omega arith)
+  elsewhere p e (inr a) (inl w) = absurd (omega arith)
+  elsewhere p e (inr a) (inr w) = absurd (omega arith)
+
+  since : vs now ≡ v → (start b : ℕ) → first ≤ start → SecondWalk vs start now v t l.pred b → WasInChain vs first now t l.pred b
+  since present start b g x =
+      let from : start ≤ x.seen.at = x.seen.from in
+      record {
+        at = x.seen.at;
+        from = omega arith;
+        upto = x.seen.upto;
+        in_chain = x.seen.in_chain;
+        locked = λ i a u. kept_upto vs present x i (omega arith) (omega arith);
+      }
+
+  walked : vs now ≡ v → At q t vs first now v done l → IsWalking l → WasInChain vs first now t l.pred l.node
+  walked present (at0 e) w = elsewhere 0 e (inl (omega arith)) w
+  walked present (at1 e d) w = elsewhere 1 e (inl (omega arith)) w
+  walked present (at2 e d x k) w = elsewhere 2 e (inl (omega arith)) w
+  walked present (at3 e d c k b) w = elsewhere 3 e (inl (omega arith)) w
+  walked present (at4 e d f) w = elsewhere 4 e (inl (omega arith)) w
+  walked present (at5 e d f p) w = elsewhere 5 e (inl (omega arith)) w
+  walked present (at6 e d f c k start g x) w = since present start l.node g x
+  walked present (at7 e d f c start g x) w = since present start l.node g x
+  walked present (at8 e d f c h a) w = elsewhere 8 e (inr (omega arith)) w
+  walked present (at9 e d b a) w = elsewhere 9 e (inr (omega arith)) w
+  walked present (at10 e d b a x) w = elsewhere 10 e (inr (omega arith)) w
+  walked present (at11 e d b a x y) w = elsewhere 11 e (inr (omega arith)) w
+  walked present (at12 e d b a) w = elsewhere 12 e (inr (omega arith)) w
+  walked present (at13 e d b a x) w = elsewhere 13 e (inr (omega arith)) w
+  walked present (at14 e p c x i o) w = elsewhere 14 e (inr (omega arith)) w
+  walked present (at15 e c o) w = elsewhere 15 e (inr (omega arith)) w
+
+  early : {A : Type 0} (p : ℕ) → l.pc ≡ p → p < 7 → HasArrived l → A
+  early p e low h = absurd (let from : 7 ≤ l.pc = h.from in omega arith)
+
+  arrived : vs now ≡ v → At q t vs first now v done l → HasArrived l → IsLockedInChain v t l.pred
+  arrived present (at0 e) h = early 0 e (omega arith) h
+  arrived present (at1 e d) h = early 1 e (omega arith) h
+  arrived present (at2 e d x k) h = early 2 e (omega arith) h
+  arrived present (at3 e d c k b) h = early 3 e (omega arith) h
+  arrived present (at4 e d f) h = early 4 e (omega arith) h
+  arrived present (at5 e d f p) h = early 5 e (omega arith) h
+  arrived present (at6 e d f c k start g x) h = early 6 e (omega arith) h
+  arrived present (at7 e d f c start g x) h =
+      record { in_chain = second_walk_arrives vs present h.there x; mine = x.mine }
+  arrived present (at8 e d f c x a) h = record { in_chain = x.at; mine = x.mine }
+  arrived present (at9 e d b a) h = record { in_chain = b.0.walk.held.at; mine = b.0.walk.held.mine }
+  arrived present (at10 e d b a x) h = record { in_chain = b.0.walk.held.at; mine = b.0.walk.held.mine }
+  arrived present (at11 e d b a x y) h = record { in_chain = b.0.walk.held.at; mine = b.0.walk.held.mine }
+  arrived present (at12 e d b a) h = record { in_chain = b.0.walk.held.at; mine = b.0.walk.held.mine }
+  arrived present (at13 e d b a x) h = record { in_chain = b.0.walk.held.at; mine = b.0.walk.held.mine }
+  arrived present (at14 e p c x i o) h = record { in_chain = i h.there; mine = p }
+  arrived present (at15 e c o) h = absurd (let upto : l.pc ≤ 14 = h.upto in omega arith)
+
+-- THE ROWS FROM 7 TO 13 leave pred and node
+abbrev Stays : Local → Local → Type 0
+Stays l m = HasArrived m × (m.pred ≡ l.pred)
+
+decided_stays : (call : Call) (found room : Bool) (l : Local) → l.node ≡ l.pred → Stays l (decided 9 12 14 call found room l)
+decided_stays (Add k) true room l a = (record { from = omega arith; upto = omega arith; there = a }, refl)
+decided_stays (Add k) false true l a = (record { from = omega arith; upto = omega arith; there = a }, refl)
+decided_stays (Add k) false false l a = (record { from = omega arith; upto = omega arith; there = a }, refl)
+decided_stays (Remove k) true room l a = (record { from = omega arith; upto = omega arith; there = a }, refl)
+decided_stays (Remove k) false room l a = (record { from = omega arith; upto = omega arith; there = a }, refl)
+decided_stays (Contains k) true room l a = (record { from = omega arith; upto = omega arith; there = a }, refl)
+decided_stays (Contains k) false room l a = (record { from = omega arith; upto = omega arith; there = a }, refl)
+
+link_stays : (seen : ℕ) (l : Local) → l.node ≡ l.pred → Stays l (at_link seen l)
+link_stays seen l a = elim (same_or_not (seen / 2) l.curr) [
+  | inl e ↦ subst (Stays l) (sym (if_same (seen / 2) l.curr e (decided_on targets l.ckey l) (record l { pc = 14; reply = None })))
+      (decided_stays l.call (l.ckey == target l.call) (nat_lt l.used l.quota) l a)
+  | inr e ↦ subst (Stays l) (sym (if_other (seen / 2) l.curr e (decided_on targets l.ckey l) (record l { pc = 14; reply = None })))
+      (record { from = omega arith; upto = omega arith; there = a }, refl)
+]
+
+node_stays : (seen : ℕ) (l : Local) → l.node ≡ l.pred → Stays l (at_node seen l)
+node_stays seen l a =
+    let past : Local = record l { pc = 14; reply = None } in
+    let there : Local = record l { pc = 8 } in let on : Local = record l { pc = 6 } in
+    elim (below_or_not l.pkey seen) [
+      | inl lt ↦ subst (Stays l) (sym (if_below l.pkey seen lt past (if l.node == l.pred then there else on)))
+          (record { from = omega arith; upto = omega arith; there = a }, refl)
+      | inr ge ↦ subst (Stays l) (sym (if_not_below l.pkey seen ge past (if l.node == l.pred then there else on)
+          ∙ if_same l.node l.pred a there on)) (record { from = omega arith; upto = omega arith; there = a }, refl)
+    ]
+
+module _ (l : Local) (seen : ℕ) (a : l.node ≡ l.pred) where
+  row_stays : (p : ℕ) → l.pc ≡ p
+      → (p ≡ 7) ⊎ (p ≡ 8) ⊎ (p ≡ 9) ⊎ (p ≡ 10) ⊎ (p ≡ 11) ⊎ (p ≡ 12) ⊎ (p ≡ 13) → Stays l (local_after l seen)
+  row_stays p e (inl f) = rw (e ∙ f) (node_stays seen (record l { pc = 7 }) a)
+  row_stays p e (inr (inl f)) = rw (e ∙ f) (link_stays seen (record l { pc = 8 }) a)
+  row_stays p e (inr (inr (inl f))) = rw (e ∙ f) (record { from = omega arith; upto = omega arith; there = a }, refl)
+  row_stays p e (inr (inr (inr (inl f)))) = rw (e ∙ f) (record { from = omega arith; upto = omega arith; there = a }, refl)
+  row_stays p e (inr (inr (inr (inr (inl f))))) = rw (e ∙ f) (record { from = omega arith; upto = omega arith; there = a }, refl)
+  row_stays p e (inr (inr (inr (inr (inr (inl f)))))) = rw (e ∙ f) (record { from = omega arith; upto = omega arith; there = a }, refl)
+  row_stays p e (inr (inr (inr (inr (inr (inr f)))))) = rw (e ∙ f) (record { from = omega arith; upto = omega arith; there = a }, refl)
+
+which_row : (p : ℕ) → 7 ≤ p → p ≤ 14 → p ≢ 14 → (p ≡ 7) ⊎ (p ≡ 8) ⊎ (p ≡ 9) ⊎ (p ≡ 10) ⊎ (p ≡ 11) ⊎ (p ≡ 12) ⊎ (p ≡ 13)
+which_row p from upto d = grind arith
+
+-- one event
+module _ (s : State) (t : ℕ) where
+  other_local : (u : ℕ) (l : Local) → t ≢ u → slice_index_or (slice_set s.locals u l) t (idle 0 0) ≡ local_of s t
+  other_local u l d = get_or-set_other s.locals u t l (idle 0 0) d
+
+  event_stays : (e : Event) → Enabled s e → HasArrived (local_of s t) → (e ≡ Go t → (local_of s t).pc ≢ 14)
+      → Stays (local_of s t) (local_of (after optimistic s e) t)
+  event_stays (Begin u call) en h d = elim (same_or_not t u) [
+    | inl e ↦ absurd (let from : 7 ≤ (local_of s t).pc = h.from in
+        let rest : (local_of s u).pc ≡ 0 = en.1 in
+        let same : (local_of s t).pc ≡ (local_of s u).pc = ap (λ x. (local_of s x).pc) e in omega arith)
+    | inr e ↦ subst (Stays (local_of s t)) (sym (other_local u (optimistic.begin call (local_of s u)) e)) (h, refl)
+  ]
+  event_stays (Go u) en h d = elim (same_or_not u t) [
+    | inl e ↦ (let f : Go u ≡ Go t = ap (λ x. Go x) e in
+        let l : Local = local_of s t in
+        subst (λ x. Stays l (local_of (after optimistic s (Go x)) t)) (sym e)
+        (subst (Stays l) (sym (get_or-set_same s.locals t (local_after l (seen_next optimistic s t)) (idle 0 0)
+        (subst (λ x. x < length s.locals) e en.0)))
+        (row_stays l (seen_next optimistic s t) h.there l.pc refl (which_row l.pc h.from h.upto (d f)))))
+    | inr e ↦ subst (Stays (local_of s t))
+        (sym (other_local u (local_after (local_of s u) (seen_next optimistic s u)) (λ f. e (sym f)))) (h, refl)
+  ]
+
+-- A RUN
+module _ (n q last : ℕ) (es : ℕ → Event) (r : Run optimistic n q es last) (t : ℕ) (tn : t < n) where
+  abbrev vs : ℕ → View
+  vs = views optimistic n q es
+
+  known : (k : ℕ) → k ≤ last
+      → Thread At n q t (views optimistic n q es) (begun_at (log_of optimistic n q es) t k) k
+      (state_at optimistic n q es k).words (used_in (state_at optimistic n q es k))
+      (has_changed (log_of optimistic n q es) t k) (held_at n q es k t)
+  known k l = (inv_at optimistic false At (discipline_of optimistic (node_locks false) At optimistic_follows) n q es last r k l).threads t tn
+
+  past_at : (k : ℕ) → k ≤ last → IsWalking (held_at n q es k t)
+      → WasInChain (views optimistic n q es) (begun_at (log_of optimistic n q es) t k) k t (held_at n q es k t).pred
+      (held_at n q es k t).node
+  past_at k l w = walked q t (views optimistic n q es) (begun_at (log_of optimistic n q es) t k) k (world_at n q es k)
+      (has_changed (log_of optimistic n q es) t k) (held_at n q es k t) refl (known k l).at w
+
+  chain_at : (k : ℕ) → k ≤ last → HasArrived (held_at n q es k t) → IsLockedInChain (world_at n q es k) t (held_at n q es k t).pred
+  chain_at k l h = arrived q t (views optimistic n q es) (begun_at (log_of optimistic n q es) t k) k (world_at n q es k)
+      (has_changed (log_of optimistic n q es) t k) (held_at n q es k t) refl (known k l).at h
+
+  stays_for : (j d k : ℕ) → k ≡ j + d → k ≤ last → HasArrived (held_at n q es j t)
+      → ((i : ℕ) → j ≤ i → i < k → es i ≡ Go t → (held_at n q es i t).pc ≢ 14)
+      → Stays (held_at n q es j t) (held_at n q es k t)
+  stays_for j zero k e l h f = let g : j ≡ k = omega arith in
+      subst (λ x. Stays (held_at n q es j t) (held_at n q es x t)) g (h, refl)
+  stays_for j (suc d) k e l h f =
+      let before : Stays (held_at n q es j t) (held_at n q es (j + d) t) =
+      stays_for j d (j + d) refl (omega arith) h (λ i a b. f i a (omega arith)) in
+      let now : Stays (held_at n q es (j + d) t) (held_at n q es (suc (j + d)) t) =
+      event_stays (state_at optimistic n q es (j + d)) t (es (j + d)) (r.enabled (j + d) (omega arith)) before.0
+      (f (j + d) (omega arith) (omega arith)) in
+      let g : suc (j + d) ≡ k = omega arith in
+      subst (λ x. Stays (held_at n q es j t) (held_at n q es x t)) g (now.0, now.1 ∙ before.1)
+
+pub walked_in_the_past_of : WalkedInThePast
+walked_in_the_past_of n q last k t es r l tn w = past_at n q last es r t tn k l w
+
+pub arrived_in_chain_of : ArrivedInChain
+arrived_in_chain_of n q last k t es r l tn h = chain_at n q last es r t tn k l h
+
+pub in_chain_to_the_end_of : InChainToTheEnd
+in_chain_to_the_end_of n q last j k t es r a l tn h f =
+    let s : Stays (held_at n q es j t) (held_at n q es k t) = stays_for n q last es r t tn j (k - j) k (omega arith) l h f in
+    subst (IsLockedInChain (world_at n q es k) t) s.1 (chain_at n q last es r t tn k l s.0)
+
+-- THE REPLY at the load of pc 8
+none_is_not : {A : Type 0} (reply : Reply) → None ≡ Some reply → A
+none_is_not reply e = absurd (cc)
+
+some_is : (a b : Reply) → Some a ≡ Some b → a ≡ b
+some_is a b e = cc
+
+module _ (n q t : ℕ) (vs : ℕ → View) (first now : ℕ) (ws : List ℕ) (used : ℕ → ℕ) (done : Bool) (l : Local) (reply : Reply)
+    (m : Memory false n q ws used) (th : Thread At n q t vs first now ws used done l) (tn : t < n) (e : l.pc ≡ 8) where
+  fits_link : Window (view n q ws used) l → node_lock ws l.curr ≡ t + 1 → Held (view n q ws used) t l.pred
+      → (at_link (node_link ws l.pred) (record l { pc = 8 })).reply ≡ Some reply → FitsIn q (view n q ws used) t l.call reply
+  fits_link f c x y = elim (same_or_not (node_link ws l.pred / 2) l.curr) [
+    | inl z ↦ (let made = decision m (record l { pc = 8 }) tn (keep n q t 8 l.reply l th.registers) th.counts f c x z in
+        let told = ap (λ (k : Local). k.reply) (sym (if_same (node_link ws l.pred / 2) l.curr z
+        (decided_on targets l.ckey (record l { pc = 8 })) (record l { pc = 14; reply = None }))) ∙ y in
+        elim made.1 [
+          | inl r ↦ subst (FitsIn q (view n q ws used) t l.call) (some_is r.0 reply (sym (ap (λ (k : Local). k.reply) r.1) ∙ told)) r.2
+          | inr o ↦ elim o [
+            | inl r ↦ none_is_not reply (sym (ap (λ (k : Local). k.reply) r.0) ∙ told)
+            | inr r ↦ none_is_not reply (sym (ap (λ (k : Local). k.reply) r.0) ∙ told)
+          ]
+        ])
+    | inr z ↦ none_is_not reply (ap (λ (k : Local). k.reply) (sym (if_other (node_link ws l.pred / 2) l.curr z
+        (decided_on targets l.ckey (record l { pc = 8 })) (record l { pc = 14; reply = None }))) ∙ y)
+  ]
+
+  not_here : {A : Type 0} (p : ℕ) → l.pc ≡ p → p ≢ 8 → A
+  not_here p f d = absurd (d (sym f ∙ e))
+
+  fits_row : At q t vs first now (view n q ws used) done l
+      → (at_link (node_link ws l.pred) (record l { pc = 8 })).reply ≡ Some reply → FitsIn q (view n q ws used) t l.call reply
+  fits_row (at0 f) = not_here 0 f (omega arith)
+  fits_row (at1 f d) = not_here 1 f (omega arith)
+  fits_row (at2 f d x k) = not_here 2 f (omega arith)
+  fits_row (at3 f d c k b) = not_here 3 f (omega arith)
+  fits_row (at4 f d w) = not_here 4 f (omega arith)
+  fits_row (at5 f d w p) = not_here 5 f (omega arith)
+  fits_row (at6 f d w c k start g x) = not_here 6 f (omega arith)
+  fits_row (at7 f d w c start g x) = not_here 7 f (omega arith)
+  fits_row (at8 f d w c x a) = fits_link w c x
+  fits_row (at9 f d b a) = not_here 9 f (omega arith)
+  fits_row (at10 f d b a x) = not_here 10 f (omega arith)
+  fits_row (at11 f d b a x y) = not_here 11 f (omega arith)
+  fits_row (at12 f d b a) = not_here 12 f (omega arith)
+  fits_row (at13 f d b a x) = not_here 13 f (omega arith)
+  fits_row (at14 f p c x i o) = not_here 14 f (omega arith)
+  fits_row (at15 f c o) = not_here 15 f (omega arith)
+
+-- what the load of pc 8 leaves
+link_row : (ws : List ℕ) (l : Local) → l.pc ≡ 8
+    → local_after l (seen_by ws (optimistic.next l)) ≡ at_link (node_link ws l.pred) (record l { pc = 8 })
+link_row ws l e = rw e refl
+
+after_link : (s : State) (t : ℕ) → t < length s.locals → (local_of s t).pc ≡ 8
+    → local_of (after optimistic s (Go t)) t ≡ at_link (node_link s.words (local_of s t).pred) (record (local_of s t) { pc = 8 })
+after_link s t h e =
+    get_or-set_same s.locals t (local_after (local_of s t) (seen_next optimistic s t)) (idle 0 0) h
+    ∙ link_row s.words (local_of s t) e
+
+pub fits_at_the_load_of : FitsAtTheLoad
+fits_at_the_load_of n q last k t es reply r l tn goes e y =
+    let i = inv_at optimistic false At (discipline_of optimistic (node_locks false) At optimistic_follows) n q es last r k (omega arith) in
+    let s : State = state_at optimistic n q es k in
+    let th = i.threads t tn in
+    let en : Enabled s (Go t) = subst (Enabled s) goes (r.enabled k l) in
+    let is = subst (λ x. (local_of (after optimistic s x) t).reply ≡ Some reply) goes y in
+    fits_row n q t (views optimistic n q es) (begun_at (log_of optimistic n q es) t k) k s.words (used_in s)
+    (has_changed (log_of optimistic n q es) t k) (local_of s t) reply i.memory th tn e th.at
+    (ap (λ (x : Local). x.reply) (sym (after_link s t en.0 e)) ∙ is)

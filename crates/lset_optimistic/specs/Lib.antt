@@ -1,0 +1,4 @@
+pub mod Optimistic
+pub mod Outline
+pub mod Lawful
+pub mod Promises

@@ -1,0 +1,228 @@
+//! OptimisticList: a walk without locks, two node locks, and a second walk that validates (Herlihy and Shavit's
+//! optimistic list).
+#![tactic(auto)]
+
+ghost use Rattle.std.specs.Prelude.{◌≡◌, ◌+◌, ◌≤◌};
+ghost use Rattle.lset_words.specs.Words.{lock_index};
+ghost use Rattle.lset_words.specs.declared.Kind.TheVariants.{Optimistic};
+ghost use Rattle.lset_steps.specs.Rows.{IsSmall};
+ghost use Rattle.lset_optimistic.specs.Optimistic.{
+  optimistic,
+  next_action,
+  at_key,
+  at_locks,
+  at_node,
+  at_link,
+  at_end,
+  local_after,
+};
+ghost use Rattle.lset_optimistic.specs.Lawful.{optimistic_lawful};
+
+pub mod laws;
+
+use lset_steps::rows::{Targets, begun, decide, key_index, link_index, lock_index, own_slot};
+use lset_steps::{Action, Fed, Local, Machine};
+use lset_words::{Call, Key, Kind, Reply};
+
+/// The list that walks without locks, locks the two nodes that it has come to, and walks a second time from the
+/// head to see that the first of them is still in the chain and leads to the other (Herlihy and Shavit's
+/// optimistic list, by this project's own table).
+#[derive(Clone, Copy, Debug, PartialEq, Eq)]
+pub struct OptimisticList;
+
+const HEAD: u64 = 0;
+
+/// The rows to which a call goes on from its decision.
+const TARGETS: Targets = Targets {
+    adds: 9,
+    removes: 12,
+    leaves: 14,
+};
+
+/// The try of a node's lock.
+fn try_lock(node: u64, local: &Local) -> Action
+    requires local { IsSmall local.now }
+    requires node { node ≤ 1048578 }
+    ensures { result ≡ Action.Exchange (lock_index node) 0 (local.now.thread + 1) }
+{
+    Action::Exchange(lock_index(node), 0, u64::from(local.thread) + 1)
+}
+
+fn next_action(local: &Local) -> Action
+    requires { IsSmall local.now }
+    ensures { result ≡ next_action local.now }
+{
+    match local.pc {
+        1 => Action::Load(link_index(HEAD)),
+        2 => Action::Load(key_index(local.curr)),
+        3 | 12 => Action::Load(link_index(local.curr)),
+        4 => try_lock(local.pred, local),
+        5 => try_lock(local.curr, local),
+        6 => Action::Load(link_index(local.node)),
+        7 => Action::Load(key_index(local.node)),
+        8 => Action::Load(link_index(local.pred)),
+        9 => Action::Store(key_index(own_slot(local)), local.call.key().word()),
+        10 => Action::Store(link_index(own_slot(local)), 2 * local.curr),
+        11 => Action::Store(link_index(local.pred), 2 * own_slot(local)),
+        13 => Action::Store(link_index(local.pred), 2 * local.succ),
+        14 => Action::Store(lock_index(local.pred), 0),
+        _ => Action::Store(lock_index(local.curr), 0),
+    }
+}
+
+/// Walks on where the key word is below that of the call, and else goes to take the locks.
+fn at_key(local: &Local, seen: u64) -> Local
+    ensures { result ≡ at_key seen local.now }
+{
+    let below = seen < local.call.key().word();
+    Local {
+        pc: if below { 3 } else { 4 },
+        ckey: seen,
+        ..*local
+    }
+}
+
+/// Begins the second walk at the head, which is at its end where the first one went no further.
+fn at_locks(local: &Local) -> Local
+    ensures { result ≡ at_locks local.now }
+{
+    let pc = if local.pred == HEAD { 8 } else { 6 };
+    Local {
+        pc,
+        node: HEAD,
+        ..*local
+    }
+}
+
+/// Ends the second walk in vain where it is past the first one, and in success where it has come to the same node.
+fn at_node(local: &Local, seen: u64) -> Local
+    ensures { result ≡ at_node seen local.now }
+{
+    if seen > local.pkey {
+        Local {
+            pc: 14,
+            reply: None,
+            ..*local
+        }
+    } else if local.node == local.pred {
+        Local { pc: 8, ..*local }
+    } else {
+        Local { pc: 6, ..*local }
+    }
+}
+
+/// Decides where the two nodes are still neighbours.
+fn at_link(local: &Local, seen: u64) -> Local
+    ensures { result ≡ at_link seen local.now }
+{
+    if seen / 2 == local.curr {
+        decide(TARGETS, local.ckey, *local)
+    } else {
+        Local {
+            pc: 14,
+            reply: None,
+            ..*local
+        }
+    }
+}
+
+/// Begins again where there is no reply.
+fn at_end(local: &Local) -> Local
+    ensures { result ≡ at_end local.now.reply local.now }
+{
+    match local.reply {
+        None => Local { pc: 1, ..*local },
+        Some(_) => Local { pc: 0, ..*local },
+    }
+}
+
+fn local_after(local: &Local, seen: u64) -> Local
+    requires { IsSmall local.now }
+    ensures { result ≡ local_after local.now seen }
+{
+    match local.pc {
+        1 => Local {
+            pc: 2,
+            pred: HEAD,
+            pkey: 0,
+            curr: seen / 2,
+            ..*local
+        },
+        2 => at_key(local, seen),
+        3 => Local {
+            pc: 2,
+            pred: local.curr,
+            pkey: local.ckey,
+            curr: seen / 2,
+            ..*local
+        },
+        4 if seen == 0 => Local { pc: 5, ..*local },
+        4 => Local { pc: 4, ..*local },
+        5 if seen == 0 => at_locks(local),
+        5 => Local { pc: 5, ..*local },
+        6 => Local {
+            pc: 7,
+            node: seen / 2,
+            ..*local
+        },
+        7 => at_node(local, seen),
+        8 => at_link(local, seen),
+        9 => Local { pc: 10, ..*local },
+        10 => Local { pc: 11, ..*local },
+        11 => Local {
+            pc: 14,
+            reply: Some(Reply::True),
+            used: local.used + 1,
+            ..*local
+        },
+        12 => Local {
+            pc: 13,
+            succ: seen / 2,
+            ..*local
+        },
+        13 => Local {
+            pc: 14,
+            reply: Some(Reply::True),
+            ..*local
+        },
+        14 => Local { pc: 15, ..*local },
+        _ => at_end(local),
+    }
+}
+
+impl Machine for OptimisticList {
+    const KIND: Kind = Kind::Optimistic;
+
+    ghost KIND = { Optimistic };
+
+    ghost table = { optimistic };
+
+    fn begin(call: Call, local: &Local) -> Local {
+        begun(1, call, local)
+    }
+
+    fn next(local: &Local) -> Action {
+        next_action(local)
+    }
+
+    fn feed(local: &Local, seen: u64) -> Fed {
+        let answer = if local.pc == 15 { local.reply } else { None };
+        Fed {
+            local: local_after(local, seen),
+            answer,
+        }
+    }
+
+    fn effect(local: &Local, _seen: u64) -> Option<(Key, bool)> {
+        match local.pc {
+            11 => Some((local.call.key(), true)),
+            13 => Some((local.call.key(), false)),
+            _ => None,
+        }
+    }
+
+    ghost lawful = { optimistic_lawful };
+}
+
+#[cfg(test)]
+mod tests;
