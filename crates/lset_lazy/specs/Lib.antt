@@ -1,0 +1,3 @@
+pub mod Lazy
+pub mod Outline
+pub mod Lawful

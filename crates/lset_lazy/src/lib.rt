@@ -1,0 +1,204 @@
+//! LazyList: a node is marked before it is taken out, so that a `contains` needs no lock (Herlihy and Shavit's lazy list,
+//! after Heller and others).
+#![tactic(auto)]
+
+ghost use Rattle.std.specs.Prelude.{◌≡◌, ◌+◌, ◌≤◌};
+ghost use Rattle.lset_words.specs.Words.{lock_index};
+ghost use Rattle.lset_words.specs.declared.Kind.TheVariants.{Lazy};
+ghost use Rattle.lset_steps.specs.Rows.{IsSmall};
+ghost use Rattle.lset_lazy.specs.Lazy.{lazy, next_action, at_key, gives_up, at_pred, at_curr, released, fed_by};
+ghost use Rattle.lset_lazy.specs.Lawful.{lazy_lawful, lazy_reads, lazy_walks};
+
+use lset_steps::reads::{begun_reading, continued, leaves_with, read_action, read_fed};
+use lset_steps::rows::{Targets, decide, key_index, link_index, lock_index, own_slot};
+use lset_steps::{Action, Fed, Local, Machine, OpenReads};
+use lset_words::{Call, Key, Kind, Reply};
+
+/// The list whose walks take no lock: a call that changes it locks the two nodes at which its walk stopped, and walks
+/// again where they have changed (Herlihy and Shavit's lazy list, by this project's own table).
+#[derive(Clone, Copy, Debug, PartialEq, Eq)]
+pub struct LazyList;
+
+const HEAD: u64 = 0;
+
+/// The rows to which a call goes on from its decision.
+const TARGETS: Targets = Targets {
+    adds: 8,
+    removes: 11,
+    leaves: 13,
+};
+
+/// The try of a node's lock.
+fn try_lock(node: u64, local: &Local) -> Action
+    requires local { IsSmall local.now }
+    requires node { node ≤ 1048578 }
+    ensures { result ≡ Action.Exchange (lock_index node) 0 (local.now.thread + 1) }
+{
+    Action::Exchange(lock_index(node), 0, u64::from(local.thread) + 1)
+}
+
+fn next_action(local: &Local) -> Action
+    requires { IsSmall local.now }
+    ensures { result ≡ next_action local.now }
+{
+    match local.pc {
+        1 => Action::Load(link_index(HEAD)),
+        2 => Action::Load(key_index(local.curr)),
+        3 | 7 => Action::Load(link_index(local.curr)),
+        4 => try_lock(local.pred, local),
+        5 => try_lock(local.curr, local),
+        6 => Action::Load(link_index(local.pred)),
+        8 => Action::Store(key_index(own_slot(local)), local.call.key().word()),
+        9 => Action::Store(link_index(own_slot(local)), 2 * local.curr),
+        10 => Action::Store(link_index(local.pred), 2 * own_slot(local)),
+        11 => Action::Store(link_index(local.curr), 2 * local.succ + 1),
+        12 => Action::Store(link_index(local.pred), 2 * local.succ),
+        13 => Action::Store(lock_index(local.curr), 0),
+        14 => Action::Store(lock_index(local.pred), 0),
+        _ => read_action(local),
+    }
+}
+
+/// Walks on where the key word is below that of the call, and else locks both nodes.
+fn at_key(local: &Local, seen: u64) -> Local
+    ensures { result ≡ at_key seen local.now }
+{
+    let pc = if seen < local.call.key().word() { 3 } else { 4 };
+    Local {
+        pc,
+        ckey: seen,
+        ..*local
+    }
+}
+
+/// Both nodes are given up, and the walk starts again.
+fn gives_up(local: &Local) -> Local
+    ensures { result ≡ gives_up local.now }
+{
+    Local {
+        pc: 13,
+        reply: None,
+        ..*local
+    }
+}
+
+/// The link of `pred` leads to `curr`, and has no mark.
+fn at_pred(local: &Local, seen: u64) -> Local
+    requires { IsSmall local.now }
+    ensures { result ≡ at_pred seen local.now }
+{
+    if seen == 2 * local.curr {
+        Local { pc: 7, ..*local }
+    } else {
+        gives_up(local)
+    }
+}
+
+/// Decides where `curr` has no mark.
+fn at_curr(local: &Local, seen: u64) -> Local
+    ensures { result ≡ at_curr seen local.now }
+{
+    if seen % 2 == 0 {
+        let local = Local {
+            succ: seen / 2,
+            ..*local
+        };
+        decide(TARGETS, local.ckey, local)
+    } else {
+        gives_up(local)
+    }
+}
+
+/// With the last lock given back the call answers, or walks again.
+fn released(local: &Local) -> Fed
+    ensures { result ≡ released local.now.reply local.now }
+{
+    match local.reply {
+        None => continued(Local { pc: 1, ..*local }),
+        Some(reply) => leaves_with(reply, *local),
+    }
+}
+
+fn fed_by(local: &Local, seen: u64) -> Fed
+    requires { IsSmall local.now }
+    ensures { result ≡ fed_by local.now seen }
+{
+    let next = match local.pc {
+        1 => Local {
+            pc: 2,
+            pred: HEAD,
+            curr: seen / 2,
+            ..*local
+        },
+        2 => at_key(local, seen),
+        3 => Local {
+            pc: 2,
+            pred: local.curr,
+            curr: seen / 2,
+            ..*local
+        },
+        4 if seen == 0 => Local { pc: 5, ..*local },
+        4 => Local { pc: 4, ..*local },
+        5 if seen == 0 => Local { pc: 6, ..*local },
+        5 => Local { pc: 5, ..*local },
+        6 => at_pred(local, seen),
+        7 => at_curr(local, seen),
+        8 => Local { pc: 9, ..*local },
+        9 => Local { pc: 10, ..*local },
+        10 => Local {
+            pc: 13,
+            reply: Some(Reply::True),
+            used: local.used + 1,
+            ..*local
+        },
+        11 => Local { pc: 12, ..*local },
+        12 => Local {
+            pc: 13,
+            reply: Some(Reply::True),
+            ..*local
+        },
+        13 => Local { pc: 14, ..*local },
+        14 => return released(local),
+        _ => return read_fed(local, seen),
+    };
+    continued(next)
+}
+
+impl Machine for LazyList {
+    const KIND: Kind = Kind::Lazy;
+
+    ghost KIND = { Lazy };
+
+    ghost table = { lazy };
+
+    fn begin(call: Call, local: &Local) -> Local {
+        begun_reading(call, local)
+    }
+
+    fn next(local: &Local) -> Action {
+        next_action(local)
+    }
+
+    fn feed(local: &Local, seen: u64) -> Fed {
+        fed_by(local, seen)
+    }
+
+    fn effect(local: &Local, _seen: u64) -> Option<(Key, bool)> {
+        match local.pc {
+            10 => Some((local.call.key(), true)),
+            11 => Some((local.call.key(), false)),
+            _ => None,
+        }
+    }
+
+    ghost lawful = { lazy_lawful };
+}
+
+impl OpenReads for LazyList {
+    ghost reads = { lazy_reads };
+
+    ghost walks = { lazy_walks };
+}
+
+#[cfg(test)]
+mod tests;

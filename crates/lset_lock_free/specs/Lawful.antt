@@ -1,0 +1,22 @@
+-- The law of every run of LockFreeList.
+use Rattle.std.specs.Prelude.{true}
+use Rattle.lset_steps.specs.Laws.{Lawful}
+use Rattle.lset_steps.specs.Discipline.{Discipline, lawful_of}
+use Rattle.lset_steps.specs.BoundedReads.{BoundedReads, WalksInChain}
+use Rattle.lset_steps.specs.ReadBound.{bounded_reads}
+use Rattle.lset_steps.specs.ReadWalk.{walks_in_chain}
+use Rattle.lset_steps.specs.Turns.{discipline_of, no_locks}
+use Rattle.lset_lock_free.specs.LockFree.{lock_free}
+use Rattle.lset_lock_free.specs.Outline.{At, lock_free_follows, has_read_rows, shows_reading}
+
+lock_free_keeps : Discipline lock_free true At
+lock_free_keeps = discipline_of lock_free (no_locks true) At lock_free_follows
+
+pub lock_free_lawful : Lawful lock_free
+lock_free_lawful = lawful_of lock_free At lock_free_keeps
+
+pub lock_free_reads : BoundedReads lock_free
+lock_free_reads = bounded_reads lock_free lock_free_lawful has_read_rows
+
+pub lock_free_walks : WalksInChain lock_free
+lock_free_walks = walks_in_chain lock_free At lock_free_keeps has_read_rows shows_reading

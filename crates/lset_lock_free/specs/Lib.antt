@@ -1,0 +1,3 @@
+pub mod LockFree
+pub mod Outline
+pub mod Lawful

@@ -1,0 +1,174 @@
+//! LockFreeList: nodes are marked and taken out by exchanges, one at a time (Herlihy and Shavit's lock-free list, after
+//! Harris and Michael).
+#![tactic(auto)]
+
+ghost use Rattle.std.specs.Prelude.{◌≡◌, ◌+◌, ◌≤◌};
+ghost use Rattle.lset_words.specs.declared.Kind.TheVariants.{LockFree};
+ghost use Rattle.lset_steps.specs.Rows.{IsSmall};
+ghost use Rattle.lset_lock_free.specs.LockFree.{lock_free, next_action, at_key, at_link, again, decision_of, fed_by, effect_of};
+ghost use Rattle.lset_lock_free.specs.Lawful.{lock_free_lawful, lock_free_reads, lock_free_walks};
+
+use lset_steps::reads::{begun_reading, continued, leaves_with, read_action, read_fed};
+use lset_steps::rows::{Targets, decide, key_index, link_index, own_slot};
+use lset_steps::{Action, Fed, Local, Machine, OpenReads};
+use lset_words::{Call, Key, Kind, Reply};
+
+/// The list without locks: a node is marked by an exchange of its link, and then taken out by an exchange of the link
+/// before it, by whoever comes by (Herlihy and Shavit's lock-free list, by this project's own table).
+#[derive(Clone, Copy, Debug, PartialEq, Eq)]
+pub struct LockFreeList;
+
+const HEAD: u64 = 0;
+
+/// The rows to which a call goes on from its decision; where it leaves, it answers at once.
+const TARGETS: Targets = Targets {
+    adds: 5,
+    removes: 8,
+    leaves: 0,
+};
+
+fn next_action(local: &Local) -> Action
+    requires { IsSmall local.now }
+    ensures { result ≡ next_action local.now }
+{
+    match local.pc {
+        1 => Action::Load(link_index(HEAD)),
+        2 | 8 => Action::Load(link_index(local.curr)),
+        3 | 10 => Action::Exchange(link_index(local.pred), 2 * local.curr, 2 * local.succ),
+        4 => Action::Load(key_index(local.curr)),
+        5 => Action::Store(key_index(own_slot(local)), local.call.key().word()),
+        6 => Action::Store(link_index(own_slot(local)), 2 * local.curr),
+        7 => Action::Exchange(link_index(local.pred), 2 * local.curr, 2 * own_slot(local)),
+        9 => Action::Exchange(link_index(local.curr), 2 * local.succ, 2 * local.succ + 1),
+        _ => read_action(local),
+    }
+}
+
+/// Goes on to the key of a node without a mark, and else to taking the node out.
+fn at_link(local: &Local, seen: u64) -> Fed
+    ensures { result ≡ at_link seen local.now }
+{
+    let pc = if seen % 2 == 0 { 4 } else { 3 };
+    continued(Local {
+        pc,
+        succ: seen / 2,
+        ..*local
+    })
+}
+
+/// From its decision a call goes on, or answers.
+fn decision_of(local: Local) -> Fed
+    ensures { result ≡ decision_of local }
+{
+    let answer = if local.pc == 0 { local.reply } else { None };
+    Fed { local, answer }
+}
+
+/// Walks on where the key word is below that of the call, and else decides.
+fn at_key(local: &Local, seen: u64) -> Fed
+    ensures { result ≡ at_key seen local.now }
+{
+    if seen < local.call.key().word() {
+        continued(Local {
+            pc: 2,
+            pred: local.curr,
+            curr: local.succ,
+            ..*local
+        })
+    } else {
+        decision_of(decide(TARGETS, seen, *local))
+    }
+}
+
+/// The walk starts again.
+fn again(local: &Local) -> Fed
+    ensures { result ≡ again local.now }
+{
+    continued(Local { pc: 1, ..*local })
+}
+
+fn fed_by(local: &Local, seen: u64) -> Fed
+    requires { IsSmall local.now }
+    ensures { result ≡ fed_by local.now seen }
+{
+    match local.pc {
+        1 => continued(Local {
+            pc: 2,
+            pred: HEAD,
+            curr: seen / 2,
+            ..*local
+        }),
+        2 => at_link(local, seen),
+        3 if seen == 2 * local.curr => continued(Local {
+            pc: 2,
+            curr: local.succ,
+            ..*local
+        }),
+        4 => at_key(local, seen),
+        5 => continued(Local { pc: 6, ..*local }),
+        6 => continued(Local { pc: 7, ..*local }),
+        7 if seen == 2 * local.curr => leaves_with(
+            Reply::True,
+            Local {
+                used: local.used + 1,
+                ..*local
+            },
+        ),
+        8 => continued(Local {
+            pc: 9,
+            succ: seen / 2,
+            ..*local
+        }),
+        9 if seen == 2 * local.succ => continued(Local { pc: 10, ..*local }),
+        3 | 7 | 9 => again(local),
+        10 => leaves_with(Reply::True, *local),
+        _ => read_fed(local, seen),
+    }
+}
+
+/// What a successful exchange changes.
+fn effect_of(local: &Local, seen: u64) -> Option<(Key, bool)>
+    requires { IsSmall local.now }
+    ensures { result ≡ effect_of local.now seen }
+{
+    match local.pc {
+        7 if seen == 2 * local.curr => Some((local.call.key(), true)),
+        9 if seen == 2 * local.succ => Some((local.call.key(), false)),
+        _ => None,
+    }
+}
+
+impl Machine for LockFreeList {
+    const KIND: Kind = Kind::LockFree;
+
+    ghost KIND = { LockFree };
+
+    ghost table = { lock_free };
+
+    fn begin(call: Call, local: &Local) -> Local {
+        begun_reading(call, local)
+    }
+
+    fn next(local: &Local) -> Action {
+        next_action(local)
+    }
+
+    fn feed(local: &Local, seen: u64) -> Fed {
+        fed_by(local, seen)
+    }
+
+    fn effect(local: &Local, seen: u64) -> Option<(Key, bool)> {
+        effect_of(local, seen)
+    }
+
+    ghost lawful = { lock_free_lawful };
+}
+
+impl OpenReads for LockFreeList {
+    ghost reads = { lock_free_reads };
+
+    ghost walks = { lock_free_walks };
+}
+
+#[cfg(test)]
+mod tests;
