@@ -1,13 +1,12 @@
 -- [Tools]: what `gen` makes of its values.
-use Rattle.std.specs.Prelude.{◌≡◌, ◌≢◌, ℕ, ◌<◌, List, length, slice_index, Option, Some, None, is_some, IsSome, option_and_then, slice_get, Result, Ok, Err}
-use Rattle.std.specs.Prelude.{if◌then◌else◌}
+use Rattle.std.specs.Prelude.{◌≡◌, ◌≢◌, ℕ, ◌<◌, List, length, slice_index, Option, option_and_then, slice_get, Result, Ok, Err}
 use Rattle.lset_words.specs.declared.Kind.{Kind}
 use Rattle.lset_steps.specs.Steps.{Table}
 use Rattle.lset_text.specs.Numbers.{number_in}
 use Rattle.lset_text.specs.Reading.{◌>>=◌, or_fail}
 use Rattle.lset_text.specs.Words.{kind_of}
 use Rattle.lset_schedule.specs.Drawing.{AreOfSeed}
-use Rattle.lset_schedule.specs.Generating.{IsAccepted, IsGenerated}
+use Rattle.lset_schedule.specs.Generating.{IsGenerated}
 use Rattle.lset_schedule.specs.Plan.{Plan, IsSchedule, schedule_text}
 use Rattle.lset_schedule.specs.declared.fault.GenFault.{GenFault}
 use Rattle.lset_schedule.specs.declared.fault.GenFault.TheVariants as generator
@@ -21,19 +20,15 @@ use Rattle.listset.specs.Tools.{Made}
 
 -- ---- what the values ask for
 
--- the kind, where its list is built
-abbrev pub if_built : Kind → Option Kind
-if_built kind = if is_some (table_of kind) then Some kind else None
-
--- the kind of a built list whose word the value with this index, from 0, is
+-- the kind whose word the value with this index, from 0, is
 abbrev pub kind_at : List (List ℕ) → ℕ → Option Kind
-kind_at values index = option_and_then if_built (option_and_then kind_of (slice_get values index))
+kind_at values index = option_and_then kind_of (slice_get values index)
 
 -- the number from the least to the greatest that the value with this index spells
 abbrev pub number_at : List (List ℕ) → ℕ → ℕ → ℕ → Option ℕ
 number_at values index low high = option_and_then (number_in low high) (slice_get values index)
 
--- What the values ask for, or the first of them that is missing or wrong. A list that is not built has no right word.
+-- What the values ask for, or the first of them that is missing or wrong.
 unfoldable pub request_of : List (List ℕ) → Result Request ValueName
 request_of values = do
   kind ← or_fail name.Kind (kind_at values 0)
@@ -57,15 +52,10 @@ pub record IsRequested (T : Table) (request : Request) (p : Plan) : Type 0 where
   -- they are the lines that the seed stands for
   pub drawn : AreOfSeed T request.threads request.quota request.calls request.keys request.seed p.lines
 
--- the schedule of a list that is built
-abbrev pub IsRequestedBy : Option Table → Request → Plan → Type 0
-IsRequestedBy None request p = ⊥
-IsRequestedBy (Some T) request p = IsRequested T request p
-
 -- what is made of a request: the text of a schedule as it asks for it, where memory is found; a wrong value is named
 abbrev pub Answers : Result Request ValueName → Made → Type 0
 Answers (Ok request) (Ok answer) =
-    (p : Plan) × IsRequestedBy (table_of request.kind) request p × (answer ≡ record { text = schedule_text p; status = 0 })
+    (p : Plan) × IsRequested (table_of request.kind) request p × (answer ≡ record { text = schedule_text p; status = 0 })
 Answers (Ok request) (Err t) = t ≡ Memory
 Answers (Err wrong) made = made ≡ Err (Bad wrong)
 
@@ -73,11 +63,6 @@ abbrev pub Generates : List (List ℕ) → Made → Type 0
 Generates values made = Answers (request_of values) made
 
 -- ---- what the functions on the way say
-
--- a request whose list is built, and whose numbers the generator takes
-pub record IsRequest (request : Request) : Type 0 where
-  pub built : IsSome (table_of request.kind)
-  pub accepted : IsAccepted request.threads request.quota request.keys
 
 -- of a schedule that is not generated
 abbrev pub of_generator : GenFault → Trouble

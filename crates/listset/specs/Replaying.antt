@@ -1,11 +1,9 @@
 -- [Tools]: what `replay` makes of an input.
-use Rattle.std.specs.Prelude.{◌≡◌, ℕ, ◌⊎◌, List, Option, Some, None, Result, Ok, Err}
-use Rattle.lset_steps.specs.Steps.{Table}
+use Rattle.std.specs.Prelude.{◌≡◌, ℕ, ◌⊎◌, List, Result, Ok, Err}
 use Rattle.lset_schedule.specs.declared.fault.ScheduleFault.{ScheduleFault}
 use Rattle.lset_schedule.specs.Plan.{Plan, IsSchedule, schedule_text}
 use Rattle.lset_schedule.specs.Reading.{reading}
 use Rattle.lset_replay.specs.declared.fault.ReplayFault.{ReplayFault}
-use Rattle.lset_replay.specs.declared.fault.ReplayFault.TheVariants as replay
 use Rattle.lset_replay.specs.Events.{events_of}
 use Rattle.lset_replay.specs.Reports.{ReportValue, IsReplay, IsRefusal, IsExplained, table_of}
 use Rattle.lset_replay.specs.Texts.{report_text}
@@ -13,27 +11,18 @@ use Rattle.listset.specs.declared.trouble.Trouble.{Trouble}
 use Rattle.listset.specs.Trouble.{of_schedule, of_replay}
 use Rattle.listset.specs.Tools.{Made, IsInputTrouble}
 
--- the report of a schedule, whose list is built
-abbrev pub IsReplayBy : Option Table → Plan → ReportValue → Type 0
-IsReplayBy None p r = ⊥
-IsReplayBy (Some T) p r = IsReplay T p r
-
--- why a schedule is not replayed
-abbrev pub IsRefusalBy : Option Table → Plan → ReplayFault → Type 0
-IsRefusalBy None p refusal = refusal ≡ replay.Kind
-IsRefusalBy (Some T) p refusal = IsRefusal T p.threads p.quota (events_of p) refusal
-
 -- The bytes are the text of a schedule, and this is the report of just its events, whose order explains its history and leaves its keys.
 pub record IsReported (bytes : List ℕ) (p : Plan) (r : ReportValue) : Type 0 where
   pub schedule : IsSchedule p
   pub text : bytes ≡ schedule_text p
-  pub replay : IsReplayBy (table_of p.kind) p r
+  pub replay : IsReplay (table_of p.kind) p r
   pub explained : IsExplained r
 
 -- the first fault of the text, or of the replay
 abbrev pub IsFirstFault : Result Plan ScheduleFault → Trouble → Type 0
 IsFirstFault (Err fault) t = t ≡ of_schedule fault
-IsFirstFault (Ok p) t = (refusal : ReplayFault) × (t ≡ of_replay refusal) × IsRefusalBy (table_of p.kind) p refusal
+IsFirstFault (Ok p) t =
+    (refusal : ReplayFault) × (t ≡ of_replay refusal) × IsRefusal (table_of p.kind) p.threads p.quota (events_of p) refusal
 
 -- what is made of the bytes of an input: the text of the report, or a trouble with the input, or its first fault
 abbrev pub Replays : List ℕ → Made → Type 0

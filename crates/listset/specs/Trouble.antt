@@ -39,13 +39,12 @@ of_schedule_line number schedule.Memory = Memory
 abbrev pub of_schedule : ScheduleFault → Trouble
 of_schedule fault = of_schedule_line fault.line fault.cause
 
--- of a schedule that is not replayed; a list that is not built is refused at the line that names it
+-- of a schedule that is not replayed
 abbrev pub of_replay : ReplayFault → Trouble
 of_replay (replay.NoThread number) = Line number line.NoThread
 of_replay (replay.Busy number) = Line number line.Busy
 of_replay (replay.Idle number) = Line number line.Idle
 of_replay replay.Memory = Memory
-of_replay replay.Kind = Line 2 (line.Schedule schedule.Kind)
 
 abbrev pub of_report_line : ℕ → ReportCause → Trouble
 of_report_line number report.Header = Line number (line.Report report.Header)

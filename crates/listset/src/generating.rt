@@ -3,7 +3,7 @@ ghost use Rattle.lset_schedule.specs.Generating.{IsAccepted};
 ghost use Rattle.lset_schedule.specs.Plan.{view};
 ghost use Rattle.lset_replay.specs.Reports.{table_of};
 ghost use Rattle.lset_schedule.specs.declared.fault.GenFault.TheVariants.{Memory};
-ghost use Rattle.listset.specs.Generating.{of_generator, Generates, IsRequest, IsRequested, IsRequestedBy};
+ghost use Rattle.listset.specs.Generating.{of_generator, Generates, IsRequested};
 ghost use Rattle.listset.specs.Tools.{Ends};
 ghost use Rattle.listset.specs.Tools as tools;
 ghost use Rattle.listset.specs.declared.trouble.Trouble.TheVariants.{Bad};
@@ -13,6 +13,9 @@ use crate::trouble::{Trouble, ValueName};
 use crate::values::{Request, read_request};
 use lset_coarse::CoarseList;
 use lset_fine::FineList;
+use lset_lazy::LazyList;
+use lset_lock_free::LockFreeList;
+use lset_optimistic::OptimisticList;
 use lset_schedule::{GenFault, Schedule, generate, write_schedule};
 use lset_steps::Machine;
 use lset_words::Kind;
@@ -59,13 +62,15 @@ fn schedule_by<M: Machine>(alloc: Global, request: Request) -> Result<Schedule, 
 
 /// A schedule of the list that the request names.
 fn schedule_for(alloc: Global, request: Request) -> Result<Schedule, GenFault>
-    requires { IsRequest request }
-    ensures { MatchResult result (λ s. IsRequestedBy (table_of request.kind) request (view s)) (λ fault. fault ≡ Memory) }
+    requires { IsAccepted request.threads request.quota request.keys }
+    ensures { MatchResult result (λ s. IsRequested (table_of request.kind) request (view s)) (λ fault. fault ≡ Memory) }
 {
     match request.kind {
         Kind::Coarse => schedule_by::<CoarseList>(alloc, request),
         Kind::Fine => schedule_by::<FineList>(alloc, request),
-        Kind::Optimistic | Kind::Lazy | Kind::LockFree => unreachable!(),
+        Kind::Optimistic => schedule_by::<OptimisticList>(alloc, request),
+        Kind::Lazy => schedule_by::<LazyList>(alloc, request),
+        Kind::LockFree => schedule_by::<LockFreeList>(alloc, request),
     }
 }
 
@@ -81,7 +86,7 @@ fn generated(alloc: Global, values: &[String]) -> Result<Answer, Trouble>
 /// Generates the schedule that the values ask for, which are KIND THREADS QUOTA CALLS KEYS SEED in this
 /// order: writes its text on the output, or one line about the first wrong value on `faults`, and gives the
 /// exit status: 0 where the schedule was written, 2 where a value is wrong, 3 where memory was refused, else 1.
-/// KIND is the word for a list that is built; numbers are decimals without leading zeros, THREADS 1 to 64,
+/// KIND is the word for a list; numbers are decimals without leading zeros, THREADS 1 to 64,
 /// QUOTA 0 to 16,384, CALLS 0 to 10,000, KEYS 1 to 4,294,967,295, SEED 0 to 2^64 - 1. A value that is missing
 /// is a wrong one, and values past the last are not looked at. A failing write on `faults` leaves the status as
 /// it is.

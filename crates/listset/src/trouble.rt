@@ -87,7 +87,6 @@ impl From<ScheduleFault> for Trouble {
     }
 }
 
-/// A list that is not built is refused at the line that names it.
 impl From<ReplayFault> for Trouble {
     ghost from_gives = { λ e t. t ≡ of_replay e };
 
@@ -97,7 +96,6 @@ impl From<ReplayFault> for Trouble {
             ReplayFault::Busy(line) => Trouble::Line(line, LineCause::Busy),
             ReplayFault::Idle(line) => Trouble::Line(line, LineCause::Idle),
             ReplayFault::Memory => Trouble::Memory,
-            ReplayFault::Kind => Trouble::Line(2, LineCause::Schedule(Cause::Kind)),
         }
     }
 }

@@ -1,7 +1,7 @@
-ghost use Rattle.std.specs.Prelude.{◌≡◌, ◌≤◌, ◌↔◌, IsTrue, IfOk, IfSome, IsSome, is_some, map, string_bytes};
+ghost use Rattle.std.specs.Prelude.{◌≡◌, ◌≤◌, ◌↔◌, IsTrue, IfOk, IfSome, map, string_bytes};
 ghost use Rattle.lset_text.specs.Numbers.{number_in};
-ghost use Rattle.lset_replay.specs.Reports.{table_of};
-ghost use Rattle.listset.specs.Generating.{IsPlain, IsRequest, kind_at, number_at, request_of};
+ghost use Rattle.lset_schedule.specs.Generating.{IsAccepted};
+ghost use Rattle.listset.specs.Generating.{IsPlain, kind_at, number_at, request_of};
 
 use crate::trouble::ValueName;
 use lset_text::{number, read_kind};
@@ -11,7 +11,7 @@ use lset_words::Kind;
 /// they are drawn.
 #[derive(Clone, Copy, Debug, PartialEq, Eq)]
 pub struct Request {
-    /// The list, which is built.
+    /// The list.
     pub kind: Kind,
     /// 1 to 64.
     pub threads: u32,
@@ -24,22 +24,10 @@ pub struct Request {
     pub seed: u64,
 }
 
-/// Whether the list of a kind is built.
-fn is_built(kind: Kind) -> bool
-    ensures { result ≡ is_some (table_of kind) }
-{
-    match kind {
-        Kind::Coarse | Kind::Fine => true,
-        Kind::Optimistic | Kind::Lazy | Kind::LockFree => false,
-    }
-}
-
 fn kind_at(values: &[String], index: usize) -> Option<Kind>
-    ensures value { result ≡ kind_at (map string_bytes values.now) index }
-    ensures built { IfSome result (λ kind. IsSome (table_of kind)) }
+    ensures { result ≡ kind_at (map string_bytes values.now) index }
 {
-    let kind = read_kind(values.get(index)?.as_bytes())?;
-    if is_built(kind) { Some(kind) } else { None }
+    read_kind(values.get(index)?.as_bytes())
 }
 
 /// The number from `low` to `high` that the value with this index spells, without leading zeros.
@@ -76,11 +64,11 @@ fn seed_at(values: &[String], index: usize) -> Option<u64>
 
 /// What the values ask for, in the order KIND, THREADS, QUOTA, CALLS, KEYS, SEED, with the ranges of
 /// `Request`; numbers are decimals without leading zeros. The error names the first value that is missing or
-/// wrong, and a list that is not built is a wrong KIND. Values past the last are not looked at.
+/// wrong. Values past the last are not looked at.
 #[tactic(auto, unfolding(crate::specs::Generating::request_of))]
 pub fn read_request(values: &[String]) -> Result<Request, ValueName>
     ensures value { result ≡ request_of (map string_bytes values.now) }
-    ensures known { IfOk result IsRequest }
+    ensures known { IfOk result (λ request. IsAccepted request.threads request.quota request.keys) }
 {
     let kind = kind_at(values, 0).ok_or(ValueName::Kind)?;
     let threads = number_at(values, 1, 1, 64).ok_or(ValueName::Threads)?;

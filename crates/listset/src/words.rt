@@ -57,7 +57,11 @@ fn gen_command<'a>(alloc: Global) -> Result<Command<'a>, AllocError>
     Command::new(alloc, "gen")
         .about("Prints a random schedule; the same values give the same schedule")
         .override_usage("listset gen KIND THREADS QUOTA CALLS KEYS SEED")
-        .arg(value(alloc, "KIND", "The list: coarse or fine"))?
+        .arg(value(
+            alloc,
+            "KIND",
+            "The list: coarse, fine, optimistic, lazy or lock-free",
+        ))?
         .arg(value(alloc, "THREADS", "How many threads: 1 to 64"))?
         .arg(value(
             alloc,

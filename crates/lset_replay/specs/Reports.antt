@@ -1,5 +1,5 @@
 -- [Replay]: what a report tells of a schedule, and which event of a schedule is refused.
-use Rattle.std.specs.Prelude.{◌≡◌, ℕ, ◌<◌, List, map, length, Option, Some, None, Result, Ok, Err}
+use Rattle.std.specs.Prelude.{◌≡◌, ℕ, ◌<◌, List, map, length, Result, Ok, Err}
 use Rattle.std.specs.List.Sorted.{IsStrictlyIncreasing}
 use Rattle.lset_words.specs.declared.Kind.{Kind}
 use Rattle.lset_words.specs.declared.Kind.TheVariants as kind
@@ -18,6 +18,9 @@ use Rattle.lset_steps.specs.Worlds.{WorldState, Refused, IsContent}
 use Rattle.lset_steps.specs.RunAccount.{contents_at, counts_at}
 use Rattle.lset_coarse.specs.Coarse.{coarse}
 use Rattle.lset_fine.specs.Fine.{fine}
+use Rattle.lset_optimistic.specs.Optimistic.{optimistic}
+use Rattle.lset_lazy.specs.Lazy.{lazy}
+use Rattle.lset_lock_free.specs.LockFree.{lock_free}
 use Rattle.lset_history.specs.History.{HistoryValue}
 use Rattle.lset_schedule.specs.Plan.{Plan}
 use Rattle.lset_replay.specs.declared.events.LineEvent.{LineEvent}
@@ -36,13 +39,13 @@ pub record ReportValue : Type 0 where
 abbrev pub view : Report → ReportValue
 view r = record { kind = r.kind; history = r.history; order = r.order.items; keys = r.keys.items }
 
--- the machine of each list that is built
-abbrev pub table_of : Kind → Option Table
-table_of kind.Coarse = Some coarse
-table_of kind.Fine = Some fine
-table_of kind.Optimistic = None
-table_of kind.Lazy = None
-table_of kind.LockFree = None
+-- the machine of each list
+abbrev pub table_of : Kind → Table
+table_of kind.Coarse = coarse
+table_of kind.Fine = fine
+table_of kind.Optimistic = optimistic
+table_of kind.Lazy = lazy
+table_of kind.LockFree = lock_free
 
 -- The run of these events, and what is told of it:
 pub record IsReportOf (T : Table) (threads quota : ℕ) (events : List Event)
@@ -82,7 +85,6 @@ IsRefusal T threads quota events (fault.NoThread line) = IsFirstRefused T thread
 IsRefusal T threads quota events (fault.Busy line) = IsFirstRefused T threads quota events line step.Busy
 IsRefusal T threads quota events (fault.Idle line) = IsFirstRefused T threads quota events line step.Idle
 IsRefusal T threads quota events fault.Memory = Unit {0}
-IsRefusal T threads quota events fault.Kind = ⊥
 
 -- the report of a schedule
 pub record IsReplay (T : Table) (p : Plan) (r : ReportValue) : Type 0 where
@@ -91,14 +93,10 @@ pub record IsReplay (T : Table) (p : Plan) (r : ReportValue) : Type 0 where
   pub quota_is : r.history.quota ≡ p.quota
   pub report : IsReportOf T p.threads p.quota (only_events (events_of p)) r.history.calls r.order r.keys
 
--- what a replay by a machine answers; where the list is not built, that and nothing else
-abbrev pub ReplaysBy : Table → Plan → Result Report ReplayFault → Type 0
-ReplaysBy T p (Ok r) = IsReplay T p (view r)
-ReplaysBy T p (Err refusal) = IsRefusal T p.threads p.quota (events_of p) refusal
-
-abbrev pub Replays : Option Table → Plan → Result Report ReplayFault → Type 0
-Replays (Some T) p result = ReplaysBy T p result
-Replays None p result = result ≡ Err fault.Kind
+-- what a replay by a machine answers
+abbrev pub Replays : Table → Plan → Result Report ReplayFault → Type 0
+Replays T p (Ok r) = IsReplay T p (view r)
+Replays T p (Err refusal) = IsRefusal T p.threads p.quota (events_of p) refusal
 
 -- [Headline]: one order explains the history, and leaves the keys.
 pub record IsExplained (r : ReportValue) : Type 0 where

@@ -20,9 +20,6 @@ pub enum ReplayFault {
     /// There was no memory for the replay.
     #[error("out of memory")]
     Memory,
-    /// The list is not built yet.
-    #[error("the list is not built yet")]
-    Kind,
 }
 
 impl From<AllocError> for ReplayFault {

@@ -1,7 +1,7 @@
 ghost use Rattle.std.specs.Prelude.{◌≡◌, ◌≤◌, length, IfOk};
 ghost use Rattle.lset_schedule.specs.Plan.{IsSchedule, view};
 ghost use Rattle.lset_replay.specs.Follows.{HasFollowed, FollowsAll};
-ghost use Rattle.lset_replay.specs.Reports.{table_of, Replays, ReplaysBy, IsExplained, fault_at};
+ghost use Rattle.lset_replay.specs.Reports.{table_of, Replays, IsExplained, fault_at};
 ghost use Rattle.lset_replay.specs.Reports as report;
 
 use crate::events::{LineEvent, events_of};
@@ -10,6 +10,9 @@ use crate::recorder::Recorder;
 use crate::{ReplayFault, Report};
 use lset_coarse::CoarseList;
 use lset_fine::FineList;
+use lset_lazy::LazyList;
+use lset_lock_free::LockFreeList;
+use lset_optimistic::OptimisticList;
 use lset_schedule::Schedule;
 use lset_steps::{Machine, StepFault, World};
 use lset_words::{Kind, layout};
@@ -46,7 +49,7 @@ fn follow_all<M: Machine>(
 /// Replays a schedule on the list of the machine `M`.
 fn replay_on<M: Machine>(alloc: Global, schedule: &Schedule) -> Result<Report, ReplayFault>
     requires { IsSchedule (view schedule.now) }
-    ensures replays { ReplaysBy M.table (view schedule.now) result }
+    ensures replays { Replays M.table (view schedule.now) result }
     ensures explained { IfOk result (λ r. IsExplained (report.view r)) }
 {
     let Ok(layout) = layout(schedule.threads, schedule.quota) else {
@@ -69,8 +72,7 @@ fn replay_on<M: Machine>(alloc: Global, schedule: &Schedule) -> Result<Report, R
 /// Replays a schedule on the list of its kind, one event after another. The schedule is within its limits, as
 /// what `read_schedule` gives: 1 to 64 threads, a quota of 0 to 16,384, and at most 10,000 events.
 ///
-/// `ReplayFault::Kind` where the list is not built yet, before any event. Else, at the first event that is
-/// not enabled, with the number of its line: `NoThread` where there is no such thread, `Busy` where a thread
+/// It is refused at the first event that is not enabled, with the number of its line: `NoThread` where there is no such thread, `Busy` where a thread
 /// begins a call and has one open, `Idle` where a thread makes a step and has no call open. `Memory` where a
 /// growth was refused. The order of the report has each call that changed the set at the event that did,
 /// also while it is open, and each other ended call at its least moment that its reply fits. (Herlihy and
@@ -83,6 +85,8 @@ pub fn replay(alloc: Global, schedule: &Schedule) -> Result<Report, ReplayFault>
     match schedule.kind {
         Kind::Coarse => replay_on::<CoarseList>(alloc, schedule),
         Kind::Fine => replay_on::<FineList>(alloc, schedule),
-        Kind::Optimistic | Kind::Lazy | Kind::LockFree => Err(ReplayFault::Kind),
+        Kind::Optimistic => replay_on::<OptimisticList>(alloc, schedule),
+        Kind::Lazy => replay_on::<LazyList>(alloc, schedule),
+        Kind::LockFree => replay_on::<LockFreeList>(alloc, schedule),
     }
 }

@@ -71,6 +71,67 @@ const FINE_ENDS: Example = Example {
         place 0 true\nplace 1 true\nplace 2 true\nplace 3 true\nplace 4 true\nplace 5 true\nend\n",
 };
 
+/// The same calls on an optimistic list.
+const OPTIMISTIC_ENDS: Example = Example {
+    header: "list optimistic\nthreads 1\nquota 2\n",
+    events: "begin 0 add 0\ngo 0 10\n\
+        begin 0 add 4294967295\ngo 0 14\n\
+        begin 0 contains 0\ngo 0 7\n\
+        begin 0 contains 4294967295\ngo 0 11\n\
+        begin 0 remove 0\ngo 0 9\n\
+        begin 0 remove 4294967295\ngo 0 9\n",
+    report: "call 0 0 add 0 1 11 true\n\
+        call 1 0 add 4294967295 12 26 true\n\
+        call 2 0 contains 0 27 34 true\n\
+        call 3 0 contains 4294967295 35 46 true\n\
+        call 4 0 remove 0 47 56 true\n\
+        call 5 0 remove 4294967295 57 66 true\n\
+        place 0 true\nplace 1 true\nplace 2 true\nplace 3 true\nplace 4 true\nplace 5 true\nend\n",
+};
+
+/// The same calls on a lazy list.
+const LAZY_ENDS: Example = Example {
+    header: "list lazy\nthreads 1\nquota 2\n",
+    events: "begin 0 add 0\ngo 0 11\nbegin 0 add 4294967295\ngo 0 13\nbegin 0 contains 0\n\
+        go 0 3\nbegin 0 contains 4294967295\ngo 0 5\nbegin 0 remove 0\ngo 0 10\n\
+        begin 0 remove 4294967295\ngo 0 10\n",
+    report: "call 0 0 add 0 1 12 true\ncall 1 0 add 4294967295 13 26 true\n\
+        call 2 0 contains 0 27 30 true\ncall 3 0 contains 4294967295 31 36 true\n\
+        call 4 0 remove 0 37 47 true\ncall 5 0 remove 4294967295 48 58 true\nplace 0 true\n\
+        place 1 true\nplace 2 true\nplace 3 true\nplace 4 true\nplace 5 true\nend\n",
+};
+
+/// The same calls on a list without locks.
+const LOCK_FREE_ENDS: Example = Example {
+    header: "list lock-free\nthreads 1\nquota 2\n",
+    events: "begin 0 add 0\ngo 0 6\nbegin 0 add 4294967295\ngo 0 8\nbegin 0 contains 0\ngo 0 3\n\
+        begin 0 contains 4294967295\ngo 0 5\nbegin 0 remove 0\ngo 0 6\n\
+        begin 0 remove 4294967295\ngo 0 6\n",
+    report: "call 0 0 add 0 1 7 true\ncall 1 0 add 4294967295 8 16 true\n\
+        call 2 0 contains 0 17 20 true\ncall 3 0 contains 4294967295 21 26 true\n\
+        call 4 0 remove 0 27 33 true\ncall 5 0 remove 4294967295 34 40 true\nplace 0 true\n\
+        place 1 true\nplace 2 true\nplace 3 true\nplace 4 true\nplace 5 true\nend\n",
+};
+
+/// An add on an optimistic list, whose first node is unlinked before it is locked.
+const UNLINKED_BEFORE: Example = Example {
+    header: "list optimistic\nthreads 2\nquota 4\n",
+    events: "begin 1 add 3\ngo 1 10\nbegin 0 add 5\ngo 0 4\nbegin 1 remove 3\ngo 1 9\ngo 0 16\n",
+    report: "call 0 1 add 3 1 11 true\n\
+        call 1 0 add 5 12 42 true\n\
+        call 2 1 remove 3 17 26 true\n\
+        place 0 true\nplace 2 true\nplace 1 true\nkey 5\nend\n",
+};
+
+/// An add on an optimistic list, whose first node stays in the chain and leads to another before it is locked.
+const PARTED_BEFORE: Example = Example {
+    header: "list optimistic\nthreads 2\nquota 4\n",
+    events: "begin 0 add 5\ngo 0 2\nbegin 1 add 4\ngo 1 10\ngo 0 19\n",
+    report: "call 0 0 add 5 1 33 true\n\
+        call 1 1 add 4 4 14 true\n\
+        place 1 true\nplace 0 true\nkey 4\nkey 5\nend\n",
+};
+
 /// A fine list of two threads without a slot, and no event.
 const NO_EVENT: Example = Example {
     header: "list fine\nthreads 2\nquota 0\n",
@@ -88,6 +149,78 @@ const HAND_OVER_HAND: Example = Example {
         place 0 true\nplace 1 true\nplace 2 true\nkey 5\nend\n",
 };
 
+/// A remove that has marked its node and has not taken it out.
+const MARKED: Example = Example {
+    header: "list lazy\nthreads 1\nquota 1\n",
+    events: "begin 0 add 5\ngo 0 11\nbegin 0 remove 5\ngo 0 7\n",
+    report: "call 0 0 add 5 1 12 true\ncall 1 0 remove 5 13 open\nplace 0 true\nplace 1 true\n\
+        end\n",
+};
+
+/// Two removes of a key on a lazy list.
+const LAZY_REMOVES: Example = Example {
+    header: "list lazy\nthreads 2\nquota 1\n",
+    events: "begin 0 add 5\ngo 0 11\nbegin 0 remove 5\nbegin 1 remove 5\ngo 0 4\ngo 1 4\ngo 0 6\n\
+        go 1 13\n",
+    report: "call 0 0 add 5 1 12 true\ncall 1 0 remove 5 13 28 true\n\
+        call 2 1 remove 5 14 41 false\nplace 0 true\nplace 1 true\nplace 2 false\nend\n",
+};
+
+/// A contains on a lazy list that fits between two steps of another thread alone.
+const LAZY_READ: Example = Example {
+    header: "list lazy\nthreads 2\nquota 4\n",
+    events: "begin 1 add 5\ngo 1 11\nbegin 0 contains 5\ngo 0 2\nbegin 1 remove 5\ngo 1 10\n\
+        begin 1 add 5\ngo 1 11\ngo 0 1\n",
+    report: "call 0 1 add 5 1 12 true\ncall 1 0 contains 5 13 39 false\n\
+        call 2 1 remove 5 16 26 true\ncall 3 1 add 5 27 38 true\nplace 0 true\n\
+        place 2 true\nplace 1 false\nplace 3 true\nkey 5\nend\n",
+};
+
+/// The same on a list without locks.
+const LOCK_FREE_READ: Example = Example {
+    header: "list lock-free\nthreads 2\nquota 4\n",
+    events: "begin 1 add 5\ngo 1 6\nbegin 0 contains 5\ngo 0 2\nbegin 1 remove 5\ngo 1 6\n\
+        begin 1 add 5\ngo 1 6\ngo 0 1\n",
+    report: "call 0 1 add 5 1 7 true\ncall 1 0 contains 5 8 25 false\n\
+        call 2 1 remove 5 11 17 true\ncall 3 1 add 5 18 24 true\nplace 0 true\n\
+        place 2 true\nplace 1 false\nplace 3 true\nkey 5\nend\n",
+};
+
+/// Two removes that have both read the link without a mark.
+const LOCK_FREE_REMOVES: Example = Example {
+    header: "list lock-free\nthreads 2\nquota 1\n",
+    events: "begin 0 add 5\ngo 0 6\nbegin 0 remove 5\nbegin 1 remove 5\ngo 0 4\ngo 1 4\ngo 0 2\n\
+        go 1 4\n",
+    report: "call 0 0 add 5 1 7 true\ncall 1 0 remove 5 8 19 true\ncall 2 1 remove 5 9 23 false\n\
+        place 0 true\nplace 1 true\nplace 2 false\nend\n",
+};
+
+/// An add behind a marked node, which it takes out.
+const TAKEN_OUT: Example = Example {
+    header: "list lock-free\nthreads 2\nquota 2\n",
+    events: "begin 1 add 3\ngo 1 6\nbegin 0 add 5\ngo 0 7\nbegin 1 remove 3\ngo 1 5\ngo 0 9\n\
+        go 1 1\n",
+    report: "call 0 1 add 3 1 7 true\ncall 1 0 add 5 8 30 true\ncall 2 1 remove 3 16 31 true\n\
+        place 0 true\nplace 2 true\nplace 1 true\nkey 5\nend\n",
+};
+
+/// An add of a thread without a slot.
+const NO_SLOT: Example = Example {
+    header: "list lock-free\nthreads 1\nquota 0\n",
+    events: "begin 0 add 5\ngo 0 3\n",
+    report: "call 0 0 add 5 1 4 full\nplace 0 full\nend\n",
+};
+
+/// A thread with one slot, which it uses once.
+const ONE_SLOT: Example = Example {
+    header: "list lock-free\nthreads 1\nquota 1\n",
+    events: "begin 0 add 5\ngo 0 6\nbegin 0 add 5\ngo 0 3\nbegin 0 remove 5\ngo 0 6\n\
+        begin 0 add 5\ngo 0 3\n",
+    report: "call 0 0 add 5 1 7 true\ncall 1 0 add 5 8 11 false\ncall 2 0 remove 5 12 18 true\n\
+        call 3 0 add 5 19 22 full\nplace 0 true\nplace 1 false\nplace 2 true\nplace 3 full\n\
+        end\n",
+};
+
 #[test]
 fn schedules_and_their_reports(rt: HostRuntime) -> Result<(), Fail> {
     let examples = [
@@ -96,8 +229,21 @@ fn schedules_and_their_reports(rt: HostRuntime) -> Result<(), Fail> {
         OPEN_CALL,
         COARSE_ENDS,
         FINE_ENDS,
+        OPTIMISTIC_ENDS,
+        LAZY_ENDS,
+        LOCK_FREE_ENDS,
         NO_EVENT,
         HAND_OVER_HAND,
+        UNLINKED_BEFORE,
+        PARTED_BEFORE,
+        MARKED,
+        LAZY_REMOVES,
+        LAZY_READ,
+        LOCK_FREE_READ,
+        LOCK_FREE_REMOVES,
+        TAKEN_OUT,
+        NO_SLOT,
+        ONE_SLOT,
     ];
     for example in examples {
         let Example {
@@ -136,9 +282,15 @@ fn refused_events(rt: HostRuntime) -> Result<(), Fail> {
         ("coarse", 1, "begin 0 add 5\ngo 0 8\n", ReplayFault::Idle(6)),
         ("fine", 1, "begin 0 add 5\ngo 0 10\n", ReplayFault::Idle(6)),
         ("fine", 2, "go 2 1\n", ReplayFault::NoThread(5)),
-        ("optimistic", 1, "go 0 1\n", ReplayFault::Kind),
-        ("lazy", 1, "go 0 1\n", ReplayFault::Kind),
-        ("lock-free", 1, "", ReplayFault::Kind),
+        (
+            "optimistic",
+            1,
+            "begin 0 add 5\ngo 0 11\n",
+            ReplayFault::Idle(6),
+        ),
+        ("optimistic", 2, "go 2 1\n", ReplayFault::NoThread(5)),
+        ("lazy", 1, "go 0 1\n", ReplayFault::Idle(5)),
+        ("lock-free", 2, "go 2 1\n", ReplayFault::NoThread(5)),
     ];
     for (kind, threads, lines, fault) in rows {
         let text = format!(in rt.alloc();

@@ -32,6 +32,7 @@ fn texts_are_written_back_also_where_replay_refuses_them(rt: HostRuntime) -> Res
         ADD,
         PASSING,
         "listset-schedule 1\nlist fine\nthreads 2\nquota 0\n",
+        "listset-schedule 1\nlist optimistic\nthreads 1\nquota 4\nbegin 0 add 5\ngo 0 10\n",
         "listset-schedule 1\nlist coarse\nthreads 1\nquota 4\ngo 0 1\n",
         "listset-schedule 1\nlist coarse\nthreads 1\nquota 4\nbegin 0 add 5\nbegin 0 add 6\n",
         "listset-schedule 1\nlist coarse\nthreads 64\nquota 4\nbegin 64 add 5\n",

@@ -64,6 +64,18 @@ fn a_schedule_without_calls_is_its_header(rt: HostRuntime) -> Result<(), Fail> {
             "listset-schedule 1\nlist fine\nthreads 2\nquota 4\n",
         ),
         (
+            ["optimistic", "2", "4", "0", "8", "1"],
+            "listset-schedule 1\nlist optimistic\nthreads 2\nquota 4\n",
+        ),
+        (
+            ["lazy", "2", "4", "0", "8", "1"],
+            "listset-schedule 1\nlist lazy\nthreads 2\nquota 4\n",
+        ),
+        (
+            ["lock-free", "2", "4", "0", "8", "1"],
+            "listset-schedule 1\nlist lock-free\nthreads 2\nquota 4\n",
+        ),
+        (
             ["fine", "1", "0", "0", "1", "0"],
             "listset-schedule 1\nlist fine\nthreads 1\nquota 0\n",
         ),
@@ -94,7 +106,7 @@ fn a_wrong_value_is_named(rt: HostRuntime) -> Result<(), Fail> {
         (
             0,
             "KIND",
-            ["", "skip", "Fine", "fine ", "lazy", "lock-free"],
+            ["", "skip", "Fine", "fine ", "lock_free", "lockfree"],
         ),
         (1, "THREADS", ["", "0", "65", "02", "+1", "4294967297"]),
         (2, "QUOTA", ["", "16385", "04", "+4", "-4", "four"]),
@@ -144,7 +156,7 @@ fn the_first_wrong_or_missing_value_is_named(rt: HostRuntime) -> Result<(), Fail
 
 #[test]
 fn the_seed_alone_chooses_among_schedules(rt: HostRuntime) -> Result<(), Fail> {
-    for kind in ["coarse", "fine"] {
+    for kind in ["coarse", "fine", "optimistic", "lazy", "lock-free"] {
         let first = gen_run(rt.alloc(), &[kind, "2", "4", "50", "8", "1"])?;
         let again = gen_run(rt.alloc(), &[kind, "2", "4", "50", "8", "1"])?;
         let longer = gen_run(rt.alloc(), &[kind, "2", "4", "50", "8", "1", "0", ""])?;
@@ -160,7 +172,7 @@ fn the_seed_alone_chooses_among_schedules(rt: HostRuntime) -> Result<(), Fail> {
 
 #[test]
 fn a_generated_schedule_is_replayed(rt: HostRuntime) -> Result<(), Fail> {
-    for kind in ["coarse", "fine"] {
+    for kind in ["coarse", "fine", "optimistic", "lazy", "lock-free"] {
         for seed in ["0", "1", "2", "3", "18446744073709551615"] {
             let run = gen_run(rt.alloc(), &[kind, "2", "4", "50", "8", seed])?;
             assert!(rt; count_lines(&run.output, "begin ")? > 0, "{kind} {seed}");
@@ -177,7 +189,7 @@ fn a_generated_schedule_is_replayed(rt: HostRuntime) -> Result<(), Fail> {
 
 #[test]
 fn all_calls_of_one_thread_are_begun_and_ended(rt: HostRuntime) -> Result<(), Fail> {
-    for kind in ["coarse", "fine"] {
+    for kind in ["coarse", "fine", "optimistic", "lazy", "lock-free"] {
         let run = gen_run(rt.alloc(), &[kind, "1", "60", "50", "8", "1"])?;
         assert_eq!(rt; count_lines(&run.output, "begin ")?, 50, "{kind}");
         let mut input = run.output.as_slice();

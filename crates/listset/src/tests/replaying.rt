@@ -41,10 +41,6 @@ fn what_is_refused_gets_one_line(rt: HostRuntime) -> Result<(), Fail> {
         ("", "listset: line 1: Header\n"),
         ("listset-schedule 1\nlist skip\n", "listset: line 2: Kind\n"),
         (
-            "listset-schedule 1\nlist lazy\nthreads 1\nquota 4\n",
-            "listset: line 2: Kind\n",
-        ),
-        (
             "listset-schedule 1\nlist coarse\nthreads 65\n",
             "listset: line 3: Threads\n",
         ),
