@@ -1,27 +1,15 @@
 //! Replays, checks and generates recorded schedules of concurrent list sets.
 #![tactic(auto)]
 
-mod answer;
-mod checking;
-mod generating;
-mod replaying;
-mod streams;
 #[cfg(test)]
 mod tests;
-mod trouble;
-mod values;
-mod words;
 
-use answer::deliver;
-use checking::tool_check;
 use clap::Error;
-use generating::tool_gen;
-use replaying::tool_replay;
+use lset_tools::{Trouble, deliver, tool_check, tool_gen, tool_replay};
+use lset_command::{Words, is_out_of_memory, tool_words};
 use std::fs::File;
 use std::io::{self, Read};
 use std::process::ExitCode;
-use trouble::Trouble;
-use words::{Words, is_out_of_memory, tool_words};
 
 /// Ends the program with a line about a trouble before any tool has begun.
 fn end_with(rt: &HostRuntime, trouble: Trouble) -> u8 {

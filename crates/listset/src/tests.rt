@@ -1,6 +1,1 @@
-mod checking;
-mod devices;
 mod files;
-mod generating;
-mod replaying;
-mod words;

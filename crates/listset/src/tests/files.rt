@@ -1,5 +1,5 @@
 use crate::run;
-use crate::words::Words;
+use lset_command::Words;
 use std::fs;
 use std::test::Fail;
 

@@ -1,0 +1,16 @@
+use Rattle.std.proofs.Common.{◌∙◌, ap, codes, true}
+use Rattle.std.proofs.lemmas.Result.{IfOk-weaker}
+use Rattle.clap.specs.Words.{new_app}
+use Rattle.clap.specs.Simple.{on_top}
+use Rattle.lset_command.proofs.Commands.{IsApp, IsApp-subcommand, app_of_fields-same}
+use Rattle.lset_command.proofs.words.command.Goals as goal
+
+pub returns : goal.returns
+returns c =
+    let named : IsApp c.about.result (new_app (codes "listset")) = (app_of_fields-same c.about.ensures ∙ c.new.ensures.app, ap (λ f. f.has_globals) c.about.ensures ∙ c.new.ensures.local) in
+    let begun : IsApp c.no_binary_name.result _ = (app_of_fields-same c.no_binary_name.ensures ∙ ap (on_top (λ s. record s { no_binary_name = true })) named.0, ap (λ f. f.has_globals) c.no_binary_name.ensures ∙ named.1) in
+    let program : IsApp c.in_ok-bin_name.field-0 _ = (app_of_fields-same c.in_ok-bin_name.ensures.0 ∙ begun.0, ap (λ f. f.has_globals) c.in_ok-bin_name.ensures.0 ∙ begun.1) in
+    let replay = IsApp-subcommand c.in_ok-subcommand.ensures program (c.in_ok-replay.ensures.app, c.in_ok-replay.ensures.local) in
+    let check = IsApp-subcommand c.in_ok-subcommand-2.ensures replay (c.in_ok-check.ensures.app, c.in_ok-check.ensures.local) in
+    let gen : IsApp c.in_ok-gen_command.field-0 _ = (c.in_ok-gen_command.ensures.app, c.in_ok-gen_command.ensures.local) in
+    IfOk-weaker c.subcommand-3.result _ _ (λ r adds. (IsApp-subcommand adds check gen).0) c.subcommand-3.ensures

@@ -1,0 +1,171 @@
+ghost use Rattle.std.specs.Prelude.{◌≡◌, ◌++◌, ◌↔◌, IfOk, IsTrue, OnOk, false, map, string_bytes};
+ghost use Rattle.clap.specs.Words.{FailsBy, app_of, fault_of, found_of, kind_of, new_rule};
+ghost use Rattle.clap.specs.Words.{rows_of, rule_of, subcommand_of};
+ghost use Rattle.clap.specs.Walk.{texts};
+ghost use Rattle.clap.specs.declared.Command.TheViews.{out-Command};
+ghost use Rattle.clap.specs.declared.error.kind.ErrorKind.TheVariants.{OutOfMemory};
+ghost use Rattle.lset_command.specs.Words.{choice_in, choice_of, file_app, gen_app, listset};
+ghost use Rattle.lset_command.specs.Words.{rule_past_the_last, values_by, values_in};
+
+use clap::error::ErrorKind;
+use clap::{Arg, ArgMatches, Command, Error};
+use std::alloc::{AllocError, Global};
+
+/// A command of the program, with its values in order.
+#[derive(Debug, Drop)]
+pub struct Words {
+    pub command: String,
+    pub values: Vec<String>,
+}
+
+// A value that may be left out, as far as `clap` is concerned.
+fn value<'a>(alloc: Global, name: &'a str, help: &'a str) -> Arg<'a>
+    ensures rule { rule_of result ≡ new_rule name.entry.now }
+    ensures local { result.global ≡ false }
+{
+    Arg::new(alloc, name).help(help)
+}
+
+// Any number of values past the last, of which help says nothing.
+fn values_past_the_last<'a>(alloc: Global) -> Arg<'a>
+    ensures rule { rule_of result ≡ rule_past_the_last }
+    ensures local { result.global ≡ false }
+{
+    Arg::new(alloc, "MORE").num_args(..).hide(true)
+}
+
+fn file_command<'a>(
+    alloc: Global,
+    name: &'a str,
+    about: &'a str,
+    file_help: &'a str,
+) -> Result<Command<'a>, AllocError>
+    ensures app { IfOk result (λ c. app_of c ≡ file_app name.entry.now) }
+    ensures local { IfOk result (λ c. (out-Command c).has_globals ≡ false) }
+{
+    Command::new(alloc, name)
+        .about(about)
+        .arg(value(alloc, "FILE", file_help))
+}
+
+// The usage is written out, since `clap` would set each value in brackets: it lets values be missing, and
+// who makes the schedule names the first that is.
+fn gen_command<'a>(alloc: Global) -> Result<Command<'a>, AllocError>
+    ensures app { IfOk result (λ c. app_of c ≡ gen_app) }
+    ensures local { IfOk result (λ c. (out-Command c).has_globals ≡ false) }
+{
+    Command::new(alloc, "gen")
+        .about("Prints a random schedule; the same values give the same schedule")
+        .override_usage("listset gen KIND THREADS QUOTA CALLS KEYS SEED")
+        .arg(value(
+            alloc,
+            "KIND",
+            "The list: coarse, fine, optimistic, lazy or lock-free",
+        ))?
+        .arg(value(alloc, "THREADS", "How many threads: 1 to 64"))?
+        .arg(value(
+            alloc,
+            "QUOTA",
+            "How many successful adds each thread may make: 0 to 16384",
+        ))?
+        .arg(value(
+            alloc,
+            "CALLS",
+            "How many calls the threads begin together: 0 to 10000",
+        ))?
+        .arg(value(
+            alloc,
+            "KEYS",
+            "How many keys, counted from 0, to draw from: 1 to 4294967295",
+        ))?
+        .arg(value(
+            alloc,
+            "SEED",
+            "The seed of the random draws: 0 to 18446744073709551615",
+        ))?
+        .arg(values_past_the_last(alloc))
+}
+
+fn command<'a>(alloc: Global) -> Result<Command<'a>, AllocError>
+    ensures { IfOk result (λ c. app_of c ≡ listset) }
+{
+    let replay = file_command(
+        alloc,
+        "replay",
+        "Replays a schedule of atomic steps and prints a report (the command where none is given)",
+        "The schedule; standard input where it is left out",
+    )?;
+    let check = file_command(
+        alloc,
+        "check",
+        "Checks that the order in a report explains its calls and its keys",
+        "The report; standard input where it is left out",
+    )?;
+    Command::new(alloc, "listset")
+        .about("Replays, checks and generates recorded schedules of concurrent list sets")
+        .no_binary_name(true)
+        .bin_name("listset")?
+        .subcommand(replay)?
+        .subcommand(check)?
+        .subcommand(gen_command(alloc)?)
+}
+
+// Adds the texts that `found` has by the name, of which there may be none.
+fn push_values(
+    alloc: Global,
+    values: &mut Vec<String>,
+    found: &ArgMatches<'_>,
+    name: &str,
+) -> Result<(), AllocError>
+    ensures { OnOk result (map string_bytes values.new.items
+        ≡ map string_bytes values.old.items ++ values_by name.now (rows_of (found_of found.now))) }
+{
+    let Some(texts) = found.get_strs(name) else {
+        return Ok(());
+    };
+    for text in texts {
+        values.push(String::from_str(alloc, text)?)?;
+    }
+    Ok(())
+}
+
+fn values_of(alloc: Global, found: &ArgMatches<'_>) -> Result<Vec<String>, AllocError>
+    ensures { IfOk result (λ v. map string_bytes v.items ≡ values_in (rows_of (found_of found.now))) }
+{
+    let mut values = Vec::new(alloc);
+    for name in found.ids() {
+        push_values(alloc, &mut values, found, name)?;
+    }
+    Ok(values)
+}
+
+/// Reads the words that stand after the program's name, by `clap`: `replay [FILE]`, `check [FILE]`, or
+/// `gen KIND THREADS QUOTA CALLS KEYS SEED`. Values come as they are written; some or all may be missing, and
+/// `gen` may have more. No word at all gives `replay` without values. A value that begins with `-` needs a
+/// word `--` before it.
+///
+/// The error has the text for the user: the help, where words ask for it (`exit_code` 0), or what is wrong
+/// with the words (`exit_code` 2). It may also say that memory was refused: `is_out_of_memory`.
+pub fn tool_words<'a>(alloc: Global, words: &'a [&'a str]) -> Result<Words, Error>
+    ensures taken { IfOk result (λ w. choice_in w ≡ choice_of (subcommand_of listset (texts words.entry.now))) }
+    // clap's definition refuses no words that are taken, and has the kind of each error but want of memory
+    ensures refused { FailsBy (fault_of listset (texts words.entry.now)) result }
+{
+    let matches = command(alloc)?.try_get_matches_from(words)?;
+    let Some((name, found)) = matches.subcommand() else {
+        return Ok(Words {
+            command: String::from_str(alloc, "replay")?,
+            values: Vec::new(alloc),
+        });
+    };
+    let values = values_of(alloc, found)?;
+    let command = String::from_str(alloc, name)?;
+    Ok(Words { command, values })
+}
+
+/// Whether memory was refused while the words were read.
+pub fn is_out_of_memory(error: &Error) -> bool
+    ensures { IsTrue result ↔ (kind_of error.now ≡ OutOfMemory) }
+{
+    error.kind() == ErrorKind::OutOfMemory
+}

@@ -1,0 +1,5 @@
+pub mod Trouble
+pub mod Tools
+pub mod Replaying
+pub mod Checking
+pub mod Generating

@@ -1,0 +1,31 @@
+-- [Tools]: what `replay` makes of an input.
+use Rattle.std.specs.Prelude.{◌≡◌, ℕ, ◌⊎◌, List, Result, Ok, Err}
+use Rattle.lset_schedule.specs.declared.fault.ScheduleFault.{ScheduleFault}
+use Rattle.lset_schedule.specs.Plan.{Plan, IsSchedule, schedule_text}
+use Rattle.lset_schedule.specs.Reading.{reading}
+use Rattle.lset_replay.specs.declared.fault.ReplayFault.{ReplayFault}
+use Rattle.lset_replay.specs.Events.{events_of}
+use Rattle.lset_replay.specs.Reports.{ReportValue, IsReplay, IsRefusal, IsExplained, table_of}
+use Rattle.lset_replay.specs.Texts.{report_text}
+use Rattle.lset_tools.specs.declared.trouble.Trouble.{Trouble}
+use Rattle.lset_tools.specs.Trouble.{of_schedule, of_replay}
+use Rattle.lset_tools.specs.Tools.{Made, IsInputTrouble}
+
+-- The bytes are the text of a schedule, and this is the report of just its events, whose order explains its history and leaves its keys.
+pub record IsReported (bytes : List ℕ) (p : Plan) (r : ReportValue) : Type 0 where
+  pub schedule : IsSchedule p
+  pub text : bytes ≡ schedule_text p
+  pub replay : IsReplay (table_of p.kind) p r
+  pub explained : IsExplained r
+
+-- the first fault of the text, or of the replay
+abbrev pub IsFirstFault : Result Plan ScheduleFault → Trouble → Type 0
+IsFirstFault (Err fault) t = t ≡ of_schedule fault
+IsFirstFault (Ok p) t =
+    (refusal : ReplayFault) × (t ≡ of_replay refusal) × IsRefusal (table_of p.kind) p.threads p.quota (events_of p) refusal
+
+-- what is made of the bytes of an input: the text of the report, or a trouble with the input, or its first fault
+abbrev pub Replays : List ℕ → Made → Type 0
+Replays bytes (Ok answer) =
+    (p : Plan) × (r : ReportValue) × IsReported bytes p r × (answer ≡ record { text = report_text r; status = 0 })
+Replays bytes (Err t) = IsInputTrouble bytes t ⊎ IsFirstFault (reading bytes) t

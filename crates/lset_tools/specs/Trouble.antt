@@ -1,0 +1,111 @@
+-- What ends a run of the program with a line on standard error: its text and its exit status.
+use Rattle.std.specs.Prelude.{ℕ, List, ◌++◌, codes}
+use Rattle.std.specs.Fmt.{decimal}
+use Rattle.lset_schedule.specs.declared.fault.Cause.{Cause}
+use Rattle.lset_schedule.specs.declared.fault.Cause.TheVariants as schedule
+use Rattle.lset_schedule.specs.declared.fault.ScheduleFault.{ScheduleFault}
+use Rattle.lset_replay.specs.declared.fault.ReplayFault.{ReplayFault}
+use Rattle.lset_replay.specs.declared.fault.ReplayFault.TheVariants as replay
+use Rattle.lset_replay.specs.declared.report_fault.ReportCause.{ReportCause}
+use Rattle.lset_replay.specs.declared.report_fault.ReportCause.TheVariants as report
+use Rattle.lset_replay.specs.declared.report_fault.ReportFault.{ReportFault}
+use Rattle.lset_tools.specs.declared.streams.InputFault.{InputFault}
+use Rattle.lset_tools.specs.declared.streams.InputFault.TheVariants as input
+use Rattle.lset_tools.specs.declared.trouble.LineCause.{LineCause}
+use Rattle.lset_tools.specs.declared.trouble.LineCause.TheVariants as line
+use Rattle.lset_tools.specs.declared.trouble.ValueName.{ValueName}
+use Rattle.lset_tools.specs.declared.trouble.ValueName.TheVariants as value
+use Rattle.lset_tools.specs.declared.trouble.Trouble.{Trouble}
+use Rattle.lset_tools.specs.declared.trouble.Trouble.TheVariants.{CannotRead, TooLong, CannotWrite, Memory, Line, Bad}
+
+-- of an input that was not read
+abbrev pub of_input : InputFault → Trouble
+of_input input.CannotRead = CannotRead
+of_input input.TooLong = TooLong
+of_input input.Memory = Memory
+
+abbrev pub of_schedule_line : ℕ → Cause → Trouble
+of_schedule_line number schedule.Header = Line number (line.Schedule schedule.Header)
+of_schedule_line number schedule.Kind = Line number (line.Schedule schedule.Kind)
+of_schedule_line number schedule.Threads = Line number (line.Schedule schedule.Threads)
+of_schedule_line number schedule.Quota = Line number (line.Schedule schedule.Quota)
+of_schedule_line number schedule.Event = Line number (line.Schedule schedule.Event)
+of_schedule_line number schedule.Number = Line number (line.Schedule schedule.Number)
+of_schedule_line number schedule.TooMany = Line number (line.Schedule schedule.TooMany)
+of_schedule_line number schedule.NotEnded = Line number (line.Schedule schedule.NotEnded)
+of_schedule_line number schedule.Memory = Memory
+
+-- of a text that is no schedule
+abbrev pub of_schedule : ScheduleFault → Trouble
+of_schedule fault = of_schedule_line fault.line fault.cause
+
+-- of a schedule that is not replayed
+abbrev pub of_replay : ReplayFault → Trouble
+of_replay (replay.NoThread number) = Line number line.NoThread
+of_replay (replay.Busy number) = Line number line.Busy
+of_replay (replay.Idle number) = Line number line.Idle
+of_replay replay.Memory = Memory
+
+abbrev pub of_report_line : ℕ → ReportCause → Trouble
+of_report_line number report.Header = Line number (line.Report report.Header)
+of_report_line number report.Kind = Line number (line.Report report.Kind)
+of_report_line number report.Threads = Line number (line.Report report.Threads)
+of_report_line number report.Quota = Line number (line.Report report.Quota)
+of_report_line number report.Line = Line number (line.Report report.Line)
+of_report_line number report.Number = Line number (line.Report report.Number)
+of_report_line number report.TooMany = Line number (line.Report report.TooMany)
+of_report_line number report.History = Line number (line.Report report.History)
+of_report_line number report.NotEnded = Line number (line.Report report.NotEnded)
+of_report_line number report.Memory = Memory
+
+-- of a text that is no report
+abbrev pub of_report : ReportFault → Trouble
+of_report fault = of_report_line fault.line fault.cause
+
+abbrev pub status_of : Trouble → ℕ
+status_of CannotRead = 1
+status_of TooLong = 1
+status_of CannotWrite = 1
+status_of Memory = 3
+status_of (Line number cause) = 1
+status_of (Bad name) = 2
+
+abbrev pub name_of : LineCause → List ℕ
+name_of line.NoThread = codes "NoThread"
+name_of line.Busy = codes "Busy"
+name_of line.Idle = codes "Idle"
+name_of (line.Schedule schedule.Header) = codes "Header"
+name_of (line.Schedule schedule.Kind) = codes "Kind"
+name_of (line.Schedule schedule.Threads) = codes "Threads"
+name_of (line.Schedule schedule.Quota) = codes "Quota"
+name_of (line.Schedule schedule.Event) = codes "Event"
+name_of (line.Schedule schedule.Number) = codes "Number"
+name_of (line.Schedule schedule.TooMany) = codes "TooMany"
+name_of (line.Schedule schedule.NotEnded) = codes "NotEnded"
+name_of (line.Schedule schedule.Memory) = codes "Memory"
+name_of (line.Report report.Header) = codes "Header"
+name_of (line.Report report.Kind) = codes "Kind"
+name_of (line.Report report.Threads) = codes "Threads"
+name_of (line.Report report.Quota) = codes "Quota"
+name_of (line.Report report.Line) = codes "Line"
+name_of (line.Report report.Number) = codes "Number"
+name_of (line.Report report.TooMany) = codes "TooMany"
+name_of (line.Report report.History) = codes "History"
+name_of (line.Report report.NotEnded) = codes "NotEnded"
+name_of (line.Report report.Memory) = codes "Memory"
+
+abbrev pub value_word : ValueName → List ℕ
+value_word value.Kind = codes "KIND"
+value_word value.Threads = codes "THREADS"
+value_word value.Quota = codes "QUOTA"
+value_word value.Calls = codes "CALLS"
+value_word value.Keys = codes "KEYS"
+value_word value.Seed = codes "SEED"
+
+abbrev pub trouble_text : Trouble → List ℕ
+trouble_text CannotRead = codes "listset: cannot read\n"
+trouble_text TooLong = codes "listset: too long\n"
+trouble_text CannotWrite = codes "listset: cannot write\n"
+trouble_text Memory = codes "listset: out of memory\n"
+trouble_text (Line number cause) = codes "listset: line " ++ decimal number ++ codes ": " ++ name_of cause ++ codes "\n"
+trouble_text (Bad name) = codes "listset: bad " ++ value_word name ++ codes "\n"

@@ -1,0 +1,104 @@
+ghost use Rattle.std.specs.Prelude.{◌≡◌, map, string_bytes, IfOk, IfErr, MatchResult};
+ghost use Rattle.lset_schedule.specs.Generating.{IsAccepted};
+ghost use Rattle.lset_schedule.specs.Plan.{view};
+ghost use Rattle.lset_replay.specs.Reports.{table_of};
+ghost use Rattle.lset_schedule.specs.declared.fault.GenFault.TheVariants.{Memory};
+ghost use Rattle.lset_tools.specs.Generating.{of_generator, Generates, IsRequested};
+ghost use Rattle.lset_tools.specs.Tools.{Ends};
+ghost use Rattle.lset_tools.specs.Tools as tools;
+ghost use Rattle.lset_tools.specs.declared.trouble.Trouble.TheVariants.{Bad};
+
+use crate::answer::{Answer, deliver};
+use crate::trouble::{Trouble, ValueName};
+use crate::values::{Request, read_request};
+use lset_coarse::CoarseList;
+use lset_fine::FineList;
+use lset_lazy::LazyList;
+use lset_lock_free::LockFreeList;
+use lset_optimistic::OptimisticList;
+use lset_schedule::{GenFault, Schedule, generate, write_schedule};
+use lset_steps::Machine;
+use lset_words::Kind;
+use std::alloc::Global;
+use std::io::Write;
+
+impl From<ValueName> for Trouble {
+    ghost from_gives = { λ name t. t ≡ Bad name };
+
+    fn from(name: ValueName) -> Trouble {
+        Trouble::Bad(name)
+    }
+}
+
+impl From<GenFault> for Trouble {
+    ghost from_gives = { λ e t. t ≡ of_generator e };
+
+    fn from(fault: GenFault) -> Trouble {
+        match fault {
+            GenFault::Threads => Trouble::Bad(ValueName::Threads),
+            GenFault::Quota => Trouble::Bad(ValueName::Quota),
+            GenFault::Keys => Trouble::Bad(ValueName::Keys),
+            GenFault::Memory => Trouble::Memory,
+        }
+    }
+}
+
+/// A schedule of the machine `M`, drawn as the request asks.
+fn schedule_by<M: Machine>(alloc: Global, request: Request) -> Result<Schedule, GenFault>
+    requires kind { M.KIND ≡ request.kind }
+    requires accepted { IsAccepted request.threads request.quota request.keys }
+    ensures schedule { IfOk result (λ s. IsRequested M.table request (view s)) }
+    ensures fault { IfErr result (λ fault. fault ≡ Memory) }
+{
+    generate::<M>(
+        alloc,
+        request.threads,
+        request.quota,
+        request.calls,
+        request.keys,
+        request.seed,
+    )
+}
+
+/// A schedule of the list that the request names.
+fn schedule_for(alloc: Global, request: Request) -> Result<Schedule, GenFault>
+    requires { IsAccepted request.threads request.quota request.keys }
+    ensures { MatchResult result (λ s. IsRequested (table_of request.kind) request (view s)) (λ fault. fault ≡ Memory) }
+{
+    match request.kind {
+        Kind::Coarse => schedule_by::<CoarseList>(alloc, request),
+        Kind::Fine => schedule_by::<FineList>(alloc, request),
+        Kind::Optimistic => schedule_by::<OptimisticList>(alloc, request),
+        Kind::Lazy => schedule_by::<LazyList>(alloc, request),
+        Kind::LockFree => schedule_by::<LockFreeList>(alloc, request),
+    }
+}
+
+fn generated(alloc: Global, values: &[String]) -> Result<Answer, Trouble>
+    ensures { Generates (map string_bytes values.now) (tools.view result) }
+{
+    let request = read_request(values)?;
+    let schedule = schedule_for(alloc, request)?;
+    let text = write_schedule(alloc, &schedule)?;
+    Ok(Answer { text, status: 0 })
+}
+
+/// Generates the schedule that the values ask for, which are KIND THREADS QUOTA CALLS KEYS SEED in this
+/// order: writes its text on the output, or one line about the first wrong value on `faults`, and gives the
+/// exit status: 0 where the schedule was written, 2 where a value is wrong, 3 where memory was refused, else 1.
+/// KIND is the word for a list; numbers are decimals without leading zeros, THREADS 1 to 64,
+/// QUOTA 0 to 16,384, CALLS 0 to 10,000, KEYS 1 to 4,294,967,295, SEED 0 to 2^64 - 1. A value that is missing
+/// is a wrong one, and values past the last are not looked at. A failing write on `faults` leaves the status as
+/// it is.
+pub fn tool_gen<W: Write, F: Write>(
+    alloc: Global,
+    values: &[String],
+    output: &mut W,
+    faults: &mut F,
+) -> u8
+    ensures { Ends (Generates (map string_bytes values.now))
+        (W.contents output.old) (W.contents output.new) (F.contents faults.old) (F.contents faults.new) result }
+{
+    let made = generated(alloc, values);
+    deliver(alloc, made, output, faults)
+}

@@ -1,0 +1,47 @@
+ghost use Rattle.std.specs.Prelude.{◌≡◌, ◌⊎◌, IfErr, IfSome};
+ghost use Rattle.lset_schedule.specs.Reading.{reading};
+ghost use Rattle.lset_tools.specs.Tools.{Ends, view};
+ghost use Rattle.lset_tools.specs.Replaying.{IsFirstFault, Replays};
+ghost use Rattle.lset_tools.specs.declared.trouble.Trouble.TheVariants.{Memory};
+
+use crate::answer::{Answer, deliver};
+use crate::streams::input_of;
+use crate::trouble::Trouble;
+use lset_replay::{replay, write_report};
+use lset_schedule::read_schedule;
+use std::alloc::Global;
+use std::io::{Read, Write};
+
+/// The text of the report of the schedule whose text the bytes are.
+fn report_of(alloc: Global, bytes: &[u8]) -> Result<Answer, Trouble>
+    ensures replays { Replays bytes.now (view result) }
+    ensures trouble { IfErr result (λ t. (t ≡ Memory) ⊎ IsFirstFault (reading bytes.now) t) }
+{
+    let schedule = read_schedule(alloc, bytes)?;
+    let report = replay(alloc, &schedule)?;
+    let text = write_report(alloc, &report)?;
+    Ok(Answer { text, status: 0 })
+}
+
+fn replayed<R: Read>(alloc: Global, input: &mut R) -> Result<Answer, Trouble>
+    ensures { IfSome (R.remaining input.old) (λ bytes. Replays bytes (view result)) }
+{
+    let bytes = input_of(alloc, input)?;
+    report_of(alloc, &bytes)
+}
+
+/// Replays the schedule on the input: writes its report on the output, or one line about what is wrong on
+/// `faults`, and gives the exit status: 0 where the report was written, 3 where memory was refused, else 1.
+/// A failing write on `faults` leaves the status as it is.
+pub fn tool_replay<R: Read, W: Write, F: Write>(
+    alloc: Global,
+    input: &mut R,
+    output: &mut W,
+    faults: &mut F,
+) -> u8
+    ensures { Ends (λ made. IfSome (R.remaining input.old) (λ bytes. Replays bytes made))
+        (W.contents output.old) (W.contents output.new) (F.contents faults.old) (F.contents faults.new) result }
+{
+    let made = replayed(alloc, input);
+    deliver(alloc, made, output, faults)
+}

@@ -1,0 +1,172 @@
+ghost use Rattle.std.specs.Prelude.{◌≡◌};
+ghost use Rattle.lset_tools.specs.Trouble.{of_input, of_schedule, of_replay, of_report, status_of, name_of, value_word};
+ghost use Rattle.lset_tools.specs.declared.trouble.Trouble.TheVariants.{Memory};
+
+use crate::streams::InputFault;
+use lset_replay::{ReplayFault, ReportCause, ReportFault};
+use lset_schedule::{Cause, ScheduleFault};
+use std::alloc::AllocError;
+
+/// Why a line of an input is refused.
+#[derive(Clone, Copy, Debug, PartialEq, Eq)]
+pub enum LineCause {
+    /// The text is no schedule.
+    Schedule(Cause),
+    /// An event of the line names no thread.
+    NoThread,
+    /// A thread begins a call on the line and has one open.
+    Busy,
+    /// A thread makes a step on the line and has no call open.
+    Idle,
+    /// The text is no report.
+    Report(ReportCause),
+}
+
+/// A value that a command takes.
+#[derive(Clone, Copy, Debug, PartialEq, Eq)]
+pub enum ValueName {
+    Kind,
+    Threads,
+    Quota,
+    Calls,
+    Keys,
+    Seed,
+}
+
+/// What ends a run of the program with a line on standard error.
+#[derive(Clone, Copy, Debug, PartialEq, Eq)]
+pub enum Trouble {
+    /// A file could not be opened, or a read failed.
+    CannotRead,
+    /// The input has more bytes than an input may have.
+    TooLong,
+    /// A write failed, or took no byte.
+    CannotWrite,
+    /// Memory was refused.
+    Memory,
+    /// A line of the input, counted from 1, is refused.
+    Line(u64, LineCause),
+    /// A value of the command line is missing or is none of those that may stand there.
+    Bad(ValueName),
+}
+
+impl Trouble {
+    /// The exit status.
+    pub fn status(self) -> u8
+        ensures { result ≡ status_of self }
+    {
+        match self {
+            Trouble::Memory => 3,
+            Trouble::Bad(_) => 2,
+            Trouble::CannotRead | Trouble::TooLong | Trouble::CannotWrite | Trouble::Line(_, _) =>
+                1,
+        }
+    }
+}
+
+impl From<InputFault> for Trouble {
+    ghost from_gives = { λ e t. t ≡ of_input e };
+
+    fn from(fault: InputFault) -> Trouble {
+        match fault {
+            InputFault::CannotRead => Trouble::CannotRead,
+            InputFault::TooLong => Trouble::TooLong,
+            InputFault::Memory => Trouble::Memory,
+        }
+    }
+}
+
+impl From<ScheduleFault> for Trouble {
+    ghost from_gives = { λ e t. t ≡ of_schedule e };
+
+    fn from(fault: ScheduleFault) -> Trouble {
+        match fault.cause {
+            Cause::Memory => Trouble::Memory,
+            cause => Trouble::Line(fault.line, LineCause::Schedule(cause)),
+        }
+    }
+}
+
+impl From<ReplayFault> for Trouble {
+    ghost from_gives = { λ e t. t ≡ of_replay e };
+
+    fn from(fault: ReplayFault) -> Trouble {
+        match fault {
+            ReplayFault::NoThread(line) => Trouble::Line(line, LineCause::NoThread),
+            ReplayFault::Busy(line) => Trouble::Line(line, LineCause::Busy),
+            ReplayFault::Idle(line) => Trouble::Line(line, LineCause::Idle),
+            ReplayFault::Memory => Trouble::Memory,
+        }
+    }
+}
+
+impl From<ReportFault> for Trouble {
+    ghost from_gives = { λ e t. t ≡ of_report e };
+
+    fn from(fault: ReportFault) -> Trouble {
+        match fault.cause {
+            ReportCause::Memory => Trouble::Memory,
+            cause => Trouble::Line(fault.line, LineCause::Report(cause)),
+        }
+    }
+}
+
+impl From<AllocError> for Trouble {
+    ghost from_gives = { λ _ t. t ≡ Memory };
+
+    fn from(_refused: AllocError) -> Trouble {
+        Trouble::Memory
+    }
+}
+
+impl LineCause {
+    /// Its name, as the line on standard error has it.
+    pub fn name(self) -> &'static str
+        ensures { result.now ≡ name_of self }
+    {
+        match self {
+            LineCause::NoThread => "NoThread",
+            LineCause::Busy => "Busy",
+            LineCause::Idle => "Idle",
+            LineCause::Schedule(cause) => match cause {
+                Cause::Header => "Header",
+                Cause::Kind => "Kind",
+                Cause::Threads => "Threads",
+                Cause::Quota => "Quota",
+                Cause::Event => "Event",
+                Cause::Number => "Number",
+                Cause::TooMany => "TooMany",
+                Cause::NotEnded => "NotEnded",
+                Cause::Memory => "Memory",
+            },
+            LineCause::Report(cause) => match cause {
+                ReportCause::Header => "Header",
+                ReportCause::Kind => "Kind",
+                ReportCause::Threads => "Threads",
+                ReportCause::Quota => "Quota",
+                ReportCause::Line => "Line",
+                ReportCause::Number => "Number",
+                ReportCause::TooMany => "TooMany",
+                ReportCause::History => "History",
+                ReportCause::NotEnded => "NotEnded",
+                ReportCause::Memory => "Memory",
+            },
+        }
+    }
+}
+
+impl ValueName {
+    /// Its word, as the help and the line on standard error have it.
+    pub fn word(self) -> &'static str
+        ensures { result.now ≡ value_word self }
+    {
+        match self {
+            ValueName::Kind => "KIND",
+            ValueName::Threads => "THREADS",
+            ValueName::Quota => "QUOTA",
+            ValueName::Calls => "CALLS",
+            ValueName::Keys => "KEYS",
+            ValueName::Seed => "SEED",
+        }
+    }
+}

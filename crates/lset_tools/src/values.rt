@@ -1,0 +1,87 @@
+ghost use Rattle.std.specs.Prelude.{◌≡◌, ◌≤◌, ◌↔◌, IsTrue, IfOk, IfSome, map, string_bytes};
+ghost use Rattle.lset_text.specs.Numbers.{number_in};
+ghost use Rattle.lset_schedule.specs.Generating.{IsAccepted};
+ghost use Rattle.lset_tools.specs.Generating.{IsPlain, kind_at, number_at, request_of};
+
+use crate::trouble::ValueName;
+use lset_text::{number, read_kind};
+use lset_words::Kind;
+
+/// What a command takes from its values: a list, the sizes and the calls of a run, and the seed from which
+/// they are drawn.
+#[derive(Clone, Copy, Debug, PartialEq, Eq)]
+pub struct Request {
+    /// The list.
+    pub kind: Kind,
+    /// 1 to 64.
+    pub threads: u32,
+    /// The slots of each thread, 0 to 16,384.
+    pub quota: u32,
+    /// How many calls are asked for, 0 to 10,000.
+    pub calls: u32,
+    /// Keys are below this number, which is at least 1.
+    pub keys: u32,
+    pub seed: u64,
+}
+
+fn kind_at(values: &[String], index: usize) -> Option<Kind>
+    ensures { result ≡ kind_at (map string_bytes values.now) index }
+{
+    read_kind(values.get(index)?.as_bytes())
+}
+
+/// The number from `low` to `high` that the value with this index spells, without leading zeros.
+fn number_at(values: &[String], index: usize, low: u32, high: u32) -> Option<u32>
+    ensures value { result ≡ number_at (map string_bytes values.now) index low high }
+    ensures range { IfSome result (λ n. (low ≤ n) × (n ≤ high)) }
+{
+    number(values.get(index)?.as_bytes(), low, high)
+}
+
+/// Whether the text begins with no sign and with no zero before another byte.
+fn is_plain(text: &[u8]) -> bool
+    ensures { IsTrue result ↔ IsPlain text.now }
+{
+    !text.is_empty() && text[0] != b'+' && (text.len() == 1 || text[0] != b'0')
+}
+
+/// The number that the text spells: `0`, or digits of which the first is not `0`. `None` for any other text,
+/// and for a number that is no `u64`.
+fn long_number(text: &str) -> Option<u64>
+    ensures { result ≡ number_in 0 18446744073709551615 text.now }
+{
+    if !is_plain(text.as_bytes()) {
+        return None;
+    }
+    text.parse().ok()
+}
+
+fn seed_at(values: &[String], index: usize) -> Option<u64>
+    ensures { result ≡ number_at (map string_bytes values.now) index 0 18446744073709551615 }
+{
+    long_number(values.get(index)?.as_str())
+}
+
+/// What the values ask for, in the order KIND, THREADS, QUOTA, CALLS, KEYS, SEED, with the ranges of
+/// `Request`; numbers are decimals without leading zeros. The error names the first value that is missing or
+/// wrong. Values past the last are not looked at.
+#[tactic(auto, unfolding(crate::specs::Generating::request_of))]
+pub fn read_request(values: &[String]) -> Result<Request, ValueName>
+    ensures value { result ≡ request_of (map string_bytes values.now) }
+    ensures known { IfOk result (λ request. IsAccepted request.threads request.quota request.keys) }
+{
+    let kind = kind_at(values, 0).ok_or(ValueName::Kind)?;
+    let threads = number_at(values, 1, 1, 64).ok_or(ValueName::Threads)?;
+    let quota = number_at(values, 2, 0, 16_384).ok_or(ValueName::Quota)?;
+    let calls = number_at(values, 3, 0, 10_000).ok_or(ValueName::Calls)?;
+    let keys = number_at(values, 4, 1, u32::MAX).ok_or(ValueName::Keys)?;
+    let seed = seed_at(values, 5).ok_or(ValueName::Seed)?;
+    Ok(Request {
+        kind,
+        threads,
+        quota,
+        calls,
+        keys,
+        seed,
+    })
+}
