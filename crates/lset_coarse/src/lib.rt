@@ -141,6 +141,3 @@ impl Machine for CoarseList {
 
     ghost lawful = { coarse_lawful };
 }
-
-#[cfg(test)]
-mod tests;

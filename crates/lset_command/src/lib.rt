@@ -1,8 +1,6 @@
 //! The words of the program's command line.
 #![tactic(auto)]
 
-#[cfg(test)]
-mod tests;
 mod words;
 
 pub use words::{Words, is_out_of_memory, tool_words};

@@ -151,6 +151,3 @@ impl Machine for FineList {
 
     ghost lawful = { fine_lawful };
 }
-
-#[cfg(test)]
-mod tests;

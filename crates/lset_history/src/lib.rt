@@ -18,6 +18,3 @@ pub use placement::{
     every_call_has_a_place, fits_are_replies, logs_tell_histories, placement_is_one_order,
     placement_linearizes,
 };
-
-#[cfg(test)]
-mod tests;

@@ -199,6 +199,3 @@ impl OpenReads for LazyList {
 
     ghost walks = { lazy_walks };
 }
-
-#[cfg(test)]
-mod tests;

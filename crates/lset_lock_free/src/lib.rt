@@ -169,6 +169,3 @@ impl OpenReads for LockFreeList {
 
     ghost walks = { lock_free_walks };
 }
-
-#[cfg(test)]
-mod tests;

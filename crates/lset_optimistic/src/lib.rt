@@ -223,6 +223,3 @@ impl Machine for OptimisticList {
 
     ghost lawful = { optimistic_lawful };
 }
-
-#[cfg(test)]
-mod tests;

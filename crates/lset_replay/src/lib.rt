@@ -22,6 +22,3 @@ pub use writing::write_report;
 
 /// The first line of a report's text.
 const TITLE: &str = "listset-report 1";
-
-#[cfg(test)]
-mod tests;

@@ -206,6 +206,3 @@ pub fn read_report(alloc: Global, bytes: &[u8]) -> Result<Report, ReportFault>
 pub fn reports_read_back()
     ensures { ReportsReadBack }
 {}
-
-#[cfg(test)]
-mod tests;

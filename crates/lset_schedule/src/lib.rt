@@ -21,6 +21,3 @@ const TITLE: &str = "listset-schedule 1";
 
 /// The most events of a schedule, the steps of a `go` line counted one by one.
 const MOST_EVENTS: u32 = 10_000;
-
-#[cfg(test)]
-mod tests;

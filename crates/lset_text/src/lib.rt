@@ -13,6 +13,3 @@ pub use parts::cut;
 pub use words::{
     CallWord, call_word, kind_word, read_call, read_kind, read_reply, reply_word, words_read_back,
 };
-
-#[cfg(test)]
-mod tests;

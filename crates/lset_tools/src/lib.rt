@@ -6,8 +6,6 @@ mod checking;
 mod generating;
 mod replaying;
 mod streams;
-#[cfg(test)]
-mod tests;
 mod trouble;
 mod values;
 

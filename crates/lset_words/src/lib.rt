@@ -102,6 +102,3 @@ pub fn unpack(word: u64) -> (u64, bool)
 {
     (word / 2, word % 2 == 1)
 }
-
-#[cfg(test)]
-mod tests;

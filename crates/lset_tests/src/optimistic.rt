@@ -1,4 +1,4 @@
-use super::*;
+use lset_optimistic::*;
 use lset_steps::{Event, StepFault, World};
 use lset_words::layout;
 use std::test::Fail;

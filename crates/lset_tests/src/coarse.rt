@@ -1,4 +1,4 @@
-use super::*;
+use lset_coarse::*;
 use lset_steps::{Event, StepFault, Told, World};
 use lset_words::layout;
 use std::test::Fail;

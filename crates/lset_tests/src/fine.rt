@@ -1,4 +1,4 @@
-use super::*;
+use lset_fine::*;
 use lset_steps::{Event, StepFault, World};
 use lset_words::layout;
 use std::test::Fail;

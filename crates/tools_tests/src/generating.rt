@@ -1,6 +1,6 @@
 use super::devices::Writer;
-use crate::generating::tool_gen;
-use crate::replaying::tool_replay;
+use lset_tools::tool_gen;
+use lset_tools::tool_replay;
 use std::alloc::Global;
 use std::test::Fail;
 

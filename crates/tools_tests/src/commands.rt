@@ -1,4 +1,4 @@
-use crate::{is_out_of_memory, tool_words};
+use lset_command::{is_out_of_memory, tool_words};
 use clap::error::ErrorKind;
 use std::alloc::AllocError;
 use std::test::Fail;

@@ -1,5 +1,5 @@
 use super::devices::{Reader, Writer};
-use crate::checking::tool_check;
+use lset_tools::tool_check;
 use std::test::Fail;
 
 /// Two calls, the second after the first has ended.

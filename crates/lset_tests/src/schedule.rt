@@ -1,4 +1,4 @@
-use super::*;
+use lset_schedule::*;
 use lset_coarse::CoarseList;
 use lset_words::{Call, Key, Kind};
 use rand_core::{Rng, SeedableRng};

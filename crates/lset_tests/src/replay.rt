@@ -1,4 +1,4 @@
-use super::*;
+use lset_replay::*;
 use lset_history::check_order;
 use lset_schedule::{read_schedule, write_schedule};
 use std::test::Fail;

@@ -1,5 +1,5 @@
 use super::devices::{Endless, Reader, Writer};
-use crate::replaying::tool_replay;
+use lset_tools::tool_replay;
 use std::test::Fail;
 
 const ONE_ADD: &str =

@@ -1,0 +1,97 @@
+use lset_lazy::*;
+use lset_steps::{Event, StepFault, World};
+use lset_words::layout;
+use std::test::Fail;
+
+/// Makes the event so many times: the answer of the last one. A step past the end of a call is refused.
+fn make(world: &mut World<LazyList>, event: Event, times: u32) -> Result<Option<Reply>, StepFault> {
+    let mut answer = None;
+    for _ in 0..times {
+        answer = world.step(event)?.answer;
+    }
+    Ok(answer)
+}
+
+#[test]
+fn a_marked_node_is_no_part_of_the_set(rt: HostRuntime) -> Result<(), Fail> {
+    let lines = [
+        (Event::Begin(0, Call::Add(Key(5))), 1, None),
+        (Event::Go(0), 11, Some(Reply::True)),
+        (Event::Begin(0, Call::Remove(Key(5))), 1, None),
+        (Event::Go(0), 7, None),
+    ];
+    let mut world = World::<LazyList>::new(rt.alloc(), layout(1, 1)?)?;
+    for (event, times, answer) in lines {
+        assert_eq!(rt; make(&mut world, event, times)?, answer, "{event:?}");
+    }
+    assert!(rt; world.busy(0));
+    assert!(rt; world.content(rt.alloc())?.is_empty());
+    Ok(())
+}
+
+#[test]
+fn the_second_of_two_removes_walks_again(rt: HostRuntime) -> Result<(), Fail> {
+    let lines = [
+        (Event::Begin(0, Call::Add(Key(5))), 1, None),
+        (Event::Go(0), 11, Some(Reply::True)),
+        (Event::Begin(0, Call::Remove(Key(5))), 1, None),
+        (Event::Begin(1, Call::Remove(Key(5))), 1, None),
+        (Event::Go(0), 4, None),
+        (Event::Go(1), 4, None),
+        (Event::Go(0), 6, Some(Reply::True)),
+        (Event::Go(1), 13, Some(Reply::False)),
+    ];
+    let mut world = World::<LazyList>::new(rt.alloc(), layout(2, 1)?)?;
+    for (event, times, answer) in lines {
+        assert_eq!(rt; make(&mut world, event, times)?, answer, "{event:?}");
+    }
+    assert!(rt; world.content(rt.alloc())?.is_empty());
+    Ok(())
+}
+
+/// The set has the key at each step of the `contains`, and lacks it between two of them.
+#[test]
+fn a_contains_may_fit_between_its_steps_alone(rt: HostRuntime) -> Result<(), Fail> {
+    let lines = [
+        (Event::Begin(1, Call::Add(Key(5))), 1, None),
+        (Event::Go(1), 11, Some(Reply::True)),
+        (Event::Begin(0, Call::Contains(Key(5))), 1, None),
+        (Event::Go(0), 2, None),
+        (Event::Begin(1, Call::Remove(Key(5))), 1, None),
+        (Event::Go(1), 10, Some(Reply::True)),
+        (Event::Begin(1, Call::Add(Key(5))), 1, None),
+        (Event::Go(1), 11, Some(Reply::True)),
+        (Event::Go(0), 1, Some(Reply::False)),
+    ];
+    let mut world = World::<LazyList>::new(rt.alloc(), layout(2, 4)?)?;
+    for (event, times, answer) in lines {
+        assert_eq!(rt; make(&mut world, event, times)?, answer, "{event:?}");
+    }
+    assert_eq!(rt; world.content(rt.alloc())?.as_slice(), [5].as_slice());
+    assert_eq!(rt; LazyList::bound(&layout(2, 4)?), 18);
+    Ok(())
+}
+
+#[test]
+fn the_least_and_the_greatest_key_are_keys_like_others(rt: HostRuntime) -> Result<(), Fail> {
+    let (least, most) = (Key(0), Key(u32::MAX));
+    let calls = [
+        (Call::Add(least), 11),
+        (Call::Add(most), 13),
+        (Call::Contains(least), 3),
+        (Call::Contains(most), 5),
+        (Call::Remove(least), 10),
+        (Call::Remove(most), 10),
+    ];
+    let mut world = World::<LazyList>::new(rt.alloc(), layout(1, 2)?)?;
+    for (call, steps) in calls {
+        world.step(Event::Begin(0, call))?;
+        assert_eq!(rt;
+            make(&mut world, Event::Go(0), steps)?,
+            Some(Reply::True),
+            "{call:?}"
+        );
+    }
+    assert!(rt; world.content(rt.alloc())?.is_empty());
+    Ok(())
+}

@@ -1,0 +1,25 @@
+//! The tests of the libraries.
+#![tactic(auto)]
+
+#[cfg(test)]
+mod coarse;
+#[cfg(test)]
+mod fine;
+#[cfg(test)]
+mod history;
+#[cfg(test)]
+mod lazy;
+#[cfg(test)]
+mod lock_free;
+#[cfg(test)]
+mod optimistic;
+#[cfg(test)]
+mod replay;
+#[cfg(test)]
+mod reports;
+#[cfg(test)]
+mod schedule;
+#[cfg(test)]
+mod text;
+#[cfg(test)]
+mod words;
