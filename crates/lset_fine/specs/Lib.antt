@@ -1,3 +1,2 @@
 pub mod Fine
-pub mod Outline
 pub mod Lawful

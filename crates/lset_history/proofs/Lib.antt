@@ -1,3 +1,17 @@
+pub mod CallSteps
+pub mod Calls
+pub mod Firsts
+pub mod Fitting
+pub mod Keys
+pub mod Linearizing
+pub mod Lists
+pub mod OpenCalls
+pub mod Order
+pub mod Placing
+pub mod RunHistories
+pub mod Standings
+pub mod States
+pub mod Turns
 pub mod Pairs
 pub mod Histories
 pub mod Keeping

@@ -1,13 +1,14 @@
 -- The law of every run of LazyList.
+pub mod Outline
 use Rattle.std.specs.Prelude.{true}
 use Rattle.lset_steps.specs.Laws.{Lawful}
-use Rattle.lset_steps.specs.Discipline.{Discipline, lawful_of}
+use Rattle.lset_steps.proofs.Discipline.{Discipline, lawful_of}
 use Rattle.lset_steps.specs.BoundedReads.{BoundedReads, WalksInChain}
-use Rattle.lset_steps.specs.ReadBound.{bounded_reads}
-use Rattle.lset_steps.specs.ReadWalk.{walks_in_chain}
-use Rattle.lset_steps.specs.Turns.{discipline_of, node_locks}
+use Rattle.lset_steps.proofs.ReadBound.{bounded_reads}
+use Rattle.lset_steps.proofs.ReadWalk.{walks_in_chain}
+use Rattle.lset_steps.proofs.Turns.{discipline_of, node_locks}
 use Rattle.lset_lazy.specs.Lazy.{lazy}
-use Rattle.lset_lazy.specs.Outline.{At, lazy_follows, has_read_rows, shows_reading}
+use Rattle.lset_lazy.specs.Lawful.Outline.{At, lazy_follows, has_read_rows, shows_reading}
 
 lazy_keeps : Discipline lazy true At
 lazy_keeps = discipline_of lazy (node_locks true) At lazy_follows

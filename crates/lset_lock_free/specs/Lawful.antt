@@ -1,13 +1,14 @@
 -- The law of every run of LockFreeList.
+pub mod Outline
 use Rattle.std.specs.Prelude.{true}
 use Rattle.lset_steps.specs.Laws.{Lawful}
-use Rattle.lset_steps.specs.Discipline.{Discipline, lawful_of}
+use Rattle.lset_steps.proofs.Discipline.{Discipline, lawful_of}
 use Rattle.lset_steps.specs.BoundedReads.{BoundedReads, WalksInChain}
-use Rattle.lset_steps.specs.ReadBound.{bounded_reads}
-use Rattle.lset_steps.specs.ReadWalk.{walks_in_chain}
-use Rattle.lset_steps.specs.Turns.{discipline_of, no_locks}
+use Rattle.lset_steps.proofs.ReadBound.{bounded_reads}
+use Rattle.lset_steps.proofs.ReadWalk.{walks_in_chain}
+use Rattle.lset_steps.proofs.Turns.{discipline_of, no_locks}
 use Rattle.lset_lock_free.specs.LockFree.{lock_free}
-use Rattle.lset_lock_free.specs.Outline.{At, lock_free_follows, has_read_rows, shows_reading}
+use Rattle.lset_lock_free.specs.Lawful.Outline.{At, lock_free_follows, has_read_rows, shows_reading}
 
 lock_free_keeps : Discipline lock_free true At
 lock_free_keeps = discipline_of lock_free (no_locks true) At lock_free_follows

@@ -1,3 +1,2 @@
 pub mod LockFree
-pub mod Outline
 pub mod Lawful

@@ -1,7 +1,7 @@
 -- That OptimisticList keeps its promises.
 use Rattle.std.specs.Prelude.{◌≡◌, ◌≢◌, ℕ, zero, suc, ◌+◌, ◌-◌, ◌/◌, ◌<◌, ◌≤◌, ◌⊎◌, Bool, true, false, Some, None, List, if◌then◌else◌, ◌==◌, nat_lt, slice_index_or, slice_set, length, refl}
 use Rattle.std.proofs.Common.{arith, inl, inr, sym, ◌∙◌, ap, subst, get_or-set_other, get_or-set_same}
-use Rattle.lset_words.specs.Numbers.{same_or_not, below_or_not, if_same, if_other, if_below, if_not_below}
+use Rattle.lset_words.proofs.Numbers.{same_or_not, below_or_not, if_same, if_other, if_below, if_not_below}
 use Rattle.lset_words.specs.declared.Call.{Call}
 use Rattle.lset_words.specs.declared.Call.TheVariants.{Add, Remove, Contains}
 use Rattle.lset_words.specs.declared.Reply.{Reply}
@@ -14,15 +14,15 @@ use Rattle.lset_steps.specs.Steps.{State, Run, Enabled, idle, state_at, local_of
 use Rattle.lset_steps.specs.Chain.{View, view, FitsIn, node_link, node_lock}
 use Rattle.lset_steps.specs.Laws.{used_in, views}
 use Rattle.lset_steps.specs.Rows.{decided, decided_on}
-use Rattle.lset_steps.specs.Memory.{Memory}
-use Rattle.lset_steps.specs.Held.{Held}
-use Rattle.lset_steps.specs.Replies.{keep}
-use Rattle.lset_steps.specs.SecondWalk.{SecondWalk, kept_upto, second_walk_arrives}
-use Rattle.lset_steps.specs.Discipline.{Thread, inv_at}
-use Rattle.lset_steps.specs.Turns.{discipline_of, node_locks}
+use Rattle.lset_steps.proofs.Memory.{Memory}
+use Rattle.lset_steps.proofs.Held.{Held}
+use Rattle.lset_steps.proofs.Replies.{keep}
+use Rattle.lset_steps.proofs.SecondWalk.{SecondWalk, kept_upto, second_walk_arrives}
+use Rattle.lset_steps.proofs.Discipline.{Thread, inv_at}
+use Rattle.lset_steps.proofs.Turns.{discipline_of, node_locks}
 use Rattle.lset_optimistic.specs.Optimistic.{optimistic, targets, at_node, at_link, local_after}
-use Rattle.lset_optimistic.specs.Outline.{At, Window, optimistic_follows, decision}
-use Rattle.lset_optimistic.specs.Outline.At.{at0, at1, at2, at3, at4, at5, at6, at7, at8, at9, at10, at11, at12, at13, at14, at15}
+use Rattle.lset_optimistic.specs.Lawful.Outline.{At, Window, optimistic_follows, decision}
+use Rattle.lset_optimistic.specs.Lawful.Outline.At.{at0, at1, at2, at3, at4, at5, at6, at7, at8, at9, at10, at11, at12, at13, at14, at15}
 use Rattle.lset_optimistic.specs.Promises.{held_at, world_at, IsWalking, HasArrived, WasInChain, IsLockedInChain, WalkedInThePast, ArrivedInChain, InChainToTheEnd, FitsAtTheLoad}
 
 -- WHAT IS KNOWN AT A PLACE

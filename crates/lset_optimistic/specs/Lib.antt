@@ -1,4 +1,3 @@
 pub mod Optimistic
-pub mod Outline
 pub mod Lawful
 pub mod Promises

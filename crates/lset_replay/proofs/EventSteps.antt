@@ -9,7 +9,7 @@ use Rattle.lset_steps.specs.declared.world.StepFault.{StepFault}
 use Rattle.lset_steps.specs.Steps.{Table, State, Run, Limits, Enabled, state_at, event_at, entry_of, log_of, told, after, opening}
 use Rattle.lset_steps.specs.Laws.{Lawful}
 use Rattle.lset_steps.specs.Worlds.{WorldState, Refused}
-use Rattle.lset_steps.specs.RunAccount.{contents_at, counts_at, account_of}
+use Rattle.lset_steps.proofs.RunAccount.{contents_at, counts_at, account_of}
 use Rattle.lset_replay.specs.declared.events.LineEvent.{LineEvent}
 use Rattle.lset_replay.specs.declared.recorder.Recorder.{Recorder}
 use Rattle.lset_replay.specs.Events.{only_events, line_at}

@@ -9,7 +9,7 @@ use Rattle.lset_words.specs.Words.{key_of}
 use Rattle.lset_words.specs.Log.{TracedCall}
 use Rattle.lset_words.specs.Account.{Contents, Counts, Fits, FitsSometime}
 use Rattle.lset_words.specs.Placement.{IsLeastFit}
-use Rattle.lset_history.specs.Firsts.{IsFirst}
+use Rattle.lset_history.proofs.Firsts.{IsFirst}
 use Rattle.lset_replay.specs.Trace.{fit_by}
 
 -- the first moment of a call from `first` to `last` at which F holds

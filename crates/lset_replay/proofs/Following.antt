@@ -10,9 +10,9 @@ use Rattle.lset_words.specs.Log.{Log, Entry, Change, TracedCall, calls_at, calls
 use Rattle.lset_words.specs.Log.Entry.{began}
 use Rattle.lset_words.specs.Account.{Contents, Counts, Changes, Enters}
 use Rattle.lset_words.specs.Placement.{traced_at, no_traced, IsLeastFit}
-use Rattle.lset_words.specs.Numbers.{equal_test, unequal_test, same_or_not}
-use Rattle.lset_history.specs.Calls.{open_is, call_is, begun_is, changed_is, new_call}
-use Rattle.lset_history.specs.OpenCalls.{last_number, number_after, length_began}
+use Rattle.lset_words.proofs.Numbers.{equal_test, unequal_test, same_or_not}
+use Rattle.lset_history.proofs.Calls.{open_is, call_is, begun_is, changed_is, new_call}
+use Rattle.lset_history.proofs.OpenCalls.{last_number, number_after, length_began}
 use Rattle.lset_replay.specs.declared.places.OpenCall.{OpenCall}
 use Rattle.lset_replay.specs.declared.places.Place.{Place}
 use Rattle.lset_replay.specs.Trace.{Trace, open_call_at, place_at, number_of, fit, changed_at, settled, watched, noted, opened, begun_on, changed_on, ended_on}

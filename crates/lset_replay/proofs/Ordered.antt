@@ -7,9 +7,9 @@ use Rattle.lset_words.specs.declared.history.Placed.{Placed}
 use Rattle.lset_words.specs.Log.{Log, TracedCall, calls_at}
 use Rattle.lset_words.specs.Account.{Contents, Counts, Account}
 use Rattle.lset_words.specs.Placement.{Standing, standing, placed_of, makes_change, at_moment, block, by_moments, traced_at, no_traced, StandsBy, StandsAt, IsPlacement, reply_by}
-use Rattle.lset_history.specs.Lists.{all_at}
-use Rattle.lset_history.specs.Calls.{Traced, ChangedBy, EndedBy}
-use Rattle.lset_history.specs.CallSteps.{run_of, calls_of}
+use Rattle.lset_history.proofs.Lists.{all_at}
+use Rattle.lset_history.proofs.Calls.{Traced, ChangedBy, EndedBy}
+use Rattle.lset_history.proofs.CallSteps.{run_of, calls_of}
 use Rattle.lset_replay.specs.declared.places.Place.{Place}
 use Rattle.lset_replay.specs.Trace.{trace_at, place_at}
 use Rattle.lset_replay.specs.Blocks.{placed_at, block_at, blocks_upto, is_same, StandUpTo}

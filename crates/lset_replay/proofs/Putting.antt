@@ -5,7 +5,7 @@ use Rattle.std.specs.declared.alloc.Global.{Global}
 use mathlib.Core.Bool.{beq}
 use Rattle.std.specs.Prelude.{Vec}
 use Rattle.std.proofs.lemmas.List.{append-nil, at_drop_more, map-set, get_or-map, length-map, take_more, flat_map_more, take_all}
-use Rattle.lset_words.specs.Numbers.{same_or_not, equal_test, unequal_test}
+use Rattle.lset_words.proofs.Numbers.{same_or_not, equal_test, unequal_test}
 use Rattle.lset_words.specs.declared.history.Placed.{Placed}
 use Rattle.lset_replay.specs.declared.places.Place.{Place}
 use Rattle.lset_replay.specs.Blocks.{placed_at, block_at, blocks_upto, is_same, items_of, block_in}

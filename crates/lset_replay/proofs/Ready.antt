@@ -14,10 +14,10 @@ use Rattle.lset_words.specs.Placement.{no_traced}
 use Rattle.lset_words.specs.History.{call_numbered}
 use Rattle.lset_history.specs.History.{IsLater, MayBegin, MayEnd, has_open}
 use Rattle.std.proofs.lemmas.Bool.{cases_Bool}
-use Rattle.lset_history.specs.Lists.{all_imply, all_map, get_or_mapped}
-use Rattle.lset_history.specs.Calls.{Traced, EndedBy, OpenAt}
-use Rattle.lset_history.specs.CallSteps.{run_of, calls_of, way_of}
-use Rattle.lset_history.specs.OpenCalls.{OpenNumber, open_number, last_number, length_began, length_stepped}
+use Rattle.lset_history.proofs.Lists.{all_imply, all_map, get_or_mapped}
+use Rattle.lset_history.proofs.Calls.{Traced, EndedBy, OpenAt}
+use Rattle.lset_history.proofs.CallSteps.{run_of, calls_of, way_of}
+use Rattle.lset_history.proofs.OpenCalls.{OpenNumber, open_number, last_number, length_began, length_stepped}
 use Rattle.lset_replay.specs.declared.places.OpenCall.{OpenCall}
 use Rattle.lset_replay.specs.declared.recorder.Recorder.{Recorder}
 use Rattle.lset_replay.specs.Trace.{Trace, open_call_at, trace_at, trace_after, trace_of, MayStep}

@@ -8,14 +8,14 @@ use Rattle.lset_words.specs.Account.{Account, Contents, Counts}
 use Rattle.lset_words.specs.Placement.{IsPlacement}
 use Rattle.lset_words.specs.History.{Linearizes, answered}
 use Rattle.lset_words.specs.SequentialSet.{empty_set, set_left}
-use Rattle.lset_history.specs.Linearizing.{linearizes, leaves_keys}
+use Rattle.lset_history.proofs.Linearizing.{linearizes, leaves_keys}
 use Rattle.lset_steps.specs.declared.Event.{Event}
 use Rattle.lset_steps.specs.Steps.{Table, Run, state_at, event_at, log_of}
 use Rattle.lset_steps.specs.Chain.{View, InContent}
 use Rattle.lset_steps.specs.Laws.{Lawful, StateLaws, view_of, views}
 use Rattle.lset_steps.specs.Worlds.{WorldState, IsContent}
-use Rattle.lset_steps.specs.ContentLists.{content_have, content_from}
-use Rattle.lset_steps.specs.RunAccount.{contents_at, counts_at, account_of}
+use Rattle.lset_steps.proofs.ContentLists.{content_have, content_from}
+use Rattle.lset_steps.proofs.RunAccount.{contents_at, counts_at, account_of}
 use Rattle.lset_replay.specs.declared.events.LineEvent.{LineEvent}
 use Rattle.lset_replay.specs.declared.recorder.Recorder.{Recorder}
 use Rattle.lset_replay.specs.Events.{only_events, events_of}

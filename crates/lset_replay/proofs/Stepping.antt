@@ -9,11 +9,11 @@ use Rattle.lset_words.specs.Account.{Contents, Counts, Changes, FitsSometime, Ri
 use Rattle.lset_words.specs.Placement.{traced_at, no_traced, IsLeastFit}
 use Rattle.lset_words.specs.History.{call_numbered, no_call}
 use Rattle.lset_history.specs.History.{ended_with}
-use Rattle.lset_words.specs.Numbers.{equal_test, unequal_test, same_or_not, same_number}
-use Rattle.lset_history.specs.Lists.{get_or_mapped, all_at}
-use Rattle.lset_history.specs.Calls.{Run, Traced, EndedBy, OpenAt, open_is, call_is, begun_is, changed_is}
-use Rattle.lset_history.specs.CallSteps.{run_of, calls_of}
-use Rattle.lset_history.specs.OpenCalls.{OpenNumber, open_number, last_number, length_stepped, step_sets}
+use Rattle.lset_words.proofs.Numbers.{equal_test, unequal_test, same_or_not, same_number}
+use Rattle.lset_history.proofs.Lists.{get_or_mapped, all_at}
+use Rattle.lset_history.proofs.Calls.{Run, Traced, EndedBy, OpenAt, open_is, call_is, begun_is, changed_is}
+use Rattle.lset_history.proofs.CallSteps.{run_of, calls_of}
+use Rattle.lset_history.proofs.OpenCalls.{OpenNumber, open_number, last_number, length_stepped, step_sets}
 use Rattle.lset_replay.specs.declared.places.OpenCall.{OpenCall}
 use Rattle.lset_replay.specs.declared.places.Place.{Place}
 use Rattle.lset_replay.specs.Trace.{Trace, open_call_at, place_at, number_of, fit, changed_at, read_at, settled, changed_on, ended_on}

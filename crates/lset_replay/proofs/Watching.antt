@@ -6,8 +6,8 @@ use Rattle.lset_words.specs.declared.Key.{Key}
 use Rattle.lset_words.specs.Words.{key_of}
 use Rattle.lset_words.specs.Log.{Change}
 use Rattle.lset_words.specs.Account.{Contents, Changes}
-use Rattle.lset_words.specs.Numbers.{same_number, equal_test}
-use Rattle.lset_history.specs.Firsts.{IsFirst, first_stays, first_comes, none_stays, first_begins, none_begins}
+use Rattle.lset_words.proofs.Numbers.{same_number, equal_test}
+use Rattle.lset_history.proofs.Firsts.{IsFirst, first_stays, first_comes, none_stays, first_begins, none_begins}
 use Rattle.lset_replay.specs.declared.places.OpenCall.{OpenCall}
 use Rattle.lset_replay.specs.Trace.{noted, watched_call}
 

@@ -15,7 +15,7 @@ use Rattle.lset_steps.specs.declared.world.StepFault.TheVariants as step
 use Rattle.lset_steps.specs.Steps.{Table, Run, event_at, state_at, log_of}
 use Rattle.lset_steps.specs.Laws.{view_of}
 use Rattle.lset_steps.specs.Worlds.{WorldState, Refused, IsContent}
-use Rattle.lset_steps.specs.RunAccount.{contents_at, counts_at}
+use Rattle.lset_steps.proofs.RunAccount.{contents_at, counts_at}
 use Rattle.lset_coarse.specs.Coarse.{coarse}
 use Rattle.lset_fine.specs.Fine.{fine}
 use Rattle.lset_optimistic.specs.Optimistic.{optimistic}

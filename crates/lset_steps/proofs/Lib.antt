@@ -1,2 +1,30 @@
+pub mod Moves
+pub mod Segments
+pub mod QuietMove
+pub mod InsertMove
+pub mod MarkMove
+pub mod UnlinkMove
+pub mod MoveLaws
+pub mod Hindsight
+pub mod Walk
+pub mod Memory
+pub mod Rely
+pub mod Remains
+pub mod Discipline
+pub mod Replies
+pub mod MoreEvents
+pub mod WorldRuns
+pub mod ContentLists
+pub mod RunContents
+pub mod LockWords
+pub mod RunAccount
+pub mod SmallLocals
+pub mod Held
+pub mod UnlockedWalk
+pub mod SecondWalk
+pub mod Turns
+pub mod Reading
+pub mod ReadBound
+pub mod ReadWalk
 mod WalkedTo
 mod Promised

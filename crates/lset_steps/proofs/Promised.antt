@@ -14,13 +14,13 @@ use Rattle.lset_steps.specs.Steps.{Table, State, Run, Enabled, state_at, local_o
 use Rattle.lset_steps.specs.Chain.{View, IsOrdered, IsChain, Segment, contents_of, counts_of}
 use Rattle.lset_steps.specs.Laws.{Lawful, StateLaws, StepAt, word_named, views}
 use Rattle.lset_steps.specs.Worlds.{keys_in}
-use Rattle.lset_steps.specs.MoreEvents.{state_agree}
-use Rattle.lset_words.specs.Numbers.{if_same, if_other}
-use Rattle.lset_words.specs.RisingLists.{RisesFrom, rises_less, increasing_from_rises}
-use Rattle.lset_steps.specs.ContentLists.{chain_is}
-use Rattle.lset_steps.specs.RunContents.{ContentList, content_at}
-use Rattle.lset_steps.specs.RunAccount.{account_of}
-use Rattle.lset_steps.specs.LockWords.{lock_word}
+use Rattle.lset_steps.proofs.MoreEvents.{state_agree}
+use Rattle.lset_words.proofs.Numbers.{if_same, if_other}
+use Rattle.lset_words.proofs.RisingLists.{RisesFrom, rises_less, increasing_from_rises}
+use Rattle.lset_steps.proofs.ContentLists.{chain_is}
+use Rattle.lset_steps.proofs.RunContents.{ContentList, content_at}
+use Rattle.lset_steps.proofs.RunAccount.{account_of}
+use Rattle.lset_steps.proofs.LockWords.{lock_word}
 use Rattle.lset_steps.specs.Promises.{InRange, ThreadInRange, SortedChain, ChainIsSorted, LockWords, LockUses, UnlinkedNodesStay, SeenInThePast, UnmarkedNodesInChain, ChangeIsNamed, NamedChange, RepliesFit, IsRead, TrueMeansChange, HasAccount, ContentIsListed, ListedContent}
 
 -- the run goes on with a step of a thread with an open call

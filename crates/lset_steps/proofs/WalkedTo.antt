@@ -5,10 +5,10 @@ use Rattle.lset_steps.specs.Chain.{View, Segment, IsChain, IsOrdered}
 use Rattle.std.specs.List.Sorted.{IsStrictlyIncreasing}
 use Rattle.lset_steps.specs.Worlds.{keys_in, IsContent}
 use Rattle.std.proofs.lemmas.Bool.{cases_Bool}
-use Rattle.lset_words.specs.RisingLists.{increasing_from_rises}
-use Rattle.lset_steps.specs.ContentLists.{content_rises}
-use Rattle.lset_steps.specs.Segments.{segment-append}
-use Rattle.lset_steps.specs.QuietMove.{not_one}
+use Rattle.lset_words.proofs.RisingLists.{increasing_from_rises}
+use Rattle.lset_steps.proofs.ContentLists.{content_rises}
+use Rattle.lset_steps.proofs.Segments.{segment-append}
+use Rattle.lset_steps.proofs.QuietMove.{not_one}
 
 -- The walk of `content` has come to curr.
 pub record WalkedTo (v : View) (items : List ℕ) (curr : ℕ) : Type 0 where

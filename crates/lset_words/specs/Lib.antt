@@ -1,9 +1,6 @@
 pub mod Words
-pub mod Bounds
 pub mod SequentialSet
 pub mod History
 pub mod Log
 pub mod Account
 pub mod Placement
-pub mod RisingLists
-pub mod Numbers

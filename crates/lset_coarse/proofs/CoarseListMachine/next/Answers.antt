@@ -1,4 +1,4 @@
-use Rattle.lset_steps.specs.SmallLocals.{small_occurs}
+use Rattle.lset_steps.proofs.SmallLocals.{small_occurs}
 use Rattle.lset_coarse.specs.Coarse.{coarse}
 use Rattle.lset_coarse.specs.Lawful.{coarse_lawful}
 use Rattle.lset_coarse.proofs.CoarseListMachine.next.Goals as goal

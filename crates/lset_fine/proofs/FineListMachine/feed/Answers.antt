@@ -1,4 +1,4 @@
-use Rattle.lset_steps.specs.SmallLocals.{small_sees}
+use Rattle.lset_steps.proofs.SmallLocals.{small_sees}
 use Rattle.lset_fine.specs.Fine.{fine}
 use Rattle.lset_fine.specs.Lawful.{fine_lawful}
 use Rattle.lset_fine.proofs.FineListMachine.feed.Goals as goal

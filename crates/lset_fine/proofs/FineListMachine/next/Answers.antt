@@ -1,4 +1,4 @@
-use Rattle.lset_steps.specs.SmallLocals.{small_occurs}
+use Rattle.lset_steps.proofs.SmallLocals.{small_occurs}
 use Rattle.lset_fine.specs.Fine.{fine}
 use Rattle.lset_fine.specs.Lawful.{fine_lawful}
 use Rattle.lset_fine.proofs.FineListMachine.next.Goals as goal

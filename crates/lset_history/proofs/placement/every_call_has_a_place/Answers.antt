@@ -1,5 +1,5 @@
 use Rattle.lset_history.specs.Laws.{contents_of}
-use Rattle.lset_history.specs.Placing.{has_placement}
+use Rattle.lset_history.proofs.Placing.{has_placement}
 use Rattle.lset_history.proofs.placement.every_call_has_a_place.Goals as goal
 
 pub returns : goal.returns

@@ -1,5 +1,5 @@
 use Rattle.lset_history.specs.Laws.{contents_of}
-use Rattle.lset_history.specs.Histories.{is_history}
+use Rattle.lset_history.proofs.RunHistories.{is_history}
 use Rattle.lset_history.proofs.placement.logs_tell_histories.Goals as goal
 
 pub returns : goal.returns

@@ -4,9 +4,9 @@ use Rattle.lset_words.specs.Log.{Log, calls_at}
 use Rattle.lset_words.specs.Account.{Counts, Account}
 use Rattle.lset_words.specs.Placement.{IsPlacement}
 use Rattle.lset_history.specs.Laws.{contents_of, HasKeysOf, set_of_order}
-use Rattle.lset_words.specs.RisingLists.{increasing_from_rises}
-use Rattle.lset_history.specs.States.{Shows}
-use Rattle.lset_history.specs.Linearizing.{linearizes, leaves_set, leaves_keys}
+use Rattle.lset_words.proofs.RisingLists.{increasing_from_rises}
+use Rattle.lset_history.proofs.States.{Shows}
+use Rattle.lset_history.proofs.Linearizing.{linearizes, leaves_set, leaves_keys}
 use Rattle.lset_history.proofs.placement.placement_linearizes.Goals as goal
 
 has_keys : (threads quota last : ℕ) (log : Log) (lists : ℕ → List ℕ) (counts : Counts) (order : List Placed)

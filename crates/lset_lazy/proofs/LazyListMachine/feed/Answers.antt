@@ -1,4 +1,4 @@
-use Rattle.lset_steps.specs.SmallLocals.{small_sees}
+use Rattle.lset_steps.proofs.SmallLocals.{small_sees}
 use Rattle.lset_lazy.specs.Lazy.{lazy}
 use Rattle.lset_lazy.specs.Lawful.{lazy_lawful}
 use Rattle.lset_lazy.proofs.LazyListMachine.feed.Goals as goal

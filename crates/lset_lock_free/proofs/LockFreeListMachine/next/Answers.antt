@@ -1,4 +1,4 @@
-use Rattle.lset_steps.specs.SmallLocals.{small_occurs}
+use Rattle.lset_steps.proofs.SmallLocals.{small_occurs}
 use Rattle.lset_lock_free.specs.LockFree.{lock_free}
 use Rattle.lset_lock_free.specs.Lawful.{lock_free_lawful}
 use Rattle.lset_lock_free.proofs.LockFreeListMachine.next.Goals as goal

@@ -1,4 +1,4 @@
-use Rattle.lset_steps.specs.SmallLocals.{small_sees}
+use Rattle.lset_steps.proofs.SmallLocals.{small_sees}
 use Rattle.lset_optimistic.specs.Optimistic.{optimistic}
 use Rattle.lset_optimistic.specs.Lawful.{optimistic_lawful}
 use Rattle.lset_optimistic.proofs.OptimisticListMachine.feed.Goals as goal

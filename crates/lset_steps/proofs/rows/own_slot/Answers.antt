@@ -1,4 +1,4 @@
-use Rattle.lset_steps.specs.SmallLocals.{slot_small}
+use Rattle.lset_steps.proofs.SmallLocals.{slot_small}
 use Rattle.lset_steps.proofs.rows.own_slot.Goals as goal
 
 pub returns-clause-few : goal.returns-clause-few

@@ -1,5 +1,5 @@
 use Rattle.std.proofs.Common.{arith}
-use Rattle.lset_words.specs.Bounds.{row_once}
+use Rattle.lset_words.proofs.Bounds.{row_once}
 use Rattle.lset_words.proofs.table.words_are_apart.Goals as goal
 
 pub returns-clause-slots : goal.returns-clause-slots

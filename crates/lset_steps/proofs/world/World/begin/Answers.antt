@@ -1,5 +1,5 @@
 use Rattle.lset_steps.specs.declared.Event.TheVariants.{Begin}
-use Rattle.lset_steps.specs.WorldRuns.{is_run_after}
+use Rattle.lset_steps.proofs.WorldRuns.{is_run_after}
 use Rattle.lset_steps.proofs.world.World.begin.Goals as goal
 
 pub invariant_of-self : goal.invariant_of-self

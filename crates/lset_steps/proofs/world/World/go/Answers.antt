@@ -1,5 +1,5 @@
 use Rattle.lset_steps.specs.declared.Event.TheVariants.{Go}
-use Rattle.lset_steps.specs.WorldRuns.{is_run_after, named_in}
+use Rattle.lset_steps.proofs.WorldRuns.{is_run_after, named_in}
 use Rattle.lset_steps.proofs.world.World.go.Goals as goal
 
 pub invariant_of-self : goal.invariant_of-self

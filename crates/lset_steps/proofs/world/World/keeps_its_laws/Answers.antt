@@ -1,6 +1,6 @@
 use Rattle.std.proofs.Common.{subst}
 use Rattle.lset_steps.specs.Worlds.{WorldState, IsRun}
-use Rattle.lset_steps.specs.WorldRuns.{order_of}
+use Rattle.lset_steps.proofs.WorldRuns.{order_of}
 use Rattle.lset_steps.proofs.world.World.keeps_its_laws.Goals as goal
 
 pub returns : goal.returns

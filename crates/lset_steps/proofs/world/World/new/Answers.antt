@@ -1,4 +1,4 @@
-use Rattle.lset_steps.specs.WorldRuns.{is_run_opening}
+use Rattle.lset_steps.proofs.WorldRuns.{is_run_opening}
 use Rattle.lset_steps.proofs.world.World.new.Goals as goal
 
 pub invariant_of-result : goal.invariant_of-result

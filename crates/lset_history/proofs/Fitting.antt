@@ -1,0 +1,121 @@
+-- [Fits] is the sequential set's answer where it changes nothing.
+use Rattle.std.proofs.Common.{◌≡◌, ℕ, ◌⊎◌, true, false, inl, inr, List, sym, refl, ap, subst, ◌∙◌, arith}
+use Rattle.std.specs.Prelude.{Contains, ◌==◌}
+use Rattle.std.proofs.lemmas.Bool.Decides.{nat_tests}
+use Rattle.lset_words.specs.declared.Call.{Call}
+use Rattle.lset_words.specs.declared.Call.TheVariants as call
+use Rattle.lset_words.specs.declared.Reply.{Reply}
+use Rattle.lset_words.specs.declared.Reply.TheVariants.{True, False, Full}
+use Rattle.lset_words.specs.SequentialSet.{SetState, has_key, with_key, without_key, count_of, reply_to, after_call}
+use Rattle.lset_words.specs.Account.{Content, Fits}
+use Rattle.lset_words.proofs.Numbers.{same_or_not}
+use Rattle.std.proofs.lemmas.Bool.{cases_Bool}
+use Rattle.lset_history.proofs.Keys.{has_true, has_from, has_false, has_none, with_keeps, without_from, member_or_not}
+
+-- a content and a list have the same keys
+abbrev pub SameKeys : Content → List ℕ → Type 0
+SameKeys content keys = (j : ℕ) → (content j → Contains keys j) × (Contains keys j → content j)
+
+-- the set gives that reply, and stays as it is
+abbrev pub Replies : ℕ → SetState → ℕ → Call → Reply → Type 0
+Replies quota s thread call reply = (reply_to quota s thread call ≡ reply) × (after_call s thread call reply ≡ s)
+
+module _ (quota : ℕ) (content : Content) (s : SetState) (same : SameKeys content s.keys) where
+  member : (k : ℕ) → content k → has_key k s.keys ≡ true
+  member k h = has_true k s.keys ((same k).0 h)
+
+  no_member : (k : ℕ) → (content k → ⊥) → has_key k s.keys ≡ false
+  no_member k h = has_false k s.keys (λ c. h ((same k).1 c))
+
+  is_member : (k : ℕ) → has_key k s.keys ≡ true → content k
+  is_member k e = (same k).1 (has_from k s.keys e)
+
+  is_none : (k : ℕ) → has_key k s.keys ≡ false → content k → ⊥
+  is_none k e h = has_none k s.keys e ((same k).0 h)
+
+  -- a reply that fits is the set's
+  pub replies_from_fits : (thread count : ℕ) (call : Call) (reply : Reply) → count_of s thread ≡ count
+      → Fits quota content count call reply → Replies quota s thread call reply
+  replies_from_fits t n (call.Add k) True e f = absurd f
+  replies_from_fits t n (call.Add k) False e f = let a : has_key k.0 s.keys ≡ true = member k.0 f in (rw a refl, refl)
+  replies_from_fits t n (call.Add k) Full e f =
+      let a : has_key k.0 s.keys ≡ false = no_member k.0 f.0 in
+      let m : n ≡ quota = f.1 in
+      let b : (count_of s t == quota) ≡ true = grind (arith, nat_tests) in
+      (rw (a, b) refl, refl)
+  replies_from_fits t n (call.Remove k) True e f = absurd f
+  replies_from_fits t n (call.Remove k) False e f = let a : has_key k.0 s.keys ≡ false = no_member k.0 f in (rw a refl, refl)
+  replies_from_fits t n (call.Remove k) Full e f = absurd f
+  replies_from_fits t n (call.Contains k) True e f = let a : has_key k.0 s.keys ≡ true = member k.0 f in (rw a refl, refl)
+  replies_from_fits t n (call.Contains k) False e f = let a : has_key k.0 s.keys ≡ false = no_member k.0 f in (rw a refl, refl)
+  replies_from_fits t n (call.Contains k) Full e f = absurd f
+
+  -- and the set's reply fits, where the set stays as it is
+  pub fits_from_replies : (thread count : ℕ) (call : Call) (reply : Reply) → count_of s thread ≡ count
+      → Replies quota s thread call reply → Fits quota content count call reply
+  fits_from_replies t n (call.Add k) True e f = elim (cases_Bool (has_key k.0 s.keys)) [
+    | inl a ↦ absurd (let g : False ≡ True = rw a at f.0 in cc)
+    | inr a ↦ (let g : with_key k.0 s.keys ≡ s.keys = ap (λ z. z.keys) f.1 in
+        has_none k.0 s.keys a (subst (λ z. Contains z k.0) g (with_keeps k.0 k.0 s.keys (inl refl))))
+  ]
+  fits_from_replies t n (call.Add k) False e f = elim (cases_Bool (has_key k.0 s.keys)) [
+    | inl a ↦ is_member k.0 a
+    | inr a ↦ elim (cases_Bool (count_of s t == quota)) [
+      | inl b ↦ absurd (let g : Full ≡ False = rw (a, b) at f.0 in cc)
+      | inr b ↦ absurd (let g : True ≡ False = rw (a, b) at f.0 in cc)
+    ]
+  ]
+  fits_from_replies t n (call.Add k) Full e f = elim (cases_Bool (has_key k.0 s.keys)) [
+    | inl a ↦ absurd (let g : False ≡ Full = rw a at f.0 in cc)
+    | inr a ↦ elim (cases_Bool (count_of s t == quota)) [
+      | inl b ↦ (is_none k.0 a, (let g : count_of s t ≡ quota = grind (arith, nat_tests) in sym e ∙ g))
+      | inr b ↦ absurd (let g : True ≡ Full = rw (a, b) at f.0 in cc)
+    ]
+  ]
+  fits_from_replies t n (call.Remove k) True e f = elim (cases_Bool (has_key k.0 s.keys)) [
+    | inl a ↦ (let g : without_key k.0 s.keys ≡ s.keys = ap (λ z. z.keys) f.1 in
+        (without_from k.0 k.0 s.keys (subst (λ z. Contains z k.0) (sym g) (has_from k.0 s.keys a))).1 refl)
+    | inr a ↦ absurd (let g : False ≡ True = rw a at f.0 in cc)
+  ]
+  fits_from_replies t n (call.Remove k) False e f = elim (cases_Bool (has_key k.0 s.keys)) [
+    | inl a ↦ absurd (let g : True ≡ False = rw a at f.0 in cc)
+    | inr a ↦ is_none k.0 a
+  ]
+  fits_from_replies t n (call.Remove k) Full e f = elim (cases_Bool (has_key k.0 s.keys)) [
+    | inl a ↦ absurd (let g : True ≡ Full = rw a at f.0 in cc)
+    | inr a ↦ absurd (let g : False ≡ Full = rw a at f.0 in cc)
+  ]
+  fits_from_replies t n (call.Contains k) True e f = elim (cases_Bool (has_key k.0 s.keys)) [
+    | inl a ↦ is_member k.0 a
+    | inr a ↦ absurd (let g : False ≡ True = rw a at f.0 in cc)
+  ]
+  fits_from_replies t n (call.Contains k) False e f = elim (cases_Bool (has_key k.0 s.keys)) [
+    | inl a ↦ absurd (let g : True ≡ False = rw a at f.0 in cc)
+    | inr a ↦ is_none k.0 a
+  ]
+  fits_from_replies t n (call.Contains k) Full e f = elim (cases_Bool (has_key k.0 s.keys)) [
+    | inl a ↦ absurd (let g : True ≡ Full = rw a at f.0 in cc)
+    | inr a ↦ absurd (let g : False ≡ Full = rw a at f.0 in cc)
+  ]
+
+  -- a content with a list of its keys tells of each reply whether it fits
+  present : (k : ℕ) → content k ⊎ (content k → ⊥)
+  present k = elim (member_or_not k s.keys) [ inl c ↦ inl ((same k).1 c) | inr c ↦ inr (λ h. c ((same k).0 h)) ]
+
+  absent : (k : ℕ) → (content k → ⊥) ⊎ ((content k → ⊥) → ⊥)
+  absent k = elim (present k) [ inl h ↦ inr (λ n. n h) | inr h ↦ inl h ]
+
+  pub fits_or_not : (count : ℕ) (call : Call) (reply : Reply) → Fits quota content count call reply
+      ⊎ (Fits quota content count call reply → ⊥)
+  fits_or_not n (call.Add k) True = inr (λ f. f)
+  fits_or_not n (call.Add k) False = present k.0
+  fits_or_not n (call.Add k) Full = elim (present k.0) [
+    | inl h ↦ inr (λ f. f.0 h)
+    | inr h ↦ elim (same_or_not n quota) [ inl e ↦ inl (h, e) | inr e ↦ inr (λ f. e f.1) ]
+  ]
+  fits_or_not n (call.Remove k) True = inr (λ f. f)
+  fits_or_not n (call.Remove k) False = absent k.0
+  fits_or_not n (call.Remove k) Full = inr (λ f. f)
+  fits_or_not n (call.Contains k) True = present k.0
+  fits_or_not n (call.Contains k) False = absent k.0
+  fits_or_not n (call.Contains k) Full = inr (λ f. f)

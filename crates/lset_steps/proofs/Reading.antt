@@ -1,0 +1,212 @@
+-- What a contains without locks knows at each of its rows, and that each row keeps it: with the reply that fits a moment of the
+-- call, which may be another thread's step (after O'Hearn and others).
+use Rattle.std.specs.Prelude.{◌≡◌, ◌≢◌, ℕ, suc, ◌-◌, ◌==◌, if◌then◌else◌, ◌/◌, ◌%◌, ◌<◌, ◌≤◌, ◌⊎◌, Bool, false, List, [], refl}
+use Rattle.std.proofs.Common.{arith, inl, inr, sym, ◌∙◌, ap, subst}
+use Rattle.lset_words.proofs.Numbers.{same_or_not, below_or_not, if_below, if_not_below, if_same, if_other}
+use Rattle.lset_words.specs.declared.Call.{Call}
+use Rattle.lset_words.specs.declared.Call.TheVariants.{Add, Remove, Contains}
+use Rattle.lset_words.specs.declared.Key.{Key}
+use Rattle.lset_words.specs.declared.Reply.TheVariants.{True, False}
+use Rattle.lset_words.specs.Words.{key_index, link_index, tail_word, node_count, target, key_of}
+use Rattle.lset_words.specs.Account.{FitsSometime}
+use Rattle.lset_steps.specs.declared.Local.{Local}
+use Rattle.lset_steps.specs.declared.Action.TheVariants.{Load}
+use Rattle.lset_steps.specs.Steps.{Table}
+use Rattle.lset_steps.specs.Chain.{View, view, FitsIn, node_key, node_link, contents_of, counts_of}
+use Rattle.lset_steps.proofs.Moves.{InPast, Had, Lacked, At20, At21, At22}
+use Rattle.lset_steps.proofs.Hindsight.{later_published, key_stays}
+use Rattle.lset_steps.proofs.QuietMove.{in_chain_published}
+use Rattle.lset_steps.proofs.Walk.{at20_on, at21_on, at22_on, from20, from21_less, from21_same, from21_more, from22_true, from22_false}
+use Rattle.lset_steps.specs.Laws.{Registers}
+use Rattle.lset_steps.proofs.Memory.{Memory, inside, inner}
+use Rattle.lset_steps.proofs.Discipline.{Outline, Here, Thread}
+use Rattle.lset_steps.proofs.Replies.{keep_walk, keep}
+use Rattle.lset_steps.specs.ReadRows.{HasReadRows, begun_reading, read_key, read_mark, continued, leaves_with}
+use Rattle.lset_steps.proofs.Turns.{Turn, Protocol, due_of}
+use Rattle.lset_steps.proofs.Turns.Turn.{passes, answers}
+
+pub data Reading (vs : ℕ → View) (first now : ℕ) (done : Bool) (l : Local) : Type 0 where
+  reads20 : l.pc ≡ 20 → done ≡ false → l.call ≡ Contains (key_of l.call) → At20 vs first now (key_of l.call).0 l.curr
+      → Reading vs first now done l
+  reads21 : l.pc ≡ 21 → done ≡ false → l.call ≡ Contains (key_of l.call) → At21 vs first now (key_of l.call).0 l.curr
+      → Reading vs first now done l
+  reads22 : l.pc ≡ 22 → done ≡ false → l.call ≡ Contains (key_of l.call) → At22 vs first now (key_of l.call).0 l.curr
+      → Reading vs first now done l
+
+-- it stays known
+pub reading_on : {vs : ℕ → View} {first now : ℕ} {done : Bool} {l : Local} → Reading vs first now done l
+    → Reading vs first (suc now) done l
+reading_on {vs} {first} {now} {done} {l} (reads20 e d c a) =
+    reads20 e d c (at20_on vs first now (suc now) (key_of l.call).0 l.curr (omega arith) a)
+reading_on {vs} {first} {now} {done} {l} (reads21 e d c a) =
+    reads21 e d c (at21_on vs first now (suc now) (key_of l.call).0 l.curr (omega arith) a)
+reading_on {vs} {first} {now} {done} {l} (reads22 e d c a) =
+    reads22 e d c (at22_on vs first now (suc now) (key_of l.call).0 l.curr (omega arith) a)
+
+-- from the begin
+pub begun_reading_is : (call : Call) (l : Local)
+    → ((begun_reading call l).call ≡ call) × ((begun_reading call l).used ≡ l.used) × ((begun_reading call l).pc ≢ 0)
+begun_reading_is (Add k) l = (refl, refl, λ e. omega arith)
+begun_reading_is (Remove k) l = (refl, refl, λ e. omega arith)
+begun_reading_is (Contains k) l = (refl, refl, λ e. omega arith)
+
+pub reading_begins : (vs : ℕ → View) (now : ℕ) (v : View) (k : Key) (l : Local) → vs now ≡ v → v.key 0 ≡ 0
+    → Reading vs now now false (begun_reading (Contains k) l)
+reading_begins vs now v k l present head =
+    let low : (vs now).key 0 ≡ 0 = ap (λ x. x.key 0) present ∙ head in
+    reads20 refl refl refl (record {
+      past = record { at = now; from = omega arith; upto = omega arith; in_chain = ([], refl) };
+      low = omega arith;
+    })
+
+-- a contains answers by what it had, or lacked
+fits_had : (q : ℕ) (vs : ℕ → View) (first now t : ℕ) (call : Call) → call ≡ Contains (key_of call)
+    → Had vs first now (key_of call).0
+    → FitsSometime q (contents_of vs) (counts_of vs) first now t call True
+fits_had q vs first now t call c a = record {
+  moment = a.at;
+  from = a.from;
+  upto = a.upto;
+  fits = subst (λ x. FitsIn q (vs a.at) t x True) (sym c) a.has;
+}
+
+fits_lacked : (q : ℕ) (vs : ℕ → View) (first now t : ℕ) (call : Call) → call ≡ Contains (key_of call)
+    → Lacked vs first now (key_of call).0
+    → FitsSometime q (contents_of vs) (counts_of vs) first now t call False
+fits_lacked q vs first now t call c a = record {
+  moment = a.at;
+  from = a.from;
+  upto = a.upto;
+  fits = subst (λ x. FitsIn q (vs a.at) t x False) (sym c) a.lacks;
+}
+
+pub even_or_odd : (x : ℕ) → (x % 2 ≡ 0) ⊎ (x % 2 ≡ 1)
+even_or_odd x = grind arith
+
+-- THE ROWS, in every table that has them at 20 to 22, whatever the protocol
+module _ (T : Table) (P : Protocol T.marks) (At : Outline) (n q t : ℕ) (vs : ℕ → View) (first now : ℕ) (ws : List ℕ)
+    (used : ℕ → ℕ) (done : Bool) (l : Local)
+    (h : Here T.marks n q vs now ws used) (th : Thread At n q t vs first now ws used done l)
+    (rows : HasReadRows T)
+    (reading : (l' : Local) → Reading vs first (suc now) done l' → At q t vs first (suc now) (view n q ws used) done l')
+    (idle : (l' : Local) → l'.pc ≡ 0 → At q t vs first (suc now) (view n q ws used) done l') where
+  abbrev Goal : Type 0
+  Goal = Turn T P At n q t vs first now ws used done l
+
+  abbrev V : View
+  V = view n q ws used
+
+  M : Memory T.marks n q ws used
+  M = h.memory
+
+  regs : Registers n q t l
+  regs = th.registers
+
+  key_now : (a : ℕ) → (vs now).key a ≡ node_key ws a
+  key_now a = ap (λ v. v.key a) h.present
+
+  link_now : (a : ℕ) → (vs now).link a ≡ node_link ws a
+  link_now a = ap (λ v. v.link a) h.present
+
+  -- what was in the chain is published
+  past_published : (a : ℕ) → InPast vs first now a → V.published a
+  past_published a p =
+      let upto : p.at ≤ now = p.upto in
+      let c : (vs p.at).published a = in_chain_published (vs p.at) (h.course.ordered p.at upto) a p.in_chain in
+      subst (λ v. v.published a) h.present (later_published vs now a (now - p.at) p.at now h.course (omega arith) (omega arith) c).0
+
+  top : (m : ℕ) → m ≤ now → target l.call < (vs m).key 1
+  top m le =
+      let e : (vs now).key 1 ≡ (vs m).key 1 =
+      key_stays vs now 1 m now h.course le (omega arith) (h.course.ordered m le).tail_published in
+      let f : (vs now).key 1 ≡ node_key ws 1 = key_now 1 in
+      let g : node_key ws 1 ≡ tail_word = M.tail_key in
+      let low : target l.call < tail_word = regs.low in
+      omega arith
+
+  from_20 : l.pc ≡ 20 → done ≡ false → l.call ≡ Contains (key_of l.call) → At20 vs first now (key_of l.call).0 l.curr → Goal
+  from_20 e d c a =
+      let s : ℕ = node_link ws l.curr in
+      let upto : a.past.at ≤ now = a.past.upto in
+      let published : V.published l.curr = past_published l.curr a.past in
+      let kp : (vs now).key l.curr ≡ (vs a.past.at).key l.curr = key_stays vs now l.curr a.past.at now h.course upto
+      (omega arith) (in_chain_published (vs a.past.at) (h.course.ordered a.past.at upto) l.curr a.past.in_chain) in
+      let kn : (vs now).key l.curr ≡ node_key ws l.curr = key_now l.curr in
+      let low : (vs a.past.at).key l.curr < target l.call = a.low in
+      let user : l.curr ≢ 1 = inner T.marks n q ws used M l.curr (target l.call) (omega arith) regs.low in
+      let inn : s / 2 < node_count n q = inside T.marks n q ws used M (s / 2) (M.ordered.next_published l.curr published user) in
+      let curr : l.curr < node_count n q = regs.curr in
+      let on : At21 vs first now (key_of l.call).0 (s / 2) = subst (λ x. At21 vs first now (key_of l.call).0 (x / 2))
+      (link_now l.curr) (from20 vs now first now (key_of l.call).0 l.curr h.course (omega arith) a) in
+      passes (Load (link_index l.curr)) ws (record l { pc = 21; curr = s / 2 })
+      (rows.acts l (inl e) ∙ (rw e refl)) (rows.feeds l s (inl e) ∙ (rw e refl)) (rows.tells l s (inl e)) (P.loads n q t ws used (link_index l.curr) (omega arith))
+      (keep_walk n q t 21 l.pred (s / 2) l regs.pred inn regs, refl, refl, λ x. omega arith)
+      (reading (record l { pc = 21; curr = s / 2 })
+      (reads21 refl d c (at21_on vs first now (suc now) (key_of l.call).0 (s / 2) (omega arith) on)))
+
+  from_21 : l.pc ≡ 21 → done ≡ false → l.call ≡ Contains (key_of l.call) → At21 vs first now (key_of l.call).0 l.curr → Goal
+  from_21 e d c a =
+      let s : ℕ = node_key ws l.curr in
+      let k : ℕ = target l.call in
+      let kn : (vs now).key l.curr ≡ node_key ws l.curr = key_now l.curr in
+      let curr : l.curr < node_count n q = regs.curr in
+      let loads = P.loads n q t ws used (key_index l.curr) (omega arith) in
+      let acts' : T.next l ≡ Load (key_index l.curr) = rows.acts l (inr (inl e)) ∙ (rw e refl) in
+      let feeds' : T.feed l s ≡ read_key l s = rows.feeds l s (inr (inl e)) ∙ (rw e refl) in
+      elim (below_or_not s k) [
+        | inl lt ↦ passes (Load (key_index l.curr)) ws (record l { pc = 20 }) acts'
+            (feeds' ∙ if_below s k lt (continued (record l { pc = 20 })) (if s == k then continued (record l { pc = 22 }) else leaves_with False l))
+            (rows.tells l s (inr (inl e))) loads (keep n q t 20 l.reply l regs, refl, refl, λ x. omega arith)
+            (reading (record l { pc = 20 }) (reads20 refl d c (at20_on vs first now (suc now) (key_of l.call).0 l.curr (omega arith)
+            (from21_less vs now first now (key_of l.call).0 l.curr h.course (omega arith) a top (omega arith)))))
+        | inr ge ↦
+            (let skip = if_not_below s k ge (continued (record l { pc = 20 })) (if s == k then continued (record l { pc = 22 }) else leaves_with False l) in
+            elim (same_or_not s k) [
+              | inl y ↦ passes (Load (key_index l.curr)) ws (record l { pc = 22 }) acts'
+                  (feeds' ∙ skip ∙ if_same s k y (continued (record l { pc = 22 })) (leaves_with False l))
+                  (rows.tells l s (inr (inl e))) loads (keep n q t 22 l.reply l regs, refl, refl, λ x. omega arith)
+                  (reading (record l { pc = 22 }) (reads22 refl d c (at22_on vs first now (suc now) (key_of l.call).0 l.curr (omega arith)
+                  (from21_same vs now first now (key_of l.call).0 l.curr h.course (omega arith) a top (omega arith)))))
+              | inr y ↦ answers (Load (key_index l.curr)) ws (record l { pc = 0 }) False acts'
+                  (feeds' ∙ skip ∙ if_other s k y (continued (record l { pc = 22 })) (leaves_with False l))
+                  (rows.tells l s (inr (inl e))) loads
+                  (due_of done q vs first now t l.call False d (fits_lacked q vs first now t l.call c
+                  (from21_more vs now first now (key_of l.call).0 l.curr h.course (omega arith) a top (omega arith))))
+                  (keep n q t 0 l.reply l regs) refl refl refl (idle (record l { pc = 0 }) refl)
+            ])
+      ]
+
+  from_22 : l.pc ≡ 22 → done ≡ false → l.call ≡ Contains (key_of l.call) → At22 vs first now (key_of l.call).0 l.curr → Goal
+  from_22 e d c a =
+      let s : ℕ = node_link ws l.curr in
+      let upto : a.past.at ≤ now = a.past.upto in
+      let kp : (vs now).key l.curr ≡ (vs a.past.at).key l.curr = key_stays vs now l.curr a.past.at now h.course upto
+      (omega arith) (in_chain_published (vs a.past.at) (h.course.ordered a.past.at upto) l.curr a.past.in_chain) in
+      let kn : (vs now).key l.curr ≡ node_key ws l.curr = key_now l.curr in
+      let found : (vs a.past.at).key l.curr ≡ target l.call = a.found in
+      let head : node_key ws 0 ≡ 0 = M.head_key in let tail : node_key ws 1 ≡ tail_word = M.tail_key in
+      let low : target l.call < tail_word = regs.low in
+      let c0 : l.curr ≢ 0 = λ f. (let g : node_key ws l.curr ≡ node_key ws 0 = ap (node_key ws) f in omega arith) in
+      let c1 : l.curr ≢ 1 = λ f. (let g : node_key ws l.curr ≡ node_key ws 1 = ap (node_key ws) f in omega arith) in
+      let curr : l.curr < node_count n q = regs.curr in
+      let ln : (vs now).link l.curr ≡ node_link ws l.curr = link_now l.curr in
+      let loads = P.loads n q t ws used (link_index l.curr) (omega arith) in
+      let acts' : T.next l ≡ Load (link_index l.curr) = rows.acts l (inr (inr e)) ∙ (rw e refl) in
+      let feeds' : T.feed l s ≡ read_mark l s = rows.feeds l s (inr (inr e)) ∙ (rw e refl) in
+      elim (even_or_odd s) [
+        | inl y ↦ answers (Load (link_index l.curr)) ws (record l { pc = 0 }) True acts'
+            (feeds' ∙ if_same (s % 2) 0 y (leaves_with True l) (leaves_with False l)) (rows.tells l s (inr (inr e))) loads
+            (due_of done q vs first now t l.call True d (fits_had q vs first now t l.call c
+            (from22_true vs now first now (key_of l.call).0 l.curr h.course (omega arith) a (omega arith) (omega arith))))
+            (keep n q t 0 l.reply l regs) refl refl refl (idle (record l { pc = 0 }) refl)
+        | inr y ↦ answers (Load (link_index l.curr)) ws (record l { pc = 0 }) False acts'
+            (feeds' ∙ if_other (s % 2) 0 (omega arith) (leaves_with True l) (leaves_with False l)) (rows.tells l s (inr (inr e))) loads
+            (due_of done q vs first now t l.call False d (fits_lacked q vs first now t l.call c
+            (from22_false vs now first now (key_of l.call).0 l.curr h.course (omega arith) a (omega arith))))
+            (keep n q t 0 l.reply l regs) refl refl refl (idle (record l { pc = 0 }) refl)
+      ]
+
+  pub reads_on : Reading vs first now done l → Goal
+  reads_on (reads20 e d c a) = from_20 e d c a
+  reads_on (reads21 e d c a) = from_21 e d c a
+  reads_on (reads22 e d c a) = from_22 e d c a

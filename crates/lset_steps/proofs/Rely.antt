@@ -1,0 +1,164 @@
+-- What the step of one thread leaves to another, where links are written under locks.
+use Rattle.std.specs.Prelude.{◌≡◌, ◌≢◌, ℕ, ◌+◌, ◌*◌, ◌<◌, ◌⊎◌, Bool, Option, List, slice_index, slice_set, refl}
+use Rattle.std.proofs.Common.{arith, inl, inr, sym, ◌∙◌, ap}
+use Rattle.lset_words.proofs.Numbers.{same_or_not}
+use Rattle.lset_words.specs.Words.{link_index, lock_index, slot_node}
+use Rattle.lset_words.specs.declared.Key.{Key}
+use Rattle.lset_steps.specs.declared.Action.{Action}
+use Rattle.lset_steps.specs.Chain.{View, view, Published, InChain, node_lock}
+use Rattle.lset_steps.proofs.Moves.{KeepsNodes}
+use Rattle.lset_steps.specs.Laws.{IsLockWord}
+use Rattle.lset_steps.proofs.QuietMove.{in_chain_published, quiet_keeps}
+use Rattle.lset_steps.proofs.InsertMove.{insert_keeps}
+use Rattle.lset_steps.proofs.MarkMove.{mark_keeps}
+use Rattle.lset_steps.proofs.UnlinkMove.{unlink_keeps}
+use Rattle.lset_steps.proofs.Memory.{WordStep, Memory, reads, fails, takes, gives, own_key, own_link, puts, sets_mark, cuts, drops, own_of, row_once, no_own, goes_on, others_counted, at_put, at_mark, at_unlink, at_lock, at_own_key, at_own_link, set_other, key_after_link, link_after_link, lock_after_link, list_lock_after_link, link_after_key, key_after_key, lock_after_key, list_lock_after_key, key_after_lock, link_after_lock}
+
+pub record Rely (v w : View) (q u : ℕ) : Type 0 where
+  pub goes : KeepsNodes v w
+  pub used : w.used u ≡ v.used u
+  pub list_lock : v.list_lock ≡ u + 1 → w.list_lock ≡ u + 1
+  pub lock : (a : ℕ) → v.lock a ≡ u + 1 → w.lock a ≡ u + 1
+  pub link : (a : ℕ) → v.published a → v.lock a ≡ u + 1 → w.link a ≡ v.link a
+  pub chain : (a : ℕ) → v.lock a ≡ u + 1 → InChain v a → InChain w a
+  pub own_key : v.used u < q → w.key (slot_node q u (v.used u)) ≡ v.key (slot_node q u (v.used u))
+  pub own_link : v.used u < q → w.link (slot_node q u (v.used u)) ≡ v.link (slot_node q u (v.used u))
+
+-- links of published nodes are written by the holder of their lock; a node goes out of the chain by the holder of its own
+abbrev pub Guarded : (marks : Bool) (n q t : ℕ) (ws : List ℕ) (used : ℕ → ℕ) (a : Action) (ws' : List ℕ)
+    (used' : ℕ → ℕ) (ch : Option (Key × Bool))
+    → WordStep marks n q t ws used a ws' used' ch → Type 0
+Guarded marks n q t ws used a ws' used' ch (reads x i) = Unit {0}
+Guarded marks n q t ws used a ws' used' ch (fails x old new i d k) = Unit {0}
+Guarded marks n q t ws used a ws' used' ch (takes x i k z) = Unit {0}
+Guarded marks n q t ws used a ws' used' ch (gives x i k z) = Unit {0}
+Guarded marks n q t ws used a ws' used' ch (own_key x r) = Unit {0}
+Guarded marks n q t ws used a ws' used' ch (own_link x r) = Unit {0}
+Guarded marks n q t ws used a ws' used' ch (puts b p c k w at nt follows r ready key above under) = node_lock ws p ≡ t + 1
+Guarded marks n q t ws used a ws' used' ch (sets_mark b c x k y w at inn even is key) = node_lock ws c ≡ t + 1
+Guarded marks n q t ws used a ws' used' ch (cuts b p c d w at first inn follows next) = (node_lock ws p ≡ t + 1)
+    × (node_lock ws c ≡ t + 1)
+Guarded marks n q t ws used a ws' used' ch (drops b p c d k y w at first inn follows next key) =
+    (node_lock ws p ≡ t + 1) × (node_lock ws c ≡ t + 1)
+
+module _ (marks : Bool) (n q : ℕ) (ws : List ℕ) (used : ℕ → ℕ) (m : Memory marks n q ws used) (t : ℕ) (h : t < n)
+    (u : ℕ) (d : u ≢ t) where
+  V : View
+  V = view n q ws used
+
+  at_word : (x v : ℕ) → IsLockWord x → (slice_index ws x ≡ 0) ⊎ (slice_index ws x ≡ t + 1)
+      → KeepsNodes (view n q ws used) (view n q (slice_set ws x v) used)
+      → Rely (view n q ws used) (view n q (slice_set ws x v) used) q u
+  at_word x v i was g = record {
+    goes = g;
+    used = refl;
+    list_lock = λ z. mine 0 z;
+    lock = λ a z. mine (lock_index a) z;
+    link = λ a p z. link_after_lock ws x v a i;
+    chain = λ a z c. quiet_keeps (view n q ws used) (view n q (slice_set ws x v) used) m.ordered
+        (at_lock marks n q ws used m t h x v i) a c;
+    own_key = λ r. key_after_lock ws x v (own_of q u used) i;
+    own_link = λ r. link_after_lock ws x v (own_of q u used) i;
+  }
+    where
+      mine : (y : ℕ) → slice_index ws y ≡ u + 1 → slice_index (slice_set ws x v) y ≡ u + 1
+      mine y z = elim (same_or_not y x) [
+        | inl e ↦ (let f : slice_index ws y ≡ slice_index ws x = ap (slice_index ws) e in
+            absurd (elim was [ inl a ↦ omega arith | inr a ↦ d (omega arith) ]))
+        | inr e ↦ set_other ws x v y e ∙ z
+      ]
+
+  other_own : used u < q → used t < q → own_of q u used ≢ own_of q t used
+  other_own a b e = d (row_once q u t (used u) (used t) a b (omega arith)).0
+
+  at_link : (p x : ℕ) (used' : ℕ → ℕ) → Published n q used p → node_lock ws p ≡ t + 1 → used' u ≡ used u
+      → KeepsNodes (view n q ws used) (view n q (slice_set ws (link_index p) x) used')
+      → ((a : ℕ) → node_lock ws a ≡ u + 1 → InChain (view n q ws used) a
+      → InChain (view n q (slice_set ws (link_index p) x) used') a)
+      → Rely (view n q ws used) (view n q (slice_set ws (link_index p) x) used') q u
+  at_link p x used' pm mine us g chain = record {
+    goes = g;
+    used = us;
+    list_lock = λ z. list_lock_after_link ws p x ∙ z;
+    lock = λ a z. lock_after_link ws p x a ∙ z;
+    link = λ a b z. link_after_link ws p x a
+        (λ e. d (let f : node_lock ws a ≡ node_lock ws p = ap (node_lock ws) e in omega arith));
+    chain = chain;
+    own_key = λ r. key_after_link ws p x (own_of q u used);
+    own_link = λ r. link_after_link ws p x (own_of q u used) (λ e. no_own marks n q ws used m u p r pm (sym e));
+  }
+
+  alien : (c a : ℕ) → node_lock ws c ≡ t + 1 → node_lock ws a ≡ u + 1 → a ≢ c
+  alien c a x y e = d (let f : node_lock ws a ≡ node_lock ws c = ap (node_lock ws) e in omega arith)
+
+  pub rely_of : (a : Action) (ws' : List ℕ) (used' : ℕ → ℕ) (ch : Option (Key × Bool))
+      (c : WordStep marks n q t ws used a ws' used' ch)
+      → Guarded marks n q t ws used a ws' used' ch c
+      → Rely (view n q ws used) (view n q ws' used') q u
+  rely_of a ws' used' ch (reads x i) g = record {
+    goes = goes_on marks n q ws used m t h a ws used ch (reads x i);
+    used = refl;
+    list_lock = λ z. z;
+    lock = λ a z. z;
+    link = λ a p z. refl;
+    chain = λ a z c. c;
+    own_key = λ r. refl;
+    own_link = λ r. refl;
+  }
+  rely_of a ws' used' ch (fails x old new i e k) g = record {
+    goes = goes_on marks n q ws used m t h a ws used ch (fails x old new i e k);
+    used = refl;
+    list_lock = λ z. z;
+    lock = λ a z. z;
+    link = λ a p z. refl;
+    chain = λ a z c. c;
+    own_key = λ r. refl;
+    own_link = λ r. refl;
+  }
+  rely_of a ws' used' ch (takes x i k z) g =
+      at_word x (t + 1) k (inl z) (goes_on marks n q ws used m t h a ws' used ch (takes x i k z))
+  rely_of a ws' used' ch (gives x i k z) g = at_word x 0 k (inr z) (goes_on marks n q ws used m t h a ws' used ch (gives x i k z))
+  rely_of a ws' used' ch (own_key x r) g = record {
+    goes = goes_on marks n q ws used m t h a ws' used ch (own_key x r);
+    used = refl;
+    list_lock = λ z. list_lock_after_key ws (own_of q t used) x ∙ z;
+    lock = λ b z. lock_after_key ws (own_of q t used) x b ∙ z;
+    link = λ b p z. link_after_key ws (own_of q t used) x b;
+    chain = λ b z c. quiet_keeps (view n q ws used) (view n q ws' used) m.ordered (at_own_key marks n q ws used m t h x r) b c;
+    own_key = λ s. key_after_key ws (own_of q t used) x (own_of q u used) (other_own s r);
+    own_link = λ s. link_after_key ws (own_of q t used) x (own_of q u used);
+  }
+  rely_of a ws' used' ch (own_link x r) g = record {
+    goes = goes_on marks n q ws used m t h a ws' used ch (own_link x r);
+    used = refl;
+    list_lock = λ z. list_lock_after_link ws (own_of q t used) x ∙ z;
+    lock = λ b z. lock_after_link ws (own_of q t used) x b ∙ z;
+    link = λ b p z. link_after_link ws (own_of q t used) x b (no_own marks n q ws used m t b r p);
+    chain = λ b z c. quiet_keeps (view n q ws used) (view n q ws' used) m.ordered (at_own_link marks n q ws used m t h x r) b c;
+    own_key = λ s. key_after_link ws (own_of q t used) x (own_of q u used);
+    own_link = λ s. link_after_link ws (own_of q t used) x (own_of q u used) (other_own s r);
+  }
+  rely_of a ws' used' ch (puts b p c k w at nt follows r ready key above under) g =
+      at_link p (2 * own_of q t used) used' (in_chain_published (view n q ws used) m.ordered p at) g
+      (others_counted marks n q ws used m t h u d a ws' used' ch
+      (puts b p c k w at nt follows r ready key above under))
+      (goes_on marks n q ws used m t h a ws' used' ch (puts b p c k w at nt follows r ready key above under))
+      (λ i z x. insert_keeps (view n q ws used) (view n q ws' used') m.ordered p (own_of q t used) k.0
+      (at_put marks n q ws used m t h p c k.0 at nt follows r ready key above under) i x)
+  rely_of a ws' used' ch (sets_mark b c x k y w at inn even is key) g =
+      at_link c x used (in_chain_published (view n q ws used) m.ordered c at) g refl
+      (goes_on marks n q ws used m t h a ws' used ch (sets_mark b c x k y w at inn even is key))
+      (λ i z j. mark_keeps (view n q ws used) (view n q ws' used) m.ordered c k.0
+      (at_mark marks n q ws used m t h c x k.0 at inn even is key) i j)
+  rely_of a ws' used' ch (cuts b p c e w at first inn follows next) g =
+      at_link p (2 * e) used (in_chain_published (view n q ws used) m.ordered p at) g.0 refl
+      (goes_on marks n q ws used m t h a ws' used ch (cuts b p c e w at first inn follows next))
+      (λ i z j. elim (unlink_keeps (view n q ws used) (view n q ws' used) m.ordered p c
+      (at_unlink marks n q ws used m t h p c e at first inn follows (omega arith)) i j)
+      [ inl y ↦ y | inr y ↦ absurd (alien c i g.1 z y) ])
+  rely_of a ws' used' ch (drops b p c e k y w at first inn follows next key) g =
+      at_link p (2 * e) used (in_chain_published (view n q ws used) m.ordered p at) g.0 refl
+      (goes_on marks n q ws used m t h a ws' used ch (drops b p c e k y w at first inn follows next key))
+      (λ i z j. elim (unlink_keeps (view n q ws used) (view n q ws' used) m.ordered p c
+      (at_unlink marks n q ws used m t h p c e at first inn follows next) i j)
+      [ inl x ↦ x | inr x ↦ absurd (alien c i g.1 z x) ])

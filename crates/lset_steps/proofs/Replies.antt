@@ -1,0 +1,227 @@
+-- The replies that fit where a call decides, and what the proofs of all tables use.
+use Rattle.std.specs.Prelude.{◌≡◌, ◌≢◌, ℕ, ◌+◌, ◌/◌, ◌<◌, ◌≤◌, ◌⊎◌, Bool, true, false, Option, Some, None, ◌||◌, refl}
+use Rattle.std.proofs.Common.{arith, inl, inr, ◌∙◌}
+use Rattle.lset_words.specs.declared.Call.{Call}
+use Rattle.lset_words.specs.declared.Call.TheVariants.{Add, Remove, Contains}
+use Rattle.lset_words.specs.declared.Reply.{Reply}
+use Rattle.lset_words.specs.declared.Reply.TheVariants.{True, False, Full}
+use Rattle.lset_words.specs.Words.{key_of, target, tail_word, node_count}
+use Rattle.lset_steps.specs.declared.Local.{Local}
+use Rattle.lset_steps.specs.declared.Fed.{Fed}
+use Rattle.lset_steps.specs.Chain.{View, InChain, InContent, IsOrdered, FitsIn, contents_of, counts_of}
+use Rattle.lset_words.specs.Account.{FitsSometime}
+use Rattle.lset_steps.proofs.Moves.{KeepsNodes}
+use Rattle.lset_steps.specs.Laws.{Registers}
+use Rattle.lset_steps.specs.Rows.{begun, decided, goes_to}
+use Rattle.lset_steps.proofs.Segments.{gap}
+
+-- what the rows that add and those that remove have from the decision
+pub record Adding (v : View) (t q curr : ℕ) (op : Call) : Type 0 where
+  pub call : op ≡ Add (key_of op)
+  pub room : v.used t < q
+  pub above : target op < v.key curr
+
+pub record Removing (v : View) (curr : ℕ) (op : Call) : Type 0 where
+  pub call : op ≡ Remove (key_of op)
+  pub found : v.key curr ≡ target op
+
+-- through any step
+module _ {v w : View} (g : KeepsNodes v w) where
+  pub removing_kept : {curr : ℕ} {op : Call} → v.published curr → Removing v curr op → Removing w curr op
+  removing_kept {curr} p a = record { call = a.call; found = g.keys curr p ∙ a.found }
+
+  pub adding_kept : {t q curr : ℕ} {op : Call} → w.used t ≡ v.used t → v.published curr → Adding v t q curr op
+      → Adding w t q curr op
+  adding_kept {t} {q} {curr} u p a = record { call = a.call; room = rw u a.room; above = rw (g.keys curr p) a.above }
+
+pub decided_cases : (a d u q t : ℕ) (v : View) (cl : Call) (found room : Bool) (l : Local)
+    → (found ≡ true → InContent v (key_of cl).0) → (found ≡ false → InContent v (key_of cl).0 → ⊥) → (room ≡ false → v.used t ≡ q)
+    → ((r : Reply) × (decided a d u cl found room l ≡ goes_to u (Some r) l) × FitsIn q v t cl r)
+    ⊎ ((decided a d u cl found room l ≡ goes_to a None l) × (cl ≡ Add (key_of cl)) × (found ≡ false) × (room ≡ true))
+    ⊎ ((decided a d u cl found room l ≡ goes_to d None l) × (cl ≡ Remove (key_of cl)) × (found ≡ true))
+decided_cases a d u q t v (Add k) true room l hit miss full = inl (False, refl, hit refl)
+decided_cases a d u q t v (Add k) false true l hit miss full = inr (inl (refl, refl, refl, refl))
+decided_cases a d u q t v (Add k) false false l hit miss full = inl (Full, refl, (miss refl, full refl))
+decided_cases a d u q t v (Remove k) true room l hit miss full = inr (inr (refl, refl, refl))
+decided_cases a d u q t v (Remove k) false room l hit miss full = inl (False, refl, miss refl)
+decided_cases a d u q t v (Contains k) true room l hit miss full = inl (True, refl, hit refl)
+decided_cases a d u q t v (Contains k) false room l hit miss full = inl (False, refl, miss refl)
+
+-- no key of the content lies between those of a node of the chain and its next
+pub absent_between : (v : View) → IsOrdered v → (p k : ℕ) → InChain v p → p ≢ 1 → v.key p < k + 1
+    → k + 1 < v.key (v.link p / 2) → InContent v k → ⊥
+absent_between v ord p k i d lo hi c = let e : v.key c.0 ≡ k + 1 = c.3 in gap v ord p c.0 i c.1 d (omega arith) (omega arith)
+
+pub fitted_on : (q : ℕ) (vs : ℕ → View) (first now later t : ℕ) (call : Call) (r : Reply) → now ≤ later
+    → FitsSometime q (contents_of vs) (counts_of vs) first now t call r
+    → FitsSometime q (contents_of vs) (counts_of vs) first later t call r
+fitted_on q vs first now later t call r l f = record {
+  moment = f.moment;
+  from = f.from;
+  upto = (let u : f.moment ≤ now = f.upto in omega arith);
+  fits = f.fits;
+}
+
+pub or_false : (b : Bool) → (b || false) ≡ b
+or_false true = refl
+or_false false = refl
+
+abbrev pub fed : Local → Option Reply → Fed
+fed l a = record { local = l; answer = a }
+
+pub fed_is : (l m : Local) (a b : Option Reply) → l ≡ m → a ≡ b → fed l a ≡ fed m b
+fed_is l m a b e f = cc
+
+-- what a begin and a step leave of the bounds of the registers
+pub registers_begun : (n q t pc : ℕ) (call : Call) (l : Local) → target call < tail_word → Registers n q t l
+    → Registers n q t (begun pc call l)
+registers_begun n q t pc call l low r = record {
+  thread = r.thread;
+  quota = r.quota;
+  used = r.used;
+  low = low;
+  pred = omega arith;
+  curr = omega arith;
+  succ = omega arith;
+  node = omega arith;
+  pkey = omega arith;
+  ckey = omega arith;
+}
+
+-- a successful add counts one more slot
+pub keep_more : (n q t p : ℕ) (l : Local) → l.used < q → Registers n q t l
+    → Registers n q t (record l { pc = p; reply = Some True; used = l.used + 1 })
+keep_more n q t p l room r = record {
+  thread = r.thread;
+  quota = r.quota;
+  used = omega arith;
+  low = r.low;
+  pred = r.pred;
+  curr = r.curr;
+  succ = r.succ;
+  node = r.node;
+  pkey = r.pkey;
+  ckey = r.ckey;
+}
+
+-- and where it answers at once
+pub keep_used : (n q t p : ℕ) (l : Local) → l.used < q → Registers n q t l
+    → Registers n q t (record l { pc = p; used = l.used + 1 })
+keep_used n q t p l room r = record {
+  thread = r.thread;
+  quota = r.quota;
+  used = omega arith;
+  low = r.low;
+  pred = r.pred;
+  curr = r.curr;
+  succ = r.succ;
+  node = r.node;
+  pkey = r.pkey;
+  ckey = r.ckey;
+}
+
+pub keep_curr : (n q t p c : ℕ) (l : Local) → c < node_count n q → Registers n q t l
+    → Registers n q t (record l { pc = p; curr = c })
+keep_curr n q t p c l inn r = record {
+  thread = r.thread;
+  quota = r.quota;
+  used = r.used;
+  low = r.low;
+  pred = r.pred;
+  curr = inn;
+  succ = r.succ;
+  node = r.node;
+  pkey = r.pkey;
+  ckey = r.ckey;
+}
+
+-- a step that leaves the registers
+pub keep : (n q t p : ℕ) (y : Option Reply) (l : Local) → Registers n q t l → Registers n q t (record l { pc = p; reply = y })
+keep n q t p y l r = record {
+  thread = r.thread;
+  quota = r.quota;
+  used = r.used;
+  low = r.low;
+  pred = r.pred;
+  curr = r.curr;
+  succ = r.succ;
+  node = r.node;
+  pkey = r.pkey;
+  ckey = r.ckey;
+}
+
+pub keep_ckey : (n q t p c : ℕ) (y : Option Reply) (l : Local) → c ≤ tail_word → Registers n q t l
+    → Registers n q t (record l { pc = p; reply = y; ckey = c })
+keep_ckey n q t p c y l le r = record {
+  thread = r.thread;
+  quota = r.quota;
+  used = r.used;
+  low = r.low;
+  pred = r.pred;
+  curr = r.curr;
+  succ = r.succ;
+  node = r.node;
+  pkey = r.pkey;
+  ckey = le;
+}
+
+pub keep_succ : (n q t p c : ℕ) (y : Option Reply) (l : Local) → c < node_count n q → Registers n q t l
+    → Registers n q t (record l { pc = p; reply = y; succ = c })
+keep_succ n q t p c y l le r = record {
+  thread = r.thread;
+  quota = r.quota;
+  used = r.used;
+  low = r.low;
+  pred = r.pred;
+  curr = r.curr;
+  succ = le;
+  node = r.node;
+  pkey = r.pkey;
+  ckey = r.ckey;
+}
+
+pub keep_walk : (n q t p a b : ℕ) (l : Local) → a < node_count n q → b < node_count n q → Registers n q t l
+    → Registers n q t (record l { pc = p; pred = a; curr = b })
+keep_walk n q t p a b l le ge r = record {
+  thread = r.thread;
+  quota = r.quota;
+  used = r.used;
+  low = r.low;
+  pred = le;
+  curr = ge;
+  succ = r.succ;
+  node = r.node;
+  pkey = r.pkey;
+  ckey = r.ckey;
+}
+
+-- a walk that goes on by a node, and keeps the key word of the one behind
+pub keep_passed : (n q t p a b c : ℕ) (l : Local) → a < node_count n q → b ≤ tail_word → c < node_count n q → Registers n q t l
+    → Registers n q t (record l { pc = p; pred = a; pkey = b; curr = c })
+keep_passed n q t p a b c l le small ge r = record {
+  thread = r.thread;
+  quota = r.quota;
+  used = r.used;
+  low = r.low;
+  pred = le;
+  curr = ge;
+  succ = r.succ;
+  node = r.node;
+  pkey = small;
+  ckey = r.ckey;
+}
+
+pub keep_node : (n q t p a : ℕ) (l : Local) → a < node_count n q → Registers n q t l
+    → Registers n q t (record l { pc = p; node = a })
+keep_node n q t p a l le r = record {
+  thread = r.thread;
+  quota = r.quota;
+  used = r.used;
+  low = r.low;
+  pred = r.pred;
+  curr = r.curr;
+  succ = r.succ;
+  node = le;
+  pkey = r.pkey;
+  ckey = r.ckey;
+}

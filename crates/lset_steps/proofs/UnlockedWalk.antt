@@ -1,0 +1,74 @@
+-- What a walk without locks knows of the two nodes that it has come to: not that they are in the chain, but that they are published,
+-- and that the key of the call is between theirs.
+use Rattle.std.specs.Prelude.{◌≡◌, ◌≢◌, ℕ, ◌+◌, ◌/◌, ◌<◌, ◌≤◌, Bool, None, List, slice_set}
+use Rattle.std.proofs.Common.{arith, ◌∙◌, ap}
+use Rattle.lset_words.specs.Words.{lock_index, tail_word, node_count}
+use Rattle.lset_steps.specs.declared.Action.TheVariants.{Exchange}
+use Rattle.lset_steps.specs.Chain.{View, view, node_key, node_link, node_lock}
+use Rattle.lset_steps.proofs.Moves.{KeepsNodes}
+use Rattle.lset_steps.proofs.Memory.{Memory, inside, next_published, goes_on}
+use Rattle.lset_steps.proofs.Held.{locks_free}
+
+-- pred is below the key, and curr may come next
+pub record Spot (v : View) (key pred curr : ℕ) : Type 0 where
+  pub pred_published : v.published pred
+  pub below : v.key pred < key
+  pub curr_published : v.published curr
+
+-- and curr has the key word that was read, which is not below
+pub record Found (v : View) (key pred curr ckey : ℕ) : Type 0 where
+  pub spot : Spot v key pred curr
+  pub is : v.key curr ≡ ckey
+  pub above : key ≤ ckey
+
+pub found_apart : {v : View} {key pred curr ckey : ℕ} → Found v key pred curr ckey → curr ≢ pred
+found_apart {v} {key} {pred} {curr} {ckey} f e =
+    let same : v.key curr ≡ v.key pred = ap v.key e in
+    let below : v.key pred < key = f.spot.below in
+    let is : v.key curr ≡ ckey = f.is in
+    let above : key ≤ ckey = f.above in
+    omega arith
+
+-- through any step
+module _ {v w : View} (g : KeepsNodes v w) where
+  pub same_key_kept : (a : ℕ) {x : ℕ} → v.published a → v.key a ≡ x → w.key a ≡ x
+  same_key_kept a p e = g.keys a p ∙ e
+
+  pub spot_kept : {key pred curr : ℕ} → Spot v key pred curr → Spot w key pred curr
+  spot_kept {key} {pred} {curr} s = record {
+    pred_published = g.grows pred s.pred_published;
+    below = rw (g.keys pred s.pred_published) s.below;
+    curr_published = g.grows curr s.curr_published;
+  }
+
+  pub found_kept : {key pred curr ckey : ℕ} → Found v key pred curr ckey → Found w key pred curr ckey
+  found_kept {key} {pred} {curr} f = record {
+    spot = spot_kept f.spot;
+    is = same_key_kept curr f.spot.curr_published f.is;
+    above = f.above;
+  }
+
+module _ {marks : Bool} {n q : ℕ} {ws : List ℕ} {used : ℕ → ℕ} (m : Memory marks n q ws used) where
+  -- the load of the link of a node below the key,
+  pub spot_behind : {key : ℕ} (a : ℕ) → (view n q ws used).published a → node_key ws a < key
+      → Spot (view n q ws used) key a (node_link ws a / 2)
+  spot_behind a p below = record { pred_published = p; below = below; curr_published = next_published marks n q ws used m a p }
+
+  -- of the head first
+  pub spot_behind_head : {key : ℕ} → 0 < key → Spot (view n q ws used) key 0 (node_link ws 0 / 2)
+  spot_behind_head low = let head : node_key ws 0 ≡ 0 = m.head_key in spot_behind 0 m.ordered.head_published (omega arith)
+
+  pub next_inside : (a : ℕ) → (view n q ws used).published a → node_link ws a / 2 < node_count n q
+  next_inside a p = inside marks n q ws used m (node_link ws a / 2) (next_published marks n q ws used m a p)
+
+  pub small_key : (a : ℕ) → (view n q ws used).published a → node_key ws a ≤ tail_word
+  small_key a p =
+      let top : node_key ws a ≤ node_key ws 1 = m.ordered.top a p in let tail : node_key ws 1 ≡ tail_word = m.tail_key in
+      omega arith
+
+  -- what the own try of a lock leaves
+  pub keeps_locked : {t : ℕ} → t < n → (a : ℕ) → a < node_count n q → node_lock ws a ≡ 0
+      → KeepsNodes (view n q ws used) (view n q (slice_set ws (lock_index a) (t + 1)) used)
+  keeps_locked {t} tn a inn free =
+      goes_on marks n q ws used m t tn (Exchange (lock_index a) 0 (t + 1)) (slice_set ws (lock_index a) (t + 1)) used None
+      (locks_free a inn free).0

@@ -1,0 +1,95 @@
+-- What a walk without locks knows from step to step, and the moment of its end (after O'Hearn and others).
+use Rattle.std.proofs.Common.{◌≡◌, ◌≢◌, ℕ, ◌+◌, ◌/◌, ◌%◌, ◌<◌, ◌≤◌, [], sym, refl, ap, subst, ◌∙◌, arith}
+use Rattle.lset_steps.specs.Chain.{View, IsOrdered, Seen}
+use Rattle.lset_steps.proofs.Moves.{Course, InPast, Had, Lacked}
+use Rattle.lset_steps.proofs.Moves.{At20, At21, At22}
+use Rattle.lset_steps.proofs.QuietMove.{in_chain_published}
+use Rattle.lset_steps.proofs.Hindsight.{hindsight, next_in_past, key_stays, in_past_on, seen_on, lacked_between, had_at, lacked_at}
+
+-- other threads' steps, and the own loads
+pub at20_on : (vs : ℕ → View) (first now later k curr : ℕ) → now ≤ later → At20 vs first now k curr → At20 vs first later k curr
+at20_on vs first now later k curr l a = record { past = in_past_on vs first now later curr l a.past; low = a.low }
+
+pub at21_on : (vs : ℕ → View) (first now later k curr : ℕ) → now ≤ later → At21 vs first now k curr → At21 vs first later k curr
+at21_on vs first now later k curr l a =
+    record { from = a.from; word = a.word; seen = seen_on vs first now later a.from a.word l a.seen; next = a.next; low = a.low }
+
+pub at22_on : (vs : ℕ → View) (first now later k curr : ℕ) → now ≤ later → At22 vs first now k curr → At22 vs first later k curr
+at22_on vs first now later k curr l a = record { past = in_past_on vs first now later curr l a.past; found = a.found }
+
+-- the begin
+pub at20_begins : (vs : ℕ → View) (n first k : ℕ) → Course vs n → first ≤ n → (vs first).key 0 ≡ 0 → At20 vs first first k 0
+at20_begins vs n first k r l e = record {
+  past = record { at = first; from = omega arith; upto = omega arith; in_chain = ([], refl) };
+  low = omega arith;
+}
+
+no_tail : (v : View) → IsOrdered v → (b k : ℕ) → k + 1 < v.key 1 → v.key b < k + 1 → b ≢ 1
+no_tail v ord b k t l e = let f : v.key b ≡ v.key 1 = ap v.key e in omega arith
+
+-- pc 20: a load of the link of curr
+pub from20 : (vs : ℕ → View) (n first now k curr : ℕ) → Course vs n → now ≤ n → At20 vs first now k curr
+    → At21 vs first now k ((vs now).link curr / 2)
+from20 vs n first now k curr r l a =
+    let s : Seen vs first now curr ((vs now).link curr) = hindsight vs n first now curr r l a.past in
+    let lp : a.past.at ≤ now = a.past.upto in
+    let ls : s.at ≤ now = s.upto in
+    let low : (vs a.past.at).key curr < k + 1 = a.low in
+    let kp : (vs now).key curr ≡ (vs a.past.at).key curr =
+    key_stays vs n curr a.past.at now r lp l
+    (in_chain_published (vs a.past.at) (r.ordered a.past.at (omega arith)) curr a.past.in_chain) in
+    let ks : (vs now).key curr ≡ (vs s.at).key curr =
+    key_stays vs n curr s.at now r ls l (in_chain_published (vs s.at) (r.ordered s.at (omega arith)) curr s.in_chain) in
+    record { from = curr; word = (vs now).link curr; seen = s; next = refl; low = omega arith }
+
+-- pc 21: a load of the key of curr
+pub from21_on : (vs : ℕ → View) (n first now k curr : ℕ) → Course vs n → now ≤ n → At21 vs first now k curr
+    → ((t : ℕ) → t ≤ n → k + 1 < (vs t).key 1)
+    → InPast vs first now curr
+from21_on vs n first now k curr r l a top =
+    let la : a.seen.at ≤ now = a.seen.upto in
+    subst (InPast vs first now) a.next (next_in_past vs first now a.from a.word
+    (no_tail (vs a.seen.at) (r.ordered a.seen.at (omega arith)) a.from k (top a.seen.at (omega arith)) a.low) a.seen)
+
+key_then : (vs : ℕ → View) (n first now curr : ℕ) → Course vs n → now ≤ n → (p : InPast vs first now curr)
+    → (vs now).key curr ≡ (vs p.at).key curr
+key_then vs n first now curr r l p =
+    let lp : p.at ≤ now = p.upto in
+    key_stays vs n curr p.at now r lp l (in_chain_published (vs p.at) (r.ordered p.at (omega arith)) curr p.in_chain)
+
+pub from21_less : (vs : ℕ → View) (n first now k curr : ℕ) → Course vs n → now ≤ n → At21 vs first now k curr
+    → ((t : ℕ) → t ≤ n → k + 1 < (vs t).key 1) → (vs now).key curr < k + 1 → At20 vs first now k curr
+from21_less vs n first now k curr r l a top s =
+    let p : InPast vs first now curr = from21_on vs n first now k curr r l a top in
+    let e : (vs now).key curr ≡ (vs p.at).key curr = key_then vs n first now curr r l p in
+    record { past = p; low = omega arith }
+
+pub from21_same : (vs : ℕ → View) (n first now k curr : ℕ) → Course vs n → now ≤ n → At21 vs first now k curr
+    → ((t : ℕ) → t ≤ n → k + 1 < (vs t).key 1) → (vs now).key curr ≡ k + 1 → At22 vs first now k curr
+from21_same vs n first now k curr r l a top s =
+    let p : InPast vs first now curr = from21_on vs n first now k curr r l a top in
+    let e : (vs now).key curr ≡ (vs p.at).key curr = key_then vs n first now curr r l p in
+    record { past = p; found = omega arith }
+
+pub from21_more : (vs : ℕ → View) (n first now k curr : ℕ) → Course vs n → now ≤ n → At21 vs first now k curr
+    → ((t : ℕ) → t ≤ n → k + 1 < (vs t).key 1) → k + 1 < (vs now).key curr → Lacked vs first now k
+from21_more vs n first now k curr r l a top s =
+    let la : a.seen.at ≤ now = a.seen.upto in
+    let low : (vs a.seen.at).key a.from < k + 1 = a.low in
+    let ka : (vs now).key a.from ≡ (vs a.seen.at).key a.from =
+    key_stays vs n a.from a.seen.at now r la l
+    (in_chain_published (vs a.seen.at) (r.ordered a.seen.at (omega arith)) a.from a.seen.in_chain) in
+    lacked_between vs n first now a.from a.word k r l
+    (no_tail (vs a.seen.at) (r.ordered a.seen.at (omega arith)) a.from k (top a.seen.at (omega arith)) a.low) a.seen
+    (omega arith) (subst (λ x. k + 1 < (vs now).key x) (sym a.next) s)
+
+-- pc 22: a load of the link of curr
+pub from22_true : (vs : ℕ → View) (n first now k curr : ℕ) → Course vs n → now ≤ n → At22 vs first now k curr
+    → 1 < curr → (vs now).link curr % 2 ≡ 0 → Had vs first now k
+from22_true vs n first now k curr r l a u e =
+    had_at vs n first now curr k r l a.past u (key_then vs n first now curr r l a.past ∙ a.found) e
+
+pub from22_false : (vs : ℕ → View) (n first now k curr : ℕ) → Course vs n → now ≤ n → At22 vs first now k curr
+    → (vs now).link curr % 2 ≡ 1 → Lacked vs first now k
+from22_false vs n first now k curr r l a e =
+    lacked_at vs n first now curr k r l a.past (key_then vs n first now curr r l a.past ∙ a.found) e
