@@ -33,6 +33,7 @@ pub enum StepFault {
 /// The words of a list and what each thread holds, after the events of a run of the machine `M`.
 #[derive(Drop)]
 pub struct World<M: Machine> {
+    alloc: Global,
     threads: u32,
     quota: u32,
     words: Vec<u64>,
@@ -124,6 +125,7 @@ impl<M: Machine> World<M> {
         let words = opening_words(alloc, &layout)?;
         let locals = idle_locals(alloc, &layout)?;
         Ok(World {
+            alloc,
             threads: layout.threads(),
             quota: layout.quota(),
             words,
@@ -134,7 +136,7 @@ impl<M: Machine> World<M> {
 
     /// The word with the index `w`, below the number of words.
     pub fn word(&self, w: u64) -> u64
-        requires { w < length self.now.state.words }
+        requires { w < word_count self.now.threads self.now.quota }
         ensures { result ≡ slice_index self.now.state.words w }
     {
         self.words[w as usize]
@@ -142,7 +144,7 @@ impl<M: Machine> World<M> {
 
     /// Whether thread `t`, below the number of threads, has an open call.
     pub fn busy(&self, t: u32) -> bool
-        requires { t < length self.now.state.locals }
+        requires { t < self.now.threads }
         ensures { IsTrue result ↔ ((local_of self.now.state t).pc ≢ 0) }
     {
         self.locals[t as usize].pc != 0
@@ -150,11 +152,11 @@ impl<M: Machine> World<M> {
 
     /// The keys of the set, rising: those of the unmarked nodes of the chain between head and tail. It
     /// fails only where memory was refused.
-    pub fn content(&self, alloc: Global) -> Result<Vec<u32>, AllocError>
+    pub fn content(&self) -> Result<Vec<u32>, AllocError>
         ensures { IfOk result (λ v. IsContent (view_of self.now.threads self.now.quota self.now.state) v.items) }
     {
         self.keeps_its_laws();
-        let mut keys = Vec::new(alloc);
+        let mut keys = Vec::new(self.alloc);
         let mut node = self.next_node(HEAD);
         while node != TAIL {
             if !self.is_marked(node) {
