@@ -40,7 +40,7 @@ fn left_by(left: u32, event: Event) -> u32
 
 /// Whether one of the threads has an open call.
 fn has_open_call<M: Machine>(world: &World<M>, threads: u32) -> bool
-    requires { length world.now.state.locals ≡ threads }
+    requires { world.now.threads ≡ threads }
     ensures { IsTrue result ↔ ((t : ℕ) × (t < threads) × HasOpenCall world.now.state t) }
 {
     for thread in 0..threads {
@@ -53,7 +53,8 @@ fn has_open_call<M: Machine>(world: &World<M>, threads: u32) -> bool
 
 /// Whether no turn follows after so many events, with `left` calls left.
 fn is_over<M: Machine>(world: &World<M>, threads: u32, events: usize, left: u32) -> bool
-    requires { length world.now.state.locals ≡ threads }
+    requires threads { world.now.threads ≡ threads }
+    requires locals { length world.now.state.locals ≡ threads }
     ensures { IsTrue result ↔ IsOver world.now.state events left }
 {
     if events == MOST_EVENTS as usize {
@@ -70,7 +71,7 @@ fn next_event<M: Machine, R: Rng>(
     keys: u32,
     rng: &mut R,
 ) -> Option<Event>
-    requires thread { thread < length world.now.state.locals }
+    requires thread { thread < world.now.threads }
     requires keys { 0 < keys }
     ensures drawn { (result, R.stream rng.new) ≡ event_drawn world.now.state thread left keys (R.stream rng.old) }
     ensures event { MatchOption result (IsIdle world.now.state thread left) (IsNextEvent world.now.state thread left keys) }
