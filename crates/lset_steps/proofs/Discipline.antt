@@ -16,7 +16,7 @@ use Rattle.lset_words.specs.Log.{is_change, begun_at, has_changed, begun_after, 
 use Rattle.lset_steps.specs.Chain.{View, view, Published, InChain, IsOrdered, UnmarkedInChain, Changed, UnlinkedStays, node_key, node_link, contents_of, counts_of}
 use Rattle.lset_steps.proofs.Moves.{Move, KeepsNodes, Course}
 use Rattle.lset_words.specs.Account.{FitsSometime}
-use Rattle.lset_steps.specs.Laws.{Lawful, StateLaws, Registers, StepLaws, StepAt, Answered, used_in, view_of, views}
+use Rattle.lset_steps.specs.Laws.{Lawful, BeginLaws, StateLaws, Registers, StepLaws, StepAt, Answered, used_in, view_of, views}
 use Rattle.lset_words.specs.Account.{MayChange, count_after}
 use Rattle.lset_steps.proofs.Memory.{WordStep, Memory, moved, left_is, named_in, lock_use, mine_counted, others_counted, goes_on, memory_after, inside}
 use Rattle.lset_steps.proofs.MoveLaws.{move-changed, marked_stays, later_same, later_more}
@@ -63,8 +63,7 @@ pub record StepOf (T : Table) (marks : Bool) (At : Outline) (n q t : ℕ) (vs : 
 
 pub record Discipline (T : Table) (marks : Bool) (At : Outline) : Type 1 where
   pub idle_at : (q t : ℕ) (vs : ℕ → View) (v : View) → At q t vs 0 0 v false (idle q t)
-  pub begun : (call : Call) (l : Local)
-      → ((T.begin call l).call ≡ call) × ((T.begin call l).used ≡ l.used) × ((T.begin call l).pc ≢ 0)
+  pub begun : (call : Call) (l : Local) → BeginLaws T.begin call l
   pub begin_registers : (n q t : ℕ) (call : Call) (l : Local) → target call < tail_word → Registers n q t l
       → Registers n q t (T.begin call l)
   pub begins : (q t : ℕ) (vs : ℕ → View) (now : ℕ) (v : View) (call : Call) (l : Local) → vs now ≡ v → IsOrdered v
@@ -264,7 +263,7 @@ module _ (T : Table) (marks : Bool) (At : Outline) (d : Discipline T marks At) (
           | inl y ↦ (let x : Thread At n q t vs (first t) k s.words (used_in s) (done t) (local_of s t) = i.threads t th in
               let at_t : Thread At n q t vs (suc k) (suc k) s.words (used_in s) false l' = record {
                 registers = d.begin_registers n q t call (local_of s t) en.2 x.registers;
-                counts = (d.begun call (local_of s t)).1 ∙ x.counts;
+                counts = (d.begun call (local_of s t)).used ∙ x.counts;
                 begun = omega arith;
                 at = d.begins q t vs (suc k) (view n q s.words (used_in s)) call (local_of s t) (e ∙ view_is)
                     i.memory.ordered i.memory.head_key;
@@ -288,7 +287,7 @@ module _ (T : Table) (marks : Bool) (At : Outline) (d : Discipline T marks At) (
       same_used : (u : ℕ) → used_in (after T s (Begin t call)) u ≡ used_in s u
       same_used u = elim (same_or_not u t) [
         | inl y ↦ (subst (λ z. used_in (after T s (Begin t call)) z ≡ used_in s z) (sym y)
-            (ap (λ (l : Local). l.used) (put_same s t (T.begin call (local_of s t)) en.0) ∙ (d.begun call (local_of s t)).1))
+            (ap (λ (l : Local). l.used) (put_same s t (T.begin call (local_of s t)) en.0) ∙ (d.begun call (local_of s t)).used))
         | inr y ↦ ap (λ (l : Local). l.used) (put_other s t u (T.begin call (local_of s t)) y)
       ]
 

@@ -216,8 +216,8 @@ module _ (T : Table) (law : Lawful T) (rows : HasReadRows T) (n q : ℕ) where
 
   -- a begin
   starts : (s : State) (o : StateLaws T.marks n q s) (call : Call) (l : Local) → Walked (view_of n q s) size 0 (T.begin call l)
-  starts s o (Add k) l = writing (λ r. subst IsRead (law.begins (Add k) l).0 r)
-  starts s o (Remove k) l = writing (λ r. subst IsRead (law.begins (Remove k) l).0 r)
+  starts s o (Add k) l = writing (λ r. subst IsRead (law.begins (Add k) l).called r)
+  starts s o (Remove k) l = writing (λ r. subst IsRead (law.begins (Remove k) l).called r)
   starts s o (Contains k) l =
       let v : View = view_of n q s in
       let head : (view_of n q s).key 0 ≡ 0 = o.head_key in

@@ -17,7 +17,7 @@ use Rattle.lset_steps.proofs.Moves.{InPast, Had, Lacked, At20, At21, At22}
 use Rattle.lset_steps.proofs.Hindsight.{later_published, key_stays}
 use Rattle.lset_steps.proofs.QuietMove.{in_chain_published}
 use Rattle.lset_steps.proofs.Walk.{at20_on, at21_on, at22_on, from20, from21_less, from21_same, from21_more, from22_true, from22_false}
-use Rattle.lset_steps.specs.Laws.{Registers}
+use Rattle.lset_steps.specs.Laws.{BeginLaws, Registers}
 use Rattle.lset_steps.proofs.Memory.{Memory, inside, inner}
 use Rattle.lset_steps.proofs.Discipline.{Outline, Here, Thread}
 use Rattle.lset_steps.proofs.Replies.{keep_walk, keep}
@@ -44,11 +44,10 @@ reading_on {vs} {first} {now} {done} {l} (reads22 e d c a) =
     reads22 e d c (at22_on vs first now (suc now) (key_of l.call).0 l.curr (omega arith) a)
 
 -- from the begin
-pub begun_reading_is : (call : Call) (l : Local)
-    → ((begun_reading call l).call ≡ call) × ((begun_reading call l).used ≡ l.used) × ((begun_reading call l).pc ≢ 0)
-begun_reading_is (Add k) l = (refl, refl, λ e. omega arith)
-begun_reading_is (Remove k) l = (refl, refl, λ e. omega arith)
-begun_reading_is (Contains k) l = (refl, refl, λ e. omega arith)
+pub begun_reading_is : (call : Call) (l : Local) → BeginLaws begun_reading call l
+begun_reading_is (Add k) l = record { called = refl; used = refl; opened = λ e. omega arith; alike = refl }
+begun_reading_is (Remove k) l = record { called = refl; used = refl; opened = λ e. omega arith; alike = refl }
+begun_reading_is (Contains k) l = record { called = refl; used = refl; opened = λ e. omega arith; alike = refl }
 
 pub reading_begins : (vs : ℕ → View) (now : ℕ) (v : View) (k : Key) (l : Local) → vs now ≡ v → v.key 0 ≡ 0
     → Reading vs now now false (begun_reading (Contains k) l)

@@ -102,7 +102,7 @@ module _ (T : Table) (law : Lawful T) (n q : ℕ) (es : ℕ → Event) (last : �
         let bg = law.begins call (local_of (state_at T n q es k) u) in
         tied_to (pick_yes (u == t) true (is_open (log_of T n q es) t k) b)
         (pick_yes (u == t) call (last_call (log_of T n q es) t k) b) lo
-        (record { closed = λ e. absurd (bg.2 e); opened = λ e. (refl, bg.0) }))
+        (record { closed = λ e. absurd (bg.opened e); opened = λ e. (refl, bg.called) }))
     | inr y ↦ (let b : (u == t) ≡ false = unequal_test u t (λ z. y (sym z)) in
         tied_to (pick_not (u == t) true (is_open (log_of T n q es) t k) b)
         (pick_not (u == t) call (last_call (log_of T n q es) t k) b)
@@ -172,7 +172,7 @@ module _ (T : Table) (law : Lawful T) (n q : ℕ) (es : ℕ → Event) (last : �
       same_used u = elim (same_or_not u t) [
         | inl y ↦ (subst (λ z. used_in (after T (state_at T n q es k) (Begin t call)) z ≡ used_in (state_at T n q es k) z) (sym y)
             (ap (λ (l : Local). l.used) (local_same T law n q es last r (state_at T n q es k) t
-            (T.begin call (local_of (state_at T n q es k) t)) en.0) ∙ (law.begins call (local_of (state_at T n q es k) t)).1))
+            (T.begin call (local_of (state_at T n q es k) t)) en.0) ∙ (law.begins call (local_of (state_at T n q es k) t)).used))
         | inr y ↦ ap (λ (l : Local). l.used) (local_other T law n q es last r (state_at T n q es k) t u
             (T.begin call (local_of (state_at T n q es k) t)) y)
       ]

@@ -13,7 +13,7 @@ use Rattle.lset_steps.specs.declared.Action.{Action}
 use Rattle.lset_steps.specs.declared.Action.TheVariants.{Load, Exchange}
 use Rattle.lset_steps.specs.Steps.{Table, idle, seen_by}
 use Rattle.lset_steps.specs.Chain.{View, view, FitsIn, IsOrdered, contents_of, counts_of, node_lock}
-use Rattle.lset_steps.specs.Laws.{Registers, Due}
+use Rattle.lset_steps.specs.Laws.{BeginLaws, Registers, Due}
 use Rattle.lset_steps.proofs.Memory.{WordStep, Memory, reads}
 use Rattle.lset_steps.proofs.Rely.{Rely, rely_of}
 use Rattle.lset_steps.proofs.Remains.{Remains, remains_of, remains_same}
@@ -131,8 +131,7 @@ tries {t = t} {ws = ws} a on same inn acts feeds tells onward again taken stays 
 -- thread, and the outline stands through what the others do
 pub record Follows (T : Table) (P : Protocol T.marks) (At : Outline) : Type 1 where
   pub idle_at : (q t : ℕ) (vs : ℕ → View) (v : View) → At q t vs 0 0 v false (idle q t)
-  pub begun : (call : Call) (l : Local)
-      → ((T.begin call l).call ≡ call) × ((T.begin call l).used ≡ l.used) × ((T.begin call l).pc ≢ 0)
+  pub begun : (call : Call) (l : Local) → BeginLaws T.begin call l
   pub begin_registers : (n q t : ℕ) (call : Call) (l : Local) → target call < tail_word → Registers n q t l
       → Registers n q t (T.begin call l)
   pub begins : (q t : ℕ) (vs : ℕ → View) (now : ℕ) (v : View) (call : Call) (l : Local) → vs now ≡ v → IsOrdered v

@@ -11,7 +11,7 @@ use Rattle.lset_steps.specs.declared.Action.{Action}
 use Rattle.lset_steps.specs.declared.Action.TheVariants.{Load, Store, Exchange}
 use Rattle.lset_steps.specs.declared.Event.{Event}
 use Rattle.lset_steps.specs.declared.Event.TheVariants.{Go}
-use Rattle.lset_steps.specs.Steps.{Table, State, state_at, Run, local_of, seen_next, log_of}
+use Rattle.lset_steps.specs.Steps.{Table, State, state_at, Run, local_of, seen_next, log_of, idle}
 use Rattle.lset_steps.specs.Chain.{View, view, IsOrdered, InChain, UnmarkedInChain, Changed, UnlinkedStays, Seen, contents_of, counts_of}
 
 -- the view of a state, and of each moment of a run
@@ -94,10 +94,17 @@ StepAt T n q es k t =
     StepLaws T n q es k t (state_at T n q es k) (local_of (state_at T n q es k) t)
     (T.effect (local_of (state_at T n q es k) t) (seen_next T (state_at T n q es k) t))
 
+-- What a thread that held l holds when it has begun a call:
+pub record BeginLaws (begin : Call → Local → Local) (call : Call) (l : Local) : Type 0 where
+  pub called : (begin call l).call ≡ call
+  pub used : (begin call l).used ≡ l.used
+  pub opened : (begin call l).pc ≢ 0
+  -- of what it held, only its number, its quota and its count of successful adds have a part in it.
+  pub alike : begin call l ≡ begin call (record (idle l.quota l.thread) { used = l.used })
+
 -- THE LAW OF A MACHINE
 pub record Lawful (T : Table) : Type 0 where
-  pub begins : (call : Call) (l : Local)
-      → ((T.begin call l).call ≡ call) × ((T.begin call l).used ≡ l.used) × ((T.begin call l).pc ≢ 0)
+  pub begins : (call : Call) (l : Local) → BeginLaws T.begin call l
   -- what is so in every state of every run,
   pub states : (n q last k : ℕ) (es : ℕ → Event) → Run T n q es last → k ≤ last → StateLaws T.marks n q (state_at T n q es k)
   -- at every step,

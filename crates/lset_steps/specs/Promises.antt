@@ -1,6 +1,6 @@
 -- What is promised of every run of a machine, each promise under its own name. In all of them n is the number of threads, q the
 -- quota, es the events of a run of `last` events, and k a moment: k events have happened.
-use Rattle.std.specs.Prelude.{◌≡◌, ◌≢◌, ℕ, zero, suc, ◌+◌, ◌^◌, ◌<◌, ◌≤◌, ◌⊎◌, true, if◌then◌else◌, ◌==◌, List, [], ◌∷◌, ◌++◌, map, Option, Some, Contains, slice_index}
+use Rattle.std.specs.Prelude.{◌≡◌, ◌≢◌, ℕ, zero, suc, ◌+◌, ◌%◌, ◌^◌, ◌<◌, ◌≤◌, ◌⊎◌, true, if◌then◌else◌, ◌==◌, List, [], ◌∷◌, ◌++◌, map, Option, Some, Contains, slice_index}
 use Rattle.std.specs.List.Sorted.{IsStrictlyIncreasing}
 use Rattle.lset_words.specs.declared.Call.{Call}
 use Rattle.lset_words.specs.declared.Call.TheVariants as call
@@ -68,6 +68,19 @@ LockUses T = (n q last k t : ℕ) (es : ℕ → Event) → Run T n q es last →
 abbrev pub UnlinkedNodesStay : Table → Type 0
 UnlinkedNodesStay T = (n q last j k i : ℕ) (es : ℕ → Event) → Run T n q es last → j ≤ k → k ≤ last
     → (views T n q es j).published i → UnlinkedStays T.marks (views T n q es j) (views T n q es k) i
+
+-- [Frozen]: from a moment k of a run of `last` events on, the link word of node i is the same.
+abbrev pub IsFrozen : Table → ℕ → ℕ → ℕ → (ℕ → Event) → ℕ → ℕ → Type 0
+IsFrozen T n q last es k i = (later : ℕ) → k ≤ later → later ≤ last → (views T n q es later).link i ≡ (views T n q es k).link i
+
+-- From the moment at which a node is unlinked it is frozen, and in a list that marks from the moment at which it is marked.
+pub record Freezes (T : Table) (n q last : ℕ) (es : ℕ → Event) (k i : ℕ) : Type 0 where
+  pub unlinked : (InChain (views T n q es k) i → ⊥) → IsFrozen T n q last es k i
+  pub marked : T.marks ≡ true → (views T n q es k).link i % 2 ≡ 1 → IsFrozen T n q last es k i
+
+abbrev pub FrozenNodes : Table → Type 0
+FrozenNodes T = (n q last k i : ℕ) (es : ℕ → Event) → Run T n q es last → k ≤ last → (views T n q es k).published i
+    → Freezes T n q last es k i
 
 -- [Seen in the past]: the link word that is read at a moment k of a node that was in the chain at an earlier moment j, the node had
 -- at some moment between while it was in the chain.

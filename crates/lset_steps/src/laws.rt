@@ -3,6 +3,7 @@
 
 ghost use Rattle.lset_steps.specs.BoundedReads.{BoundedReads, WalksInChain};
 ghost use Rattle.lset_steps.specs.Promises.{
+  FrozenNodes,
   HasAccount,
   InRange,
   ListedContent,
@@ -47,6 +48,12 @@ pub fn lock_uses<M: Machine>()
 /// a marked node in a list that marks. (Heller and others, of their lazy list; Harris, of marks.)
 pub fn unlinked_nodes_stay<M: Machine>()
     ensures { UnlinkedNodesStay M.table }
+{}
+
+/// A node is frozen, its link the same for good, from the moment at which it is unlinked, and in a list that marks
+/// from the moment at which it is marked. (Harris; O'Hearn and others.)
+pub fn frozen_nodes<M: Machine>()
+    ensures { FrozenNodes M.table }
 {}
 
 /// What is read of a node that was in the chain at some moment, it had at a moment since then while it was in the

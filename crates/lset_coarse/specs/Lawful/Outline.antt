@@ -424,7 +424,7 @@ module _ (n q t : ℕ) (vs : ℕ → View) (first : ℕ → ℕ) (now : ℕ) (ws
 pub coarse_discipline : Discipline coarse false At
 coarse_discipline = record {
   idle_at = λ q t vs v. at0 refl;
-  begun = λ call l. (refl, refl, (λ e. omega arith));
+  begun = λ call l. record { called = refl; used = refl; opened = λ e. omega arith; alike = refl };
   begin_registers = λ n q t call l low r. registers_begun n q t 1 call l low r;
   begins = λ q t vs now v call l e s k. at1 refl refl;
   waits = λ q t vs first now v done l e. waits q t vs first now v done l;

@@ -421,7 +421,7 @@ module _ (n q t : ℕ) (vs : ℕ → View) (first now : ℕ) (ws : List ℕ) (us
 pub optimistic_follows : Follows optimistic (node_locks false) At
 optimistic_follows = record {
   idle_at = λ q t vs v. at0 refl;
-  begun = λ call l. (refl, refl, (λ e. omega arith));
+  begun = λ call l. record { called = refl; used = refl; opened = λ e. omega arith; alike = refl };
   begin_registers = λ n q t call l low r. registers_begun n q t 1 call l low r;
   begins = λ q t vs now v call l e s k. at1 refl refl;
   stands = λ q t vs first now v w done l present r at. stays q t vs first now v w done l present r at;
