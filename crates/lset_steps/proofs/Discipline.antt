@@ -3,7 +3,7 @@ use Rattle.std.specs.Prelude.{◌≡◌, ◌≢◌, ℕ, ◌+◌, ◌/◌, ◌%�
 use Rattle.std.proofs.Common.{arith, inl, inr, sym, ◌∙◌, ap, subst, zero, suc, get_or-set_other, get_or-set_same, length-set}
 use Rattle.std.proofs.lemmas.List.FromFn.{get_or-map-range_with_len, length-map-range_with_len}
 use Rattle.lset_words.proofs.Numbers.{same_or_not, equal_test, unequal_test}
-use Rattle.lset_words.specs.Words.{tail_word, word_count, target}
+use Rattle.lset_words.specs.Words.{tail_word, word_count, node_count, link_index, target}
 use Rattle.lset_words.specs.declared.Call.{Call}
 use Rattle.lset_words.specs.declared.Key.{Key}
 use Rattle.lset_words.specs.declared.Reply.{Reply}
@@ -134,6 +134,18 @@ module _ (n q : ℕ) where
       (0 ∷ [], (refl, (λ (x : 0 ≡ 1). absurd (cc)), head_next)) i m
   opening_marked false = λ i m. at_ends (λ x. node_link (opening n q).words x % 2 ≡ 0) (rw l0 refl) (rw l1 refl) i m
 
+  opening_unmarked : (i : ℕ) → i < node_count n q → node_link (opening n q).words i % 2 ≡ 0
+  opening_unmarked i l = rw (opening_at n q (link_index i) (omega arith)) (elim (same_or_not i 0) [
+    | inl e ↦ rw e refl
+    | inr d ↦ elim (same_or_not i 1) [ inl e ↦ rw e refl | inr f ↦ even_word i d f ]
+  ])
+    where
+      even_word : (i : ℕ) → i ≢ 0 → i ≢ 1 → opening_word n q (link_index i) % 2 ≡ 0
+      even_word i d f =
+          rw (unequal_test (link_index i) 1 (λ e. omega arith), unequal_test (link_index i) 2 (λ e. omega arith),
+          unequal_test (link_index i) 4 (λ e. d (omega arith)), unequal_test (link_index i) 6 (λ e. omega arith),
+          unequal_test (link_index i) 7 (λ e. f (omega arith))) refl
+
   opening_memory : (marks : Bool) → Memory marks n q (opening n q).words (used_in (opening n q))
   opening_memory marks = record {
     words = length-map-range_with_len (opening_word n q) 0 (word_count n q);
@@ -143,6 +155,7 @@ module _ (n q : ℕ) where
     tail_key = k1;
     tail_link = l1;
     marked = opening_marked marks;
+    unmarked = λ bare i l. opening_unmarked i l;
   }
 
 -- THE COURSE of a run goes on
@@ -464,6 +477,7 @@ module _ (T : Table) (marks : Bool) (At : Outline) (d : Discipline T marks At) (
         tail_key = i.memory.tail_key;
         inside = λ j p. inside marks n q (state_at T n q es k).words (used_in (state_at T n q es k)) i.memory j p;
         marked = i.memory.marked;
+        unmarked = i.memory.unmarked;
       }
 
   stepped_at : (k t : ℕ) → k < last → es k ≡ Go t → StepAt T n q es k t

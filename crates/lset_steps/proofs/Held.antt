@@ -133,10 +133,10 @@ module _ {marks : Bool} {n q t : ℕ} {ws : List ℕ} {used : ℕ → ℕ} where
       (slice_set ws (key_index (own_of q t used)) x) used None
   writes_own_key x room = (own_key x room, tt)
 
-  pub writes_own_link : (x : ℕ) → used t < q
-      → LockedStep marks n q t ws used (Store (link_index (own_of q t used)) x)
-      (slice_set ws (link_index (own_of q t used)) x) used None
-  writes_own_link x room = (own_link x room, tt)
+  pub writes_own_link : (c : ℕ) → used t < q
+      → LockedStep marks n q t ws used (Store (link_index (own_of q t used)) (2 * c))
+      (slice_set ws (link_index (own_of q t used)) (2 * c)) used None
+  writes_own_link c room = (own_link c room, tt)
 
   pub puts_between : {pred curr : ℕ} {op : Call} → Between (view n q ws used) t (target op) pred curr
       → Adding (view n q ws used) t q curr op

@@ -104,9 +104,9 @@ pub data WordStep (marks : Bool) (n q t : ℕ) (ws : List ℕ) (used : ℕ → �
   own_key : (x : ℕ) → used t < q
       → WordStep marks n q t ws used (Store (key_index (own_of q t used)) x)
       (slice_set ws (key_index (own_of q t used)) x) used None
-  own_link : (x : ℕ) → used t < q
-      → WordStep marks n q t ws used (Store (link_index (own_of q t used)) x)
-      (slice_set ws (link_index (own_of q t used)) x) used None
+  own_link : (c : ℕ) → used t < q
+      → WordStep marks n q t ws used (Store (link_index (own_of q t used)) (2 * c))
+      (slice_set ws (link_index (own_of q t used)) (2 * c)) used None
   puts : (a : Action) (p c : ℕ) (k : Key) → Writes ws a (link_index p) (2 * own_of q t used)
       → InChain (view n q ws used) p → p ≢ 1 → node_link ws p ≡ 2 * c
       → used t < q → node_link ws (own_of q t used) ≡ 2 * c → node_key ws (own_of q t used) ≡ key_word_of k
@@ -133,6 +133,8 @@ pub record Memory (marks : Bool) (n q : ℕ) (ws : List ℕ) (used : ℕ → ℕ
   pub tail_key : node_key ws 1 ≡ tail_word
   pub tail_link : node_link ws 1 ≡ 2
   pub marked : UnmarkedInChain marks (view n q ws used)
+  -- a list that does not mark has no marked link, a slot's that is not published neither
+  pub unmarked : marks ≡ false → (i : ℕ) → i < node_count n q → node_link ws i % 2 ≡ 0
 
 module _ (marks : Bool) (n q : ℕ) (ws : List ℕ) (used : ℕ → ℕ) (m : Memory marks n q ws used) where
   pub inside : (i : ℕ) → Published n q used i → i < node_count n q
@@ -358,7 +360,7 @@ module _ (marks : Bool) (n q : ℕ) (ws : List ℕ) (used : ℕ → ℕ) (m : Me
   moved a ws' used' ch (takes x i k z) = quiet (at_lock x (t + 1) k)
   moved a ws' used' ch (gives x i k z) = quiet (at_lock x 0 k)
   moved a ws' used' ch (own_key x r) = quiet (at_own_key x r)
-  moved a ws' used' ch (own_link x r) = quiet (at_own_link x r)
+  moved a ws' used' ch (own_link c r) = quiet (at_own_link (2 * c) r)
   moved a ws' used' ch (puts b p c k w at nt follows r ready key above under) =
       inserts p (own_of q t used) k (at_put p c k.0 at nt follows r ready key above under)
   moved a ws' used' ch (sets_mark b c x k y w at inn even is key) = sets c k y (at_mark c x k.0 at inn even is key)
@@ -375,7 +377,7 @@ module _ (marks : Bool) (n q : ℕ) (ws : List ℕ) (used : ℕ → ℕ) (m : Me
   left_is a ws' used' ch (takes x i k z) = rw z refl
   left_is a ws' used' ch (gives x i k z) = refl
   left_is a ws' used' ch (own_key x r) = refl
-  left_is a ws' used' ch (own_link x r) = refl
+  left_is a ws' used' ch (own_link c r) = refl
   left_is a ws' used' ch (puts b p c k w at nt follows r ready key above under) =
       written ws a (link_index p) (2 * own_of q t used) w
   left_is a ws' used' ch (sets_mark b c x k y w at inn even is key) = written ws a (link_index c) x w
@@ -390,7 +392,7 @@ module _ (marks : Bool) (n q : ℕ) (ws : List ℕ) (used : ℕ → ℕ) (m : Me
   named_in a ws' used' ch (gives x i k z) = i
   named_in a ws' used' ch (own_key x r) = let z : own_of q t used < node_count n q =
       own_in marks n q ws used m t h r in omega arith
-  named_in a ws' used' ch (own_link x r) =
+  named_in a ws' used' ch (own_link c r) =
       let z : own_of q t used < node_count n q = own_in marks n q ws used m t h r in omega arith
   named_in a ws' used' ch (puts b p c k w at nt follows r ready key above under) =
       rw (at_write ws a (link_index p) (2 * own_of q t used) w)
@@ -409,7 +411,7 @@ module _ (marks : Bool) (n q : ℕ) (ws : List ℕ) (used : ℕ → ℕ) (m : Me
   lock_use a ws' used' ch (takes x i k z) = λ y. (refl, refl)
   lock_use a ws' used' ch (gives x i k z) = λ y. (refl, z)
   lock_use a ws' used' ch (own_key x r) = λ k. absurd (not_key (own_of q t used) k)
-  lock_use a ws' used' ch (own_link x r) = λ k. absurd (not_link (own_of q t used) k)
+  lock_use a ws' used' ch (own_link c r) = λ k. absurd (not_link (own_of q t used) k)
   lock_use a ws' used' ch (puts b p c k w at nt follows r ready key above under) = no_lock ws a t p (2 * own_of q t used) w
   lock_use a ws' used' ch (sets_mark b c x k y w at inn even is key) = no_lock ws a t c x w
   lock_use a ws' used' ch (cuts b p c d w at first inn follows next) = no_lock ws a t p (2 * d) w
@@ -423,7 +425,7 @@ module _ (marks : Bool) (n q : ℕ) (ws : List ℕ) (used : ℕ → ℕ) (m : Me
   mine_counted a ws' used' ch (takes x i k z) = refl
   mine_counted a ws' used' ch (gives x i k z) = refl
   mine_counted a ws' used' ch (own_key x r) = refl
-  mine_counted a ws' used' ch (own_link x r) = refl
+  mine_counted a ws' used' ch (own_link c r) = refl
   mine_counted a ws' used' ch (puts b p c k w at nt follows r ready key above under) = one_more_same used t
   mine_counted a ws' used' ch (sets_mark b c x k y w at inn even is key) = refl
   mine_counted a ws' used' ch (cuts b p c d w at first inn follows next) = refl
@@ -436,7 +438,7 @@ module _ (marks : Bool) (n q : ℕ) (ws : List ℕ) (used : ℕ → ℕ) (m : Me
   others_counted u e a ws' used' ch (takes x i k z) = refl
   others_counted u e a ws' used' ch (gives x i k z) = refl
   others_counted u e a ws' used' ch (own_key x r) = refl
-  others_counted u e a ws' used' ch (own_link x r) = refl
+  others_counted u e a ws' used' ch (own_link c r) = refl
   others_counted u e a ws' used' ch (puts b p c k w at nt follows r ready key above under) = one_more_other used t u e
   others_counted u e a ws' used' ch (sets_mark b c x k y w at inn even is key) = refl
   others_counted u e a ws' used' ch (cuts b p c d w at first inn follows next) = refl
@@ -449,7 +451,7 @@ module _ (marks : Bool) (n q : ℕ) (ws : List ℕ) (used : ℕ → ℕ) (m : Me
   room_after u k a ws' used' ch (takes x i y z) = m.room u k
   room_after u k a ws' used' ch (gives x i y z) = m.room u k
   room_after u k a ws' used' ch (own_key x r) = m.room u k
-  room_after u k a ws' used' ch (own_link x r) = m.room u k
+  room_after u k a ws' used' ch (own_link c r) = m.room u k
   room_after u k a ws' used' ch (puts b p c y w at nt follows r ready key above under) = elim (same_or_not u t) [
     | inl e ↦ (let z : one_more used t u ≡ used t + 1 = rw e (one_more_same used t) in omega arith)
     | inr e ↦ (let z : one_more used t u ≡ used u = one_more_other used t u e in let y : used u ≤ q = m.room u k in omega arith)
@@ -465,12 +467,37 @@ module _ (marks : Bool) (n q : ℕ) (ws : List ℕ) (used : ℕ → ℕ) (m : Me
   same_length a ws' used' ch (takes x i k z) = length-set ws x (t + 1)
   same_length a ws' used' ch (gives x i k z) = length-set ws x 0
   same_length a ws' used' ch (own_key x r) = length-set ws (key_index (own_of q t used)) x
-  same_length a ws' used' ch (own_link x r) = length-set ws (link_index (own_of q t used)) x
+  same_length a ws' used' ch (own_link c r) = length-set ws (link_index (own_of q t used)) (2 * c)
   same_length a ws' used' ch (puts b p c k w at nt follows r ready key above under) =
       length-set ws (link_index p) (2 * own_of q t used)
   same_length a ws' used' ch (sets_mark b c x k y w at inn even is key) = length-set ws (link_index c) x
   same_length a ws' used' ch (cuts b p c d w at first inn follows next) = length-set ws (link_index p) (2 * d)
   same_length a ws' used' ch (drops b p c d k y w at first inn follows next key) = length-set ws (link_index p) (2 * d)
+
+  -- an even word in one link leaves the links even
+  even_link : (p x i : ℕ) → p < node_count n q → x % 2 ≡ 0 → node_link ws i % 2 ≡ 0
+      → node_link (slice_set ws (link_index p) x) i % 2 ≡ 0
+  even_link p x i inn even before = elim (same_or_not i p) [
+    | inl e ↦ rw (e, link_wrote marks n q ws used m p x inn) even
+    | inr d ↦ rw (link_after_link ws p x i d) before
+  ]
+
+  unmarked_after : marks ≡ false → (i : ℕ) → i < node_count n q → (a : Action) (ws' : List ℕ) (used' : ℕ → ℕ)
+      (ch : Option (Key × Bool)) → WordStep marks n q t ws used a ws' used' ch → node_link ws' i % 2 ≡ 0
+  unmarked_after bare i l a ws' used' ch (reads x k) = m.unmarked bare i l
+  unmarked_after bare i l a ws' used' ch (fails x old new k d y) = m.unmarked bare i l
+  unmarked_after bare i l a ws' used' ch (takes x k y z) = rw (link_after_lock ws x (t + 1) i y) (m.unmarked bare i l)
+  unmarked_after bare i l a ws' used' ch (gives x k y z) = rw (link_after_lock ws x 0 i y) (m.unmarked bare i l)
+  unmarked_after bare i l a ws' used' ch (own_key x r) = rw (link_after_key ws (own_of q t used) x i) (m.unmarked bare i l)
+  unmarked_after bare i l a ws' used' ch (own_link c r) =
+      even_link (own_of q t used) (2 * c) i (own_in marks n q ws used m t h r) (omega arith) (m.unmarked bare i l)
+  unmarked_after bare i l a ws' used' ch (puts b p c k w at nt follows r ready key above under) =
+      even_link p (2 * own_of q t used) i (chain_in marks n q ws used m p at) (omega arith) (m.unmarked bare i l)
+  unmarked_after bare i l a ws' used' ch (sets_mark b c x k y w at inn even is key) = absurd (let e : true ≡ false = sym y ∙ bare in cc)
+  unmarked_after bare i l a ws' used' ch (cuts b p c d w at first inn follows next) =
+      even_link p (2 * d) i (chain_in marks n q ws used m p at) (omega arith) (m.unmarked bare i l)
+  unmarked_after bare i l a ws' used' ch (drops b p c d k y w at first inn follows next key) =
+      even_link p (2 * d) i (chain_in marks n q ws used m p at) (omega arith) (m.unmarked bare i l)
 
   pub goes_on : (a : Action) (ws' : List ℕ) (used' : ℕ → ℕ) (ch : Option (Key × Bool))
       → WordStep marks n q t ws used a ws' used' ch → KeepsNodes (view n q ws used) (view n q ws' used')
@@ -489,4 +516,5 @@ module _ (marks : Bool) (n q : ℕ) (ws : List ℕ) (used : ℕ → ℕ) (m : Me
         tail_key = g.keys 1 m.ordered.tail_published ∙ m.tail_key;
         tail_link = tail_stays marks (view n q ws used) (view n q ws' used') m.ordered ch mv ∙ m.tail_link;
         marked = marked_after marks (view n q ws used) (view n q ws' used') m.ordered ch mv m.marked;
+        unmarked = λ bare i l. unmarked_after bare i l a ws' used' ch c;
       }

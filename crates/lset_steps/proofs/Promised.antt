@@ -21,7 +21,7 @@ use Rattle.lset_steps.proofs.ContentLists.{chain_is}
 use Rattle.lset_steps.proofs.RunContents.{ContentList, content_at}
 use Rattle.lset_steps.proofs.RunAccount.{account_of}
 use Rattle.lset_steps.proofs.LockWords.{lock_word}
-use Rattle.lset_steps.specs.Promises.{FrozenNodes, InRange, ThreadInRange, SortedChain, ChainIsSorted, LockWords, LockUses, UnlinkedNodesStay, SeenInThePast, UnmarkedNodesInChain, ChangeIsNamed, NamedChange, RepliesFit, IsRead, TrueMeansChange, HasAccount, ContentIsListed, ListedContent}
+use Rattle.lset_steps.specs.Promises.{FrozenNodes, NoLinkIsMarked, InRange, ThreadInRange, SortedChain, ChainIsSorted, LockWords, LockUses, UnlinkedNodesStay, SeenInThePast, UnmarkedNodesInChain, ChangeIsNamed, NamedChange, RepliesFit, IsRead, TrueMeansChange, HasAccount, ContentIsListed, ListedContent}
 
 -- the run goes on with a step of a thread with an open call
 module _ (T : Table) (law : Lawful T) (n q last k t : ℕ) (es : ℕ → Event) (r : Run T n q es last) (l : k ≤ last)
@@ -119,6 +119,9 @@ pub named_change_of : (T : Table) → Lawful T → NamedChange T
 named_change_of T law n q last k es r l =
     change_named n q (log_of T n q es) (contents_of (views T n q es)) (counts_of (views T n q es)) k (log_of T n q es k)
     ((account_is T law n q last es r).enters k l)
+
+pub no_link_is_marked_of : (T : Table) → Lawful T → NoLinkIsMarked T
+no_link_is_marked_of T law n q last k i es r l bare inn = (law.states n q last k es r l).unmarked bare i inn
 
 pub frozen_nodes_of : (T : Table) → Lawful T → FrozenNodes T
 frozen_nodes_of T law n q last k i es r l p = record {

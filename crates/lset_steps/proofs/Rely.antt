@@ -33,7 +33,7 @@ Guarded marks n q t ws used a ws' used' ch (fails x old new i d k) = Unit {0}
 Guarded marks n q t ws used a ws' used' ch (takes x i k z) = Unit {0}
 Guarded marks n q t ws used a ws' used' ch (gives x i k z) = Unit {0}
 Guarded marks n q t ws used a ws' used' ch (own_key x r) = Unit {0}
-Guarded marks n q t ws used a ws' used' ch (own_link x r) = Unit {0}
+Guarded marks n q t ws used a ws' used' ch (own_link c r) = Unit {0}
 Guarded marks n q t ws used a ws' used' ch (puts b p c k w at nt follows r ready key above under) = node_lock ws p ≡ t + 1
 Guarded marks n q t ws used a ws' used' ch (sets_mark b c x k y w at inn even is key) = node_lock ws c ≡ t + 1
 Guarded marks n q t ws used a ws' used' ch (cuts b p c d w at first inn follows next) = (node_lock ws p ≡ t + 1)
@@ -128,15 +128,15 @@ module _ (marks : Bool) (n q : ℕ) (ws : List ℕ) (used : ℕ → ℕ) (m : Me
     own_key = λ s. key_after_key ws (own_of q t used) x (own_of q u used) (other_own s r);
     own_link = λ s. link_after_key ws (own_of q t used) x (own_of q u used);
   }
-  rely_of a ws' used' ch (own_link x r) g = record {
-    goes = goes_on marks n q ws used m t h a ws' used ch (own_link x r);
+  rely_of a ws' used' ch (own_link c r) g = record {
+    goes = goes_on marks n q ws used m t h a ws' used ch (own_link c r);
     used = refl;
-    list_lock = λ z. list_lock_after_link ws (own_of q t used) x ∙ z;
-    lock = λ b z. lock_after_link ws (own_of q t used) x b ∙ z;
-    link = λ b p z. link_after_link ws (own_of q t used) x b (no_own marks n q ws used m t b r p);
-    chain = λ b z c. quiet_keeps (view n q ws used) (view n q ws' used) m.ordered (at_own_link marks n q ws used m t h x r) b c;
-    own_key = λ s. key_after_link ws (own_of q t used) x (own_of q u used);
-    own_link = λ s. link_after_link ws (own_of q t used) x (own_of q u used) (other_own s r);
+    list_lock = λ z. list_lock_after_link ws (own_of q t used) (2 * c) ∙ z;
+    lock = λ b z. lock_after_link ws (own_of q t used) (2 * c) b ∙ z;
+    link = λ b p z. link_after_link ws (own_of q t used) (2 * c) b (no_own marks n q ws used m t b r p);
+    chain = λ b z y. quiet_keeps (view n q ws used) (view n q ws' used) m.ordered (at_own_link marks n q ws used m t h (2 * c) r) b y;
+    own_key = λ s. key_after_link ws (own_of q t used) (2 * c) (own_of q u used);
+    own_link = λ s. link_after_link ws (own_of q t used) (2 * c) (own_of q u used) (other_own s r);
   }
   rely_of a ws' used' ch (puts b p c k w at nt follows r ready key above under) g =
       at_link p (2 * own_of q t used) used' (in_chain_published (view n q ws used) m.ordered p at) g

@@ -41,7 +41,7 @@ module _ (marks : Bool) (n q : ℕ) (ws : List ℕ) (used : ℕ → ℕ) (m : Me
   slot_key a ws' used' ch (takes x i k z) r = key_after_lock ws x (t + 1) (own_of q u used) k
   slot_key a ws' used' ch (gives x i k z) r = key_after_lock ws x 0 (own_of q u used) k
   slot_key a ws' used' ch (own_key x s) r = key_after_key ws (own_of q t used) x (own_of q u used) (other_own r s)
-  slot_key a ws' used' ch (own_link x s) r = key_after_link ws (own_of q t used) x (own_of q u used)
+  slot_key a ws' used' ch (own_link c s) r = key_after_link ws (own_of q t used) (2 * c) (own_of q u used)
   slot_key a ws' used' ch (puts b p c k w at nt follows s ready key above under) r =
       key_after_link ws p (2 * own_of q t used) (own_of q u used)
   slot_key a ws' used' ch (sets_mark b c x k y w at inn even is key) r = key_after_link ws c x (own_of q u used)
@@ -58,7 +58,7 @@ module _ (marks : Bool) (n q : ℕ) (ws : List ℕ) (used : ℕ → ℕ) (m : Me
   slot_link a ws' used' ch (takes x i k z) r = link_after_lock ws x (t + 1) (own_of q u used) k
   slot_link a ws' used' ch (gives x i k z) r = link_after_lock ws x 0 (own_of q u used) k
   slot_link a ws' used' ch (own_key x s) r = link_after_key ws (own_of q t used) x (own_of q u used)
-  slot_link a ws' used' ch (own_link x s) r = link_after_link ws (own_of q t used) x (own_of q u used) (other_own r s)
+  slot_link a ws' used' ch (own_link c s) r = link_after_link ws (own_of q t used) (2 * c) (own_of q u used) (other_own r s)
   slot_link a ws' used' ch (puts b p c k w at nt follows s ready key above under) r =
       link_after_link ws p (2 * own_of q t used) (own_of q u used) (not_slot p at r)
   slot_link a ws' used' ch (sets_mark b c x k y w at inn even is key) r =

@@ -1,5 +1,5 @@
 -- What holds of every run of a machine: the law that each list carries.
-use Rattle.std.specs.Prelude.{◌≡◌, ◌≢◌, ℕ, suc, ◌+◌, ◌<◌, ◌≤◌, ◌⊎◌, Bool, List, Option, Some, None, slice_index, length}
+use Rattle.std.specs.Prelude.{◌≡◌, ◌≢◌, ℕ, suc, ◌+◌, ◌<◌, ◌≤◌, ◌⊎◌, ◌%◌, Bool, false, List, Option, Some, None, slice_index, length}
 use Rattle.lset_words.specs.Words.{lock_index, word_count, node_count, tail_word, target}
 use Rattle.lset_words.specs.declared.Key.{Key}
 use Rattle.lset_words.specs.declared.Call.{Call}
@@ -55,6 +55,7 @@ pub record StateLaws (marks : Bool) (n q : ℕ) (s : State) : Type 0 where
   pub tail_key : (view_of n q s).key 1 ≡ tail_word
   pub inside : (i : ℕ) → (view_of n q s).published i → i < node_count n q
   pub marked : UnmarkedInChain marks (view_of n q s)
+  pub unmarked : marks ≡ false → (i : ℕ) → i < node_count n q → (view_of n q s).link i % 2 ≡ 0
 
 -- a lock word is touched only by a try of a thread, or by its storing of 0 where it has the lock
 abbrev pub LockUse : List ℕ → ℕ → Action → Type 0

@@ -1,12 +1,12 @@
 -- What is promised of every run of a machine, each promise under its own name. In all of them n is the number of threads, q the
 -- quota, es the events of a run of `last` events, and k a moment: k events have happened.
-use Rattle.std.specs.Prelude.{◌≡◌, ◌≢◌, ℕ, zero, suc, ◌+◌, ◌%◌, ◌^◌, ◌<◌, ◌≤◌, ◌⊎◌, true, if◌then◌else◌, ◌==◌, List, [], ◌∷◌, ◌++◌, map, Option, Some, Contains, slice_index}
+use Rattle.std.specs.Prelude.{◌≡◌, ◌≢◌, ℕ, zero, suc, ◌+◌, ◌%◌, ◌^◌, ◌<◌, ◌≤◌, ◌⊎◌, true, false, if◌then◌else◌, ◌==◌, List, [], ◌∷◌, ◌++◌, map, Option, Some, Contains, slice_index}
 use Rattle.std.specs.List.Sorted.{IsStrictlyIncreasing}
 use Rattle.lset_words.specs.declared.Call.{Call}
 use Rattle.lset_words.specs.declared.Call.TheVariants as call
 use Rattle.lset_words.specs.declared.Reply.{Reply}
 use Rattle.lset_words.specs.declared.Reply.TheVariants.{True}
-use Rattle.lset_words.specs.Words.{word_count}
+use Rattle.lset_words.specs.Words.{word_count, node_count}
 use Rattle.lset_words.specs.Log.{Log, Entry, Change, last_call, begun_at, has_changed}
 use Rattle.lset_words.specs.Log.Entry.{began, stepped}
 use Rattle.lset_words.specs.Account.{Account, Contents, Counts, Same, Changes, MayChange, RightReply, count_after}
@@ -92,6 +92,11 @@ SeenInThePast T = (n q last j k b : ℕ) (es : ℕ → Event) → Run T n q es l
 abbrev pub UnmarkedNodesInChain : Table → Type 0
 UnmarkedNodesInChain T = (n q last k : ℕ) (es : ℕ → Event) → Run T n q es last → k ≤ last
     → UnmarkedInChain T.marks (views T n q es k)
+
+-- In a list that does not mark no link is marked, that of a slot that no add has put in neither.
+abbrev pub NoLinkIsMarked : Table → Type 0
+NoLinkIsMarked T = (n q last k i : ℕ) (es : ℕ → Event) → Run T n q es last → k ≤ last → T.marks ≡ false → i < node_count n q
+    → (views T n q es k).link i % 2 ≡ 0
 
 -- [Named change]: what the entry k of a log does to the content and to the threads' counts of successful adds, and which call may
 -- do it: the one that its thread has begun last, once a call.

@@ -10,6 +10,7 @@ ghost use Rattle.lset_steps.specs.Promises.{
   LockUses,
   LockWords,
   NamedChange,
+  NoLinkIsMarked,
   RepliesFit,
   SeenInThePast,
   SortedChain,
@@ -66,6 +67,11 @@ pub fn seen_in_the_past<M: Machine>()
 /// others, of their lazy list.)
 pub fn unmarked_nodes_in_chain<M: Machine>()
     ensures { UnmarkedNodesInChain M.table }
+{}
+
+/// In a list that does not mark no link is marked, that of an unused slot neither. (This project's own table.)
+pub fn no_link_is_marked<M: Machine>()
+    ensures { NoLinkIsMarked M.table }
 {}
 
 /// The content changes only at a step that tells it, by just that key: put in by an `Add` of it of a thread below its

@@ -317,7 +317,7 @@ module _ (n q t : ℕ) (vs : ℕ → View) (first : ℕ → ℕ) (now : ℕ) (ws
       let ci = curr_at l.pred l.curr (target l.call) w regs.low in
       let qt = at_own_link false n q ws used M t tn x a.room in
       step (Store (link_index o) x) ws' (record l { pc = 7 }) (rw (e, own_is) refl) (rw e refl) (rw e refl)
-      (rw e refl) (own_link x a.room)
+      (rw e refl) (own_link l.curr a.room)
       (keep n q t 7 l.reply l regs) refl refl (λ x. omega arith)
       (at7 refl d (walking_on (view n q ws' used) l.pred l.curr (target l.call) qt (list_lock_after_link ws o x) w)
       (record {

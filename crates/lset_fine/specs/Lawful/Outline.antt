@@ -186,7 +186,7 @@ module _ (n q t : ℕ) (vs : ℕ → View) (first now : ℕ) (ws : List ℕ) (us
       let s = leaves_own_link M tn x a.room in
       let own = own_in false n q ws used M t tn a.room in
       passes (Store (link_index o) x) (slice_set ws (link_index o) x) (record l { pc = 9 })
-      (rw (e, own_is) refl) (rw e refl) (rw e refl) (writes_own_link x a.room)
+      (rw (e, own_is) refl) (rw e refl) (rw e refl) (writes_own_link l.curr a.room)
       (keep n q t 9 l.reply l regs, refl, refl, λ x. omega arith)
       (at9 refl d (between_on s b) (adding_on s b.walk.next a) (key_after_link ws o x o ∙ key)
       (link_wrote false n q ws used M o x own))

@@ -392,7 +392,7 @@ module _ (n q t : ℕ) (vs : ℕ → View) (first now : ℕ) (ws : List ℕ) (us
       → node_key ws (own_of q t used) ≡ target l.call → Goal
   go_6 e d s a key =
       let own : ℕ = own_of q t used in let x : ℕ = 2 * l.curr in
-      let c : WordStep true n q t ws used (Store (link_index own) x) (slice_set ws (link_index own) x) used None = own_link x a.room in
+      let c : WordStep true n q t ws used (Store (link_index own) x) (slice_set ws (link_index own) x) used None = own_link l.curr a.room in
       let g = goes_on true n q ws used M t tn (Store (link_index own) x) (slice_set ws (link_index own) x) used None c in
       passes (Store (link_index own) x) (slice_set ws (link_index own) x) (record l { pc = 7 })
       (rw (e, own_is) refl) (rw e refl) (rw e refl) c (keep n q t 7 l.reply l regs, refl, refl, λ y. omega arith)
