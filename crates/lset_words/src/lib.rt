@@ -10,7 +10,7 @@ mod table;
 
 pub use fault::LayoutFault;
 pub use history::{CallRecord, Placed};
-pub use table::{Layout, words_are_apart};
+pub use table::{Layout, key_index, link_index, lock_index, slot_node, words_are_apart};
 
 /// The most threads of a list. (This project's own limit, as are those below.)
 pub const MOST_THREADS: u32 = 64;
