@@ -1,6 +1,7 @@
 -- What a history keeps of itself through a beginning and an end.
 use Rattle.std.proofs.Common.{◌≡◌, ℕ, suc, zero, ◌<◌, ◌≤◌, ◌^◌, ◌≢◌, ◌==◌, ◌&&◌, ◌||◌, Bool, true, false, List, [], ◌∷◌, ◌++◌, length, take, get_or, ◌+◌, max, add-one, Option, Some, None, is_none, is_some, refl, sym, ap, ◌∙◌, subst, arith, ⊎_elim, inl, inr, ◌⊎◌, replicate, length-append}
 use Rattle.std.proofs.Math.Bool.{or-false}
+use Rattle.lset_words.specs.declared.TheConstants.{MOST_THREADS}
 use Rattle.lset_words.specs.Words.{IsWithin}
 use Rattle.std.specs.List.{All, list_any}
 use Rattle.std.specs.Option.{IfSome, IsSomeAnd}
@@ -239,9 +240,9 @@ kept_ended h busy latest n at reply kept still above fits = record {
     here : (t : ℕ) → t < h.threads → t ≡ x.thread → x.thread < length busy
     here t low same = let f = kept.flags in omega arith
 
--- the thread of a call is one of the 64
+-- the thread of a call is one of the threads that a history may have
 thread_of_call : (h : HistoryValue) (busy : List Bool) (latest n : ℕ) → IsKept h busy latest → n < length h.calls
-    → (call_numbered h.calls n).thread < 64
+    → (call_numbered h.calls n).thread < MOST_THREADS
 thread_of_call h busy latest n kept inside =
     let c : IsCall h.threads (call_numbered h.calls n) = calls_of h.threads h.calls kept.history n no_call inside in
     let few = kept.within.few in
@@ -281,18 +282,18 @@ kept_ended_read h busy latest n at reply x e kept still above fits =
     subst P (sym e) (kept_ended h busy latest n at reply kept still above fits)
 
 pub thread_read : (h : HistoryValue) (busy : List Bool) (latest n : ℕ) (x : CallRecord)
-    → IsKept h busy latest → n < length h.calls → x ≡ call_numbered h.calls n → x.thread < 64
+    → IsKept h busy latest → n < length h.calls → x ≡ call_numbered h.calls n → x.thread < MOST_THREADS
 thread_read h busy latest n x kept inside e =
-    let P : CallRecord → Type 0 = λ y. y.thread < 64 in subst P (sym e) (thread_of_call h busy latest n kept inside)
+    let P : CallRecord → Type 0 = λ y. y.thread < MOST_THREADS in subst P (sym e) (thread_of_call h busy latest n kept inside)
 
 -- a history without calls
 pub kept_new : (threads quota : ℕ) → IsWithin (record { threads = threads; quota = quota })
-    → IsKept (record { threads = threads; quota = quota; calls = [] }) (replicate 64 false) 0
+    → IsKept (record { threads = threads; quota = quota; calls = [] }) (replicate MOST_THREADS false) 0
 kept_new threads quota w = record {
   within = w;
   history = tt;
   flags = let f = w.few in omega arith;
-  busy_if_open = λ t low. let f = w.few in get_or-replicate 64 t false false (omega arith);
+  busy_if_open = λ t low. let f = w.few in get_or-replicate MOST_THREADS t false false (omega arith);
   latest_is = refl;
   numbered = omega arith;
   fits = omega arith;
@@ -311,9 +312,9 @@ latest_more calls i inside = rw add-one (latest_suc calls i inside)
 
 -- what the flags tell of the first calls
 abbrev pub TellsOpen : List Bool → List CallRecord → Type 0
-TellsOpen busy calls = (t : ℕ) → t < 64 → get_or busy t false ≡ has_open calls t
+TellsOpen busy calls = (t : ℕ) → t < MOST_THREADS → get_or busy t false ≡ has_open calls t
 
-pub tells_open_more : (busy : List Bool) (calls : List CallRecord) (i : ℕ) → i < length calls → length busy ≡ 64
+pub tells_open_more : (busy : List Bool) (calls : List CallRecord) (i : ℕ) → i < length calls → length busy ≡ MOST_THREADS
     → TellsOpen busy (take i calls) → (call_numbered calls i).ended ≡ None
     → TellsOpen (set busy (call_numbered calls i).thread true) (take (i + 1) calls)
 tells_open_more busy calls i inside long tells e t low =
@@ -358,7 +359,7 @@ few_calls threads (x ∷ xs) h =
     omega arith
 
 pub kept_of : (threads quota : ℕ) (calls : List CallRecord) (busy : List Bool) (latest n : ℕ)
-    → IsWithin (record { threads = threads; quota = quota }) → IsHistory threads calls → length busy ≡ 64
+    → IsWithin (record { threads = threads; quota = quota }) → IsHistory threads calls → length busy ≡ MOST_THREADS
     → length calls ≤ n → latest ≡ latest_moment (take n calls) → TellsOpen busy (take n calls) → latest < 2 ^ 32
     → IsKept (record { threads = threads; quota = quota; calls = calls }) busy latest
 kept_of threads quota calls busy latest n w h long all e tells fits =
@@ -377,7 +378,7 @@ kept_of threads quota calls busy latest n w h long all e tells fits =
     }
 
 pub thread_within : (threads : ℕ) (calls given : List CallRecord) (i : ℕ) (d : CallRecord) → given ≡ calls → IsHistory threads calls
-    → threads ≤ 64 → i < length given → (get_or given i d).thread < 64
+    → threads ≤ MOST_THREADS → i < length given → (get_or given i d).thread < MOST_THREADS
 thread_within threads calls given i d e h few inside =
     let P : List CallRecord → Type 0 = λ xs. All (IsCall threads) xs in
     let call : IsCall threads (get_or given i d) = subst P (sym e) (calls_of threads calls h) i d inside in

@@ -4,12 +4,9 @@ ghost use Rattle.lset_words.specs.History.{IsHistory};
 ghost use Rattle.lset_history.specs.History.{MayBegin, CannotBegin, with_begun, MayEnd, CannotEnd, with_ended, last_moment};
 
 use crate::HistoryFault;
-use lset_words::{Call, CallRecord, Reply};
+use lset_words::{Call, CallRecord, MOST_THREADS, Reply};
 use std::alloc::Global;
 use std::marker::Model;
-
-/// The most threads of a history.
-const MOST_THREADS: usize = 64;
 
 /// A history of calls (Herlihy and Wing): which thread began which call, and when, and when it ended with
 /// which reply. Calls are numbered from 0 in the order of their beginnings. A moment is a number from 1,
@@ -19,7 +16,7 @@ pub struct History {
     threads: u32,
     quota: u32,
     calls: Vec<CallRecord>,
-    busy: [bool; MOST_THREADS],
+    busy: [bool; MOST_THREADS as usize],
     latest: u32,
 }
 
@@ -54,7 +51,7 @@ impl History {
             threads,
             quota,
             calls: Vec::new(alloc),
-            busy: [false; MOST_THREADS],
+            busy: [false; MOST_THREADS as usize],
             latest: 0,
         }
     }
@@ -67,7 +64,7 @@ impl History {
         requires history { IsHistory threads calls.items }
         ensures { result ≡ record { threads = threads; quota = quota; calls = calls.items } }
     {
-        let mut busy = [false; MOST_THREADS];
+        let mut busy = [false; MOST_THREADS as usize];
         let mut latest = 0u32;
         for call_record in &calls {
             latest = latest.max(last_moment(call_record));

@@ -4,6 +4,7 @@ use Rattle.std.proofs.Common.{sym, ap, subst, ◌∙◌, arith, codes}
 use Rattle.std.specs.Fmt.{decimal}
 use Rattle.std.specs.List.{AllByRecursion}
 use Rattle.std.specs.Str.{bytes_eq}
+use Rattle.lset_schedule.specs.declared.TheConstants.{MOST_STEPS}
 use Rattle.lset_words.specs.declared.Key.{Key}
 use Rattle.lset_words.specs.declared.Call.{Call}
 use Rattle.lset_words.specs.Words.{key_of}
@@ -44,16 +45,16 @@ abbrev AreOf : List (List ℕ) → Line → Type 0
 AreOf pieces e = (pieces ≡ pieces_of e) × IsLine e
 
 abbrev go_from : List ℕ → ℕ → Result Line Cause
-go_from steps t = or_fail Number (number_in 1 10000 steps) >>= λ n. Ok (Go t n)
+go_from steps t = or_fail Number (number_in 1 MOST_STEPS steps) >>= λ n. Ok (Go t n)
 
 go_ok : (a b c : List ℕ) (e : Line) → go_of a b c ≡ Ok e → AreOf (a ∷ b ∷ c ∷ []) e
 unfolding go_of
 go_ok a b c e is =
     let test = test_ok (bytes_eq a (codes "go")) Event (or_fail Number (number_in 0 max_number b) >>= go_from c) e is in
     let t = bind_ok (or_fail Number (number_in 0 max_number b)) (go_from c) e test.1 in
-    let n = bind_ok (or_fail Number (number_in 1 10000 c)) (λ n. Ok (Go t.0 n)) e t.2 in
+    let n = bind_ok (or_fail Number (number_in 1 MOST_STEPS c)) (λ n. Ok (Go t.0 n)) e t.2 in
     let thread = number_told 0 max_number b t.0 (omega arith) t.1 in
-    let steps = number_told 1 10000 c n.0 (omega arith) n.1 in
+    let steps = number_told 1 MOST_STEPS c n.0 (omega arith) n.1 in
     let pieces = three a b c (codes "go") (decimal t.0) (decimal n.0) (same_bytes a (codes "go") test.0) thread.0 steps.0 in
     subst (AreOf (a ∷ b ∷ c ∷ [])) (ok_is (Go t.0 n.0) e n.2) (pieces, (omega (arith, thread.2), steps.1, steps.2))
 
@@ -116,7 +117,7 @@ pieces_again (Begin t c) line =
     rw (call_word_again (word_of c), thread, key) (ap (λ (x : Call). Ok (Begin t x)) (with_key-word_of c))
 pieces_again (Go t n) line =
     let thread = number_again 0 max_number t (omega arith) (omega arith) (omega (arith, line.0)) in
-    rw (thread, number_again 1 10000 n (omega arith) line.1 line.2) refl
+    rw (thread, number_again 1 MOST_STEPS n (omega arith) line.1 line.2) refl
 
 -- no space and no newline stands in a piece
 pieces_lack : (byte : ℕ) (e : Line) → byte < 45 → IsLine e → AllByRecursion (Lacks byte) (pieces_of e)

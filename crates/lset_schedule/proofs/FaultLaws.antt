@@ -4,6 +4,7 @@ use Rattle.std.proofs.Common.{Option, Some, None, Result, Ok, Err, refl, sym, ap
 use Rattle.std.specs.Prelude.{IfErr}
 use Rattle.std.specs.Result.{IsErrAnd}
 use Rattle.std.specs.Str.{bytes_eq}
+use Rattle.lset_schedule.specs.declared.TheConstants.{MOST_EVENTS, MOST_STEPS}
 use Rattle.lset_text.specs.declared.words.CallWord.{CallWord}
 use Rattle.lset_text.specs.declared.headers.Header.{Header}
 use Rattle.lset_text.specs.Parts.{cut_at}
@@ -108,7 +109,7 @@ unfolding go_of begin_of
 pieces_fail [] is = cc
 pieces_fail (a ∷ []) is = cc
 pieces_fail (a ∷ b ∷ []) is = cc
-pieces_fail (a ∷ b ∷ c ∷ []) is = go_fails (bytes_eq a (codes "go")) (number_in 0 max_number b) (number_in 1 10000 c) is
+pieces_fail (a ∷ b ∷ c ∷ []) is = go_fails (bytes_eq a (codes "go")) (number_in 0 max_number b) (number_in 1 MOST_STEPS c) is
 pieces_fail (a ∷ b ∷ c ∷ d ∷ []) is =
     begin_fails (bytes_eq a (codes "begin")) (call_word_of c) (number_in 0 max_number b) (number_in 0 max_number d) is
 pieces_fail (a ∷ b ∷ c ∷ d ∷ e ∷ more) is = cc
@@ -121,7 +122,7 @@ pub event_fails : (total : ℕ) (line : List ℕ) (cause : Cause) → Err cause 
 event_fails total line cause is memory =
     elim (bind_err (event_of line) (within total) Memory (sym is ∙ ap (λ (c : Cause). Err c) memory)) [
       | inl bad ↦ pieces_fail (cut_at 32 line) bad
-      | inr bad ↦ room_fails (ltb 10000 (total + event_count bad.0)) bad.0 bad.2
+      | inr bad ↦ room_fails (ltb MOST_EVENTS (total + event_count bad.0)) bad.0 bad.2
     ]
 
 -- ---- from the lines of events to the text

@@ -3,6 +3,7 @@ use Rattle.std.proofs.Common.{◌≡◌, ℕ, ◌+◌, ◌<◌, ◌≤◌, Bool,
 use Rattle.std.proofs.Common.{Result, Ok, Err, refl, sym, ap, ◌∙◌, append_assoc, arith}
 use Rattle.std.proofs.lemmas.Bool.{ne_eqb, ltb-false}
 use Rattle.std.proofs.lemmas.List.{append-nil, nil_from_length}
+use Rattle.lset_schedule.specs.declared.TheConstants.{MOST_EVENTS}
 use Rattle.lset_text.specs.Parts.{cut_at}
 use Rattle.lset_text.specs.Reading.{◌>>=◌}
 use Rattle.lset_text.proofs.PartLaws.{some_part}
@@ -74,19 +75,19 @@ is_done front line total rest whole none so_far =
     rw empty (ap (λ (es : List Line). Ok es) (append-nil front)) in
     sym so_far ∙ one
 
-pub within_ok : (total : ℕ) (d e : Line) → within total d ≡ Ok e → (d ≡ e) × (total + event_count d ≤ 10000)
+pub within_ok : (total : ℕ) (d e : Line) → within total d ≡ Ok e → (d ≡ e) × (total + event_count d ≤ MOST_EVENTS)
 within_ok total d e is =
-    let test = over (ltb 10000 (total + event_count d)) is in
-    (test.1, ltb-false 10000 (total + event_count d) test.0)
+    let test = over (ltb MOST_EVENTS (total + event_count d)) is in
+    (test.1, ltb-false MOST_EVENTS (total + event_count d) test.0)
   where
     over : (b : Bool) → cond b (Err TooMany) (Ok d) ≡ Ok e → (b ≡ false) × (d ≡ e)
     over true bad = absurd cc
     over false good = (refl, cc)
 
 -- an event that was counted keeps the total small
-pub total_few : (total : ℕ) (x : List ℕ) (e : Line) → Ok e ≡ event_after total x → total + event_count e ≤ 10000
+pub total_few : (total : ℕ) (x : List ℕ) (e : Line) → Ok e ≡ event_after total x → total + event_count e ≤ MOST_EVENTS
 total_few total x e is = counted (event_of x) (sym is)
   where
-    counted : (r : Result Line Cause) → (r >>= within total) ≡ Ok e → total + event_count e ≤ 10000
+    counted : (r : Result Line Cause) → (r >>= within total) ≡ Ok e → total + event_count e ≤ MOST_EVENTS
     counted (Err d) bad = absurd cc
-    counted (Ok d) good = let w = within_ok total d e good in subst (λ (x : Line). total + event_count x ≤ 10000) w.0 w.1
+    counted (Ok d) good = let w = within_ok total d e good in subst (λ (x : Line). total + event_count x ≤ MOST_EVENTS) w.0 w.1

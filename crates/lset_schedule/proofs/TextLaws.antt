@@ -7,6 +7,7 @@ use Rattle.std.proofs.lemmas.Bool.{eqb-true, le-ltb}
 use Rattle.std.proofs.lemmas.List.{append-nil, nil_from_length, map_push, take_more}
 use Rattle.std.proofs.lemmas.List.Concat.{flat_map-append}
 use Rattle.std.proofs.lemmas.List.Sums.{sum_by-cons}
+use Rattle.lset_schedule.specs.declared.TheConstants.{MOST_EVENTS}
 use Rattle.lset_text.specs.declared.headers.Header.{Header}
 use Rattle.lset_text.specs.Parts.{cut_at, ended, text_of, Lacks}
 use Rattle.lset_text.specs.Reading.{◌>>=◌, map_fault}
@@ -33,7 +34,7 @@ counted line total x = map_fault (fault line) (event_after total x)
 
 -- a line of an event that the total has room for
 abbrev IsCounted : ℕ → List ℕ → Line → Type 0
-IsCounted total x e = (x ≡ line_text e) × IsLine e × (total + event_count e ≤ 10000)
+IsCounted total x e = (x ≡ line_text e) × IsLine e × (total + event_count e ≤ MOST_EVENTS)
 
 counted_ok : (line total : ℕ) (x : List ℕ) (e : Line) → counted line total x ≡ Ok e → IsCounted total x e
 counted_ok line total x e is =
@@ -44,7 +45,7 @@ counted_ok line total x e is =
 
 abbrev AreRead : ℕ → List (List ℕ) → List Line → Type 0
 AreRead total parts es =
-    (parts ≡ map line_text es ++ [] ∷ []) × AllByRecursion IsLine es × (total + sum_by event_count es ≤ 10000)
+    (parts ≡ map line_text es ++ [] ∷ []) × AllByRecursion IsLine es × (total + sum_by event_count es ≤ MOST_EVENTS)
 
 last_ok : (b : Bool) (line : ℕ) (es : List Line) → cond b (Ok []) (Err (fault line NotEnded)) ≡ Ok es → (b ≡ true) × ([] ≡ es)
 last_ok true line es is = (refl, cc)
@@ -54,7 +55,7 @@ last_ok false line es is = absurd cc
 abbrev events_from : ℕ → ℕ → List (List ℕ) → Line → Result (List Line) ScheduleFault
 events_from line total parts e = events_at (line + 1) (total + event_count e) parts >>= λ es. Ok (e ∷ es)
 
-events_ok : (line total : ℕ) (x : List ℕ) (parts : List (List ℕ)) (es : List Line) → total ≤ 10000
+events_ok : (line total : ℕ) (x : List ℕ) (parts : List (List ℕ)) (es : List Line) → total ≤ MOST_EVENTS
     → events_at line total (x ∷ parts) ≡ Ok es → AreRead total (x ∷ parts) es
 unfolding events_at
 events_ok line total x [] es few is =
@@ -78,8 +79,8 @@ some_more : (ls : List (List ℕ)) → (y : List ℕ) × (more : List (List ℕ)
 some_more [] = ([], [], refl)
 some_more (l ∷ ls) = (l, ls ++ [] ∷ [], refl)
 
-counted_again : (line total : ℕ) (e : Line) → IsLine e → total + event_count e ≤ 10000 → counted line total (line_text e) ≡ Ok e
-counted_again line total e is few = rw (event_again e is, le-ltb 10000 (total + event_count e) few) refl
+counted_again : (line total : ℕ) (e : Line) → IsLine e → total + event_count e ≤ MOST_EVENTS → counted line total (line_text e) ≡ Ok e
+counted_again line total e is few = rw (event_again e is, le-ltb MOST_EVENTS (total + event_count e) few) refl
 
 events_go : (line total : ℕ) (x : List ℕ) (parts : List (List ℕ)) (e : Line)
     → ((y : List ℕ) × (more : List (List ℕ)) × (parts ≡ y ∷ more))
@@ -87,7 +88,7 @@ events_go : (line total : ℕ) (x : List ℕ) (parts : List (List ℕ)) (e : Lin
 unfolding events_at
 events_go line total x parts e some is = rw some.2 (rw is refl)
 
-events_again : (line total : ℕ) (es : List Line) → AllByRecursion IsLine es → total + sum_by event_count es ≤ 10000
+events_again : (line total : ℕ) (es : List Line) → AllByRecursion IsLine es → total + sum_by event_count es ≤ MOST_EVENTS
     → events_at line total (map line_text es ++ [] ∷ []) ≡ Ok es
 unfolding events_at
 events_again line total [] are few = refl

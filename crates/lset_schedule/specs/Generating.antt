@@ -1,6 +1,8 @@
 -- What a generated schedule is, and what the generator refuses.
 use Rattle.std.specs.Prelude.{◌≡◌, ℕ, ◌<◌, ◌≤◌, ◌⊎◌, Bool, true, false, List, [], ◌∷◌, length, count_by, flat_map, replicate}
 use Rattle.std.specs.List.{AllByRecursion}
+use Rattle.lset_words.specs.declared.TheConstants.{MOST_THREADS, MOST_QUOTA}
+use Rattle.lset_schedule.specs.declared.TheConstants.{MOST_EVENTS}
 use Rattle.lset_words.specs.declared.fault.LayoutFault.{LayoutFault}
 use Rattle.lset_words.specs.declared.fault.LayoutFault.TheVariants as layout
 use Rattle.lset_words.specs.Words.{IsWithin, key_of}
@@ -47,7 +49,7 @@ pub record IsGenerated (T : Table) (threads quota calls keys : ℕ) (lines : Lis
   pub few : count_by is_begin lines ≤ calls
   -- with one thread all calls were begun and have ended, or the events are as many as a schedule may have
   pub alone : threads ≡ 1
-      → (length lines ≡ 10000)
+      → (length lines ≡ MOST_EVENTS)
       ⊎ ((count_by is_begin lines ≡ calls) × NoneOpenAfter T threads quota (events_of_lines lines) 0)
 
 -- what is refused by the limits of a layout
@@ -61,7 +63,7 @@ IsAccepted threads quota keys = IsWithin (record { threads = threads; quota = qu
 
 -- the first of the checks that fails, and Memory where none does
 abbrev pub Refuses : ℕ → ℕ → ℕ → GenFault → Type 0
-Refuses threads quota keys Threads = (threads ≡ 0) ⊎ (64 < threads)
-Refuses threads quota keys Quota = (0 < threads) × (threads ≤ 64) × (16384 < quota)
+Refuses threads quota keys Threads = (threads ≡ 0) ⊎ (MOST_THREADS < threads)
+Refuses threads quota keys Quota = (0 < threads) × (threads ≤ MOST_THREADS) × (MOST_QUOTA < quota)
 Refuses threads quota keys Keys = IsWithin (record { threads = threads; quota = quota }) × (keys ≡ 0)
 Refuses threads quota keys Memory = IsAccepted threads quota keys

@@ -2,6 +2,7 @@
 use Rattle.std.specs.Prelude.{ℕ, ◌<◌, ◌≤◌, ◌^◌, List, [], ◌∷◌, ◌++◌, map, codes}
 use Rattle.std.specs.Fmt.{decimal}
 use Rattle.std.specs.List.{sum_by, AllByRecursion}
+use Rattle.lset_schedule.specs.declared.TheConstants.{MOST_EVENTS, MOST_STEPS}
 use Rattle.lset_words.specs.declared.Kind.{Kind}
 use Rattle.lset_words.specs.Words.{key_of}
 use Rattle.lset_text.specs.declared.headers.Header.{Header}
@@ -52,10 +53,10 @@ event_count (Go thread steps) = steps
 
 abbrev pub IsLine : Line → Type 0
 IsLine (Begin thread call) = (thread < 2 ^ 32) × ((key_of call).0 < 2 ^ 32)
-IsLine (Go thread steps) = (thread < 2 ^ 32) × (1 ≤ steps) × (steps ≤ 10000)
+IsLine (Go thread steps) = (thread < 2 ^ 32) × (1 ≤ steps) × (steps ≤ MOST_STEPS)
 
 -- what has a text that is read
 pub record IsSchedule (p : Plan) : Type 0 where
   pub header : IsHeader (header_in p)
   pub lines : AllByRecursion IsLine p.lines
-  pub few : sum_by event_count p.lines ≤ 10000
+  pub few : sum_by event_count p.lines ≤ MOST_EVENTS

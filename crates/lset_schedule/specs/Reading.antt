@@ -1,6 +1,7 @@
 -- The schedule of a text, or its first fault: line by line, and in each line in the order of the checks.
 use Rattle.std.specs.Prelude.{◌≡◌, ◌≢◌, ℕ, ◌+◌, ◌<◌, ◌≤◌, ◌==◌, nat_lt, List, [], ◌∷◌, length, codes, Result, Ok, Err, if◌then◌else◌}
 use Rattle.std.specs.Str.{bytes_eq}
+use Rattle.lset_schedule.specs.declared.TheConstants.{MOST_EVENTS, MOST_STEPS}
 use Rattle.lset_text.specs.declared.headers.HeaderCause.{HeaderCause}
 use Rattle.lset_text.specs.declared.headers.HeaderCause.TheVariants as head
 use Rattle.lset_text.specs.declared.headers.HeaderFault.{HeaderFault}
@@ -38,7 +39,7 @@ in_schedule e = fault e.line (cause_of e.cause)
 unfoldable pub go_of : List ℕ → List ℕ → List ℕ → Result Line Cause
 go_of word thread steps = if bytes_eq word (codes "go") then (do
   t ← or_fail Number (number_in 0 max_number thread)
-  n ← or_fail Number (number_in 1 10000 steps)
+  n ← or_fail Number (number_in 1 MOST_STEPS steps)
   Ok (Go t n)) else Err Event
 
 unfoldable pub begin_of : List ℕ → List ℕ → List ℕ → List ℕ → Result Line Cause
@@ -60,7 +61,7 @@ abbrev pub event_of : List ℕ → Result Line Cause
 event_of line = event_of_pieces (cut_at 32 line)
 
 abbrev pub within : ℕ → Line → Result Line Cause
-within total e = if nat_lt 10000 (total + event_count e) then Err TooMany else Ok e
+within total e = if nat_lt MOST_EVENTS (total + event_count e) then Err TooMany else Ok e
 
 -- the event of a line that comes after `total` events
 abbrev pub event_after : ℕ → List ℕ → Result Line Cause

@@ -5,18 +5,15 @@ ghost use Rattle.lset_schedule.specs.Generating.{IsAccepted, IsGenerated, Refuse
 ghost use Rattle.lset_schedule.specs.Plan.{IsSchedule, view};
 ghost use Rattle.lset_schedule.specs.Turns.{HasOpenCall, IsIdle, IsNextEvent};
 
-use crate::MOST_EVENTS;
 use crate::draws::draw_call;
 use crate::fault::GenFault;
 use crate::value::{Line, Schedule};
+use crate::{MOST_EVENTS, MOST_TURNS};
 use lset_steps::{Event, Machine, World};
 use lset_words::{Layout, layout};
 use rand_core::{Rng, SeedableRng};
 use rand_pcg::Pcg32;
 use std::alloc::{AllocError, Global};
-
-/// The most turns of a generator.
-const MOST_TURNS: u32 = 100_000;
 
 /// The line of one event.
 fn line_of(event: Event) -> Line
@@ -104,8 +101,8 @@ fn generated_lines<M: Machine, R: Rng>(
 ) -> Result<Vec<Line>, AllocError>
     requires { 0 < keys }
     ensures made { IfOk result (λ v. IsGenerated M.table layout.threads layout.quota calls keys v.items) }
-    ensures few { IfOk result (λ v. length v.items ≤ 10000) }
-    ensures drawn { IfOk result (λ v. AreDrawn M.table layout.threads keys 100000
+    ensures few { IfOk result (λ v. length v.items ≤ MOST_EVENTS) }
+    ensures drawn { IfOk result (λ v. AreDrawn M.table layout.threads keys MOST_TURNS
         (begun layout.threads layout.quota calls (R.stream rng.old)) v.items) }
 {
     let threads = layout.threads();

@@ -19,5 +19,12 @@ pub use writing::write_schedule;
 /// The first line of a schedule's text.
 const TITLE: &str = "listset-schedule 1";
 
-/// The most events of a schedule, the steps of a `go` line counted one by one.
-const MOST_EVENTS: u32 = 10_000;
+/// The most events of a schedule, the steps of a `go` line counted one by one. (This project's own limit, as
+/// are those below.)
+pub const MOST_EVENTS: u32 = 10_000;
+
+/// The most steps of one `go` line.
+pub const MOST_STEPS: u32 = 10_000;
+
+/// The most turns of the generator of schedules.
+pub const MOST_TURNS: u32 = 100_000;

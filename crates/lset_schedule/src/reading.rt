@@ -16,7 +16,7 @@ ghost use Rattle.lset_schedule.specs.Reading.{
 
 use crate::fault::{Cause, ScheduleFault};
 use crate::value::{Line, Schedule};
-use crate::{MOST_EVENTS, TITLE};
+use crate::{MOST_EVENTS, MOST_STEPS, TITLE};
 use lset_text::{cut, number, read_call, read_header};
 use lset_words::Key;
 use std::alloc::Global;
@@ -32,7 +32,7 @@ fn go(word: &[u8], thread: &[u8], steps: &[u8]) -> Result<Line, Cause>
         return Err(Cause::Event);
     }
     let thread = number(thread, 0, u32::MAX).ok_or(Cause::Number)?;
-    let steps = number(steps, 1, MOST_EVENTS).ok_or(Cause::Number)?;
+    let steps = number(steps, 1, MOST_STEPS).ok_or(Cause::Number)?;
     Ok(Line::Go(thread, steps))
 }
 
@@ -69,7 +69,7 @@ fn event(line: &[u8]) -> Result<Line, Cause>
 
 /// The event of a line that comes after `total` events.
 fn counted_event(line: &[u8], total: u32) -> Result<Line, Cause>
-    requires { total ≤ 10000 }
+    requires { total ≤ MOST_EVENTS }
     ensures { result ≡ event_after total line.now }
 {
     let event = event(line)?;

@@ -1,6 +1,7 @@
 -- What the rows of all tables share: the nodes and words that they name, and what a call does at the first key that is not below
 -- its own. (This project's own tables.)
 use Rattle.std.specs.Prelude.{ℕ, ◌<◌, ◌≤◌, Bool, if◌then◌else◌, Option, Some, None, ◌==◌, nat_lt}
+use Rattle.lset_words.specs.declared.TheConstants.{MOST_THREADS, MOST_QUOTA, MOST_NODES}
 use Rattle.lset_words.specs.declared.Call.{Call}
 use Rattle.lset_words.specs.declared.Call.TheVariants.{Add, Remove, Contains}
 use Rattle.lset_words.specs.declared.Reply.{Reply}
@@ -37,10 +38,10 @@ decided_on rows key l = decided rows.adds rows.removes rows.leaves l.call (key =
 
 -- every number is small enough to compute with
 pub record IsSmall (l : Local) : Type 0 where
-  pub thread : l.thread < 64
-  pub quota : l.quota ≤ 16384
+  pub thread : l.thread < MOST_THREADS
+  pub quota : l.quota ≤ MOST_QUOTA
   pub used : l.used ≤ l.quota
-  pub pred : l.pred < 1048578
-  pub curr : l.curr < 1048578
-  pub succ : l.succ < 1048578
-  pub node : l.node < 1048578
+  pub pred : l.pred < MOST_NODES
+  pub curr : l.curr < MOST_NODES
+  pub succ : l.succ < MOST_NODES
+  pub node : l.node < MOST_NODES

@@ -1,41 +1,17 @@
 ghost use Rattle.std.specs.Prelude.{◌≡◌, ◌≤◌};
-ghost use Rattle.lset_words.specs.Words.{key_index, link_index, lock_index};
 ghost use Rattle.lset_steps.specs.Rows.{own_slot, begun, decided_on, IsSmall};
 
 use crate::Local;
-use lset_words::{Call, Reply};
-
-/// The index of the key word of a node, at most 1,048,578.
-pub fn key_index(node: u64) -> u64
-    requires { node ≤ 1048578 }
-    ensures { result ≡ key_index node }
-{
-    3 + 3 * node
-}
-
-/// The index of the link word of a node, at most 1,048,578.
-pub fn link_index(node: u64) -> u64
-    requires { node ≤ 1048578 }
-    ensures { result ≡ link_index node }
-{
-    4 + 3 * node
-}
-
-/// The index of the lock word of a node, at most 1,048,578.
-pub fn lock_index(node: u64) -> u64
-    requires { node ≤ 1048578 }
-    ensures { result ≡ lock_index node }
-{
-    5 + 3 * node
-}
+use lset_words::{Call, MOST_NODES, Reply, slot_node};
+pub use lset_words::{key_index, link_index, lock_index};
 
 /// The slot that the thread's next successful add puts into the chain.
 pub fn own_slot(local: &Local) -> u64
     requires { IsSmall local.now }
     ensures node { result ≡ own_slot local.now }
-    ensures few { result ≤ 1048578 }
+    ensures few { result ≤ MOST_NODES }
 {
-    2 + u64::from(local.thread) * u64::from(local.quota) + u64::from(local.used)
+    slot_node(local.quota, local.thread, local.used)
 }
 
 /// A thread that has begun a call, at the row `pc`: its registers are 0.

@@ -7,7 +7,7 @@ ghost use Rattle.lset_steps.specs.Laws.{Occurs, Sees, StateLaws, word_named, vie
 ghost use Rattle.lset_steps.specs.Worlds.{WorldState, IsRun, StepResult, IsContent};
 
 use crate::{Action, Event, Local, Machine, Told};
-use lset_words::{Call, Layout};
+use lset_words::{Call, Layout, key_index, link_index, unpack};
 use std::alloc::{AllocError, Global};
 use std::marker::{Model, PhantomData};
 use thiserror::Error;
@@ -178,21 +178,21 @@ impl<M: Machine> World<M> {
         requires { lock_index node < length self.now.state.words }
         ensures { result ≡ node_key self.now.state.words node }
     {
-        self.words[(3 + 3 * node) as usize]
+        self.words[key_index(node) as usize]
     }
 
     fn next_node(&self, node: u64) -> u64
         requires { lock_index node < length self.now.state.words }
         ensures { result ≡ node_link self.now.state.words node / 2 }
     {
-        self.words[(4 + 3 * node) as usize] / 2
+        unpack(self.words[link_index(node) as usize]).0
     }
 
     fn is_marked(&self, node: u64) -> bool
         requires { lock_index node < length self.now.state.words }
         ensures { IsTrue result ↔ (node_link self.now.state.words node % 2 ≡ 1) }
     {
-        self.words[(4 + 3 * node) as usize] % 2 == 1
+        unpack(self.words[link_index(node) as usize]).1
     }
 
     fn local(&self, t: u32) -> Local

@@ -1,8 +1,9 @@
-use lset_schedule::*;
 use lset_coarse::CoarseList;
+use lset_schedule::*;
 use lset_words::{Call, Key, Kind};
 use rand_core::{Rng, SeedableRng};
 use rand_pcg::Pcg32;
+use std::alloc::{AllocError, Global};
 use std::test::Fail;
 
 /// The header of a coarse list of one thread with one slot.
@@ -41,7 +42,7 @@ fn texts_are_written_back_also_where_replay_refuses_them(rt: HostRuntime) -> Res
     for text in texts {
         let schedule = read_schedule(rt.alloc(), text.as_bytes())?;
         let written = write_schedule(rt.alloc(), &schedule)?;
-        assert_eq!(rt; written.as_slice(), text.as_bytes(), "{text:?}");
+        assert_eq!(rt; written.as_slice(), text.as_bytes());
     }
     Ok(())
 }
@@ -64,7 +65,7 @@ fn every_prefix_has_its_own_answer(rt: HostRuntime) -> Result<(), Fail> {
                 None => Ok(whole_lines.saturating_sub(due.len())),
             };
             let found = read_schedule(rt.alloc(), prefix).map(|schedule| schedule.lines.len());
-            assert_eq!(rt; found, wanted, "{length}");
+            assert_eq!(rt; found, wanted);
         }
     }
     Ok(())
@@ -93,7 +94,7 @@ fn first_faults_of_the_header(rt: HostRuntime) -> Result<(), Fail> {
     ];
     for (text, line, cause) in rows {
         let found = read_schedule(rt.alloc(), text.as_bytes()).err();
-        assert_eq!(rt; found, Some(ScheduleFault { line, cause }), "{text:?}");
+        assert_eq!(rt; found, Some(ScheduleFault { line, cause }));
     }
     Ok(())
 }
@@ -104,6 +105,7 @@ fn first_faults_of_the_events(rt: HostRuntime) -> Result<(), Fail> {
         ("begin 0 add 05\n", 5, Cause::Number),
         ("begin 0 add 4294967296\n", 5, Cause::Number),
         ("go 0 0\n", 5, Cause::Number),
+        ("go 0 10001\n", 5, Cause::Number),
         ("take 0 5\n", 5, Cause::Event),
         ("go  0 1\n", 5, Cause::Event),
         ("begin 0 add 5", 5, Cause::NotEnded),
@@ -118,9 +120,44 @@ fn first_faults_of_the_events(rt: HostRuntime) -> Result<(), Fail> {
     Ok(())
 }
 
+/// The schedule of one coarse list whose event lines are `events` lines of one step.
+fn one_step_lines(alloc: Global, events: u32) -> Result<String, AllocError> {
+    let mut text = String::new(alloc);
+    text.push_str(HEAD)?;
+    for _ in 0..events {
+        text.push_str("go 0 1\n")?;
+    }
+    Ok(text)
+}
+
+#[test]
+fn ten_thousand_events_are_read_and_no_more(rt: HostRuntime) -> Result<(), Fail> {
+    let text = one_step_lines(rt.alloc(), 10_000)?;
+    let schedule = read_schedule(rt.alloc(), text.as_bytes())?;
+    assert_eq!(rt; schedule.lines.len(), 10_000);
+    let written = write_schedule(rt.alloc(), &schedule)?;
+    assert!(rt; written.as_slice() == text.as_bytes());
+    let one_more = one_step_lines(rt.alloc(), 10_001)?;
+    let found = read_schedule(rt.alloc(), one_more.as_bytes()).err();
+    assert_eq!(rt;
+        found,
+        Some(ScheduleFault {
+            line: 10_005,
+            cause: Cause::TooMany
+        })
+    );
+    let one_line = format!(in rt.alloc(); "{HEAD}go 0 10000\n")?;
+    let schedule = read_schedule(rt.alloc(), one_line.as_bytes())?;
+    assert_eq!(rt; schedule.lines.as_slice(), [Line::Go(0, 10_000)].as_slice());
+    Ok(())
+}
+
 #[test]
 fn a_fault_shows_its_line_and_its_cause(rt: HostRuntime) -> Result<(), Fail> {
-    let fault = ScheduleFault::at(6, Cause::TooMany);
+    let fault = ScheduleFault {
+        line: 6,
+        cause: Cause::TooMany,
+    };
     assert_eq!(rt; fault.to_string(rt.alloc())?.as_str(), "line 6: TooMany");
     Ok(())
 }
@@ -135,7 +172,7 @@ fn the_first_numbers_of_three_seeds(rt: HostRuntime) {
     for (seed, numbers) in rows {
         let mut rng = Pcg32::seed_from_u64(seed);
         for number in numbers {
-            assert_eq!(rt; rng.next_u32(), number, "seed {seed}");
+            assert_eq!(rt; rng.next_u32(), number);
         }
     }
 }
@@ -175,7 +212,7 @@ fn refused_numbers_in_their_order(rt: HostRuntime) {
     ];
     for (threads, quota, keys, fault) in rows {
         let found = generate::<CoarseList>(rt.alloc(), threads, quota, 0, keys, 1).err();
-        assert_eq!(rt; found, Some(fault), "{threads} {quota} {keys}");
+        assert_eq!(rt; found, Some(fault));
     }
     let many = programs(rt.alloc(), 65, 0, 0, 1).err();
     assert_eq!(rt; many, Some(GenFault::Threads));
@@ -223,6 +260,21 @@ fn one_thread_makes_all_its_calls(rt: HostRuntime) -> Result<(), Fail> {
         .count();
     assert_eq!(rt; begins, 50);
     assert_eq!(rt; schedule.lines.last(), Some(&Line::Go(0, 1)));
+    Ok(())
+}
+
+#[test]
+fn a_generated_schedule_ends_at_ten_thousand_events(rt: HostRuntime) -> Result<(), Fail> {
+    let schedule = generate::<CoarseList>(rt.alloc(), 1, 16_384, 10_000, 1_000, 1)?;
+    assert_eq!(rt; schedule.lines.len(), 10_000);
+    Ok(())
+}
+
+#[test]
+fn the_programs_of_all_threads(rt: HostRuntime) -> Result<(), Fail> {
+    let drawn = programs(rt.alloc(), 64, 1_000, 8, 1)?;
+    assert_eq!(rt; drawn.len(), 64);
+    assert!(rt; drawn.iter().all(|program| program.len() == 1_000));
     Ok(())
 }
 

@@ -5,6 +5,7 @@ use Rattle.std.specs.Fmt.{decimal}
 use Rattle.std.specs.List.{AllByRecursion}
 use Rattle.std.specs.Str.{bytes_eq}
 use Rattle.std.proofs.lemmas.Slice.Eq.{bytes_eq-Decides}
+use Rattle.lset_words.specs.declared.TheConstants.{MOST_THREADS, MOST_QUOTA}
 use Rattle.lset_words.specs.declared.Kind.{Kind}
 use Rattle.lset_text.specs.declared.headers.Header.{Header}
 use Rattle.lset_text.specs.declared.headers.HeaderCause.{HeaderCause}
@@ -156,12 +157,12 @@ header_ok title parts found is =
     let quota = bind_ok (quota_told threads.0.1) (after_quota kind.0.0 threads.0.0) found threads.2 in
     let line1 = told_ok 1 wrong.Header (title_in title) parts first.0 first.1 in
     let line2 = told_ok 2 wrong.Kind kind_in first.0.1 kind.0 kind.1 in
-    let line3 = told_ok 3 wrong.Threads (number_after (codes "threads") 1 64) kind.0.1 threads.0 threads.1 in
-    let line4 = told_ok 4 wrong.Quota (number_after (codes "quota") 0 16384) threads.0.1 quota.0 quota.1 in
+    let line3 = told_ok 3 wrong.Threads (number_after (codes "threads") 1 MOST_THREADS) kind.0.1 threads.0 threads.1 in
+    let line4 = told_ok 4 wrong.Quota (number_after (codes "quota") 0 MOST_QUOTA) threads.0.1 quota.0 quota.1 in
     let is_title = title_ok title line1.0 first.0.0 line1.2 in
     let is_kind = kind_in_ok line2.0 kind.0.0 line2.2 in
-    let is_threads = number_after_ok (codes "threads") 1 64 line3.0 threads.0.0 (omega arith) line3.2 in
-    let is_quota = number_after_ok (codes "quota") 0 16384 line4.0 quota.0.0 (omega arith) line4.2 in
+    let is_threads = number_after_ok (codes "threads") 1 MOST_THREADS line3.0 threads.0.0 (omega arith) line3.2 in
+    let is_quota = number_after_ok (codes "quota") 0 MOST_QUOTA line4.0 quota.0.0 (omega arith) line4.2 in
     let header : Header = record { kind = kind.0.0; threads = threads.0.0; quota = quota.0.0 } in
     let within : IsHeader header = record { some = omega (arith, is_threads.1); few = is_threads.2; small = is_quota.2 } in
     let all : parts ≡ header_lines title header ++ quota.0.1 =
@@ -171,14 +172,14 @@ header_ok title parts found is =
 title_again : (title : List ℕ) → title_in title title ≡ Some title
 title_again title = rw (same_true title) refl
 
-threads_again : (n : ℕ) → 0 < n → n ≤ 64 → number_after (codes "threads") 1 64 (number_line (codes "threads") n) ≡ Some n
+threads_again : (n : ℕ) → 0 < n → n ≤ MOST_THREADS → number_after (codes "threads") 1 MOST_THREADS (number_line (codes "threads") n) ≡ Some n
 threads_again n some few =
     let word = Lacks-from_test 32 (codes "threads") refl in
-    number_after_again (codes "threads") 1 64 n word (omega arith) (omega (arith, some)) few
+    number_after_again (codes "threads") 1 MOST_THREADS n word (omega arith) (omega (arith, some)) few
 
-quota_again : (n : ℕ) → n ≤ 16384 → number_after (codes "quota") 0 16384 (number_line (codes "quota") n) ≡ Some n
+quota_again : (n : ℕ) → n ≤ MOST_QUOTA → number_after (codes "quota") 0 MOST_QUOTA (number_line (codes "quota") n) ≡ Some n
 quota_again n small =
-    number_after_again (codes "quota") 0 16384 n (Lacks-from_test 32 (codes "quota") refl) (omega arith) (omega arith) small
+    number_after_again (codes "quota") 0 MOST_QUOTA n (Lacks-from_test 32 (codes "quota") refl) (omega arith) (omega arith) small
 
 pub header_again : (title : List ℕ) (h : Header) (y : List ℕ) (more : List (List ℕ)) → IsHeader h
     → header_of title (header_lines title h ++ y ∷ more) ≡ Ok (h, y ∷ more)
@@ -190,9 +191,9 @@ header_again title h y more within =
     let parts4 : List (List ℕ) = line4 ∷ y ∷ more in
     let is_title = told_again 1 wrong.Header (title_in title) title line2 (line3 ∷ parts4) title (title_again title) in
     let is_kind = told_again 2 wrong.Kind kind_in line2 line3 parts4 h.kind (kind_in_again h.kind) in
-    let is_threads = told_again 3 wrong.Threads (number_after (codes "threads") 1 64) line3 line4 (y ∷ more) h.threads
+    let is_threads = told_again 3 wrong.Threads (number_after (codes "threads") 1 MOST_THREADS) line3 line4 (y ∷ more) h.threads
     (threads_again h.threads within.some within.few) in
-    let is_quota = told_again 4 wrong.Quota (number_after (codes "quota") 0 16384) line4 y more h.quota
+    let is_quota = told_again 4 wrong.Quota (number_after (codes "quota") 0 MOST_QUOTA) line4 y more h.quota
     (quota_again h.quota within.small) in
     rw (is_title, is_kind, is_threads, is_quota) refl
 

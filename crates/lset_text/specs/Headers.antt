@@ -3,6 +3,7 @@ use Rattle.std.specs.Prelude.{◌≡◌, ℕ, ◌==◌, List, [], ◌∷◌, ◌
 use Rattle.std.specs.Prelude.{if◌then◌else◌}
 use Rattle.std.specs.Fmt.{decimal}
 use Rattle.std.specs.Str.{bytes_eq}
+use Rattle.lset_words.specs.declared.TheConstants.{MOST_THREADS, MOST_QUOTA}
 use Rattle.lset_words.specs.declared.Kind.{Kind}
 use Rattle.lset_words.specs.Words.{IsWithin}
 use Rattle.lset_text.specs.declared.headers.Header.{Header}
@@ -80,10 +81,10 @@ abbrev pub kind_told : List (List ℕ) → Result (Kind × List (List ℕ)) Head
 kind_told = told_by_line 2 wrong.Kind kind_in
 
 abbrev pub threads_told : List (List ℕ) → Result (ℕ × List (List ℕ)) HeaderFault
-threads_told = told_by_line 3 wrong.Threads (number_after (codes "threads") 1 64)
+threads_told = told_by_line 3 wrong.Threads (number_after (codes "threads") 1 MOST_THREADS)
 
 abbrev pub quota_told : List (List ℕ) → Result (ℕ × List (List ℕ)) HeaderFault
-quota_told = told_by_line 4 wrong.Quota (number_after (codes "quota") 0 16384)
+quota_told = told_by_line 4 wrong.Quota (number_after (codes "quota") 0 MOST_QUOTA)
 
 -- the header of a text's parts, and the parts after it
 unfoldable pub header_of : List ℕ → List (List ℕ) → Result (Header × List (List ℕ)) HeaderFault

@@ -17,13 +17,9 @@ ghost use Rattle.lset_text.specs.Headers.{
 use crate::numbers::number;
 use crate::parts::cut;
 use crate::words::{kind_word, read_kind};
-use lset_words::Kind;
+use lset_words::{Kind, MOST_QUOTA, MOST_THREADS};
 use std::alloc::AllocError;
 use thiserror::Error;
-
-const MOST_THREADS: u32 = 64;
-
-const MOST_QUOTA: u32 = 16_384;
 
 /// What the header of a text tells: the kind of list, its threads, 1 to 64, and the slots of each, 0 to
 /// 16,384.

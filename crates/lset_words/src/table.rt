@@ -1,7 +1,40 @@
-ghost use Rattle.std.specs.Prelude.{◌≡◌, ◌≢◌, ℕ, ◌+◌, ◌*◌, ◌<◌, ◌≤◌};
+ghost use Rattle.std.specs.Prelude.{◌≡◌, ◌≢◌, ℕ, ◌+◌, ◌*◌, ◌^◌, ◌<◌, ◌≤◌};
 ghost use Rattle.lset_words.specs.Words.{Sizes, IsWithin, node_count, word_count, slot_node, key_index, link_index, lock_index, WordsApart, SlotsApart};
 
+use crate::{MOST_NODES, MOST_WORDS};
 use std::marker::Model;
+
+/// The index of the key word of a node, below `2^62`. (This project's own table, as what follows.)
+pub fn key_index(node: u64) -> u64
+    requires { node < 2 ^ 62 }
+    ensures { result ≡ key_index node }
+{
+    3 + 3 * node
+}
+
+/// The index of the link word of a node, below `2^62`.
+pub fn link_index(node: u64) -> u64
+    requires { node < 2 ^ 62 }
+    ensures { result ≡ link_index node }
+{
+    4 + 3 * node
+}
+
+/// The index of the lock word of a node, below `2^62`.
+pub fn lock_index(node: u64) -> u64
+    requires { node < 2 ^ 62 }
+    ensures { result ≡ lock_index node }
+{
+    5 + 3 * node
+}
+
+/// The node that is slot `slot` of the thread `thread`, where each thread has `quota` slots. Every number may
+/// be asked for; where `slot` is not below the quota, it is a node of the next thread, or none.
+pub fn slot_node(quota: u32, thread: u32, slot: u32) -> u64
+    ensures { result ≡ slot_node quota thread slot }
+{
+    2 + u64::from(thread) * u64::from(quota) + u64::from(slot)
+}
 
 /// Where the words of a list lie, for 1 to 64 threads with a quota of 0 to 16,384 slots each. (This
 /// project's own table.)
@@ -49,7 +82,7 @@ impl Layout {
     /// The number of nodes: head, tail and slots.
     pub fn nodes(&self) -> u64
         ensures count { result ≡ node_count self.now.threads self.now.quota }
-        ensures few { result ≤ 1048578 }
+        ensures few { result ≤ MOST_NODES }
     {
         2 + u64::from(self.threads) * u64::from(self.quota)
     }
@@ -57,7 +90,7 @@ impl Layout {
     /// The number of words of the table, at most 3,145,737.
     pub fn words(&self) -> u64
         ensures count { result ≡ word_count self.now.threads self.now.quota }
-        ensures few { result ≤ 3145737 }
+        ensures few { result ≤ MOST_WORDS }
     {
         3 + 3 * self.nodes()
     }
@@ -69,7 +102,7 @@ impl Layout {
         ensures inside { result < word_count self.now.threads self.now.quota }
     {
         let _nodes = self.nodes();
-        3 + 3 * i
+        key_index(i)
     }
 
     /// The index of the link word of node `i`, below `nodes`.
@@ -79,7 +112,7 @@ impl Layout {
         ensures inside { result < word_count self.now.threads self.now.quota }
     {
         let _nodes = self.nodes();
-        4 + 3 * i
+        link_index(i)
     }
 
     /// The index of the lock word of node `i`, below `nodes`.
@@ -89,7 +122,7 @@ impl Layout {
         ensures inside { result < word_count self.now.threads self.now.quota }
     {
         let _nodes = self.nodes();
-        5 + 3 * i
+        lock_index(i)
     }
 
     /// The node that is slot `j`, below the quota, of thread `t`, below the threads.
@@ -100,7 +133,7 @@ impl Layout {
         ensures user { 1 < result }
         ensures inside { result < node_count self.now.threads self.now.quota }
     {
-        2 + u64::from(t) * u64::from(self.quota) + u64::from(j)
+        slot_node(self.quota, t, j)
     }
 }
 

@@ -1,4 +1,5 @@
 use Rattle.std.proofs.Common.{ap, arith, ◌≡◌, length, ◌<◌, ◌%◌, ◌-◌, ◌∙◌, ◌++◌, ◌∷◌, [], refl}
+use Rattle.lset_schedule.specs.declared.TheConstants.{MOST_TURNS}
 use Rattle.lset_steps.specs.Worlds.{WorldState}
 use Rattle.lset_schedule.proofs.Drafts.{draft_along, draft_opening, draft_idle, draft_event, goes_on}
 use Rattle.lset_schedule.proofs.TurnLaws.{progress, begun_drawn, turn_drawn, made_event, made_none, is_end, end_drawn, last_drawn}
@@ -8,7 +9,7 @@ use Rattle.lset_schedule.proofs.generator.generated_lines.Goals.{in-Some+in_ok-p
 pub loop-init : goal.loop-init
 loop-init g c = record {
   drawn = λ lines h.
-      begun_drawn g.M.Machine.table c.args.layout.threads c.args.keys 100000 c.args.layout.threads c.args.layout.quota
+      begun_drawn g.M.Machine.table c.args.layout.threads c.args.keys MOST_TURNS c.args.layout.threads c.args.layout.quota
       c.args.calls c.in_ok-world.world.state c.new-lines.result.items lines (g.R.Rng.stream c.args.rng.now)
       (ap (λ (w : WorldState). w.state) c.in_ok-world.ensures) c.new-lines.ensures.items h;
   draft =
@@ -26,7 +27,7 @@ loop-preserved g c =
     let answers = g.R.Rng.stream c.next_event.new.rng in
     record {
       drawn = λ lines h. c.loop.invariant.drawn lines
-          (turn_drawn g.M.Machine.table c.args.layout.threads c.args.keys 100000 c.loop.counter c.next_u32.result
+          (turn_drawn g.M.Machine.table c.args.layout.threads c.args.keys MOST_TURNS c.loop.counter c.next_u32.result
           c.threads-threads.result now
           (progress c.match-next_event.world.state c.match-next_event.left c.match-next_event.lines.items answers)
           _ answers c.next_event.result lines c.threads-threads.ensures.value c.loop-test.true more c.next_u32.ensures
@@ -65,9 +66,9 @@ returns-clause-drawn g c =
     c.loop.invariant.drawn c.loop.lines.items
     (elim c.loop-test.branch [
       | else-loop-test w ↦
-          last_drawn g.M.Machine.table c.args.layout.threads c.args.keys 100000 c.loop.counter now
+          last_drawn g.M.Machine.table c.args.layout.threads c.args.keys MOST_TURNS c.loop.counter now
           (omega (arith, w.loop-test.false))
       | then-loop-test+then-is_over w ↦
-          end_drawn g.M.Machine.table c.args.layout.threads c.args.keys (100000 - c.loop.counter) now
+          end_drawn g.M.Machine.table c.args.layout.threads c.args.keys (MOST_TURNS - c.loop.counter) now
           (is_end c.loop.world.state w.len.result _ c.loop.left (w.len.ensures ∙ c.loop.lines.ok.0) w.if-is_over.ensures)
     ])

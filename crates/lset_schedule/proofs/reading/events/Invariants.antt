@@ -1,4 +1,5 @@
 use Rattle.std.proofs.Common.{◌≡◌, ◌≤◌, ◌+◌, length}
+use Rattle.lset_schedule.specs.declared.TheConstants.{MOST_EVENTS}
 use Rattle.lset_text.specs.Parts.{cut_at}
 use Rattle.lset_schedule.specs.Reading.{events_at}
 use Rattle.lset_schedule.proofs.LoopLaws.{with_front}
@@ -10,7 +11,7 @@ invariant-loop-rest l = record {
   lines_left : l.line + length l.rest ≤ 5 + length l.text;
   lines_done : 5 ≤ l.line;
   parts_left : l.line + length (cut_at 10 l.rest) ≡ 5 + length (cut_at 10 l.text);
-  few : l.total ≤ 10000;
+  few : l.total ≤ MOST_EVENTS;
 }
 
 abbrev pub decreases-loop-rest : goal.decreases-loop-rest

@@ -1,5 +1,6 @@
 use Rattle.std.proofs.Common.{◌≤◌, false, not, None, is_none, is_some, refl, sym, ap, ◌∙◌, arith, length}
 use Rattle.std.proofs.lemmas.List.{get_or-replicate, get_or_default, length-set}
+use Rattle.lset_words.specs.declared.TheConstants.{MOST_THREADS}
 use Rattle.lset_words.specs.declared.Call.TheVariants.{Add}
 use Rattle.lset_words.specs.declared.history.CallRecord.{CallRecord}
 use Rattle.lset_words.specs.History.{no_call}
@@ -9,7 +10,7 @@ use Rattle.lset_history.proofs.history.History.from_calls.Goals.{then-is_none, e
 
 pub loop-call_record-init : goal.loop-call_record-init
 loop-call_record-init c =
-    record { latest = refl; fits = omega arith; long = refl; open_ones = λ t low. get_or-replicate 64 t false false low }
+    record { latest = refl; fits = omega arith; long = refl; open_ones = λ t low. get_or-replicate MOST_THREADS t false false low }
 
 pub bounds-busy-call_record : goal.bounds-busy-call_record
 bounds-busy-call_record c =
