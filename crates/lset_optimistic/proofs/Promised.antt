@@ -5,9 +5,10 @@ use Rattle.lset_words.proofs.Numbers.{same_or_not, below_or_not, if_same, if_oth
 use Rattle.lset_words.specs.declared.Call.{Call}
 use Rattle.lset_words.specs.declared.Call.TheVariants.{Add, Remove, Contains}
 use Rattle.lset_words.specs.declared.Reply.{Reply}
-use Rattle.lset_words.specs.Words.{target}
+use Rattle.lset_words.specs.Words.{target, lock_index}
 use Rattle.lset_words.specs.Log.{begun_at, has_changed}
 use Rattle.lset_steps.specs.declared.Local.{Local}
+use Rattle.lset_steps.specs.declared.Action.TheVariants.{Store}
 use Rattle.lset_steps.specs.declared.Event.{Event}
 use Rattle.lset_steps.specs.declared.Event.TheVariants.{Begin, Go}
 use Rattle.lset_steps.specs.Steps.{State, Run, Enabled, idle, state_at, local_of, after, seen_by, seen_next, log_of}
@@ -23,7 +24,7 @@ use Rattle.lset_steps.proofs.Turns.{discipline_of, node_locks}
 use Rattle.lset_optimistic.specs.Optimistic.{optimistic, targets, at_node, at_link, local_after}
 use Rattle.lset_optimistic.specs.Lawful.Outline.{At, Window, optimistic_follows, decision}
 use Rattle.lset_optimistic.specs.Lawful.Outline.At.{at0, at1, at2, at3, at4, at5, at6, at7, at8, at9, at10, at11, at12, at13, at14, at15}
-use Rattle.lset_optimistic.specs.Promises.{held_at, world_at, IsWalking, HasArrived, WasInChain, IsLockedInChain, WalkedInThePast, ArrivedInChain, InChainToTheEnd, FitsAtTheLoad}
+use Rattle.lset_optimistic.specs.Promises.{held_at, world_at, IsWalking, HasArrived, GivesBack, WasInChain, IsLockedInChain, ValidatedWalk, FitsAtTheLoad}
 
 -- WHAT IS KNOWN AT A PLACE
 module _ (q t : ℕ) (vs : ℕ → View) (first now : ℕ) (v : View) (done : Bool) (l : Local) where
@@ -130,6 +131,10 @@ module _ (l : Local) (seen : ℕ) (a : l.node ≡ l.pred) where
 which_row : (p : ℕ) → 7 ≤ p → p ≤ 14 → p ≢ 14 → (p ≡ 7) ⊎ (p ≡ 8) ⊎ (p ≡ 9) ⊎ (p ≡ 10) ⊎ (p ≡ 11) ⊎ (p ≡ 12) ⊎ (p ≡ 13)
 which_row p from upto d = grind arith
 
+-- and row 14 gives the lock of pred back
+gives_back : (l : Local) (a : ℕ) → l.pc ≡ 14 → l.pred ≡ a → optimistic.next l ≡ Store (lock_index a) 0
+gives_back l a e f = rw (e, f) refl
+
 -- one event
 module _ (s : State) (t : ℕ) where
   other_local : (u : ℕ) (l : Local) → t ≢ u → slice_index_or (slice_set s.locals u l) t (idle 0 0) ≡ local_of s t
@@ -176,7 +181,7 @@ module _ (n q last : ℕ) (es : ℕ → Event) (r : Run optimistic n q es last) 
       (has_changed (log_of optimistic n q es) t k) (held_at n q es k t) refl (known k l).at h
 
   stays_for : (j d k : ℕ) → k ≡ j + d → k ≤ last → HasArrived (held_at n q es j t)
-      → ((i : ℕ) → j ≤ i → i < k → es i ≡ Go t → (held_at n q es i t).pc ≢ 14)
+      → ((i : ℕ) → j ≤ i → i < k → GivesBack n q es i t (held_at n q es j t).pred → ⊥)
       → Stays (held_at n q es j t) (held_at n q es k t)
   stays_for j zero k e l h f = let g : j ≡ k = omega arith in
       subst (λ x. Stays (held_at n q es j t) (held_at n q es x t)) g (h, refl)
@@ -185,20 +190,19 @@ module _ (n q last : ℕ) (es : ℕ → Event) (r : Run optimistic n q es last) 
       stays_for j d (j + d) refl (omega arith) h (λ i a b. f i a (omega arith)) in
       let now : Stays (held_at n q es (j + d) t) (held_at n q es (suc (j + d)) t) =
       event_stays (state_at optimistic n q es (j + d)) t (es (j + d)) (r.enabled (j + d) (omega arith)) before.0
-      (f (j + d) (omega arith) (omega arith)) in
+      (λ goes at.
+      f (j + d) (omega arith) (omega arith)
+      (record { step = goes; stores = gives_back (held_at n q es (j + d) t) (held_at n q es j t).pred at before.1 })) in
       let g : suc (j + d) ≡ k = omega arith in
       subst (λ x. Stays (held_at n q es j t) (held_at n q es x t)) g (now.0, now.1 ∙ before.1)
 
-pub walked_in_the_past_of : WalkedInThePast
-walked_in_the_past_of n q last k t es r l tn w = past_at n q last es r t tn k l w
-
-pub arrived_in_chain_of : ArrivedInChain
-arrived_in_chain_of n q last k t es r l tn h = chain_at n q last es r t tn k l h
-
-pub in_chain_to_the_end_of : InChainToTheEnd
-in_chain_to_the_end_of n q last j k t es r a l tn h f =
-    let s : Stays (held_at n q es j t) (held_at n q es k t) = stays_for n q last es r t tn j (k - j) k (omega arith) l h f in
-    subst (IsLockedInChain (world_at n q es k) t) s.1 (chain_at n q last es r t tn k l s.0)
+pub validated_walk_of : ValidatedWalk
+validated_walk_of n q last t es r tn = record {
+  passes = λ k l w. past_at n q last es r t tn k l w;
+  arrives = λ j k a l h f.
+      (let s : Stays (held_at n q es j t) (held_at n q es k t) = stays_for n q last es r t tn j (k - j) k (omega arith) l h f in
+      subst (IsLockedInChain (world_at n q es k) t) s.1 (chain_at n q last es r t tn k l s.0));
+}
 
 -- THE REPLY at the load of pc 8
 none_is_not : {A : Type 0} (reply : Reply) → None ≡ Some reply → A
