@@ -1,14 +1,15 @@
 -- What is promised of every run of OptimisticList beyond the law of all machines. In all of it n is the number of threads, q the
 -- quota, es the events of a run of `last` events, t a thread, and k a moment: k events have happened.
-use Rattle.std.specs.Prelude.{◌≡◌, ℕ, suc, ◌+◌, ◌<◌, ◌≤◌, ◌⊎◌, Some}
+use Rattle.std.specs.Prelude.{◌≡◌, ℕ, ◌+◌, ◌<◌, ◌≤◌, ◌⊎◌, false, Some}
 use Rattle.lset_words.specs.Words.{lock_index}
+use Rattle.lset_words.specs.declared.Call.{Call}
 use Rattle.lset_words.specs.declared.Reply.{Reply}
-use Rattle.lset_words.specs.Log.{begun_at}
+use Rattle.lset_words.specs.Log.{begun_at, has_changed}
 use Rattle.lset_steps.specs.declared.Local.{Local}
 use Rattle.lset_steps.specs.declared.Action.TheVariants.{Store}
 use Rattle.lset_steps.specs.declared.Event.{Event}
 use Rattle.lset_steps.specs.declared.Event.TheVariants.{Go}
-use Rattle.lset_steps.specs.Steps.{Run, state_at, local_of, log_of}
+use Rattle.lset_steps.specs.Steps.{Run, state_at, local_of, told, log_of}
 use Rattle.lset_steps.specs.Chain.{View, InChain, FitsIn}
 use Rattle.lset_steps.specs.Laws.{views}
 use Rattle.lset_optimistic.specs.Optimistic.{optimistic}
@@ -57,19 +58,32 @@ pub record WalksAreValid (n q last t : ℕ) (es : ℕ → Event) : Type 0 where
   pub passes : (k : ℕ) → k ≤ last → IsWalking (held_at n q es k t)
       → WasInChain (views optimistic n q es) (begun_at (log_of optimistic n q es) t k) k t (held_at n q es k t).pred
       (held_at n q es k t).node
-  -- and where it has arrived at pred, at the moment j, pred is in the chain then and at every later moment k, as long as the thread
-  -- has not stored 0 in the lock of pred, and the lock is the thread's.
+  -- where it has arrived at pred, at the moment j, pred is in the chain then and at every later moment k, with its lock the thread's, as
+  -- long as the thread has not stored 0 in that lock;
   pub arrives : (j k : ℕ) → j ≤ k → k ≤ last → HasArrived (held_at n q es j t)
       → ((i : ℕ) → j ≤ i → i < k → GivesBack n q es i t (held_at n q es j t).pred → ⊥)
       → IsLockedInChain (world_at n q es k) t (held_at n q es j t).pred
+  -- and the rows that decide (8) and that write what an Add or a Remove changes (9 to 13) are reached by a walk that has arrived alone.
+  pub decides : (k : ℕ) → k ≤ last → 8 ≤ (held_at n q es k t).pc → (held_at n q es k t).pc ≤ 13 → HasArrived (held_at n q es k t)
 
 -- [Validated walk]: where the second walk arrives at pred, pred is in the chain from then to the storing of 0 in its lock, although the
 -- walk may have passed through nodes that were being unlinked.
 abbrev pub ValidatedWalk : Type 0
 ValidatedWalk = (n q last t : ℕ) (es : ℕ → Event) → Run optimistic n q es last → t < n → WalksAreValid n q last t es
 
--- [Fits at the load]: a reply that a call decides on without a change fits the moment of the load of pc 8.
-abbrev pub FitsAtTheLoad : Type 0
-FitsAtTheLoad = (n q last k t : ℕ) (es : ℕ → Event) (reply : Reply) → Run optimistic n q es last → k < last
-    → t < n → es k ≡ Go t → (held_at n q es k t).pc ≡ 8 → (held_at n q es (suc k) t).reply ≡ Some reply
-    → FitsIn q (world_at n q es k) t (held_at n q es k t).call reply
+-- Thread t made its load of the link of pred (row 8) at a moment from `first` on and before `now`, and the reply fits that moment.
+pub record FitsAtALoad (n q : ℕ) (es : ℕ → Event) (first now t : ℕ) (call : Call) (reply : Reply) : Type 0 where
+  pub at : ℕ
+  pub from : first ≤ at
+  pub before : at < now
+  pub step : es at ≡ Go t
+  pub row : (held_at n q es at t).pc ≡ 8
+  pub fits : FitsIn q (world_at n q es at) t call reply
+
+-- [Optimistic replies fit]: where a call ends that changed nothing, its reply fits a moment of the call at which the call made its load
+-- of the link of pred.
+abbrev pub OptimisticRepliesFit : Type 0
+OptimisticRepliesFit = (n q last k t : ℕ) (es : ℕ → Event) (reply : Reply) → Run optimistic n q es last → k < last → t < n
+    → es k ≡ Go t → (told optimistic (state_at optimistic n q es k) (Go t)).answer ≡ Some reply
+    → has_changed (log_of optimistic n q es) t k ≡ false
+    → FitsAtALoad n q es (begun_at (log_of optimistic n q es) t k) k t (held_at n q es k t).call reply

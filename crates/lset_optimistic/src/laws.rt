@@ -1,7 +1,7 @@
 //! What is promised of every run of an OptimisticList beyond the law of all machines: each promise as a function whose
 //! contract is the law, and whose call does nothing.
 
-ghost use Rattle.lset_optimistic.specs.Promises.{ValidatedWalk, FitsAtTheLoad};
+ghost use Rattle.lset_optimistic.specs.Promises.{ValidatedWalk, OptimisticRepliesFit};
 
 /// Where the second walk arrives at the locked first node, that node is in the chain from then to the storing of 0 in
 /// its lock, although the walk may have passed through nodes that were being unlinked. (Herlihy and Shavit's
@@ -10,8 +10,8 @@ pub fn validated_walk()
     ensures { ValidatedWalk }
 {}
 
-/// The reply of a call that has changed nothing fits the moment at which the first node was seen to lead to the second.
-/// (Herlihy and Shavit's linearization points of calls without a change.)
-pub fn fits_at_the_load()
-    ensures { FitsAtTheLoad }
+/// The reply of a call that ends without a change fits the moment of a load of the call by which its first node was
+/// seen to lead to the second. (Herlihy and Shavit's linearization points of calls without a change.)
+pub fn optimistic_replies_fit()
+    ensures { OptimisticRepliesFit }
 {}

@@ -1,10 +1,11 @@
-use lset_optimistic::*;
+use lset_optimistic::OptimisticList;
 use lset_steps::{Event, StepFault, World};
-use lset_words::layout;
+use lset_words::{Call, Key, Reply, layout};
 use std::test::Fail;
 
 /// The lock words of the head and of the tail.
 const HEAD: u64 = 5;
+
 const TAIL: u64 = 8;
 
 /// Makes the event so many times: the answer of the last one. A step past the end of a call is refused.
@@ -77,9 +78,7 @@ fn a_failed_try_leaves_the_thread_where_it_was(rt: HostRuntime) -> Result<(), Fa
 
 /// Each line with the lock word of the tail after it.
 #[test]
-fn a_failed_validation_gives_the_locks_back_and_begins_again(
-    rt: HostRuntime,
-) -> Result<(), Fail> {
+fn a_failed_validation_gives_the_locks_back_and_begins_again(rt: HostRuntime) -> Result<(), Fail> {
     let unlinked = [
         (Event::Begin(1, Call::Add(Key(3))), 1, 0, None),
         (Event::Go(1), 10, 0, Some(Reply::True)),

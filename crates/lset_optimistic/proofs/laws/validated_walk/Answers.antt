@@ -1,4 +1,4 @@
-use Rattle.lset_optimistic.proofs.Promised.{validated_walk_of}
+use Rattle.lset_optimistic.proofs.SecondWalks.{validated_walk_of}
 use Rattle.lset_optimistic.proofs.laws.validated_walk.Goals as goal
 
 pub returns : goal.returns
