@@ -1,1 +1,2 @@
-mod Promised
+pub mod SecondWalks
+mod FittingReplies

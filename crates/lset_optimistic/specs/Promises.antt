@@ -1,12 +1,15 @@
 -- What is promised of every run of OptimisticList beyond the law of all machines. In all of it n is the number of threads, q the
--- quota, es the events of a run of `last` events, and k a moment: k events have happened.
-use Rattle.std.specs.Prelude.{◌≡◌, ◌≢◌, ℕ, suc, ◌+◌, ◌<◌, ◌≤◌, ◌⊎◌, Some}
+-- quota, es the events of a run of `last` events, t a thread, and k a moment: k events have happened.
+use Rattle.std.specs.Prelude.{◌≡◌, ℕ, ◌+◌, ◌<◌, ◌≤◌, ◌⊎◌, false, Some}
+use Rattle.lset_words.specs.Words.{lock_index}
+use Rattle.lset_words.specs.declared.Call.{Call}
 use Rattle.lset_words.specs.declared.Reply.{Reply}
-use Rattle.lset_words.specs.Log.{begun_at}
+use Rattle.lset_words.specs.Log.{begun_at, has_changed}
 use Rattle.lset_steps.specs.declared.Local.{Local}
+use Rattle.lset_steps.specs.declared.Action.TheVariants.{Store}
 use Rattle.lset_steps.specs.declared.Event.{Event}
 use Rattle.lset_steps.specs.declared.Event.TheVariants.{Go}
-use Rattle.lset_steps.specs.Steps.{Run, state_at, local_of, log_of}
+use Rattle.lset_steps.specs.Steps.{Run, state_at, local_of, told, log_of}
 use Rattle.lset_steps.specs.Chain.{View, InChain, FitsIn}
 use Rattle.lset_steps.specs.Laws.{views}
 use Rattle.lset_optimistic.specs.Optimistic.{optimistic}
@@ -18,24 +21,29 @@ held_at n q es k t = local_of (state_at optimistic n q es k) t
 abbrev pub world_at : ℕ → ℕ → (ℕ → Event) → ℕ → View
 world_at n q es k = views optimistic n q es k
 
--- The second walk is on its way: a thread with both locks stands at the load of a link (6) or of a key (7) of its walk.
+-- The second walk is on its way: it has come to `node`, and the thread is about to load the key of that node (row 7) or its link (6).
 abbrev pub IsWalking : Local → Type 0
 IsWalking l = (l.pc ≡ 6) ⊎ (l.pc ≡ 7)
 
--- The second walk has arrived at pred: the node that it has come to is pred, and the thread stands at one of the rows from the load
--- of its key (7) to the storing of 0 in the lock of pred (14). (A thread whose walk has failed stands at 14 with another node.)
+-- The second walk has arrived: it has come to pred, and the thread stands between the load of the key of pred (row 7) and the
+-- storing of 0 in its lock (row 14). A thread whose walk has failed stands at row 14 too, but with another node than pred.
 pub record HasArrived (l : Local) : Type 0 where
   pub from : 7 ≤ l.pc
   pub upto : l.pc ≤ 14
   pub there : l.node ≡ l.pred
 
--- thread t has locked node a, and a is in the chain
+-- The event i is thread t's storing of 0 in the lock of node a.
+pub record GivesBack (n q : ℕ) (es : ℕ → Event) (i t a : ℕ) : Type 0 where
+  pub step : es i ≡ Go t
+  pub stores : optimistic.next (held_at n q es i t) ≡ Store (lock_index a) 0
+
+-- Node a is in the chain, and thread t has its lock.
 pub record IsLockedInChain (v : View) (t a : ℕ) : Type 0 where
   pub in_chain : InChain v a
   pub mine : v.lock a ≡ t + 1
 
--- [Walked in the past]: each node that the second walk comes to was in the chain at some moment of the call since when the thread has
--- had the lock of pred; it may have left the chain since.
+-- Node a was in the chain at some moment from `first` to `now`, and from that moment on thread t has had the lock of pred. Node a
+-- may have left the chain since.
 pub record WasInChain (vs : ℕ → View) (first now t pred a : ℕ) : Type 0 where
   pub at : ℕ
   pub from : first ≤ at
@@ -43,27 +51,39 @@ pub record WasInChain (vs : ℕ → View) (first now t pred a : ℕ) : Type 0 wh
   pub in_chain : InChain (vs at) a
   pub locked : (i : ℕ) → at ≤ i → i ≤ now → (vs i).lock pred ≡ t + 1
 
-abbrev pub WalkedInThePast : Type 0
-WalkedInThePast = (n q last k t : ℕ) (es : ℕ → Event) → Run optimistic n q es last → k ≤ last → t < n
-    → IsWalking (held_at n q es k t)
-    → WasInChain (views optimistic n q es) (begun_at (log_of optimistic n q es) t k) k t (held_at n q es k t).pred
-    (held_at n q es k t).node
+-- The second walks of thread t in a run:
+pub record WalksAreValid (n q last t : ℕ) (es : ℕ → Event) : Type 0 where
+  -- a walk may pass through nodes that are being unlinked, but each node that it comes to was in the chain at some moment of the call
+  -- since when the thread has had the lock of pred;
+  pub passes : (k : ℕ) → k ≤ last → IsWalking (held_at n q es k t)
+      → WasInChain (views optimistic n q es) (begun_at (log_of optimistic n q es) t k) k t (held_at n q es k t).pred
+      (held_at n q es k t).node
+  -- where it has arrived at pred, at the moment j, pred is in the chain then and at every later moment k, with its lock the thread's, as
+  -- long as the thread has not stored 0 in that lock;
+  pub arrives : (j k : ℕ) → j ≤ k → k ≤ last → HasArrived (held_at n q es j t)
+      → ((i : ℕ) → j ≤ i → i < k → GivesBack n q es i t (held_at n q es j t).pred → ⊥)
+      → IsLockedInChain (world_at n q es k) t (held_at n q es j t).pred
+  -- and the rows that decide (8) and that write what an Add or a Remove changes (9 to 13) are reached by a walk that has arrived alone.
+  pub decides : (k : ℕ) → k ≤ last → 8 ≤ (held_at n q es k t).pc → (held_at n q es k t).pc ≤ 13 → HasArrived (held_at n q es k t)
 
--- [Arrived in chain]: where the second walk has arrived at pred, pred is locked and in the chain.
-abbrev pub ArrivedInChain : Type 0
-ArrivedInChain = (n q last k t : ℕ) (es : ℕ → Event) → Run optimistic n q es last → k ≤ last → t < n
-    → HasArrived (held_at n q es k t) → IsLockedInChain (world_at n q es k) t (held_at n q es k t).pred
+-- [Validated walk]: where the second walk arrives at pred, pred is in the chain from then to the storing of 0 in its lock, although the
+-- walk may have passed through nodes that were being unlinked.
+abbrev pub ValidatedWalk : Type 0
+ValidatedWalk = (n q last t : ℕ) (es : ℕ → Event) → Run optimistic n q es last → t < n → WalksAreValid n q last t es
 
--- [In chain to the end]: and from a moment j at which it has arrived there to the storing of 0 in the lock of pred: at every moment
--- k up to which the thread has not made this step.
-abbrev pub InChainToTheEnd : Type 0
-InChainToTheEnd = (n q last j k t : ℕ) (es : ℕ → Event) → Run optimistic n q es last → j ≤ k → k ≤ last → t < n
-    → HasArrived (held_at n q es j t)
-    → ((i : ℕ) → j ≤ i → i < k → es i ≡ Go t → (held_at n q es i t).pc ≢ 14)
-    → IsLockedInChain (world_at n q es k) t (held_at n q es j t).pred
+-- Thread t made its load of the link of pred (row 8) at a moment from `first` on and before `now`, and the reply fits that moment.
+pub record FitsAtALoad (n q : ℕ) (es : ℕ → Event) (first now t : ℕ) (call : Call) (reply : Reply) : Type 0 where
+  pub at : ℕ
+  pub from : first ≤ at
+  pub before : at < now
+  pub step : es at ≡ Go t
+  pub row : (held_at n q es at t).pc ≡ 8
+  pub fits : FitsIn q (world_at n q es at) t call reply
 
--- [Fits at the load]: a reply that a call decides on without a change fits the moment of the load of pc 8.
-abbrev pub FitsAtTheLoad : Type 0
-FitsAtTheLoad = (n q last k t : ℕ) (es : ℕ → Event) (reply : Reply) → Run optimistic n q es last → k < last
-    → t < n → es k ≡ Go t → (held_at n q es k t).pc ≡ 8 → (held_at n q es (suc k) t).reply ≡ Some reply
-    → FitsIn q (world_at n q es k) t (held_at n q es k t).call reply
+-- [Optimistic replies fit]: where a call ends that changed nothing, its reply fits a moment of the call at which the call made its load
+-- of the link of pred.
+abbrev pub OptimisticRepliesFit : Type 0
+OptimisticRepliesFit = (n q last k t : ℕ) (es : ℕ → Event) (reply : Reply) → Run optimistic n q es last → k < last → t < n
+    → es k ≡ Go t → (told optimistic (state_at optimistic n q es k) (Go t)).answer ≡ Some reply
+    → has_changed (log_of optimistic n q es) t k ≡ false
+    → FitsAtALoad n q es (begun_at (log_of optimistic n q es) t k) k t (held_at n q es k t).call reply

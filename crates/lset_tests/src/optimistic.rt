@@ -1,7 +1,12 @@
-use lset_optimistic::*;
+use lset_optimistic::OptimisticList;
 use lset_steps::{Event, StepFault, World};
-use lset_words::layout;
+use lset_words::{Call, Key, Reply, layout};
 use std::test::Fail;
+
+/// The lock words of the head and of the tail.
+const HEAD: u64 = 5;
+
+const TAIL: u64 = 8;
 
 /// Makes the event so many times: the answer of the last one. A step past the end of a call is refused.
 fn make(
@@ -16,110 +21,94 @@ fn make(
     Ok(answer)
 }
 
+/// Row by row on the empty list: the lock words of the head and of the tail after the step, and whether it told a change.
 #[test]
-fn an_add_begins_again_where_its_first_node_was_unlinked(rt: HostRuntime) -> Result<(), Fail> {
-    let lines = [
-        (Event::Begin(1, Call::Add(Key(3))), 1, None),
-        (Event::Go(1), 10, Some(Reply::True)),
-        (Event::Begin(0, Call::Add(Key(5))), 1, None),
-        // thread 0 has come to the node of 3, and thread 1 takes it out
-        (Event::Go(0), 4, None),
-        (Event::Begin(1, Call::Remove(Key(3))), 1, None),
-        (Event::Go(1), 9, Some(Reply::True)),
-        // both locks, a walk past the node of 3 in vain, both locks back, and a second try
-        (Event::Go(0), 16, Some(Reply::True)),
+fn an_add_locks_its_two_nodes_in_order_and_gives_them_back(rt: HostRuntime) -> Result<(), Fail> {
+    let rows = [
+        (1, 0, 0, false),
+        (2, 0, 0, false),
+        (4, 2, 0, false),
+        (5, 2, 2, false),
+        (8, 2, 2, false),
+        (9, 2, 2, false),
+        (10, 2, 2, false),
+        (11, 2, 2, true),
+        (14, 0, 2, false),
+        (15, 0, 0, false),
     ];
-    let mut world = World::<OptimisticList>::new(rt.alloc(), layout(2, 4)?)?;
-    for (event, times, answer) in lines {
-        assert_eq!(rt; make(&mut world, event, times)?, answer, "{event:?}");
+    let mut world = World::<OptimisticList>::new(rt.alloc(), layout(2, 1)?)?;
+    world.step(Event::Begin(1, Call::Add(Key(5))))?;
+    for (row, head, tail, changes) in rows {
+        let told = world.step(Event::Go(1))?;
+        assert_eq!(rt; (world.word(HEAD), world.word(TAIL)), (head, tail), "{row}");
+        assert_eq!(rt; told.change.is_some(), changes, "{row}");
+        assert_eq!(rt; told.answer.is_some(), row == 15, "{row}");
     }
-    assert_eq!(rt; world.content(rt.alloc())?.as_slice(), [5].as_slice());
-    Ok(())
-}
-
-#[test]
-fn an_add_begins_again_where_another_node_has_come_between(rt: HostRuntime) -> Result<(), Fail> {
-    let lines = [
-        (Event::Begin(0, Call::Add(Key(5))), 1, None),
-        (Event::Go(0), 2, None),
-        (Event::Begin(1, Call::Add(Key(4))), 1, None),
-        (Event::Go(1), 10, Some(Reply::True)),
-        (Event::Go(0), 19, Some(Reply::True)),
-    ];
-    let mut world = World::<OptimisticList>::new(rt.alloc(), layout(2, 4)?)?;
-    for (event, times, answer) in lines {
-        assert_eq!(rt; make(&mut world, event, times)?, answer, "{event:?}");
-    }
-    assert_eq!(rt; world.content(rt.alloc())?.as_slice(), [4, 5].as_slice());
-    Ok(())
-}
-
-#[test]
-fn the_second_walk_passes_through_a_node_that_is_unlinked_under_it(
-    rt: HostRuntime,
-) -> Result<(), Fail> {
-    let lines = [
-        (Event::Begin(1, Call::Add(Key(3))), 1, None),
-        (Event::Go(1), 10, Some(Reply::True)),
-        (Event::Begin(1, Call::Add(Key(5))), 1, None),
-        (Event::Go(1), 14, Some(Reply::True)),
-        (Event::Begin(0, Call::Contains(Key(7))), 1, None),
-        // thread 0 has locked the node of 5 and the tail, and its second walk has come to the node of 3
-        (Event::Go(0), 9, None),
-        (Event::Begin(1, Call::Remove(Key(3))), 1, None),
-        (Event::Go(1), 9, Some(Reply::True)),
-        // it goes on from there to the node of 5
-        (Event::Go(0), 6, Some(Reply::False)),
-    ];
-    let mut world = World::<OptimisticList>::new(rt.alloc(), layout(2, 4)?)?;
-    for (event, times, answer) in lines {
-        assert_eq!(rt; make(&mut world, event, times)?, answer, "{event:?}");
-    }
-    assert_eq!(rt; world.content(rt.alloc())?.as_slice(), [5].as_slice());
-    Ok(())
-}
-
-#[test]
-fn the_least_and_the_greatest_key_are_keys_like_others(rt: HostRuntime) -> Result<(), Fail> {
-    let (least, most) = (Key(0), Key(u32::MAX));
-    let calls = [
-        (Call::Add(least), 10),
-        (Call::Add(most), 14),
-        (Call::Contains(least), 7),
-        (Call::Contains(most), 11),
-        (Call::Remove(least), 9),
-        (Call::Remove(most), 9),
-    ];
-    let mut world = World::<OptimisticList>::new(rt.alloc(), layout(1, 2)?)?;
-    for (call, steps) in calls {
-        world.step(Event::Begin(0, call))?;
-        assert_eq!(rt;
-            make(&mut world, Event::Go(0), steps)?,
-            Some(Reply::True),
-            "{call:?}"
-        );
-    }
-    assert!(rt; world.content(rt.alloc())?.is_empty());
     Ok(())
 }
 
 #[test]
 fn a_failed_try_leaves_the_thread_where_it_was(rt: HostRuntime) -> Result<(), Fail> {
     let lines = [
-        // thread 0 comes to have the lock of the head, and thread 1 tries it in vain
-        (Event::Begin(0, Call::Add(Key(5))), 1, None),
-        (Event::Go(0), 3, None),
-        (Event::Begin(1, Call::Contains(Key(9))), 1, None),
-        (Event::Go(1), 2, None),
+        (Event::Begin(1, Call::Add(Key(5))), 1, None),
+        (Event::Go(1), 10, Some(Reply::True)),
+        // thread 0 has locked the node of 5
+        (Event::Begin(0, Call::Contains(Key(9))), 1, None),
+        (Event::Go(0), 5, None),
+        (Event::Begin(1, Call::Contains(Key(4))), 1, None),
+        // thread 1 has locked the head, and tries the node of 5 in vain
+        (Event::Go(1), 3, None),
         (Event::Go(1), 20, None),
-        (Event::Go(0), 7, Some(Reply::True)),
-        // the head no longer leads to the tail
-        (Event::Go(1), 5, None),
-        (Event::Go(1), 11, Some(Reply::False)),
+        // thread 2 tries the head in vain
+        (Event::Begin(2, Call::Add(Key(3))), 1, None),
+        (Event::Go(2), 2, None),
+        (Event::Go(2), 20, None),
+        // each goes on from where it stood
+        (Event::Go(0), 6, Some(Reply::False)),
+        (Event::Go(1), 4, Some(Reply::False)),
+        (Event::Go(2), 8, Some(Reply::True)),
     ];
-    let mut world = World::<OptimisticList>::new(rt.alloc(), layout(2, 1)?)?;
+    let mut world = World::<OptimisticList>::new(rt.alloc(), layout(3, 1)?)?;
     for (event, times, answer) in lines {
         assert_eq!(rt; make(&mut world, event, times)?, answer, "{event:?}");
+    }
+    assert_eq!(rt; world.content(rt.alloc())?.as_slice(), [3, 5].as_slice());
+    Ok(())
+}
+
+/// Each line with the lock word of the tail after it.
+#[test]
+fn a_failed_validation_gives_the_locks_back_and_begins_again(rt: HostRuntime) -> Result<(), Fail> {
+    let unlinked = [
+        (Event::Begin(1, Call::Add(Key(3))), 1, 0, None),
+        (Event::Go(1), 10, 0, Some(Reply::True)),
+        (Event::Begin(0, Call::Add(Key(5))), 1, 0, None),
+        // thread 0 has come to the node of 3 and the tail, and thread 1 takes the first out
+        (Event::Go(0), 4, 0, None),
+        (Event::Begin(1, Call::Remove(Key(3))), 1, 0, None),
+        (Event::Go(1), 9, 0, Some(Reply::True)),
+        // both locks; a second walk that comes past the node of 3; a second try
+        (Event::Go(0), 2, 1, None),
+        (Event::Go(0), 4, 0, None),
+        (Event::Go(0), 10, 0, Some(Reply::True)),
+    ];
+    let parted = [
+        (Event::Begin(0, Call::Add(Key(5))), 1, 0, None),
+        // thread 0 has come to the head and the tail, and thread 1 puts a node between them
+        (Event::Go(0), 2, 0, None),
+        (Event::Begin(1, Call::Add(Key(4))), 1, 0, None),
+        (Event::Go(1), 10, 0, Some(Reply::True)),
+        // both locks; a head that leads to another node; a second try
+        (Event::Go(0), 2, 1, None),
+        (Event::Go(0), 3, 0, None),
+        (Event::Go(0), 14, 0, Some(Reply::True)),
+    ];
+    for lines in [unlinked.as_slice(), parted.as_slice()] {
+        let mut world = World::<OptimisticList>::new(rt.alloc(), layout(2, 4)?)?;
+        for &(event, times, tail, answer) in lines {
+            assert_eq!(rt; make(&mut world, event, times)?, answer, "{event:?}");
+            assert_eq!(rt; world.word(TAIL), tail, "{event:?}");
+        }
     }
     Ok(())
 }

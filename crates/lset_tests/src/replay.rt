@@ -132,6 +132,63 @@ const PARTED_BEFORE: Example = Example {
         place 1 true\nplace 0 true\nkey 4\nkey 5\nend\n",
 };
 
+/// The node of 3 was taken out and put in again in another slot: the second walk comes to a node with the key of the first
+/// one's, which is another.
+const SAME_KEY_AGAIN: Example = Example {
+    header: "list optimistic\nthreads 2\nquota 4\n",
+    events: "begin 1 add 3\ngo 1 10\nbegin 0 add 5\ngo 0 4\nbegin 1 remove 3\ngo 1 9\n\
+        begin 1 add 3\ngo 1 10\ngo 0 22\n",
+    report: "call 0 1 add 3 1 11 true\n\
+        call 1 0 add 5 12 59 true\n\
+        call 2 1 remove 3 17 26 true\n\
+        call 3 1 add 3 27 37 true\n\
+        place 0 true\nplace 2 true\nplace 3 true\nplace 1 true\nkey 3\nkey 5\nend\n",
+};
+
+/// The second walk stands on the node of 3 while it is unlinked, and goes on from there to the node of 5.
+const UNLINKED_UNDER_IT: Example = Example {
+    header: "list optimistic\nthreads 2\nquota 4\n",
+    events: "begin 1 add 3\ngo 1 10\nbegin 1 add 5\ngo 1 14\nbegin 0 add 7\ngo 0 9\n\
+        begin 1 remove 3\ngo 1 9\ngo 0 9\n",
+    report: "call 0 1 add 3 1 11 true\n\
+        call 1 1 add 5 12 26 true\n\
+        call 2 0 add 7 27 55 true\n\
+        call 3 1 remove 3 37 46 true\n\
+        place 0 true\nplace 1 true\nplace 3 true\nplace 2 true\nkey 5\nkey 7\nend\n",
+};
+
+/// The second walk stands on the node of 2 while one thread unlinks that node and then another the node of 3: it passes
+/// through both.
+const TWO_UNLINKED_IN_A_ROW: Example = Example {
+    header: "list optimistic\nthreads 3\nquota 4\n",
+    events: "begin 1 add 2\ngo 1 10\nbegin 1 add 3\ngo 1 14\nbegin 1 add 5\ngo 1 18\n\
+        begin 1 add 7\ngo 1 22\nbegin 0 remove 7\ngo 0 12\nbegin 1 remove 2\ngo 1 9\n\
+        begin 2 remove 3\ngo 2 9\ngo 0 9\n",
+    report: "call 0 1 add 2 1 11 true\n\
+        call 1 1 add 3 12 26 true\n\
+        call 2 1 add 5 27 45 true\n\
+        call 3 1 add 7 46 68 true\n\
+        call 4 0 remove 7 69 110 true\n\
+        call 5 1 remove 2 82 91 true\n\
+        call 6 2 remove 3 92 101 true\n\
+        place 0 true\nplace 1 true\nplace 2 true\nplace 3 true\nplace 5 true\nplace 6 true\n\
+        place 4 true\nkey 5\nend\n",
+};
+
+/// The second walk stands on the head while 1 is put in behind it, and meets the new node.
+const ADDED_UNDER_IT: Example = Example {
+    header: "list optimistic\nthreads 2\nquota 4\n",
+    events: "begin 1 add 2\ngo 1 10\nbegin 1 add 4\ngo 1 14\nbegin 1 add 6\ngo 1 18\n\
+        begin 0 add 6\ngo 0 8\nbegin 1 add 1\ngo 1 10\ngo 0 9\n",
+    report: "call 0 1 add 2 1 11 true\n\
+        call 1 1 add 4 12 26 true\n\
+        call 2 1 add 6 27 45 true\n\
+        call 3 0 add 6 46 74 false\n\
+        call 4 1 add 1 55 65 true\n\
+        place 0 true\nplace 1 true\nplace 2 true\nplace 3 false\nplace 4 true\n\
+        key 1\nkey 2\nkey 4\nkey 6\nend\n",
+};
+
 /// A fine list of two threads without a slot, and no event.
 const NO_EVENT: Example = Example {
     header: "list fine\nthreads 2\nquota 0\n",
@@ -236,6 +293,10 @@ fn schedules_and_their_reports(rt: HostRuntime) -> Result<(), Fail> {
         HAND_OVER_HAND,
         UNLINKED_BEFORE,
         PARTED_BEFORE,
+        SAME_KEY_AGAIN,
+        UNLINKED_UNDER_IT,
+        TWO_UNLINKED_IN_A_ROW,
+        ADDED_UNDER_IT,
         MARKED,
         LAZY_REMOVES,
         LAZY_READ,

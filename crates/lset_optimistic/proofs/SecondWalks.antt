@@ -1,29 +1,26 @@
--- That OptimisticList keeps its promises.
-use Rattle.std.specs.Prelude.{◌≡◌, ◌≢◌, ℕ, zero, suc, ◌+◌, ◌-◌, ◌/◌, ◌<◌, ◌≤◌, ◌⊎◌, Bool, true, false, Some, None, List, if◌then◌else◌, ◌==◌, nat_lt, slice_index_or, slice_set, length, refl}
+-- That the second walks of OptimisticList are valid.
+use Rattle.std.specs.Prelude.{◌≡◌, ◌≢◌, ℕ, zero, suc, ◌+◌, ◌-◌, ◌/◌, ◌<◌, ◌≤◌, ◌⊎◌, Bool, true, false, None, if◌then◌else◌, ◌==◌, nat_lt, slice_index_or, slice_set, length, refl}
 use Rattle.std.proofs.Common.{arith, inl, inr, sym, ◌∙◌, ap, subst, get_or-set_other, get_or-set_same}
 use Rattle.lset_words.proofs.Numbers.{same_or_not, below_or_not, if_same, if_other, if_below, if_not_below}
 use Rattle.lset_words.specs.declared.Call.{Call}
 use Rattle.lset_words.specs.declared.Call.TheVariants.{Add, Remove, Contains}
-use Rattle.lset_words.specs.declared.Reply.{Reply}
-use Rattle.lset_words.specs.Words.{target}
+use Rattle.lset_words.specs.Words.{target, lock_index}
 use Rattle.lset_words.specs.Log.{begun_at, has_changed}
 use Rattle.lset_steps.specs.declared.Local.{Local}
+use Rattle.lset_steps.specs.declared.Action.TheVariants.{Store}
 use Rattle.lset_steps.specs.declared.Event.{Event}
 use Rattle.lset_steps.specs.declared.Event.TheVariants.{Begin, Go}
-use Rattle.lset_steps.specs.Steps.{State, Run, Enabled, idle, state_at, local_of, after, seen_by, seen_next, log_of}
-use Rattle.lset_steps.specs.Chain.{View, view, FitsIn, node_link, node_lock}
+use Rattle.lset_steps.specs.Steps.{State, Run, Enabled, idle, state_at, local_of, after, seen_next, log_of}
+use Rattle.lset_steps.specs.Chain.{View}
 use Rattle.lset_steps.specs.Laws.{used_in, views}
 use Rattle.lset_steps.specs.Rows.{decided, decided_on}
-use Rattle.lset_steps.proofs.Memory.{Memory}
-use Rattle.lset_steps.proofs.Held.{Held}
-use Rattle.lset_steps.proofs.Replies.{keep}
 use Rattle.lset_steps.proofs.SecondWalk.{SecondWalk, kept_upto, second_walk_arrives}
 use Rattle.lset_steps.proofs.Discipline.{Thread, inv_at}
 use Rattle.lset_steps.proofs.Turns.{discipline_of, node_locks}
 use Rattle.lset_optimistic.specs.Optimistic.{optimistic, targets, at_node, at_link, local_after}
-use Rattle.lset_optimistic.specs.Lawful.Outline.{At, Window, optimistic_follows, decision}
+use Rattle.lset_optimistic.specs.Lawful.Outline.{At, optimistic_follows}
 use Rattle.lset_optimistic.specs.Lawful.Outline.At.{at0, at1, at2, at3, at4, at5, at6, at7, at8, at9, at10, at11, at12, at13, at14, at15}
-use Rattle.lset_optimistic.specs.Promises.{held_at, world_at, IsWalking, HasArrived, WasInChain, IsLockedInChain, WalkedInThePast, ArrivedInChain, InChainToTheEnd, FitsAtTheLoad}
+use Rattle.lset_optimistic.specs.Promises.{held_at, world_at, IsWalking, HasArrived, GivesBack, WasInChain, IsLockedInChain, ValidatedWalk}
 
 -- WHAT IS KNOWN AT A PLACE
 module _ (q t : ℕ) (vs : ℕ → View) (first now : ℕ) (v : View) (done : Bool) (l : Local) where
@@ -84,6 +81,28 @@ module _ (q t : ℕ) (vs : ℕ → View) (first now : ℕ) (v : View) (done : Bo
   arrived present (at14 e p c x i o) h = record { in_chain = i h.there; mine = p }
   arrived present (at15 e c o) h = absurd (let upto : l.pc ≤ 14 = h.upto in omega arith)
 
+  between : {A : Type 0} (p : ℕ) → l.pc ≡ p → (p < 8) ⊎ (13 < p) → 8 ≤ l.pc → l.pc ≤ 13 → A
+  between p e (inl a) from upto = absurd (omega arith)
+  between p e (inr a) from upto = absurd (omega arith)
+
+  decides_there : At q t vs first now v done l → 8 ≤ l.pc → l.pc ≤ 13 → HasArrived l
+  decides_there (at0 e) from upto = between 0 e (inl (omega arith)) from upto
+  decides_there (at1 e d) from upto = between 1 e (inl (omega arith)) from upto
+  decides_there (at2 e d x k) from upto = between 2 e (inl (omega arith)) from upto
+  decides_there (at3 e d c k b) from upto = between 3 e (inl (omega arith)) from upto
+  decides_there (at4 e d f) from upto = between 4 e (inl (omega arith)) from upto
+  decides_there (at5 e d f p) from upto = between 5 e (inl (omega arith)) from upto
+  decides_there (at6 e d f c k start g x) from upto = between 6 e (inl (omega arith)) from upto
+  decides_there (at7 e d f c start g x) from upto = between 7 e (inl (omega arith)) from upto
+  decides_there (at8 e d f c x a) from upto = record { from = omega arith; upto = omega arith; there = a }
+  decides_there (at9 e d b a) from upto = record { from = omega arith; upto = omega arith; there = b.1 }
+  decides_there (at10 e d b a x) from upto = record { from = omega arith; upto = omega arith; there = b.1 }
+  decides_there (at11 e d b a x y) from upto = record { from = omega arith; upto = omega arith; there = b.1 }
+  decides_there (at12 e d b a) from upto = record { from = omega arith; upto = omega arith; there = b.1 }
+  decides_there (at13 e d b a x) from upto = record { from = omega arith; upto = omega arith; there = b.1 }
+  decides_there (at14 e p c x i o) from upto = between 14 e (inr (omega arith)) from upto
+  decides_there (at15 e c o) from upto = between 15 e (inr (omega arith)) from upto
+
 -- THE ROWS FROM 7 TO 13 leave pred and node
 abbrev Stays : Local → Local → Type 0
 Stays l m = HasArrived m × (m.pred ≡ l.pred)
@@ -130,6 +149,10 @@ module _ (l : Local) (seen : ℕ) (a : l.node ≡ l.pred) where
 which_row : (p : ℕ) → 7 ≤ p → p ≤ 14 → p ≢ 14 → (p ≡ 7) ⊎ (p ≡ 8) ⊎ (p ≡ 9) ⊎ (p ≡ 10) ⊎ (p ≡ 11) ⊎ (p ≡ 12) ⊎ (p ≡ 13)
 which_row p from upto d = grind arith
 
+-- and row 14 gives the lock of pred back
+gives_back : (l : Local) (a : ℕ) → l.pc ≡ 14 → l.pred ≡ a → optimistic.next l ≡ Store (lock_index a) 0
+gives_back l a e f = rw (e, f) refl
+
 -- one event
 module _ (s : State) (t : ℕ) where
   other_local : (u : ℕ) (l : Local) → t ≢ u → slice_index_or (slice_set s.locals u l) t (idle 0 0) ≡ local_of s t
@@ -159,7 +182,7 @@ module _ (n q last : ℕ) (es : ℕ → Event) (r : Run optimistic n q es last) 
   abbrev vs : ℕ → View
   vs = views optimistic n q es
 
-  known : (k : ℕ) → k ≤ last
+  pub known : (k : ℕ) → k ≤ last
       → Thread At n q t (views optimistic n q es) (begun_at (log_of optimistic n q es) t k) k
       (state_at optimistic n q es k).words (used_in (state_at optimistic n q es k))
       (has_changed (log_of optimistic n q es) t k) (held_at n q es k t)
@@ -175,8 +198,12 @@ module _ (n q last : ℕ) (es : ℕ → Event) (r : Run optimistic n q es last) 
   chain_at k l h = arrived q t (views optimistic n q es) (begun_at (log_of optimistic n q es) t k) k (world_at n q es k)
       (has_changed (log_of optimistic n q es) t k) (held_at n q es k t) refl (known k l).at h
 
+  decided_at : (k : ℕ) → k ≤ last → 8 ≤ (held_at n q es k t).pc → (held_at n q es k t).pc ≤ 13 → HasArrived (held_at n q es k t)
+  decided_at k l from upto = decides_there q t (views optimistic n q es) (begun_at (log_of optimistic n q es) t k) k (world_at n q es k)
+      (has_changed (log_of optimistic n q es) t k) (held_at n q es k t) (known k l).at from upto
+
   stays_for : (j d k : ℕ) → k ≡ j + d → k ≤ last → HasArrived (held_at n q es j t)
-      → ((i : ℕ) → j ≤ i → i < k → es i ≡ Go t → (held_at n q es i t).pc ≢ 14)
+      → ((i : ℕ) → j ≤ i → i < k → GivesBack n q es i t (held_at n q es j t).pred → ⊥)
       → Stays (held_at n q es j t) (held_at n q es k t)
   stays_for j zero k e l h f = let g : j ≡ k = omega arith in
       subst (λ x. Stays (held_at n q es j t) (held_at n q es x t)) g (h, refl)
@@ -185,87 +212,17 @@ module _ (n q last : ℕ) (es : ℕ → Event) (r : Run optimistic n q es last) 
       stays_for j d (j + d) refl (omega arith) h (λ i a b. f i a (omega arith)) in
       let now : Stays (held_at n q es (j + d) t) (held_at n q es (suc (j + d)) t) =
       event_stays (state_at optimistic n q es (j + d)) t (es (j + d)) (r.enabled (j + d) (omega arith)) before.0
-      (f (j + d) (omega arith) (omega arith)) in
+      (λ goes at.
+      f (j + d) (omega arith) (omega arith)
+      (record { step = goes; stores = gives_back (held_at n q es (j + d) t) (held_at n q es j t).pred at before.1 })) in
       let g : suc (j + d) ≡ k = omega arith in
       subst (λ x. Stays (held_at n q es j t) (held_at n q es x t)) g (now.0, now.1 ∙ before.1)
 
-pub walked_in_the_past_of : WalkedInThePast
-walked_in_the_past_of n q last k t es r l tn w = past_at n q last es r t tn k l w
-
-pub arrived_in_chain_of : ArrivedInChain
-arrived_in_chain_of n q last k t es r l tn h = chain_at n q last es r t tn k l h
-
-pub in_chain_to_the_end_of : InChainToTheEnd
-in_chain_to_the_end_of n q last j k t es r a l tn h f =
-    let s : Stays (held_at n q es j t) (held_at n q es k t) = stays_for n q last es r t tn j (k - j) k (omega arith) l h f in
-    subst (IsLockedInChain (world_at n q es k) t) s.1 (chain_at n q last es r t tn k l s.0)
-
--- THE REPLY at the load of pc 8
-none_is_not : {A : Type 0} (reply : Reply) → None ≡ Some reply → A
-none_is_not reply e = absurd (cc)
-
-some_is : (a b : Reply) → Some a ≡ Some b → a ≡ b
-some_is a b e = cc
-
-module _ (n q t : ℕ) (vs : ℕ → View) (first now : ℕ) (ws : List ℕ) (used : ℕ → ℕ) (done : Bool) (l : Local) (reply : Reply)
-    (m : Memory false n q ws used) (th : Thread At n q t vs first now ws used done l) (tn : t < n) (e : l.pc ≡ 8) where
-  fits_link : Window (view n q ws used) l → node_lock ws l.curr ≡ t + 1 → Held (view n q ws used) t l.pred
-      → (at_link (node_link ws l.pred) (record l { pc = 8 })).reply ≡ Some reply → FitsIn q (view n q ws used) t l.call reply
-  fits_link f c x y = elim (same_or_not (node_link ws l.pred / 2) l.curr) [
-    | inl z ↦ (let made = decision m (record l { pc = 8 }) tn (keep n q t 8 l.reply l th.registers) th.counts f c x z in
-        let told = ap (λ (k : Local). k.reply) (sym (if_same (node_link ws l.pred / 2) l.curr z
-        (decided_on targets l.ckey (record l { pc = 8 })) (record l { pc = 14; reply = None }))) ∙ y in
-        elim made.1 [
-          | inl r ↦ subst (FitsIn q (view n q ws used) t l.call) (some_is r.0 reply (sym (ap (λ (k : Local). k.reply) r.1) ∙ told)) r.2
-          | inr o ↦ elim o [
-            | inl r ↦ none_is_not reply (sym (ap (λ (k : Local). k.reply) r.0) ∙ told)
-            | inr r ↦ none_is_not reply (sym (ap (λ (k : Local). k.reply) r.0) ∙ told)
-          ]
-        ])
-    | inr z ↦ none_is_not reply (ap (λ (k : Local). k.reply) (sym (if_other (node_link ws l.pred / 2) l.curr z
-        (decided_on targets l.ckey (record l { pc = 8 })) (record l { pc = 14; reply = None }))) ∙ y)
-  ]
-
-  not_here : {A : Type 0} (p : ℕ) → l.pc ≡ p → p ≢ 8 → A
-  not_here p f d = absurd (d (sym f ∙ e))
-
-  fits_row : At q t vs first now (view n q ws used) done l
-      → (at_link (node_link ws l.pred) (record l { pc = 8 })).reply ≡ Some reply → FitsIn q (view n q ws used) t l.call reply
-  fits_row (at0 f) = not_here 0 f (omega arith)
-  fits_row (at1 f d) = not_here 1 f (omega arith)
-  fits_row (at2 f d x k) = not_here 2 f (omega arith)
-  fits_row (at3 f d c k b) = not_here 3 f (omega arith)
-  fits_row (at4 f d w) = not_here 4 f (omega arith)
-  fits_row (at5 f d w p) = not_here 5 f (omega arith)
-  fits_row (at6 f d w c k start g x) = not_here 6 f (omega arith)
-  fits_row (at7 f d w c start g x) = not_here 7 f (omega arith)
-  fits_row (at8 f d w c x a) = fits_link w c x
-  fits_row (at9 f d b a) = not_here 9 f (omega arith)
-  fits_row (at10 f d b a x) = not_here 10 f (omega arith)
-  fits_row (at11 f d b a x y) = not_here 11 f (omega arith)
-  fits_row (at12 f d b a) = not_here 12 f (omega arith)
-  fits_row (at13 f d b a x) = not_here 13 f (omega arith)
-  fits_row (at14 f p c x i o) = not_here 14 f (omega arith)
-  fits_row (at15 f c o) = not_here 15 f (omega arith)
-
--- what the load of pc 8 leaves
-link_row : (ws : List ℕ) (l : Local) → l.pc ≡ 8
-    → local_after l (seen_by ws (optimistic.next l)) ≡ at_link (node_link ws l.pred) (record l { pc = 8 })
-link_row ws l e = rw e refl
-
-after_link : (s : State) (t : ℕ) → t < length s.locals → (local_of s t).pc ≡ 8
-    → local_of (after optimistic s (Go t)) t ≡ at_link (node_link s.words (local_of s t).pred) (record (local_of s t) { pc = 8 })
-after_link s t h e =
-    get_or-set_same s.locals t (local_after (local_of s t) (seen_next optimistic s t)) (idle 0 0) h
-    ∙ link_row s.words (local_of s t) e
-
-pub fits_at_the_load_of : FitsAtTheLoad
-fits_at_the_load_of n q last k t es reply r l tn goes e y =
-    let i = inv_at optimistic false At (discipline_of optimistic (node_locks false) At optimistic_follows) n q es last r k (omega arith) in
-    let s : State = state_at optimistic n q es k in
-    let th = i.threads t tn in
-    let en : Enabled s (Go t) = subst (Enabled s) goes (r.enabled k l) in
-    let is = subst (λ x. (local_of (after optimistic s x) t).reply ≡ Some reply) goes y in
-    fits_row n q t (views optimistic n q es) (begun_at (log_of optimistic n q es) t k) k s.words (used_in s)
-    (has_changed (log_of optimistic n q es) t k) (local_of s t) reply i.memory th tn e th.at
-    (ap (λ (x : Local). x.reply) (sym (after_link s t en.0 e)) ∙ is)
+pub validated_walk_of : ValidatedWalk
+validated_walk_of n q last t es r tn = record {
+  passes = λ k l w. past_at n q last es r t tn k l w;
+  arrives = λ j k a l h f.
+      (let s : Stays (held_at n q es j t) (held_at n q es k t) = stays_for n q last es r t tn j (k - j) k (omega arith) l h f in
+      subst (IsLockedInChain (world_at n q es k) t) s.1 (chain_at n q last es r t tn k l s.0));
+  decides = λ k l from upto. decided_at n q last es r t tn k l from upto;
+}
