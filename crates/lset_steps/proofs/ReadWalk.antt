@@ -1,20 +1,26 @@
 -- That a contains walks over nodes that were in the chain.
-use Rattle.std.specs.Prelude.{◌≡◌, ℕ, ◌<◌, Bool, refl}
+use Rattle.std.specs.Prelude.{◌≡◌, ◌≢◌, ℕ, zero, suc, ◌<◌, ◌≤◌, Bool, if◌then◌else◌, ◌==◌, refl}
 use Rattle.std.proofs.Common.{arith, inl, inr, sym, ◌∙◌, ap, subst}
+use Rattle.lset_words.proofs.Numbers.{same_or_not, if_same, if_other}
 use Rattle.lset_words.specs.Words.{key_index, link_index}
-use Rattle.lset_words.specs.Log.{begun_at, has_changed}
+use Rattle.lset_words.specs.Log.{Log, Entry, begun_at, last_call, has_changed}
+use Rattle.lset_words.specs.Log.Entry.{began, stepped}
 use Rattle.lset_steps.specs.declared.Local.{Local}
 use Rattle.lset_steps.specs.declared.Action.TheVariants.{Load}
-use Rattle.lset_steps.specs.Steps.{Table, state_at, local_of, log_of}
+use Rattle.lset_steps.specs.declared.Event.{Event}
+use Rattle.lset_steps.specs.declared.Event.TheVariants.{Go}
+use Rattle.lset_steps.specs.Steps.{Table, Run, Enabled, state_at, local_of, seen_by, log_of}
 use Rattle.lset_steps.specs.Chain.{View, Seen}
+use Rattle.lset_steps.specs.Laws.{Lawful, word_named, views}
+use Rattle.lset_steps.specs.Promises.{IsRead}
+use Rattle.lset_steps.specs.ReadRows.{HasReadRows, IsReadRow}
+use Rattle.lset_steps.specs.BoundedReads.{WalkWasInChain}
 use Rattle.lset_steps.proofs.Moves.{Course, InPast}
 use Rattle.lset_steps.proofs.Hindsight.{hindsight}
-use Rattle.lset_steps.specs.Laws.{word_named, views}
-use Rattle.lset_steps.specs.ReadRows.{HasReadRows, IsReadRow}
 use Rattle.lset_steps.proofs.Reading.{Reading}
 use Rattle.lset_steps.proofs.Reading.Reading.{reads20, reads21, reads22}
-use Rattle.lset_steps.specs.BoundedReads.{WalksInChain}
 use Rattle.lset_steps.proofs.ReadBound.{read_row}
+use Rattle.lset_steps.proofs.RunAccount.{tied}
 use Rattle.lset_steps.proofs.Discipline.{Outline, Discipline, Inv, inv_at, lawful_of}
 
 module _ (T : Table) (rows : HasReadRows T) (vs : ℕ → View) (first now : ℕ) (course : Course vs now) (done : Bool) (l : Local)
@@ -26,13 +32,13 @@ module _ (T : Table) (rows : HasReadRows T) (vs : ℕ → View) (first now : ℕ
       let f : l.curr ≡ a = omega arith in
       subst (λ x. Seen vs first now x ((vs now).link x)) f (hindsight vs now first now l.curr course (omega arith) p)
 
-  pub seen_by : Reading vs first now done l → Seen vs first now a ((vs now).link a)
-  seen_by (reads20 e d c x) = at_curr (inl e) (rows.acts l (inl e) ∙ (rw e refl)) x.past
-  seen_by (reads21 e d c x) =
+  pub seen_now : Reading vs first now done l → Seen vs first now a ((vs now).link a)
+  seen_now (reads20 e d c x) = at_curr (inl e) (rows.acts l (inl e) ∙ (rw e refl)) x.past
+  seen_now (reads21 e d c x) =
       let acts : T.next l ≡ Load (key_index l.curr) = rows.acts l (inr (inl e)) ∙ (rw e refl) in
       let f : link_index a ≡ key_index l.curr = ap word_named (sym next ∙ acts) in
       absurd (omega arith)
-  seen_by (reads22 e d c x) = at_curr (inr (inr e)) (rows.acts l (inr (inr e)) ∙ (rw e refl)) x.past
+  seen_now (reads22 e d c x) = at_curr (inr (inr e)) (rows.acts l (inr (inr e)) ∙ (rw e refl)) x.past
 
 -- the outline says what is known at the rows of a contains
 abbrev pub ShowsReading : Outline → Type 1
@@ -44,12 +50,61 @@ low_row pc row e h (inl f) = absurd (omega arith)
 low_row pc row e h (inr (inl f)) = absurd (omega arith)
 low_row pc row e h (inr (inr f)) = absurd (omega arith)
 
-pub walks_in_chain : (T : Table) (At : Outline) → Discipline T T.marks At → HasReadRows T → ShowsReading At → WalksInChain T
-walks_in_chain T At d rows shows n q last k t a es r l th busy reads next =
+-- what a contains is about to load
+loads_seen : (T : Table) (At : Outline) → Discipline T T.marks At → HasReadRows T → ShowsReading At
+    → (n q last k t a : ℕ) (es : ℕ → Event) → Run T n q es last → k ≤ last → t < n
+    → (local_of (state_at T n q es k) t).pc ≢ 0 → IsRead (local_of (state_at T n q es k) t).call
+    → T.next (local_of (state_at T n q es k) t) ≡ Load (link_index a)
+    → Seen (views T n q es) (begun_at (log_of T n q es) t k) k a ((views T n q es k).link a)
+loads_seen T At d rows shows n q last k t a es r l th busy reads next =
     let i : Inv T.marks At n q (views T n q es) k (state_at T n q es k) (λ u. begun_at (log_of T n q es) u k)
     (λ u. has_changed (log_of T n q es) u k) = inv_at T T.marks At d n q es last r k l in
-    seen_by T rows (views T n q es) (begun_at (log_of T n q es) t k) k i.course (has_changed (log_of T n q es) t k)
+    seen_now T rows (views T n q es) (begun_at (log_of T n q es) t k) k i.course (has_changed (log_of T n q es) t k)
     (local_of (state_at T n q es k) t) a next
     (shows q t (views T n q es) (begun_at (log_of T n q es) t k) k (views T n q es k) (has_changed (log_of T n q es) t k)
     (local_of (state_at T n q es k) t)
     (read_row T (lawful_of T At d) rows n q last k t es r l th busy reads) (i.threads t th).at)
+
+-- the last call of a thread at two moments between which it begins none
+record SameCall (log : Log) (t at k : ℕ) : Type 0 where
+  begun : begun_at log t k ≡ begun_at log t at
+  call : last_call log t k ≡ last_call log t at
+
+same_call_on : (log : Log) (t at k : ℕ) (e : Entry) → log k ≡ e → at ≤ k → begun_at log t (suc k) ≤ at → SameCall log t k (suc k)
+same_call_on log t at k (stepped u change reply) is le from = record { begun = rw is refl; call = rw is refl }
+same_call_on log t at k (began u call) is le from =
+    let first : begun_at log t (suc k) ≡ (if u == t then suc k else begun_at log t k) = rw is refl in
+    let last : last_call log t (suc k) ≡ (if u == t then call else last_call log t k) = rw is refl in
+    elim (same_or_not u t) [
+      | inl y ↦ absurd (let own : begun_at log t (suc k) ≡ suc k = first ∙ if_same u t y (suc k) (begun_at log t k) in omega arith)
+      | inr y ↦ record {
+        begun = first ∙ if_other u t y (suc k) (begun_at log t k);
+        call = last ∙ if_other u t y call (last_call log t k);
+      }
+    ]
+
+same_call : (log : Log) (t at k : ℕ) → at ≤ k → begun_at log t k ≤ at → SameCall log t at k
+same_call log t at zero le from =
+    let e : zero ≡ at = omega arith in subst (λ m. SameCall log t m zero) e (record { begun = refl; call = refl })
+same_call log t at (suc k) le from = elim (same_or_not at (suc k)) [
+  | inl y ↦ subst (λ m. SameCall log t m (suc k)) (sym y) (record { begun = refl; call = refl })
+  | inr y ↦
+      (let on : SameCall log t k (suc k) = same_call_on log t at k (log k) refl (omega arith) from in
+      let before : SameCall log t at k = same_call log t at k (omega arith) (rw (sym on.begun) from) in
+      record { begun = on.begun ∙ before.begun; call = on.call ∙ before.call })
+]
+
+pub walk_was_in_chain : (T : Table) (At : Outline) → Discipline T T.marks At → HasReadRows T → ShowsReading At → WalkWasInChain T
+walk_was_in_chain T At d rows shows n q last k t a l es r le reads p =
+    let law : Lawful T = lawful_of T At d in
+    let enabled : Enabled (state_at T n q es p.at) (Go t) =
+    subst (λ e. Enabled (state_at T n q es p.at) e) p.own (r.enabled p.at (omega arith)) in
+    let th : t < n = rw (sym (law.states n q last p.at es r (omega arith)).locals) enabled.0 in
+    let same : SameCall (log_of T n q es) t p.at k = same_call (log_of T n q es) t p.at k (omega arith) p.from in
+    let call : (local_of (state_at T n q es p.at) t).call ≡ last_call (log_of T n q es) t p.at =
+    ((tied T law n q es last r t th p.at (omega arith)).opened enabled.1).1 in
+    let word : (views T n q es p.at).link a ≡ l = sym (ap (seen_by (state_at T n q es p.at).words) p.loads) ∙ p.read in
+    subst (λ z. Seen (views T n q es) (begun_at (log_of T n q es) t k) p.at a z) word
+    (subst (λ z. Seen (views T n q es) z p.at a ((views T n q es p.at).link a)) (sym same.begun)
+    (loads_seen T At d rows shows n q last p.at t a es r (omega arith) th enabled.1
+    (subst (λ c. IsRead c) (same.call ∙ sym call) reads) p.loads))

@@ -49,7 +49,7 @@ begun_reading_is (Add k) l = record { called = refl; used = refl; opened = λ e.
 begun_reading_is (Remove k) l = record { called = refl; used = refl; opened = λ e. omega arith; alike = refl }
 begun_reading_is (Contains k) l = record { called = refl; used = refl; opened = λ e. omega arith; alike = refl }
 
-pub reading_begins : (vs : ℕ → View) (now : ℕ) (v : View) (k : Key) (l : Local) → vs now ≡ v → v.key 0 ≡ 0
+reading_begins : (vs : ℕ → View) (now : ℕ) (v : View) (k : Key) (l : Local) → vs now ≡ v → v.key 0 ≡ 0
     → Reading vs now now false (begun_reading (Contains k) l)
 reading_begins vs now v k l present head =
     let low : (vs now).key 0 ≡ 0 = ap (λ x. x.key 0) present ∙ head in
@@ -57,6 +57,15 @@ reading_begins vs now v k l present head =
       past = record { at = now; from = omega arith; upto = omega arith; in_chain = ([], refl) };
       low = omega arith;
     })
+
+-- so a call begins at row 1, or reads
+pub call_begins : (At : Outline) (q t : ℕ) (vs : ℕ → View) (now : ℕ) (v : View) (call : Call) (l : Local) → vs now ≡ v → v.key 0 ≡ 0
+    → ((l' : Local) → l'.pc ≡ 1 → At q t vs now now v false l')
+    → ((l' : Local) → Reading vs now now false l' → At q t vs now now v false l')
+    → At q t vs now now v false (begun_reading call l)
+call_begins At q t vs now v (Add k) l e z walks reads = walks (begun_reading (Add k) l) refl
+call_begins At q t vs now v (Remove k) l e z walks reads = walks (begun_reading (Remove k) l) refl
+call_begins At q t vs now v (Contains k) l e z walks reads = reads (begun_reading (Contains k) l) (reading_begins vs now v k l e z)
 
 -- a contains answers by what it had, or lacked
 fits_had : (q : ℕ) (vs : ℕ → View) (first now t : ℕ) (call : Call) → call ≡ Contains (key_of call)

@@ -126,7 +126,7 @@ module _ (T : Table) (law : Lawful T) (n q : ℕ) (es : ℕ → Event) (last : �
   opening_local : (t : ℕ) → t < n → local_of (state_at T n q es 0) t ≡ idle q t
   opening_local t h = get_or-map-range_with_len (idle q) 0 n t t (idle 0 0) h (omega arith)
 
-  tied : (t : ℕ) → t < n → (k : ℕ) → k ≤ last
+  pub tied : (t : ℕ) → t < n → (k : ℕ) → k ≤ last
       → Tied (is_open (log_of T n q es) t k) (last_call (log_of T n q es) t k) (local_of (state_at T n q es k) t)
   tied t th zero l = tied_to refl refl (opening_local t th) (record { closed = λ e. refl; opened = λ e. absurd (e refl) })
   tied t th (suc k) l = tied_step t th k (omega arith) (es k) refl (r.enabled k (omega arith)) (tied t th k (omega arith))

@@ -1,7 +1,7 @@
 //! What is promised of every run of every machine, for events of any number: each promise as a function whose
 //! contract is the law, and whose call does nothing.
 
-ghost use Rattle.lset_steps.specs.BoundedReads.{BoundedReads, WalksInChain};
+ghost use Rattle.lset_steps.specs.BoundedReads.{BoundedReads, WalkWasInChain};
 ghost use Rattle.lset_steps.specs.Promises.{
   FrozenNodes,
   HasAccount,
@@ -109,8 +109,8 @@ pub fn bounded_reads<M: OpenReads>()
     ensures { BoundedReads M.table }
 {}
 
-/// Each node whose link a `contains` of a list with open reads loads was in the chain with this very link at some
-/// moment of the call. (O'Hearn and others' hindsight.)
-pub fn walks_in_chain<M: OpenReads>()
-    ensures { WalksInChain M.table }
+/// Each node that the walk of a `contains` of a list with open reads has passed was in the chain, with the link that was
+/// read, at some moment of the call; the node may have left the chain before the load. (O'Hearn and others' hindsight.)
+pub fn walk_was_in_chain<M: OpenReads>()
+    ensures { WalkWasInChain M.table }
 {}

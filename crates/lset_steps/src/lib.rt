@@ -5,7 +5,7 @@ ghost use Rattle.std.specs.Prelude.{◌≡◌, ℕ, ◌+◌, ◌*◌, ◌<◌, �
 ghost use Rattle.lset_words.specs.declared.Kind.{Kind};
 ghost use Rattle.lset_steps.specs.Steps.{Table, idle};
 ghost use Rattle.lset_steps.specs.Laws.{Lawful, Occurs, Sees};
-ghost use Rattle.lset_steps.specs.BoundedReads.{BoundedReads, WalksInChain, most_reads};
+ghost use Rattle.lset_steps.specs.BoundedReads.{BoundedReads, WalkWasInChain, most_reads};
 
 pub mod laws;
 pub mod reads;
@@ -137,5 +137,5 @@ pub trait OpenReads: Machine {
 
     ghost reads: { BoundedReads Self.table };
 
-    ghost walks: { WalksInChain Self.table };
+    ghost walks: { WalkWasInChain Self.table };
 }

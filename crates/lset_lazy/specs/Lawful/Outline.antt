@@ -3,8 +3,6 @@ use Rattle.std.specs.Prelude.{◌≡◌, ◌≢◌, ℕ, suc, ◌+◌, ◌*◌, 
 use Rattle.std.proofs.Common.{arith, inl, inr, sym, ◌∙◌, ap}
 use Rattle.lset_words.proofs.Numbers.{same_or_not, below_or_not, if_below, if_not_below, if_same, if_other}
 use Rattle.lset_words.specs.Words.{key_index, link_index, lock_index, tail_word, node_count, slot_node, target, key_of}
-use Rattle.lset_words.specs.declared.Call.{Call}
-use Rattle.lset_words.specs.declared.Call.TheVariants.{Add, Remove, Contains}
 use Rattle.lset_words.specs.declared.Reply.{Reply}
 use Rattle.lset_words.specs.declared.Reply.TheVariants.{True}
 use Rattle.lset_steps.specs.declared.Local.{Local}
@@ -17,8 +15,8 @@ use Rattle.lset_steps.proofs.Rely.{Rely}
 use Rattle.lset_steps.proofs.Discipline.{Here, Thread}
 use Rattle.lset_steps.proofs.Replies.{Adding, Removing, removing_kept, registers_begun, keep_more, keep, keep_ckey, keep_succ, keep_walk}
 use Rattle.lset_steps.specs.Rows.{decided_on, goes_to, own_slot}
-use Rattle.lset_steps.specs.ReadRows.{HasReadRows, IsReadRow, first_row, begun_reading, read_action, read_fed, continued}
-use Rattle.lset_steps.proofs.Reading.{Reading, begun_reading_is, reading_on, reading_begins, reads_on, even_or_odd}
+use Rattle.lset_steps.specs.ReadRows.{HasReadRows, IsReadRow, first_row, read_action, read_fed, continued}
+use Rattle.lset_steps.proofs.Reading.{Reading, begun_reading_is, reading_on, call_begins, reads_on, even_or_odd}
 use Rattle.lset_steps.proofs.Held.{Between, Leaves, LockedStep, in_chain, leaves_of, between_on, adding_on, removing_on, own_key_on, own_link_on, reads_word, frees, writes_own_key, writes_own_link, puts_between, marks_between, cuts_between, curr_is_not_pred, found_no_tail, decides, leaves_own_key, leaves_own_link}
 use Rattle.lset_steps.proofs.UnlockedWalk.{Spot, Found, spot_kept, found_kept, found_apart, spot_behind, spot_behind_head, next_inside, small_key, keeps_locked}
 use Rattle.lset_steps.proofs.ReadWalk.{ShowsReading, low_row}
@@ -392,13 +390,6 @@ module _ (n q t : ℕ) (vs : ℕ → View) (first now : ℕ) (ws : List ℕ) (us
   go (at_read a) busy =
       reads_on lazy (node_locks true) At n q t vs first now ws used done l h th has_read_rows (λ l' b. at_read b) (λ l' b. at0 b) a
 
--- a call that begins
-begins_at : (q t : ℕ) (vs : ℕ → View) (now : ℕ) (v : View) (call : Call) (l : Local) → vs now ≡ v → v.key 0 ≡ 0
-    → At q t vs now now v false (begun_reading call l)
-begins_at q t vs now v (Add k) l e z = at1 refl refl
-begins_at q t vs now v (Remove k) l e z = at1 refl refl
-begins_at q t vs now v (Contains k) l e z = at_read (reading_begins vs now v k l e z)
-
 -- what it says of a contains
 pub shows_reading : ShowsReading At
 shows_reading q t vs first now v done l row (at0 e) = low_row l.pc 0 e (omega arith) row
@@ -425,7 +416,7 @@ lazy_follows = record {
   idle_at = λ q t vs v. at0 refl;
   begun = begun_reading_is;
   begin_registers = λ n q t call l low r. registers_begun n q t (first_row call) call l low r;
-  begins = λ q t vs now v call l e s k. begins_at q t vs now v call l e k;
+  begins = λ q t vs now v call l e s k. call_begins At q t vs now v call l e k (λ l' e. at1 e refl) (λ l' r. at_read r);
   stands = λ q t vs first now v w done l present r at. stays q t vs first now v w done l r at;
   turn = λ n q t vs first now ws used done l h th tn busy. go n q t vs first now ws used done l h th tn th.at busy;
 }
