@@ -7,9 +7,10 @@ use Rattle.lset_steps.specs.declared.Event.TheVariants.{Begin, Go}
 use Rattle.lset_steps.specs.declared.Told.{Told}
 use Rattle.lset_steps.specs.declared.world.StepFault.{StepFault}
 use Rattle.lset_steps.specs.Steps.{Table, State, Run, Limits, Enabled, state_at, event_at, entry_of, log_of, told, after, opening}
-use Rattle.lset_steps.specs.Laws.{Lawful}
+use Rattle.lset_steps.specs.Chain.{contents_of, counts_of}
+use Rattle.lset_steps.specs.Laws.{views}
 use Rattle.lset_steps.specs.Worlds.{WorldState, Refused}
-use Rattle.lset_steps.proofs.RunAccount.{contents_at, counts_at, account_of}
+use Rattle.lset_steps.specs.Promises.{HasAccount}
 use Rattle.lset_replay.specs.declared.events.LineEvent.{LineEvent}
 use Rattle.lset_replay.specs.declared.recorder.Recorder.{Recorder}
 use Rattle.lset_replay.specs.Events.{only_events, line_at}
@@ -36,7 +37,7 @@ run_more T n q es k r e = record {
     last_or_before : (j k : ℕ) → j < suc k → (j ≡ k) ⊎ (j < k)
     last_or_before j k l = grind arith
 
-module _ (T : Table) (law : Lawful T) (n q : ℕ) (events : List LineEvent) (k : ℕ) (w : WorldState) (r : Recorder)
+module _ (T : Table) (accounts : HasAccount T) (n q : ℕ) (events : List LineEvent) (k : ℕ) (w : WorldState) (r : Recorder)
     (h : HasFollowed T n q events k w r)
     (e : Event) (is : event_at (only_events events) k ≡ e) where
   abbrev es : ℕ → Event
@@ -46,10 +47,10 @@ module _ (T : Table) (law : Lawful T) (n q : ℕ) (events : List LineEvent) (k :
   log = log_of T n q es
 
   abbrev contents : Contents
-  contents = contents_at T n q es
+  contents = contents_of (views T n q es)
 
   abbrev counts : Counts
-  counts = counts_at T n q es
+  counts = counts_of (views T n q es)
 
   state_is : w.state ≡ state_at T n q es k
   state_is = ap (λ (x : WorldState). x.state) h.world
@@ -67,7 +68,7 @@ module _ (T : Table) (law : Lawful T) (n q : ℕ) (events : List LineEvent) (k :
   ready en = at e is
     where
       account : Account n q (suc k) log contents counts
-      account = account_of T law n q es (suc k) (run_on en)
+      account = accounts n q (suc k) es (run_on en)
 
       entered : (d : Event) → event_at (only_events events) k ≡ d → Enters n q log contents
           counts k (entry_of T (state_at T n q es k) d)

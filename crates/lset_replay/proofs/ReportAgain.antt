@@ -18,6 +18,7 @@ use Rattle.lset_text.specs.Headers.{header_lines, header_of}
 use Rattle.lset_text.proofs.PartLaws.{Lacks-from_test, cut_lines}
 use Rattle.lset_text.proofs.ReadingLaws.{ok_is}
 use Rattle.lset_text.proofs.HeaderLaws.{header_again, header_lacks}
+use Rattle.lset_replay.specs.declared.report.TheConstants.{MOST_CALLS, MOST_PLACES, MOST_KEYS}
 use Rattle.lset_replay.specs.declared.reading.lines.Line.{Line}
 use Rattle.lset_replay.specs.declared.reading.lines.Line.TheVariants as told
 use Rattle.lset_replay.specs.declared.reading.lines.Section.{Section}
@@ -41,9 +42,9 @@ use Rattle.lset_replay.proofs.ReportTexts.{all_join, takes_most}
 
 judged_good : (r : ReportValue) (l : Line) → IsGood r l → judged r l ≡ Ok l
 judged_good r (told.Call n x) h =
-    rw (lt-ltb (length r.history.calls) 10000 h.0, eq-eqb n (length r.history.calls) h.1, h.2) refl
-judged_good r (told.Place p) h = rw (lt-ltb (length r.order) 10000 h) refl
-judged_good r (told.Key k) h = rw (lt-ltb (length r.keys) 1048576 h) refl
+    rw (lt-ltb (length r.history.calls) MOST_CALLS h.0, eq-eqb n (length r.history.calls) h.1, h.2) refl
+judged_good r (told.Place p) h = rw (lt-ltb (length r.order) MOST_PLACES h) refl
+judged_good r (told.Key k) h = rw (lt-ltb (length r.keys) MOST_KEYS h) refl
 judged_good r told.End h = refl
 
 line_after_again : (s : Section) (r : ReportValue) (l : Line) → takes s l ≡ true → IsLine l → IsGood r l
@@ -72,7 +73,7 @@ end_line : (o : Option (ℕ × Reply)) (b : ℕ) → IfSome o (λ (e : ℕ × Re
 end_line None b later h = tt
 end_line (Some e) b later h = (omega arith, h)
 
-call_is_line : (h : Header) (cs : List CallRecord) (x : CallRecord) → h.threads ≤ 64 → length cs < 10000
+call_is_line : (h : Header) (cs : List CallRecord) (x : CallRecord) → h.threads ≤ 64 → length cs < MOST_CALLS
     → MayFollow h.threads cs x → IsCall x
     → IsLine (told.Call (length cs) x)
 call_is_line h cs x few long may is =
@@ -88,7 +89,7 @@ ReadsAs s r tail q = (line : ℕ) → report_from line s r tail ≡ Ok q
 
 calls_again : (h : Header) (q : ReportValue) (cs xs : List CallRecord) (tail : List (List ℕ)) (line : ℕ) → h.threads ≤ 64
     → 0 < length tail
-    → length (cs ++ xs) ≤ 10000 → ContinuesHistory h.threads cs xs → AllByRecursion IsCall xs
+    → length (cs ++ xs) ≤ MOST_CALLS → ContinuesHistory h.threads cs xs → AllByRecursion IsCall xs
     → ReadsAs section.Calls (value h (cs ++ xs) [] []) tail q
     → report_from line section.Calls (value h cs [] []) (call_lines (length cs) xs ++ tail) ≡ Ok q
 calls_again h q cs [] tail line few some long history are rest =
@@ -97,7 +98,7 @@ calls_again h q cs (x ∷ xs) tail line few some long history are rest =
     let regrouped : (cs ++ x ∷ []) ++ xs ≡ cs ++ x ∷ xs = append_assoc cs (x ∷ []) xs in
     let counted = length-append cs (x ∷ xs) in
     let one_more : length (cs ++ x ∷ []) ≡ length cs + 1 = length-append cs (x ∷ []) in
-    let low : length cs < 10000 = omega arith in
+    let low : length cs < MOST_CALLS = omega arith in
     let more = calls_again h q (cs ++ x ∷ []) xs tail (line + 1) few some (omega (
       arith,
       long,
@@ -116,7 +117,7 @@ calls_again h q cs (x ∷ xs) tail line few some long history are rest =
 
 places_again : (h : Header) (q : ReportValue) (cs : List CallRecord) (ps xs : List Placed) (tail : List (List ℕ)) (line : ℕ)
     (s : Section)
-    → 0 < length tail → takes_places s ≡ true → length (ps ++ xs) ≤ 10000 → AllByRecursion (λ (p : Placed). p.call < 2 ^ 32) xs
+    → 0 < length tail → takes_places s ≡ true → length (ps ++ xs) ≤ MOST_PLACES → AllByRecursion (λ (p : Placed). p.call < 2 ^ 32) xs
     → ((t : Section) → takes_places t ≡ true → ReadsAs t (value h cs (ps ++ xs) []) tail q)
     → report_from line s (value h cs ps []) (map place_line xs ++ tail) ≡ Ok q
 places_again h q cs ps [] tail line s some may long are rest =
@@ -134,7 +135,7 @@ places_again h q cs ps (x ∷ xs) tail line s some may long are rest =
 
 keys_again : (h : Header) (q : ReportValue) (cs : List CallRecord) (ps : List Placed) (ks xs : List ℕ) (tail : List (List ℕ))
     (line : ℕ)
-    (s : Section) → 0 < length tail → takes_keys s ≡ true → length (ks ++ xs) ≤ 1048576 → AllByRecursion (λ k. k < 2 ^ 32) xs
+    (s : Section) → 0 < length tail → takes_keys s ≡ true → length (ks ++ xs) ≤ MOST_KEYS → AllByRecursion (λ k. k < 2 ^ 32) xs
     → ((t : Section) → takes_keys t ≡ true → ReadsAs t (value h cs ps (ks ++ xs)) tail q)
     → report_from line s (value h cs ps ks) (map key_line xs ++ tail) ≡ Ok q
 keys_again h q cs ps ks [] tail line s some may long are rest =
@@ -193,7 +194,7 @@ report_again r is =
 
 -- ---- no line has a newline in it
 
-calls_lack : (h : Header) (cs xs : List CallRecord) → h.threads ≤ 64 → length (cs ++ xs) ≤ 10000 → ContinuesHistory h.threads cs xs
+calls_lack : (h : Header) (cs xs : List CallRecord) → h.threads ≤ 64 → length (cs ++ xs) ≤ MOST_CALLS → ContinuesHistory h.threads cs xs
     → AllByRecursion IsCall xs → AllByRecursion (Lacks 10) (call_lines (length cs) xs)
 calls_lack h cs [] few long history are = tt
 calls_lack h cs (x ∷ xs) few long history are =

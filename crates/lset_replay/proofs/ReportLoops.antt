@@ -1,5 +1,5 @@
 -- Reading the lines of a report one after the other, as a loop does.
-use Rattle.std.proofs.Common.{◌≡◌, ℕ, ◌+◌, ◌<◌, ◌&&◌, ◌⊎◌, inl, inr, Bool, true, false, cond, ltb, eqb, List, [], ◌∷◌, ◌++◌}
+use Rattle.std.proofs.Common.{◌≤◌, ◌≡◌, ℕ, ◌+◌, ◌<◌, ◌&&◌, ◌⊎◌, inl, inr, Bool, true, false, cond, ltb, eqb, List, [], ◌∷◌, ◌++◌}
 use Rattle.std.proofs.Common.{length, Result, Ok, Err, refl, sym, ap, subst, ◌∙◌, arith}
 use Rattle.std.proofs.lemmas.Bool.{ne_eqb, ltb-true, eqb-true, and_parts}
 use Rattle.std.proofs.lemmas.List.{nil_from_length}
@@ -8,6 +8,7 @@ use Rattle.lset_text.proofs.PartLaws.{some_part}
 use Rattle.lset_text.proofs.ReadingLaws.{bind_ok}
 use Rattle.lset_text.proofs.HeaderLaws.{header_ok}
 use Rattle.lset_text.specs.Reading.{◌>>=◌, map_fault}
+use Rattle.lset_replay.specs.declared.report.TheConstants.{MOST_CALLS, MOST_PLACES, MOST_KEYS}
 use Rattle.lset_replay.specs.declared.reading.Reader.{Reader}
 use Rattle.lset_replay.specs.declared.reading.lines.Line.{Line}
 use Rattle.lset_replay.specs.declared.reading.lines.Line.TheVariants.{Call, Place, Key, End}
@@ -39,22 +40,22 @@ counted_ok most count l k e =
 -- a good line: there is room for it, and a call follows
 abbrev pub IsGood : ReportValue → Line → Type 0
 IsGood r (Call number x) =
-    (length r.history.calls < 10000) × (number ≡ length r.history.calls)
+    (length r.history.calls < MOST_CALLS) × (number ≡ length r.history.calls)
     × (may_follow r.history.threads r.history.calls x ≡ true)
-IsGood r (Place p) = length r.order < 10000
-IsGood r (Key k) = length r.keys < 1048576
+IsGood r (Place p) = length r.order < MOST_PLACES
+IsGood r (Key k) = length r.keys < MOST_KEYS
 IsGood r End = Unit {0}
 
 pub judged_ok : (r : ReportValue) (l k : Line) → judged r l ≡ Ok k → (l ≡ k) × IsGood r l
 judged_ok r (Call number x) k e =
-    let one = bind_ok (counted 10000 (length r.history.calls) (Call number x)) (following r number x) k e in
-    let room = counted_ok 10000 (length r.history.calls) (Call number x) one.0 one.1 in
+    let one = bind_ok (counted MOST_CALLS (length r.history.calls) (Call number x)) (following r number x) k e in
+    let room = counted_ok MOST_CALLS (length r.history.calls) (Call number x) one.0 one.1 in
     let test = kept_if (eqb number (length r.history.calls) && may_follow r.history.threads r.history.calls x) wrong.History
     one.0 k one.2 in
     let parts = and_parts (eqb number (length r.history.calls)) _ test.0 in
     (room.1 ∙ test.1, (room.0, eqb-true _ _ parts.0, parts.1))
-judged_ok r (Place p) k e = let room = counted_ok 10000 (length r.order) (Place p) k e in (room.1, room.0)
-judged_ok r (Key n) k e = let room = counted_ok 1048576 (length r.keys) (Key n) k e in (room.1, room.0)
+judged_ok r (Place p) k e = let room = counted_ok MOST_PLACES (length r.order) (Place p) k e in (room.1, room.0)
+judged_ok r (Key n) k e = let room = counted_ok MOST_KEYS (length r.keys) (Key n) k e in (room.1, room.0)
 judged_ok r End k e = (cc, tt)
 
 -- what was judged good is so again
@@ -125,12 +126,12 @@ pub stops : (line count : ℕ) (s : Section) (r : ReportValue) (rest first after
     → cut_at 10 rest ≡ first ∷ cut_at 10 after
     → ((cause : ReportCause) × (line_after s r first ≡ Err cause) × (e ≡ fault line cause))
     ⊎ ((l : Line) × (line_after s r first ≡ Ok l) × (e ≡ fault line wrong.Memory))
-    → report_from line s r (cut_at 10 rest) ≡ whole → line + length (cut_at 10 rest) ≡ 5 + count
+    → report_from line s r (cut_at 10 rest) ≡ whole → line + length (cut_at 10 rest) ≡ 5 + count → 4 ≤ line
     → (whole ≡ Err e) ⊎ RunsOut (4 + count) whole e
-stops line count s r rest first after e whole parts (inl bad) so_far_is lines =
+stops line count s r rest first after e whole parts (inl bad) so_far_is lines above =
     let step = report_fails line s r first (cut_at 10 after) bad.0 (some_part 10 after) bad.1 in
     inl (sym so_far_is ∙ ap (report_from line s r) parts ∙ step ∙ ap (λ (f : ReportFault). Err f) (sym bad.2))
-stops line count s r rest first after e whole parts (inr full) so_far_is lines =
+stops line count s r rest first after e whole parts (inr full) so_far_is lines above =
     let step = report_goes line s r first (cut_at 10 after) full.0 (some_part 10 after) full.1 in
     let left : whole ≡ report_from (line + 1) (section_after full.0) (with_line r full.0) (cut_at 10 after) =
     sym so_far_is ∙ ap (report_from line s r) parts ∙ step in
@@ -138,7 +139,7 @@ stops line count s r rest first after e whole parts (inr full) so_far_is lines =
     let one_less : length (cut_at 10 rest) ≡ length (first ∷ cut_at 10 after) = ap length parts in
     let here : line < 4 + count = omega (arith, lines, one_less, some_part 10 after) in
     let out : RunsOut (4 + count) whole (fault line wrong.Memory) =
-    record { cause = refl; whole = here; good = subst (IsGoodUpTo line) (sym left) good } in
+    record { cause = refl; after_header = above; whole = here; good = subst (IsGoodUpTo line) (sym left) good } in
     inr (subst (RunsOut (4 + count) whole) (sym full.2) out)
 
 pub not_ended : (line : ℕ) (s : Section) (r : ReportValue) (rest : List ℕ) (whole : Result ReportValue ReportFault)
@@ -180,6 +181,7 @@ runs_out_after_header bytes rest word h word_is header_is =
     let good = good_from 4 5 section.Calls (no_lines h) (cut_at 10 rest) (omega arith) in
     record {
       cause = refl;
+      after_header = omega arith;
       whole = omega (arith, after.1, some_part 10 rest);
       good = subst (IsGoodUpTo 4) (sym after.0) good;
     }

@@ -19,6 +19,7 @@ use Rattle.lset_text.specs.Numbers.{number_in, max_number}
 use Rattle.lset_text.specs.Words.{call_word_of, reply_of, with_key}
 use Rattle.lset_text.specs.Reading.{◌>>=◌, or_fail, map_fault}
 use Rattle.lset_text.specs.Headers.{IsHeader, header_of}
+use Rattle.lset_replay.specs.declared.report.TheConstants.{MOST_CALLS, MOST_PLACES, MOST_KEYS}
 use Rattle.lset_replay.specs.declared.reading.lines.Line.{Line as ReportLine}
 use Rattle.lset_replay.specs.declared.reading.lines.Line.TheVariants as told
 use Rattle.lset_replay.specs.declared.reading.lines.Section.{Section}
@@ -46,9 +47,9 @@ pub record IsReport (r : ReportValue) : Type 0 where
   pub calls : AllByRecursion IsCall r.history.calls
   pub places : AllByRecursion (λ (p : Placed). p.call < 2 ^ 32) r.order
   pub keys : AllByRecursion (λ k. k < 2 ^ 32) r.keys
-  pub few_calls : length r.history.calls ≤ 10000
-  pub few_places : length r.order ≤ 10000
-  pub few_keys : length r.keys ≤ 1048576
+  pub few_calls : length r.history.calls ≤ MOST_CALLS
+  pub few_places : length r.order ≤ MOST_PLACES
+  pub few_keys : length r.keys ≤ MOST_KEYS
 
 -- ---- faults
 
@@ -202,9 +203,9 @@ following r number x l =
 
 -- the count of a line, and the history of a call
 abbrev pub judged : ReportValue → ReportLine → Result ReportLine ReportCause
-judged r (told.Call number x) = counted 10000 (length r.history.calls) (told.Call number x) >>= following r number x
-judged r (told.Place p) = counted 10000 (length r.order) (told.Place p)
-judged r (told.Key k) = counted 1048576 (length r.keys) (told.Key k)
+judged r (told.Call number x) = counted MOST_CALLS (length r.history.calls) (told.Call number x) >>= following r number x
+judged r (told.Place p) = counted MOST_PLACES (length r.order) (told.Place p)
+judged r (told.Key k) = counted MOST_KEYS (length r.keys) (told.Key k)
 judged r told.End = Ok told.End
 
 -- what a line tells after the report of the lines above
@@ -276,7 +277,9 @@ IsGoodUpTo line (Err e) = line < e.line
 -- newline, and reading it gives `read` where memory is ample.
 pub record RunsOut (parts : ℕ) (read : Result ReportValue ReportFault) (e : ReportFault) : Type 0 where
   pub cause : e.cause ≡ wrong.Memory
-  -- the line is a whole line of the text,
+  -- the line is the last of the header, whose lines take no memory, or one after it,
+  pub after_header : 4 ≤ e.line
+  -- it is a whole line of the text,
   pub whole : e.line < parts
   -- and neither it nor a line above it has a fault
   pub good : IsGoodUpTo e.line read

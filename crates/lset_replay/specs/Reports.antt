@@ -1,26 +1,18 @@
 -- [Replay]: what a report tells of a schedule, and which event of a schedule is refused.
-use Rattle.std.specs.Prelude.{◌≡◌, ℕ, ◌<◌, List, map, length, Result, Ok, Err}
+use Rattle.std.specs.Prelude.{◌≡◌, ℕ, ◌<◌, List, length, Result, Ok, Err}
 use Rattle.std.specs.List.Sorted.{IsStrictlyIncreasing}
 use Rattle.lset_words.specs.declared.Kind.{Kind}
-use Rattle.lset_words.specs.declared.Kind.TheVariants as kind
 use Rattle.lset_words.specs.declared.history.CallRecord.{CallRecord}
 use Rattle.lset_words.specs.declared.history.Placed.{Placed}
-use Rattle.lset_words.specs.Log.{calls_at, history_at}
-use Rattle.lset_words.specs.Placement.{IsPlacement}
-use Rattle.lset_words.specs.History.{Linearizes, answered}
-use Rattle.lset_words.specs.SequentialSet.{empty_set, set_left}
+use Rattle.lset_words.specs.History.{Linearizes}
+use Rattle.lset_words.specs.SequentialSet.{empty_set}
 use Rattle.lset_steps.specs.declared.Event.{Event}
 use Rattle.lset_steps.specs.declared.world.StepFault.{StepFault}
 use Rattle.lset_steps.specs.declared.world.StepFault.TheVariants as step
-use Rattle.lset_steps.specs.Steps.{Table, Run, event_at, state_at, log_of}
-use Rattle.lset_steps.specs.Laws.{view_of}
+use Rattle.lset_steps.specs.Steps.{Table, Run, event_at, state_at}
+use Rattle.lset_steps.specs.Laws.{views}
 use Rattle.lset_steps.specs.Worlds.{WorldState, Refused, IsContent}
-use Rattle.lset_steps.proofs.RunAccount.{contents_at, counts_at}
-use Rattle.lset_coarse.specs.Coarse.{coarse}
-use Rattle.lset_fine.specs.Fine.{fine}
-use Rattle.lset_optimistic.specs.Optimistic.{optimistic}
-use Rattle.lset_lazy.specs.Lazy.{lazy}
-use Rattle.lset_lock_free.specs.LockFree.{lock_free}
+use Rattle.lset_headline.specs.Headline.{history_of, IsPlacedBy, keys_left}
 use Rattle.lset_history.specs.History.{HistoryValue}
 use Rattle.lset_schedule.specs.Plan.{Plan}
 use Rattle.lset_replay.specs.declared.events.LineEvent.{LineEvent}
@@ -39,26 +31,17 @@ pub record ReportValue : Type 0 where
 abbrev pub view : Report → ReportValue
 view r = record { kind = r.kind; history = r.history; order = r.order.items; keys = r.keys.items }
 
--- the machine of each list
-abbrev pub table_of : Kind → Table
-table_of kind.Coarse = coarse
-table_of kind.Fine = fine
-table_of kind.Optimistic = optimistic
-table_of kind.Lazy = lazy
-table_of kind.LockFree = lock_free
-
 -- The run of these events, and what is told of it:
 pub record IsReportOf (T : Table) (threads quota : ℕ) (events : List Event)
     (history : List CallRecord) (order : List Placed) (keys : List ℕ) : Type 0 where
   -- every event is enabled,
   pub run : Run T threads quota (event_at events) (length events)
   -- the history is the run's,
-  pub history_is : history ≡ history_at (log_of T threads quota (event_at events)) (length events)
+  pub history_is : history ≡ history_of T threads quota (event_at events) (length events)
   -- the order is [Placement], by the contents of the run's worlds,
-  pub placement : IsPlacement quota (length events) (calls_at (log_of T threads quota (event_at events)) (length events))
-      (contents_at T threads quota (event_at events)) (counts_at T threads quota (event_at events)) order
+  pub placement : IsPlacedBy T threads quota (event_at events) (length events) order
   -- and the keys are the content of the last world.
-  pub content : IsContent (view_of threads quota (state_at T threads quota (event_at events) (length events))) keys
+  pub content : IsContent (views T threads quota (event_at events) (length events)) keys
 
 -- the world after the first k events
 abbrev pub world_after : Table → ℕ → ℕ → List Event → ℕ → WorldState
@@ -101,5 +84,5 @@ Replays T p (Err refusal) = IsRefusal T p.threads p.quota (events_of p) refusal
 -- [Headline]: one order explains the history, and leaves the keys.
 pub record IsExplained (r : ReportValue) : Type 0 where
   pub linearizes : Linearizes r.history.quota (empty_set r.history.threads) r.history.calls r.order
-  pub leaves : (set_left (empty_set r.history.threads) (map (answered r.history.calls) r.order)).keys ≡ r.keys
+  pub leaves : keys_left r.history.threads r.history.calls r.order ≡ r.keys
   pub rising : IsStrictlyIncreasing r.keys

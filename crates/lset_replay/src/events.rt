@@ -1,4 +1,4 @@
-ghost use Rattle.std.specs.Prelude.{◌≡◌, ◌++◌, ◌≤◌, length, replicate, IfOk, OnOk};
+ghost use Rattle.std.specs.Prelude.{◌≡◌, ◌++◌, ◌+◌, ◌<◌, ◌^◌, length, replicate, IfOk, OnOk};
 ghost use Rattle.lset_schedule.specs.Plan.{IsSchedule, view};
 ghost use Rattle.lset_replay.specs.Events.{events_of, events_of_line};
 
@@ -43,7 +43,7 @@ fn push_events(events: &mut Vec<LineEvent>, number: u64, line: Line) -> Result<(
 pub(crate) fn events_of(alloc: Global, schedule: &Schedule) -> Result<Vec<LineEvent>, AllocError>
     requires { IsSchedule (view schedule.now) }
     ensures all { IfOk result (λ v. v.items ≡ events_of (view schedule.now)) }
-    ensures few { IfOk result (λ v. length v.items ≤ 10000) }
+    ensures few { IfOk result (λ v. length v.items + 1 < 2 ^ 32) }
 {
     let mut events = Vec::new(alloc);
     for (index, line) in schedule.lines.iter().enumerate() {

@@ -16,7 +16,7 @@ mod writing;
 pub use fault::ReplayFault;
 pub use reading::{read_report, reports_read_back};
 pub use replaying::replay;
-pub use report::Report;
+pub use report::{MOST_CALLS, MOST_KEYS, MOST_PLACES, Report};
 pub use report_fault::{ReportCause, ReportFault};
 pub use writing::write_report;
 

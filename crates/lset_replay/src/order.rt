@@ -1,4 +1,4 @@
-ghost use Rattle.std.specs.Prelude.{◌≡◌, ℕ, ◌+◌, ◌<◌, ◌≤◌, ◌++◌, length, replicate, [], IfOk, OnOk};
+ghost use Rattle.std.specs.Prelude.{◌≡◌, ℕ, ◌+◌, ◌<◌, ◌^◌, ◌++◌, length, replicate, [], IfOk, OnOk};
 ghost use Rattle.std.specs.List.{flat_map};
 ghost use Rattle.lset_replay.specs.Blocks.{placed_at, blocks_upto, StandUpTo, items_of, block_in};
 
@@ -8,7 +8,7 @@ use std::alloc::{AllocError, Global};
 
 /// No call yet at any moment up to `last`.
 fn no_blocks(alloc: Global, last: u32) -> Result<Vec<Vec<Placed>>, AllocError>
-    requires { last ≤ 10000 }
+    requires { last + 1 < 2 ^ 32 }
     ensures { IfOk result (λ v. items_of v.items ≡ replicate (last + 1) []) }
 {
     let mut blocks = Vec::new(alloc);
@@ -24,7 +24,7 @@ fn put(
     places: &[Option<Place>],
     change: bool,
 ) -> Result<(), AllocError>
-    requires few { length places.now ≤ 10000 }
+    requires few { length places.now < 2 ^ 32 }
     requires inside { (last : ℕ) × (last < length (items_of blocks.old.items)) × StandUpTo last places.now }
     ensures count { OnOk result (length (items_of blocks.new.items) ≡ length (items_of blocks.old.items)) }
     ensures added { OnOk result ((m : ℕ) → m < length (items_of blocks.old.items)
@@ -61,8 +61,8 @@ pub fn in_order(
     places: &[Option<Place>],
     last: u32,
 ) -> Result<Vec<Placed>, AllocError>
-    requires few { length places.now ≤ 10000 }
-    requires few_moments { last ≤ 10000 }
+    requires few { length places.now < 2 ^ 32 }
+    requires few_moments { last + 1 < 2 ^ 32 }
     requires inside { StandUpTo last places.now }
     ensures { IfOk result (λ v. v.items ≡ blocks_upto places.now last) }
 {

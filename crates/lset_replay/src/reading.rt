@@ -20,7 +20,7 @@ mod calls;
 mod lines;
 
 use crate::report_fault::{ReportCause, ReportFault};
-use crate::{Report, TITLE};
+use crate::{MOST_CALLS, MOST_KEYS, MOST_PLACES, Report, TITLE};
 use calls::CallsSoFar;
 use lines::{Line, Section, line_of_report};
 use lset_history::History;
@@ -33,15 +33,6 @@ const LAST_OF_HEADER: u64 = 4;
 
 /// The first line after the header.
 const FIRST_LINE: u64 = 5;
-
-/// The most `call` lines of a report.
-const MOST_CALLS: usize = 10_000;
-
-/// The most `place` lines of a report.
-const MOST_PLACES: usize = 10_000;
-
-/// The most `key` lines of a report.
-const MOST_KEYS: usize = 1_048_576;
 
 /// What a text has told up to some line.
 #[derive(Drop)]

@@ -1,21 +1,20 @@
-ghost use Rattle.std.specs.Prelude.{◌≡◌, ◌≤◌, length, IfOk};
+ghost use Rattle.std.specs.Prelude.{◌≡◌, ◌+◌, ◌<◌, ◌^◌, length, IfOk};
 ghost use Rattle.lset_schedule.specs.Plan.{IsSchedule, view};
 ghost use Rattle.lset_replay.specs.Follows.{HasFollowed, FollowsAll};
-ghost use Rattle.lset_replay.specs.Reports.{table_of, Replays, IsExplained, fault_at};
+ghost use Rattle.lset_lists.specs.Tables.{table_of};
+ghost use Rattle.lset_replay.specs.Reports.{Replays, IsExplained, fault_at};
 ghost use Rattle.lset_replay.specs.Reports as report;
 
 use crate::events::{LineEvent, events_of};
 use crate::order::in_order;
 use crate::recorder::Recorder;
 use crate::{ReplayFault, Report};
-use lset_coarse::CoarseList;
-use lset_fine::FineList;
-use lset_lazy::LazyList;
-use lset_lock_free::LockFreeList;
-use lset_optimistic::OptimisticList;
+use lset_headline::runs_are_linearizable;
+use lset_lists::{List, Task, on_list};
 use lset_schedule::Schedule;
+use lset_steps::laws::has_account;
 use lset_steps::{Machine, StepFault, World};
-use lset_words::{Kind, layout};
+use lset_words::layout;
 use std::alloc::Global;
 
 fn refusal(cause: StepFault, line: u64) -> ReplayFault
@@ -33,10 +32,11 @@ fn follow_all<M: Machine>(
     recorder: &mut Recorder,
     events: &[LineEvent],
 ) -> Result<(), ReplayFault>
-    requires few { length events.now ≤ 10000 }
+    requires few { length events.now + 1 < 2 ^ 32 }
     requires start { HasFollowed M.table world.old.threads world.old.quota events.now 0 world.old recorder.old }
     ensures { FollowsAll M.table world.old.threads world.old.quota events.now result world.new recorder.new }
 {
+    has_account::<M>();
     for (index, next) in events.iter().enumerate() {
         match world.step(next.event) {
             Ok(told) => recorder.follow(next.event, told, index as u32 + 1)?,
@@ -52,6 +52,8 @@ fn replay_on<M: Machine>(alloc: Global, schedule: &Schedule) -> Result<Report, R
     ensures replays { Replays M.table (view schedule.now) result }
     ensures explained { IfOk result (λ r. IsExplained (report.view r)) }
 {
+    has_account::<M>();
+    runs_are_linearizable::<M>();
     let Ok(layout) = layout(schedule.threads, schedule.quota) else {
         unreachable!();
     };
@@ -69,6 +71,26 @@ fn replay_on<M: Machine>(alloc: Global, schedule: &Schedule) -> Result<Report, R
     })
 }
 
+/// The replay of a schedule, whatever its list.
+#[derive(Clone, Copy)]
+struct Replaying<'a> {
+    alloc: Global,
+    schedule: &'a Schedule,
+}
+
+impl Task for Replaying<'_> {
+    type Out = Result<Report, ReplayFault>;
+
+    ghost may = { λ task kind. IsSchedule (view task.schedule.now) };
+
+    ghost done = { λ task table result. Replays table (view task.schedule.now) result
+        × IfOk result (λ r. IsExplained (report.view r)) };
+
+    fn run<M: List>(self) -> Result<Report, ReplayFault> {
+        replay_on::<M>(self.alloc, self.schedule)
+    }
+}
+
 /// Replays a schedule on the list of its kind, one event after another. The schedule is within its limits, as
 /// what `read_schedule` gives: 1 to 64 threads, a quota of 0 to 16,384, and at most 10,000 events.
 ///
@@ -82,11 +104,5 @@ pub fn replay(alloc: Global, schedule: &Schedule) -> Result<Report, ReplayFault>
     ensures replays { Replays (table_of schedule.now.kind) (view schedule.now) result }
     ensures explained { IfOk result (λ r. IsExplained (report.view r)) }
 {
-    match schedule.kind {
-        Kind::Coarse => replay_on::<CoarseList>(alloc, schedule),
-        Kind::Fine => replay_on::<FineList>(alloc, schedule),
-        Kind::Optimistic => replay_on::<OptimisticList>(alloc, schedule),
-        Kind::Lazy => replay_on::<LazyList>(alloc, schedule),
-        Kind::LockFree => replay_on::<LockFreeList>(alloc, schedule),
-    }
+    on_list(schedule.kind, Replaying { alloc, schedule })
 }

@@ -19,8 +19,8 @@ pub enum ReportCause {
     Line,
     /// A moment is no number from 1 to 4294967295, or another number is none up to 4294967295.
     Number,
-    /// The lines of its section up to and with this one are more than 10,000 calls, 10,000 places or
-    /// 1,048,576 keys.
+    /// The lines of its section up to and with this one are more than `MOST_CALLS` calls, `MOST_PLACES` places or
+    /// `MOST_KEYS` keys.
     TooMany,
     /// The call has not the next number, or does not go on with the history of the calls above.
     History,

@@ -17,5 +17,4 @@ returns-clause-few c =
     past) ∙ c.loop-index.invariant in
     let count : length c.loop-index.events.items ≡ sum_by event_count c.args.schedule.now.lines.items =
     ap (λ (xs : List LineEvent). length xs) all ∙ length_of_events 5 c.args.schedule.now.lines.items in
-    let few : sum_by event_count c.args.schedule.now.lines.items ≤ 10000 = c.requires.few in
-    omega arith
+    omega (arith, c.requires.few)

@@ -15,7 +15,7 @@ no_event = record { line = 0; event = event.Begin 0 (call.Add (record { 0 = 0 })
 pub follow-requires : goal.follow-requires
 follow-requires g c = subst (λ m. MayFollow c.loop-index.recorder m
     (get_or c.args.events.now c.loop-index.index no_event).event) (sym (add-one c.loop-index.index))
-    (ready g.M.Machine.table g.met.M.Machine.lawful c.args.world.now.threads c.args.world.now.quota c.args.events.now
+    (ready g.M.Machine.table c.has_account.ensures c.args.world.now.threads c.args.world.now.quota c.args.events.now
     c.loop-index.index c.loop-index.world c.loop-index.recorder
     c.loop-index.invariant (get_or c.args.events.now c.loop-index.index no_event).event
     (event_is c.args.events.now c.loop-index.index no_event c.loop-index-test.true) c.in-Ok.ensures.0)
@@ -24,7 +24,7 @@ pub loop-index-preserved : goal.loop-index-preserved
 loop-index-preserved g c = subst (λ m. HasFollowed g.M.Machine.table c.args.world.now.threads c.args.world.now.quota
     c.args.events.now m c.step.new.self c.follow.new.self)
     (sym (add-one c.loop-index.index))
-    (followed g.M.Machine.table g.met.M.Machine.lawful c.args.world.now.threads c.args.world.now.quota c.args.events.now
+    (followed g.M.Machine.table c.has_account.ensures c.args.world.now.threads c.args.world.now.quota c.args.events.now
     c.loop-index.index c.loop-index.world c.loop-index.recorder
     c.loop-index.invariant (get_or c.args.events.now c.loop-index.index no_event).event
     (event_is c.args.events.now c.loop-index.index no_event c.loop-index-test.true)

@@ -1,4 +1,4 @@
-use Rattle.std.proofs.Common.{◌≡◌, ◌≤◌, List, Option, length, sym, ap, subst, ◌∙◌, arith}
+use Rattle.std.proofs.Common.{◌≡◌, ◌+◌, ◌<◌, ◌≤◌, ◌^◌, List, Option, length, sym, ap, subst, ◌∙◌, arith}
 use Rattle.lset_steps.specs.Worlds.{WorldState}
 use Rattle.lset_words.specs.Words.{Sizes}
 use Rattle.lset_schedule.specs.Plan.{view}
@@ -11,10 +11,10 @@ use Rattle.lset_replay.proofs.replaying.replay_on.Goals as goal
 pub in_order-requires-clause-few : goal.in_order-requires-clause-few
 in_order-requires-clause-few g c =
     let places : length c.follow_all.new.recorder.places.items ≤ length c.deref.result.now =
-    few_places g.M.Machine.table g.met.M.Machine.lawful c.in_ok-world.world.threads c.in_ok-world.world.quota
+    few_places g.M.Machine.table c.has_account.ensures c.in_ok-world.world.threads c.in_ok-world.world.quota
     c.deref.result.now (length c.deref.result.now)
     c.follow_all.new.world c.follow_all.new.recorder c.in_ok-follow_all.ensures in
-    let few : length c.in_ok-events.events.items ≤ 10000 = c.in_ok-events.ensures.few in
+    let few : length c.in_ok-events.events.items + 1 < 2 ^ 32 = c.in_ok-events.ensures.few in
     let events : length c.deref.result.now ≡ length c.in_ok-events.events.items =
     ap (λ (xs : List LineEvent). length xs) c.deref.ensures.value in
     let same : length c.deref-2.result.now ≡ length c.follow_all.new.recorder.places.items =
@@ -27,7 +27,7 @@ in_order-requires-clause-inside g c =
     ap (λ (xs : List LineEvent). length xs) c.deref.ensures.value in
     subst (λ z. StandUpTo z c.deref-2.result.now) (events ∙ sym c.in_ok-events.events.ok.0 ∙ sym c.len.ensures)
     (subst (λ xs. StandUpTo (length c.deref.result.now) xs) (sym c.deref-2.ensures.value)
-    (places_upto g.M.Machine.table g.met.M.Machine.lawful c.in_ok-world.world.threads c.in_ok-world.world.quota
+    (places_upto g.M.Machine.table c.has_account.ensures c.in_ok-world.world.threads c.in_ok-world.world.quota
     c.deref.result.now (length c.deref.result.now)
     c.follow_all.new.world c.follow_all.new.recorder c.in_ok-follow_all.ensures))
 
@@ -36,7 +36,7 @@ returns-clause-replays g c =
     let events : length c.deref.result.now ≡ length c.in_ok-events.events.items =
     ap (λ (xs : List LineEvent). length xs) c.deref.ensures.value in
     let last : c.len.result ≡ length c.deref.result.now = c.len.ensures ∙ c.in_ok-events.events.ok.0 ∙ sym events in
-    replay_is g.M.Machine.table g.met.M.Machine.lawful (view c.args.schedule.now) c.in_ok-world.world.threads
+    replay_is g.M.Machine.table c.has_account.ensures (view c.args.schedule.now) c.in_ok-world.world.threads
     c.in_ok-world.world.quota c.deref.result.now
     c.follow_all.new.world c.follow_all.new.recorder c.in_ok-order.order.items c.in_ok-keys.keys.items c.in_ok-follow_all.ensures
     (ap (λ (w : WorldState). w.threads) c.in_ok-world.ensures ∙ ap (λ (s : Sizes). s.threads) c.in-Ok.ensures.sizes)
@@ -47,7 +47,7 @@ returns-clause-replays g c =
     c.in_ok-keys.ensures
 
 pub returns-clause-explained : goal.returns-clause-explained
-returns-clause-explained g c = explained_is g.M.Machine.table g.met.M.Machine.lawful (view c.args.schedule.now)
+returns-clause-explained g c = explained_is g.M.Machine.table c.runs_are_linearizable.ensures (view c.args.schedule.now)
     (record {
       kind = c.args.schedule.now.kind;
       history = c.follow_all.new.recorder.history;

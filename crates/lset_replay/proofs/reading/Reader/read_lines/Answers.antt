@@ -19,7 +19,7 @@ returns-in_err-read_line-clause-told c =
     rw (p.1, p.2)
     (stops c.loop-rest.number (length (cut_at 10 c.args.text.now)) c.loop-rest.self.section (so_far c.loop-rest.self)
     c.loop-rest.rest.now c.in-Some.first.now c.in-Some.after.now c.in_err-read_line.field-0.0 _ c.in-Some.ensures.parts
-    c.in_err-read_line.ensures.told c.loop-rest.invariant.so_far c.loop-rest.invariant.parts_left)
+    c.in_err-read_line.ensures.told c.loop-rest.invariant.so_far c.loop-rest.invariant.parts_left (omega (arith, c.loop-rest.invariant.counted)))
 
 pub loop-rest-preserved : goal.loop-rest-preserved
 loop-rest-preserved c =
@@ -29,6 +29,7 @@ loop-rest-preserved c =
           c.in-Some.after.now told.0 _ c.in-Some.ensures.parts told.1 told.2 told.3 c.loop-rest.invariant.so_far;
       holds = c.in_ok-read_line.ensures.holds;
       header = c.in_ok-read_line.ensures.header ∙ c.loop-rest.invariant.header;
+      counted = omega arith;
       lines_left = omega (arith, c.loop-rest.invariant.lines_left, c.in-Some.ensures.shorter);
       parts_left = omega (arith, c.loop-rest.invariant.parts_left, ap length c.in-Some.ensures.parts);
     }

@@ -10,6 +10,7 @@ invariant-loop-rest l = record {
       ≡ report_from 5 l.initial.self.section (so_far l.initial.self) (cut_at 10 l.text);
   holds : Holds l.self;
   header : l.self.header ≡ l.initial.self.header;
+  counted : 5 ≤ l.number;
   lines_left : l.number + length l.rest ≤ 5 + length l.text;
   parts_left : l.number + length (cut_at 10 l.rest) ≡ 5 + length (cut_at 10 l.text);
 }

@@ -1,0 +1,73 @@
+//! The five lists in one place: which machine stands for which kind. What is done on the list of a kind that is known
+//! only as the program runs is a `Task`, and goes through `on_list`.
+#![tactic(auto)]
+
+ghost use Rattle.std.specs.Prelude.{◌≡◌};
+ghost use Rattle.lset_words.specs.declared.Kind.{Kind};
+ghost use Rattle.lset_steps.specs.Steps.{Table};
+ghost use Rattle.lset_lists.specs.Tables.{table_of};
+
+use lset_coarse::CoarseList;
+use lset_fine::FineList;
+use lset_lazy::LazyList;
+use lset_lock_free::LockFreeList;
+use lset_optimistic::OptimisticList;
+use lset_steps::Machine;
+use lset_words::Kind;
+
+/// One of the five lists: its machine, whose kind and table belong together.
+pub trait List: Machine {
+    /// The law that ties them: the table of its kind is its own. The call does nothing.
+    fn has_the_table_of_its_kind()
+        ensures { table_of Self.KIND ≡ Self.table };
+}
+
+impl List for CoarseList {
+    fn has_the_table_of_its_kind() {}
+}
+
+impl List for FineList {
+    fn has_the_table_of_its_kind() {}
+}
+
+impl List for OptimisticList {
+    fn has_the_table_of_its_kind() {}
+}
+
+impl List for LazyList {
+    fn has_the_table_of_its_kind() {}
+}
+
+impl List for LockFreeList {
+    fn has_the_table_of_its_kind() {}
+}
+
+/// Something that can be done on any list.
+pub trait Task {
+    type Out;
+
+    /// When it can be done on the list of a kind.
+    ghost may: { Self → Kind → Type 0 };
+
+    /// What is done on a machine with this table.
+    ghost done: { Self → Table → Self.Out → Type 0 };
+
+    /// Does it on the list `M`.
+    fn run<M: List>(self) -> Self::Out
+        requires { may self M.KIND }
+        ensures { done self M.table result };
+}
+
+/// Does a task on the list of a kind.
+pub fn on_list<T: Task + Drop>(kind: Kind, task: T) -> T::Out
+    requires { T.may task kind }
+    ensures { T.done task (table_of kind) result }
+{
+    match kind {
+        Kind::Coarse => task.run::<CoarseList>(),
+        Kind::Fine => task.run::<FineList>(),
+        Kind::Optimistic => task.run::<OptimisticList>(),
+        Kind::Lazy => task.run::<LazyList>(),
+        Kind::LockFree => task.run::<LockFreeList>(),
+    }
+}
