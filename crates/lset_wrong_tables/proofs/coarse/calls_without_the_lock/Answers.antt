@@ -1,0 +1,15 @@
+use Rattle.std.specs.Prelude.{None, refl}
+use Rattle.lset_wrong_tables.specs.Findings.{OtherKeyIsLost}
+use Rattle.lset_wrong_tables.specs.WrongCoarse.{goes_without_lock, two_adds}
+use Rattle.lset_wrong_tables.proofs.Computed.{other_is_lost}
+use Rattle.lset_wrong_tables.proofs.Refuted.{by_other_key}
+use Rattle.lset_wrong_tables.proofs.coarse.calls_without_the_lock.Goals as goal
+
+lost : OtherKeyIsLost goes_without_lock two_adds 13 0 5 3
+lost = other_is_lost goes_without_lock two_adds 13 0 5 3 3 None refl refl refl refl refl refl refl
+
+pub returns-clause-loses : goal.returns-clause-loses
+returns-clause-loses c = lost
+
+pub returns-clause-named_change : goal.returns-clause-named_change
+returns-clause-named_change c = by_other_key goes_without_lock two_adds 13 0 5 3 lost

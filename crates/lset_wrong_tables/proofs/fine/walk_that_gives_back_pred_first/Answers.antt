@@ -1,0 +1,24 @@
+use Rattle.std.specs.Prelude.{None, refl}
+use Rattle.lset_wrong_tables.specs.Findings.{UnlinkedNodeChanges, AddedKeyIsLost}
+use Rattle.lset_wrong_tables.specs.WrongFine.{gives_back_pred_first, removed_behind_a_walk}
+use Rattle.lset_wrong_tables.proofs.Computed.{link_changes, key_is_lost}
+use Rattle.lset_wrong_tables.proofs.Refuted.{by_link, by_lost_key}
+use Rattle.lset_wrong_tables.proofs.fine.walk_that_gives_back_pred_first.Goals as goal
+
+changed : UnlinkedNodeChanges gives_back_pred_first removed_behind_a_walk 29 2
+changed = link_changes gives_back_pred_first removed_behind_a_walk 29 0 0 refl refl refl refl
+
+lost : AddedKeyIsLost gives_back_pred_first removed_behind_a_walk 29 1 5
+lost = key_is_lost gives_back_pred_first removed_behind_a_walk 29 1 5 None refl refl refl refl
+
+pub returns-clause-changes : goal.returns-clause-changes
+returns-clause-changes c = changed
+
+pub returns-clause-loses : goal.returns-clause-loses
+returns-clause-loses c = lost
+
+pub returns-clause-unlinked_stays : goal.returns-clause-unlinked_stays
+returns-clause-unlinked_stays c = by_link gives_back_pred_first removed_behind_a_walk 29 2 changed
+
+pub returns-clause-named_change : goal.returns-clause-named_change
+returns-clause-named_change c = by_lost_key gives_back_pred_first removed_behind_a_walk 29 1 5 lost

@@ -1,0 +1,17 @@
+use Rattle.std.specs.Prelude.{refl}
+use Rattle.lset_words.specs.declared.Reply.TheVariants.{Full}
+use Rattle.lset_wrong_tables.specs.Schedules.{add}
+use Rattle.lset_wrong_tables.specs.Findings.{ReplyNeverFits}
+use Rattle.lset_wrong_tables.specs.WrongLockFree.{full_too_soon, one_add}
+use Rattle.lset_wrong_tables.proofs.Computed.{reply_fits_never}
+use Rattle.lset_wrong_tables.proofs.Refuted.{by_reply}
+use Rattle.lset_wrong_tables.proofs.lock_free.full_before_the_quota.Goals as goal
+
+unfit : ReplyNeverFits full_too_soon one_add 3 0 (add 5) Full
+unfit = reply_fits_never full_too_soon one_add 3 0 1 3 (add 5) Full refl refl refl refl refl refl refl refl
+
+pub returns-clause-answers : goal.returns-clause-answers
+returns-clause-answers c = unfit
+
+pub returns-clause-replies_fit : goal.returns-clause-replies_fit
+returns-clause-replies_fit c = by_reply full_too_soon one_add 3 0 (add 5) Full unfit

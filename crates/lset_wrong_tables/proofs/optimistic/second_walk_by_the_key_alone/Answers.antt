@@ -1,0 +1,24 @@
+use Rattle.std.specs.Prelude.{None, refl}
+use Rattle.lset_wrong_tables.specs.Findings.{UnlinkedNodeChanges, AddedKeyIsLost}
+use Rattle.lset_wrong_tables.specs.WrongOptimistic.{arrives_by_key, same_key_again}
+use Rattle.lset_wrong_tables.proofs.Computed.{link_changes, key_is_lost}
+use Rattle.lset_wrong_tables.proofs.Refuted.{by_link, by_lost_key}
+use Rattle.lset_wrong_tables.proofs.optimistic.second_walk_by_the_key_alone.Goals as goal
+
+changed : UnlinkedNodeChanges arrives_by_key same_key_again 44 4
+changed = link_changes arrives_by_key same_key_again 44 1 0 refl refl refl refl
+
+lost : AddedKeyIsLost arrives_by_key same_key_again 44 0 5
+lost = key_is_lost arrives_by_key same_key_again 44 0 5 None refl refl refl refl
+
+pub returns-clause-changes : goal.returns-clause-changes
+returns-clause-changes c = changed
+
+pub returns-clause-loses : goal.returns-clause-loses
+returns-clause-loses c = lost
+
+pub returns-clause-unlinked_stays : goal.returns-clause-unlinked_stays
+returns-clause-unlinked_stays c = by_link arrives_by_key same_key_again 44 4 changed
+
+pub returns-clause-named_change : goal.returns-clause-named_change
+returns-clause-named_change c = by_lost_key arrives_by_key same_key_again 44 0 5 lost

@@ -1,0 +1,24 @@
+use Rattle.std.specs.Prelude.{None, refl}
+use Rattle.lset_wrong_tables.specs.Findings.{UnlinkedNodeChanges, AddedKeyIsLost}
+use Rattle.lset_wrong_tables.specs.WrongOptimistic.{validates_by_the_link, unlinked_before_it_is_locked}
+use Rattle.lset_wrong_tables.proofs.Computed.{link_changes, key_is_lost}
+use Rattle.lset_wrong_tables.proofs.Refuted.{by_link, by_lost_key}
+use Rattle.lset_wrong_tables.proofs.optimistic.validation_by_the_link_alone.Goals as goal
+
+changed : UnlinkedNodeChanges validates_by_the_link unlinked_before_it_is_locked 31 3
+changed = link_changes validates_by_the_link unlinked_before_it_is_locked 31 1 0 refl refl refl refl
+
+lost : AddedKeyIsLost validates_by_the_link unlinked_before_it_is_locked 31 0 5
+lost = key_is_lost validates_by_the_link unlinked_before_it_is_locked 31 0 5 None refl refl refl refl
+
+pub returns-clause-changes : goal.returns-clause-changes
+returns-clause-changes c = changed
+
+pub returns-clause-loses : goal.returns-clause-loses
+returns-clause-loses c = lost
+
+pub returns-clause-unlinked_stays : goal.returns-clause-unlinked_stays
+returns-clause-unlinked_stays c = by_link validates_by_the_link unlinked_before_it_is_locked 31 3 changed
+
+pub returns-clause-named_change : goal.returns-clause-named_change
+returns-clause-named_change c = by_lost_key validates_by_the_link unlinked_before_it_is_locked 31 0 5 lost
