@@ -62,7 +62,7 @@ fn replay_on<M: Machine>(alloc: Global, schedule: &Schedule) -> Result<Report, R
     let mut recorder = Recorder::new(alloc, schedule.threads, schedule.quota)?;
     follow_all(&mut world, &mut recorder, &events)?;
     let order = in_order(alloc, &recorder.places, events.len() as u32)?;
-    let keys = world.content(alloc)?;
+    let keys = world.content()?;
     Ok(Report {
         kind: schedule.kind,
         history: recorder.history,

@@ -28,7 +28,7 @@ fn an_add_changes_the_set_one_step_before_its_answer(rt: HostRuntime) -> Result<
     let changing = world.step(Event::Go(0))?;
     assert_eq!(rt; changing.change, Some((Key(5), true)));
     assert_eq!(rt; changing.answer, None);
-    assert_eq!(rt; world.content(rt.alloc())?.as_slice(), [5].as_slice());
+    assert_eq!(rt; world.content()?.as_slice(), [5].as_slice());
     let answering = world.step(Event::Go(0))?;
     assert_eq!(rt; answering.change, None);
     assert_eq!(rt; answering.answer, Some(Reply::True));
@@ -50,7 +50,7 @@ fn the_least_and_the_greatest_key_are_keys_like_others(rt: HostRuntime) -> Resul
     for (call, steps) in calls {
         assert_eq!(rt; make(&mut world, call)?, Some((Reply::True, steps)));
     }
-    assert!(rt; world.content(rt.alloc())?.is_empty());
+    assert!(rt; world.content()?.is_empty());
     Ok(())
 }
 
@@ -73,6 +73,6 @@ fn a_refused_event_changes_nothing(rt: HostRuntime) -> Result<(), Fail> {
     );
     assert!(rt; world.busy(0));
     assert_eq!(rt; world.word(0), 1);
-    assert!(rt; world.content(rt.alloc())?.is_empty());
+    assert!(rt; world.content()?.is_empty());
     Ok(())
 }

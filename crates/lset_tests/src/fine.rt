@@ -28,7 +28,7 @@ fn a_walk_follows_another_hand_over_hand(rt: HostRuntime) -> Result<(), Fail> {
     for (event, times, answer) in lines {
         assert_eq!(rt; make(&mut world, event, times)?, answer, "{event:?}");
     }
-    assert_eq!(rt; world.content(rt.alloc())?.as_slice(), [5].as_slice());
+    assert_eq!(rt; world.content()?.as_slice(), [5].as_slice());
     Ok(())
 }
 
@@ -52,7 +52,7 @@ fn the_least_and_the_greatest_key_are_keys_like_others(rt: HostRuntime) -> Resul
             "{call:?}"
         );
     }
-    assert!(rt; world.content(rt.alloc())?.is_empty());
+    assert!(rt; world.content()?.is_empty());
     Ok(())
 }
 

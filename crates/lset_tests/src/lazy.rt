@@ -25,7 +25,7 @@ fn a_marked_node_is_no_part_of_the_set(rt: HostRuntime) -> Result<(), Fail> {
         assert_eq!(rt; make(&mut world, event, times)?, answer, "{event:?}");
     }
     assert!(rt; world.busy(0));
-    assert!(rt; world.content(rt.alloc())?.is_empty());
+    assert!(rt; world.content()?.is_empty());
     Ok(())
 }
 
@@ -45,7 +45,7 @@ fn the_second_of_two_removes_walks_again(rt: HostRuntime) -> Result<(), Fail> {
     for (event, times, answer) in lines {
         assert_eq!(rt; make(&mut world, event, times)?, answer, "{event:?}");
     }
-    assert!(rt; world.content(rt.alloc())?.is_empty());
+    assert!(rt; world.content()?.is_empty());
     Ok(())
 }
 
@@ -67,7 +67,7 @@ fn a_contains_may_fit_between_its_steps_alone(rt: HostRuntime) -> Result<(), Fai
     for (event, times, answer) in lines {
         assert_eq!(rt; make(&mut world, event, times)?, answer, "{event:?}");
     }
-    assert_eq!(rt; world.content(rt.alloc())?.as_slice(), [5].as_slice());
+    assert_eq!(rt; world.content()?.as_slice(), [5].as_slice());
     assert_eq!(rt; LazyList::bound(&layout(2, 4)?), 18);
     Ok(())
 }
@@ -92,6 +92,6 @@ fn the_least_and_the_greatest_key_are_keys_like_others(rt: HostRuntime) -> Resul
             "{call:?}"
         );
     }
-    assert!(rt; world.content(rt.alloc())?.is_empty());
+    assert!(rt; world.content()?.is_empty());
     Ok(())
 }

@@ -32,7 +32,7 @@ fn the_second_of_two_removes_finds_the_node_marked(rt: HostRuntime) -> Result<()
     for (event, times, answer) in lines {
         assert_eq!(rt; make(&mut world, event, times)?, answer, "{event:?}");
     }
-    assert!(rt; world.content(rt.alloc())?.is_empty());
+    assert!(rt; world.content()?.is_empty());
     Ok(())
 }
 
@@ -52,7 +52,7 @@ fn an_add_behind_a_marked_node_takes_it_out_and_tries_again(rt: HostRuntime) -> 
     for (event, times, answer) in lines {
         assert_eq!(rt; make(&mut world, event, times)?, answer, "{event:?}");
     }
-    assert_eq!(rt; world.content(rt.alloc())?.as_slice(), [5].as_slice());
+    assert_eq!(rt; world.content()?.as_slice(), [5].as_slice());
     Ok(())
 }
 
@@ -93,7 +93,7 @@ fn a_contains_may_fit_between_its_steps_alone(rt: HostRuntime) -> Result<(), Fai
     for (event, times, answer) in lines {
         assert_eq!(rt; make(&mut world, event, times)?, answer, "{event:?}");
     }
-    assert_eq!(rt; world.content(rt.alloc())?.as_slice(), [5].as_slice());
+    assert_eq!(rt; world.content()?.as_slice(), [5].as_slice());
     assert_eq!(rt; LockFreeList::bound(&layout(2, 4)?), 18);
     Ok(())
 }
@@ -118,6 +118,6 @@ fn the_least_and_the_greatest_key_are_keys_like_others(rt: HostRuntime) -> Resul
             "{call:?}"
         );
     }
-    assert!(rt; world.content(rt.alloc())?.is_empty());
+    assert!(rt; world.content()?.is_empty());
     Ok(())
 }

@@ -72,7 +72,7 @@ fn a_failed_try_leaves_the_thread_where_it_was(rt: HostRuntime) -> Result<(), Fa
     for (event, times, answer) in lines {
         assert_eq!(rt; make(&mut world, event, times)?, answer, "{event:?}");
     }
-    assert_eq!(rt; world.content(rt.alloc())?.as_slice(), [3, 5].as_slice());
+    assert_eq!(rt; world.content()?.as_slice(), [3, 5].as_slice());
     Ok(())
 }
 
