@@ -12,7 +12,7 @@ use Rattle.lset_words.specs.declared.history.CallRecord.{CallRecord}
 use Rattle.lset_words.specs.declared.history.Placed.{Placed}
 use Rattle.lset_words.specs.SequentialSet.{SetState, reply_to, after_call, IsLegal}
 use Rattle.lset_words.specs.History.{answered, call_numbered}
-use Rattle.lset_history.specs.Faults.{HasWrongReply, Passes, place_at, placed_call, left_by}
+use Rattle.lset_history.specs.Faults.{HasWrongReply, Passes, place_at, placed_call, set_left_by}
 use Rattle.lset_history.specs.Checks.{stands, in_tree, HoldsCalls, HasReply, HasOtherReply, HasReplies, after_order, after_reply}
 use Rattle.lset_history.specs.Oracle.{OracleValue}
 use Rattle.lset_history.proofs.KeySets.{same_test}
@@ -61,7 +61,7 @@ holds_more old new order i inside holds after q =
 -- the reply of the set after the earlier places
 abbrev GivesReply : ℕ → List CallRecord → List Placed → ℕ → SetState → Type 0
 GivesReply quota calls order i s =
-    reply_to quota (left_by s calls (take i order)) (placed_call calls order i).thread (placed_call calls order i).call
+    reply_to quota (set_left_by s calls (take i order)) (placed_call calls order i).thread (placed_call calls order i).call
     ≡ (place_at order i).reply
 
 -- the set after one more place
@@ -70,13 +70,13 @@ after_place calls order i s = after_call s (placed_call calls order i).thread (p
     (place_at order i).reply
 
 left_suc : (calls : List CallRecord) (order : List Placed) (i : ℕ) (s : SetState) → i < length order
-    → left_by s calls (take (suc i) order) ≡ after_place calls order i (left_by s calls (take i order))
+    → set_left_by s calls (take (suc i) order) ≡ after_place calls order i (set_left_by s calls (take i order))
 left_suc calls [] i s inside = absurd (omega arith)
 left_suc calls (p ∷ ps) zero s inside = refl
 left_suc calls (p ∷ ps) (suc i) s inside = left_suc calls ps i (after_place calls (p ∷ ps) 0 s) (omega arith)
 
 pub left_more : (calls : List CallRecord) (order : List Placed) (i : ℕ) (s : SetState) → i < length order
-    → left_by s calls (take (i + 1) order) ≡ after_place calls order i (left_by s calls (take i order))
+    → set_left_by s calls (take (i + 1) order) ≡ after_place calls order i (set_left_by s calls (take i order))
 left_more calls order i s inside = rw add-one (left_suc calls order i s inside)
 
 legal_suc : (quota : ℕ) (calls : List CallRecord) (order : List Placed) (i : ℕ) (s : SetState) → i < length order
@@ -159,7 +159,7 @@ passes_replies o calls order h place low (inr w) = w (legal_at o.quota calls ord
 abbrev IsWrong : ℕ → SetState → List CallRecord → List Placed → Placed → Type 0
 IsWrong quota s calls front p =
     IsSomeAnd (call_numbered calls p.call).ended (λ (end : ℕ × Reply). end.1 ≢ p.reply)
-    ⊎ (reply_to quota (left_by s calls front) (call_numbered calls p.call).thread (call_numbered calls p.call).call ≢ p.reply)
+    ⊎ (reply_to quota (set_left_by s calls front) (call_numbered calls p.call).thread (call_numbered calls p.call).call ≢ p.reply)
 
 wrong_in_front : (quota : ℕ) (s : SetState) (calls : List CallRecord) (order : List Placed) (i k : ℕ) → k < i
     → HasWrongReply quota s calls order k → HasWrongReply quota s calls (take i order) k

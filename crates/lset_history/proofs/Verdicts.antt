@@ -16,7 +16,7 @@ use Rattle.lset_history.specs.History.{HistoryValue}
 use Rattle.lset_history.specs.Oracle.{OracleValue}
 use Rattle.lset_history.specs.declared.fault.OrderFault.{OrderFault}
 use Rattle.lset_history.specs.declared.fault.OrderFault.TheVariants.{Unknown, Twice, Missing, WrongReply, TooEarly, WrongSet, Memory}
-use Rattle.lset_history.specs.Faults.{Explains, IsFault, Passes, RefusesFirst, MissesNone, MissesFirst, IsMissing, IsUnknown, IsTwice, HasWrongReply, IsTooEarly, place_at, left_by}
+use Rattle.lset_history.specs.Faults.{Explains, IsFault, Passes, RefusesFirst, MissesNone, MissesFirst, IsMissing, IsUnknown, IsTwice, HasWrongReply, IsTooEarly, place_at, set_left_by}
 use Rattle.lset_history.specs.Checks.{HasKnownCalls, stands, HoldsCalls, IsLeftOut, HasReplies, after_order}
 use Rattle.lset_history.proofs.Histories.{IsCall, calls_of}
 use Rattle.lset_history.proofs.Places.{stands_earlier, stands_nowhere, legal_at, passes_replies}
@@ -233,10 +233,10 @@ too_early_fault h calls order keys tree oracle number l r e =
 -- the keys that the set has after the order
 keys_after : (h : HistoryValue) (calls : List CallRecord) (order : List Placed) (tree : List ℕ) (oracle : OracleValue)
     → LeavesNoneOut h calls order tree oracle
-    → (after_order oracle calls order).state.keys ≡ (left_by (empty_set h.threads) h.calls order).keys
+    → (after_order oracle calls order).state.keys ≡ (set_left_by (empty_set h.threads) h.calls order).keys
 keys_after h calls order tree oracle l =
     ap (λ (o : OracleValue). (after_order o calls order).state.keys) l.opens
-    ∙ ap (λ (xs : List CallRecord). (left_by (empty_set h.threads) xs order).keys) l.stands_once.calls_are
+    ∙ ap (λ (xs : List CallRecord). (set_left_by (empty_set h.threads) xs order).keys) l.stands_once.calls_are
 
 pub wrong_set_fault : (h : HistoryValue) (calls : List CallRecord) (order : List Placed) (keys tree : List ℕ)
     (oracle now : OracleValue)

@@ -9,7 +9,7 @@ use Rattle.lset_words.specs.declared.history.Placed.{Placed}
 use Rattle.lset_words.specs.SequentialSet.{reply_to, after_call, IsLegal}
 use Rattle.lset_words.specs.History.{call_numbered, answered}
 use Rattle.lset_history.specs.Oracle.{OracleValue}
-use Rattle.lset_history.specs.Faults.{left_by}
+use Rattle.lset_history.specs.Faults.{set_left_by}
 
 -- the order has only calls of the history
 abbrev pub HasKnownCalls : List CallRecord → List Placed → Type 0
@@ -59,7 +59,7 @@ pub record HasReplies (o : OracleValue) (calls : List CallRecord) (order : List 
 
 -- the set after the calls of the order
 abbrev pub after_order : OracleValue → List CallRecord → List Placed → OracleValue
-after_order o calls order = record o { state = left_by o.state calls order }
+after_order o calls order = record o { state = set_left_by o.state calls order }
 
 -- the lesser of an end and the least end so far
 abbrev pub least_with : Option ℕ → ℕ → ℕ

@@ -12,13 +12,13 @@ use Rattle.lset_history.specs.declared.fault.OrderFault.TheVariants.{Unknown, Tw
 use Rattle.lset_history.specs.History.{HistoryValue}
 
 -- the set that an order of calls leaves
-abbrev pub left_by : SetState → List CallRecord → List Placed → SetState
-left_by start calls order = set_left start (map (answered calls) order)
+abbrev pub set_left_by : SetState → List CallRecord → List Placed → SetState
+set_left_by start calls order = set_left start (map (answered calls) order)
 
 -- The order linearizes the history, and the keys are those of the set that it leaves, rising.
 pub record Explains (h : HistoryValue) (order : List Placed) (keys : List ℕ) : Type 0 where
   pub linearizes : Linearizes h.quota (empty_set h.threads) h.calls order
-  pub keys_left : keys ≡ (left_by (empty_set h.threads) h.calls order).keys
+  pub keys_left : keys ≡ (set_left_by (empty_set h.threads) h.calls order).keys
   pub rising : IsStrictlyIncreasing keys
 
 -- THE CHECKS of a place in the order
@@ -43,7 +43,7 @@ HasWrongReply quota start calls order i =
     let x = placed_call calls order i in
     let reply = (place_at order i).reply in
     IsSomeAnd x.ended (λ (end : ℕ × Reply). end.1 ≢ reply)
-    ⊎ (reply_to quota (left_by start calls (take i order)) x.thread x.call ≢ reply)
+    ⊎ (reply_to quota (set_left_by start calls (take i order)) x.thread x.call ≢ reply)
 
 -- a call that ended before this one began stands at a later place
 abbrev pub IsTooEarly : List CallRecord → List Placed → ℕ → Type 0
@@ -92,5 +92,5 @@ IsFault h order keys (TooEarly number) =
 IsFault h order keys WrongSet =
     Passes (IsUnknown h.calls order) order × Passes (IsTwice order) order × MissesNone h.calls order
     × Passes (HasWrongReply h.quota (empty_set h.threads) h.calls order) order × Passes (IsTooEarly h.calls order) order
-    × (keys ≢ (left_by (empty_set h.threads) h.calls order).keys)
+    × (keys ≢ (set_left_by (empty_set h.threads) h.calls order).keys)
 IsFault h order keys Memory = Unit {0}

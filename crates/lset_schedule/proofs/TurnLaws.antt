@@ -5,7 +5,7 @@ use Rattle.rand_core.specs.Stream.{Stream, next_u32}
 use Rattle.lset_steps.specs.declared.Event.{Event}
 use Rattle.lset_steps.specs.Steps.{Table, State, after, opening}
 use Rattle.lset_schedule.specs.declared.value.Line.{Line}
-use Rattle.lset_schedule.specs.Drawing.{Progress, line_of_event, left_after, event_drawn, progressed, after_turn, begun}
+use Rattle.lset_schedule.specs.Drawing.{Progress, line_of_event, left_after, event_drawn, progressed, after_turn, before_turns}
 use Rattle.lset_schedule.specs.Drawing.{IsOver, IsEnd, AreDrawn}
 
 abbrev pub progress : State → ℕ → List Line → Stream → Progress
@@ -29,7 +29,7 @@ made_none T p made s left lines answers is a b c = rw (is, a, b, c) refl
 module _ (T : Table) (threads keys : ℕ) where
   pub begun_drawn : (turns n q calls : ℕ) (s : State) (made lines : List Line) (answers : Stream) → s ≡ opening n q → made ≡ []
       → AreDrawn T threads keys turns (progress s calls made answers) lines
-      → AreDrawn T threads keys turns (begun n q calls answers) lines
+      → AreDrawn T threads keys turns (before_turns n q calls answers) lines
   begun_drawn turns n q calls s made lines answers opens none h =
       subst (λ z. AreDrawn T threads keys turns (progress z calls [] answers) lines) opens
       (subst (λ ls. AreDrawn T threads keys turns (progress s calls ls answers) lines) none h)

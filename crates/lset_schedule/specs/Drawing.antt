@@ -63,9 +63,9 @@ AreDrawn T threads keys zero p lines = lines ≡ p.lines
 AreDrawn T threads keys (suc turns) p lines =
     (IsEnd p × (lines ≡ p.lines)) ⊎ ((IsEnd p → ⊥) × AreDrawn T threads keys turns (after_turn T threads keys p) lines)
 
-abbrev pub begun : ℕ → ℕ → ℕ → Stream → Progress
-begun threads quota calls answers = record { state = opening threads quota; left = calls; lines = []; answers = answers }
+abbrev pub before_turns : ℕ → ℕ → ℕ → Stream → Progress
+before_turns threads quota calls answers = record { state = opening threads quota; left = calls; lines = []; answers = answers }
 
 -- the lines that a seed stands for
 abbrev pub AreOfSeed : Table → ℕ → ℕ → ℕ → ℕ → ℕ → List Line → Type 0
-AreOfSeed T threads quota calls keys seed lines = AreDrawn T threads keys MOST_TURNS (begun threads quota calls (seeded seed)) lines
+AreOfSeed T threads quota calls keys seed lines = AreDrawn T threads keys MOST_TURNS (before_turns threads quota calls (seeded seed)) lines

@@ -4,7 +4,7 @@ ghost use Rattle.lset_schedule.specs.Reading.{fault, cause_of, in_schedule};
 ghost use Rattle.lset_schedule.specs.declared.fault.GenFault.TheVariants.{Memory};
 
 use lset_text::{HeaderCause, HeaderFault};
-use lset_words::LayoutFault;
+use lset_words::{LayoutFault, MOST_QUOTA, MOST_THREADS};
 use std::alloc::{AllocError, AllocFailed};
 use thiserror::Error;
 
@@ -76,10 +76,10 @@ impl From<HeaderFault> for ScheduleFault {
 #[derive(Clone, Copy, Debug, PartialEq, Eq, Error)]
 pub enum GenFault {
     /// The threads are none, or more than 64.
-    #[error("threads outside 1 to 64")]
+    #[error("threads outside 1 to {MOST_THREADS}")]
     Threads,
     /// The quota is above 16,384.
-    #[error("quota above 16384")]
+    #[error("quota above {MOST_QUOTA}")]
     Quota,
     /// There are no keys to choose from.
     #[error("no keys")]

@@ -1,6 +1,6 @@
 ghost use Rattle.std.specs.Prelude.{◌≡◌, ◌≢◌, ℕ, ◌<◌, ◌≤◌, ◌↔◌, IsTrue, IfOk, IfErr, MatchOption, length};
 ghost use Rattle.lset_steps.specs.Steps.{Enabled, after};
-ghost use Rattle.lset_schedule.specs.Drawing.{line_of_event, left_after, event_drawn, begun, IsOver, AreDrawn, AreOfSeed};
+ghost use Rattle.lset_schedule.specs.Drawing.{line_of_event, left_after, event_drawn, before_turns, IsOver, AreDrawn, AreOfSeed};
 ghost use Rattle.lset_schedule.specs.Generating.{IsAccepted, IsGenerated, Refuses};
 ghost use Rattle.lset_schedule.specs.Plan.{IsSchedule, view};
 ghost use Rattle.lset_schedule.specs.Turns.{HasOpenCall, IsIdle, IsNextEvent};
@@ -103,7 +103,7 @@ fn generated_lines<M: Machine, R: Rng>(
     ensures made { IfOk result (λ v. IsGenerated M.table layout.threads layout.quota calls keys v.items) }
     ensures few { IfOk result (λ v. length v.items ≤ MOST_EVENTS) }
     ensures drawn { IfOk result (λ v. AreDrawn M.table layout.threads keys MOST_TURNS
-        (begun layout.threads layout.quota calls (R.stream rng.old)) v.items) }
+        (before_turns layout.threads layout.quota calls (R.stream rng.old)) v.items) }
 {
     let threads = layout.threads();
     let mut world: World<M> = World::new(alloc, layout)?;

@@ -159,6 +159,8 @@ fn a_fault_shows_its_line_and_its_cause(rt: HostRuntime) -> Result<(), Fail> {
         cause: Cause::TooMany,
     };
     assert_eq!(rt; fault.to_string(rt.alloc())?.as_str(), "line 6: TooMany");
+    let quota = GenFault::Quota.to_string(rt.alloc())?;
+    assert_eq!(rt; quota.as_str(), "quota above 16384");
     Ok(())
 }
 

@@ -20,9 +20,9 @@ pub record IsWithin (s : Sizes) : Type 0 where
   pub small : s.quota ≤ MOST_QUOTA
 
 -- the first limit that is not kept
-abbrev pub Refuses : Sizes → LayoutFault → Type 0
-Refuses s Threads = (s.threads ≡ 0) ⊎ (MOST_THREADS < s.threads)
-Refuses s Quota = (0 < s.threads) × (s.threads ≤ MOST_THREADS) × (MOST_QUOTA < s.quota)
+abbrev pub RefusesSizes : Sizes → LayoutFault → Type 0
+RefusesSizes s Threads = (s.threads ≡ 0) ⊎ (MOST_THREADS < s.threads)
+RefusesSizes s Quota = (0 < s.threads) × (s.threads ≤ MOST_THREADS) × (MOST_QUOTA < s.quota)
 
 -- the key word of a user key; the head's is 0
 abbrev pub key_word_of : Key → ℕ

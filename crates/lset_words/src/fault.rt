@@ -1,12 +1,13 @@
+use crate::{MOST_QUOTA, MOST_THREADS};
 use thiserror::Error;
 
 /// Why there is no layout for the numbers asked for.
 #[derive(Clone, Copy, Debug, PartialEq, Eq, Error)]
 pub enum LayoutFault {
     /// The threads are none, or more than 64.
-    #[error("threads outside 1 to 64")]
+    #[error("threads outside 1 to {MOST_THREADS}")]
     Threads,
     /// The quota is above 16,384.
-    #[error("quota above 16384")]
+    #[error("quota above {MOST_QUOTA}")]
     Quota,
 }

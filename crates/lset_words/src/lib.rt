@@ -2,7 +2,7 @@
 #![tactic(auto)]
 
 ghost use Rattle.std.specs.Prelude.{◌≡◌, ℕ, ◌+◌, ◌/◌, ◌%◌, ◌<◌, ◌^◌, IsTrue, ◌↔◌, Bool, IfOk, IfErr};
-ghost use Rattle.lset_words.specs.Words.{key_word_of, key_of, packed, Refuses};
+ghost use Rattle.lset_words.specs.Words.{key_word_of, key_of, packed, RefusesSizes};
 
 mod fault;
 mod history;
@@ -80,7 +80,7 @@ pub enum Reply {
 /// the quota is.
 pub fn layout(threads: u32, quota: u32) -> Result<Layout, LayoutFault>
     ensures sizes { IfOk result (λ l. l ≡ record { threads = threads; quota = quota }) }
-    ensures refused { IfErr result (Refuses (record { threads = threads; quota = quota })) }
+    ensures refused { IfErr result (RefusesSizes (record { threads = threads; quota = quota })) }
 {
     if threads == 0 || threads > MOST_THREADS {
         return Err(LayoutFault::Threads);

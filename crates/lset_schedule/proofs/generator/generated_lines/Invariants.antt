@@ -1,7 +1,7 @@
 use Rattle.std.proofs.Common.{◌-◌, List}
 use Rattle.lset_schedule.specs.declared.TheConstants.{MOST_TURNS}
 use Rattle.lset_schedule.specs.declared.value.Line.{Line}
-use Rattle.lset_schedule.specs.Drawing.{begun, AreDrawn}
+use Rattle.lset_schedule.specs.Drawing.{before_turns, AreDrawn}
 use Rattle.lset_schedule.proofs.Drafts.{IsDraft}
 use Rattle.lset_schedule.proofs.generator.generated_lines.Given as goal
 
@@ -12,5 +12,5 @@ invariant-loop g l = record {
       → AreDrawn g.M.Machine.table l.fn.layout.threads l.keys (MOST_TURNS - l.counter)
       (record { state = l.world.state; left = l.left; lines = l.lines.items; answers = g.R.Rng.stream l.rng }) lines
       → AreDrawn g.M.Machine.table l.fn.layout.threads l.keys MOST_TURNS
-      (begun l.fn.layout.threads l.fn.layout.quota l.calls (g.R.Rng.stream l.initial.rng)) lines;
+      (before_turns l.fn.layout.threads l.fn.layout.quota l.calls (g.R.Rng.stream l.initial.rng)) lines;
 }
