@@ -92,8 +92,8 @@ fits_at n q last es r t tn k l goes e reply y =
     (has_changed (log_of optimistic n q es) t k) (local_of s t) reply i.memory th tn e th.at
     (ap (λ (x : Local). x.reply) (sym (link_row s.words (local_of s t) e)) ∙ y)
 
--- WHERE A REPLY COMES FROM: the step to a row that gives a lock back (14, 15), with a reply, is the load of pc 8, or a change, or one
--- from 14 with that reply.
+-- WHERE A REPLY COMES FROM: a step to a row that gives a lock back (14, 15), with a reply, is the load of pc 8, or a change, or one from
+-- 14 with that reply.
 abbrev Came : Local → ℕ → Reply → Type 0
 Came l seen reply = (l.pc ≡ 8) ⊎ (is_change (optimistic.effect l seen) ≡ true) ⊎ ((l.pc ≡ 14) × (l.reply ≡ Some reply))
 

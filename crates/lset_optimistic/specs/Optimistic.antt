@@ -42,16 +42,20 @@ at_key seen l = if nat_lt seen (target l.call) then record l { pc = 3; ckey = se
 abbrev pub at_locks : Local → Local
 at_locks l = if l.pred == 0 then record l { pc = 8; node = 0 } else record l { pc = 6; node = 0 }
 
+-- where validation fails: both locks are given back, and there is no reply
+abbrev pub gives_up : Local → Local
+gives_up l = record l { pc = 14; reply = None }
+
 -- where the second walk sees the key word of node
 abbrev pub at_node : ℕ → Local → Local
 at_node seen l =
-    if nat_lt l.pkey seen then record l { pc = 14; reply = None }
+    if nat_lt l.pkey seen then gives_up l
     else if l.node == l.pred then record l { pc = 8 }
     else record l { pc = 6 }
 
 -- where the second walk has come to pred, and sees its link
 abbrev pub at_link : ℕ → Local → Local
-at_link seen l = if seen / 2 == l.curr then decided_on targets l.ckey l else record l { pc = 14; reply = None }
+at_link seen l = if seen / 2 == l.curr then decided_on targets l.ckey l else gives_up l
 
 -- where both locks are given back: a call without a reply begins again
 abbrev pub at_end : Option Reply → Local → Local

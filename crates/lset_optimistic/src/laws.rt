@@ -4,14 +4,15 @@
 ghost use Rattle.lset_optimistic.specs.Promises.{ValidatedWalk, OptimisticRepliesFit};
 
 /// Where the second walk arrives at the locked first node, that node is in the chain from then to the storing of 0 in
-/// its lock, although the walk may have passed through nodes that were being unlinked. (Herlihy and Shavit's
-/// validation; each node of the walk was in the chain since the lock was taken, by O'Hearn and others' hindsight.)
+/// its lock, although the walk may have passed through nodes that were being unlinked; and no call decides or changes
+/// the list unless its walk has arrived. (Herlihy and Shavit's validation. That each node of the walk was in the chain
+/// at some moment since the lock was taken is the hindsight of O'Hearn and others.)
 pub fn validated_walk()
     ensures { ValidatedWalk }
 {}
 
-/// The reply of a call that ends without a change fits the moment of a load of the call by which its first node was
-/// seen to lead to the second. (Herlihy and Shavit's linearization points of calls without a change.)
+/// The reply of a call that changed nothing fits a moment of the call at which its first node was seen to lead to the
+/// second. (Herlihy and Shavit's linearization points of calls without a change.)
 pub fn optimistic_replies_fit()
     ensures { OptimisticRepliesFit }
 {}

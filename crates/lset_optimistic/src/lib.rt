@@ -2,7 +2,7 @@
 //! optimistic list).
 #![tactic(auto)]
 
-ghost use Rattle.std.specs.Prelude.{◌≡◌, ◌+◌, ◌≤◌};
+ghost use Rattle.std.specs.Prelude.{◌≡◌, ◌+◌, ◌/◌, ◌≤◌};
 ghost use Rattle.lset_words.specs.Words.{lock_index};
 ghost use Rattle.lset_words.specs.declared.Kind.TheVariants.{Optimistic};
 ghost use Rattle.lset_steps.specs.Rows.{IsSmall};
@@ -11,6 +11,7 @@ ghost use Rattle.lset_optimistic.specs.Optimistic.{
   next_action,
   at_key,
   at_locks,
+  gives_up,
   at_node,
   at_link,
   at_end,
@@ -70,13 +71,26 @@ fn next_action(local: &Local) -> Action
     }
 }
 
+/// Comes to the node that the link of `pred`, with the key word `pkey`, leads to.
+fn walks_on(local: &Local, pred: u64, pkey: u64, link: u64) -> Local
+    ensures { result ≡ record local.now { pc = 2; pred = pred; pkey = pkey; curr = link / 2 } }
+{
+    Local {
+        pc: 2,
+        pred,
+        pkey,
+        curr: link / 2,
+        ..*local
+    }
+}
+
 /// Walks on where the key word is below that of the call, and else goes to take the locks.
 fn at_key(local: &Local, seen: u64) -> Local
     ensures { result ≡ at_key seen local.now }
 {
-    let below = seen < local.call.key().word();
+    let pc = if seen < local.call.key().word() { 3 } else { 4 };
     Local {
-        pc: if below { 3 } else { 4 },
+        pc,
         ckey: seen,
         ..*local
     }
@@ -94,16 +108,23 @@ fn at_locks(local: &Local) -> Local
     }
 }
 
+/// Gives both locks back without a reply.
+fn gives_up(local: &Local) -> Local
+    ensures { result ≡ gives_up local.now }
+{
+    Local {
+        pc: 14,
+        reply: None,
+        ..*local
+    }
+}
+
 /// Ends the second walk in vain where it is past the first one, and in success where it has come to the same node.
 fn at_node(local: &Local, seen: u64) -> Local
     ensures { result ≡ at_node seen local.now }
 {
     if seen > local.pkey {
-        Local {
-            pc: 14,
-            reply: None,
-            ..*local
-        }
+        gives_up(local)
     } else if local.node == local.pred {
         Local { pc: 8, ..*local }
     } else {
@@ -118,11 +139,7 @@ fn at_link(local: &Local, seen: u64) -> Local
     if seen / 2 == local.curr {
         decide(TARGETS, local.ckey, *local)
     } else {
-        Local {
-            pc: 14,
-            reply: None,
-            ..*local
-        }
+        gives_up(local)
     }
 }
 
@@ -141,21 +158,9 @@ fn local_after(local: &Local, seen: u64) -> Local
     ensures { result ≡ local_after local.now seen }
 {
     match local.pc {
-        1 => Local {
-            pc: 2,
-            pred: HEAD,
-            pkey: 0,
-            curr: seen / 2,
-            ..*local
-        },
+        1 => walks_on(local, HEAD, 0, seen),
         2 => at_key(local, seen),
-        3 => Local {
-            pc: 2,
-            pred: local.curr,
-            pkey: local.ckey,
-            curr: seen / 2,
-            ..*local
-        },
+        3 => walks_on(local, local.curr, local.ckey, seen),
         4 if seen == 0 => Local { pc: 5, ..*local },
         4 => Local { pc: 4, ..*local },
         5 if seen == 0 => at_locks(local),
