@@ -1,13 +1,14 @@
 -- How many nodes and words a table has at most, and that its slots are different nodes.
 use Rattle.std.specs.Prelude.{◌≡◌, ℕ, ◌+◌, ◌*◌, ◌<◌, ◌≤◌}
 use Rattle.std.proofs.Common.{arith, ap}
+use Rattle.lset_words.specs.declared.TheConstants.{MOST_THREADS, MOST_QUOTA, MOST_NODES}
 use Rattle.lset_words.specs.Words.{Sizes, IsWithin, node_count, slot_node}
 
-pub few_nodes : (threads quota : ℕ) → threads ≤ 64 → quota ≤ 16384 → node_count threads quota ≤ 1048578
+pub few_nodes : (threads quota : ℕ) → threads ≤ MOST_THREADS → quota ≤ MOST_QUOTA → node_count threads quota ≤ MOST_NODES
 few_nodes threads quota few small =
     let most : threads * quota ≤ 64 * quota = grind arith in omega arith
 
-pub nodes_within : (s : Sizes) → IsWithin s → node_count s.threads s.quota ≤ 1048578
+pub nodes_within : (s : Sizes) → IsWithin s → node_count s.threads s.quota ≤ MOST_NODES
 nodes_within s w = few_nodes s.threads s.quota w.few w.small
 
 -- a slot is among the nodes

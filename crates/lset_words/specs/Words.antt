@@ -1,6 +1,7 @@
 -- The words of a list's table: word 0 is the list's lock, words 1 and 2 hold the numbers of threads and slots, and then
 -- each node has three words. (This project's own table.)
 use Rattle.std.specs.Prelude.{◌≡◌, ◌≢◌, ℕ, ◌+◌, ◌*◌, ◌<◌, ◌≤◌, ◌⊎◌, Bool, if◌then◌else◌}
+use Rattle.lset_words.specs.declared.TheConstants.{MOST_THREADS, MOST_QUOTA}
 use Rattle.lset_words.specs.declared.Key.{Key}
 use Rattle.lset_words.specs.declared.Call.{Call}
 use Rattle.lset_words.specs.declared.Call.TheVariants.{Add, Remove, Contains}
@@ -15,13 +16,13 @@ pub record Sizes : Type 0 where
 -- the limits of both
 pub record IsWithin (s : Sizes) : Type 0 where
   pub some : 0 < s.threads
-  pub few : s.threads ≤ 64
-  pub small : s.quota ≤ 16384
+  pub few : s.threads ≤ MOST_THREADS
+  pub small : s.quota ≤ MOST_QUOTA
 
 -- the first limit that is not kept
 abbrev pub Refuses : Sizes → LayoutFault → Type 0
-Refuses s Threads = (s.threads ≡ 0) ⊎ (64 < s.threads)
-Refuses s Quota = (0 < s.threads) × (s.threads ≤ 64) × (16384 < s.quota)
+Refuses s Threads = (s.threads ≡ 0) ⊎ (MOST_THREADS < s.threads)
+Refuses s Quota = (0 < s.threads) × (s.threads ≤ MOST_THREADS) × (MOST_QUOTA < s.quota)
 
 -- the key word of a user key; the head's is 0
 abbrev pub key_word_of : Key → ℕ

@@ -12,11 +12,17 @@ pub use fault::LayoutFault;
 pub use history::{CallRecord, Placed};
 pub use table::{Layout, words_are_apart};
 
-/// The most threads of a list.
-const MOST_THREADS: u32 = 64;
+/// The most threads of a list. (This project's own limit, as are those below.)
+pub const MOST_THREADS: u32 = 64;
 
 /// The most slots of a thread.
-const MOST_QUOTA: u32 = 16_384;
+pub const MOST_QUOTA: u32 = 16_384;
+
+/// The most nodes of a table: head, tail, and every slot of every thread.
+pub const MOST_NODES: u64 = 2 + MOST_THREADS as u64 * MOST_QUOTA as u64;
+
+/// The most words of a table.
+pub const MOST_WORDS: u64 = 3 + 3 * MOST_NODES;
 
 /// A key of the set: every `u32` is one.
 #[derive(Clone, Copy, Debug, PartialEq, Eq, PartialOrd, Ord, Hash)]

@@ -1,6 +1,7 @@
 ghost use Rattle.std.specs.Prelude.{◌≡◌, ◌≢◌, ℕ, ◌+◌, ◌*◌, ◌<◌, ◌≤◌};
 ghost use Rattle.lset_words.specs.Words.{Sizes, IsWithin, node_count, word_count, slot_node, key_index, link_index, lock_index, WordsApart, SlotsApart};
 
+use crate::{MOST_NODES, MOST_WORDS};
 use std::marker::Model;
 
 /// Where the words of a list lie, for 1 to 64 threads with a quota of 0 to 16,384 slots each. (This
@@ -49,7 +50,7 @@ impl Layout {
     /// The number of nodes: head, tail and slots.
     pub fn nodes(&self) -> u64
         ensures count { result ≡ node_count self.now.threads self.now.quota }
-        ensures few { result ≤ 1048578 }
+        ensures few { result ≤ MOST_NODES }
     {
         2 + u64::from(self.threads) * u64::from(self.quota)
     }
@@ -57,7 +58,7 @@ impl Layout {
     /// The number of words of the table, at most 3,145,737.
     pub fn words(&self) -> u64
         ensures count { result ≡ word_count self.now.threads self.now.quota }
-        ensures few { result ≤ 3145737 }
+        ensures few { result ≤ MOST_WORDS }
     {
         3 + 3 * self.nodes()
     }
