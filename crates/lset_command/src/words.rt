@@ -166,6 +166,7 @@ fn values_of(alloc: Global, found: &ArgMatches<'_>) -> Result<Vec<String>, Alloc
 }
 
 // The command of a name among those that `program_command` lists.
+#[tactic(auto, unfolding(crate::specs::Words::command_named))]
 fn command_named(name: &str) -> Command
     ensures { result ≡ command_named name.now }
 {

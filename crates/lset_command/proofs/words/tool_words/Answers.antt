@@ -30,7 +30,7 @@ returns-clause-taken c =
     let found = subcommand_of listset (texts c.args.words.now) in
     let one = one_command m found c.in-Some.name.now (rows_of (found_of c.in-Some.found.now)) c.in-Some.ensures.name c.in-Some.ensures.rows
     (program_matches m _ (texts c.args.words.now) c.in_ok-program_command.ensures c.in_ok-matches.ensures.matches) in
-    chosen_command _ _ _ _ found one c.command_named.ensures c.in_ok-values.ensures
+    chosen_command _ _ _ _ found one c.command_named-command.ensures c.in_ok-values.ensures
 
 pub returns-clause-refused : goal.returns-clause-refused
 returns-clause-refused c =
