@@ -79,7 +79,8 @@ run_by T s e =
     let parts = both (few s) (can_all T (opening s.threads s.quota) s.events) e in
     runs_by T s (limits_by s parts.0) parts.1
 
--- WHAT A WALK OF A CHAIN DOES NOT MEET, BEFORE IT IS AT THE TAIL AFTER AT MOST SO MANY STEPS
+-- WHAT A WALK OF A CHAIN DOES NOT MEET: it is at the tail after fewer steps than that, and has passed no node b, or no unmarked user
+-- node with the key
 abbrev passes : View → ℕ → ℕ → ℕ → Bool
 passes v zero i b = false
 passes v (suc steps) i b = if i == b then false else if i == 1 then true else passes v steps (v.link i / 2) b
@@ -136,7 +137,7 @@ module _ (v : View) where
   not_in_content : (steps key : ℕ) → lacks v steps 0 key ≡ true → InContent v key → ⊥
   not_in_content steps key p c = never_has steps 0 c.0 key c.1.0 p c.1.1 (has_it v c.0 key c.2 c.3 c.4)
 
--- WHAT A WALK MEETS
+-- WHAT A WALK MEETS after at most so many steps
 abbrev meets : View → ℕ → ℕ → ℕ → Bool
 meets v zero i b = i == b
 meets v (suc steps) i b = if i == b then true else (not (i == 1) && meets v steps (v.link i / 2) b)
@@ -261,7 +262,7 @@ module _ (T : Table) (s : Schedule) where
     absent = not_in_content (world_at T s moment) (nodes s) key m;
   }
 
-  -- A reply that does not fit: enough for the replies that are asked for.
+  -- A test of replies that do not fit. It is false of two replies, which no finding needs.
   abbrev misfits : ℕ → ℕ → Call → Reply → Bool
   misfits moment thread (Add k) True = true
   misfits moment thread (Add k) False = misses T s moment k.0

@@ -51,17 +51,17 @@ pub fn add_that_ignores_the_mark()
 {}
 
 /// A `remove` whose marking succeeds on a node that is marked already tells a second time that it has taken the key out:
-/// two removes of one key answer `True`. (Michael, whose exchange fails there.)
+/// two removes of one key are on their way to answer `True`. (This project's own table, whose exchange fails there.)
 ///
-/// `threads 2 | quota 1 | begin 0 add 5 | go 0 6 | begin 0 remove 5 | begin 1 remove 5 | go 0 4 | go 1 4 | go 0 1 | go 1
-/// 1`
+/// `threads 2 | quota 1 | begin 0 add 5 | go 0 6 | begin 0 remove 5 | begin 1 remove 5 | go 0 4 | go 1 4 | go 0 1 |
+/// go 1 1`
 pub fn mark_on_a_marked_node()
     ensures takes { AbsentKeyIsRemoved marks_twice two_removes 18 1 5 }
     ensures named_change { Breaks marks_twice NamedChange }
 {}
 
 /// A `contains` that finds the node of its key and does not look at its mark answers `True` for a key that was taken out
-/// before the call began. (Heller and others.)
+/// before the call began. (Herlihy and Shavit's wait-free `contains`.)
 ///
 /// `threads 2 | quota 1 | begin 0 add 5 | go 0 6 | begin 0 remove 5 | go 0 5 | begin 1 contains 5 | go 1 3`
 pub fn contains_by_the_key_alone()
