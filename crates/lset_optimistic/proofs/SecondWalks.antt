@@ -14,6 +14,7 @@ use Rattle.lset_steps.specs.Steps.{State, Run, Enabled, idle, state_at, local_of
 use Rattle.lset_steps.specs.Chain.{View}
 use Rattle.lset_steps.specs.Laws.{used_in, views}
 use Rattle.lset_steps.specs.Rows.{decided, decided_on}
+use Rattle.lset_steps.proofs.Held.{Held}
 use Rattle.lset_steps.proofs.SecondWalk.{SecondWalk, kept_upto, second_walk_arrives}
 use Rattle.lset_steps.proofs.Discipline.{Thread, inv_at}
 use Rattle.lset_steps.proofs.Turns.{discipline_of, node_locks}
@@ -23,13 +24,12 @@ use Rattle.lset_optimistic.specs.Lawful.Outline.At.{at0, at1, at2, at3, at4, at5
 use Rattle.lset_optimistic.specs.Promises.{held_at, world_at, IsWalking, HasArrived, GivesBack, WasInChain, IsLockedInChain, ValidatedWalk}
 
 -- WHAT IS KNOWN AT A PLACE
-module _ (q t : ℕ) (vs : ℕ → View) (first now : ℕ) (v : View) (done : Bool) (l : Local) where
-  elsewhere : {A : Type 0} (p : ℕ) → l.pc ≡ p → (p < 6) ⊎ (7 < p) → IsWalking l → A
-  elsewhere p e (inl a) (inl w) = absurd (omega arith)
-  elsewhere p e (inl a) (inr w) = absurd (omega arith)
-  elsewhere p e (inr a) (inl w) = absurd (omega arith)
-  elsewhere p e (inr a) (inr w) = absurd (omega arith)
+record Facts (vs : ℕ → View) (first now : ℕ) (v : View) (t : ℕ) (l : Local) : Type 0 where
+  walks : IsWalking l → WasInChain vs first now t l.pred l.node
+  arrives : HasArrived l → IsLockedInChain v t l.pred
+  decides : 8 ≤ l.pc → l.pc ≤ 13 → HasArrived l
 
+module _ (q t : ℕ) (vs : ℕ → View) (first now : ℕ) (v : View) (done : Bool) (l : Local) where
   since : vs now ≡ v → (start b : ℕ) → first ≤ start → SecondWalk vs start now v t l.pred b → WasInChain vs first now t l.pred b
   since present start b g x =
       let from : start ≤ x.seen.at = x.seen.from in
@@ -41,67 +41,62 @@ module _ (q t : ℕ) (vs : ℕ → View) (first now : ℕ) (v : View) (done : Bo
         locked = λ i a u. kept_upto vs present x i (omega arith) (omega arith);
       }
 
-  walked : vs now ≡ v → At q t vs first now v done l → IsWalking l → WasInChain vs first now t l.pred l.node
-  walked present (at0 e) w = elsewhere 0 e (inl (omega arith)) w
-  walked present (at1 e d) w = elsewhere 1 e (inl (omega arith)) w
-  walked present (at2 e d x k) w = elsewhere 2 e (inl (omega arith)) w
-  walked present (at3 e d c k b) w = elsewhere 3 e (inl (omega arith)) w
-  walked present (at4 e d f) w = elsewhere 4 e (inl (omega arith)) w
-  walked present (at5 e d f p) w = elsewhere 5 e (inl (omega arith)) w
-  walked present (at6 e d f c k start g x) w = since present start l.node g x
-  walked present (at7 e d f c start g x) w = since present start l.node g x
-  walked present (at8 e d f c h a) w = elsewhere 8 e (inr (omega arith)) w
-  walked present (at9 e d b a) w = elsewhere 9 e (inr (omega arith)) w
-  walked present (at10 e d b a x) w = elsewhere 10 e (inr (omega arith)) w
-  walked present (at11 e d b a x y) w = elsewhere 11 e (inr (omega arith)) w
-  walked present (at12 e d b a) w = elsewhere 12 e (inr (omega arith)) w
-  walked present (at13 e d b a x) w = elsewhere 13 e (inr (omega arith)) w
-  walked present (at14 e p c x i o) w = elsewhere 14 e (inr (omega arith)) w
-  walked present (at15 e c o) w = elsewhere 15 e (inr (omega arith)) w
+  no_walk : {A : Type 0} → (l.pc < 6) ⊎ (7 < l.pc) → IsWalking l → A
+  no_walk (inl a) (inl w) = absurd (omega arith)
+  no_walk (inl a) (inr w) = absurd (omega arith)
+  no_walk (inr a) (inl w) = absurd (omega arith)
+  no_walk (inr a) (inr w) = absurd (omega arith)
 
-  early : {A : Type 0} (p : ℕ) → l.pc ≡ p → p < 7 → HasArrived l → A
-  early p e low h = absurd (let from : 7 ≤ l.pc = h.from in omega arith)
+  too_early : {A : Type 0} → l.pc < 7 → HasArrived l → A
+  too_early low h = absurd (let from : 7 ≤ l.pc = h.from in omega arith)
 
-  arrived : vs now ≡ v → At q t vs first now v done l → HasArrived l → IsLockedInChain v t l.pred
-  arrived present (at0 e) h = early 0 e (omega arith) h
-  arrived present (at1 e d) h = early 1 e (omega arith) h
-  arrived present (at2 e d x k) h = early 2 e (omega arith) h
-  arrived present (at3 e d c k b) h = early 3 e (omega arith) h
-  arrived present (at4 e d f) h = early 4 e (omega arith) h
-  arrived present (at5 e d f p) h = early 5 e (omega arith) h
-  arrived present (at6 e d f c k start g x) h = early 6 e (omega arith) h
-  arrived present (at7 e d f c start g x) h =
-      record { in_chain = second_walk_arrives vs present h.there x; mine = x.mine }
-  arrived present (at8 e d f c x a) h = record { in_chain = x.at; mine = x.mine }
-  arrived present (at9 e d b a) h = record { in_chain = b.0.walk.held.at; mine = b.0.walk.held.mine }
-  arrived present (at10 e d b a x) h = record { in_chain = b.0.walk.held.at; mine = b.0.walk.held.mine }
-  arrived present (at11 e d b a x y) h = record { in_chain = b.0.walk.held.at; mine = b.0.walk.held.mine }
-  arrived present (at12 e d b a) h = record { in_chain = b.0.walk.held.at; mine = b.0.walk.held.mine }
-  arrived present (at13 e d b a x) h = record { in_chain = b.0.walk.held.at; mine = b.0.walk.held.mine }
-  arrived present (at14 e p c x i o) h = record { in_chain = i h.there; mine = p }
-  arrived present (at15 e c o) h = absurd (let upto : l.pc ≤ 14 = h.upto in omega arith)
+  before : l.pc < 6 → Facts vs first now v t l
+  before low = record {
+    walks = λ w. no_walk (inl low) w;
+    arrives = λ h. too_early (omega arith) h;
+    decides = λ from upto. absurd (omega arith);
+  }
 
-  between : {A : Type 0} (p : ℕ) → l.pc ≡ p → (p < 8) ⊎ (13 < p) → 8 ≤ l.pc → l.pc ≤ 13 → A
-  between p e (inl a) from upto = absurd (omega arith)
-  between p e (inr a) from upto = absurd (omega arith)
+  between : 8 ≤ l.pc → l.pc ≤ 13 → l.node ≡ l.pred → Held v t l.pred → Facts vs first now v t l
+  between low high a x = record {
+    walks = λ w. no_walk (inr (omega arith)) w;
+    arrives = λ h. record { in_chain = x.at; mine = x.mine };
+    decides = λ from upto. record { from = omega arith; upto = omega arith; there = a };
+  }
 
-  decides_there : At q t vs first now v done l → 8 ≤ l.pc → l.pc ≤ 13 → HasArrived l
-  decides_there (at0 e) from upto = between 0 e (inl (omega arith)) from upto
-  decides_there (at1 e d) from upto = between 1 e (inl (omega arith)) from upto
-  decides_there (at2 e d x k) from upto = between 2 e (inl (omega arith)) from upto
-  decides_there (at3 e d c k b) from upto = between 3 e (inl (omega arith)) from upto
-  decides_there (at4 e d f) from upto = between 4 e (inl (omega arith)) from upto
-  decides_there (at5 e d f p) from upto = between 5 e (inl (omega arith)) from upto
-  decides_there (at6 e d f c k start g x) from upto = between 6 e (inl (omega arith)) from upto
-  decides_there (at7 e d f c start g x) from upto = between 7 e (inl (omega arith)) from upto
-  decides_there (at8 e d f c x a) from upto = record { from = omega arith; upto = omega arith; there = a }
-  decides_there (at9 e d b a) from upto = record { from = omega arith; upto = omega arith; there = b.1 }
-  decides_there (at10 e d b a x) from upto = record { from = omega arith; upto = omega arith; there = b.1 }
-  decides_there (at11 e d b a x y) from upto = record { from = omega arith; upto = omega arith; there = b.1 }
-  decides_there (at12 e d b a) from upto = record { from = omega arith; upto = omega arith; there = b.1 }
-  decides_there (at13 e d b a x) from upto = record { from = omega arith; upto = omega arith; there = b.1 }
-  decides_there (at14 e p c x i o) from upto = between 14 e (inr (omega arith)) from upto
-  decides_there (at15 e c o) from upto = between 15 e (inr (omega arith)) from upto
+  facts : vs now ≡ v → At q t vs first now v done l → Facts vs first now v t l
+  facts present (at0 e) = before (omega arith)
+  facts present (at1 e d) = before (omega arith)
+  facts present (at2 e d x k) = before (omega arith)
+  facts present (at3 e d c k b) = before (omega arith)
+  facts present (at4 e d f) = before (omega arith)
+  facts present (at5 e d f p) = before (omega arith)
+  facts present (at6 e d f c k start g x) = record {
+    walks = λ w. since present start l.node g x;
+    arrives = λ h. too_early (omega arith) h;
+    decides = λ from upto. absurd (omega arith);
+  }
+  facts present (at7 e d f c start g x) = record {
+    walks = λ w. since present start l.node g x;
+    arrives = λ h. record { in_chain = second_walk_arrives vs present h.there x; mine = x.mine };
+    decides = λ from upto. absurd (omega arith);
+  }
+  facts present (at8 e d f c x a) = between (omega arith) (omega arith) a x
+  facts present (at9 e d b a) = between (omega arith) (omega arith) b.1 b.0.walk.held
+  facts present (at10 e d b a x) = between (omega arith) (omega arith) b.1 b.0.walk.held
+  facts present (at11 e d b a x y) = between (omega arith) (omega arith) b.1 b.0.walk.held
+  facts present (at12 e d b a) = between (omega arith) (omega arith) b.1 b.0.walk.held
+  facts present (at13 e d b a x) = between (omega arith) (omega arith) b.1 b.0.walk.held
+  facts present (at14 e p c x i o) = record {
+    walks = λ w. no_walk (inr (omega arith)) w;
+    arrives = λ h. record { in_chain = i h.there; mine = p };
+    decides = λ from upto. absurd (omega arith);
+  }
+  facts present (at15 e c o) = record {
+    walks = λ w. no_walk (inr (omega arith)) w;
+    arrives = λ h. absurd (let upto : l.pc ≤ 14 = h.upto in omega arith);
+    decides = λ from upto. absurd (omega arith);
+  }
 
 -- THE ROWS FROM 7 TO 13 leave pred and node
 abbrev Stays : Local → Local → Type 0
@@ -188,19 +183,10 @@ module _ (n q last : ℕ) (es : ℕ → Event) (r : Run optimistic n q es last) 
       (has_changed (log_of optimistic n q es) t k) (held_at n q es k t)
   known k l = (inv_at optimistic false At (discipline_of optimistic (node_locks false) At optimistic_follows) n q es last r k l).threads t tn
 
-  past_at : (k : ℕ) → k ≤ last → IsWalking (held_at n q es k t)
-      → WasInChain (views optimistic n q es) (begun_at (log_of optimistic n q es) t k) k t (held_at n q es k t).pred
-      (held_at n q es k t).node
-  past_at k l w = walked q t (views optimistic n q es) (begun_at (log_of optimistic n q es) t k) k (world_at n q es k)
-      (has_changed (log_of optimistic n q es) t k) (held_at n q es k t) refl (known k l).at w
-
-  chain_at : (k : ℕ) → k ≤ last → HasArrived (held_at n q es k t) → IsLockedInChain (world_at n q es k) t (held_at n q es k t).pred
-  chain_at k l h = arrived q t (views optimistic n q es) (begun_at (log_of optimistic n q es) t k) k (world_at n q es k)
-      (has_changed (log_of optimistic n q es) t k) (held_at n q es k t) refl (known k l).at h
-
-  decided_at : (k : ℕ) → k ≤ last → 8 ≤ (held_at n q es k t).pc → (held_at n q es k t).pc ≤ 13 → HasArrived (held_at n q es k t)
-  decided_at k l from upto = decides_there q t (views optimistic n q es) (begun_at (log_of optimistic n q es) t k) k (world_at n q es k)
-      (has_changed (log_of optimistic n q es) t k) (held_at n q es k t) (known k l).at from upto
+  facts_at : (k : ℕ) → k ≤ last
+      → Facts (views optimistic n q es) (begun_at (log_of optimistic n q es) t k) k (world_at n q es k) t (held_at n q es k t)
+  facts_at k l = facts q t (views optimistic n q es) (begun_at (log_of optimistic n q es) t k) k (world_at n q es k)
+      (has_changed (log_of optimistic n q es) t k) (held_at n q es k t) refl (known k l).at
 
   stays_for : (j d k : ℕ) → k ≡ j + d → k ≤ last → HasArrived (held_at n q es j t)
       → ((i : ℕ) → j ≤ i → i < k → GivesBack n q es i t (held_at n q es j t).pred → ⊥)
@@ -220,9 +206,9 @@ module _ (n q last : ℕ) (es : ℕ → Event) (r : Run optimistic n q es last) 
 
 pub validated_walk_of : ValidatedWalk
 validated_walk_of n q last t es r tn = record {
-  passes = λ k l w. past_at n q last es r t tn k l w;
+  passes = λ k l w. (facts_at n q last es r t tn k l).walks w;
   arrives = λ j k a l h f.
       (let s : Stays (held_at n q es j t) (held_at n q es k t) = stays_for n q last es r t tn j (k - j) k (omega arith) l h f in
-      subst (IsLockedInChain (world_at n q es k) t) s.1 (chain_at n q last es r t tn k l s.0));
-  decides = λ k l from upto. decided_at n q last es r t tn k l from upto;
+      subst (IsLockedInChain (world_at n q es k) t) s.1 ((facts_at n q last es r t tn k l).arrives s.0));
+  decides = λ k l from upto. (facts_at n q last es r t tn k l).decides from upto;
 }
