@@ -1,3 +1,6 @@
+ghost use Rattle.std.specs.Prelude.{IfOk};
+ghost use Rattle.lset_schedule.specs.Plan.{IsSchedule, view};
+
 use lset_coarse::CoarseList;
 use lset_fine::FineList;
 use lset_history::check_order;
@@ -25,7 +28,9 @@ fn generated(
     threads: u32,
     quota: u32,
     calls: u32,
-) -> Result<Schedule, GenFault> {
+) -> Result<Schedule, GenFault>
+    ensures { IfOk result (λ s. IsSchedule (view s)) }
+{
     match kind {
         Kind::Coarse => generate::<CoarseList>(alloc, threads, quota, calls, 8, 1),
         Kind::Fine => generate::<FineList>(alloc, threads, quota, calls, 8, 1),

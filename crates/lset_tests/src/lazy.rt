@@ -17,8 +17,8 @@ fn a_marked_node_is_no_part_of_the_set(rt: HostRuntime) -> Result<(), Fail> {
     assert_eq!(rt; world.step(Event::Go(0))?.change, Some((Key(5), false)));
     assert!(rt; world.busy(0));
     assert!(rt; world.content(rt.alloc())?.is_empty());
-    // the node is in the chain yet: the link of the head leads to it, and its own has the mark
-    assert_eq!(rt; (world.word(4), world.word(10)), (4, 3));
+    // the link of the head leads to the node yet
+    assert_eq!(rt; world.word(4), 4);
     Ok(())
 }
 
