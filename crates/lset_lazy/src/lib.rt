@@ -2,9 +2,10 @@
 //! after Heller and others).
 #![tactic(auto)]
 
-ghost use Rattle.std.specs.Prelude.{◌≡◌, ◌+◌, ◌≤◌};
+ghost use Rattle.std.specs.Prelude.{◌≡◌, ◌+◌, ◌/◌, ◌≤◌, Some};
 ghost use Rattle.lset_words.specs.Words.{lock_index};
 ghost use Rattle.lset_words.specs.declared.Kind.TheVariants.{Lazy};
+ghost use Rattle.lset_words.specs.declared.Reply.TheVariants.{True};
 ghost use Rattle.lset_steps.specs.Rows.{IsSmall};
 ghost use Rattle.lset_lazy.specs.Lazy.{lazy, next_action, at_key, gives_up, at_pred, at_curr, released, fed_by};
 ghost use Rattle.lset_lazy.specs.Lawful.{lazy_lawful, lazy_reads, lazy_walks};
@@ -59,6 +60,18 @@ fn next_action(local: &Local) -> Action
     }
 }
 
+/// The walk comes from the node `pred` to the node behind it, whose key is looked at next.
+fn walked_from(pred: u64, local: &Local, seen: u64) -> Local
+    ensures { result ≡ record local.now { pc = 2; pred = pred; curr = seen / 2 } }
+{
+    Local {
+        pc: 2,
+        pred,
+        curr: seen / 2,
+        ..*local
+    }
+}
+
 /// Walks on where the key word is below that of the call, and else locks both nodes.
 fn at_key(local: &Local, seen: u64) -> Local
     ensures { result ≡ at_key seen local.now }
@@ -109,6 +122,17 @@ fn at_curr(local: &Local, seen: u64) -> Local
     }
 }
 
+/// The call has done its work: it gives its locks back and answers True.
+fn succeeds(local: Local) -> Local
+    ensures { result ≡ record local { pc = 13; reply = Some True } }
+{
+    Local {
+        pc: 13,
+        reply: Some(Reply::True),
+        ..local
+    }
+}
+
 /// With the last lock given back the call answers, or walks again.
 fn released(local: &Local) -> Fed
     ensures { result ≡ released local.now.reply local.now }
@@ -124,19 +148,9 @@ fn fed_by(local: &Local, seen: u64) -> Fed
     ensures { result ≡ fed_by local.now seen }
 {
     let next = match local.pc {
-        1 => Local {
-            pc: 2,
-            pred: HEAD,
-            curr: seen / 2,
-            ..*local
-        },
+        1 => walked_from(HEAD, local, seen),
         2 => at_key(local, seen),
-        3 => Local {
-            pc: 2,
-            pred: local.curr,
-            curr: seen / 2,
-            ..*local
-        },
+        3 => walked_from(local.curr, local, seen),
         4 if seen == 0 => Local { pc: 5, ..*local },
         4 => Local { pc: 4, ..*local },
         5 if seen == 0 => Local { pc: 6, ..*local },
@@ -145,18 +159,12 @@ fn fed_by(local: &Local, seen: u64) -> Fed
         7 => at_curr(local, seen),
         8 => Local { pc: 9, ..*local },
         9 => Local { pc: 10, ..*local },
-        10 => Local {
-            pc: 13,
-            reply: Some(Reply::True),
+        10 => succeeds(Local {
             used: local.used + 1,
             ..*local
-        },
+        }),
         11 => Local { pc: 12, ..*local },
-        12 => Local {
-            pc: 13,
-            reply: Some(Reply::True),
-            ..*local
-        },
+        12 => succeeds(*local),
         13 => Local { pc: 14, ..*local },
         14 => return released(local),
         _ => return read_fed(local, seen),

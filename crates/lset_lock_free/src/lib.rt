@@ -4,7 +4,9 @@
 
 ghost use Rattle.std.specs.Prelude.{◌≡◌, ◌+◌, ◌≤◌};
 ghost use Rattle.lset_words.specs.declared.Kind.TheVariants.{LockFree};
+ghost use Rattle.lset_words.specs.declared.Reply.TheVariants.{True};
 ghost use Rattle.lset_steps.specs.Rows.{IsSmall};
+ghost use Rattle.lset_steps.specs.ReadRows.{continued, leaves_with};
 ghost use Rattle.lset_lock_free.specs.LockFree.{lock_free, next_action, at_key, at_link, again, decision_of, fed_by, effect_of};
 ghost use Rattle.lset_lock_free.specs.Lawful.{lock_free_lawful, lock_free_reads, lock_free_walks};
 
@@ -44,6 +46,18 @@ fn next_action(local: &Local) -> Action
     }
 }
 
+/// The walk comes to the node `curr` behind `pred`, whose link is looked at next.
+fn at_node(pred: u64, curr: u64, local: &Local) -> Fed
+    ensures { result ≡ continued (record local.now { pc = 2; pred = pred; curr = curr }) }
+{
+    continued(Local {
+        pc: 2,
+        pred,
+        curr,
+        ..*local
+    })
+}
+
 /// Goes on to the key of a node without a mark, and else to taking the node out.
 fn at_link(local: &Local, seen: u64) -> Fed
     ensures { result ≡ at_link seen local.now }
@@ -69,15 +83,22 @@ fn at_key(local: &Local, seen: u64) -> Fed
     ensures { result ≡ at_key seen local.now }
 {
     if seen < local.call.key().word() {
-        continued(Local {
-            pc: 2,
-            pred: local.curr,
-            curr: local.succ,
-            ..*local
-        })
+        at_node(local.curr, local.succ, local)
     } else {
         decision_of(decide(TARGETS, seen, *local))
     }
+}
+
+/// The node is in the chain, and its slot is used: the call answers True.
+fn puts_in(local: &Local) -> Fed
+    requires { IsSmall local.now }
+    ensures { result ≡ leaves_with True (record local.now { used = local.now.used + 1 }) }
+{
+    let local = Local {
+        used: local.used + 1,
+        ..*local
+    };
+    leaves_with(Reply::True, local)
 }
 
 /// The walk starts again.
@@ -92,28 +113,13 @@ fn fed_by(local: &Local, seen: u64) -> Fed
     ensures { result ≡ fed_by local.now seen }
 {
     match local.pc {
-        1 => continued(Local {
-            pc: 2,
-            pred: HEAD,
-            curr: seen / 2,
-            ..*local
-        }),
+        1 => at_node(HEAD, seen / 2, local),
         2 => at_link(local, seen),
-        3 if seen == 2 * local.curr => continued(Local {
-            pc: 2,
-            curr: local.succ,
-            ..*local
-        }),
+        3 if seen == 2 * local.curr => at_node(local.pred, local.succ, local),
         4 => at_key(local, seen),
         5 => continued(Local { pc: 6, ..*local }),
         6 => continued(Local { pc: 7, ..*local }),
-        7 if seen == 2 * local.curr => leaves_with(
-            Reply::True,
-            Local {
-                used: local.used + 1,
-                ..*local
-            },
-        ),
+        7 if seen == 2 * local.curr => puts_in(local),
         8 => continued(Local {
             pc: 9,
             succ: seen / 2,

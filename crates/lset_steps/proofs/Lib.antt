@@ -23,6 +23,7 @@ pub mod Held
 pub mod UnlockedWalk
 pub mod SecondWalk
 pub mod Turns
+pub mod ReadTables
 pub mod Reading
 pub mod ReadBound
 pub mod ReadWalk

@@ -16,7 +16,8 @@ use Rattle.lset_steps.specs.Steps.{Table, State, Run, Enabled, state_at, after, 
 use Rattle.lset_steps.specs.Chain.{View, node_key, node_link}
 use Rattle.lset_steps.specs.Laws.{Lawful, StateLaws, view_of, views}
 use Rattle.lset_steps.specs.Promises.{IsRead}
-use Rattle.lset_steps.specs.ReadRows.{HasReadRows, IsReadRow, read_key, read_mark, continued, leaves_with}
+use Rattle.lset_steps.specs.ReadRows.{read_key, read_mark, continued, leaves_with}
+use Rattle.lset_steps.proofs.ReadTables.{HasReadRows, IsReadRow}
 use Rattle.lset_steps.specs.BoundedReads.{BoundedReads, ReadsNext, steps_after, steps_since}
 
 -- COUNTING: how many numbers below n have the property

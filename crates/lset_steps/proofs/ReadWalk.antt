@@ -13,7 +13,7 @@ use Rattle.lset_steps.specs.Steps.{Table, Run, Enabled, state_at, local_of, seen
 use Rattle.lset_steps.specs.Chain.{View, Seen}
 use Rattle.lset_steps.specs.Laws.{Lawful, word_named, views}
 use Rattle.lset_steps.specs.Promises.{IsRead}
-use Rattle.lset_steps.specs.ReadRows.{HasReadRows, IsReadRow}
+use Rattle.lset_steps.proofs.ReadTables.{HasReadRows, IsReadRow}
 use Rattle.lset_steps.specs.BoundedReads.{WalkWasInChain}
 use Rattle.lset_steps.proofs.Moves.{Course, InPast}
 use Rattle.lset_steps.proofs.Hindsight.{hindsight}

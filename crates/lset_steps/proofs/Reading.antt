@@ -21,7 +21,8 @@ use Rattle.lset_steps.specs.Laws.{BeginLaws, Registers}
 use Rattle.lset_steps.proofs.Memory.{Memory, inside, inner}
 use Rattle.lset_steps.proofs.Discipline.{Outline, Here, Thread}
 use Rattle.lset_steps.proofs.Replies.{keep_walk, keep}
-use Rattle.lset_steps.specs.ReadRows.{HasReadRows, begun_reading, read_key, read_mark, continued, leaves_with}
+use Rattle.lset_steps.specs.ReadRows.{begun_reading, read_key, read_mark, continued, leaves_with}
+use Rattle.lset_steps.proofs.ReadTables.{HasReadRows}
 use Rattle.lset_steps.proofs.Turns.{Turn, Protocol, due_of}
 use Rattle.lset_steps.proofs.Turns.Turn.{passes, answers}
 

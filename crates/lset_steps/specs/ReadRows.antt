@@ -1,7 +1,6 @@
 -- The rows of a contains that takes no lock and writes nothing (Herlihy and Shavit's wait-free contains, in this project's own
 -- rows): 20 loads a link, 21 the key behind it, and 22 the mark of the node that has the key.
-use Rattle.std.specs.Prelude.{◌≡◌, ◌⊎◌, ℕ, ◌/◌, ◌%◌, if◌then◌else◌, Some, None, ◌==◌, nat_lt}
-use Rattle.lset_words.specs.declared.Key.{Key}
+use Rattle.std.specs.Prelude.{ℕ, ◌/◌, ◌%◌, if◌then◌else◌, Some, None, ◌==◌, nat_lt}
 use Rattle.lset_words.specs.declared.Call.{Call}
 use Rattle.lset_words.specs.declared.Call.TheVariants.{Add, Remove, Contains}
 use Rattle.lset_words.specs.declared.Reply.{Reply}
@@ -11,7 +10,6 @@ use Rattle.lset_steps.specs.declared.Local.{Local}
 use Rattle.lset_steps.specs.declared.Action.{Action}
 use Rattle.lset_steps.specs.declared.Action.TheVariants.{Load}
 use Rattle.lset_steps.specs.declared.Fed.{Fed}
-use Rattle.lset_steps.specs.Steps.{Table}
 use Rattle.lset_steps.specs.Rows.{begun}
 
 -- a call begins at row 1, a contains at row 20
@@ -46,13 +44,3 @@ read_fed l seen =
     if l.pc == 20 then continued (record l { pc = 21; curr = seen / 2 })
     else if l.pc == 21 then read_key l seen
     else read_mark l seen
-
--- A TABLE THAT HAS THESE ROWS
-abbrev pub IsReadRow : ℕ → Type 0
-IsReadRow pc = (pc ≡ 20) ⊎ (pc ≡ 21) ⊎ (pc ≡ 22)
-
-pub record HasReadRows (T : Table) : Type 0 where
-  pub begins : (k : Key) (l : Local) → T.begin (Contains k) l ≡ begun_reading (Contains k) l
-  pub acts : (l : Local) → IsReadRow l.pc → T.next l ≡ read_action l
-  pub feeds : (l : Local) (seen : ℕ) → IsReadRow l.pc → T.feed l seen ≡ read_fed l seen
-  pub tells : (l : Local) (seen : ℕ) → IsReadRow l.pc → T.effect l seen ≡ None

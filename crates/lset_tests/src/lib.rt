@@ -6,11 +6,15 @@ mod coarse;
 #[cfg(test)]
 mod fine;
 #[cfg(test)]
+mod generated;
+#[cfg(test)]
 mod history;
 #[cfg(test)]
 mod lazy;
 #[cfg(test)]
 mod lock_free;
+#[cfg(test)]
+mod marked;
 #[cfg(test)]
 mod optimistic;
 #[cfg(test)]
@@ -23,3 +27,5 @@ mod schedule;
 mod text;
 #[cfg(test)]
 mod words;
+#[cfg(test)]
+mod worlds;

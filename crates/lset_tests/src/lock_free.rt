@@ -1,20 +1,8 @@
-use lset_lock_free::*;
-use lset_steps::{Event, StepFault, World};
-use lset_words::layout;
+use crate::worlds::{make, make_call};
+use lset_lock_free::LockFreeList;
+use lset_steps::{Event, World};
+use lset_words::{Call, Key, Reply, layout};
 use std::test::Fail;
-
-/// Makes the event so many times: the answer of the last one. A step past the end of a call is refused.
-fn make(
-    world: &mut World<LockFreeList>,
-    event: Event,
-    times: u32,
-) -> Result<Option<Reply>, StepFault> {
-    let mut answer = None;
-    for _ in 0..times {
-        answer = world.step(event)?.answer;
-    }
-    Ok(answer)
-}
 
 #[test]
 fn the_second_of_two_removes_finds_the_node_marked(rt: HostRuntime) -> Result<(), Fail> {
@@ -23,6 +11,7 @@ fn the_second_of_two_removes_finds_the_node_marked(rt: HostRuntime) -> Result<()
         (Event::Go(0), 6, Some(Reply::True)),
         (Event::Begin(0, Call::Remove(Key(5))), 1, None),
         (Event::Begin(1, Call::Remove(Key(5))), 1, None),
+        // both have read the link without a mark
         (Event::Go(0), 4, None),
         (Event::Go(1), 4, None),
         (Event::Go(0), 2, Some(Reply::True)),
@@ -36,6 +25,8 @@ fn the_second_of_two_removes_finds_the_node_marked(rt: HostRuntime) -> Result<()
     Ok(())
 }
 
+/// The exchange of the add fails, its second walk takes the marked node out, and it uses the slot of its first try; the
+/// remove finds the node taken out, and answers true.
 #[test]
 fn an_add_behind_a_marked_node_takes_it_out_and_tries_again(rt: HostRuntime) -> Result<(), Fail> {
     let lines = [
@@ -53,48 +44,24 @@ fn an_add_behind_a_marked_node_takes_it_out_and_tries_again(rt: HostRuntime) -> 
         assert_eq!(rt; make(&mut world, event, times)?, answer, "{event:?}");
     }
     assert_eq!(rt; world.content()?.as_slice(), [5].as_slice());
+    // the head leads to thread 0's first slot, node 2
+    assert_eq!(rt; world.word(4), 4);
     Ok(())
 }
 
 #[test]
 fn a_slot_is_used_once(rt: HostRuntime) -> Result<(), Fail> {
-    let lines = [
-        (Event::Begin(0, Call::Add(Key(5))), 1, None),
-        (Event::Go(0), 6, Some(Reply::True)),
-        (Event::Begin(0, Call::Add(Key(5))), 1, None),
-        (Event::Go(0), 3, Some(Reply::False)),
-        (Event::Begin(0, Call::Remove(Key(5))), 1, None),
-        (Event::Go(0), 6, Some(Reply::True)),
-        (Event::Begin(0, Call::Add(Key(5))), 1, None),
-        (Event::Go(0), 3, Some(Reply::Full)),
+    let calls = [
+        (Call::Add(Key(5)), Reply::True, 6),
+        (Call::Add(Key(5)), Reply::False, 3),
+        (Call::Remove(Key(5)), Reply::True, 6),
+        (Call::Add(Key(5)), Reply::Full, 3),
     ];
     let mut world = World::<LockFreeList>::new(rt.alloc(), layout(1, 1)?)?;
-    for (event, times, answer) in lines {
-        assert_eq!(rt; make(&mut world, event, times)?, answer, "{event:?}");
+    for (call, reply, steps) in calls {
+        let made = make_call(&mut world, 0, call)?;
+        assert_eq!(rt; made, Some((reply, steps)), "{call:?}");
     }
-    Ok(())
-}
-
-/// The set has the key at each step of the `contains`, and lacks it between two of them.
-#[test]
-fn a_contains_may_fit_between_its_steps_alone(rt: HostRuntime) -> Result<(), Fail> {
-    let lines = [
-        (Event::Begin(1, Call::Add(Key(5))), 1, None),
-        (Event::Go(1), 6, Some(Reply::True)),
-        (Event::Begin(0, Call::Contains(Key(5))), 1, None),
-        (Event::Go(0), 2, None),
-        (Event::Begin(1, Call::Remove(Key(5))), 1, None),
-        (Event::Go(1), 6, Some(Reply::True)),
-        (Event::Begin(1, Call::Add(Key(5))), 1, None),
-        (Event::Go(1), 6, Some(Reply::True)),
-        (Event::Go(0), 1, Some(Reply::False)),
-    ];
-    let mut world = World::<LockFreeList>::new(rt.alloc(), layout(2, 4)?)?;
-    for (event, times, answer) in lines {
-        assert_eq!(rt; make(&mut world, event, times)?, answer, "{event:?}");
-    }
-    assert_eq!(rt; world.content()?.as_slice(), [5].as_slice());
-    assert_eq!(rt; LockFreeList::bound(&layout(2, 4)?), 18);
     Ok(())
 }
 
@@ -111,12 +78,8 @@ fn the_least_and_the_greatest_key_are_keys_like_others(rt: HostRuntime) -> Resul
     ];
     let mut world = World::<LockFreeList>::new(rt.alloc(), layout(1, 2)?)?;
     for (call, steps) in calls {
-        world.step(Event::Begin(0, call))?;
-        assert_eq!(rt;
-            make(&mut world, Event::Go(0), steps)?,
-            Some(Reply::True),
-            "{call:?}"
-        );
+        let made = make_call(&mut world, 0, call)?;
+        assert_eq!(rt; made, Some((Reply::True, steps)), "{call:?}");
     }
     assert!(rt; world.content()?.is_empty());
     Ok(())
