@@ -10,7 +10,7 @@ use Rattle.lset_replay.specs.Texts.{report_text}
 use Rattle.lset_replay.specs.Reading.{IsReport, reading}
 use Rattle.lset_tools.specs.declared.trouble.Trouble.{Trouble}
 use Rattle.lset_tools.specs.Trouble.{of_report}
-use Rattle.lset_tools.specs.Tools.{AnswerValue, Made, IsInputTrouble}
+use Rattle.lset_tools.specs.Tools.{AnswerValue, Made, IsTaken, IsInputTrouble}
 
 -- The order of a report has this first fault, and so it does not explain the history. Want of memory is no fault of an order.
 pub record IsRefused (r : ReportValue) (fault : OrderFault) : Type 0 where
@@ -49,5 +49,5 @@ IsFirstFault (Ok r) t = ⊥
 
 -- what is made of the bytes of an input: the answer on the report whose text they are, or a trouble with the input, or its first fault
 abbrev pub Checks : List ℕ → Made → Type 0
-Checks bytes (Ok answer) = (r : ReportValue) × IsReport r × (bytes ≡ report_text r) × IsAnswerOn r answer
-Checks bytes (Err t) = IsInputTrouble bytes t ⊎ IsFirstFault (reading bytes) t
+Checks bytes (Ok answer) = IsTaken bytes × (r : ReportValue) × IsReport r × (bytes ≡ report_text r) × IsAnswerOn r answer
+Checks bytes (Err t) = IsInputTrouble bytes t ⊎ (IsTaken bytes × IsFirstFault (reading bytes) t)

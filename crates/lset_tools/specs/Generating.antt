@@ -1,6 +1,7 @@
 -- [Tools]: what `gen` makes of its values.
 use Rattle.std.specs.Prelude.{◌≡◌, ◌≢◌, ℕ, ◌<◌, List, length, slice_index, Option, option_and_then, slice_get, Result, Ok, Err}
 use Rattle.lset_words.specs.declared.Kind.{Kind}
+use Rattle.lset_words.specs.declared.TheConstants.{MOST_THREADS, MOST_QUOTA}
 use Rattle.lset_steps.specs.Steps.{Table}
 use Rattle.lset_text.specs.Numbers.{number_in}
 use Rattle.lset_text.specs.Reading.{◌>>=◌, or_fail}
@@ -16,6 +17,7 @@ use Rattle.lset_tools.specs.declared.trouble.Trouble.TheVariants.{Memory, Bad}
 use Rattle.lset_tools.specs.declared.trouble.ValueName.{ValueName}
 use Rattle.lset_tools.specs.declared.trouble.ValueName.TheVariants as name
 use Rattle.lset_tools.specs.declared.values.Request.{Request}
+use Rattle.lset_tools.specs.declared.values.TheConstants.{MOST_CALLS, MOST_KEYS, MOST_SEED}
 use Rattle.lset_tools.specs.Tools.{Made}
 
 -- ---- what the values ask for
@@ -32,11 +34,11 @@ number_at values index low high = option_and_then (number_in low high) (slice_ge
 unfoldable pub request_of : List (List ℕ) → Result Request ValueName
 request_of values = do
   kind ← or_fail name.Kind (kind_at values 0)
-  threads ← or_fail name.Threads (number_at values 1 1 64)
-  quota ← or_fail name.Quota (number_at values 2 0 16384)
-  calls ← or_fail name.Calls (number_at values 3 0 10000)
-  keys ← or_fail name.Keys (number_at values 4 1 4294967295)
-  seed ← or_fail name.Seed (number_at values 5 0 18446744073709551615)
+  threads ← or_fail name.Threads (number_at values 1 1 MOST_THREADS)
+  quota ← or_fail name.Quota (number_at values 2 0 MOST_QUOTA)
+  calls ← or_fail name.Calls (number_at values 3 0 MOST_CALLS)
+  keys ← or_fail name.Keys (number_at values 4 1 MOST_KEYS)
+  seed ← or_fail name.Seed (number_at values 5 0 MOST_SEED)
   Ok (record { kind = kind; threads = threads; quota = quota; calls = calls; keys = keys; seed = seed })
 
 -- ---- what is made of them

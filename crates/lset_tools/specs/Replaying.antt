@@ -9,7 +9,7 @@ use Rattle.lset_replay.specs.Reports.{ReportValue, IsReplay, IsRefusal, IsExplai
 use Rattle.lset_replay.specs.Texts.{report_text}
 use Rattle.lset_tools.specs.declared.trouble.Trouble.{Trouble}
 use Rattle.lset_tools.specs.Trouble.{of_schedule, of_replay}
-use Rattle.lset_tools.specs.Tools.{Made, IsInputTrouble}
+use Rattle.lset_tools.specs.Tools.{Made, IsTaken, IsInputTrouble}
 
 -- The bytes are the text of a schedule, and this is the report of just its events, whose order explains its history and leaves its keys.
 pub record IsReported (bytes : List ℕ) (p : Plan) (r : ReportValue) : Type 0 where
@@ -27,5 +27,5 @@ IsFirstFault (Ok p) t =
 -- what is made of the bytes of an input: the text of the report, or a trouble with the input, or its first fault
 abbrev pub Replays : List ℕ → Made → Type 0
 Replays bytes (Ok answer) =
-    (p : Plan) × (r : ReportValue) × IsReported bytes p r × (answer ≡ record { text = report_text r; status = 0 })
-Replays bytes (Err t) = IsInputTrouble bytes t ⊎ IsFirstFault (reading bytes) t
+    IsTaken bytes × (p : Plan) × (r : ReportValue) × IsReported bytes p r × (answer ≡ record { text = report_text r; status = 0 })
+Replays bytes (Err t) = IsInputTrouble bytes t ⊎ (IsTaken bytes × IsFirstFault (reading bytes) t)

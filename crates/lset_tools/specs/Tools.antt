@@ -1,7 +1,8 @@
 -- [Tools]: how a tool ends, whatever it makes of its input.
-use Rattle.std.specs.Prelude.{◌≡◌, ℕ, ◌<◌, List, [], ◌++◌, length, Option, Result, Ok, Err}
+use Rattle.std.specs.Prelude.{◌≡◌, ℕ, ◌<◌, ◌≤◌, List, [], ◌++◌, length, Option, Result, Ok, Err}
 use Rattle.std.specs.Io.KnownBytes.{Appends, Keeps}
 use Rattle.lset_tools.specs.declared.answer.Answer.{Answer}
+use Rattle.lset_tools.specs.declared.streams.TheConstants.{LONGEST}
 use Rattle.lset_tools.specs.declared.trouble.Trouble.{Trouble}
 use Rattle.lset_tools.specs.declared.trouble.Trouble.TheVariants.{CannotRead, TooLong, CannotWrite, Memory, Line, Bad}
 use Rattle.lset_tools.specs.Trouble.{trouble_text}
@@ -54,10 +55,14 @@ Ends IsMade output_old output_new faults_old faults_new status =
     (made : Made) × (outcome : Outcome) × IsMade made × Delivers made output_old output_new outcome
     × AppendsFront faults_old faults_new (line_of outcome) × (status ≡ status_of outcome)
 
+-- an input that is not too long
+abbrev pub IsTaken : List ℕ → Type 0
+IsTaken bytes = length bytes ≤ LONGEST
+
 -- a trouble with an input of these bytes that is no trouble with what they say
 abbrev pub IsInputTrouble : List ℕ → Trouble → Type 0
 IsInputTrouble bytes CannotRead = Unit {0}
-IsInputTrouble bytes TooLong = 67108864 < length bytes
+IsInputTrouble bytes TooLong = LONGEST < length bytes
 IsInputTrouble bytes CannotWrite = ⊥
 IsInputTrouble bytes Memory = Unit {0}
 IsInputTrouble bytes (Line number cause) = ⊥

@@ -87,7 +87,8 @@ fn generated(alloc: Global, values: &[String]) -> Result<Answer, Trouble>
 /// order: writes its text on the output, or one line about the first wrong value on `faults`, and gives the
 /// exit status: 0 where the schedule was written, 2 where a value is wrong, 3 where memory was refused, else 1.
 /// KIND is the word for a list; numbers are decimals without leading zeros, THREADS 1 to 64,
-/// QUOTA 0 to 16,384, CALLS 0 to 10,000, KEYS 1 to 4,294,967,295, SEED 0 to 2^64 - 1. A value that is missing
+/// QUOTA 0 to 16,384, CALLS 0 to 10,000, KEYS 1 to 4,294,967,295, SEED 0 to 2^64 - 1. The schedule ends at 10,000
+/// events, so it may begin fewer calls. A value that is missing
 /// is a wrong one, and values past the last are not looked at. A failing write on `faults` leaves the status as
 /// it is.
 pub fn tool_gen<W: Write, F: Write>(

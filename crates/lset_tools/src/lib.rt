@@ -1,4 +1,5 @@
-//! The three tools of the program: each reads an input, writes on an output, and gives the exit status.
+//! The tools of the program, over any reader and writers: each makes an answer of its input or of its values, writes it on
+//! an output, or one line about what is wrong on another, and gives the exit status.
 #![tactic(auto)]
 
 mod answer;
@@ -9,8 +10,10 @@ mod streams;
 mod trouble;
 mod values;
 
-pub use answer::deliver;
+pub use answer::{Answer, deliver};
 pub use checking::tool_check;
 pub use generating::tool_gen;
 pub use replaying::tool_replay;
+pub use streams::{LONGEST, put};
 pub use trouble::{LineCause, Trouble, ValueName};
+pub use values::{MOST_CALLS, MOST_KEYS, MOST_SEED, Request};

@@ -1,6 +1,6 @@
 ghost use Rattle.std.specs.Prelude.{◌≡◌, ◌⊎◌, IfErr, IfSome};
 ghost use Rattle.lset_schedule.specs.Reading.{reading};
-ghost use Rattle.lset_tools.specs.Tools.{Ends, view};
+ghost use Rattle.lset_tools.specs.Tools.{Ends, IsTaken, view};
 ghost use Rattle.lset_tools.specs.Replaying.{IsFirstFault, Replays};
 ghost use Rattle.lset_tools.specs.declared.trouble.Trouble.TheVariants.{Memory};
 
@@ -14,6 +14,7 @@ use std::io::{Read, Write};
 
 /// The text of the report of the schedule whose text the bytes are.
 fn report_of(alloc: Global, bytes: &[u8]) -> Result<Answer, Trouble>
+    requires { IsTaken bytes.now }
     ensures replays { Replays bytes.now (view result) }
     ensures trouble { IfErr result (λ t. (t ≡ Memory) ⊎ IsFirstFault (reading bytes.now) t) }
 {

@@ -1,4 +1,4 @@
-ghost use Rattle.std.specs.Prelude.{◌≡◌, ◌++◌, ℕ, List, ◌<◌, length, Err, IfOk, IfSome, IsTrue};
+ghost use Rattle.std.specs.Prelude.{◌≡◌, ◌++◌, ℕ, List, ◌<◌, ◌≤◌, length, Err, IfOk, IfSome, IsTrue};
 ghost use Rattle.std.specs.Io.KnownBytes.{Appends};
 
 use std::alloc::Global;
@@ -20,7 +20,8 @@ pub enum InputFault {
 /// memory was refused.
 pub fn input_of<R: Read>(alloc: Global, input: &mut R) -> Result<Vec<u8>, InputFault>
     ensures whole { IfOk result (λ v. IfSome (R.remaining input.old) (λ bytes. v.items ≡ bytes)) }
-    ensures too_long { result ≡ Err InputFault.TooLong → IfSome (R.remaining input.old) (λ bytes. 67108864 < length bytes) }
+    ensures short { IfOk result (λ v. length v.items ≤ LONGEST) }
+    ensures too_long { result ≡ Err InputFault.TooLong → IfSome (R.remaining input.old) (λ bytes. LONGEST < length bytes) }
 {
     let mut bytes = Vec::new(alloc);
     let mut buffer = [0u8; 4096];

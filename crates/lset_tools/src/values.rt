@@ -5,7 +5,16 @@ ghost use Rattle.lset_tools.specs.Generating.{IsPlain, kind_at, number_at, reque
 
 use crate::trouble::ValueName;
 use lset_text::{number, read_kind};
-use lset_words::Kind;
+use lset_words::{Kind, MOST_QUOTA, MOST_THREADS};
+
+/// The most calls that a command asks for. (This project's own limit.)
+pub const MOST_CALLS: u32 = 10_000;
+
+/// The most keys from which calls are drawn.
+pub const MOST_KEYS: u32 = u32::MAX;
+
+/// The greatest seed.
+pub const MOST_SEED: u64 = u64::MAX;
 
 /// What a command takes from its values: a list, the sizes and the calls of a run, and the seed from which
 /// they are drawn.
@@ -13,14 +22,15 @@ use lset_words::Kind;
 pub struct Request {
     /// The list.
     pub kind: Kind,
-    /// 1 to 64.
+    /// 1 to `MOST_THREADS`.
     pub threads: u32,
-    /// The slots of each thread, 0 to 16,384.
+    /// The slots of each thread, 0 to `MOST_QUOTA`.
     pub quota: u32,
-    /// How many calls are asked for, 0 to 10,000.
+    /// How many calls are asked for, 0 to `MOST_CALLS`.
     pub calls: u32,
     /// Keys are below this number, which is at least 1.
     pub keys: u32,
+    /// Any number.
     pub seed: u64,
 }
 
@@ -48,7 +58,7 @@ fn is_plain(text: &[u8]) -> bool
 /// The number that the text spells: `0`, or digits of which the first is not `0`. `None` for any other text,
 /// and for a number that is no `u64`.
 fn long_number(text: &str) -> Option<u64>
-    ensures { result ≡ number_in 0 18446744073709551615 text.now }
+    ensures { result ≡ number_in 0 MOST_SEED text.now }
 {
     if !is_plain(text.as_bytes()) {
         return None;
@@ -57,7 +67,7 @@ fn long_number(text: &str) -> Option<u64>
 }
 
 fn seed_at(values: &[String], index: usize) -> Option<u64>
-    ensures { result ≡ number_at (map string_bytes values.now) index 0 18446744073709551615 }
+    ensures { result ≡ number_at (map string_bytes values.now) index 0 MOST_SEED }
 {
     long_number(values.get(index)?.as_str())
 }
@@ -71,10 +81,10 @@ pub fn read_request(values: &[String]) -> Result<Request, ValueName>
     ensures known { IfOk result (λ request. IsAccepted request.threads request.quota request.keys) }
 {
     let kind = kind_at(values, 0).ok_or(ValueName::Kind)?;
-    let threads = number_at(values, 1, 1, 64).ok_or(ValueName::Threads)?;
-    let quota = number_at(values, 2, 0, 16_384).ok_or(ValueName::Quota)?;
-    let calls = number_at(values, 3, 0, 10_000).ok_or(ValueName::Calls)?;
-    let keys = number_at(values, 4, 1, u32::MAX).ok_or(ValueName::Keys)?;
+    let threads = number_at(values, 1, 1, MOST_THREADS).ok_or(ValueName::Threads)?;
+    let quota = number_at(values, 2, 0, MOST_QUOTA).ok_or(ValueName::Quota)?;
+    let calls = number_at(values, 3, 0, MOST_CALLS).ok_or(ValueName::Calls)?;
+    let keys = number_at(values, 4, 1, MOST_KEYS).ok_or(ValueName::Keys)?;
     let seed = seed_at(values, 5).ok_or(ValueName::Seed)?;
     Ok(Request {
         kind,

@@ -8,6 +8,7 @@ use Rattle.std.proofs.lemmas.Str.Parse.{IsNumeralModel, numerals_by_value, tells
 use Rattle.lset_text.specs.Numbers.{number_in, is_number, is_between}
 use Rattle.lset_text.proofs.NumberLaws.{is_spelled}
 use Rattle.lset_tools.specs.Generating.{IsPlain}
+use Rattle.lset_tools.specs.declared.values.TheConstants.{MOST_SEED}
 use Rattle.lset_tools.proofs.values.long_number.Goals as goal
 
 own : IsNumeralModel (λ ds. all_ascii_digits ds ≡ true) (digits_value 10)
@@ -32,25 +33,25 @@ spelling_of p is =
       ];
     }
 
-no_number : (p : List ℕ) → ¬ (IsSpelling p) → None ≡ number_in 0 18446744073709551615 p
+no_number : (p : List ℕ) → ¬ (IsSpelling p) → None ≡ number_in 0 MOST_SEED p
 unfolding number_in
 no_number p other = rw (and_left (is_number p) _ (false_from_ne_true (is_number p) (λ is. other (spelling_of p is)))) refl
 
 is_plain : (p : List ℕ) → IsSpelling p → IsPlain p
 is_plain p is = (is.some, λ plus. omega (arith, plus, digit_at p 0 (own.to p is.digits) is.some), is.first)
 
-small_of : (n : ℕ) → is_between 0 18446744073709551615 n ≡ true → n < 2 ^ 64
-small_of n within = let high : n ≤ 18446744073709551615 = leb-true _ _ (and_parts (leb 0 n) (leb n 18446744073709551615) within).1 in omega (arith, high)
+small_of : (n : ℕ) → is_between 0 MOST_SEED n ≡ true → n < 2 ^ 64
+small_of n within = let high : n ≤ MOST_SEED = leb-true _ _ (and_parts (leb 0 n) (leb n MOST_SEED) within).1 in omega (arith, high)
 
 parsed : {E : Type 0} (p : List ℕ) (r : Result ℕ E)
     → OkIff r ((all_ascii_digits p ≡ true) × (0 < length p) × (digits_value 10 p < 2 ^ 64)) (digits_value 10 p)
-    → IsPlain p → result_ok r ≡ number_in 0 18446744073709551615 p
+    → IsPlain p → result_ok r ≡ number_in 0 MOST_SEED p
 unfolding number_in
 parsed p (Ok n) h plain =
-    is_spelled 0 18446744073709551615 p n h.1 plain.0 (own.to p h.0.0) (λ many zero. many (plain.2 zero)) (omega arith) (omega (arith, h.1, h.0.2))
+    is_spelled 0 MOST_SEED p n h.1 plain.0 (own.to p h.0.0) (λ many zero. many (plain.2 zero)) (omega arith) (omega (arith, h.1, h.0.2))
 parsed p (Err e) h plain =
-    rw (false_from_ne_true (is_number p && is_between 0 18446744073709551615 (digits_value 10 p)) (λ is.
-    let both = and_parts (is_number p) (is_between 0 18446744073709551615 (digits_value 10 p)) is in
+    rw (false_from_ne_true (is_number p && is_between 0 MOST_SEED (digits_value 10 p)) (λ is.
+    let both = and_parts (is_number p) (is_between 0 MOST_SEED (digits_value 10 p)) is in
     h ((spelling_of p both.0).digits, plain.0, small_of (digits_value 10 p) both.1))) refl
 
 pub returns-then-not-is_plain : goal.returns-then-not-is_plain
