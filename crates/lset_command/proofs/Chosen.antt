@@ -1,5 +1,5 @@
 -- The command that a parse of the program's words gives.
-use Rattle.std.proofs.Common.{◌≡◌, List, [], codes, Option, Some, None, Result, Ok, Err, refl, true, subst, sym, ap, ◌∙◌}
+use Rattle.std.proofs.Common.{◌≡◌, List, [], Option, Some, None, Result, Ok, Err, refl, true, subst, sym, ap, ◌∙◌}
 use Rattle.std.specs.Prelude.{option_map, Box, IsErrAnd}
 use Rattle.std.specs.Box.{box_value}
 use Rattle.clap.specs.Words.{App, HasMatchesOf, Row, Text, fault_of, is_simple, is_simple_and_free, subcommand_of, subcommand_name_of, subcommand_rows, subcommand_rows_of}
@@ -8,7 +8,9 @@ use Rattle.clap.specs.declared.error.Error.{Error}
 use Rattle.clap.specs.declared.parser.matches.ArgMatches.{ArgMatches}
 use Rattle.clap.specs.declared.parser.matches.ArgMatches.TheViews.{out-ArgMatches, out-SubCommand}
 use Rattle.clap.specs.declared.parser.matches.SubCommand.{SubCommand}
-use Rattle.lset_command.specs.Words.{choice_of, listset, values_in}
+use Rattle.lset_command.specs.Words.{choice_of, command_named, listset, values_in}
+use Rattle.lset_command.specs.declared.words.Command.{Command}
+use Rattle.lset_command.specs.declared.words.Command.TheVariants.{Replay}
 use Rattle.lset_command.specs.declared.words.Words.{Words}
 
 is_simple-listset : is_simple listset ≡ true
@@ -41,16 +43,13 @@ one_command m found name rows = go (out-ArgMatches m).subcommand
     go None named with_rows is = absurd cc
     go (Some b) named with_rows is = cc
 
-abbrev choice : Text → List Text → Text × List Text
-choice command values = (command, values)
+pub chosen_command : (command : Command) (name : Text) (values : List Text) (rows : List Row) (found : Option (Text × List Row)) → found ≡ Some (name, rows)
+    → command ≡ command_named name → values ≡ values_in rows → (command, values) ≡ choice_of found
+chosen_command command name values rows found is named all =
+    ap (λ n. (n, values)) named ∙ ap (λ v. (command_named name, v)) all ∙ sym (ap choice_of is)
 
-pub chosen_command : (command name : Text) (values : List Text) (rows : List Row) (found : Option (Text × List Row)) → found ≡ Some (name, rows)
-    → command ≡ name → values ≡ values_in rows → choice command values ≡ choice_of found
-chosen_command command name values rows found is named all = ap (λ n. choice n values) named ∙ ap (choice name) all ∙ sym (ap choice_of is)
-
-pub chosen_replay : (command : Text) (values : List Text) (found : Option (Text × List Row)) → found ≡ None → command ≡ codes "replay" → values ≡ []
-    → choice command values ≡ choice_of found
-chosen_replay command values found is named empty = ap (λ n. choice n values) named ∙ ap (choice (codes "replay")) empty ∙ sym (ap choice_of is)
+pub chosen_replay : (values : List Text) (found : Option (Text × List Row)) → found ≡ None → values ≡ [] → (Replay, values) ≡ choice_of found
+chosen_replay values found is empty = ap (λ v. (Replay, v)) empty ∙ sym (ap choice_of is)
 
 -- the same error, handed on
 pub fails_as : (kinds : Kinds) (r : Result Words Error) (e : Error) → IsErrAnd r (λ given. given ≡ e) → HasKind kinds e → FailsBy kinds r

@@ -1,10 +1,13 @@
 -- The words that the program takes: its commands and their values, as a simple command of clap, whose
 -- definitions say which values the words give.
-use Rattle.std.specs.Prelude.{List, [], map, codes, Option, Some, None, true, unwrap_or, string_bytes}
+use Rattle.std.specs.Prelude.{List, [], map, codes, Option, Some, None, true, unwrap_or, slice_get, string_bytes, if◌then◌else◌}
 use Rattle.std.specs.List.{flat_map}
+use Rattle.std.specs.Str.{bytes_eq}
 use Rattle.clap.specs.Lexer.{usize_max}
 use Rattle.clap.specs.Words.{App, Row, Rule, Text, all_of, new_app, new_rule, with_rule, with_subcommand}
 use Rattle.clap.specs.Simple.{on_top}
+use Rattle.lset_command.specs.declared.words.Command.{Command}
+use Rattle.lset_command.specs.declared.words.Command.TheVariants.{Replay, Check, Gen}
 use Rattle.lset_command.specs.declared.words.Words.{Words}
 
 -- `replay [FILE]` and `check [FILE]`
@@ -43,10 +46,30 @@ values_by name rows = unwrap_or (all_of name rows) []
 abbrev pub values_in : List Row → List Text
 values_in rows = flat_map (λ row. values_by row.id rows) rows
 
--- the command and its values; where the words name no command, it is `replay`
-abbrev pub choice_of : Option (Text × List Row) → Text × List Text
-choice_of None = (codes "replay", [])
-choice_of (Some found) = (found.0, values_in found.1)
+-- the command of a name; a parse of the program's words finds the names of `listset` alone
+unfoldable pub command_named : Text → Command
+command_named name =
+    if bytes_eq name (codes "check") then Check
+    else (if bytes_eq name (codes "gen") then Gen
+    else Replay)
 
-abbrev pub choice_in : Words → Text × List Text
-choice_in w = (string_bytes w.command, map string_bytes w.values.items)
+-- a command and its values
+abbrev pub Choice : Type 0
+Choice = Command × List Text
+
+-- what a parse of the words has found; where the words name no command, it is `replay`
+abbrev pub choice_of : Option (Text × List Row) → Choice
+choice_of None = (Replay, [])
+choice_of (Some found) = (command_named found.0, values_in found.1)
+
+abbrev pub choice_in : Words → Choice
+choice_in w = (w.command, map string_bytes w.values.items)
+
+-- the path of the file that a command reads: its first value, if it has one; `gen` reads none
+abbrev pub file_by : Command → List Text → Option Text
+file_by Replay values = slice_get values 0
+file_by Check values = slice_get values 0
+file_by Gen values = None
+
+abbrev pub file_of : Choice → Option Text
+file_of choice = file_by choice.0 choice.1

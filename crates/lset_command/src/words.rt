@@ -1,21 +1,45 @@
-ghost use Rattle.std.specs.Prelude.{◌≡◌, ◌++◌, ◌↔◌, IfOk, IsTrue, OnOk, false, map, string_bytes};
+ghost use Rattle.std.specs.Prelude.{◌≡◌, ◌++◌, ◌↔◌, IfOk, IsTrue, OnOk, false, map, option_map, string_bytes};
 ghost use Rattle.clap.specs.Words.{FailsBy, app_of, fault_of, found_of, kind_of, new_rule};
 ghost use Rattle.clap.specs.Words.{rows_of, rule_of, subcommand_of};
 ghost use Rattle.clap.specs.Walk.{texts};
 ghost use Rattle.clap.specs.declared.Command.TheViews.{out-Command};
 ghost use Rattle.clap.specs.declared.error.kind.ErrorKind.TheVariants.{OutOfMemory};
-ghost use Rattle.lset_command.specs.Words.{choice_in, choice_of, file_app, gen_app, listset};
-ghost use Rattle.lset_command.specs.Words.{rule_past_the_last, values_by, values_in};
+ghost use Rattle.lset_command.specs.Words.{choice_in, choice_of, command_named, file_app, file_of, gen_app};
+ghost use Rattle.lset_command.specs.Words.{listset, rule_past_the_last, values_by, values_in};
 
 use clap::error::ErrorKind;
-use clap::{Arg, ArgMatches, Command, Error};
+use clap::{Arg, ArgMatches, Error};
 use std::alloc::{AllocError, Global};
 
-/// A command of the program, with its values in order.
+/// A command of the program.
+#[derive(Clone, Copy, Debug, PartialEq, Eq)]
+pub enum Command {
+    /// Replays a schedule. It is the command where no word is given.
+    Replay,
+    /// Checks the order of a report.
+    Check,
+    /// Generates a schedule.
+    Gen,
+}
+
+/// A command, with its values in order as they are written.
 #[derive(Debug, Drop)]
 pub struct Words {
-    pub command: String,
+    pub command: Command,
     pub values: Vec<String>,
+}
+
+impl Words {
+    /// The path of the file that the command reads, where the words name one. Without one `replay` and `check`
+    /// read the standard input; `gen` reads nothing.
+    pub fn file(&self) -> Option<&str>
+        ensures { option_map (λ path. path.now) result ≡ file_of (choice_in self.now) }
+    {
+        match self.command {
+            Command::Replay | Command::Check => Some(self.values.first()?.as_str()),
+            Command::Gen => None,
+        }
+    }
 }
 
 // A value that may be left out, as far as `clap` is concerned.
@@ -39,23 +63,25 @@ fn file_command<'a>(
     name: &'a str,
     about: &'a str,
     file_help: &'a str,
-) -> Result<Command<'a>, AllocError>
+) -> Result<clap::Command<'a>, AllocError>
     ensures app { IfOk result (λ c. app_of c ≡ file_app name.entry.now) }
     ensures local { IfOk result (λ c. (out-Command c).has_globals ≡ false) }
 {
-    Command::new(alloc, name)
+    clap::Command::new(alloc, name)
         .about(about)
         .arg(value(alloc, "FILE", file_help))
 }
 
 // The usage is written out, since `clap` would set each value in brackets: it lets values be missing, and
 // who makes the schedule names the first that is.
-fn gen_command<'a>(alloc: Global) -> Result<Command<'a>, AllocError>
+fn gen_command<'a>(alloc: Global) -> Result<clap::Command<'a>, AllocError>
     ensures app { IfOk result (λ c. app_of c ≡ gen_app) }
     ensures local { IfOk result (λ c. (out-Command c).has_globals ≡ false) }
 {
-    Command::new(alloc, "gen")
-        .about("Prints a random schedule; the same values give the same schedule")
+    clap::Command::new(alloc, "gen")
+        .about(
+            "Prints a random schedule, of 10000 events at most; the same values give the same schedule",
+        )
         .override_usage("listset gen KIND THREADS QUOTA CALLS KEYS SEED")
         .arg(value(
             alloc,
@@ -71,7 +97,7 @@ fn gen_command<'a>(alloc: Global) -> Result<Command<'a>, AllocError>
         .arg(value(
             alloc,
             "CALLS",
-            "How many calls the threads begin together: 0 to 10000",
+            "How many calls the threads begin together, if 10000 events suffice: 0 to 10000",
         ))?
         .arg(value(
             alloc,
@@ -86,7 +112,7 @@ fn gen_command<'a>(alloc: Global) -> Result<Command<'a>, AllocError>
         .arg(values_past_the_last(alloc))
 }
 
-fn command<'a>(alloc: Global) -> Result<Command<'a>, AllocError>
+fn program_command<'a>(alloc: Global) -> Result<clap::Command<'a>, AllocError>
     ensures { IfOk result (λ c. app_of c ≡ listset) }
 {
     let replay = file_command(
@@ -101,7 +127,7 @@ fn command<'a>(alloc: Global) -> Result<Command<'a>, AllocError>
         "Checks that the order in a report explains its calls and its keys",
         "The report; standard input where it is left out",
     )?;
-    Command::new(alloc, "listset")
+    clap::Command::new(alloc, "listset")
         .about("Replays, checks and generates recorded schedules of concurrent list sets")
         .no_binary_name(true)
         .bin_name("listset")?
@@ -139,6 +165,20 @@ fn values_of(alloc: Global, found: &ArgMatches<'_>) -> Result<Vec<String>, Alloc
     Ok(values)
 }
 
+// The command of a name among those that `program_command` lists.
+#[tactic(auto, unfolding(crate::specs::Words::command_named))]
+fn command_named(name: &str) -> Command
+    ensures { result ≡ command_named name.now }
+{
+    if name == "check" {
+        Command::Check
+    } else if name == "gen" {
+        Command::Gen
+    } else {
+        Command::Replay
+    }
+}
+
 /// Reads the words that stand after the program's name, by `clap`: `replay [FILE]`, `check [FILE]`, or
 /// `gen KIND THREADS QUOTA CALLS KEYS SEED`. Values come as they are written; some or all may be missing, and
 /// `gen` may have more. No word at all gives `replay` without values. A value that begins with `-` needs a
@@ -151,15 +191,15 @@ pub fn tool_words<'a>(alloc: Global, words: &'a [&'a str]) -> Result<Words, Erro
     // clap's definition refuses no words that are taken, and has the kind of each error but want of memory
     ensures refused { FailsBy (fault_of listset (texts words.entry.now)) result }
 {
-    let matches = command(alloc)?.try_get_matches_from(words)?;
+    let matches = program_command(alloc)?.try_get_matches_from(words)?;
     let Some((name, found)) = matches.subcommand() else {
         return Ok(Words {
-            command: String::from_str(alloc, "replay")?,
+            command: Command::Replay,
             values: Vec::new(alloc),
         });
     };
     let values = values_of(alloc, found)?;
-    let command = String::from_str(alloc, name)?;
+    let command = command_named(name);
     Ok(Words { command, values })
 }
 

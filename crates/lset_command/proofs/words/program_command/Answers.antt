@@ -3,7 +3,7 @@ use Rattle.std.proofs.lemmas.Result.{IfOk-weaker}
 use Rattle.clap.specs.Words.{new_app}
 use Rattle.clap.specs.Simple.{on_top}
 use Rattle.lset_command.proofs.Commands.{IsApp, IsApp-subcommand, app_of_fields-same}
-use Rattle.lset_command.proofs.words.command.Goals as goal
+use Rattle.lset_command.proofs.words.program_command.Goals as goal
 
 pub returns : goal.returns
 returns c =
