@@ -1,0 +1,66 @@
+-- [Tools]: which tool does the command that the words ask for, and how the program ends where the words are not taken.
+use Rattle.std.specs.Prelude.{◌≡◌, ◌≢◌, ℕ, ◌⊎◌, List, [], Option, Some, None, IfSome, Ok, Err}
+use Rattle.std.specs.Io.KnownBytes.{Keeps}
+use Rattle.clap.specs.Words.{Text, fault_of, kind_of, subcommand_of, HasKind}
+use Rattle.clap.specs.declared.error.Error.{Error}
+use Rattle.clap.specs.declared.error.kind.ErrorKind.{ErrorKind}
+use Rattle.clap.specs.declared.error.kind.ErrorKind.TheVariants.{OutOfMemory, DisplayHelp, DisplayVersion}
+use Rattle.lset_command.specs.Words.{Choice, choice_of, file_of, listset}
+use Rattle.lset_command.specs.declared.words.Command.{Command}
+use Rattle.lset_command.specs.declared.words.Command.TheVariants.{Replay, Check, Gen}
+use Rattle.lset_tools.specs.declared.trouble.Trouble.TheVariants.{CannotRead, Memory}
+use Rattle.lset_tools.specs.Tools.{Made, Ends, AppendsFront}
+use Rattle.lset_tools.specs.Replaying.{Replays}
+use Rattle.lset_tools.specs.Checking.{Checks}
+use Rattle.lset_tools.specs.Generating.{Generates}
+
+-- ---- words that are taken
+
+-- what a command makes of its values, and of the bytes of its input where they are known
+abbrev pub DoesBy : Command → List Text → Option (List ℕ) → Made → Type 0
+DoesBy Replay values input made = IfSome input (λ bytes. Replays bytes made)
+DoesBy Check values input made = IfSome input (λ bytes. Checks bytes made)
+DoesBy Gen values input made = Generates values made
+
+abbrev pub Does : Choice → Option (List ℕ) → Made → Type 0
+Does choice input made = DoesBy choice.0 choice.1 input made
+
+-- where no file is named, it does so on the standard input; a file that is named may not be opened
+abbrev pub DoesOn : Option Text → Choice → (Option (List ℕ) → Type 0) → Option (List ℕ) → Made → Type 0
+DoesOn None choice IsFile input made = Does choice input made
+DoesOn (Some path) choice IsFile input made =
+    (made ≡ Err CannotRead) ⊎ ((bytes : Option (List ℕ)) × IsFile bytes × Does choice bytes made)
+
+abbrev pub DoesOnInput : Choice → (Option (List ℕ) → Type 0) → Option (List ℕ) → Made → Type 0
+DoesOnInput choice IsFile input made = DoesOn (file_of choice) choice IsFile input made
+
+-- ---- words that are not taken
+
+-- the words ask for help; the program has no version to ask for
+abbrev pub IsHelp : ErrorKind → Type 0
+IsHelp kind = (kind ≡ DisplayHelp) ⊎ (kind ≡ DisplayVersion)
+
+-- something is wrong with the words
+abbrev pub IsMistake : ErrorKind → Type 0
+IsMistake kind = (kind ≢ OutOfMemory) × (kind ≢ DisplayHelp) × (kind ≢ DisplayVersion)
+
+-- what is made of words that ask for help: some text, and status 0; or memory is refused
+abbrev pub Helps : ErrorKind → Made → Type 0
+Helps kind made = (made ≡ Err Memory) ⊎ (IsHelp kind × (text : List ℕ) × (made ≡ Ok (record { text = text; status = 0 })))
+
+-- A mistake writes nothing on the output, some text on the other, of which a front is written where a write fails, and ends with status 2.
+abbrev pub Refuses : ErrorKind → Option (List ℕ) → Option (List ℕ) → Option (List ℕ) → Option (List ℕ) → ℕ → Type 0
+Refuses kind output_old output_new faults_old faults_new status =
+    IsMistake kind × Keeps output_old output_new × (text : List ℕ) × AppendsFront faults_old faults_new text × (status ≡ 2)
+
+abbrev pub Declines : ErrorKind → Option (List ℕ) → Option (List ℕ) → Option (List ℕ) → Option (List ℕ) → ℕ → Type 0
+Declines kind output_old output_new faults_old faults_new status =
+    Ends (Helps kind) output_old output_new faults_old faults_new status
+    ⊎ Refuses kind output_old output_new faults_old faults_new status
+
+-- ---- the program on its words, by clap's definition of what they give
+
+abbrev pub Runs : List Text → (Option (List ℕ) → Type 0) → Option (List ℕ) → Option (List ℕ) → Option (List ℕ) → Option (List ℕ) → Option (List ℕ) → ℕ → Type 0
+Runs words IsFile input output_old output_new faults_old faults_new status =
+    ((fault_of listset words ≡ []) × Ends (DoesOnInput (choice_of (subcommand_of listset words)) IsFile input) output_old output_new faults_old faults_new status)
+    ⊎ ((error : Error) × HasKind (fault_of listset words) error × Declines (kind_of error) output_old output_new faults_old faults_new status)

@@ -1,0 +1,82 @@
+ghost use Rattle.std.specs.Prelude.{◌≡◌};
+ghost use Rattle.clap.specs.Words.{kind_of};
+ghost use Rattle.clap.specs.Walk.{texts};
+ghost use Rattle.lset_command.specs.Words.{choice_in};
+ghost use Rattle.lset_tools.specs.Tools.{Ends};
+ghost use Rattle.lset_dispatch.specs.Dispatch.{Declines, DoesOnInput, Runs};
+
+use crate::command::run_command;
+use clap::Error;
+use lset_command::{Words, is_out_of_memory, tool_words};
+use lset_tools::{Answer, Trouble, deliver, put};
+use std::alloc::Global;
+use std::fs::File;
+use std::io::{Read, Write};
+use std::rt::Files;
+
+/// Ends a run whose words are not taken: writes the help that was asked for on `output`, status 0, or what is wrong with
+/// the words on `faults`, status 2. Where memory was refused, before or now, it writes the line about that on `faults`,
+/// status 3. A help that is not written whole is a failing write, status 1.
+pub fn decline<W: Write, F: Write>(
+    alloc: Global,
+    error: &Error,
+    output: &mut W,
+    faults: &mut F,
+) -> u8
+    ensures { Declines (kind_of error.now)
+        (W.contents output.old) (W.contents output.new) (F.contents faults.old) (F.contents faults.new) result }
+{
+    if is_out_of_memory(error) {
+        return deliver(alloc, Err(Trouble::Memory), output, faults);
+    }
+    let Ok(text) = format!(in alloc; "{error}") else {
+        return deliver(alloc, Err(Trouble::Memory), output, faults);
+    };
+    let text = text.into_bytes();
+    if error.use_stderr() {
+        let _whole = put(faults, &text);
+        2
+    } else {
+        deliver(alloc, Ok(Answer { text, status: 0 }), output, faults)
+    }
+}
+
+/// Does the command of the words on the file that they name, or on the input where they name none.
+fn run_taken<S: Files, R: Read, W: Write, F: Write>(
+    alloc: Global,
+    files: &S,
+    words: &Words,
+    input: &mut R,
+    output: &mut W,
+    faults: &mut F,
+) -> u8
+    ensures { Ends (DoesOnInput (choice_in words.now) (λ bytes. (file : S.File) × (bytes ≡ S.File.remaining file)) (R.remaining input.old))
+        (W.contents output.old) (W.contents output.new) (F.contents faults.old) (F.contents faults.new) result }
+{
+    let Some(path) = words.file() else {
+        return run_command(alloc, words, input, output, faults);
+    };
+    match File::open(files, path) {
+        Ok(mut file) => run_command(alloc, words, &mut file, output, faults),
+        Err(_) => deliver(alloc, Err(Trouble::CannotRead), output, faults),
+    }
+}
+
+/// Runs the program on the words that stand after its name: does the command that they ask for, on the file that they
+/// name among `files` or on `input`, or ends as `decline` does. Gives the exit status.
+pub fn run_words<S: Files, R: Read, W: Write, F: Write>(
+    alloc: Global,
+    files: &S,
+    words: &[&str],
+    input: &mut R,
+    output: &mut W,
+    faults: &mut F,
+) -> u8
+    ensures { Runs (texts words.entry.now) (λ bytes. (file : S.File) × (bytes ≡ S.File.remaining file)) (R.remaining input.old)
+        (W.contents output.old) (W.contents output.new) (F.contents faults.old) (F.contents faults.new) result }
+{
+    match tool_words(alloc, words) {
+        Ok(words) => run_taken(alloc, files, &words, input, output, faults),
+        Err(error) => decline(alloc, &error, output, faults),
+    }
+}
