@@ -1,4 +1,4 @@
-use super::devices::{Reader, Writer};
+use super::devices::{Reader, Writer, check_run};
 use lset_tools::tool_check;
 use std::test::Fail;
 
@@ -15,43 +15,38 @@ const LEFT_OUT: &str =
 #[test]
 fn an_order_is_explained_or_its_first_fault_is_named(rt: HostRuntime) -> Result<(), Fail> {
     let rows = [
-        ("place 0 true\nplace 1 true\nkey 5\nkey 7\n", "ok\n", 0),
+        ("place 0 true\nplace 1 true\nkey 5\nkey 7\n", 0, "ok\n"),
         (
             "place 1 true\nplace 0 true\nkey 5\nkey 7\n",
-            "refused TooEarly 1\n",
             1,
+            "refused TooEarly 1\n",
         ),
         (
             "place 0 true\nplace 1 false\nkey 5\nkey 7\n",
-            "refused WrongReply 1\n",
             1,
+            "refused WrongReply 1\n",
         ),
-        ("place 0 true\nkey 5\nkey 7\n", "refused Missing 1\n", 1),
+        ("place 0 true\nkey 5\nkey 7\n", 1, "refused Missing 1\n"),
         (
             "place 0 true\nplace 0 true\nkey 5\nkey 7\n",
-            "refused Twice 0\n",
             1,
+            "refused Twice 0\n",
         ),
         (
             "place 0 true\nplace 1 true\nplace 2 true\nkey 5\nkey 7\n",
-            "refused Unknown 2\n",
             1,
+            "refused Unknown 2\n",
         ),
         (
             "place 0 true\nplace 1 true\nkey 5\n",
-            "refused WrongSet\n",
             1,
+            "refused WrongSet\n",
         ),
     ];
-    for (order_and_keys, answer, wanted) in rows {
+    for (order_and_keys, status, answer) in rows {
         let text = format!(in rt.alloc(); "{TWO_ADDS}{order_and_keys}end\n")?;
-        let mut output = Vec::new(rt.alloc());
-        let mut faults = Vec::new(rt.alloc());
-        let mut input = text.as_bytes();
-        let status = tool_check(rt.alloc(), &mut input, &mut output, &mut faults);
-        assert_eq!(rt; output.as_slice(), answer.as_bytes(), "{order_and_keys}");
-        assert_eq!(rt; status, wanted, "{order_and_keys}");
-        assert!(rt; faults.is_empty(), "{order_and_keys}");
+        let run = check_run(rt.alloc(), &mut text.as_bytes());
+        assert_eq!(rt; run.told()?, (status, answer, ""));
     }
     Ok(())
 }
@@ -65,13 +60,8 @@ fn reports_of_every_list_are_checked(rt: HostRuntime) -> Result<(), Fail> {
         "listset-report 1\nlist lock-free\nthreads 1\nquota 0\ncall 0 0 add 5 1 4 full\nplace 0 full\nend\n",
     ];
     for text in texts {
-        let mut output = Vec::new(rt.alloc());
-        let mut faults = Vec::new(rt.alloc());
-        let mut input = text.as_bytes();
-        let status = tool_check(rt.alloc(), &mut input, &mut output, &mut faults);
-        assert_eq!(rt; output.as_slice(), b"ok\n".as_slice(), "{text}");
-        assert_eq!(rt; status, 0, "{text}");
-        assert!(rt; faults.is_empty(), "{text}");
+        let run = check_run(rt.alloc(), &mut text.as_bytes());
+        assert_eq!(rt; run.told()?, (0, "ok\n", ""), "{text}");
     }
     Ok(())
 }
@@ -95,18 +85,17 @@ fn a_text_that_is_no_report_gets_one_line(rt: HostRuntime) -> Result<(), Fail> {
             "call 0 0 add 5 1 8 true\nkey 6\nplace 0 true\nkey 5\nend\n",
             "listset: line 7: Line\n",
         ),
+        (
+            "call 0 0 add 5 1 4294967296 true\nplace 0 true\nkey 5\nend\n",
+            "listset: line 5: Number\n",
+        ),
     ];
     for (rest, line) in rows {
         let text = format!(in rt.alloc();
             "listset-report 1\nlist coarse\nthreads 1\nquota 4\n{rest}"
         )?;
-        let mut output = Vec::new(rt.alloc());
-        let mut faults = Vec::new(rt.alloc());
-        let mut input = text.as_bytes();
-        let status = tool_check(rt.alloc(), &mut input, &mut output, &mut faults);
-        assert_eq!(rt; status, 1, "{rest}");
-        assert_eq!(rt; faults.as_slice(), line.as_bytes(), "{rest}");
-        assert!(rt; output.is_empty(), "{rest}");
+        let run = check_run(rt.alloc(), &mut text.as_bytes());
+        assert_eq!(rt; run.told()?, (1, "", line), "{rest}");
     }
     Ok(())
 }
@@ -114,14 +103,10 @@ fn a_text_that_is_no_report_gets_one_line(rt: HostRuntime) -> Result<(), Fail> {
 #[test]
 fn a_report_whose_reading_fails_is_not_judged(rt: HostRuntime) -> Result<(), Fail> {
     for fails_at in [0, 1, 60, EXPLAINED.len() - 1, EXPLAINED.len()] {
-        let mut output = Vec::new(rt.alloc());
-        let mut faults = Vec::new(rt.alloc());
         let mut input = Reader::new(EXPLAINED, fails_at);
-        let status = tool_check(rt.alloc(), &mut input, &mut output, &mut faults);
-        assert_eq!(rt; status, 1);
+        let run = check_run(rt.alloc(), &mut input);
         assert_eq!(rt; input.calls, fails_at + 1);
-        assert_eq!(rt; faults.as_slice(), b"listset: cannot read\n".as_slice());
-        assert!(rt; output.is_empty());
+        assert_eq!(rt; run.told()?, (1, "", "listset: cannot read\n"));
     }
     Ok(())
 }

@@ -1,55 +1,16 @@
-use super::devices::Writer;
+use super::devices::{Writer, check_run, gen_run, replay_run, texts};
 use lset_tools::tool_gen;
-use lset_tools::tool_replay;
-use std::alloc::Global;
 use std::test::Fail;
 
-/// What a run of the command wrote, and its status.
-#[derive(Drop)]
-struct Run {
-    output: Vec<u8>,
-    faults: Vec<u8>,
-    status: u8,
-}
-
-fn texts(alloc: Global, values: &[&str]) -> Result<Vec<String>, Fail> {
-    let mut texts = Vec::new(alloc);
-    for value in values {
-        texts.push(String::from_str(alloc, value)?)?;
-    }
-    Ok(texts)
-}
+const KINDS: [&str; 5] = ["coarse", "fine", "optimistic", "lazy", "lock-free"];
 
 /// Six right values, but for the one with the index, which is spelled as given.
-fn texts_with(alloc: Global, wrong: usize, spelling: &str) -> Result<Vec<String>, Fail> {
-    let mut texts = Vec::new(alloc);
-    for (index, value) in ["fine", "2", "4", "10", "8", "1"].iter().enumerate() {
-        let text = if index == wrong { spelling } else { *value };
-        texts.push(String::from_str(alloc, text)?)?;
+fn values_with<'a>(wrong: usize, spelling: &'a str) -> [&'a str; 6] {
+    let mut values = ["fine", "2", "4", "10", "8", "1"];
+    if wrong < 6 {
+        values[wrong] = spelling;
     }
-    Ok(texts)
-}
-
-fn run_of(alloc: Global, values: &[String]) -> Run {
-    let mut output = Vec::new(alloc);
-    let mut faults = Vec::new(alloc);
-    let status = tool_gen(alloc, values, &mut output, &mut faults);
-    Run {
-        output,
-        faults,
-        status,
-    }
-}
-
-fn gen_run(alloc: Global, values: &[&str]) -> Result<Run, Fail> {
-    let values = texts(alloc, values)?;
-    Ok(run_of(alloc, &values))
-}
-
-/// How many lines of the text begin with the front.
-fn count_lines(text: &[u8], front: &str) -> Result<usize, Fail> {
-    let lines = std::str::from_utf8(text)?.lines();
-    Ok(lines.filter(|line| line.starts_with(front)).count())
+    values
 }
 
 #[test]
@@ -93,9 +54,7 @@ fn a_schedule_without_calls_is_its_header(rt: HostRuntime) -> Result<(), Fail> {
     ];
     for (values, text) in rows {
         let run = gen_run(rt.alloc(), &values)?;
-        assert_eq!(rt; run.status, 0, "{text}");
-        assert_eq!(rt; run.output.as_slice(), text.as_bytes(), "{text}");
-        assert!(rt; run.faults.is_empty(), "{text}");
+        assert_eq!(rt; run.told()?, (0, text, ""));
     }
     Ok(())
 }
@@ -121,11 +80,8 @@ fn a_wrong_value_is_named(rt: HostRuntime) -> Result<(), Fail> {
     for (wrong, name, spellings) in rows {
         let line = format!(in rt.alloc(); "listset: bad {name}\n")?;
         for spelling in spellings {
-            let values = texts_with(rt.alloc(), wrong, spelling)?;
-            let run = run_of(rt.alloc(), &values);
-            assert_eq!(rt; run.status, 2, "{name} {spelling}");
-            assert_eq!(rt; run.faults.as_slice(), line.as_bytes(), "{name} {spelling}");
-            assert!(rt; run.output.is_empty(), "{name} {spelling}");
+            let run = gen_run(rt.alloc(), &values_with(wrong, spelling))?;
+            assert_eq!(rt; run.told()?, (2, "", line.as_str()), "{spelling}");
         }
     }
     Ok(())
@@ -147,41 +103,36 @@ fn the_first_wrong_or_missing_value_is_named(rt: HostRuntime) -> Result<(), Fail
     for (values, name) in rows {
         let run = gen_run(rt.alloc(), values)?;
         let line = format!(in rt.alloc(); "listset: bad {name}\n")?;
-        assert_eq!(rt; run.status, 2, "{name}");
-        assert_eq!(rt; run.faults.as_slice(), line.as_bytes(), "{name}");
-        assert!(rt; run.output.is_empty(), "{name}");
+        assert_eq!(rt; run.told()?, (2, "", line.as_str()));
     }
     Ok(())
 }
 
 #[test]
 fn the_seed_alone_chooses_among_schedules(rt: HostRuntime) -> Result<(), Fail> {
-    for kind in ["coarse", "fine", "optimistic", "lazy", "lock-free"] {
+    for kind in KINDS {
         let first = gen_run(rt.alloc(), &[kind, "2", "4", "50", "8", "1"])?;
         let again = gen_run(rt.alloc(), &[kind, "2", "4", "50", "8", "1"])?;
         let longer = gen_run(rt.alloc(), &[kind, "2", "4", "50", "8", "1", "0", ""])?;
         let other = gen_run(rt.alloc(), &[kind, "2", "4", "50", "8", "2"])?;
-        assert_eq!(rt; first.status, 0);
-        assert_eq!(rt; first.output.as_slice(), again.output.as_slice());
-        assert_eq!(rt; first.output.as_slice(), longer.output.as_slice());
-        assert_eq!(rt; other.status, 0);
-        assert_ne!(rt; first.output.as_slice(), other.output.as_slice());
+        assert_eq!(rt; first.told()?, again.told()?);
+        assert_eq!(rt; first.told()?, longer.told()?);
+        assert_ne!(rt; first.told()?, other.told()?);
     }
     Ok(())
 }
 
 #[test]
-fn a_generated_schedule_is_replayed(rt: HostRuntime) -> Result<(), Fail> {
-    for kind in ["coarse", "fine", "optimistic", "lazy", "lock-free"] {
+fn a_generated_schedule_is_replayed_and_its_order_explains_it(rt: HostRuntime) -> Result<(), Fail> {
+    for kind in KINDS {
         for seed in ["0", "1", "2", "3", "18446744073709551615"] {
-            let run = gen_run(rt.alloc(), &[kind, "2", "4", "50", "8", seed])?;
-            assert!(rt; count_lines(&run.output, "begin ")? > 0, "{kind} {seed}");
-            let mut input = run.output.as_slice();
-            let mut report = Vec::new(rt.alloc());
-            let mut faults = Vec::new(rt.alloc());
-            let status = tool_replay(rt.alloc(), &mut input, &mut report, &mut faults);
-            assert_eq!(rt; status, 0, "{kind} {seed}");
-            assert!(rt; faults.is_empty(), "{kind} {seed}");
+            let schedule = gen_run(rt.alloc(), &[kind, "2", "4", "50", "8", seed])?;
+            let begun = schedule.count_lines("begin ")?;
+            assert!(rt; begun > 0);
+            let report = replay_run(rt.alloc(), &mut schedule.output.as_slice());
+            assert_eq!(rt; report.count_lines("call ")?, begun);
+            let verdict = check_run(rt.alloc(), &mut report.output.as_slice());
+            assert_eq!(rt; verdict.told()?, (0, "ok\n", ""));
         }
     }
     Ok(())
@@ -189,17 +140,31 @@ fn a_generated_schedule_is_replayed(rt: HostRuntime) -> Result<(), Fail> {
 
 #[test]
 fn all_calls_of_one_thread_are_begun_and_ended(rt: HostRuntime) -> Result<(), Fail> {
-    for kind in ["coarse", "fine", "optimistic", "lazy", "lock-free"] {
-        let run = gen_run(rt.alloc(), &[kind, "1", "60", "50", "8", "1"])?;
-        assert_eq!(rt; count_lines(&run.output, "begin ")?, 50, "{kind}");
-        let mut input = run.output.as_slice();
-        let mut report = Vec::new(rt.alloc());
-        let mut faults = Vec::new(rt.alloc());
-        let status = tool_replay(rt.alloc(), &mut input, &mut report, &mut faults);
-        assert_eq!(rt; status, 0, "{kind}");
-        assert_eq!(rt; count_lines(&report, "call ")?, 50, "{kind}");
-        let open = std::str::from_utf8(&report)?.contains("open");
-        assert!(rt; !open, "{kind}");
+    for kind in KINDS {
+        let schedule = gen_run(rt.alloc(), &[kind, "1", "60", "50", "8", "1"])?;
+        assert_eq!(rt; schedule.count_lines("begin ")?, 50);
+        let report = replay_run(rt.alloc(), &mut schedule.output.as_slice());
+        assert_eq!(rt; report.status, 0);
+        assert_eq!(rt; report.count_lines("call ")?, 50);
+        let open = std::str::from_utf8(&report.output)?.contains("open");
+        assert!(rt; !open);
+    }
+    Ok(())
+}
+
+#[test]
+fn a_schedule_ends_at_10000_events_and_one_more_is_refused(rt: HostRuntime) -> Result<(), Fail> {
+    for kind in KINDS {
+        let mut schedule = gen_run(rt.alloc(), &[kind, "8", "2000", "10000", "200", "1"])?;
+        let begun = schedule.count_lines("begin ")?;
+        assert_eq!(rt; schedule.count_lines("go ")? + begun, 10_000);
+        let report = replay_run(rt.alloc(), &mut schedule.output.as_slice());
+        assert_eq!(rt; report.count_lines("call ")?, begun);
+        let verdict = check_run(rt.alloc(), &mut report.output.as_slice());
+        assert_eq!(rt; verdict.told()?, (0, "ok\n", ""));
+        schedule.output.extend_from_slice(b"go 0 1\n")?;
+        let refused = replay_run(rt.alloc(), &mut schedule.output.as_slice());
+        assert_eq!(rt; refused.told()?, (1, "", "listset: line 10005: TooMany\n"));
     }
     Ok(())
 }

@@ -1,4 +1,4 @@
-//! The tests of the program's tools and of its words.
+//! The tests of the program: its words, its tools, and which tool does what the words ask for.
 #![tactic(auto)]
 
 #[cfg(test)]
@@ -9,5 +9,7 @@ mod commands;
 mod devices;
 #[cfg(test)]
 mod generating;
+#[cfg(test)]
+mod programs;
 #[cfg(test)]
 mod replaying;

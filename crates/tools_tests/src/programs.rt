@@ -1,0 +1,105 @@
+use super::devices::{Writer, words_run};
+use lset_dispatch::run_words;
+use std::fs;
+use std::test::Fail;
+
+const ONE_ADD: &str =
+    "listset-schedule 1\nlist coarse\nthreads 1\nquota 4\nbegin 0 add 5\ngo 0 7\n";
+
+const ONE_ADD_REPORT: &str =
+    "listset-report 1\nlist coarse\nthreads 1\nquota 4\ncall 0 0 add 5 1 8 true\nplace 0 true\nkey 5\nend\n";
+
+#[test]
+fn each_command_is_done_on_the_standard_input(rt: HostRuntime) -> Result<(), Fail> {
+    let rows: [(&[&str], &str, (u8, &str, &str)); 8] = [
+        (&[], ONE_ADD, (0, ONE_ADD_REPORT, "")),
+        (&["replay"], ONE_ADD, (0, ONE_ADD_REPORT, "")),
+        (
+            &["replay"],
+            ONE_ADD_REPORT,
+            (1, "", "listset: line 1: Header\n"),
+        ),
+        (&["check"], ONE_ADD_REPORT, (0, "ok\n", "")),
+        (&["check"], ONE_ADD, (1, "", "listset: line 1: Header\n")),
+        (
+            &["gen", "skip", "1", "4", "0", "8", "1"],
+            "",
+            (2, "", "listset: bad KIND\n"),
+        ),
+        (&["gen"], ONE_ADD, (2, "", "listset: bad KIND\n")),
+        (
+            &["gen", "fine", "2", "4", "0", "8", "1"],
+            "",
+            (0, "listset-schedule 1\nlist fine\nthreads 2\nquota 4\n", ""),
+        ),
+    ];
+    for (words, input, wanted) in rows {
+        assert_eq!(rt; words_run(&rt, words, input).told()?, wanted);
+    }
+    Ok(())
+}
+
+#[test]
+fn a_file_is_read_in_place_of_the_standard_input(rt: HostRuntime) -> Result<(), Fail> {
+    fs::write(&rt, "one_add.schedule", ONE_ADD)?;
+    fs::write(&rt, "one_add.report", ONE_ADD_REPORT)?;
+    let rows: [(&[&str], (u8, &str, &str)); 6] = [
+        (&["replay", "one_add.schedule"], (0, ONE_ADD_REPORT, "")),
+        (&["check", "one_add.report"], (0, "ok\n", "")),
+        (
+            &["check", "--", "one_add.schedule"],
+            (1, "", "listset: line 1: Header\n"),
+        ),
+        (
+            &["replay", "no_such_file"],
+            (1, "", "listset: cannot read\n"),
+        ),
+        (
+            &["check", "no_such_file"],
+            (1, "", "listset: cannot read\n"),
+        ),
+        (&["replay", "."], (1, "", "listset: cannot read\n")),
+    ];
+    for (words, wanted) in rows {
+        assert_eq!(rt; words_run(&rt, words, "no schedule").told()?, wanted);
+    }
+    fs::remove_file(&rt, "one_add.schedule")?;
+    fs::remove_file(&rt, "one_add.report")?;
+    Ok(())
+}
+
+#[test]
+fn help_goes_to_the_output_and_a_mistake_to_standard_error(rt: HostRuntime) -> Result<(), Fail> {
+    let help = words_run(&rt, &["--help"], ONE_ADD);
+    assert_eq!(rt; help.status, 0);
+    assert!(rt; std::str::from_utf8(&help.output)?.contains("\nUsage: listset [COMMAND]\n"));
+    assert!(rt; help.faults.is_empty());
+    for words in [["skip", "a"], ["run", "fine"], ["gen", "-1"]] {
+        let wrong = words_run(&rt, &words, ONE_ADD);
+        assert_eq!(rt; wrong.status, 2);
+        assert!(rt; wrong.output.is_empty());
+        assert!(rt; std::str::from_utf8(&wrong.faults)?.starts_with("error: "));
+    }
+    Ok(())
+}
+
+#[test]
+fn a_help_that_is_not_written_is_a_failing_write(rt: HostRuntime) -> Result<(), Fail> {
+    let mut faults = Vec::new(rt.alloc());
+    let mut output = Writer {
+        calls: 0,
+        fails_at: 3,
+    };
+    let status = run_words(
+        rt.alloc(),
+        &rt,
+        &["--help"],
+        &mut "".as_bytes(),
+        &mut output,
+        &mut faults,
+    );
+    assert_eq!(rt; status, 1);
+    assert_eq!(rt; output.calls, 4);
+    assert_eq!(rt; faults.as_slice(), b"listset: cannot write\n".as_slice());
+    Ok(())
+}
