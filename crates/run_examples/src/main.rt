@@ -1,62 +1,107 @@
-//! Runs the examples, as a program over the library would: for each word NAME it replays `NAME.schedule`, checks the
-//! report's order, and tells whether the report is the text of `NAME.report`, or why the schedule is refused.
+//! Runs the examples, as a program over the library would. Of each file of the folder that it runs in, by name: `NAME.schedule`
+//! is replayed and its report compared with `NAME.report`; the order of `NAME.report` is checked against its calls and keys.
 #![tactic(auto)]
 
-ghost use Rattle.std.specs.Prelude.{◌≡◌, IfOk};
+ghost use Rattle.std.specs.Prelude.{◌≡◌, length, IfOk};
+ghost use Rattle.lset_history.specs.Faults.{Explains};
 ghost use Rattle.lset_schedule.specs.Plan.{Plan, IsSchedule, schedule_text};
 ghost use Rattle.lset_replay.specs.Reports.{ReportValue, IsExplained};
 ghost use Rattle.lset_replay.specs.Texts.{report_text};
 
 use lset_history::{OrderFault, check_order};
-use lset_replay::{ReplayFault, replay, write_report};
+use lset_replay::{ReplayFault, ReportFault, read_report, replay, write_report};
 use lset_schedule::{ScheduleFault, read_schedule};
 use std::alloc::{AllocError, Global};
 use std::{fs, io};
 use thiserror::Error;
 
-/// Why there is no report.
+/// Why a text is refused.
 #[derive(Debug, Drop, Error)]
 enum Refusal {
     #[error("{0}")]
-    Text(#[from] ScheduleFault),
+    Schedule(#[from] ScheduleFault),
     #[error("{0}")]
     Replay(#[from] ReplayFault),
+    #[error("{0}")]
+    Report(#[from] ReportFault),
     #[error("{0}")]
     Order(#[from] OrderFault),
     #[error("out of memory")]
     Memory(#[from] AllocError),
 }
 
-/// The text of the report of a schedule, whose order has been checked.
+/// The text of the report of a schedule.
 fn report_of(alloc: Global, text: &[u8]) -> Result<Vec<u8>, Refusal>
     ensures { IfOk result (λ v. (p : Plan) × (r : ReportValue) × IsSchedule p × (text.now ≡ schedule_text p)
         × IsExplained r × (v.items ≡ report_text r)) }
 {
     let schedule = read_schedule(alloc, text)?;
     let report = replay(alloc, &schedule)?;
-    check_order(alloc, &report.history, &report.order, &report.keys)?;
     Ok(write_report(alloc, &report)?)
 }
 
-/// Tells of one example what came of its schedule.
-fn run_example(rt: &HostRuntime, name: &str) -> io::Result<()> {
+/// How many calls stand in the order of a report, which explains its calls and keys.
+fn placed_in(alloc: Global, text: &[u8]) -> Result<usize, Refusal>
+    ensures { IfOk result (λ n. (r : ReportValue) × (text.now ≡ report_text r)
+        × Explains r.history r.order r.keys × (n ≡ length r.order)) }
+{
+    let report = read_report(alloc, text)?;
+    check_order(alloc, &report.history, &report.order, &report.keys)?;
+    Ok(report.order.len())
+}
+
+/// How many whole lines two texts have alike before they differ, or end.
+fn lines_alike(one: &[u8], other: &[u8]) -> usize {
+    one.iter()
+        .zip(other)
+        .take_while(|pair| pair.0 == pair.1)
+        .filter(|pair| *pair.0 == b'\n')
+        .count()
+}
+
+fn run_schedule(rt: &HostRuntime, name: &str) -> io::Result<()> {
     let alloc = rt.alloc();
     let schedule = fs::read(rt, format!(in alloc; "{name}.schedule")?)?;
-    let text = match report_of(alloc, &schedule) {
-        Ok(text) => text,
-        Err(refusal) => return println!(rt; "{name}: refused, {refusal}"),
+    let report = match report_of(alloc, &schedule) {
+        Ok(report) => report,
+        Err(refusal) => return println!(rt; "{name}.schedule: refused, {refusal}"),
     };
     let wanted = fs::read(rt, format!(in alloc; "{name}.report")?)?;
-    if text == wanted {
-        println!(rt; "{name}: its report, whose order explains it")
+    let alike = lines_alike(&report, &wanted);
+    if report == wanted {
+        println!(rt; "{name}.schedule: its report, {alike} lines")
     } else {
-        println!(rt; "{name}: another report")
+        println!(rt; "{name}.schedule: another report after {alike} lines")
     }
 }
 
+fn check_report(rt: &HostRuntime, name: &str) -> io::Result<()> {
+    let alloc = rt.alloc();
+    let report = fs::read(rt, format!(in alloc; "{name}.report")?)?;
+    match placed_in(alloc, &report) {
+        Ok(calls) => println!(rt; "{name}.report: explained, {calls} in order"),
+        Err(refusal) => println!(rt; "{name}.report: refused, {refusal}"),
+    }
+}
+
+/// The names of the folder's files, in their order.
+fn files(rt: &HostRuntime) -> io::Result<Vec<String>> {
+    let mut names = Vec::new(rt.alloc());
+    for entry in fs::read_dir(rt, ".")? {
+        names.push(String::from_str(rt.alloc(), entry?.file_name())?)?;
+    }
+    names.sort()?;
+    Ok(names)
+}
+
 fn main(rt: HostRuntime) -> io::Result<()> {
-    for name in std::env::args(&rt)?.skip(1) {
-        run_example(&rt, name.as_str())?;
+    for file in &files(&rt)? {
+        if let Some(name) = file.strip_suffix(".schedule") {
+            run_schedule(&rt, name)?;
+        }
+        if let Some(name) = file.strip_suffix(".report") {
+            check_report(&rt, name)?;
+        }
     }
     Ok(())
 }
