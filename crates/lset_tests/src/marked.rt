@@ -47,7 +47,7 @@ fn moments_of<M: Machine>(alloc: Global, text: &str) -> Result<Vec<Moment>, Fail
     let mut moments = Vec::new(alloc);
     for event in events_of(alloc, &schedule)?.iter() {
         let told = world.step(*event)?;
-        let content = world.content(alloc)?;
+        let content = world.content()?;
         moments.push(Moment {
             event: *event,
             told,

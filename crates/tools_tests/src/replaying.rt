@@ -115,14 +115,15 @@ fn a_failing_line_about_a_fault_leaves_the_status(rt: HostRuntime) -> Result<(),
 }
 
 #[test]
-fn an_input_of_one_byte_more_than_the_longest_is_too_long(rt: HostRuntime) -> Result<(), Fail> {
-    let rows = [
-        (LONGEST, "listset: line 1: NotEnded\n"),
-        (LONGEST + 1, "listset: too long\n"),
-    ];
-    for (left, line) in rows {
-        let run = replay_run(rt.alloc(), &mut Zeros { left });
-        assert_eq!(rt; run.told()?, (1, "", line));
-    }
+fn an_input_of_the_longest_length_is_read(rt: HostRuntime) -> Result<(), Fail> {
+    let run = replay_run(rt.alloc(), &mut Zeros { left: LONGEST });
+    assert_eq!(rt; run.told()?, (1, "", "listset: line 1: NotEnded\n"));
+    Ok(())
+}
+
+#[test]
+fn an_input_of_one_byte_more_is_too_long(rt: HostRuntime) -> Result<(), Fail> {
+    let run = replay_run(rt.alloc(), &mut Zeros { left: LONGEST + 1 });
+    assert_eq!(rt; run.told()?, (1, "", "listset: too long\n"));
     Ok(())
 }
