@@ -1,6 +1,6 @@
 use lset_coarse::*;
 use lset_steps::{Event, StepFault, Told, World};
-use lset_words::layout;
+use lset_words::{Call, Key, Reply, layout};
 use std::test::Fail;
 
 /// Makes a call of thread 0 to its end: the reply, and the number of steps.

@@ -1,6 +1,6 @@
 use lset_fine::*;
 use lset_steps::{Event, StepFault, World};
-use lset_words::layout;
+use lset_words::{Call, Key, Reply, layout};
 use std::test::Fail;
 
 /// Makes the event so many times: the answer of the last one. A step past the end of a call is refused.
