@@ -2,6 +2,7 @@
 use Rattle.std.specs.Prelude.{◌≡◌, ◌≢◌, ℕ, ◌<◌, List, length, slice_index, Option, option_and_then, slice_get, Result, Ok, Err}
 use Rattle.lset_words.specs.declared.Kind.{Kind}
 use Rattle.lset_steps.specs.Steps.{Table}
+use Rattle.lset_lists.specs.Tables.{table_of}
 use Rattle.lset_text.specs.Numbers.{number_in}
 use Rattle.lset_text.specs.Reading.{◌>>=◌, or_fail}
 use Rattle.lset_text.specs.Words.{kind_of}
@@ -10,7 +11,6 @@ use Rattle.lset_schedule.specs.Generating.{IsGenerated}
 use Rattle.lset_schedule.specs.Plan.{Plan, IsSchedule, schedule_text}
 use Rattle.lset_schedule.specs.declared.fault.GenFault.{GenFault}
 use Rattle.lset_schedule.specs.declared.fault.GenFault.TheVariants as generator
-use Rattle.lset_replay.specs.Reports.{table_of}
 use Rattle.lset_tools.specs.declared.trouble.Trouble.{Trouble}
 use Rattle.lset_tools.specs.declared.trouble.Trouble.TheVariants.{Memory, Bad}
 use Rattle.lset_tools.specs.declared.trouble.ValueName.{ValueName}
