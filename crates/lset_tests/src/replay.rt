@@ -318,7 +318,7 @@ fn schedules_and_their_reports(rt: HostRuntime) -> Result<(), Fail> {
         assert_eq!(rt; again.as_slice(), text.as_bytes());
         let report = replay(rt.alloc(), &schedule)?;
         let checked = check_order(rt.alloc(), &report.history, &report.order, &report.keys);
-        assert_eq!(rt; checked, Ok(()), "{text}");
+        assert_eq!(rt; checked, Ok(()));
         let want = format!(in rt.alloc(); "listset-report 1\n{header}{lines}")?;
         let written = write_report(rt.alloc(), &report)?;
         assert_eq!(rt; written.as_slice(), want.as_bytes(), "{text}");
@@ -326,6 +326,52 @@ fn schedules_and_their_reports(rt: HostRuntime) -> Result<(), Fail> {
         let again = write_report(rt.alloc(), &report)?;
         assert_eq!(rt; again.as_slice(), want.as_bytes());
     }
+    Ok(())
+}
+
+/// The last thread of the largest table adds a key to it.
+#[test]
+fn the_largest_table(rt: HostRuntime) -> Result<(), Fail> {
+    let text =
+        b"listset-schedule 1\nlist lock-free\nthreads 64\nquota 16384\nbegin 63 add 5\ngo 63 6\n";
+    let schedule = read_schedule(rt.alloc(), text)?;
+    let report = replay(rt.alloc(), &schedule)?;
+    let written = write_report(rt.alloc(), &report)?;
+    let want = b"listset-report 1\nlist lock-free\nthreads 64\nquota 16384\n\
+        call 0 63 add 5 1 7 true\nplace 0 true\nkey 5\nend\n";
+    assert_eq!(rt; written.as_slice(), want.as_slice());
+    Ok(())
+}
+
+/// As many events as there may be: 1,428 adds to a lock-free list, each of a key below all others, which takes 6 steps,
+/// and one that finds its thread without a slot after 3.
+#[test]
+fn as_many_events_as_there_may_be(rt: HostRuntime) -> Result<(), Fail> {
+    let header = "list lock-free\nthreads 1\nquota 1428\n";
+    let mut text = format!(in rt.alloc(); "listset-schedule 1\n{header}")?;
+    let mut want = format!(in rt.alloc(); "listset-report 1\n{header}")?;
+    for call in 0..1428u32 {
+        let key = 2000 - call;
+        let begun = 7 * call + 1;
+        writeln!(text, "begin 0 add {key}\ngo 0 6")?;
+        writeln!(want, "call {call} 0 add {key} {begun} {} true", begun + 6)?;
+    }
+    writeln!(text, "begin 0 add 5\ngo 0 3")?;
+    writeln!(want, "call 1428 0 add 5 9997 10000 full")?;
+    for call in 0..1428u32 {
+        writeln!(want, "place {call} true")?;
+    }
+    writeln!(want, "place 1428 full")?;
+    for key in 573..2001u32 {
+        writeln!(want, "key {key}")?;
+    }
+    writeln!(want, "end")?;
+    let schedule = read_schedule(rt.alloc(), text.as_bytes())?;
+    let report = replay(rt.alloc(), &schedule)?;
+    let checked = check_order(rt.alloc(), &report.history, &report.order, &report.keys);
+    assert_eq!(rt; checked, Ok(()));
+    let written = write_report(rt.alloc(), &report)?;
+    assert_eq!(rt; written.as_slice(), want.as_bytes());
     Ok(())
 }
 

@@ -3,6 +3,7 @@ use Rattle.std.specs.Prelude.{◌≡◌, ◌≢◌, ℕ, ◌<◌, List, length, 
 use Rattle.lset_words.specs.declared.Kind.{Kind}
 use Rattle.lset_words.specs.declared.TheConstants.{MOST_THREADS, MOST_QUOTA}
 use Rattle.lset_steps.specs.Steps.{Table}
+use Rattle.lset_lists.specs.Tables.{table_of}
 use Rattle.lset_text.specs.Numbers.{number_in}
 use Rattle.lset_text.specs.Reading.{◌>>=◌, or_fail}
 use Rattle.lset_text.specs.Words.{kind_of}
@@ -11,7 +12,6 @@ use Rattle.lset_schedule.specs.Generating.{IsGenerated}
 use Rattle.lset_schedule.specs.Plan.{Plan, IsSchedule, schedule_text}
 use Rattle.lset_schedule.specs.declared.fault.GenFault.{GenFault}
 use Rattle.lset_schedule.specs.declared.fault.GenFault.TheVariants as generator
-use Rattle.lset_replay.specs.Reports.{table_of}
 use Rattle.lset_tools.specs.declared.trouble.Trouble.{Trouble}
 use Rattle.lset_tools.specs.declared.trouble.Trouble.TheVariants.{Memory, Bad}
 use Rattle.lset_tools.specs.declared.trouble.ValueName.{ValueName}

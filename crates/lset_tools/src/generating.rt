@@ -1,7 +1,7 @@
-ghost use Rattle.std.specs.Prelude.{◌≡◌, map, string_bytes, IfOk, IfErr, MatchResult};
+ghost use Rattle.std.specs.Prelude.{◌≡◌, map, string_bytes, MatchResult};
 ghost use Rattle.lset_schedule.specs.Generating.{IsAccepted};
 ghost use Rattle.lset_schedule.specs.Plan.{view};
-ghost use Rattle.lset_replay.specs.Reports.{table_of};
+ghost use Rattle.lset_lists.specs.Tables.{table_of};
 ghost use Rattle.lset_schedule.specs.declared.fault.GenFault.TheVariants.{Memory};
 ghost use Rattle.lset_tools.specs.Generating.{of_generator, Generates, IsRequested};
 ghost use Rattle.lset_tools.specs.Tools.{Ends};
@@ -11,14 +11,8 @@ ghost use Rattle.lset_tools.specs.declared.trouble.Trouble.TheVariants.{Bad};
 use crate::answer::{Answer, deliver};
 use crate::trouble::{Trouble, ValueName};
 use crate::values::{Request, read_request};
-use lset_coarse::CoarseList;
-use lset_fine::FineList;
-use lset_lazy::LazyList;
-use lset_lock_free::LockFreeList;
-use lset_optimistic::OptimisticList;
+use lset_lists::{List, Task, on_list};
 use lset_schedule::{GenFault, Schedule, generate, write_schedule};
-use lset_steps::Machine;
-use lset_words::Kind;
 use std::alloc::Global;
 use std::io::Write;
 
@@ -43,21 +37,32 @@ impl From<GenFault> for Trouble {
     }
 }
 
-/// A schedule of the machine `M`, drawn as the request asks.
-fn schedule_by<M: Machine>(alloc: Global, request: Request) -> Result<Schedule, GenFault>
-    requires kind { M.KIND ≡ request.kind }
-    requires accepted { IsAccepted request.threads request.quota request.keys }
-    ensures schedule { IfOk result (λ s. IsRequested M.table request (view s)) }
-    ensures fault { IfErr result (λ fault. fault ≡ Memory) }
-{
-    generate::<M>(
-        alloc,
-        request.threads,
-        request.quota,
-        request.calls,
-        request.keys,
-        request.seed,
-    )
+/// The generating of a schedule, whatever its list.
+#[derive(Clone, Copy)]
+struct Generating {
+    alloc: Global,
+    request: Request,
+}
+
+impl Task for Generating {
+    type Out = Result<Schedule, GenFault>;
+
+    ghost may = { λ task kind. (kind ≡ task.request.kind)
+        × IsAccepted task.request.threads task.request.quota task.request.keys };
+
+    ghost done = { λ task table result. MatchResult result (λ s. IsRequested table task.request (view s)) (λ fault. fault ≡ Memory) };
+
+    fn run<M: List>(self) -> Result<Schedule, GenFault> {
+        let Request {
+            threads,
+            quota,
+            calls,
+            keys,
+            seed,
+            ..
+        } = self.request;
+        generate::<M>(self.alloc, threads, quota, calls, keys, seed)
+    }
 }
 
 /// A schedule of the list that the request names.
@@ -65,13 +70,7 @@ fn schedule_for(alloc: Global, request: Request) -> Result<Schedule, GenFault>
     requires { IsAccepted request.threads request.quota request.keys }
     ensures { MatchResult result (λ s. IsRequested (table_of request.kind) request (view s)) (λ fault. fault ≡ Memory) }
 {
-    match request.kind {
-        Kind::Coarse => schedule_by::<CoarseList>(alloc, request),
-        Kind::Fine => schedule_by::<FineList>(alloc, request),
-        Kind::Optimistic => schedule_by::<OptimisticList>(alloc, request),
-        Kind::Lazy => schedule_by::<LazyList>(alloc, request),
-        Kind::LockFree => schedule_by::<LockFreeList>(alloc, request),
-    }
+    on_list(request.kind, Generating { alloc, request })
 }
 
 fn generated(alloc: Global, values: &[String]) -> Result<Answer, Trouble>
