@@ -1,0 +1,70 @@
+//! Makes each public call that takes memory, compares its answer, and tells which call answered want of memory. That
+//! call is made again, with memory, and then has to answer as if nothing had been refused.
+//!
+//! Run as it stands no growth is refused. `.ci/growths` refuses them in turn: it has the one allocation of a fixed
+//! number fail, and by the number on the standard input this program takes as many blocks before its first call.
+#![tactic(auto)]
+
+/// The answer of a call, which is made again where it is want of memory.
+macro_rules! answer {
+    ($calls:ident, $name:literal, $memory:pat, $call:expr) => {{
+        $calls.name = $name;
+        match $call {
+            Err($memory) if $calls.may_be_refused() => $call,
+            answer => answer,
+        }
+    }};
+}
+
+mod calls;
+mod sets;
+mod texts;
+mod tools;
+
+use calls::{Calls, Wrong};
+use std::alloc::{AllocError, Global};
+use std::io::{self, Read};
+use std::process::ExitCode;
+
+/// The number on the input, 0 where there is none.
+fn number_on(input: &mut impl Read) -> io::Result<u32> {
+    let mut buffer = [0; 16];
+    let count = input.read(&mut buffer)?;
+    let text = str::from_utf8(&buffer[..count]).unwrap_or_default();
+    Ok(text.trim().parse().unwrap_or(0))
+}
+
+/// Takes so many blocks of memory, one after another, and gives each back.
+fn take_blocks(alloc: Global, count: u32) -> Result<(), AllocError> {
+    for number in 0..count {
+        let _block = Box::new(alloc, number)?;
+    }
+    Ok(())
+}
+
+fn make_calls(alloc: Global, calls: &mut Calls) -> Result<(), Wrong> {
+    sets::worlds(alloc, calls)?;
+    sets::oracles(alloc, calls)?;
+    sets::histories(alloc, calls)?;
+    texts::replays(alloc, calls)?;
+    texts::schedules_drawn(alloc, calls)?;
+    texts::programs_drawn(alloc, calls)?;
+    tools::tools(alloc, calls)
+}
+
+fn main(rt: HostRuntime) -> io::Result<ExitCode> {
+    let alloc = rt.alloc();
+    let blocks = number_on(&mut rt.reader())?;
+    take_blocks(alloc, blocks)?;
+    let mut calls = Calls::new();
+    if let Err(wrong) = make_calls(alloc, &mut calls) {
+        println!(rt; "{}: {wrong}", calls.name)?;
+        return Ok(ExitCode::from(1));
+    }
+    match calls.refused {
+        Some(name) => println!(rt; "{name} wanted memory")?,
+        None if take_blocks(alloc, blocks).is_err() => println!(rt; "still to be refused")?,
+        None => println!(rt; "no call wanted memory")?,
+    }
+    Ok(ExitCode::from(0))
+}

@@ -1,0 +1,105 @@
+use crate::calls::{Calls, Wrong, check};
+use lset_coarse::CoarseList;
+use lset_history::{OrderFault, check_order};
+use lset_replay::{ReplayFault, ReportCause, ReportFault, read_report, replay, write_report};
+use lset_schedule::{
+    Cause, GenFault, ScheduleFault, generate, programs, read_schedule, write_schedule,
+};
+use lset_words::{Call, Key};
+use std::alloc::{AllocError, Global};
+
+/// One thread adds five keys to a coarse list.
+const FIVE_ADDS: &str =
+    "listset-schedule 1\nlist coarse\nthreads 1\nquota 5\nbegin 0 add 1\ngo 0 7\nbegin 0 add 2\ngo 0 9\nbegin 0 add 3\ngo 0 11\nbegin 0 add 4\ngo 0 13\nbegin 0 add 5\ngo 0 15\n";
+
+const FIVE_ADDS_REPORT: &str =
+    "listset-report 1\nlist coarse\nthreads 1\nquota 5\ncall 0 0 add 1 1 8 true\ncall 1 0 add 2 9 18 true\ncall 2 0 add 3 19 30 true\ncall 3 0 add 4 31 44 true\ncall 4 0 add 5 45 60 true\nplace 0 true\nplace 1 true\nplace 2 true\nplace 3 true\nplace 4 true\nkey 1\nkey 2\nkey 3\nkey 4\nkey 5\nend\n";
+
+/// A `contains` drawn from seed 0, whose generator begins 298703107, 4236525527, 336081875: the one thread; what is
+/// 2 modulo 3, a `contains`; what is 3 modulo 8, the key.
+pub const DRAWN: &str =
+    "listset-schedule 1\nlist coarse\nthreads 1\nquota 4\nbegin 0 contains 3\ngo 0 1\ngo 0 1\ngo 0 1\ngo 0 1\n";
+
+/// Reads and writes the schedule and its report, and replays the one.
+pub fn replays(alloc: Global, calls: &mut Calls) -> Result<(), Wrong> {
+    let plan = answer!(
+        calls,
+        "read_schedule",
+        ScheduleFault {
+            cause: Cause::Memory,
+            ..
+        },
+        read_schedule(alloc, FIVE_ADDS.as_bytes())
+    )?;
+    let text = answer!(
+        calls,
+        "write_schedule",
+        AllocError,
+        write_schedule(alloc, &plan)
+    )?;
+    check(text.as_slice() == FIVE_ADDS.as_bytes())?;
+    let replayed = answer!(calls, "replay", ReplayFault::Memory, replay(alloc, &plan))?;
+    let text = answer!(
+        calls,
+        "write_report",
+        AllocError,
+        write_report(alloc, &replayed)
+    )?;
+    check(text.as_slice() == FIVE_ADDS_REPORT.as_bytes())?;
+    let found = answer!(
+        calls,
+        "read_report",
+        ReportFault {
+            cause: ReportCause::Memory,
+            ..
+        },
+        read_report(alloc, FIVE_ADDS_REPORT.as_bytes())
+    )?;
+    answer!(
+        calls,
+        "check_order",
+        OrderFault::Memory,
+        check_order(alloc, &found.history, &found.order, &found.keys)
+    )?;
+    let text = answer!(
+        calls,
+        "write_report",
+        AllocError,
+        write_report(alloc, &found)
+    )?;
+    check(text.as_slice() == FIVE_ADDS_REPORT.as_bytes())
+}
+
+pub fn schedules_drawn(alloc: Global, calls: &mut Calls) -> Result<(), Wrong> {
+    let drawn = answer!(
+        calls,
+        "generate",
+        GenFault::Memory,
+        generate::<CoarseList>(alloc, 1, 4, 1, 8, 0)
+    )?;
+    let text = answer!(
+        calls,
+        "write_schedule",
+        AllocError,
+        write_schedule(alloc, &drawn)
+    )?;
+    check(text.as_slice() == DRAWN.as_bytes())
+}
+
+/// Each of two threads draws two calls, the first from seed 0 and the second from seed 1.
+pub fn programs_drawn(alloc: Global, calls: &mut Calls) -> Result<(), Wrong> {
+    let drawn = answer!(
+        calls,
+        "programs",
+        GenFault::Memory,
+        programs(alloc, 2, 2, 8, 0)
+    )?;
+    let first = [Call::Remove(Key(7)), Call::Contains(Key(6))];
+    let second = [Call::Add(Key(6)), Call::Remove(Key(0))];
+    check(
+        drawn
+            .iter()
+            .map(|program| program.as_slice())
+            .eq([first.as_slice(), second.as_slice()]),
+    )
+}
