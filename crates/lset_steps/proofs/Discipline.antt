@@ -142,9 +142,13 @@ module _ (n q : ℕ) where
     where
       even_word : (i : ℕ) → i ≢ 0 → i ≢ 1 → opening_word n q (link_index i) % 2 ≡ 0
       even_word i d f =
-          rw (unequal_test (link_index i) 1 (λ e. omega arith), unequal_test (link_index i) 2 (λ e. omega arith),
-          unequal_test (link_index i) 4 (λ e. d (omega arith)), unequal_test (link_index i) 6 (λ e. omega arith),
-          unequal_test (link_index i) 7 (λ e. f (omega arith))) refl
+          rw (
+            unequal_test (link_index i) 1 (λ e. omega arith),
+            unequal_test (link_index i) 2 (λ e. omega arith),
+            unequal_test (link_index i) 4 (λ e. d (omega arith)),
+            unequal_test (link_index i) 6 (λ e. omega arith),
+            unequal_test (link_index i) 7 (λ e. f (omega arith)),
+          ) refl
 
   opening_memory : (marks : Bool) → Memory marks n q (opening n q).words (used_in (opening n q))
   opening_memory marks = record {
