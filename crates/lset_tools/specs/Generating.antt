@@ -17,7 +17,7 @@ use Rattle.lset_tools.specs.declared.trouble.Trouble.TheVariants.{Memory, Bad}
 use Rattle.lset_tools.specs.declared.trouble.ValueName.{ValueName}
 use Rattle.lset_tools.specs.declared.trouble.ValueName.TheVariants as name
 use Rattle.lset_tools.specs.declared.values.Request.{Request}
-use Rattle.lset_tools.specs.declared.values.TheConstants.{MOST_CALLS, MOST_KEYS, MOST_SEED}
+use Rattle.lset_tools.specs.declared.values.TheConstants.{MOST_CALLS_ASKED, MOST_KEYS_ASKED, MOST_SEED}
 use Rattle.lset_tools.specs.Tools.{Made}
 
 -- ---- what the values ask for
@@ -36,8 +36,8 @@ request_of values = do
   kind ← or_fail name.Kind (kind_at values 0)
   threads ← or_fail name.Threads (number_at values 1 1 MOST_THREADS)
   quota ← or_fail name.Quota (number_at values 2 0 MOST_QUOTA)
-  calls ← or_fail name.Calls (number_at values 3 0 MOST_CALLS)
-  keys ← or_fail name.Keys (number_at values 4 1 MOST_KEYS)
+  calls ← or_fail name.Calls (number_at values 3 0 MOST_CALLS_ASKED)
+  keys ← or_fail name.Keys (number_at values 4 1 MOST_KEYS_ASKED)
   seed ← or_fail name.Seed (number_at values 5 0 MOST_SEED)
   Ok (record { kind = kind; threads = threads; quota = quota; calls = calls; keys = keys; seed = seed })
 

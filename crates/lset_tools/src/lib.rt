@@ -16,4 +16,4 @@ pub use generating::tool_gen;
 pub use replaying::tool_replay;
 pub use streams::{LONGEST, put};
 pub use trouble::{LineCause, Trouble, ValueName};
-pub use values::{MOST_CALLS, MOST_KEYS, MOST_SEED, Request};
+pub use values::{MOST_CALLS_ASKED, MOST_KEYS_ASKED, MOST_SEED, Request};

@@ -8,10 +8,10 @@ use lset_text::{number, read_kind};
 use lset_words::{Kind, MOST_QUOTA, MOST_THREADS};
 
 /// The most calls that a command asks for. (This project's own limit.)
-pub const MOST_CALLS: u32 = 10_000;
+pub const MOST_CALLS_ASKED: u32 = 10_000;
 
 /// The most keys from which calls are drawn.
-pub const MOST_KEYS: u32 = u32::MAX;
+pub const MOST_KEYS_ASKED: u32 = u32::MAX;
 
 /// The greatest seed.
 pub const MOST_SEED: u64 = u64::MAX;
@@ -26,7 +26,7 @@ pub struct Request {
     pub threads: u32,
     /// The slots of each thread, 0 to `MOST_QUOTA`.
     pub quota: u32,
-    /// How many calls are asked for, 0 to `MOST_CALLS`.
+    /// How many calls are asked for, 0 to `MOST_CALLS_ASKED`.
     pub calls: u32,
     /// Keys are below this number, which is at least 1.
     pub keys: u32,
@@ -83,8 +83,8 @@ pub fn read_request(values: &[String]) -> Result<Request, ValueName>
     let kind = kind_at(values, 0).ok_or(ValueName::Kind)?;
     let threads = number_at(values, 1, 1, MOST_THREADS).ok_or(ValueName::Threads)?;
     let quota = number_at(values, 2, 0, MOST_QUOTA).ok_or(ValueName::Quota)?;
-    let calls = number_at(values, 3, 0, MOST_CALLS).ok_or(ValueName::Calls)?;
-    let keys = number_at(values, 4, 1, MOST_KEYS).ok_or(ValueName::Keys)?;
+    let calls = number_at(values, 3, 0, MOST_CALLS_ASKED).ok_or(ValueName::Calls)?;
+    let keys = number_at(values, 4, 1, MOST_KEYS_ASKED).ok_or(ValueName::Keys)?;
     let seed = seed_at(values, 5).ok_or(ValueName::Seed)?;
     Ok(Request {
         kind,
