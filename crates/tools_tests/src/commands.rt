@@ -5,51 +5,46 @@ use std::test::Fail;
 
 #[test]
 fn words_give_a_command_and_its_values(rt: HostRuntime) -> Result<(), Fail> {
-    let rows: [(&[&str], Command, &[&str], Option<&str>); 9] = [
-        (&[], Command::Replay, &[], None),
-        (&["replay"], Command::Replay, &[], None),
-        (
-            &["replay", "a.schedule"],
-            Command::Replay,
-            &["a.schedule"],
-            Some("a.schedule"),
-        ),
-        (
-            &["replay", "--", "-a"],
-            Command::Replay,
-            &["-a"],
-            Some("-a"),
-        ),
-        (&["check"], Command::Check, &[], None),
-        (
-            &["check", "a.report"],
-            Command::Check,
-            &["a.report"],
-            Some("a.report"),
-        ),
+    let rows: [(&[&str], Command, &str); 9] = [
+        (&[], Command::Replay, ""),
+        (&["replay"], Command::Replay, ""),
+        (&["replay", "a.schedule"], Command::Replay, " a.schedule"),
+        (&["replay", "--", "-a"], Command::Replay, " -a"),
+        (&["check"], Command::Check, ""),
+        (&["check", "a.report"], Command::Check, " a.report"),
         (
             &["gen", "skip", "1", "4", "0", "8", "1"],
             Command::Gen,
-            &["skip", "1", "4", "0", "8", "1"],
-            None,
+            " skip 1 4 0 8 1",
         ),
-        (&["gen", "fine", "2"], Command::Gen, &["fine", "2"], None),
+        (&["gen", "fine", "2"], Command::Gen, " fine 2"),
         (
             &["gen", "fine", "2", "4", "0", "8", "1", "more", "of", "it"],
             Command::Gen,
-            &["fine", "2", "4", "0", "8", "1", "more", "of", "it"],
-            None,
+            " fine 2 4 0 8 1 more of it",
         ),
     ];
-    for (words, command, values, file) in rows {
-        let found = tool_words(rt.alloc(), words)?;
-        assert_eq!(rt; found.command, command);
-        assert_eq!(rt; found.file(), file);
-        assert_eq!(rt; found.values.len(), values.len());
-        for (value, wanted) in found.values.iter().zip(values) {
-            assert_eq!(rt; value.as_str(), *wanted);
+    for (words, command, values) in rows {
+        let asked = tool_words(rt.alloc(), words)?;
+        let mut found = String::new(rt.alloc());
+        for value in &asked.values {
+            found.push_str(" ")?;
+            found.push_str(value.as_str())?;
         }
+        assert_eq!(rt; asked.command, command);
+        assert_eq!(rt; found.as_str(), values);
     }
+    Ok(())
+}
+
+#[test]
+fn replay_and_check_read_the_file_of_their_words(rt: HostRuntime) -> Result<(), Fail> {
+    let named = tool_words(rt.alloc(), &["check", "a.report"])?;
+    assert_eq!(rt; named.file(), Some("a.report"));
+    let unnamed = tool_words(rt.alloc(), &["replay"])?;
+    assert_eq!(rt; unnamed.file(), None);
+    let no_file = tool_words(rt.alloc(), &["gen", "fine"])?;
+    assert_eq!(rt; no_file.file(), None);
     Ok(())
 }
 

@@ -15,47 +15,23 @@ fn values_with<'a>(wrong: usize, spelling: &'a str) -> [&'a str; 6] {
 
 #[test]
 fn a_schedule_without_calls_is_its_header(rt: HostRuntime) -> Result<(), Fail> {
-    let rows = [
-        (
-            ["coarse", "2", "4", "0", "8", "1"],
-            "listset-schedule 1\nlist coarse\nthreads 2\nquota 4\n",
-        ),
-        (
-            ["fine", "2", "4", "0", "8", "1"],
-            "listset-schedule 1\nlist fine\nthreads 2\nquota 4\n",
-        ),
-        (
-            ["optimistic", "2", "4", "0", "8", "1"],
-            "listset-schedule 1\nlist optimistic\nthreads 2\nquota 4\n",
-        ),
-        (
-            ["lazy", "2", "4", "0", "8", "1"],
-            "listset-schedule 1\nlist lazy\nthreads 2\nquota 4\n",
-        ),
-        (
-            ["lock-free", "2", "4", "0", "8", "1"],
-            "listset-schedule 1\nlist lock-free\nthreads 2\nquota 4\n",
-        ),
-        (
-            ["fine", "1", "0", "0", "1", "0"],
-            "listset-schedule 1\nlist fine\nthreads 1\nquota 0\n",
-        ),
-        (
-            [
-                "fine",
-                "64",
-                "16384",
-                "0",
-                "4294967295",
-                "18446744073709551615",
-            ],
-            "listset-schedule 1\nlist fine\nthreads 64\nquota 16384\n",
-        ),
-    ];
-    for (values, text) in rows {
-        let run = gen_run(rt.alloc(), &values)?;
-        assert_eq!(rt; run.told()?, (0, text, ""));
+    for kind in KINDS {
+        let run = gen_run(rt.alloc(), &[kind, "2", "4", "0", "8", "1"])?;
+        let text = format!(in rt.alloc(); "listset-schedule 1\nlist {kind}\nthreads 2\nquota 4\n")?;
+        assert_eq!(rt; run.told()?, (0, text.as_str(), ""));
     }
+    Ok(())
+}
+
+#[test]
+fn the_least_and_the_greatest_values_are_taken(rt: HostRuntime) -> Result<(), Fail> {
+    let least = gen_run(rt.alloc(), &["fine", "1", "0", "0", "1", "0"])?;
+    let text = "listset-schedule 1\nlist fine\nthreads 1\nquota 0\n";
+    assert_eq!(rt; least.told()?, (0, text, ""));
+    let (keys, seed) = ("4294967295", "18446744073709551615");
+    let greatest = gen_run(rt.alloc(), &["fine", "64", "16384", "0", keys, seed])?;
+    let text = "listset-schedule 1\nlist fine\nthreads 64\nquota 16384\n";
+    assert_eq!(rt; greatest.told()?, (0, text, ""));
     Ok(())
 }
 
@@ -157,7 +133,7 @@ fn a_schedule_ends_at_10000_events_and_one_more_is_refused(rt: HostRuntime) -> R
     for kind in KINDS {
         let mut schedule = gen_run(rt.alloc(), &[kind, "8", "2000", "10000", "200", "1"])?;
         let begun = schedule.count_lines("begin ")?;
-        assert_eq!(rt; schedule.count_lines("go ")? + begun, 10_000);
+        assert_eq!(rt; schedule.count_lines("")?, 10_004);
         let report = replay_run(rt.alloc(), &mut schedule.output.as_slice());
         assert_eq!(rt; report.count_lines("call ")?, begun);
         let verdict = check_run(rt.alloc(), &mut report.output.as_slice());
