@@ -8,7 +8,7 @@ use Rattle.clap.specs.declared.error.Error.{Error}
 use Rattle.clap.specs.declared.parser.matches.ArgMatches.{ArgMatches}
 use Rattle.clap.specs.declared.parser.matches.ArgMatches.TheViews.{out-ArgMatches, out-SubCommand}
 use Rattle.clap.specs.declared.parser.matches.SubCommand.{SubCommand}
-use Rattle.lset_command.specs.Words.{choice_of, command_named, listset, values_in}
+use Rattle.lset_command.specs.CommandLine.{choice_of, command_named, listset, values_in}
 use Rattle.lset_command.specs.declared.words.Command.{Command}
 use Rattle.lset_command.specs.declared.words.Command.TheVariants.{Replay}
 use Rattle.lset_command.specs.declared.words.Words.{Words}

@@ -8,7 +8,7 @@ use Rattle.clap.specs.Facts.{Entry}
 use Rattle.clap.specs.Walk.{row_of}
 use Rattle.clap.specs.declared.parser.matches.Found.{Found}
 use Rattle.clap.proofs.WalkLemmas.{raw_values-rows}
-use Rattle.lset_command.specs.Words.{values_by, values_in}
+use Rattle.lset_command.specs.CommandLine.{values_by, values_in}
 
 abbrev pub values_by_names : List Row → List Text → List Text
 values_by_names rows names = flat_map (λ name. values_by name rows) names

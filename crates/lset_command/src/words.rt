@@ -4,8 +4,8 @@ ghost use Rattle.clap.specs.Words.{rows_of, rule_of, subcommand_of};
 ghost use Rattle.clap.specs.Walk.{texts};
 ghost use Rattle.clap.specs.declared.Command.TheViews.{out-Command};
 ghost use Rattle.clap.specs.declared.error.kind.ErrorKind.TheVariants.{OutOfMemory};
-ghost use Rattle.lset_command.specs.Words.{choice_in, choice_of, command_named, file_app, file_of, gen_app};
-ghost use Rattle.lset_command.specs.Words.{listset, rule_past_the_last, values_by, values_in};
+ghost use Rattle.lset_command.specs.CommandLine.{choice_in, choice_of, command_named, file_app, file_of, gen_app};
+ghost use Rattle.lset_command.specs.CommandLine.{listset, rule_past_the_last, values_by, values_in};
 
 use clap::error::ErrorKind;
 use clap::{Arg, ArgMatches, Error};
@@ -166,7 +166,7 @@ fn values_of(alloc: Global, found: &ArgMatches<'_>) -> Result<Vec<String>, Alloc
 }
 
 // The command of a name among those that `program_command` lists.
-#[tactic(auto, unfolding(crate::specs::Words::command_named))]
+#[tactic(auto, unfolding(crate::specs::CommandLine::command_named))]
 fn command_named(name: &str) -> Command
     ensures { result ≡ command_named name.now }
 {

@@ -4,7 +4,7 @@ use Rattle.std.specs.Prelude.{◌≢◌}
 use Rattle.clap.specs.declared.error.kind.ErrorKind.{ErrorKind}
 use Rattle.clap.specs.declared.error.kind.ErrorKind.TheVariants as kind
 use Rattle.clap.specs.Words.{Text}
-use Rattle.lset_command.specs.Words.{Choice, file_of}
+use Rattle.lset_command.specs.CommandLine.{Choice, file_of}
 use Rattle.lset_tools.specs.declared.trouble.Trouble.TheVariants.{CannotRead}
 use Rattle.lset_tools.specs.Tools.{Made, Outcome, Delivers, AppendsFront, Ends, line_of, status_of}
 use Rattle.lset_dispatch.specs.Dispatch.{DoesOn, DoesOnInput, IsHelp}

@@ -1,4 +1,4 @@
-ghost use Rattle.lset_command.specs.Words.{choice_in};
+ghost use Rattle.lset_command.specs.CommandLine.{choice_in};
 ghost use Rattle.lset_tools.specs.Tools.{Ends};
 ghost use Rattle.lset_dispatch.specs.Dispatch.{Does};
 

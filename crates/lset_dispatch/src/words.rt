@@ -1,7 +1,7 @@
 ghost use Rattle.std.specs.Prelude.{◌≡◌};
 ghost use Rattle.clap.specs.Words.{kind_of};
 ghost use Rattle.clap.specs.Walk.{texts};
-ghost use Rattle.lset_command.specs.Words.{choice_in};
+ghost use Rattle.lset_command.specs.CommandLine.{choice_in};
 ghost use Rattle.lset_tools.specs.Tools.{Ends};
 ghost use Rattle.lset_dispatch.specs.Dispatch.{Declines, DoesOnInput, Runs};
 

@@ -1,7 +1,7 @@
 pub mod CallSteps
 pub mod Calls
 pub mod Firsts
-pub mod Fitting
+pub mod SetFitting
 pub mod Keys
 pub mod Linearizing
 pub mod Lists
@@ -11,12 +11,12 @@ pub mod Placing
 pub mod RunHistories
 pub mod Standings
 pub mod States
-pub mod Turns
+pub mod AtOneMoment
 pub mod Pairs
 pub mod Histories
 pub mod Keeping
 pub mod KeySets
-pub mod Replies
+pub mod SetReplies
 pub mod Places
 pub mod Early
 pub mod Verdicts

@@ -21,7 +21,7 @@ use Rattle.lset_history.proofs.CallSteps.{run_of, calls_of}
 use Rattle.lset_history.proofs.States.{Shows, set_at, shows_at}
 use Rattle.lset_history.proofs.Standings.{Stood, Follows, IsStanding, During, during, ended_place, EndedPlace, reading, stood, follow, has_place}
 use Rattle.lset_history.proofs.Order.{Ahead, ahead, all_by_moments, some_by_moments, Leads, Stays, order_leads}
-use Rattle.lset_history.proofs.Turns.{answered_of, reading_stays, none_changes, turns}
+use Rattle.lset_history.proofs.AtOneMoment.{answered_of, reading_stays, none_changes, turns}
 
 -- the history does not have the later one first
 abbrev InTime : List CallRecord → Placed → Placed → Type 0

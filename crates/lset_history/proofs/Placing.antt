@@ -12,7 +12,7 @@ use Rattle.lset_history.proofs.Lists.{all_imply}
 use Rattle.lset_history.proofs.Calls.{Run, EndedBy, Traced, Calls}
 use Rattle.lset_history.proofs.CallSteps.{run_of, calls_of}
 use Rattle.lset_history.proofs.States.{Shows, set_at, shows_at}
-use Rattle.lset_history.proofs.Fitting.{fits_or_not}
+use Rattle.lset_history.proofs.SetFitting.{fits_or_not}
 
 -- THE LEAST MOMENT of a fact that can be told at each moment
 pub record Least (P : ℕ → Type 0) (first last : ℕ) : Type 0 where

@@ -9,7 +9,7 @@ use Rattle.lset_words.specs.Account.{Content, Contents, Counts, Same, Changes, c
 use Rattle.lset_words.proofs.Numbers.{same_or_not}
 use Rattle.lset_words.proofs.RisingLists.{contains-nil, RisesFrom}
 use Rattle.lset_history.proofs.Keys.{with_keeps, with_from, without_keeps, without_from, with_rises, without_rises}
-use Rattle.lset_history.proofs.Fitting.{SameKeys}
+use Rattle.lset_history.proofs.SetFitting.{SameKeys}
 
 -- after a change
 abbrev pub keys_after : Option Change → List ℕ → List ℕ

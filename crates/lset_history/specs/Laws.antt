@@ -14,8 +14,8 @@ use Rattle.lset_words.specs.Placement.{IsPlacement}
 abbrev pub content_of : List ℕ → Content
 content_of keys j = Contains keys j
 
-abbrev pub contents_of : (ℕ → List ℕ) → Contents
-contents_of lists m = content_of (lists m)
+abbrev pub contents_of_lists : (ℕ → List ℕ) → Contents
+contents_of_lists lists m = content_of (lists m)
 
 -- A set has the keys of a content, rising, and no other rising list has them.
 pub record HasKeysOf (s : SetState) (content : List ℕ) : Type 0 where
@@ -30,20 +30,20 @@ set_of_order threads log last order = set_left (empty_set threads) (map (answere
 -- THE PLACEMENT THEOREM: the order of placement linearizes the history from the empty set, and leaves the last content.
 abbrev pub PlacementLinearizes : Type 0
 PlacementLinearizes = (threads quota last : ℕ) (log : Log) (lists : ℕ → List ℕ) (counts : Counts) (order : List Placed)
-    → Account threads quota last log (contents_of lists) counts
-    → IsPlacement quota last (calls_at log last) (contents_of lists) counts order
+    → Account threads quota last log (contents_of_lists lists) counts
+    → IsPlacement quota last (calls_at log last) (contents_of_lists lists) counts order
     → Linearizes quota (empty_set threads) (history_at log last) order × HasKeysOf (set_of_order threads log last order) (lists last)
 
 -- Every call has its place: no run is without an order of placement.
 abbrev pub EveryCallHasAPlace : Type 0
 EveryCallHasAPlace = (threads quota last : ℕ) (log : Log) (lists : ℕ → List ℕ) (counts : Counts)
-    → Account threads quota last log (contents_of lists) counts
-    → (order : List Placed) × IsPlacement quota last (calls_at log last) (contents_of lists) counts order
+    → Account threads quota last log (contents_of_lists lists) counts
+    → (order : List Placed) × IsPlacement quota last (calls_at log last) (contents_of_lists lists) counts order
 
 -- The calls of a run, at each of its moments, are a history.
 abbrev pub LogsTellHistories : Type 0
 LogsTellHistories = (threads quota last : ℕ) (log : Log) (lists : ℕ → List ℕ) (counts : Counts)
-    → Account threads quota last log (contents_of lists) counts → (k : ℕ) → k ≤ last → IsHistory threads (history_at log k)
+    → Account threads quota last log (contents_of_lists lists) counts → (k : ℕ) → k ≤ last → IsHistory threads (history_at log k)
 
 -- A reply fits just where the sequential set gives it and stays as it is.
 abbrev pub FitsAreReplies : Type 0
@@ -56,5 +56,5 @@ FitsAreReplies = (quota thread count : ℕ) (keys : List ℕ) (s : SetState) (ca
 abbrev pub PlacementIsOneOrder : Type 0
 PlacementIsOneOrder = (quota last : ℕ) (calls : List TracedCall) (lists : ℕ → List ℕ) (counts : Counts)
     (order other : List Placed)
-    → IsPlacement quota last calls (contents_of lists) counts order
-    → IsPlacement quota last calls (contents_of lists) counts other → order ≡ other
+    → IsPlacement quota last calls (contents_of_lists lists) counts order
+    → IsPlacement quota last calls (contents_of_lists lists) counts other → order ≡ other

@@ -1,7 +1,7 @@
 pub mod EventLists
 pub mod Putting
 pub mod Watching
-pub mod Fitting
+pub mod LeastFits
 pub mod Following
 pub mod Stepping
 pub mod Ready

@@ -13,7 +13,7 @@ use Rattle.lset_words.specs.declared.history.Placed.{Placed}
 use Rattle.lset_words.specs.History.{MayFollow, ContinuesHistory}
 use Rattle.lset_text.specs.declared.headers.Header.{Header}
 use Rattle.lset_text.specs.Parts.{Lacks}
-use Rattle.lset_text.specs.Reading.{◌>>=◌}
+use Rattle.lset_text.specs.Results.{◌>>=◌}
 use Rattle.lset_text.specs.Headers.{header_lines, header_of}
 use Rattle.lset_text.proofs.PartLaws.{Lacks-from_test, cut_lines}
 use Rattle.lset_text.proofs.ReadingLaws.{ok_is}
@@ -30,9 +30,9 @@ use Rattle.lset_replay.specs.declared.report_fault.ReportFault.{ReportFault}
 use Rattle.lset_replay.specs.Reports.{ReportValue, view}
 use Rattle.lset_replay.specs.Texts.{title, header_in, call_lines, place_line, key_line, last_line}
 use Rattle.lset_replay.specs.Texts.{report_lines, report_text}
-use Rattle.lset_replay.specs.Reading.{IsEnd, IsCall, IsReport, takes_places, takes_keys}
-use Rattle.lset_replay.specs.Reading.{judged, line_after, section_after, with_line, report_from, no_lines}
-use Rattle.lset_replay.specs.Reading.{report_of, reading, Gives}
+use Rattle.lset_replay.specs.ReportReading.{IsEnd, IsCall, IsReport, takes_places, takes_keys}
+use Rattle.lset_replay.specs.ReportReading.{judged, line_after, section_after, with_line, report_from, no_lines}
+use Rattle.lset_replay.specs.ReportReading.{report_of, reading, Gives}
 use Rattle.lset_replay.proofs.ReportHistories.{may_again}
 use Rattle.lset_replay.proofs.ReportLines.{line_text, IsEndLine, IsLine, takes, line_again, line_free}
 use Rattle.lset_replay.proofs.ReportLoops.{IsGood, report_goes}

@@ -18,8 +18,8 @@ use Rattle.lset_words.specs.declared.Reply.{Reply}
 use Rattle.lset_words.specs.declared.history.CallRecord.{CallRecord}
 use Rattle.lset_words.specs.History.{MayFollow, ContinuesHistory, IsHistory}
 use Rattle.lset_replay.specs.declared.reading.calls.CallsSoFar.{CallsSoFar}
-use Rattle.lset_replay.specs.Reading.{ends_at, is_entry, is_taken, begins_later, ended_before, is_idle, ends_later}
-use Rattle.lset_replay.specs.Reading.{may_follow}
+use Rattle.lset_replay.specs.ReportReading.{ends_at, is_entry, is_taken, begins_later, ended_before, is_idle, ends_later}
+use Rattle.lset_replay.specs.ReportReading.{may_follow}
 use Rattle.lset_replay.specs.ReportCalls.{threads_of, is_before, end_moment, Tracks}
 
 -- ---- tests of every call

@@ -14,8 +14,8 @@ use Rattle.lset_words.specs.Words.{key_of}
 use Rattle.lset_text.specs.declared.words.CallWord.{CallWord}
 use Rattle.lset_text.specs.Parts.{cut_at, line_of, Lacks}
 use Rattle.lset_text.specs.Numbers.{number_in, max_number}
-use Rattle.lset_text.specs.Words.{call_text, call_word_text, call_word_of, word_of, with_key, reply_text, reply_of}
-use Rattle.lset_text.specs.Reading.{◌>>=◌, or_fail}
+use Rattle.lset_text.specs.Spellings.{call_text, call_word_text, call_word_of, word_of, with_key, reply_text, reply_of}
+use Rattle.lset_text.specs.Results.{◌>>=◌, or_fail}
 use Rattle.lset_text.proofs.PartLaws.{Lacks-below, line_lacks, cut_line, line_from_cut}
 use Rattle.lset_text.proofs.NumberLaws.{number_ok, number_again, decimal_lacks}
 use Rattle.lset_text.proofs.WordLaws.{same_bytes, call_word_ok, call_word_again, call_lacks, with_key-word_of, word_of-with_key, key_of-with_key, reply_ok}
@@ -27,9 +27,9 @@ use Rattle.lset_replay.specs.declared.reading.lines.Section.{Section}
 use Rattle.lset_replay.specs.declared.report_fault.ReportCause.{ReportCause}
 use Rattle.lset_replay.specs.declared.report_fault.ReportCause.TheVariants as wrong
 use Rattle.lset_replay.specs.Texts.{end_pieces}
-use Rattle.lset_replay.specs.Reading.{takes_calls, takes_places, takes_keys, any_number, moment, begun_of, open_of}
-use Rattle.lset_replay.specs.Reading.{ended_of, call_of, place_of}
-use Rattle.lset_replay.specs.Reading.{key_of_line, end_of, line_of_pieces, line_in}
+use Rattle.lset_replay.specs.ReportReading.{takes_calls, takes_places, takes_keys, any_number, moment, begun_of, open_of}
+use Rattle.lset_replay.specs.ReportReading.{ended_of, call_of, place_of}
+use Rattle.lset_replay.specs.ReportReading.{key_of_line, end_of, line_of_pieces, line_in}
 
 -- ---- lines and their texts
 

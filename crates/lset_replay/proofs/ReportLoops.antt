@@ -7,7 +7,7 @@ use Rattle.lset_text.specs.Parts.{cut_at}
 use Rattle.lset_text.proofs.PartLaws.{some_part}
 use Rattle.lset_text.proofs.ReadingLaws.{bind_ok}
 use Rattle.lset_text.proofs.HeaderLaws.{header_ok}
-use Rattle.lset_text.specs.Reading.{◌>>=◌, map_fault}
+use Rattle.lset_text.specs.Results.{◌>>=◌, map_fault}
 use Rattle.lset_replay.specs.declared.report.TheConstants.{MOST_CALLS, MOST_PLACES, MOST_KEYS}
 use Rattle.lset_replay.specs.declared.reading.Reader.{Reader}
 use Rattle.lset_replay.specs.declared.reading.lines.Line.{Line}
@@ -17,9 +17,9 @@ use Rattle.lset_replay.specs.declared.report_fault.ReportCause.{ReportCause}
 use Rattle.lset_replay.specs.declared.report_fault.ReportCause.TheVariants as wrong
 use Rattle.lset_replay.specs.declared.report_fault.ReportFault.{ReportFault}
 use Rattle.lset_replay.specs.Reports.{ReportValue}
-use Rattle.lset_replay.specs.Reading.{fault, line_in, may_follow, judged, counted, following, line_after, section_after}
-use Rattle.lset_replay.specs.Reading.{with_line}
-use Rattle.lset_replay.specs.Reading.{ended_in, report_from, report_of, reading, no_lines, IsGoodUpTo, RunsOut}
+use Rattle.lset_replay.specs.ReportReading.{fault, line_in, may_follow, judged, counted, following, line_after, section_after}
+use Rattle.lset_replay.specs.ReportReading.{with_line}
+use Rattle.lset_replay.specs.ReportReading.{ended_in, report_from, report_of, reading, no_lines, IsGoodUpTo, RunsOut}
 use Rattle.lset_replay.specs.Texts.{title}
 use Rattle.lset_replay.specs.declared.reading.lines.Section.TheVariants as section
 use Rattle.lset_text.specs.declared.headers.Header.{Header}

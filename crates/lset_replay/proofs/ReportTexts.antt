@@ -11,7 +11,7 @@ use Rattle.lset_words.specs.declared.history.CallRecord.{CallRecord}
 use Rattle.lset_words.specs.declared.history.Placed.{Placed}
 use Rattle.lset_text.specs.declared.headers.Header.{Header}
 use Rattle.lset_text.specs.Parts.{cut_at}
-use Rattle.lset_text.specs.Reading.{map_fault}
+use Rattle.lset_text.specs.Results.{map_fault}
 use Rattle.lset_text.specs.Headers.{IsHeader, header_lines, header_of}
 use Rattle.lset_text.proofs.PartLaws.{text_from_lines}
 use Rattle.lset_text.proofs.ReadingLaws.{bind_ok, map_fault_ok, ok_is}
@@ -26,11 +26,11 @@ use Rattle.lset_replay.specs.declared.report_fault.ReportFault.{ReportFault}
 use Rattle.lset_replay.specs.Reports.{ReportValue, view}
 use Rattle.lset_replay.specs.Texts.{title, header_in, call_line, call_lines, place_line, key_line, last_line}
 use Rattle.lset_replay.specs.Texts.{report_lines, report_text}
-use Rattle.lset_replay.specs.Reading.{IsEnd, IsCall, IsReport, fault, in_report, takes_calls, takes_places, takes_keys}
-use Rattle.lset_replay.specs.Reading.{line_in}
-use Rattle.lset_replay.specs.Reading.{judged, line_after, section_after, with_line, ended_in}
-use Rattle.lset_replay.specs.Reading.{report_from, no_lines}
-use Rattle.lset_replay.specs.Reading.{report_of, reading, Gives}
+use Rattle.lset_replay.specs.ReportReading.{IsEnd, IsCall, IsReport, fault, in_report, takes_calls, takes_places, takes_keys}
+use Rattle.lset_replay.specs.ReportReading.{line_in}
+use Rattle.lset_replay.specs.ReportReading.{judged, line_after, section_after, with_line, ended_in}
+use Rattle.lset_replay.specs.ReportReading.{report_from, no_lines}
+use Rattle.lset_replay.specs.ReportReading.{report_of, reading, Gives}
 use Rattle.lset_replay.proofs.ReportHistories.{history_more}
 use Rattle.lset_replay.proofs.ReportLines.{line_text, IsEndLine, IsLine, takes, line_ok}
 use Rattle.lset_replay.proofs.ReportLoops.{IsGood, judged_ok}

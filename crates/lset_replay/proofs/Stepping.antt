@@ -18,7 +18,7 @@ use Rattle.lset_replay.specs.declared.places.OpenCall.{OpenCall}
 use Rattle.lset_replay.specs.declared.places.Place.{Place}
 use Rattle.lset_replay.specs.Trace.{Trace, open_call_at, place_at, number_of, fit, changed_at, read_at, settled, changed_on, ended_on}
 use Rattle.lset_replay.proofs.Watching.{watched_on}
-use Rattle.lset_replay.proofs.Fitting.{fit_least, least_of}
+use Rattle.lset_replay.proofs.LeastFits.{fit_least, least_of}
 use Rattle.lset_replay.proofs.Following.{IsWatched, Follows, PlaceBy, PlaceOf, change_place, end_place, changed_calls, changed_seats, changed_open, changed_shut, changed_count, changed_other, changed_here, ended_seats, ended_others, ended_seat, ended_count, ended_other, ended_here, ended_has, watched_number, last_number_is, calls_are, pick, pick_not, watched_next}
 
 -- the place of the call that steps

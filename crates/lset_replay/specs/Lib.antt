@@ -4,6 +4,6 @@ pub mod Texts
 pub mod Trace
 pub mod Blocks
 pub mod Follows
-pub mod Reading
+pub mod ReportReading
 pub mod ReportCalls
 pub mod ReportReader

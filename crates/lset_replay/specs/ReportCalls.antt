@@ -6,7 +6,7 @@ use Rattle.lset_words.specs.declared.Reply.{Reply}
 use Rattle.lset_words.specs.declared.history.CallRecord.{CallRecord}
 use Rattle.lset_words.specs.History.{IsHistory}
 use Rattle.lset_replay.specs.declared.reading.calls.CallsSoFar.{CallsSoFar}
-use Rattle.lset_replay.specs.Reading.{begins_later, is_taken, is_idle}
+use Rattle.lset_replay.specs.ReportReading.{begins_later, is_taken, is_idle}
 
 abbrev pub threads_of : CallsSoFar → ℕ
 threads_of s = length s.idle_since.items

@@ -6,7 +6,7 @@ use Rattle.lset_replay.specs.declared.report_fault.ReportCause.TheVariants.{Memo
 use Rattle.lset_replay.specs.declared.report_fault.ReportFault.{ReportFault}
 use Rattle.lset_replay.specs.Reports.{ReportValue}
 use Rattle.lset_replay.specs.declared.reading.lines.Line.{Line}
-use Rattle.lset_replay.specs.Reading.{fault, line_after, section_after, with_line, RunsOut}
+use Rattle.lset_replay.specs.ReportReading.{fault, line_after, section_after, with_line, RunsOut}
 use Rattle.lset_replay.specs.ReportCalls.{Tracks, threads_of}
 
 -- the report of the lines that were read

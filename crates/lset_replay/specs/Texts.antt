@@ -7,7 +7,7 @@ use Rattle.lset_words.specs.declared.history.Placed.{Placed}
 use Rattle.lset_words.specs.Words.{key_of}
 use Rattle.lset_text.specs.declared.headers.Header.{Header}
 use Rattle.lset_text.specs.Parts.{line_of, text_of}
-use Rattle.lset_text.specs.Words.{call_text, reply_text}
+use Rattle.lset_text.specs.Spellings.{call_text, reply_text}
 use Rattle.lset_text.specs.Headers.{header_lines}
 use Rattle.lset_replay.specs.Reports.{ReportValue}
 

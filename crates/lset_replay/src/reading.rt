@@ -3,7 +3,7 @@ ghost use Rattle.lset_text.specs.Parts.{cut_at};
 ghost use Rattle.lset_text.specs.Headers.{IsHeader};
 ghost use Rattle.lset_replay.specs.Reports.{ReportValue, view};
 ghost use Rattle.lset_replay.specs.Texts.{report_text};
-ghost use Rattle.lset_replay.specs.Reading.{
+ghost use Rattle.lset_replay.specs.ReportReading.{
   IsReport,
   Gives,
   section_after,
@@ -161,7 +161,7 @@ impl Reader {
     }
 }
 
-#[tactic(auto, unfolding(crate::specs::Reading::report_of))]
+#[tactic(auto, unfolding(crate::specs::ReportReading::report_of))]
 fn report(alloc: Global, bytes: &[u8]) -> Result<Report, ReportFault>
     ensures { Gives view result bytes.now }
 {

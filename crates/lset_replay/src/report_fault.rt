@@ -1,5 +1,5 @@
 ghost use Rattle.std.specs.Prelude.{◌≡◌};
-ghost use Rattle.lset_replay.specs.Reading.{fault, cause_of, in_report};
+ghost use Rattle.lset_replay.specs.ReportReading.{fault, cause_of, in_report};
 
 use lset_text::{HeaderCause, HeaderFault};
 use thiserror::Error;

@@ -20,7 +20,7 @@ use Rattle.lset_schedule.specs.Generating.{NoneOpenAfter, IsGenerated}
 use Rattle.lset_steps.proofs.MoreEvents.{RunsTo, runs_to_opening, runs_to_more}
 use Rattle.lset_schedule.proofs.RunLaws.{opening_rests}
 use Rattle.lset_schedule.specs.Drawing.{line_of_event, left_after, IsOver}
-use Rattle.lset_schedule.specs.Turns.{IsIdle, IsNextEvent}
+use Rattle.lset_schedule.specs.GeneratorTurns.{IsIdle, IsNextEvent}
 
 abbrev pub Resting : State → ℕ → Type 0
 Resting s n = (t : ℕ) → t < n → (local_of s t).pc ≡ 0

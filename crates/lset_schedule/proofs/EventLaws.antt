@@ -11,8 +11,8 @@ use Rattle.lset_words.specs.Words.{key_of}
 use Rattle.lset_text.specs.declared.words.CallWord.{CallWord}
 use Rattle.lset_text.specs.Parts.{cut_at, Lacks}
 use Rattle.lset_text.specs.Numbers.{number_in, max_number}
-use Rattle.lset_text.specs.Words.{call_text, call_word_text, call_word_of, word_of, with_key}
-use Rattle.lset_text.specs.Reading.{◌>>=◌, or_fail}
+use Rattle.lset_text.specs.Spellings.{call_text, call_word_text, call_word_of, word_of, with_key}
+use Rattle.lset_text.specs.Results.{◌>>=◌, or_fail}
 use Rattle.lset_text.proofs.PartLaws.{Lacks-below, line_lacks, cut_line, line_from_cut}
 use Rattle.lset_text.proofs.NumberLaws.{number_ok, number_again, decimal_lacks}
 use Rattle.lset_text.proofs.WordLaws.{same_bytes, call_word_ok, call_word_again, call_lacks, with_key-word_of, word_of-with_key, key_of-with_key}
@@ -22,7 +22,7 @@ use Rattle.lset_schedule.specs.declared.value.Line.TheVariants.{Begin, Go}
 use Rattle.lset_schedule.specs.declared.fault.Cause.{Cause}
 use Rattle.lset_schedule.specs.declared.fault.Cause.TheVariants.{Event, Number}
 use Rattle.lset_schedule.specs.Plan.{pieces_of, line_text, IsLine}
-use Rattle.lset_schedule.specs.Reading.{go_of, begin_of, event_of_pieces, event_of}
+use Rattle.lset_schedule.specs.ScheduleReading.{go_of, begin_of, event_of_pieces, event_of}
 
 -- ---- what is read stands there
 

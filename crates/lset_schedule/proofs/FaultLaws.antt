@@ -9,9 +9,9 @@ use Rattle.lset_text.specs.declared.words.CallWord.{CallWord}
 use Rattle.lset_text.specs.declared.headers.Header.{Header}
 use Rattle.lset_text.specs.Parts.{cut_at}
 use Rattle.lset_text.specs.Numbers.{number_in, max_number}
-use Rattle.lset_text.specs.Words.{call_word_of, with_key}
+use Rattle.lset_text.specs.Spellings.{call_word_of, with_key}
 use Rattle.lset_text.specs.Headers.{header_of}
-use Rattle.lset_text.specs.Reading.{◌>>=◌, or_fail, map_fault}
+use Rattle.lset_text.specs.Results.{◌>>=◌, or_fail, map_fault}
 use Rattle.lset_text.proofs.PartLaws.{some_part}
 use Rattle.lset_text.proofs.HeaderLaws.{header_ok}
 use Rattle.lset_schedule.specs.declared.value.Line.{Line}
@@ -21,8 +21,8 @@ use Rattle.lset_schedule.specs.declared.fault.Cause.{Cause}
 use Rattle.lset_schedule.specs.declared.fault.Cause.TheVariants.{Event, Number, TooMany, NotEnded, Memory}
 use Rattle.lset_schedule.specs.declared.fault.ScheduleFault.{ScheduleFault}
 use Rattle.lset_schedule.specs.Plan.{Plan, title, event_count}
-use Rattle.lset_schedule.specs.Reading.{fault, go_of, begin_of, event_of_pieces, event_of, within, event_after, events_at}
-use Rattle.lset_schedule.specs.Reading.{plan_of, reading, IsFaultlessTo, IsGoodEvent, IsGoodLine}
+use Rattle.lset_schedule.specs.ScheduleReading.{fault, go_of, begin_of, event_of_pieces, event_of, within, event_after, events_at}
+use Rattle.lset_schedule.specs.ScheduleReading.{plan_of, reading, IsFaultlessTo, IsGoodEvent, IsGoodLine}
 use Rattle.lset_schedule.proofs.LoopLaws.{with_front, goes_on}
 
 -- ---- the faults of lines of events stand at the first of them or below

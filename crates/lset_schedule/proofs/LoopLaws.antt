@@ -5,14 +5,14 @@ use Rattle.std.proofs.lemmas.Bool.{ne_eqb, ltb-false}
 use Rattle.std.proofs.lemmas.List.{append-nil, nil_from_length}
 use Rattle.lset_schedule.specs.declared.TheConstants.{MOST_EVENTS}
 use Rattle.lset_text.specs.Parts.{cut_at}
-use Rattle.lset_text.specs.Reading.{◌>>=◌}
+use Rattle.lset_text.specs.Results.{◌>>=◌}
 use Rattle.lset_text.proofs.PartLaws.{some_part}
 use Rattle.lset_schedule.specs.declared.value.Line.{Line}
 use Rattle.lset_schedule.specs.declared.fault.Cause.{Cause}
 use Rattle.lset_schedule.specs.declared.fault.Cause.TheVariants.{TooMany, NotEnded}
 use Rattle.lset_schedule.specs.declared.fault.ScheduleFault.{ScheduleFault}
 use Rattle.lset_schedule.specs.Plan.{event_count}
-use Rattle.lset_schedule.specs.Reading.{fault, event_of, within, event_after, events_at}
+use Rattle.lset_schedule.specs.ScheduleReading.{fault, event_of, within, event_after, events_at}
 
 -- what was read before, and what is still read
 abbrev pub with_front : List Line → Result (List Line) ScheduleFault → Result (List Line) ScheduleFault

@@ -10,7 +10,7 @@ use Rattle.std.proofs.lemmas.List.Sums.{sum_by-cons}
 use Rattle.lset_schedule.specs.declared.TheConstants.{MOST_EVENTS}
 use Rattle.lset_text.specs.declared.headers.Header.{Header}
 use Rattle.lset_text.specs.Parts.{cut_at, ended, text_of, Lacks}
-use Rattle.lset_text.specs.Reading.{◌>>=◌, map_fault}
+use Rattle.lset_text.specs.Results.{◌>>=◌, map_fault}
 use Rattle.lset_text.specs.Headers.{header_lines, header_of}
 use Rattle.lset_text.proofs.PartLaws.{Lacks-from_test, text_from_lines, cut_lines}
 use Rattle.lset_text.proofs.ReadingLaws.{bind_ok, map_fault_ok, ok_is}
@@ -23,7 +23,7 @@ use Rattle.lset_schedule.specs.declared.fault.Cause.TheVariants.{TooMany, NotEnd
 use Rattle.lset_schedule.specs.declared.fault.ScheduleFault.{ScheduleFault}
 use Rattle.lset_schedule.specs.Plan.{Plan, view, header_in, line_text, title, schedule_lines, schedule_text, event_count}
 use Rattle.lset_schedule.specs.Plan.{IsLine, IsSchedule}
-use Rattle.lset_schedule.specs.Reading.{fault, in_schedule, event_of, within, event_after, events_at, plan_of, reading, Gives}
+use Rattle.lset_schedule.specs.ScheduleReading.{fault, in_schedule, event_of, within, event_after, events_at, plan_of, reading, Gives}
 use Rattle.lset_schedule.proofs.EventLaws.{event_ok, event_again, event_lacks}
 use Rattle.lset_schedule.proofs.LoopLaws.{within_ok}
 

@@ -2,5 +2,5 @@ pub mod Drawing
 pub mod Draws
 pub mod Generating
 pub mod Plan
-pub mod Reading
-pub mod Turns
+pub mod ScheduleReading
+pub mod GeneratorTurns

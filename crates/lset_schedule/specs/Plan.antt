@@ -7,7 +7,7 @@ use Rattle.lset_words.specs.declared.Kind.{Kind}
 use Rattle.lset_words.specs.Words.{key_of}
 use Rattle.lset_text.specs.declared.headers.Header.{Header}
 use Rattle.lset_text.specs.Parts.{line_of, text_of}
-use Rattle.lset_text.specs.Words.{call_text}
+use Rattle.lset_text.specs.Spellings.{call_text}
 use Rattle.lset_text.specs.Headers.{IsHeader, header_lines}
 use Rattle.lset_schedule.specs.declared.value.Line.{Line}
 use Rattle.lset_schedule.specs.declared.value.Line.TheVariants.{Begin, Go}

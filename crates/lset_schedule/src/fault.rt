@@ -1,6 +1,6 @@
 ghost use Rattle.std.specs.Prelude.{◌≡◌};
 ghost use Rattle.lset_schedule.specs.Generating.{layout_fault};
-ghost use Rattle.lset_schedule.specs.Reading.{fault, cause_of, in_schedule};
+ghost use Rattle.lset_schedule.specs.ScheduleReading.{fault, cause_of, in_schedule};
 ghost use Rattle.lset_schedule.specs.declared.fault.GenFault.TheVariants.{Memory};
 
 use lset_text::{HeaderCause, HeaderFault};

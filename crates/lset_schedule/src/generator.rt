@@ -3,7 +3,7 @@ ghost use Rattle.lset_steps.specs.Steps.{Enabled, after};
 ghost use Rattle.lset_schedule.specs.Drawing.{line_of_event, left_after, event_drawn, before_turns, IsOver, AreDrawn, AreOfSeed};
 ghost use Rattle.lset_schedule.specs.Generating.{IsAccepted, IsGenerated, Refuses};
 ghost use Rattle.lset_schedule.specs.Plan.{IsSchedule, view};
-ghost use Rattle.lset_schedule.specs.Turns.{HasOpenCall, IsIdle, IsNextEvent};
+ghost use Rattle.lset_schedule.specs.GeneratorTurns.{HasOpenCall, IsIdle, IsNextEvent};
 
 use crate::draws::draw_call;
 use crate::fault::GenFault;

@@ -1,7 +1,7 @@
 ghost use Rattle.std.specs.Prelude.{◌≡◌, ◌≤◌, IfOk, IfErr, MatchResult};
 ghost use Rattle.lset_text.specs.Parts.{cut_at};
 ghost use Rattle.lset_schedule.specs.Plan.{Plan, IsSchedule, view, schedule_text};
-ghost use Rattle.lset_schedule.specs.Reading.{
+ghost use Rattle.lset_schedule.specs.ScheduleReading.{
   Gives,
   go_of,
   begin_of,
@@ -24,7 +24,7 @@ use std::alloc::Global;
 /// The line of the first event.
 const FIRST_EVENT: u64 = 5;
 
-#[tactic(auto, unfolding(crate::specs::Reading::go_of))]
+#[tactic(auto, unfolding(crate::specs::ScheduleReading::go_of))]
 fn go(word: &[u8], thread: &[u8], steps: &[u8]) -> Result<Line, Cause>
     ensures { result ≡ go_of word.now thread.now steps.now }
 {
@@ -36,7 +36,7 @@ fn go(word: &[u8], thread: &[u8], steps: &[u8]) -> Result<Line, Cause>
     Ok(Line::Go(thread, steps))
 }
 
-#[tactic(auto, unfolding(crate::specs::Reading::begin_of))]
+#[tactic(auto, unfolding(crate::specs::ScheduleReading::begin_of))]
 fn begin(word: &[u8], thread: &[u8], call: &[u8], key: &[u8]) -> Result<Line, Cause>
     ensures { result ≡ begin_of word.now thread.now call.now key.now }
 {
@@ -105,7 +105,7 @@ fn events(alloc: Global, text: &[u8]) -> Result<Vec<Line>, ScheduleFault>
     Ok(lines)
 }
 
-#[tactic(auto, unfolding(crate::specs::Reading::plan_of))]
+#[tactic(auto, unfolding(crate::specs::ScheduleReading::plan_of))]
 fn schedule(alloc: Global, bytes: &[u8]) -> Result<Schedule, ScheduleFault>
     ensures exact { Gives view result (reading bytes.now) }
     ensures memory { IfErr result (λ e. e.cause ≡ Cause.Memory → IsGoodLine bytes.now e.line) }

@@ -24,7 +24,7 @@ pub mod UnlockedWalk
 pub mod SecondWalk
 pub mod Turns
 pub mod ReadTables
-pub mod Reading
+pub mod ReadOutline
 pub mod ReadBound
 pub mod ReadWalk
 mod WalkedTo

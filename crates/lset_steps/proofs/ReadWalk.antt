@@ -17,8 +17,8 @@ use Rattle.lset_steps.proofs.ReadTables.{HasReadRows, IsReadRow}
 use Rattle.lset_steps.specs.BoundedReads.{WalkWasInChain}
 use Rattle.lset_steps.proofs.Moves.{Course, InPast}
 use Rattle.lset_steps.proofs.Hindsight.{hindsight}
-use Rattle.lset_steps.proofs.Reading.{Reading}
-use Rattle.lset_steps.proofs.Reading.Reading.{reads20, reads21, reads22}
+use Rattle.lset_steps.proofs.ReadOutline.{Reading}
+use Rattle.lset_steps.proofs.ReadOutline.Reading.{reads20, reads21, reads22}
 use Rattle.lset_steps.proofs.ReadBound.{read_row}
 use Rattle.lset_steps.proofs.RunAccount.{tied}
 use Rattle.lset_steps.proofs.Discipline.{Outline, Discipline, Inv, inv_at, lawful_of}

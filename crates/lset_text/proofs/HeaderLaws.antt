@@ -13,8 +13,8 @@ use Rattle.lset_text.specs.declared.headers.HeaderFault.{HeaderFault}
 use Rattle.lset_text.specs.declared.headers.HeaderCause.TheVariants as wrong
 use Rattle.lset_text.specs.Parts.{cut_at, text_of, Lacks}
 use Rattle.lset_text.specs.Numbers.{number_in}
-use Rattle.lset_text.specs.Words.{kind_text, kind_of}
-use Rattle.lset_text.specs.Reading.{◌>>=◌, or_fail}
+use Rattle.lset_text.specs.Spellings.{kind_text, kind_of}
+use Rattle.lset_text.specs.Results.{◌>>=◌, or_fail}
 use Rattle.lset_text.specs.Headers.{kind_line, number_line, header_lines, IsHeader, fault, title_in, kind_in_pieces}
 use Rattle.lset_text.specs.Headers.{kind_in, number_in_pieces, number_after, line_due, told_by_line, title_told, kind_told}
 use Rattle.lset_text.specs.Headers.{threads_told, quota_told, header_of}

@@ -1,6 +1,6 @@
 -- What is known of a chain of checks that answered a value.
 use Rattle.std.proofs.Common.{◌≡◌, Bool, true, false, cond, Option, Some, None, Result, Ok, Err, refl}
-use Rattle.lset_text.specs.Reading.{◌>>=◌, or_fail, map_fault}
+use Rattle.lset_text.specs.Results.{◌>>=◌, or_fail, map_fault}
 
 pub bind_ok : {A B E : Type 0} (r : Result A E) (f : A → Result B E) (y : B) → (r >>= f) ≡ Ok y
     → (x : A) × (r ≡ Ok x) × (f x ≡ Ok y)

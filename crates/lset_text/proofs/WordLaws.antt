@@ -14,8 +14,8 @@ use Rattle.lset_words.specs.Words.{key_of}
 use Rattle.lset_text.specs.declared.words.CallWord.{CallWord}
 use Rattle.lset_text.specs.declared.words.CallWord.TheVariants as word
 use Rattle.lset_text.specs.Parts.{Lacks}
-use Rattle.lset_text.specs.Words.{kind_text, kind_of, call_word_text, call_text, call_word_of, word_of, with_key}
-use Rattle.lset_text.specs.Words.{reply_text, reply_of}
+use Rattle.lset_text.specs.Spellings.{kind_text, kind_of, call_word_text, call_text, call_word_of, word_of, with_key}
+use Rattle.lset_text.specs.Spellings.{reply_text, reply_of}
 use Rattle.lset_text.proofs.PartLaws.{Lacks-below}
 
 pub same_bytes : (xs ys : List ℕ) → bytes_eq xs ys ≡ true → xs ≡ ys

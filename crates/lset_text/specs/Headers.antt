@@ -12,8 +12,8 @@ use Rattle.lset_text.specs.declared.headers.HeaderCause.TheVariants as wrong
 use Rattle.lset_text.specs.declared.headers.HeaderFault.{HeaderFault}
 use Rattle.lset_text.specs.Parts.{cut_at, line_of, text_of, Lacks}
 use Rattle.lset_text.specs.Numbers.{number_in}
-use Rattle.lset_text.specs.Words.{kind_text, kind_of}
-use Rattle.lset_text.specs.Reading.{◌>>=◌, or_fail}
+use Rattle.lset_text.specs.Spellings.{kind_text, kind_of}
+use Rattle.lset_text.specs.Results.{◌>>=◌, or_fail}
 
 -- ---- the text of a header
 

@@ -1,5 +1,5 @@
 pub mod Parts
 pub mod Numbers
-pub mod Words
-pub mod Reading
+pub mod Spellings
+pub mod Results
 pub mod Headers

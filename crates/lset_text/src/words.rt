@@ -1,5 +1,5 @@
 ghost use Rattle.std.specs.Prelude.{◌≡◌};
-ghost use Rattle.lset_text.specs.Words.{
+ghost use Rattle.lset_text.specs.Spellings.{
   kind_text,
   kind_of,
   call_text,
@@ -49,7 +49,7 @@ pub fn kind_word(kind: Kind) -> &'static str
 }
 
 /// The kind of list that the piece is the word for; `None` for any other piece.
-#[tactic(auto, unfolding(crate::specs::Words::kind_of))]
+#[tactic(auto, unfolding(crate::specs::Spellings::kind_of))]
 pub fn read_kind(piece: &[u8]) -> Option<Kind>
     ensures { result ≡ kind_of piece.now }
 {
@@ -80,7 +80,7 @@ pub fn call_word(call: Call) -> &'static str
 }
 
 /// The call word that the piece is; `None` for any other piece.
-#[tactic(auto, unfolding(crate::specs::Words::call_word_of))]
+#[tactic(auto, unfolding(crate::specs::Spellings::call_word_of))]
 pub fn read_call(piece: &[u8]) -> Option<CallWord>
     ensures { result ≡ call_word_of piece.now }
 {
@@ -107,7 +107,7 @@ pub fn reply_word(reply: Reply) -> &'static str
 }
 
 /// The reply that the piece is the word for; `None` for any other piece.
-#[tactic(auto, unfolding(crate::specs::Words::reply_of))]
+#[tactic(auto, unfolding(crate::specs::Spellings::reply_of))]
 pub fn read_reply(piece: &[u8]) -> Option<Reply>
     ensures { result ≡ reply_of piece.now }
 {

@@ -7,7 +7,7 @@ use Rattle.lset_history.specs.Faults.{Explains, IsFault}
 use Rattle.lset_replay.specs.declared.report_fault.ReportFault.{ReportFault}
 use Rattle.lset_replay.specs.Reports.{ReportValue}
 use Rattle.lset_replay.specs.Texts.{report_text}
-use Rattle.lset_replay.specs.Reading.{IsReport, reading}
+use Rattle.lset_replay.specs.ReportReading.{IsReport, reading}
 use Rattle.lset_tools.specs.declared.trouble.Trouble.{Trouble}
 use Rattle.lset_tools.specs.Trouble.{of_report}
 use Rattle.lset_tools.specs.Tools.{AnswerValue, Made, IsTaken, IsInputTrouble}

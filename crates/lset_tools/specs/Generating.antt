@@ -5,8 +5,8 @@ use Rattle.lset_words.specs.declared.TheConstants.{MOST_THREADS, MOST_QUOTA}
 use Rattle.lset_steps.specs.Steps.{Table}
 use Rattle.lset_lists.specs.Tables.{table_of}
 use Rattle.lset_text.specs.Numbers.{number_in}
-use Rattle.lset_text.specs.Reading.{◌>>=◌, or_fail}
-use Rattle.lset_text.specs.Words.{kind_of}
+use Rattle.lset_text.specs.Results.{◌>>=◌, or_fail}
+use Rattle.lset_text.specs.Spellings.{kind_of}
 use Rattle.lset_schedule.specs.Drawing.{AreOfSeed}
 use Rattle.lset_schedule.specs.Generating.{IsGenerated}
 use Rattle.lset_schedule.specs.Plan.{Plan, IsSchedule, schedule_text}

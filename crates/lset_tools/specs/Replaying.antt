@@ -3,7 +3,7 @@ use Rattle.std.specs.Prelude.{◌≡◌, ℕ, ◌⊎◌, List, Result, Ok, Err}
 use Rattle.lset_lists.specs.Tables.{table_of}
 use Rattle.lset_schedule.specs.declared.fault.ScheduleFault.{ScheduleFault}
 use Rattle.lset_schedule.specs.Plan.{Plan, IsSchedule, schedule_text}
-use Rattle.lset_schedule.specs.Reading.{reading}
+use Rattle.lset_schedule.specs.ScheduleReading.{reading}
 use Rattle.lset_replay.specs.declared.fault.ReplayFault.{ReplayFault}
 use Rattle.lset_replay.specs.Events.{events_of}
 use Rattle.lset_replay.specs.Reports.{ReportValue, IsReplay, IsRefusal, IsExplained}

@@ -1,5 +1,5 @@
 ghost use Rattle.std.specs.Prelude.{◌≡◌, ◌⊎◌, IfErr, IfSome};
-ghost use Rattle.lset_schedule.specs.Reading.{reading};
+ghost use Rattle.lset_schedule.specs.ScheduleReading.{reading};
 ghost use Rattle.lset_tools.specs.Tools.{Ends, IsTaken, view};
 ghost use Rattle.lset_tools.specs.Replaying.{IsFirstFault, Replays};
 ghost use Rattle.lset_tools.specs.declared.trouble.Trouble.TheVariants.{Memory};

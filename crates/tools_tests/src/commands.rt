@@ -75,7 +75,7 @@ fn other_words_are_refused(rt: HostRuntime) -> Result<(), Fail> {
 
 #[test]
 fn help_names_the_commands_and_their_values(rt: HostRuntime) -> Result<(), Fail> {
-    let rows: [(&[&str], &str); 7] = [
+    let rows: [(&[&str], &str); 8] = [
         (&["--help"], "\nUsage: listset [COMMAND]\n"),
         (
             &["help"],
@@ -92,6 +92,10 @@ fn help_names_the_commands_and_their_values(rt: HostRuntime) -> Result<(), Fail>
             "\n  [THREADS]  How many threads: 1 to 64\n",
         ),
         (&["help", "gen"], "if 10000 events suffice: 0 to 10000\n"),
+        (
+            &["help", "gen"],
+            "The list: coarse, fine, optimistic, lazy or lock-free\n",
+        ),
     ];
     for (words, line) in rows {
         match tool_words(rt.alloc(), words) {

@@ -17,7 +17,7 @@ use Rattle.lset_steps.proofs.Replies.{Adding, Removing, removing_kept, registers
 use Rattle.lset_steps.specs.Rows.{decided_on, goes_to, own_slot}
 use Rattle.lset_steps.specs.ReadRows.{first_row, read_action, read_fed, continued}
 use Rattle.lset_steps.proofs.ReadTables.{HasReadRows, IsReadRow}
-use Rattle.lset_steps.proofs.Reading.{Reading, begun_reading_is, reading_on, call_begins, reads_on, even_or_odd}
+use Rattle.lset_steps.proofs.ReadOutline.{Reading, begun_reading_is, reading_on, call_begins, reads_on, even_or_odd}
 use Rattle.lset_steps.proofs.Held.{Between, Leaves, LockedStep, in_chain, leaves_of, between_on, adding_on, removing_on, own_key_on, own_link_on, reads_word, frees, writes_own_key, writes_own_link, puts_between, marks_between, cuts_between, curr_is_not_pred, found_no_tail, decides, leaves_own_key, leaves_own_link}
 use Rattle.lset_steps.proofs.UnlockedWalk.{Spot, Found, spot_kept, found_kept, found_apart, spot_behind, spot_behind_head, next_inside, small_key, keeps_locked}
 use Rattle.lset_steps.proofs.ReadWalk.{ShowsReading, low_row}

@@ -22,7 +22,7 @@ use Rattle.lset_steps.proofs.Replies.{Adding, Removing, removing_kept, adding_ke
 use Rattle.lset_steps.specs.Rows.{decided_on, goes_to, own_slot}
 use Rattle.lset_steps.specs.ReadRows.{first_row, read_action, read_fed, continued, leaves_with}
 use Rattle.lset_steps.proofs.ReadTables.{HasReadRows, IsReadRow}
-use Rattle.lset_steps.proofs.Reading.{Reading, begun_reading_is, reading_on, call_begins, reads_on, even_or_odd}
+use Rattle.lset_steps.proofs.ReadOutline.{Reading, begun_reading_is, reading_on, call_begins, reads_on, even_or_odd}
 use Rattle.lset_steps.proofs.UnlockedWalk.{Spot, spot_kept, spot_behind_head, next_inside}
 use Rattle.lset_steps.proofs.ReadWalk.{ShowsReading, low_row}
 use Rattle.lset_steps.proofs.Turns.{Turn, due_of, Follows, no_locks}

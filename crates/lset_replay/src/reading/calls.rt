@@ -1,7 +1,7 @@
 ghost use Rattle.std.specs.Prelude.{◌≡◌, ℕ, ◌++◌, ◌∷◌, [], ◌||◌, true, IfOk, OnOk};
 ghost use Rattle.std.specs.Ordering.{nat_cmp};
 ghost use Rattle.std.specs.BTreeSet.{contains};
-ghost use Rattle.lset_replay.specs.Reading.{is_entry, may_follow};
+ghost use Rattle.lset_replay.specs.ReportReading.{is_entry, may_follow};
 ghost use Rattle.lset_replay.specs.ReportCalls.{Tracks, threads_of, is_before, end_moment, ends_well_by};
 
 use lset_words::CallRecord;

@@ -1,5 +1,5 @@
 ghost use Rattle.std.specs.Prelude.{◌≡◌};
-ghost use Rattle.lset_replay.specs.Reading.{
+ghost use Rattle.lset_replay.specs.ReportReading.{
   takes_calls,
   takes_places,
   takes_keys,
@@ -72,7 +72,7 @@ impl Line {
 }
 
 /// The number and the beginning of a call.
-#[tactic(auto, unfolding(crate::specs::Reading::begun_of))]
+#[tactic(auto, unfolding(crate::specs::ReportReading::begun_of))]
 fn begun_call(
     word: CallWord,
     id: &[u8],
@@ -95,7 +95,7 @@ fn begun_call(
     Ok((id, made))
 }
 
-#[tactic(auto, unfolding(crate::specs::Reading::open_of))]
+#[tactic(auto, unfolding(crate::specs::ReportReading::open_of))]
 fn open_call(
     id: &[u8],
     thread: &[u8],
@@ -114,7 +114,7 @@ fn open_call(
     Ok(Line::Call(id, made))
 }
 
-#[tactic(auto, unfolding(crate::specs::Reading::ended_of))]
+#[tactic(auto, unfolding(crate::specs::ReportReading::ended_of))]
 fn ended_call(
     id: &[u8],
     thread: &[u8],
@@ -159,7 +159,7 @@ fn call(id: &[u8], thread: &[u8], rest: &[u8]) -> Result<Line, ReportCause>
     ended_call(id, thread, call, key, begun, end, reply)
 }
 
-#[tactic(auto, unfolding(crate::specs::Reading::place_of))]
+#[tactic(auto, unfolding(crate::specs::ReportReading::place_of))]
 fn place(section: Section, word: &[u8], id: &[u8], reply: &[u8]) -> Result<Line, ReportCause>
     ensures { result ≡ place_of section word.now id.now reply.now }
 {
@@ -171,7 +171,7 @@ fn place(section: Section, word: &[u8], id: &[u8], reply: &[u8]) -> Result<Line,
     Ok(Line::Place(Placed { call, reply }))
 }
 
-#[tactic(auto, unfolding(crate::specs::Reading::key_of_line))]
+#[tactic(auto, unfolding(crate::specs::ReportReading::key_of_line))]
 fn key(section: Section, word: &[u8], key: &[u8]) -> Result<Line, ReportCause>
     ensures { result ≡ key_of_line section word.now key.now }
 {

@@ -1,7 +1,7 @@
 use Rattle.std.proofs.Common.{◌∙◌, ap, IfOk, codes}
 use Rattle.std.proofs.lemmas.Result.{IfOk-weaker}
 use Rattle.clap.specs.Words.{new_app}
-use Rattle.lset_command.specs.Words.{gen_app}
+use Rattle.lset_command.specs.CommandLine.{gen_app}
 use Rattle.lset_command.proofs.Commands.{IsApp, IsApp-arg, app_of_fields-same}
 use Rattle.lset_command.proofs.words.gen_command.Goals as goal
 

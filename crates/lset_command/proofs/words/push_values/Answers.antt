@@ -2,7 +2,7 @@ use Rattle.std.proofs.Common.{◌≡◌, ◌++◌, ◌∙◌, ap, sym, map, take
 use Rattle.std.proofs.lemmas.List.{take_all}
 use Rattle.std.specs.String.{string_bytes}
 use Rattle.clap.specs.Words.{found_of, rows_of}
-use Rattle.lset_command.specs.Words.{values_by}
+use Rattle.lset_command.specs.CommandLine.{values_by}
 use Rattle.lset_command.proofs.FoundValues.{got}
 use Rattle.lset_command.proofs.words.push_values.Goals as goal
 

@@ -3,7 +3,7 @@ use Rattle.std.specs.String.{string_bytes}
 use Rattle.clap.specs.Words.{found_of, rows_of, subcommand_of}
 use Rattle.clap.specs.Kinds.{HasKind}
 use Rattle.clap.specs.Walk.{texts}
-use Rattle.lset_command.specs.Words.{listset}
+use Rattle.lset_command.specs.CommandLine.{listset}
 use Rattle.lset_command.proofs.Chosen.{fails_as, no_command, one_command, program_faults, program_matches, chosen_command, chosen_replay}
 use Rattle.lset_command.proofs.words.tool_words.Goals as goal
 

@@ -2,7 +2,7 @@ use Rattle.std.proofs.Common.{◌∙◌, ap, map}
 use Rattle.std.specs.String.{string_bytes}
 use Rattle.clap.specs.Words.{found_of, rows_of}
 use Rattle.clap.specs.Matches.{ids_left}
-use Rattle.lset_command.specs.Words.{values_in}
+use Rattle.lset_command.specs.CommandLine.{values_in}
 use Rattle.lset_command.proofs.FoundValues.{by_all_names, one_more, no_more}
 use Rattle.lset_command.proofs.words.values_of.Goals as goal
 

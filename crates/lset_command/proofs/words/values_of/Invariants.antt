@@ -2,7 +2,7 @@ use Rattle.std.proofs.Common.{◌≡◌, ◌++◌, map}
 use Rattle.std.specs.String.{string_bytes}
 use Rattle.clap.specs.Words.{found_of, rows_of}
 use Rattle.clap.specs.Matches.{ids_left}
-use Rattle.lset_command.specs.Words.{values_in}
+use Rattle.lset_command.specs.CommandLine.{values_in}
 use Rattle.lset_command.proofs.FoundValues.{values_by_names}
 use Rattle.lset_command.proofs.words.values_of.Given as goal
 

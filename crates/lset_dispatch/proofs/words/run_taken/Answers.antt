@@ -1,5 +1,5 @@
 use Rattle.std.proofs.Common.{Err}
-use Rattle.lset_command.specs.Words.{choice_in}
+use Rattle.lset_command.specs.CommandLine.{choice_in}
 use Rattle.lset_tools.specs.declared.trouble.Trouble.TheVariants.{CannotRead}
 use Rattle.lset_dispatch.proofs.Endings.{ends_with, not_opened}
 use Rattle.lset_dispatch.proofs.words.run_taken.Goals as goal

@@ -1,6 +1,6 @@
-use Rattle.lset_history.specs.Laws.{contents_of}
+use Rattle.lset_history.specs.Laws.{contents_of_lists}
 use Rattle.lset_history.proofs.Placing.{has_placement}
 use Rattle.lset_history.proofs.placement.every_call_has_a_place.Goals as goal
 
 pub returns : goal.returns
-returns c = λ threads quota last log lists counts a. has_placement threads quota last log (contents_of lists) counts a
+returns c = λ threads quota last log lists counts a. has_placement threads quota last log (contents_of_lists lists) counts a

@@ -1,5 +1,5 @@
 use Rattle.lset_history.specs.Laws.{content_of}
-use Rattle.lset_history.proofs.Fitting.{replies_from_fits, fits_from_replies}
+use Rattle.lset_history.proofs.SetFitting.{replies_from_fits, fits_from_replies}
 use Rattle.lset_history.proofs.placement.fits_are_replies.Goals as goal
 
 pub returns : goal.returns

@@ -3,25 +3,25 @@ use Rattle.lset_words.specs.declared.history.Placed.{Placed}
 use Rattle.lset_words.specs.Log.{Log, calls_at}
 use Rattle.lset_words.specs.Account.{Counts, Account}
 use Rattle.lset_words.specs.Placement.{IsPlacement}
-use Rattle.lset_history.specs.Laws.{contents_of, HasKeysOf, set_of_order}
+use Rattle.lset_history.specs.Laws.{contents_of_lists, HasKeysOf, set_of_order}
 use Rattle.lset_words.proofs.RisingLists.{increasing_from_rises}
 use Rattle.lset_history.proofs.States.{Shows}
 use Rattle.lset_history.proofs.Linearizing.{linearizes, leaves_set, leaves_keys}
 use Rattle.lset_history.proofs.placement.placement_linearizes.Goals as goal
 
 has_keys : (threads quota last : ℕ) (log : Log) (lists : ℕ → List ℕ) (counts : Counts) (order : List Placed)
-    → Account threads quota last log (contents_of lists) counts
-    → IsPlacement quota last (calls_at log last) (contents_of lists) counts order
+    → Account threads quota last log (contents_of_lists lists) counts
+    → IsPlacement quota last (calls_at log last) (contents_of_lists lists) counts order
     → HasKeysOf (set_of_order threads log last order) (lists last)
 has_keys threads quota last log lists counts order a p =
-    let w : Shows threads (contents_of lists last) (counts last) (set_of_order threads log last order) =
-    leaves_set threads quota last log (contents_of lists) counts order a p in
+    let w : Shows threads (contents_of_lists lists last) (counts last) (set_of_order threads log last order) =
+    leaves_set threads quota last log (contents_of_lists lists) counts order a p in
     record {
       rising = increasing_from_rises 0 (set_of_order threads log last order).keys w.rising;
       members = w.keys;
-      alone = leaves_keys threads quota last log (contents_of lists) counts order a p;
+      alone = leaves_keys threads quota last log (contents_of_lists lists) counts order a p;
     }
 
 pub returns : goal.returns
 returns c = λ threads quota last log lists counts order a p.
-    (linearizes threads quota last log (contents_of lists) counts order a p, has_keys threads quota last log lists counts order a p)
+    (linearizes threads quota last log (contents_of_lists lists) counts order a p, has_keys threads quota last log lists counts order a p)

@@ -1,7 +1,7 @@
 use Rattle.std.proofs.Common.{◌≡◌, ◌≤◌, ◌+◌, length}
 use Rattle.lset_schedule.specs.declared.TheConstants.{MOST_EVENTS}
 use Rattle.lset_text.specs.Parts.{cut_at}
-use Rattle.lset_schedule.specs.Reading.{events_at}
+use Rattle.lset_schedule.specs.ScheduleReading.{events_at}
 use Rattle.lset_schedule.proofs.LoopLaws.{with_front}
 use Rattle.lset_schedule.proofs.reading.events.Given as goal
 

@@ -1,7 +1,7 @@
 use Rattle.std.proofs.Common.{◌≤◌, sym}
 use Rattle.std.proofs.lemmas.List.{get_or_read}
 use Rattle.std.proofs.lemmas.Result.{MatchResult-from_err}
-use Rattle.lset_history.proofs.Replies.{add_present, add_full, add_new, puts_in, keeps_add}
+use Rattle.lset_history.proofs.SetReplies.{add_present, add_full, add_new, puts_in, keeps_add}
 use Rattle.lset_history.proofs.oracle.Oracle.add.Goals as goal
 
 pub returns-then-contains-clause-answers : goal.returns-then-contains-clause-answers

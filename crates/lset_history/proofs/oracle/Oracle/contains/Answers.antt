@@ -1,4 +1,4 @@
-use Rattle.lset_history.proofs.Replies.{contained}
+use Rattle.lset_history.proofs.SetReplies.{contained}
 use Rattle.lset_history.proofs.oracle.Oracle.contains.Goals as goal
 
 pub returns : goal.returns

@@ -1,5 +1,5 @@
 use Rattle.std.proofs.lemmas.Map.Keys.{IsStrictlyIncreasing-from_sorted}
-use Rattle.lset_history.proofs.Replies.{removed}
+use Rattle.lset_history.proofs.SetReplies.{removed}
 use Rattle.lset_history.proofs.oracle.Oracle.remove.Goals as goal
 
 pub invariant_of-self : goal.invariant_of-self

@@ -1,6 +1,6 @@
 use Rattle.std.proofs.Common.{◌≡◌, ◌≤◌, ◌+◌, length}
 use Rattle.lset_text.specs.Parts.{cut_at}
-use Rattle.lset_replay.specs.Reading.{report_from}
+use Rattle.lset_replay.specs.ReportReading.{report_from}
 use Rattle.lset_replay.specs.ReportReader.{Holds, so_far}
 use Rattle.lset_replay.proofs.reading.Reader.read_lines.Given as goal
 

@@ -17,7 +17,7 @@ use Rattle.std.proofs.lemmas.Bool.{cases_Bool}
 use Rattle.lset_history.proofs.Lists.{Pairs, SomeOf, all_imply, all_both, all_filter, pairs_filter, pairs_imply, one_left, filter_none, some_imply, some_filter}
 use Rattle.lset_history.proofs.Keys.{has_true, has_false}
 use Rattle.lset_history.proofs.Calls.{Run}
-use Rattle.lset_history.proofs.Fitting.{SameKeys, replies_from_fits}
+use Rattle.lset_history.proofs.SetFitting.{SameKeys, replies_from_fits}
 use Rattle.lset_history.proofs.States.{Shows, keys_after, counts_after, set_after}
 use Rattle.lset_history.proofs.Standings.{Stood, Follows, During, during, Changing, changing, Reading}
 use Rattle.lset_history.proofs.Order.{moment_of, Leads, Stays}

@@ -7,8 +7,8 @@ use Rattle.lset_text.specs.declared.headers.HeaderCause.TheVariants as head
 use Rattle.lset_text.specs.declared.headers.HeaderFault.{HeaderFault}
 use Rattle.lset_text.specs.Parts.{cut_at}
 use Rattle.lset_text.specs.Numbers.{number_in, max_number}
-use Rattle.lset_text.specs.Words.{call_word_of, with_key}
-use Rattle.lset_text.specs.Reading.{◌>>=◌, or_fail, map_fault}
+use Rattle.lset_text.specs.Spellings.{call_word_of, with_key}
+use Rattle.lset_text.specs.Results.{◌>>=◌, or_fail, map_fault}
 use Rattle.lset_text.specs.Headers.{header_of}
 use Rattle.lset_schedule.specs.declared.value.Line.{Line}
 use Rattle.lset_schedule.specs.declared.value.Line.TheVariants.{Begin, Go}

@@ -16,8 +16,8 @@ use Rattle.lset_text.specs.declared.headers.HeaderCause.TheVariants as head
 use Rattle.lset_text.specs.declared.headers.HeaderFault.{HeaderFault}
 use Rattle.lset_text.specs.Parts.{cut_at}
 use Rattle.lset_text.specs.Numbers.{number_in, max_number}
-use Rattle.lset_text.specs.Words.{call_word_of, reply_of, with_key}
-use Rattle.lset_text.specs.Reading.{◌>>=◌, or_fail, map_fault}
+use Rattle.lset_text.specs.Spellings.{call_word_of, reply_of, with_key}
+use Rattle.lset_text.specs.Results.{◌>>=◌, or_fail, map_fault}
 use Rattle.lset_text.specs.Headers.{IsHeader, header_of}
 use Rattle.lset_replay.specs.declared.report.TheConstants.{MOST_CALLS, MOST_PLACES, MOST_KEYS}
 use Rattle.lset_replay.specs.declared.reading.lines.Line.{Line as ReportLine}
