@@ -10,7 +10,7 @@ ghost use Rattle.lset_fine.specs.Lawful.{fine_lawful};
 
 use lset_steps::rows::{Targets, begun, decide, key_index, link_index, lock_index, own_slot};
 use lset_steps::{Action, Fed, Local, Machine};
-use lset_words::{Call, Key, Kind, Reply};
+use lset_words::{Call, Key, Kind, MOST_NODES, Reply};
 
 /// The list with a lock in each node: a walk locks a node before it gives up the one behind it (Herlihy
 /// and Shavit's fine-grained list, by this project's own table).
@@ -29,7 +29,7 @@ const TARGETS: Targets = Targets {
 /// The try of a node's lock.
 fn try_lock(node: u64, local: &Local) -> Action
     requires local { IsSmall local.now }
-    requires node { node ≤ 1048578 }
+    requires node { node ≤ MOST_NODES }
     ensures { result ≡ Action.Exchange (lock_index node) 0 (local.now.thread + 1) }
 {
     Action::Exchange(lock_index(node), 0, u64::from(local.thread) + 1)

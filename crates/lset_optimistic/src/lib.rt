@@ -23,7 +23,7 @@ pub mod laws;
 
 use lset_steps::rows::{Targets, begun, decide, key_index, link_index, lock_index, own_slot};
 use lset_steps::{Action, Fed, Local, Machine};
-use lset_words::{Call, Key, Kind, Reply};
+use lset_words::{Call, Key, Kind, MOST_NODES, Reply};
 
 /// The list that walks without locks, locks the two nodes that it has come to, and walks a second time from the
 /// head to see that the first of them is still in the chain and leads to the other (Herlihy and Shavit's
@@ -43,7 +43,7 @@ const TARGETS: Targets = Targets {
 /// The try of a node's lock.
 fn try_lock(node: u64, local: &Local) -> Action
     requires local { IsSmall local.now }
-    requires node { node ≤ 1048578 }
+    requires node { node ≤ MOST_NODES }
     ensures { result ≡ Action.Exchange (lock_index node) 0 (local.now.thread + 1) }
 {
     Action::Exchange(lock_index(node), 0, u64::from(local.thread) + 1)
