@@ -25,7 +25,8 @@ DoesBy Gen values input made = Generates values made
 abbrev pub Does : Choice → Option (List ℕ) → Made → Type 0
 Does choice input made = DoesBy choice.0 choice.1 input made
 
--- where no file is named, it does so on the standard input; a file that is named may not be opened
+-- where no file is named, it does so on the standard input; else on what some file holds (that it is the one of this path, or read
+-- from its start, no clause says), or it says that it could not be read
 abbrev pub DoesOn : Option Text → Choice → (Option (List ℕ) → Type 0) → Option (List ℕ) → Made → Type 0
 DoesOn None choice IsFile input made = Does choice input made
 DoesOn (Some path) choice IsFile input made =
@@ -44,11 +45,11 @@ IsHelp kind = (kind ≡ DisplayHelp) ⊎ (kind ≡ DisplayVersion)
 abbrev pub IsMistake : ErrorKind → Type 0
 IsMistake kind = (kind ≢ OutOfMemory) × (kind ≢ DisplayHelp) × (kind ≢ DisplayVersion)
 
--- what is made of words that ask for help: some text, and status 0; or memory is refused
+-- what is made of words that ask for help: a text, and status 0; or, whatever the words are, memory is refused
 abbrev pub Helps : ErrorKind → Made → Type 0
 Helps kind made = (made ≡ Err Memory) ⊎ (IsHelp kind × (text : List ℕ) × (made ≡ Ok (record { text = text; status = 0 })))
 
--- A mistake writes nothing on the output, some text on the other, of which a front is written where a write fails, and ends with status 2.
+-- A mistake writes nothing on the output and ends with status 2; what it writes on the other is clap's, and no clause speaks of it.
 abbrev pub Refuses : ErrorKind → Option (List ℕ) → Option (List ℕ) → Option (List ℕ) → Option (List ℕ) → ℕ → Type 0
 Refuses kind output_old output_new faults_old faults_new status =
     IsMistake kind × Keeps output_old output_new × (text : List ℕ) × AppendsFront faults_old faults_new text × (status ≡ 2)

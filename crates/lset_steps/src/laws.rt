@@ -45,8 +45,8 @@ pub fn lock_uses<M: Machine>()
     ensures { LockUses M.table }
 {}
 
-/// A published node keeps its key, an unlinked one keeps its link and stays out of the chain, and so does the link of
-/// a marked node in a list that marks. (Heller and others, of their lazy list; Harris, of marks.)
+/// A published node keeps its key; an unlinked one keeps its link and stays out of the chain; in a list that marks, a
+/// marked one keeps its link. (Heller and others, of their lazy list; Harris, of marks.)
 pub fn unlinked_nodes_stay<M: Machine>()
     ensures { UnlinkedNodesStay M.table }
 {}
@@ -63,7 +63,7 @@ pub fn seen_in_the_past<M: Machine>()
     ensures { SeenInThePast M.table }
 {}
 
-/// In a list that marks, every unmarked published node is in the chain; in another one no link is marked. (Heller and
+/// In a list that marks, every unmarked published node is in the chain; in another one no published node is marked. (Heller and
 /// others, of their lazy list.)
 pub fn unmarked_nodes_in_chain<M: Machine>()
     ensures { UnmarkedNodesInChain M.table }

@@ -93,7 +93,7 @@ pub struct Told {
     pub change: Option<(Key, bool)>,
 }
 
-/// One of the five lists, step by step (Herlihy and Shavit's algorithms, by this project's own tables).
+/// A list set, step by step, by its table (the five: Herlihy and Shavit's algorithms, by this project's own tables).
 /// `seen` is the value that was loaded or stored, or that the word held before an exchange.
 pub trait Machine {
     const KIND: Kind;

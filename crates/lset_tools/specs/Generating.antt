@@ -73,6 +73,6 @@ of_generator generator.Quota = Bad name.Quota
 of_generator generator.Keys = Bad name.Keys
 of_generator generator.Memory = Memory
 
--- with no sign, and no leading zero: so a text of digits is the one spelling of its number
+-- with no plus sign, and no leading zero: so a text of digits is the one spelling of its number
 abbrev pub IsPlain : List ℕ → Type 0
 IsPlain text = (0 < length text) × (slice_index text 0 ≢ 43) × (slice_index text 0 ≡ 48 → length text ≡ 1)

@@ -12,7 +12,8 @@ use Rattle.lset_fine.specs.Fine.{fine, next_action, fed_by}
 use Rattle.lset_wrong_tables.specs.Schedules.{Schedule, begin, go, add, remove}
 
 -- WITH THE LOCK OF PRED ALONE: where it would try the lock of curr (3), a remove loads the key of curr (4). It tries the lock only
--- where it walks on, and then gives back the lock of pred (5). At the end it has no lock of curr to give back (12).
+-- where it walks on, and then gives back the lock of pred (5); a failed try goes by row 4 again. At the end it has no lock of curr to
+-- give back (12).
 abbrev pub row_of_remove : ℕ → ℕ
 row_of_remove pc = if pc == 3 then 4 else if pc == 4 then 5 else if pc == 5 then 3 else if pc == 12 then 13 else pc
 
@@ -36,7 +37,8 @@ removed_under_a_lock = record {
 }
 
 -- A WALK THAT IS NOT HAND OVER HAND: where curr has become pred (6), a call gives back its lock (14) before it tries the lock of the
--- next node (3). So it decides with the lock of curr alone.
+-- next node (3). So it decides with the lock of curr alone. Rows 5 and 13 are as they were and store 0 in that lock once more; the
+-- schedule ends before that.
 abbrev pub next_pred_first : Local → Action
 next_pred_first l = if l.pc == 14 then Store (lock_index l.pred) 0 else next_action l
 

@@ -1,4 +1,4 @@
-//! Why each check in the algorithms is there: take it away, and here is the schedule that breaks the list.
+//! What checks in the algorithms are there for: take one away, and here is the schedule that breaks the list.
 //!
 //! A list is its table of steps. Each function of this crate stands for a table in which one check is missing, or one rule
 //! is not kept, and for a schedule that this table runs. Its contract says what goes wrong there, at which moment (after

@@ -1,5 +1,5 @@
 //! LockFreeList: why a remove marks, why its exchange compares the mark and that of an add does too, why a `contains`
-//! looks at the mark, and why a slot is used once.
+//! looks at the mark, why a slot is used once, and why an add is not full too soon.
 
 ghost use Rattle.lset_steps.specs.Promises.{NamedChange, RepliesFit, UnlinkedNodesStay};
 ghost use Rattle.lset_wrong_tables.specs.Schedules.{add, contains};
