@@ -36,18 +36,21 @@ some_is a b e = cc
 module _ (n q t : ℕ) (vs : ℕ → View) (first now : ℕ) (ws : List ℕ) (used : ℕ → ℕ) (done : Bool) (l : Local) (reply : Reply)
     (m : Memory false n q ws used) (th : Thread At n q t vs first now ws used done l) (tn : t < n) (e : l.pc ≡ 8) where
   fits_link : Window (view n q ws used) l → node_lock ws l.curr ≡ t + 1 → Held (view n q ws used) t l.pred
-      → (at_link (node_link ws l.pred) (record l { pc = 8 })).reply ≡ Some reply → FitsIn q (view n q ws used) t l.call reply
+      → (at_link (node_link ws l.pred) (record l { pc = 8 })).reply ≡ Some reply
+      → (node_link ws l.pred / 2 ≡ l.curr) × FitsIn q (view n q ws used) t l.call reply
   fits_link f c x y = elim (same_or_not (node_link ws l.pred / 2) l.curr) [
     | inl z ↦ (let made = decision m (record l { pc = 8 }) tn (keep n q t 8 l.reply l th.registers) th.counts f c x z in
         let told = ap (λ (k : Local). k.reply) (sym (if_same (node_link ws l.pred / 2) l.curr z
-        (decided_on targets l.ckey (record l { pc = 8 })) (record l { pc = 14; reply = None }))) ∙ y in
-        elim made.1 [
-          | inl r ↦ subst (FitsIn q (view n q ws used) t l.call) (some_is r.0 reply (sym (ap (λ (k : Local). k.reply) r.1) ∙ told)) r.2
-          | inr o ↦ elim o [
-            | inl r ↦ none_is_not reply (sym (ap (λ (k : Local). k.reply) r.0) ∙ told)
-            | inr r ↦ none_is_not reply (sym (ap (λ (k : Local). k.reply) r.0) ∙ told)
-          ]
-        ])
+        (decided_on targets l.ckey (record l { pc = 8 })) (record l { pc = 14; reply = None }))) ∙ y in (
+          z,
+          elim made.1 [
+            | inl r ↦ subst (FitsIn q (view n q ws used) t l.call) (some_is r.0 reply (sym (ap (λ (k : Local). k.reply) r.1) ∙ told)) r.2
+            | inr o ↦ elim o [
+              | inl r ↦ none_is_not reply (sym (ap (λ (k : Local). k.reply) r.0) ∙ told)
+              | inr r ↦ none_is_not reply (sym (ap (λ (k : Local). k.reply) r.0) ∙ told)
+            ]
+          ],
+        ))
     | inr z ↦ none_is_not reply (ap (λ (k : Local). k.reply) (sym (if_other (node_link ws l.pred / 2) l.curr z
         (decided_on targets l.ckey (record l { pc = 8 })) (record l { pc = 14; reply = None }))) ∙ y)
   ]
@@ -56,7 +59,8 @@ module _ (n q t : ℕ) (vs : ℕ → View) (first now : ℕ) (ws : List ℕ) (us
   not_here p f d = absurd (d (sym f ∙ e))
 
   fits_row : At q t vs first now (view n q ws used) done l
-      → (at_link (node_link ws l.pred) (record l { pc = 8 })).reply ≡ Some reply → FitsIn q (view n q ws used) t l.call reply
+      → (at_link (node_link ws l.pred) (record l { pc = 8 })).reply ≡ Some reply
+      → (node_link ws l.pred / 2 ≡ l.curr) × FitsIn q (view n q ws used) t l.call reply
   fits_row (at0 f) = not_here 0 f (omega arith)
   fits_row (at1 f d) = not_here 1 f (omega arith)
   fits_row (at2 f d x k) = not_here 2 f (omega arith)
@@ -83,7 +87,8 @@ link_row ws l e = rw e refl
 fits_at : (n q last : ℕ) (es : ℕ → Event) (r : Run optimistic n q es last) (t : ℕ) (tn : t < n) (k : ℕ) → k < last → es k ≡ Go t
     → (held_at n q es k t).pc ≡ 8 → (reply : Reply)
     → (local_after (held_at n q es k t) (seen_next optimistic (state_at optimistic n q es k) t)).reply ≡ Some reply
-    → FitsIn q (world_at n q es k) t (held_at n q es k t).call reply
+    → ((world_at n q es k).link (held_at n q es k t).pred / 2 ≡ (held_at n q es k t).curr)
+    × FitsIn q (world_at n q es k) t (held_at n q es k t).call reply
 fits_at n q last es r t tn k l goes e reply y =
     let i = inv_at optimistic false At (discipline_of optimistic (node_locks false) At optimistic_follows) n q es last r k (omega arith) in
     let s : State = state_at optimistic n q es k in
@@ -189,6 +194,7 @@ module _ (n q last : ℕ) (es : ℕ → Event) (r : Run optimistic n q es last) 
     before = (let b : x.at < now = x.before in omega arith);
     step = x.step;
     row = x.row;
+    leads = x.leads;
     fits = x.fits;
   }
 
@@ -219,14 +225,15 @@ module _ (n q last : ℕ) (es : ℕ → Event) (r : Run optimistic n q es last) 
       subst (λ (x : Local). FitsAtALoad n q es (begun_at L t k) (suc k) t x.call reply) (sym same)
       (subst (λ x. FitsAtALoad n q es (begun_at L t k) (suc k) t x reply) (sym same_call)
       (elim (came l seen th.at en.1 reply (subst (λ (x : Local). 14 ≤ x.pc) same h) reply_is) [
-        | inl e ↦ record {
+        | inl e ↦ (let fit = fits_at n q last es r t tn k lt goes e reply reply_is in record {
           at = k;
           from = th.begun;
           before = omega arith;
           step = goes;
           row = e;
-          fits = fits_at n q last es r t tn k lt goes e reply reply_is;
-        }
+          leads = fit.0;
+          fits = fit.1;
+        })
         | inr o ↦ elim o [
           | inl e ↦ not_true (has_changed L t k) (is_change (optimistic.effect l seen)) e unchanged
           | inr e ↦ later (settled reply (let at : l.pc ≡ 14 = e.0 in omega arith) e.1

@@ -1,6 +1,6 @@
 -- What is promised of every run of OptimisticList beyond the law of all machines. In all of it n is the number of threads, q the
 -- quota, es the events of a run of `last` events, t a thread, and k a moment: k events have happened.
-use Rattle.std.specs.Prelude.{◌≡◌, ℕ, ◌+◌, ◌<◌, ◌≤◌, ◌⊎◌, false, Some}
+use Rattle.std.specs.Prelude.{◌≡◌, ℕ, ◌+◌, ◌/◌, ◌<◌, ◌≤◌, ◌⊎◌, false, Some}
 use Rattle.lset_words.specs.Words.{lock_index}
 use Rattle.lset_words.specs.declared.Call.{Call}
 use Rattle.lset_words.specs.declared.Reply.{Reply}
@@ -73,17 +73,19 @@ pub record WalksAreValid (n q last t : ℕ) (es : ℕ → Event) : Type 0 where
 abbrev pub ValidatedWalk : Type 0
 ValidatedWalk = (n q last t : ℕ) (es : ℕ → Event) → Run optimistic n q es last → t < n → WalksAreValid n q last t es
 
--- At a moment from `first` on and before `now` thread t made its load of the link of pred (row 8), and the reply fits that moment.
+-- At a moment from `first` on and before `now` thread t made its load of the link of pred (row 8) and saw that it leads to curr, and
+-- the reply fits that moment.
 pub record FitsAtALoad (n q : ℕ) (es : ℕ → Event) (first now t : ℕ) (call : Call) (reply : Reply) : Type 0 where
   pub at : ℕ
   pub from : first ≤ at
   pub before : at < now
   pub step : es at ≡ Go t
   pub row : (held_at n q es at t).pc ≡ 8
+  pub leads : (world_at n q es at).link (held_at n q es at t).pred / 2 ≡ (held_at n q es at t).curr
   pub fits : FitsIn q (world_at n q es at) t call reply
 
--- [Optimistic replies fit]: where a call ends that changed nothing, its reply fits a moment of the call, one at which the thread
--- loaded the link of pred after a walk that had arrived (row 8).
+-- [Optimistic replies fit]: where a call ends that changed nothing, its reply fits a moment of the call, one at which the thread saw
+-- that pred leads to curr, after a walk that had arrived (row 8).
 abbrev pub OptimisticRepliesFit : Type 0
 OptimisticRepliesFit = (n q last k t : ℕ) (es : ℕ → Event) (reply : Reply) → Run optimistic n q es last → k < last → t < n
     → es k ≡ Go t → (told optimistic (state_at optimistic n q es k) (Go t)).answer ≡ Some reply
