@@ -1,5 +1,5 @@
-//! Makes the public calls of the libraries and tools that take memory, compares its answer, and tells which call answered want of memory. That
-//! call is made again, with memory, and then has to answer as if nothing had been refused.
+//! Makes the public calls of the libraries and tools that take memory, compares what each answers, and tells which call
+//! answered want of memory. That call is made again, with memory, and then has to answer as if nothing had been refused.
 //!
 //! Run as it stands no growth is refused. `.ci/growths` refuses them in turn: it has the one allocation of a fixed
 //! number fail, and by the number on the standard input this program takes as many blocks before its first call.
