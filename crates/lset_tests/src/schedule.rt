@@ -279,29 +279,3 @@ fn the_programs_of_all_threads(rt: HostRuntime) -> Result<(), Fail> {
     assert!(rt; drawn.iter().all(|program| program.len() == 1_000));
     Ok(())
 }
-
-#[test]
-fn want_of_memory_stands_in_place_of_a_schedule(rt: HostRuntime) {
-    match read_schedule(rt.alloc(), PASSING.as_bytes()) {
-        Ok(schedule) => match write_schedule(rt.alloc(), &schedule) {
-            Ok(written) => assert_eq!(rt; written.as_slice(), PASSING.as_bytes()),
-            Err(AllocError) => {}
-        },
-        Err(fault) => {
-            assert_eq!(rt; fault.cause, Cause::Memory);
-            assert!(rt; (5..=13).contains(&fault.line), "{fault:?}");
-        }
-    }
-}
-
-#[test]
-fn want_of_memory_stands_in_place_of_what_is_drawn(rt: HostRuntime) {
-    match generate::<CoarseList>(rt.alloc(), 1, 60, 50, 8, 1) {
-        Ok(schedule) => assert_eq!(rt; schedule.lines.last(), Some(&Line::Go(0, 1))),
-        Err(fault) => assert_eq!(rt; fault, GenFault::Memory),
-    }
-    match programs(rt.alloc(), 2, 9, 8, 1) {
-        Ok(drawn) => assert!(rt; drawn.iter().map(|program| program.len()).eq([9, 9])),
-        Err(fault) => assert_eq!(rt; fault, GenFault::Memory),
-    }
-}
