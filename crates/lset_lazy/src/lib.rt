@@ -10,6 +10,8 @@ ghost use Rattle.lset_steps.specs.Rows.{IsSmall};
 ghost use Rattle.lset_lazy.specs.Lazy.{lazy, next_action, at_key, gives_up, at_pred, at_curr, released, fed_by};
 ghost use Rattle.lset_lazy.specs.Lawful.{lazy_lawful, lazy_reads, lazy_walks};
 
+pub mod laws;
+
 use lset_steps::reads::{begun_reading, continued, leaves_with, read_action, read_fed};
 use lset_steps::rows::{Targets, decide, key_index, link_index, lock_index, own_slot};
 use lset_steps::{Action, Fed, Local, Machine, OpenReads};

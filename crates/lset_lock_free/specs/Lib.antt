@@ -1,2 +1,3 @@
 pub mod LockFree
 pub mod Lawful
+pub mod Rows

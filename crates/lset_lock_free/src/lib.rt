@@ -10,6 +10,8 @@ ghost use Rattle.lset_steps.specs.ReadRows.{continued, leaves_with};
 ghost use Rattle.lset_lock_free.specs.LockFree.{lock_free, next_action, at_key, at_link, again, decision_of, fed_by, effect_of};
 ghost use Rattle.lset_lock_free.specs.Lawful.{lock_free_lawful, lock_free_reads, lock_free_walks};
 
+pub mod laws;
+
 use lset_steps::reads::{begun_reading, continued, leaves_with, read_action, read_fed};
 use lset_steps::rows::{Targets, decide, key_index, link_index, own_slot};
 use lset_steps::{Action, Fed, Local, Machine, OpenReads};

@@ -27,5 +27,5 @@ pub mod ReadTables
 pub mod ReadOutline
 pub mod ReadBound
 pub mod ReadWalk
-mod WalkedTo
+pub mod WalkedTo
 mod Promised

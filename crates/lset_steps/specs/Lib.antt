@@ -5,4 +5,5 @@ pub mod Rows
 pub mod Worlds
 pub mod Promises
 pub mod ReadRows
+pub mod RowLaws
 pub mod BoundedReads

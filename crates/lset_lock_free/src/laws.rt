@@ -1,0 +1,11 @@
+//! What each row of the table does: a function whose contract is the law, and whose call does nothing. Calls that are
+//! written out as loops rest on it, and name nothing else of the table.
+
+ghost use Rattle.lset_lock_free.specs.LockFree.{lock_free};
+ghost use Rattle.lset_lock_free.specs.Rows.{LockFreeRows};
+
+/// Where a call begins, and of each row its step, what the thread holds after it, and the change that it tells.
+/// (Herlihy and Shavit's lock-free list, by this project's own table.)
+pub fn rows()
+    ensures { LockFreeRows lock_free }
+{}
