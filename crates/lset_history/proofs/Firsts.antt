@@ -1,11 +1,7 @@
 -- The first moment of a call at which a fact holds, kept from moment to moment.
-use Rattle.std.proofs.Common.{◌≡◌, ℕ, suc, ◌<◌, ◌≤◌, ◌⊎◌, inl, inr, subst, arith}
-use Rattle.std.specs.Prelude.{Option, Some, None}
-
--- THE FIRST MOMENT from `first` to `last`, or none
-abbrev pub IsFirst : (ℕ → Type 0) → ℕ → ℕ → Option ℕ → Type 0
-IsFirst P first last None = (m : ℕ) → first ≤ m → m ≤ last → P m → ⊥
-IsFirst P first last (Some k) = (first ≤ k) × (k ≤ last) × P k × ((m : ℕ) → first ≤ m → m < k → P m → ⊥)
+use Rattle.std.proofs.Common.{◌≡◌, ℕ, zero, suc, ◌+◌, ◌<◌, ◌≤◌, ◌⊎◌, inl, inr, Bool, true, false, not, refl, ap, subst, arith}
+use Rattle.std.specs.Prelude.{Option, Some, None, if◌then◌else◌}
+use Rattle.lset_history.specs.Changes.{IsFirst}
 
 module _ (P : ℕ → Type 0) (first : ℕ) where
   pub first_begins : P first → IsFirst P first first (Some first)
@@ -26,3 +22,58 @@ module _ (P : ℕ → Type 0) (first : ℕ) where
     where
       end : (m last : ℕ) → m ≤ suc last → (m ≡ suc last) ⊎ (m ≤ last)
       end m last b = grind arith
+
+-- the first moment from `first` on, among itself and so many after it, at which a test answers as asked
+abbrev pub is_same : Bool → Bool → Bool
+is_same true b = b
+is_same false b = not b
+
+abbrev pub first_passing : Bool → (ℕ → Bool) → ℕ → ℕ → Option ℕ
+first_passing asked f first zero = if is_same asked (f first) then Some first else None
+first_passing asked f first (suc n) = if is_same asked (f first) then Some first else first_passing asked f (suc first) n
+
+same_or_not : (asked b : Bool) → ((is_same asked b ≡ true) × (b ≡ asked)) ⊎ ((is_same asked b ≡ false) × (b ≡ asked → ⊥))
+same_or_not true true = inl (refl, refl)
+same_or_not true false = inr (refl, λ e. cc)
+same_or_not false true = inr (refl, λ e. cc)
+same_or_not false false = inl (refl, refl)
+
+later_first : (P : ℕ → Type 0) (first last : ℕ) (o : Option ℕ) → (P first → ⊥) → IsFirst P (suc first) last o → IsFirst P first last o
+later_first P first last None n h = λ m a b i. elim (first_or_after first m a) [ inl e ↦ n (subst P e i) | inr l ↦ h m l b i ]
+  where
+    first_or_after : (first m : ℕ) → first ≤ m → (m ≡ first) ⊎ (suc first ≤ m)
+    first_or_after first m a = grind arith
+later_first P first last (Some k) n h = (
+  (let a : suc first ≤ k = h.0 in omega arith),
+  h.1,
+  h.2,
+  λ m a b i. elim (first_or_after first m a) [ inl e ↦ n (subst P e i) | inr l ↦ h.3 m l b i ],
+)
+  where
+    first_or_after : (first m : ℕ) → first ≤ m → (m ≡ first) ⊎ (suc first ≤ m)
+    first_or_after first m a = grind arith
+
+pub first_passing_is : (asked : Bool) (f : ℕ → Bool) (first n last : ℕ) → last ≡ first + n
+    → IsFirst (λ m. f m ≡ asked) first last (first_passing asked f first n)
+first_passing_is asked f first zero last e = elim (same_or_not asked (f first)) [
+  | inl y ↦ rw y.0 (omega arith, omega arith, y.1, λ m a b i. absurd (omega arith))
+  | inr n ↦ rw n.0 (λ m a b i. n.1 (let g : m ≡ first = omega arith in subst (λ z. f z ≡ asked) g i))
+]
+first_passing_is asked f first (suc n) last e = elim (same_or_not asked (f first)) [
+  | inl y ↦ rw y.0 (omega arith, omega arith, y.1, λ m a b i. absurd (omega arith))
+  | inr d ↦ rw d.0 (later_first (λ m. f m ≡ asked) first last (first_passing asked f (suc first) n) d.1
+      (first_passing_is asked f (suc first) n last (omega arith)))
+]
+
+-- there is one first moment
+pub one_first : (P : ℕ → Type 0) (first last : ℕ) (o p : Option ℕ) → IsFirst P first last o → IsFirst P first last p → o ≡ p
+one_first P first last None None h g = refl
+one_first P first last None (Some k) h g = absurd (h k g.0 g.1 g.2)
+one_first P first last (Some j) None h g = absurd (g j h.0 h.1 h.2)
+one_first P first last (Some j) (Some k) h g = elim (order j k) [
+  | inl e ↦ ap Some e
+  | inr d ↦ elim d [ inl l ↦ absurd (g.3 j h.0 l h.2) | inr l ↦ absurd (h.3 k g.0 l g.2) ]
+]
+  where
+    order : (j k : ℕ) → (j ≡ k) ⊎ ((j < k) ⊎ (k < j))
+    order j k = grind arith

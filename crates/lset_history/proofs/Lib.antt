@@ -20,3 +20,6 @@ pub mod SetReplies
 pub mod Places
 pub mod Early
 pub mod Verdicts
+pub mod ChangeLaws
+pub mod Counting
+pub mod Noting

@@ -3,3 +3,4 @@ pub mod Oracle
 pub mod Faults
 pub mod Checks
 pub mod Laws
+pub mod Changes

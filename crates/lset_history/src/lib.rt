@@ -3,12 +3,14 @@
 //! links, locks or marks.
 #![tactic(auto)]
 
+mod changes;
 mod checker;
 mod fault;
 mod history;
 mod oracle;
 mod placement;
 
+pub use changes::Changes;
 pub use checker::check_order;
 pub use fault::{HistoryFault, OrderFault};
 pub use history::History;

@@ -1,8 +1,8 @@
 -- The events of a schedule's lines: one line after another, and how many there are.
-use Rattle.std.proofs.Common.{◌≡◌, ℕ, ◌+◌, ◌<◌, ◌≤◌, List, [], ◌∷◌, ◌++◌, length, get_or, drop, refl, sym, ap, ◌∙◌, append_assoc, length-append}
+use Rattle.std.proofs.Common.{◌≡◌, ℕ, zero, suc, take, arith, ◌-◌, ◌+◌, ◌<◌, ◌≤◌, List, [], ◌∷◌, ◌++◌, replicate, length, get_or, refl, sym, ap, ◌∙◌, length-append}
 use Rattle.std.specs.List.{sum_by}
 use Rattle.std.proofs.lemmas.List.Sums.{sum_by-cons}
-use Rattle.std.proofs.lemmas.List.{length-replicate, append-nil, at_drop_more, at_drop_all, get_or-map, get_or_default, length-map}
+use Rattle.std.proofs.lemmas.List.{length-replicate, get_or-replicate, get_or_append_left, get_or-append_right, get_or-map, get_or_default, length-map}
 use Rattle.lset_schedule.specs.declared.value.Line.{Line}
 use Rattle.lset_schedule.specs.declared.value.Line.TheVariants as line
 use Rattle.lset_schedule.specs.Plan.{event_count}
@@ -22,19 +22,6 @@ length_of_events n (l ∷ ls) = length-append (events_of_line n l) (events_from 
     ∙ ap (λ x. event_count l + x) (length_of_events (n + 1) ls)
     ∙ sym (sum_by-cons event_count l ls)
 
--- the events of one more line
-pub one_more_line : (before after : List LineEvent) (n m i : ℕ) (ls : List Line) (l : Line) → i < length ls
-    → l ≡ get_or ls i l → n + 1 ≡ m
-    → after ≡ before ++ events_of_line n l → after ++ events_from m (drop (i + 1) ls) ≡ before ++ events_from n (drop i ls)
-one_more_line before after n m i ls l below is next e =
-    rw (e, ← next) (append_assoc before (events_of_line n l) (events_from (n + 1) (drop (i + 1) ls))
-    ∙ ap (λ x. before ++ x) (ap (λ x. events_of_line n x ++ events_from (n + 1) (drop (i + 1) ls)) is
-    ∙ sym (at_drop_more (events_from n) ls i l below)))
-
-pub no_line_left : (n i : ℕ) (ls : List Line) (before : List LineEvent) → length ls ≤ i
-    → before ++ events_from n (drop i ls) ≡ before
-no_line_left n i ls before past = ap (λ x. before ++ x) (at_drop_all (events_from n) ls i past) ∙ append-nil before
-
 -- the event at an index, and its line
 pub event_is : (es : List LineEvent) (k : ℕ) (d : LineEvent) → k < length es → event_at (only_events es) k ≡ (get_or es k d).event
 event_is es k d below = get_or-map event_in es k d (event.Go 0) below
@@ -44,3 +31,81 @@ line_is es k d below = ap (λ (e : LineEvent). e.line) (get_or_default es k d (r
 
 pub as_many : (es : List LineEvent) → length (only_events es) ≡ length es
 as_many es = length-map es event_in
+
+-- ---- the events of the first lines
+pub one_line_more : (n i : ℕ) (ls : List Line) (l : Line) → i < length ls → l ≡ get_or ls i l
+    → length (events_from n (take (suc i) ls)) ≡ length (events_from n (take i ls)) + event_count l
+one_line_more n i [] l below is = absurd (omega arith)
+one_line_more n zero (x ∷ ls) l below is = length-append (events_of_line n x) [] ∙ ap (λ k. k + 0) (length_of_line n x)
+    ∙ (let e : event_count x + 0 ≡ 0 + event_count x = omega arith in e) ∙ ap (λ y. 0 + event_count y) (sym is)
+one_line_more n (suc i) (x ∷ ls) l below is =
+    let a : length (events_of_line n x ++ events_from (n + 1) (take (suc i) ls))
+    ≡ length (events_of_line n x) + length (events_from (n + 1) (take (suc i) ls)) =
+    length-append (events_of_line n x) (events_from (n + 1) (take (suc i) ls)) in
+    let b : length (events_of_line n x ++ events_from (n + 1) (take i ls))
+    ≡ length (events_of_line n x) + length (events_from (n + 1) (take i ls)) =
+    length-append (events_of_line n x) (events_from (n + 1) (take i ls)) in
+    let c : length (events_from (n + 1) (take (suc i) ls)) ≡ length (events_from (n + 1) (take i ls)) + event_count l =
+    one_line_more (n + 1) i ls l (omega arith) is in
+    omega arith
+
+pub lines_taken : (n i : ℕ) (ls : List Line) → length (events_from n (take i ls)) ≤ length (events_from n ls)
+lines_taken n zero ls = omega arith
+lines_taken n (suc i) [] = omega arith
+lines_taken n (suc i) (x ∷ ls) =
+    let a : length (events_of_line n x ++ events_from (n + 1) ls) ≡ length (events_of_line n x) + length (events_from (n + 1) ls) =
+    length-append (events_of_line n x) (events_from (n + 1) ls) in
+    let b : length (events_of_line n x ++ events_from (n + 1) (take i ls))
+    ≡ length (events_of_line n x) + length (events_from (n + 1) (take i ls)) =
+    length-append (events_of_line n x) (events_from (n + 1) (take i ls)) in
+    let c : length (events_from (n + 1) (take i ls)) ≤ length (events_from (n + 1) ls) = lines_taken (n + 1) i ls in
+    omega arith
+
+pub event_there : (n i j : ℕ) (ls : List Line) (l : Line) (d : LineEvent) → i < length ls → l ≡ get_or ls i l → j < event_count l
+    → get_or (events_from n ls) (length (events_from n (take i ls)) + j) d ≡ get_or (events_of_line (n + i) l) j d
+event_there n i j [] l d below is inside = absurd (omega arith)
+event_there n zero j (x ∷ ls) l d below is inside =
+    let long : length (events_of_line n x) ≡ event_count x = length_of_line n x in
+    let same : event_count l ≡ event_count x = ap event_count is in
+    ap (λ k. get_or (events_of_line n x ++ events_from (n + 1) ls) k d) (let e : 0 + j ≡ j = omega arith in e)
+    ∙ get_or_append_left (events_of_line n x) (events_from (n + 1) ls) d j (omega arith)
+    ∙ ap (λ y. get_or (events_of_line n y) j d) (sym is)
+    ∙ ap (λ k. get_or (events_of_line k l) j d) (let e : n ≡ n + 0 = omega arith in e)
+event_there n (suc i) j (x ∷ ls) l d below is inside =
+    let b : length (events_of_line n x ++ events_from (n + 1) (take i ls))
+    ≡ length (events_of_line n x) + length (events_from (n + 1) (take i ls)) =
+    length-append (events_of_line n x) (events_from (n + 1) (take i ls)) in
+    get_or-append_right (events_of_line n x) (events_from (n + 1) ls) (length (events_of_line n x))
+    (length (events_of_line n x ++ events_from (n + 1) (take i ls)) + j) d refl (omega arith)
+    ∙ ap (λ k. get_or (events_from (n + 1) ls) k d)
+    (let e : length (events_of_line n x ++ events_from (n + 1) (take i ls)) + j - length (events_of_line n x)
+    ≡ length (events_from (n + 1) (take i ls)) + j = omega arith in e)
+    ∙ event_there (n + 1) i j ls l d (omega arith) is inside
+    ∙ ap (λ k. get_or (events_of_line k l) j d) (let e : n + 1 + i ≡ n + suc i = omega arith in e)
+
+-- the next event of the line at index i, of which j events are behind
+pub next_there : (ls : List Line) (i j k times : ℕ) (l : Line) (next d : LineEvent) → i < length ls → l ≡ get_or ls i l
+    → events_of_line (5 + i) l ≡ replicate times next → j < times → k ≡ length (events_from 5 (take i ls)) + j
+    → (k < length (events_from 5 ls)) × (get_or (events_from 5 ls) k d ≡ next)
+next_there ls i j k times l next d below is line inside at =
+    let a : length (events_of_line (5 + i) l) ≡ event_count l = length_of_line (5 + i) l in
+    let b : length (events_of_line (5 + i) l) ≡ times = ap (λ (es : List LineEvent). length es) line ∙ length-replicate times next in
+    let c : length (events_from 5 (take (suc i) ls)) ≡ length (events_from 5 (take i ls)) + event_count l =
+    one_line_more 5 i ls l below is in
+    let e : length (events_from 5 (take (suc i) ls)) ≤ length (events_from 5 ls) = lines_taken 5 (suc i) ls in (
+      omega arith,
+      ap (λ z. get_or (events_from 5 ls) z d) at ∙ event_there 5 i j ls l d below is (omega arith)
+          ∙ ap (λ (es : List LineEvent). get_or es j d) line ∙ get_or-replicate times j next d inside,
+    )
+
+-- the next line: all events of the one at index i are behind
+pub line_done : (ls : List Line) (i k times : ℕ) (l : Line) (next : LineEvent) → i < length ls → l ≡ get_or ls i l
+    → events_of_line (5 + i) l ≡ replicate times next → k ≡ length (events_from 5 (take i ls)) + times
+    → k ≡ length (events_from 5 (take (i + 1) ls))
+line_done ls i k times l next below is line at =
+    let a : length (events_of_line (5 + i) l) ≡ event_count l = length_of_line (5 + i) l in
+    let b : length (events_of_line (5 + i) l) ≡ times = ap (λ (es : List LineEvent). length es) line ∙ length-replicate times next in
+    let c : length (events_from 5 (take (suc i) ls)) ≡ length (events_from 5 (take i ls)) + event_count l =
+    one_line_more 5 i ls l below is in
+    let e : k ≡ length (events_from 5 (take (suc i) ls)) = omega arith in
+    e ∙ ap (λ z. length (events_from 5 (take z ls))) (let f : suc i ≡ i + 1 = omega arith in f)

@@ -14,9 +14,12 @@ use Rattle.lset_steps.specs.Promises.{HasAccount}
 use Rattle.lset_replay.specs.declared.events.LineEvent.{LineEvent}
 use Rattle.lset_replay.specs.declared.recorder.Recorder.{Recorder}
 use Rattle.lset_replay.specs.Events.{only_events, line_at}
-use Rattle.lset_replay.specs.Reports.{IsFirstRefused}
-use Rattle.lset_replay.specs.Trace.{trace_of, trace_after, entry_told, MayFollow, no_trace}
+use Rattle.lset_steps.specs.declared.world.StepFault.TheVariants.{NoThread, Busy, Idle}
+use Rattle.lset_replay.specs.declared.fault.ReplayFault.{ReplayFault}
+use Rattle.lset_replay.specs.Reports.{IsFirstRefused, IsRefusal, fault_at}
+use Rattle.lset_replay.specs.Trace.{trace_of, trace_after, entry_told, MayFollow, MayChange, no_trace}
 use Rattle.lset_replay.specs.Follows.{HasFollowed}
+use Rattle.lset_history.specs.Changes.{moments_of}
 use Rattle.lset_replay.proofs.Ready.{may_begin, may_step}
 
 -- what an event told is its entry
@@ -64,8 +67,8 @@ module _ (T : Table) (accounts : HasAccount T) (n q : ℕ) (events : List LineEv
   entry_now : log_of T n q es k ≡ entry_of T (state_at T n q es k) e
   entry_now = ap (λ z. entry_of T (state_at T n q es k) z) is
 
-  pub ready : Enabled w.state e → MayFollow r (suc k) e
-  ready en = at e is
+  pub ready : Enabled w.state e → (a : Told) → a ≡ told T w.state e → MayFollow r (suc k) e a
+  ready en a says = at e is a (says ∙ ap (λ z. told T z e) state_is)
     where
       account : Account n q (suc k) log contents counts
       account = accounts n q (suc k) es (run_on en)
@@ -75,11 +78,14 @@ module _ (T : Table) (accounts : HasAccount T) (n q : ℕ) (events : List LineEv
       entered d i = subst (λ z. Enters n q log contents
           counts k (entry_of T (state_at T n q es k) z)) i (account.enters k (omega arith))
 
-      at : (d : Event) → event_at (only_events events) k ≡ d → MayFollow r (suc k) d
-      at (Begin t call) i = may_begin n q (suc k) log contents counts
+      at : (d : Event) → event_at (only_events events) k ≡ d → (a : Told) → a ≡ told T (state_at T n q es k) d
+          → MayFollow r (suc k) d a
+      at (Begin t call) i a says = may_begin n q (suc k) log contents counts
           account k (omega arith) r h.threads_are h.trace t call (entered (Begin t call) i)
-      at (Go t) i = may_step n q (suc k) log contents counts
-          account k (omega arith) r h.threads_are h.trace t _ _ (entered (Go t) i)
+      at (Go t) i a says =
+          let may = may_step n q (suc k) log contents counts
+          account k (omega arith) r h.threads_are h.trace t _ _ (entered (Go t) i) in
+          (may.0, subst (λ (z : Told). MayChange (moments_of r.changes) (suc k) z.change) (sym says) may.1)
 
   pub followed : (w' : WorldState) (r' : Recorder) (a : Told) → Enabled w.state e
       → w' ≡ record w { state = after T w.state e } → a ≡ told T w.state e
@@ -119,3 +125,9 @@ at_first T n q events w r limits world trace threads quota = record {
   threads_are = threads;
   quota_is = quota;
 }
+
+pub refusal_is : (T : Table) (n q : ℕ) (events : List LineEvent) (line : ℕ) (cause : StepFault) (f : ReplayFault)
+    → f ≡ fault_at line cause → IsFirstRefused T n q events line cause → IsRefusal T n q events f
+refusal_is T n q events line NoThread f e h = subst (λ z. IsRefusal T n q events z) (sym e) h
+refusal_is T n q events line Busy f e h = subst (λ z. IsRefusal T n q events z) (sym e) h
+refusal_is T n q events line Idle f e h = subst (λ z. IsRefusal T n q events z) (sym e) h

@@ -1,29 +1,30 @@
 -- What replay keeps after the first events of a run: the run's history, what each open call has seen, the places of the calls.
 use Rattle.std.proofs.Common.{◌≡◌, ◌≢◌, ℕ, suc, ◌+◌, ◌<◌, ◌≤◌, ◌⊎◌, Bool, true, false, inl, inr, List, [], ◌∷◌, ◌++◌, length, map, sym, refl, subst, ap, ◌∙◌, arith, length-set, get_or-set_same, get_or-set_other}
-use Rattle.std.specs.Prelude.{◌==◌, Option, Some, None, if◌then◌else◌}
-use Rattle.std.proofs.lemmas.List.{length-map, length_push, get_or_push, get_or_append_left, get_or-map, map-append}
+use Rattle.std.specs.Prelude.{All, ◌==◌, Option, Some, None, if◌then◌else◌}
+use Rattle.std.proofs.lemmas.List.{length-map, length_push, get_or_push, get_or_append_left, map-append}
 use Rattle.lset_words.specs.declared.Call.{Call}
 use Rattle.lset_words.specs.declared.Reply.{Reply}
 use Rattle.lset_words.specs.declared.history.CallRecord.{CallRecord}
-use Rattle.lset_words.specs.Words.{key_of}
 use Rattle.lset_words.specs.Log.{Log, Entry, Change, TracedCall, calls_at, calls_after, history_at, record_of, last_call, begun_at, is_open, has_changed}
 use Rattle.lset_words.specs.Log.Entry.{began}
-use Rattle.lset_words.specs.Account.{Contents, Counts, Changes, Enters}
+use Rattle.lset_words.specs.Account.{Contents, Counts, Enters}
 use Rattle.lset_words.specs.Placement.{traced_at, no_traced, IsLeastFit}
 use Rattle.lset_words.proofs.Numbers.{equal_test, unequal_test, same_or_not}
 use Rattle.lset_history.proofs.Calls.{open_is, call_is, begun_is, changed_is, new_call}
 use Rattle.lset_history.proofs.OpenCalls.{last_number, number_after, length_began}
 use Rattle.lset_replay.specs.declared.places.OpenCall.{OpenCall}
 use Rattle.lset_replay.specs.declared.places.Place.{Place}
-use Rattle.lset_replay.specs.Trace.{Trace, open_call_at, place_at, number_of, fit, changed_at, settled, watched, noted, opened, begun_on, changed_on, ended_on}
-use Rattle.lset_replay.proofs.Watching.{HasSeen, watched_on, seen_on, seen_first}
+use Rattle.lset_replay.specs.Trace.{Trace, open_call_at, place_at, number_of, fit, changed_at, settled, begun_on, changed_on, ended_on}
+use Rattle.lset_history.specs.Changes.{is_present}
+use Rattle.lset_history.proofs.ChangeLaws.{all_upto_later}
+use Rattle.lset_replay.proofs.KeyChanges.{Tells, changes_by, quiet_keys}
 
 -- AN OPEN CALL of a thread, at moment k
 pub record IsWatched (log : Log) (contents : Contents) (counts : Counts) (k t : ℕ) (o : OpenCall) : Type 0 where
   pub number_is : o.number ≡ last_number log t k
   pub call_is : o.call ≡ last_call log t k
+  pub begun_is : o.begun ≡ begun_at log t k
   pub since : begun_at log t k ≤ k
-  pub seen : HasSeen contents (begun_at log t k) k o
   -- until its change the count of its thread stays
   pub steady : has_changed log t k ≡ false → (m : ℕ) → begun_at log t k ≤ m → m ≤ k → counts m t ≡ counts k t
 
@@ -42,7 +43,8 @@ pub record Follows (n q : ℕ) (log : Log) (contents : Contents) (counts : Count
   pub history : s.calls ≡ history_at log k
   pub seats : length s.under_way ≡ n
   pub numbered : length s.places ≡ length (calls_at log k)
-  pub keys : (j : ℕ) → (s.has j ≡ true → contents k j) × (s.has j ≡ false → contents k j → ⊥)
+  pub upto : (j : ℕ) → All (λ x. x ≤ k) (s.changes j)
+  pub keys : (j m : ℕ) → m ≤ k → Tells (is_present s.changes j m) (contents m j)
   pub idle : (t : ℕ) → t < n → is_open log t k ≡ false → open_call_at s.under_way t ≡ None
   pub busy : (t : ℕ) → t < n → is_open log t k ≡ true
       → (o : OpenCall) × (open_call_at s.under_way t ≡ Some o) × IsWatched log contents counts k t o
@@ -54,29 +56,27 @@ abbrev pub change_place : Option Change → ℕ → Option Place → Option Plac
 change_place None m p = p
 change_place (Some c) m p = Some (changed_at m)
 
-abbrev pub end_place : Option Reply → OpenCall → Option Place → Option Place
-end_place None o p = p
-end_place (Some r) o p = settled p (fit o r) r
+abbrev pub end_place : (ℕ → List ℕ) → ℕ → Option Reply → OpenCall → Option Place → Option Place
+end_place changes m None o p = p
+end_place changes m (Some r) o p = settled p (fit changes o r m) r
 
 module _ (m t : ℕ) where
   pub changed_calls : (ch : Option Change) (s : Trace) → (changed_on m t ch s).calls ≡ s.calls
   changed_calls None s = refl
   changed_calls (Some c) s = refl
 
-  pub changed_seats : (ch : Option Change) (s : Trace) → length (changed_on m t ch s).under_way ≡ length s.under_way
+  pub changed_seats : (ch : Option Change) (s : Trace) → (changed_on m t ch s).under_way ≡ s.under_way
   changed_seats None s = refl
-  changed_seats (Some (x, b)) s = length-map s.under_way (watched x.0 b m)
+  changed_seats (Some c) s = refl
 
-  pub changed_open : (ch : Option Change) (s : Trace) (u : ℕ) (o : OpenCall) → u < length s.under_way
-      → open_call_at s.under_way u ≡ Some o
-      → open_call_at (changed_on m t ch s).under_way u ≡ Some (watched_on ch m o)
-  changed_open None s u o l e = e
-  changed_open (Some (x, b)) s u o l e = get_or-map (watched x.0 b m) s.under_way u None None l ∙ ap (watched x.0 b m) e
+  pub changed_open : (ch : Option Change) (s : Trace) (u : ℕ) (o : Option OpenCall) → open_call_at s.under_way u ≡ o
+      → open_call_at (changed_on m t ch s).under_way u ≡ o
+  changed_open None s u o e = e
+  changed_open (Some c) s u o e = e
 
-  pub changed_shut : (ch : Option Change) (s : Trace) (u : ℕ) → u < length s.under_way → open_call_at s.under_way u ≡ None
-      → open_call_at (changed_on m t ch s).under_way u ≡ None
-  changed_shut None s u l e = e
-  changed_shut (Some (x, b)) s u l e = get_or-map (watched x.0 b m) s.under_way u None None l ∙ ap (watched x.0 b m) e
+  pub changed_changes : (ch : Option Change) (s : Trace) → (changed_on m t ch s).changes ≡ changes_by ch m s.changes
+  changed_changes None s = refl
+  changed_changes (Some (x, b)) s = refl
 
   pub changed_count : (ch : Option Change) (s : Trace) → length (changed_on m t ch s).places ≡ length s.places
   changed_count None s = refl
@@ -116,31 +116,14 @@ module _ (m t : ℕ) where
       ∙ ap number_of e))
 
   pub ended_here : (r : Option Reply) (s : Trace) (o : OpenCall) → open_call_at s.under_way t ≡ Some o → o.number < length s.places
-      → place_at (ended_on m t r s).places o.number ≡ end_place r o (place_at s.places o.number)
+      → place_at (ended_on m t r s).places o.number ≡ end_place s.changes m r o (place_at s.places o.number)
   ended_here None s o e l = refl
-  ended_here (Some x) s o e l = rw e (get_or-set_same s.places o.number (settled (place_at s.places o.number) (fit o x) x) None l)
+  ended_here (Some x) s o e l = rw e (get_or-set_same s.places o.number (settled (place_at s.places o.number)
+      (fit s.changes o x m) x) None l)
 
-  pub ended_has : (r : Option Reply) (s : Trace) → (ended_on m t r s).has ≡ s.has
-  ended_has None s = refl
-  ended_has (Some x) s = refl
-
-pub watched_number : (ch : Option Change) (m : ℕ) (o : OpenCall) → (watched_on ch m o).number ≡ o.number
-watched_number None m o = refl
-watched_number (Some (x, b)) m o = by_test ((key_of o.call).0 == x.0) b
-  where
-    by_test : (y b : Bool) → (if y then noted b m o else o).number ≡ o.number
-    by_test true true = refl
-    by_test true false = refl
-    by_test false b = refl
-
-pub watched_same_call : (ch : Option Change) (m : ℕ) (o : OpenCall) → (watched_on ch m o).call ≡ o.call
-watched_same_call None m o = refl
-watched_same_call (Some (x, b)) m o = by_test ((key_of o.call).0 == x.0) b
-  where
-    by_test : (y b : Bool) → (if y then noted b m o else o).call ≡ o.call
-    by_test true true = refl
-    by_test true false = refl
-    by_test false b = refl
+  pub ended_changes : (r : Option Reply) (s : Trace) → (ended_on m t r s).changes ≡ s.changes
+  ended_changes None s = refl
+  ended_changes (Some x) s = refl
 
 -- ---- A CALL BEGINS
 pub last_number_is : (log : Log) (k : ℕ) (e : Entry) → log k ≡ e → (t : ℕ)
@@ -156,21 +139,19 @@ pick b x y e = rw e refl
 pub pick_not : {A : Type 0} (b : Bool) (x y : A) → b ≡ false → (if b then x else y) ≡ y
 pick_not b x y e = rw e refl
 
--- another thread's open call stays watched where its key and its count stay
-module _ (log : Log) (contents : Contents) (counts : Counts) (k u : ℕ) (change : Option Change) (o : OpenCall) where
-  pub watched_next : Changes change (contents k) (contents (suc k))
-      → last_number log u (suc k) ≡ last_number log u k → last_call log u (suc k) ≡ last_call log u k
+-- another thread's open call stays watched where its count stays
+module _ (log : Log) (contents : Contents) (counts : Counts) (k u : ℕ) (o : OpenCall) where
+  pub watched_next : last_number log u (suc k) ≡ last_number log u k → last_call log u (suc k) ≡ last_call log u k
       → begun_at log u (suc k) ≡ begun_at log u k
       → (has_changed log u (suc k) ≡ false → (has_changed log u k ≡ false) × (counts (suc k) u ≡ counts k u))
-      → IsWatched log contents counts k u o → IsWatched log contents counts (suc k) u (watched_on change (suc k) o)
-  watched_next c number call begun quiet w =
+      → IsWatched log contents counts k u o → IsWatched log contents counts (suc k) u o
+  watched_next number call begun quiet w =
       let l : begun_at log u k ≤ k = w.since in
       record {
-        number_is = watched_number change (suc k) o ∙ w.number_is ∙ sym number;
-        call_is = watched_same_call change (suc k) o ∙ w.call_is ∙ sym call;
+        number_is = w.number_is ∙ sym number;
+        call_is = w.call_is ∙ sym call;
+        begun_is = w.begun_is ∙ sym begun;
         since = omega arith;
-        seen = subst (λ z. HasSeen contents z (suc k) (watched_on change (suc k) o)) (sym begun) (seen_on contents
-            (begun_at log u k) k l o w.seen change c);
         steady = λ f m a b. elim (last_or_before m k b) [
           | inl e ↦ ap (λ z. counts z u) e
           | inr y ↦ w.steady (quiet f).0 m (omega arith) y ∙ sym (quiet f).1
@@ -198,8 +179,8 @@ module _ (n q : ℕ) (log : Log) (contents : Contents) (counts : Counts) (k t : 
       let c : length (calls_at log (suc k)) ≡ suc (length (calls_at log k)) = length_began log k t call at in
       omega arith
 
-  begun_keys : (j : ℕ) → (s.has j ≡ true → contents (suc k) j) × (s.has j ≡ false → contents (suc k) j → ⊥)
-  begun_keys j = ((λ e. (en.content j).0 ((f.keys j).0 e)), (λ e c. (f.keys j).1 e ((en.content j).1 c)))
+  begun_keys : (j m : ℕ) → m ≤ suc k → Tells (is_present s.changes j m) (contents m j)
+  begun_keys j m l = quiet_keys contents k s.changes f.upto f.keys j m l (en.content j).0 (en.content j).1
 
   begun_idle : (u : ℕ) → u < n → is_open log u (suc k) ≡ false → open_call_at (begun_on (suc k) t call s).under_way u ≡ None
   begun_idle u l e = elim (same_or_not t u) [
@@ -218,21 +199,20 @@ module _ (n q : ℕ) (log : Log) (contents : Contents) (counts : Counts) (k t : 
         let first : begun_at log u (suc k) ≡ suc k = begun_is log k (began t call) at u
         ∙ pick (t == u) (suc k) (begun_at log u k) b in
         let seats : length s.under_way ≡ n = f.seats in (
-          opened (length s.calls) call (s.has (key_of call).0) (suc k),
-          subst (λ z. open_call_at (begun_on (suc k) t call s).under_way z ≡ Some (opened (length s.calls) call (s.has
-              (key_of call).0) (suc k))) y
+          record { number = length s.calls; call = call; begun = suc k },
+          subst (λ z. open_call_at (begun_on (suc k) t call s).under_way z ≡ Some (record {
+            number = length s.calls;
+            call = call;
+            begun = suc k;
+          })) y
               (get_or-set_same s.under_way t _ None (let th : t < n = en.of_a_thread in omega arith)),
           record {
-            number_is = noted_number (s.has (key_of call).0) (suc k) _ ∙ count_calls
+            number_is = count_calls
                 ∙ sym (last_number_is log k (began t call) at u ∙ pick (t == u) (length (calls_at log k)) (last_number log u k) b);
-            call_is = noted_call (s.has (key_of call).0) (suc k) _ ∙ sym (call_is log k (began t call) at u
+            call_is = sym (call_is log k (began t call) at u
                 ∙ pick (t == u) call (last_call log u k) b);
+            begun_is = sym first;
             since = rw first (omega arith);
-            seen = subst (λ z. HasSeen contents z (suc k) (opened (length s.calls) call (s.has (key_of call).0) (suc k)))
-                (sym first)
-                (seen_first contents (suc k) (s.has (key_of call).0)
-                (record { number = length s.calls; call = call; first_present = None; first_absent = None }) refl refl
-                (begun_keys (key_of call).0).0 (begun_keys (key_of call).0).1);
             steady = λ g m a b. (let x : begun_at log u (suc k) ≡ suc k = first in ap
                 (λ z. counts z u) (let w : m ≡ suc k = omega arith in w));
           },
@@ -241,7 +221,7 @@ module _ (n q : ℕ) (log : Log) (contents : Contents) (counts : Counts) (k t : 
         let w = f.busy u l (sym (pick_not (t == u) true (is_open log u k) b) ∙ sym (open_is log k (began t call) at u) ∙ e) in (
           w.0,
           get_or-set_other s.under_way t u _ None (λ z. d (sym z)) ∙ w.1,
-          watched_next log contents counts k u None w.0 en.content
+          watched_next log contents counts k u w.0
               (last_number_is log k (began t call) at u ∙ pick_not (t == u) (length (calls_at log k)) (last_number log u k) b)
               (call_is log k (began t call) at u ∙ pick_not (t == u) call (last_call log u k) b)
               (begun_is log k (began t call) at u ∙ pick_not (t == u) (suc k) (begun_at log u k) b)
@@ -252,14 +232,6 @@ module _ (n q : ℕ) (log : Log) (contents : Contents) (counts : Counts) (k t : 
               )) w.2,
         ))
   ]
-    where
-      noted_number : (b : Bool) (m : ℕ) (o : OpenCall) → (noted b m o).number ≡ o.number
-      noted_number true m o = refl
-      noted_number false m o = refl
-
-      noted_call : (b : Bool) (m : ℕ) (o : OpenCall) → (noted b m o).call ≡ o.call
-      noted_call true m o = refl
-      noted_call false m o = refl
 
   begun_placed : (i : ℕ) → i < length (calls_at log (suc k))
       → PlaceOf q contents counts (traced_at (calls_at log (suc k)) i) (place_at (begun_on (suc k) t call s).places i)
@@ -286,6 +258,7 @@ module _ (n q : ℕ) (log : Log) (contents : Contents) (counts : Counts) (k t : 
     history = begun_history;
     seats = length-set s.under_way t _ ∙ f.seats;
     numbered = begun_numbered;
+    upto = λ j. all_upto_later (s.changes j) k (suc k) (omega arith) (f.upto j);
     keys = begun_keys;
     idle = begun_idle;
     busy = begun_busy;

@@ -1,5 +1,5 @@
--- The least moment that the reply of a call without a change fits is the first at which its key was there, or was not.
-use Rattle.std.proofs.Common.{◌≡◌, ℕ, ◌<◌, ◌≤◌, sym, refl, subst, ◌∙◌, arith}
+-- The least moment that the reply of a call without a change fits is the first at which its key is there, or is not.
+use Rattle.std.proofs.Common.{◌≡◌, ℕ, List, true, false, ◌<◌, ◌≤◌, sym, refl, subst, ◌∙◌, arith}
 use Rattle.std.specs.Prelude.{Option, Some, None}
 use Rattle.lset_words.specs.declared.Call.{Call}
 use Rattle.lset_words.specs.declared.Call.TheVariants as call
@@ -9,8 +9,9 @@ use Rattle.lset_words.specs.Words.{key_of}
 use Rattle.lset_words.specs.Log.{TracedCall}
 use Rattle.lset_words.specs.Account.{Contents, Counts, Fits, FitsSometime}
 use Rattle.lset_words.specs.Placement.{IsLeastFit}
-use Rattle.lset_history.proofs.Firsts.{IsFirst}
-use Rattle.lset_replay.specs.Trace.{fit_by}
+use Rattle.lset_history.specs.Changes.{IsFirst, is_present}
+use Rattle.lset_replay.specs.Trace.{needs_key}
+use Rattle.lset_replay.proofs.KeyChanges.{Tells, told_yes, told_no}
 
 -- the first moment of a call from `first` to `last` at which F holds
 pub record LeastAt (F : ℕ → Type 0) (first last moment : ℕ) : Type 0 where
@@ -39,29 +40,35 @@ module _ (q : ℕ) (contents : Contents) (counts : Counts) (first last t : ℕ) 
   abbrev pub FitsAt : Call → Reply → ℕ → Type 0
   FitsAt c r m = Fits q (contents m) (counts m t) c r
 
-  pub fit_least : (c : Call) (r : Reply) (p a : Option ℕ)
-      → IsFirst (λ m. contents m (key_of c).0) first last p → IsFirst (λ m. contents m (key_of c).0 → ⊥) first last a
+  pub fit_least : (changes : ℕ → List ℕ) (c : Call) (r : Reply) (o : Option ℕ)
+      → ((m : ℕ) → m ≤ last → Tells (is_present changes (key_of c).0 m) (contents m (key_of c).0))
+      → IsFirst (λ m. is_present changes (key_of c).0 m ≡ needs_key c r) first last o
       → ((m : ℕ) → first ≤ m → m ≤ last → counts m t ≡ counts last t)
-      → FitsSometime q contents counts first last t c r → (k : ℕ) × (fit_by c r p a ≡ Some k) × LeastAt (FitsAt c r) first last k
-  fit_least (call.Add k) reply.True p a there away steady f = absurd (f.fits)
-  fit_least (call.Add k) reply.False p a there away steady f =
-      least_first (λ m. contents m k.0) (FitsAt (call.Add k) reply.False) first last (λ m x y g. g)
-      (λ m x y g. g) p there f.moment f.from f.upto f.fits
-  fit_least (call.Add k) reply.Full p a there away steady f =
-      least_first (λ m. contents m k.0 → ⊥) (FitsAt (call.Add k) reply.Full) first last (λ m x y g. g.0)
-      (λ m x y g. (g, steady m x y ∙ sym (steady f.moment f.from f.upto) ∙ f.fits.1)) a away f.moment f.from f.upto f.fits
-  fit_least (call.Remove k) reply.True p a there away steady f = absurd (f.fits)
-  fit_least (call.Remove k) reply.False p a there away steady f =
-      least_first (λ m. contents m k.0 → ⊥) (FitsAt (call.Remove k) reply.False) first last (λ m x y g. g)
-      (λ m x y g. g) a away f.moment f.from f.upto f.fits
-  fit_least (call.Remove k) reply.Full p a there away steady f = absurd (f.fits)
-  fit_least (call.Contains k) reply.True p a there away steady f =
-      least_first (λ m. contents m k.0) (FitsAt (call.Contains k) reply.True) first last (λ m x y g. g)
-      (λ m x y g. g) p there f.moment f.from f.upto f.fits
-  fit_least (call.Contains k) reply.False p a there away steady f =
-      least_first (λ m. contents m k.0 → ⊥) (FitsAt (call.Contains k) reply.False) first last (λ m x y g. g)
-      (λ m x y g. g) a away f.moment f.from f.upto f.fits
-  fit_least (call.Contains k) reply.Full p a there away steady f = absurd (f.fits)
+      → FitsSometime q contents counts first last t c r → (k : ℕ) × (o ≡ Some k) × LeastAt (FitsAt c r) first last k
+  fit_least changes (call.Add k) reply.True o keys h steady f = absurd (f.fits)
+  fit_least changes (call.Add k) reply.False o keys h steady f =
+      least_first (λ m. is_present changes k.0 m ≡ true) (FitsAt (call.Add k) reply.False) first last
+      (λ m x y g. told_yes (is_present changes k.0 m) (keys m y) g)
+      (λ m x y g. (keys m y).0 g) o h f.moment f.from f.upto f.fits
+  fit_least changes (call.Add k) reply.Full o keys h steady f =
+      least_first (λ m. is_present changes k.0 m ≡ false) (FitsAt (call.Add k) reply.Full) first last
+      (λ m x y g. told_no (is_present changes k.0 m) (keys m y) g.0)
+      (λ m x y g. ((keys m y).1 g, steady m x y ∙ sym (steady f.moment f.from f.upto) ∙ f.fits.1)) o h f.moment f.from f.upto f.fits
+  fit_least changes (call.Remove k) reply.True o keys h steady f = absurd (f.fits)
+  fit_least changes (call.Remove k) reply.False o keys h steady f =
+      least_first (λ m. is_present changes k.0 m ≡ false) (FitsAt (call.Remove k) reply.False) first last
+      (λ m x y g. told_no (is_present changes k.0 m) (keys m y) g)
+      (λ m x y g. (keys m y).1 g) o h f.moment f.from f.upto f.fits
+  fit_least changes (call.Remove k) reply.Full o keys h steady f = absurd (f.fits)
+  fit_least changes (call.Contains k) reply.True o keys h steady f =
+      least_first (λ m. is_present changes k.0 m ≡ true) (FitsAt (call.Contains k) reply.True) first last
+      (λ m x y g. told_yes (is_present changes k.0 m) (keys m y) g)
+      (λ m x y g. (keys m y).0 g) o h f.moment f.from f.upto f.fits
+  fit_least changes (call.Contains k) reply.False o keys h steady f =
+      least_first (λ m. is_present changes k.0 m ≡ false) (FitsAt (call.Contains k) reply.False) first last
+      (λ m x y g. told_no (is_present changes k.0 m) (keys m y) g)
+      (λ m x y g. (keys m y).1 g) o h f.moment f.from f.upto f.fits
+  fit_least changes (call.Contains k) reply.Full o keys h steady f = absurd (f.fits)
 
 -- as the place of a traced call
 pub least_of : (q : ℕ) (contents : Contents) (counts : Counts) (x : TracedCall) (first last t : ℕ) (c : Call) (r : Reply) (k : ℕ)

@@ -1,6 +1,6 @@
 pub mod EventLists
-pub mod Putting
-pub mod Watching
+pub mod Ranks
+pub mod KeyChanges
 pub mod LeastFits
 pub mod Following
 pub mod Stepping

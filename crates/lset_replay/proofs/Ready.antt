@@ -3,11 +3,11 @@ use Rattle.std.proofs.Common.{◌≡◌, ℕ, zero, suc, ◌<◌, ◌≤◌, Boo
 use Rattle.std.specs.Prelude.{◌==◌, Option, Some, None, is_none, IfSome, IsSomeAnd}
 use Rattle.std.specs.List.{AllByRecursion, list_any}
 use Rattle.std.proofs.lemmas.List.{length-map, length-replicate, get_or-replicate}
-use Rattle.std.proofs.lemmas.List.Elements.{All-from_recursion}
+use Rattle.std.proofs.lemmas.List.Elements.{All-from_recursion, All-from_get_or}
 use Rattle.lset_words.specs.declared.Call.{Call}
 use Rattle.lset_words.specs.declared.Reply.{Reply}
 use Rattle.lset_words.specs.declared.history.CallRecord.{CallRecord}
-use Rattle.lset_words.specs.Log.{Log, Entry, Change, TracedCall, is_under_way, calls_at, history_at, record_of, is_open}
+use Rattle.lset_words.specs.Log.{Log, Entry, Change, TracedCall, is_under_way, begun_at, calls_at, history_at, record_of, is_open}
 use Rattle.lset_words.specs.Log.Entry.{began, stepped}
 use Rattle.lset_words.specs.Account.{Contents, Counts, Enters, Account}
 use Rattle.lset_words.specs.Placement.{no_traced}
@@ -20,8 +20,10 @@ use Rattle.lset_history.proofs.CallSteps.{run_of, calls_of, way_of}
 use Rattle.lset_history.proofs.OpenCalls.{OpenNumber, open_number, last_number, length_began, length_stepped}
 use Rattle.lset_replay.specs.declared.places.OpenCall.{OpenCall}
 use Rattle.lset_replay.specs.declared.recorder.Recorder.{Recorder}
-use Rattle.lset_replay.specs.Trace.{Trace, open_call_at, trace_at, trace_after, trace_of, MayStep}
+use Rattle.lset_replay.specs.Trace.{Trace, open_call_at, trace_at, trace_after, trace_of, MayStep, MayChange}
 use Rattle.lset_replay.proofs.Following.{Follows, IsWatched, follows_beginning}
+use Rattle.lset_history.specs.Changes.{moments_of}
+use Rattle.lset_replay.proofs.KeyChanges.{may_change}
 use Rattle.lset_replay.proofs.Stepping.{follows_step}
 
 none_passes : {X : Type 0} (p : X → Bool) (xs : List X) → AllByRecursion (λ x. p x ≡ false) xs → list_any p xs ≡ false
@@ -42,7 +44,8 @@ module _ (n q last : ℕ) (log : Log) (contents : Contents) (counts : Counts) (a
     history = refl;
     seats = length-replicate n None;
     numbered = refl;
-    keys = λ j. ((λ e. absurd (cc)), (λ e c. account.empty j c));
+    upto = λ j. All-from_get_or (λ x. x ≤ 0) [] 0 (λ i below. absurd (omega arith));
+    keys = λ j m b. ((λ e. absurd (cc)), (λ e c. account.empty j (let z : m ≡ 0 = omega arith in subst (λ y. contents y j) z c)));
     idle = λ t m e. get_or-replicate n t None None m;
     busy = λ t m e. absurd (cc);
     placed = λ i m. absurd (omega arith);
@@ -110,7 +113,7 @@ module _ (n q last : ℕ) (log : Log) (contents : Contents) (counts : Counts) (a
 
     pub may_step : (t : ℕ) (change : Option Change) (reply : Option Reply)
         → Enters n q log contents counts k (stepped t change reply)
-        → MayStep r.history r.under_way.items r.places.items t (suc k)
+        → MayStep r.history r.under_way.items r.places.items t (suc k) × MayChange (moments_of r.changes) (suc k) change
     may_step t change reply en =
         let o : (o : OpenCall) × (open_call_at r.under_way.items t ≡ Some o) × IsWatched log contents counts k t o =
         now.busy t en.of_a_thread en.under_way in
@@ -123,23 +126,28 @@ module _ (n q last : ℕ) (log : Log) (contents : Contents) (counts : Counts) (a
         let seats : length r.under_way.items ≡ n = now.seats in
         let th : t < n = en.of_a_thread in
         let e : o.0.number ≡ last_number log t k = o.2.number_is in
-        record {
-          of_a_thread = omega arith;
-          goes = subst (λ (z : Option OpenCall). IsSomeAnd z (λ y.
-              (y.number < length r.places.items) × MayEnd r.history y.number (suc k))) (sym o.1) (
-                omega arith,
-                record {
-                  open_call = record {
-                    known = omega arith;
-                    not_ended = ap (λ (xs : List CallRecord). (call_numbered xs o.0.number).ended) now.history
-                        ∙ ap (λ z. (call_numbered (history_at log k) z).ended) o.2.number_is
-                        ∙ ap (λ (x : CallRecord). x.ended) (get_or_mapped record_of (calls_at log k)
-                        (last_number log t k) no_traced) ∙ number.open_call.1;
-                  };
-                  later = later;
-                },
-              );
-        }
+        let begun : o.0.begun ≡ begun_at log t k = o.2.begun_is in
+        let since : begun_at log t k ≤ k = o.2.since in (
+          record {
+            of_a_thread = omega arith;
+            goes = subst (λ (z : Option OpenCall). IsSomeAnd z (λ y.
+                (y.number < length r.places.items) × (y.begun ≤ suc k) × MayEnd r.history y.number (suc k))) (sym o.1) (
+                  omega arith,
+                  omega arith,
+                  record {
+                    open_call = record {
+                      known = omega arith;
+                      not_ended = ap (λ (xs : List CallRecord). (call_numbered xs o.0.number).ended) now.history
+                          ∙ ap (λ z. (call_numbered (history_at log k) z).ended) o.2.number_is
+                          ∙ ap (λ (x : CallRecord). x.ended) (get_or_mapped record_of (calls_at log k)
+                          (last_number log t k) no_traced) ∙ number.open_call.1;
+                    };
+                    later = later;
+                  },
+                );
+          },
+          may_change contents k (moments_of r.changes) now.upto now.keys change en.content,
+        )
 
 -- there are no more calls than events
 pub few_calls : (log : Log) (k : ℕ) → length (calls_at log k) ≤ k

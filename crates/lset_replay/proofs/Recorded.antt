@@ -1,32 +1,31 @@
 -- What the recorder keeps after an event is the next trace.
-use Rattle.std.proofs.Common.{◌≡◌, ℕ, Bool, List, map, set, ap}
-use Rattle.std.specs.Prelude.{◌==◌, Option, Some, None, if◌then◌else◌}
-use Rattle.std.specs.Ordering.{nat_cmp}
-use Rattle.std.specs.BTreeSet.{contains, BTreeSet}
+use Rattle.std.proofs.Common.{◌≡◌, ℕ, Bool, List, set, ap}
+use Rattle.std.specs.Prelude.{Option, Some, None}
 use mathlib.Core.Path.{fun_ext}
 use Rattle.lset_words.specs.declared.Key.{Key}
 use Rattle.lset_words.specs.declared.Reply.{Reply}
 use Rattle.lset_words.specs.declared.history.CallRecord.{CallRecord}
 use Rattle.lset_history.specs.History.{HistoryValue, with_ended}
+use Rattle.lset_history.specs.Changes.{ChangesValue, moments_of, with_change}
 use Rattle.lset_replay.specs.declared.places.OpenCall.{OpenCall}
 use Rattle.lset_replay.specs.declared.places.Place.{Place}
 use Rattle.lset_replay.specs.declared.recorder.Recorder.{Recorder}
-use Rattle.lset_replay.specs.Trace.{Trace, trace_of, open_call_at, place_at, number_of, fit_of, settled, watched, changed_at, changed_on, ended_by}
+use Rattle.lset_replay.specs.Trace.{Trace, trace_of, open_call_at, place_at, number_of, fit_of, settled, changed_at, changed_on, ended_by}
 
-same_trace : {a b : List CallRecord} {c d : List (Option OpenCall)} {e f : List (Option Place)} {g h : ℕ → Bool} → a ≡ b
+same_trace : {a b : List CallRecord} {c d : List (Option OpenCall)} {e f : List (Option Place)} {g h : ℕ → List ℕ} → a ≡ b
     → c ≡ d → e ≡ f → g ≡ h
-    → (let x : Trace = record { calls = a; under_way = c; places = e; has = g } in x) ≡ record {
+    → (let x : Trace = record { calls = a; under_way = c; places = e; changes = g } in x) ≡ record {
       calls = b;
       under_way = d;
       places = f;
-      has = h;
+      changes = h;
     }
 same_trace p q r s = cc
 
 pub changed_trace : (r r' : Recorder) (m t : ℕ) (k : Key) (present : Bool) → r'.history ≡ r.history
-    → r'.under_way.items ≡ map (watched k.0 present m) r.under_way.items
+    → r'.under_way.items ≡ r.under_way.items
     → r'.places.items ≡ set r.places.items (number_of (open_call_at r.under_way.items t)) (Some (changed_at m))
-    → ((j : ℕ) → contains nat_cmp r'.keys j ≡ (if j == k.0 then present else contains nat_cmp r.keys j))
+    → ((j : ℕ) → moments_of r'.changes j ≡ with_change (moments_of r.changes) k.0 m j)
     → trace_of r' ≡ changed_on m t (Some (k, present)) (trace_of r)
 changed_trace r r' m t k present a b c d = same_trace (ap (λ (h : HistoryValue). h.calls) a) b c (fun_ext d)
 
@@ -34,9 +33,9 @@ pub ended_trace : (r r' : Recorder) (m t : ℕ) (reply : Reply)
     → r'.history ≡ with_ended r.history (number_of (open_call_at r.under_way.items t)) (m, reply)
     → r'.under_way.items ≡ set r.under_way.items t None
     → r'.places.items ≡ set r.places.items (number_of (open_call_at r.under_way.items t))
-    (settled (place_at r.places.items (number_of (open_call_at r.under_way.items t))) (fit_of
-    (open_call_at r.under_way.items t) reply) reply)
-    → r'.keys ≡ r.keys
+    (settled (place_at r.places.items (number_of (open_call_at r.under_way.items t))) (fit_of (moments_of r.changes)
+    (open_call_at r.under_way.items t) reply m) reply)
+    → r'.changes ≡ r.changes
     → trace_of r' ≡ ended_by m t reply (open_call_at r.under_way.items t) (trace_of r)
 ended_trace r r' m t reply a b c d = same_trace (ap (λ (h : HistoryValue). h.calls) a) b c
-    (let f : BTreeSet ℕ → ℕ → Bool = λ s j. contains nat_cmp s j in ap f d)
+    (let f : ChangesValue → ℕ → List ℕ = λ s j. moments_of s j in ap f d)

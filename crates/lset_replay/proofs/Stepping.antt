@@ -1,76 +1,51 @@
 -- What replay keeps at a step: the history, the open calls, the places and the keys after it.
 use Rattle.std.proofs.Common.{◌≡◌, ◌≢◌, ℕ, suc, ◌<◌, ◌≤◌, Bool, true, false, ◌||◌, inl, inr, List, length, map, set, sym, refl, subst, ap, ◌∙◌, arith, get_or-set_same, get_or-set_other}
-use Rattle.std.specs.Prelude.{◌==◌, Option, Some, None, is_some, if◌then◌else◌}
+use Rattle.std.specs.Prelude.{All, ◌==◌, ◌-◌, Option, Some, None, is_some}
 use Rattle.std.proofs.lemmas.List.{map-set, set-get_or}
 use Rattle.lset_words.specs.declared.Reply.{Reply}
 use Rattle.lset_words.specs.Log.{Log, Change, TracedCall, traced_on, changed_by, ended_by, calls_at, history_at, record_of, last_call, begun_at, is_open, has_changed, is_change, open_after}
 use Rattle.lset_words.specs.Log.Entry.{stepped}
-use Rattle.lset_words.specs.Account.{Contents, Counts, Changes, FitsSometime, RightReply, Enters, Account, count_after}
+use Rattle.lset_words.specs.Account.{Contents, Counts, FitsSometime, RightReply, Enters, Account, count_after}
 use Rattle.lset_words.specs.Placement.{traced_at, no_traced, IsLeastFit}
 use Rattle.lset_words.specs.History.{call_numbered, no_call}
 use Rattle.lset_history.specs.History.{ended_with}
-use Rattle.lset_words.proofs.Numbers.{equal_test, unequal_test, same_or_not, same_number}
+use Rattle.lset_words.proofs.Numbers.{equal_test, unequal_test, same_or_not}
 use Rattle.lset_history.proofs.Lists.{get_or_mapped, all_at}
 use Rattle.lset_history.proofs.Calls.{Run, Traced, EndedBy, OpenAt, open_is, call_is, begun_is, changed_is}
 use Rattle.lset_history.proofs.CallSteps.{run_of, calls_of}
 use Rattle.lset_history.proofs.OpenCalls.{OpenNumber, open_number, last_number, length_stepped, step_sets}
 use Rattle.lset_replay.specs.declared.places.OpenCall.{OpenCall}
 use Rattle.lset_replay.specs.declared.places.Place.{Place}
-use Rattle.lset_replay.specs.Trace.{Trace, open_call_at, place_at, number_of, fit, changed_at, read_at, settled, changed_on, ended_on}
-use Rattle.lset_replay.proofs.Watching.{watched_on}
+use Rattle.lset_replay.specs.Trace.{Trace, open_call_at, place_at, number_of, fit, needs_key, changed_at, read_at, settled, changed_on, ended_on}
+use Rattle.lset_words.specs.Words.{key_of}
+use Rattle.lset_history.specs.Changes.{IsFirst, is_present}
+use Rattle.lset_history.proofs.Firsts.{first_passing, first_passing_is}
+use Rattle.lset_replay.proofs.KeyChanges.{Tells, changes_by, changed_keys, changed_upto}
 use Rattle.lset_replay.proofs.LeastFits.{fit_least, least_of}
-use Rattle.lset_replay.proofs.Following.{IsWatched, Follows, PlaceBy, PlaceOf, change_place, end_place, changed_calls, changed_seats, changed_open, changed_shut, changed_count, changed_other, changed_here, ended_seats, ended_others, ended_seat, ended_count, ended_other, ended_here, ended_has, watched_number, last_number_is, calls_are, pick, pick_not, watched_next}
+use Rattle.lset_replay.proofs.Following.{IsWatched, Follows, PlaceBy, PlaceOf, change_place, end_place, changed_calls, changed_seats, changed_open, changed_changes, changed_count, changed_other, changed_here, ended_seats, ended_others, ended_seat, ended_count, ended_other, ended_here, ended_changes, last_number_is, calls_are, pick, pick_not, watched_next}
 
 -- the place of the call that steps
-module _ (q : ℕ) (contents : Contents) (counts : Counts) (x : TracedCall) (m : ℕ) (o : OpenCall) where
+module _ (q : ℕ) (contents : Contents) (counts : Counts) (x : TracedCall) (m : ℕ) (changes : ℕ → List ℕ) (o : OpenCall) where
   changed_place : (ch : Option Change) (r : Option Reply) (p : Option Place) (c : ℕ) → p ≡ Some (changed_at c)
-      → end_place r o p ≡ Some (changed_at c)
+      → end_place changes m r o p ≡ Some (changed_at c)
   changed_place ch None p c e = e
-  changed_place ch (Some r) p c e = ap (λ z. settled z (fit o r) r) e
+  changed_place ch (Some r) p c e = ap (λ z. settled z (fit changes o r m) r) e
 
   place_next : (changed : Option ℕ) (p : Option Place) (ch : Option Change) (r : Option Reply)
       → PlaceBy q contents counts x changed None p
       → (changed ≡ None → ch ≡ None → (a : Reply) → r ≡ Some a
-      → (k : ℕ) × (fit o a ≡ Some k) × IsLeastFit q contents counts x m a k)
-      → PlaceBy q contents counts (traced_on m ch r x) (changed_by m ch changed) (ended_by m r) (end_place r o
+      → (k : ℕ) × (fit changes o a m ≡ Some k) × IsLeastFit q contents counts x m a k)
+      → PlaceBy q contents counts (traced_on m ch r x) (changed_by m ch changed) (ended_by m r) (end_place changes m r o
       (change_place ch m p))
   place_next changed p (Some c) r h f = changed_place (Some c) r (Some (changed_at m)) m refl
   place_next (Some c) p None r h f = changed_place None r p c h
   place_next None p None None h f = h
   place_next None p None (Some a) h f =
-      let w : (k : ℕ) × (fit o a ≡ Some k) × IsLeastFit q contents counts x m a k = f refl refl a refl in (
+      let w : (k : ℕ) × (fit changes o a m ≡ Some k) × IsLeastFit q contents counts x m a k = f refl refl a refl in (
         w.0,
-        ap (λ z. settled z (fit o a) a) h ∙ ap (λ z. read_at z a) w.1,
+        ap (λ z. settled z (fit changes o a m) a) h ∙ ap (λ z. read_at z a) w.1,
         record { from = w.2.from; upto = w.2.upto; fits = w.2.fits; least = w.2.least },
       )
-
--- the keys after a change
-module _ (contents : Contents) (k m t : ℕ) (s : Trace) (keys : (j : ℕ) → (s.has j ≡ true → contents k j) ×
-    (s.has j ≡ false → contents k j → ⊥)) where
-  put_in : (b : Bool) (j key : ℕ) → (j == key) ≡ b → contents (suc k) key → (j ≢ key → (contents k j
-      → contents (suc k) j) × (contents (suc k) j → contents k j))
-      → ((if b then true else s.has j) ≡ true → contents (suc k) j) × ((if b then true else s.has j) ≡ false
-      → contents (suc k) j → ⊥)
-  put_in true j key e c f = ((λ z. subst (λ y. contents (suc k) y) (sym (same_number j key e)) c), (λ z. absurd (cc)))
-  put_in false j key e c f =
-      let g = f (λ y. let w : (j == key) ≡ true = equal_test j key y in cc) in
-      ((λ z. g.0 ((keys j).0 z)), (λ z y. (keys j).1 z (g.1 y)))
-
-  taken_out : (b : Bool) (j key : ℕ) → (j == key) ≡ b → (contents (suc k) key → ⊥) → (j ≢ key → (contents k j
-      → contents (suc k) j) × (contents (suc k) j → contents k j))
-      → ((if b then false else s.has j) ≡ true → contents (suc k) j) × ((if b then false else s.has j) ≡ false
-      → contents (suc k) j → ⊥)
-  taken_out true j key e c f = ((λ z. absurd (cc)), (λ z y. c (subst (λ w. contents (suc k) w) (same_number j key e) y)))
-  taken_out false j key e c f =
-      let g = f (λ y. let w : (j == key) ≡ true = equal_test j key y in cc) in
-      ((λ z. g.0 ((keys j).0 z)), (λ z y. (keys j).1 z (g.1 y)))
-
-  changed_keys : (ch : Option Change) → Changes ch (contents k) (contents (suc k))
-      → (j : ℕ) → ((changed_on m t ch s).has j ≡ true → contents (suc k) j) × ((changed_on m t ch s).has j ≡ false
-      → contents (suc k) j → ⊥)
-  changed_keys None c j = ((λ e. (c j).0 ((keys j).0 e)), (λ e y. (keys j).1 e ((c j).1 y)))
-  changed_keys (Some (x, true)) c j = put_in (j == x.0) j x.0 refl c.1 (c.2 j)
-  changed_keys (Some (x, false)) c j = taken_out (j == x.0) j x.0 refl c.1 (c.2 j)
 
 -- the history after an answer
 module _ (m t num : ℕ) (cs : List TracedCall) (ch : Option Change) (o : OpenCall) (s : Trace) where
@@ -147,16 +122,14 @@ module _ (n q last : ℕ) (log : Log) (contents : Contents) (counts : Counts) (a
   abbrev open_now : (o : OpenCall) × (open_call_at s.under_way t ≡ Some o) × IsWatched log contents counts k t o
   open_now = f.busy t en.of_a_thread en.under_way
 
-  -- the open call, which has seen the change
   abbrev watching : OpenCall
-  watching = watched_on ch (suc k) open_now.0
+  watching = open_now.0
 
   open_next : open_call_at changed.under_way t ≡ Some watching
-  open_next = changed_open (suc k) t ch s t open_now.0 (let a : t < n = en.of_a_thread in let b : length s.under_way ≡ n = f.seats in
-      omega arith) open_now.1
+  open_next = changed_open (suc k) t ch s t (Some watching) open_now.1
 
   number_next : watching.number ≡ last_number log t k
-  number_next = watched_number ch (suc k) open_now.0 ∙ open_now.2.number_is
+  number_next = open_now.2.number_is
 
   quiet_here : has_changed log t (suc k) ≡ false → (has_changed log t k ≡ false) × (counts (suc k) t ≡ counts k t)
   quiet_here e =
@@ -166,7 +139,7 @@ module _ (n q last : ℕ) (log : Log) (contents : Contents) (counts : Counts) (a
       (w.0, en.own_count ∙ no_count ch (counts k t) w.1)
 
   watched_here : IsWatched log contents counts (suc k) t watching
-  watched_here = watched_next log contents counts k t ch open_now.0 en.content (last_number_is log k (stepped t ch r) at t)
+  watched_here = watched_next log contents counts k t open_now.0 (last_number_is log k (stepped t ch r) at t)
       (call_is log k (stepped t ch r) at t)
       (begun_is log k (stepped t ch r) at t) quiet_here open_now.2
 
@@ -174,25 +147,30 @@ module _ (n q last : ℕ) (log : Log) (contents : Contents) (counts : Counts) (a
   step_history = ended_history (suc k) t number_here (calls_at log k) ch watching changed r open_next number_next
       (changed_calls (suc k) t ch s ∙ f.history) number.open_call.1 ∙ sym (ap (λ xs. map record_of xs) calls_next)
 
-  step_keys : (j : ℕ) → (kept.has j ≡ true → contents (suc k) j)
-      × (kept.has j ≡ false → contents (suc k) j → ⊥)
-  step_keys j =
-      let w = changed_keys contents k (suc k) t s f.keys ch en.content j in
-      let e : kept.has j ≡ changed.has j = ap (λ (h : ℕ → Bool). h j) (ended_has (suc k) t r changed) in
-      ((λ z. w.0 (sym e ∙ z)), (λ z. w.1 (sym e ∙ z)))
+  kept_changes : kept.changes ≡ changes_by ch (suc k) s.changes
+  kept_changes = ended_changes (suc k) t r changed ∙ changed_changes (suc k) t ch s
+
+  step_keys : (j m : ℕ) → m ≤ suc k → Tells (is_present kept.changes j m) (contents m j)
+  step_keys j m l = subst (λ c. Tells (is_present c j m) (contents m j)) (sym kept_changes)
+      (changed_keys contents k s.changes f.upto f.keys ch en.content j m l)
+
+  step_upto : (j : ℕ) → All (λ x. x ≤ suc k) (kept.changes j)
+  step_upto j = subst (λ c. All (λ x. x ≤ suc k) (c j)) (sym kept_changes)
+      (changed_upto contents k s.changes f.upto f.keys ch j)
 
   in_seats : (u : ℕ) → u < n → u < length s.under_way
   in_seats u l = let b : length s.under_way ≡ n = f.seats in omega arith
 
   idle_by : (a : Option Reply) (u : ℕ) → u < n → open_after (stepped t ch a) u (is_open log u k) ≡ false
       → open_call_at (ended_on (suc k) t a changed).under_way u ≡ None
-  idle_by None u l e = changed_shut (suc k) t ch s u (in_seats u l) (f.idle u l e)
+  idle_by None u l e = changed_open (suc k) t ch s u None (f.idle u l e)
   idle_by (Some a) u l e = elim (same_or_not t u) [
     | inl y ↦ subst (λ z. open_call_at (ended_on (suc k) t (Some a) changed).under_way z ≡ None) y
-        (ended_seat (suc k) t a changed (let b : length changed.under_way ≡ length s.under_way = changed_seats (suc k) t ch s in
+        (ended_seat (suc k) t a changed (let b : length changed.under_way ≡ length s.under_way =
+        ap (λ (xs : List (Option OpenCall)). length xs) (changed_seats (suc k) t ch s) in
         let c : t < length s.under_way = in_seats t en.of_a_thread in omega arith))
     | inr d ↦ (ended_others (suc k) t (Some a) changed u (λ z. d (sym z))
-        ∙ changed_shut (suc k) t ch s u (in_seats u l) (f.idle u l (sym (pick_not (t == u) false (is_open log u k)
+        ∙ changed_open (suc k) t ch s u None (f.idle u l (sym (pick_not (t == u) false (is_open log u k)
         (unequal_test t u d)) ∙ e)))
   ]
 
@@ -211,14 +189,14 @@ module _ (n q last : ℕ) (log : Log) (contents : Contents) (counts : Counts) (a
   step_busy u l e = elim (same_or_not t u) [
     | inl y ↦ subst (λ z. (o : OpenCall) × (open_call_at kept.under_way z ≡ Some o) × IsWatched log contents counts
         (suc k) z o) y (
-          watched_on ch (suc k) open_now.0,
+          open_now.0,
           open_here r (sym (open_is log k (stepped t ch r) at t) ∙ subst (λ z. is_open log z (suc k) ≡ true) (sym y) e),
           watched_here,
         )
     | inr d ↦ (let w = f.busy u l (open_other r u d (sym (open_is log k (stepped t ch r) at u) ∙ e)) in (
-      watched_on ch (suc k) w.0,
-      ended_others (suc k) t r changed u (λ z. d (sym z)) ∙ changed_open (suc k) t ch s u w.0 (in_seats u l) w.1,
-      watched_next log contents counts k u ch w.0 en.content (last_number_is log k (stepped t ch r) at u) (call_is log k
+      w.0,
+      ended_others (suc k) t r changed u (λ z. d (sym z)) ∙ changed_open (suc k) t ch s u (Some w.0) w.1,
+      watched_next log contents counts k u w.0 (last_number_is log k (stepped t ch r) at u) (call_is log k
           (stepped t ch r) at u) (begun_is log k (stepped t ch r) at u)
           (λ g. (
             sym (changed_is log k (stepped t ch r) at u ∙ pick_not (t == u) (has_changed log u k || is_change ch)
@@ -229,10 +207,9 @@ module _ (n q last : ℕ) (log : Log) (contents : Contents) (counts : Counts) (a
   ]
 
   fits_first : here.changed ≡ None → ch ≡ None → (a : Reply) → r ≡ Some a
-      → (m : ℕ) × (fit watching a ≡ Some m) × IsLeastFit q contents counts here (suc k) a m
+      → (m : ℕ) × (fit kept.changes watching a (suc k) ≡ Some m) × IsLeastFit q contents counts here (suc k) a m
   fits_first e g a h =
       let x : TracedCall = traced_at (calls_at log k) number_here in
-      let o : OpenCall = watched_on ch (suc k) open_now.0 in
       let th : here.thread ≡ t = number.open_call.0 in
       let unchanged : has_changed log t k ≡ false = subst (λ z. has_changed log z k ≡ false) th (told.changed_is
       ∙ ap (λ (z : Option ℕ). is_some z) e) in
@@ -249,8 +226,14 @@ module _ (n q last : ℕ) (log : Log) (contents : Contents) (counts : Counts) (a
       let sometime' : FitsSometime q contents counts (begun_at log t (suc k)) (suc k) t watching.call a =
       subst (λ z. FitsSometime q contents counts z (suc k) t watching.call a) (sym begun_same)
       (subst (λ z. FitsSometime q contents counts (begun_at log t k) (suc k) t z a) (sym oc) sometime) in
-      let w = fit_least q contents counts (begun_at log t (suc k)) (suc k) t watching.call a
-      watching.first_present watching.first_absent watched_here.seen.present watched_here.seen.absent
+      let since : begun_at log t (suc k) ≤ suc k = watched_here.since in
+      let w = fit_least q contents counts (begun_at log t (suc k)) (suc k) t kept.changes watching.call a
+      (fit kept.changes watching a (suc k)) (λ m l. step_keys (key_of watching.call).0 m l)
+      (subst (λ z. IsFirst (λ m. is_present kept.changes (key_of watching.call).0 m ≡ needs_key watching.call a) z (suc k)
+      (first_passing (needs_key watching.call a) (λ m. is_present kept.changes (key_of watching.call).0 m) watching.begun
+      (suc k - watching.begun))) watched_here.begun_is
+      (first_passing_is (needs_key watching.call a) (λ m. is_present kept.changes (key_of watching.call).0 m) watching.begun
+      (suc k - watching.begun) (suc k) (let e : watching.begun ≡ begun_at log t (suc k) = watched_here.begun_is in omega arith)))
       (watched_here.steady still) sometime' in (
         w.0,
         w.1,
@@ -278,10 +261,12 @@ module _ (n q last : ℕ) (log : Log) (contents : Contents) (counts : Counts) (a
             (sym (ap (λ z. place_at kept.places z) (sym number_next)
             ∙ ended_here (suc k) t r changed watching open_next
             (let e : watching.number ≡ last_number log t k = number_next in omega arith)
-            ∙ ap (λ z. end_place r watching (place_at changed.places z)) (number_next ∙ sym same_num)
-            ∙ ap (λ z. end_place r watching z) (changed_here (suc k) t ch s (omega arith))
-            ∙ ap (λ z. end_place r watching (change_place ch (suc k) (place_at s.places z))) same_num))
-            (place_next q contents counts here (suc k) watching
+            ∙ ap (λ z. end_place changed.changes (suc k) r watching (place_at changed.places z)) (number_next ∙ sym same_num)
+            ∙ ap (λ z. end_place changed.changes (suc k) r watching z) (changed_here (suc k) t ch s (omega arith))
+            ∙ ap (λ z. end_place changed.changes (suc k) r watching (change_place ch (suc k) (place_at s.places z))) same_num
+            ∙ ap (λ c. end_place c (suc k) r watching (change_place ch (suc k) (place_at s.places (last_number log t k))))
+            (sym (ended_changes (suc k) t r changed))))
+            (place_next q contents counts here (suc k) kept.changes watching
             here.changed (place_at s.places number_here) ch r
             (subst (λ z. PlaceBy q contents counts here here.changed z (place_at s.places number_here))
             number.open_call.1 (f.placed number_here inside)) fits_first))))
@@ -297,8 +282,10 @@ module _ (n q last : ℕ) (log : Log) (contents : Contents) (counts : Counts) (a
   pub follows_step : Follows n q log contents counts (suc k) kept
   follows_step = record {
     history = step_history;
-    seats = ended_seats (suc k) t r changed ∙ changed_seats (suc k) t ch s ∙ f.seats;
+    seats = ended_seats (suc k) t r changed ∙ ap (λ (xs : List (Option OpenCall)). length xs) (changed_seats (suc k) t ch s)
+        ∙ f.seats;
     numbered = ended_count (suc k) t r changed ∙ changed_count (suc k) t ch s ∙ f.numbered ∙ sym (length_stepped log k t ch r at);
+    upto = step_upto;
     keys = step_keys;
     idle = λ u l e. idle_by r u l (sym (open_is log k (stepped t ch r) at u) ∙ e);
     busy = step_busy;

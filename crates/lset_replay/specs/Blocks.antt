@@ -1,7 +1,7 @@
 -- The order of placement, from the place of each call.
-use Rattle.std.specs.Prelude.{ℕ, zero, suc, ◌<◌, ◌≤◌, ◌==◌, ◌&&◌, Bool, true, false, not, if◌then◌else◌, List, [], ◌∷◌, ◌++◌, map, length, Option, Some, None, IfSome, slice_index_or, Vec}
-use Rattle.std.specs.declared.alloc.Global.{Global}
+use Rattle.std.specs.Prelude.{ℕ, zero, suc, ◌+◌, ◌*◌, ◌<◌, ◌≤◌, ◌==◌, ◌&&◌, Bool, true, false, not, if◌then◌else◌, List, [], ◌∷◌, ◌++◌, length, Option, Some, None, IfSome}
 use Rattle.lset_words.specs.declared.history.Placed.{Placed}
+use Rattle.lset_replay.specs.declared.order.Ranked.{Ranked}
 use Rattle.lset_replay.specs.declared.places.Place.{Place}
 use Rattle.lset_replay.specs.Trace.{place_at}
 
@@ -29,9 +29,16 @@ blocks_upto ps (suc moment) = blocks_upto ps moment ++ block_at ps (suc moment)
 abbrev pub StandUpTo : ℕ → List (Option Place) → Type 0
 StandUpTo last ps = (i : ℕ) → i < length ps → IfSome (place_at ps i) (λ p. p.moment ≤ last)
 
--- the blocks that the code makes
-abbrev pub items_of : List (Vec Placed Global) → List (List Placed)
-items_of blocks = map (λ (b : Vec Placed Global). b.items) blocks
+-- the ranks by which the calls stand: moment after moment, and at one moment the change first
+abbrev pub rank_at : ℕ → Bool → ℕ
+rank_at moment true = 2 * moment
+rank_at moment false = 2 * moment + 1
 
-abbrev pub block_in : List (List Placed) → ℕ → List Placed
-block_in blocks moment = slice_index_or blocks moment []
+-- the calls that stand, by their numbers, each with its rank
+abbrev pub ranked_from : ℕ → List (Option Place) → List Ranked
+ranked_from number [] = []
+ranked_from number (None ∷ ps) = ranked_from (suc number) ps
+ranked_from number (Some p ∷ ps) = record {
+  rank = rank_at p.moment p.change;
+  placed = record { call = number; reply = p.reply };
+} ∷ ranked_from (suc number) ps

@@ -1,8 +1,5 @@
 -- What a replay keeps while it follows a run, as a function of what the events tell.
-use Rattle.std.specs.Prelude.{ℕ, zero, suc, ◌<◌, ◌==◌, Bool, true, false, if◌then◌else◌, List, [], ◌∷◌, ◌++◌, map, length, replicate, Option, Some, None, slice_index_or, slice_set, IsSomeAnd}
-use Rattle.std.specs.Option.{unwrap_or}
-use Rattle.std.specs.Ordering.{nat_cmp}
-use Rattle.std.specs.BTreeSet.{BTreeSet, contains}
+use Rattle.std.specs.Prelude.{◌≡◌, ℕ, zero, suc, ◌-◌, ◌<◌, ◌≤◌, Bool, true, false, not, List, [], ◌∷◌, ◌++◌, length, replicate, Option, Some, None, slice_index_or, slice_set, IsSomeAnd}
 use Rattle.lset_words.specs.declared.Call.{Call}
 use Rattle.lset_words.specs.declared.Call.TheVariants as call
 use Rattle.lset_words.specs.declared.Reply.{Reply}
@@ -13,6 +10,8 @@ use Rattle.lset_words.specs.History.{call_numbered}
 use Rattle.lset_words.specs.Log.{Log, Entry, Change}
 use Rattle.lset_words.specs.Log.Entry.{began, stepped}
 use Rattle.lset_history.specs.History.{HistoryValue, MayBegin, MayEnd, ended_with}
+use Rattle.lset_history.specs.Changes.{moments_of, is_present, is_present_now, with_change, IsLaterThanAll}
+use Rattle.lset_history.proofs.Firsts.{first_passing}
 use Rattle.lset_steps.specs.declared.Event.{Event}
 use Rattle.lset_steps.specs.declared.Event.TheVariants as event
 use Rattle.lset_steps.specs.declared.Told.{Told}
@@ -20,32 +19,18 @@ use Rattle.lset_replay.specs.declared.places.OpenCall.{OpenCall}
 use Rattle.lset_replay.specs.declared.places.Place.{Place}
 use Rattle.lset_replay.specs.declared.recorder.Recorder.{Recorder}
 
--- ---- an open call, and the first moments at which its key was there, and was not
+-- ---- an open call
 
-abbrev pub noted : Bool → ℕ → OpenCall → OpenCall
-noted true moment o = record o { first_present = Some (unwrap_or o.first_present moment) }
-noted false moment o = record o { first_absent = Some (unwrap_or o.first_absent moment) }
+-- Whether a reply of a call that changes nothing fits where the call's key is in the set, or else where it is not
+abbrev pub needs_key : Call → Reply → Bool
+needs_key (call.Add k) reply.False = true
+needs_key (call.Contains k) reply.True = true
+needs_key _ _ = false
 
-abbrev pub opened : ℕ → Call → Bool → ℕ → OpenCall
-opened number call present moment =
-    noted present moment (record { number = number; call = call; first_present = None; first_absent = None })
-
--- after a change of that key
-abbrev pub watched_call : ℕ → Bool → ℕ → OpenCall → OpenCall
-watched_call key present moment o = if (key_of o.call).0 == key then noted present moment o else o
-
-abbrev pub watched : ℕ → Bool → ℕ → Option OpenCall → Option OpenCall
-watched key present moment None = None
-watched key present moment (Some o) = Some (watched_call key present moment o)
-
--- the first moment of the call that its reply fits, where the call changes nothing
-abbrev pub fit_by : Call → Reply → Option ℕ → Option ℕ → Option ℕ
-fit_by (call.Add k) reply.False present absent = present
-fit_by (call.Contains k) reply.True present absent = present
-fit_by _ _ present absent = absent
-
-abbrev pub fit : OpenCall → Reply → Option ℕ
-fit o reply = fit_by o.call reply o.first_present o.first_absent
+-- the first moment of the call, up to a last one, that its reply fits, where the call changes nothing
+abbrev pub fit : (ℕ → List ℕ) → OpenCall → Reply → ℕ → Option ℕ
+fit changes o reply last =
+    first_passing (needs_key o.call reply) (λ m. is_present changes (key_of o.call).0 m) o.begun (last - o.begun)
 
 -- ---- places
 
@@ -67,7 +52,7 @@ pub record Trace : Type 0 where
   pub calls : List CallRecord
   pub under_way : List (Option OpenCall)
   pub places : List (Option Place)
-  pub has : ℕ → Bool
+  pub changes : ℕ → List ℕ
 
 abbrev pub open_call_at : List (Option OpenCall) → ℕ → Option OpenCall
 open_call_at os thread = slice_index_or os thread None
@@ -79,33 +64,33 @@ abbrev pub number_of : Option OpenCall → ℕ
 number_of None = 0
 number_of (Some o) = o.number
 
-abbrev pub fit_of : Option OpenCall → Reply → Option ℕ
-fit_of None reply = None
-fit_of (Some o) reply = fit o reply
+abbrev pub fit_of : (ℕ → List ℕ) → Option OpenCall → Reply → ℕ → Option ℕ
+fit_of changes None reply last = None
+fit_of changes (Some o) reply last = fit changes o reply last
 
 abbrev pub begun_on : ℕ → ℕ → Call → Trace → Trace
 begun_on moment thread call s = record {
   calls = s.calls ++ record { thread = thread; call = call; begun = moment; ended = None } ∷ [];
-  under_way = slice_set s.under_way thread (Some (opened (length s.calls) call (s.has (key_of call).0) moment));
+  under_way = slice_set s.under_way thread (Some (record { number = length s.calls; call = call; begun = moment }));
   places = s.places ++ None ∷ [];
-  has = s.has;
+  changes = s.changes;
 }
 
 abbrev pub changed_on : ℕ → ℕ → Option Change → Trace → Trace
 changed_on moment thread None s = s
 changed_on moment thread (Some (k, present)) s = record {
   calls = s.calls;
-  under_way = map (watched k.0 present moment) s.under_way;
+  under_way = s.under_way;
   places = slice_set s.places (number_of (open_call_at s.under_way thread)) (Some (changed_at moment));
-  has = λ j. if j == k.0 then present else s.has j;
+  changes = with_change s.changes k.0 moment;
 }
 
 abbrev pub ended_by : ℕ → ℕ → Reply → Option OpenCall → Trace → Trace
 ended_by moment thread reply o s = record {
   calls = slice_set s.calls (number_of o) (ended_with (call_numbered s.calls (number_of o)) (moment, reply));
   under_way = slice_set s.under_way thread None;
-  places = slice_set s.places (number_of o) (settled (place_at s.places (number_of o)) (fit_of o reply) reply);
-  has = s.has;
+  places = slice_set s.places (number_of o) (settled (place_at s.places (number_of o)) (fit_of s.changes o reply moment) reply);
+  changes = s.changes;
 }
 
 abbrev pub ended_on : ℕ → ℕ → Option Reply → Trace → Trace
@@ -117,7 +102,7 @@ trace_after moment (began thread call) s = begun_on moment thread call s
 trace_after moment (stepped thread change reply) s = ended_on moment thread reply (changed_on moment thread change s)
 
 abbrev pub no_trace : ℕ → Trace
-no_trace threads = record { calls = []; under_way = replicate threads None; places = []; has = λ k. false }
+no_trace threads = record { calls = []; under_way = replicate threads None; places = []; changes = λ k. [] }
 
 -- after the first k events
 abbrev pub trace_at : ℕ → Log → ℕ → Trace
@@ -125,9 +110,6 @@ trace_at threads log zero = no_trace threads
 trace_at threads log (suc k) = trace_after (suc k) (log k) (trace_at threads log k)
 
 -- ---- what the code keeps
-
-abbrev pub is_key : BTreeSet ℕ → ℕ → Bool
-is_key keys k = contains nat_cmp keys k
 
 abbrev pub number_at : List (Option OpenCall) → ℕ → ℕ
 number_at os thread = number_of (open_call_at os thread)
@@ -140,7 +122,7 @@ trace_of r = record {
   calls = r.history.calls;
   under_way = r.under_way.items;
   places = r.places.items;
-  has = λ k. is_key r.keys k;
+  changes = λ k. moments_of r.changes k;
 }
 
 abbrev pub entry_told : Event → Told → Entry
@@ -151,8 +133,16 @@ entry_told (event.Go thread) told = stepped thread told.change told.answer
 pub record MayStep (h : HistoryValue) (under_way : List (Option OpenCall)) (places : List (Option Place))
     (thread moment : ℕ) : Type 0 where
   pub of_a_thread : thread < length under_way
-  pub goes : IsSomeAnd (open_call_at under_way thread) (λ o. (o.number < length places) × MayEnd h o.number moment)
+  pub goes : IsSomeAnd (open_call_at under_way thread) (λ o.
+      (o.number < length places) × (o.begun ≤ moment) × MayEnd h o.number moment)
 
-abbrev pub MayFollow : Recorder → ℕ → Event → Type 0
-MayFollow r moment (event.Begin thread call) = MayBegin r.history thread moment × (thread < length r.under_way.items)
-MayFollow r moment (event.Go thread) = MayStep r.history r.under_way.items r.places.items thread moment
+-- a change that may be noted: it comes after all others, and the key is not so already
+abbrev pub MayChange : (ℕ → List ℕ) → ℕ → Option Change → Type 0
+MayChange changes moment None = Unit {0}
+MayChange changes moment (Some (k, present)) =
+    IsLaterThanAll changes moment × (present ≡ not (is_present_now changes k.0))
+
+abbrev pub MayFollow : Recorder → ℕ → Event → Told → Type 0
+MayFollow r moment (event.Begin thread call) told = MayBegin r.history thread moment × (thread < length r.under_way.items)
+MayFollow r moment (event.Go thread) told =
+    MayStep r.history r.under_way.items r.places.items thread moment × MayChange (moments_of r.changes) moment told.change

@@ -1,73 +1,68 @@
-ghost use Rattle.std.specs.Prelude.{◌≡◌, ℕ, ◌+◌, ◌<◌, ◌^◌, ◌++◌, length, replicate, [], IfOk, OnOk};
-ghost use Rattle.std.specs.List.{flat_map};
-ghost use Rattle.lset_replay.specs.Blocks.{placed_at, blocks_upto, StandUpTo, items_of, block_in};
+ghost use Rattle.std.specs.Prelude.{◌≡◌, ℕ, ◌≤◌, length, map, IfOk};
+ghost use Rattle.lset_schedule.specs.declared.TheConstants.{MOST_EVENTS};
+ghost use Rattle.lset_replay.specs.Blocks.{blocks_upto, StandUpTo, rank_at, ranked_from};
 
 use crate::places::Place;
 use lset_words::Placed;
 use std::alloc::{AllocError, Global};
 
-/// No call yet at any moment up to `last`.
-fn no_blocks(alloc: Global, last: u32) -> Result<Vec<Vec<Placed>>, AllocError>
-    requires { last + 1 < 2 ^ 32 }
-    ensures { IfOk result (λ v. items_of v.items ≡ replicate (last + 1) []) }
-{
-    let mut blocks = Vec::new(alloc);
-    for _moment in 0..last + 1 {
-        blocks.push(Vec::new(alloc))?;
-    }
-    Ok(blocks)
+/// A call that stands, and its rank: the lesser the earlier.
+#[derive(Clone, Copy)]
+pub struct Ranked {
+    pub rank: u32,
+    pub placed: Placed,
 }
 
-/// Puts the calls that change something, or the others, by their numbers into the blocks of their moments.
-fn put(
-    blocks: &mut Vec<Vec<Placed>>,
-    places: &[Option<Place>],
-    change: bool,
-) -> Result<(), AllocError>
-    requires few { length places.now < 2 ^ 32 }
-    requires inside { (last : ℕ) × (last < length (items_of blocks.old.items)) × StandUpTo last places.now }
-    ensures count { OnOk result (length (items_of blocks.new.items) ≡ length (items_of blocks.old.items)) }
-    ensures added { OnOk result ((m : ℕ) → m < length (items_of blocks.old.items)
-        → block_in (items_of blocks.new.items) m ≡ block_in (items_of blocks.old.items) m ++ placed_at change m 0 places.now) }
-{
-    for (number, place) in places.iter().enumerate() {
-        if let Some(place) = place {
-            if place.change == change {
-                let placed = Placed {
-                    call: number as u32,
-                    reply: place.reply,
-                };
-                blocks[place.moment as usize].push(placed)?;
-            }
+impl Ranked {
+    fn new(number: u32, place: Place) -> Ranked
+        requires { place.moment ≤ MOST_EVENTS }
+        ensures rank { result.rank ≡ rank_at place.moment place.change }
+        ensures placed { result.placed ≡ record { call = number; reply = place.reply } }
+    {
+        let after_the_change = if place.change { 0 } else { 1 };
+        Ranked {
+            rank: 2 * place.moment + after_the_change,
+            placed: Placed {
+                call: number,
+                reply: place.reply,
+            },
         }
     }
-    Ok(())
 }
 
-fn joined(alloc: Global, blocks: &[Vec<Placed>]) -> Result<Vec<Placed>, AllocError>
-    ensures { IfOk result (λ v. v.items ≡ flat_map (λ b. b) (items_of blocks.now)) }
+/// The calls that stand, by their numbers.
+fn ranked_calls(alloc: Global, places: &[Option<Place>]) -> Result<Vec<Ranked>, AllocError>
+    requires few { length places.now ≤ MOST_EVENTS }
+    requires inside { StandUpTo MOST_EVENTS places.now }
+    ensures { IfOk result (λ v. v.items ≡ ranked_from 0 places.now) }
 {
-    let mut order = Vec::new(alloc);
-    for block in blocks {
-        order.extend_from_slice(block)?;
+    let mut ranked = Vec::with_capacity(alloc, places.len())?;
+    for (number, place) in places.iter().enumerate() {
+        if let Some(place) = place {
+            ranked.push(Ranked::new(number as u32, *place))?;
+        }
+    }
+    Ok(ranked)
+}
+
+fn without_ranks(alloc: Global, ranked: &[Ranked]) -> Result<Vec<Placed>, AllocError>
+    ensures { IfOk result (λ v. v.items ≡ map (λ x. x.placed) ranked.now) }
+{
+    let mut order = Vec::with_capacity(alloc, ranked.len())?;
+    for next in ranked {
+        order.push(next.placed)?;
     }
     Ok(order)
 }
 
-/// The order of calls with these places, none after the moment `last`: moment after moment, and at one
-/// moment the change first, then the others by their numbers.
-pub fn in_order(
-    alloc: Global,
-    places: &[Option<Place>],
-    last: u32,
-) -> Result<Vec<Placed>, AllocError>
-    requires few { length places.now < 2 ^ 32 }
-    requires few_moments { last + 1 < 2 ^ 32 }
-    requires inside { StandUpTo last places.now }
-    ensures { IfOk result (λ v. v.items ≡ blocks_upto places.now last) }
+/// The order of calls with these places: moment after moment, and at one moment the change first, then the
+/// others by their numbers.
+pub fn in_order(alloc: Global, places: &[Option<Place>]) -> Result<Vec<Placed>, AllocError>
+    requires few { length places.now ≤ MOST_EVENTS }
+    requires inside { StandUpTo MOST_EVENTS places.now }
+    ensures { IfOk result (λ v. (last : ℕ) → StandUpTo last places.now → v.items ≡ blocks_upto places.now last) }
 {
-    let mut blocks = no_blocks(alloc, last)?;
-    put(&mut blocks, places, true)?;
-    put(&mut blocks, places, false)?;
-    joined(alloc, &blocks)
+    let mut ranked = ranked_calls(alloc, places)?;
+    ranked.sort_by_key(|next| next.rank)?;
+    without_ranks(alloc, &ranked)
 }

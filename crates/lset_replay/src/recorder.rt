@@ -1,15 +1,14 @@
-ghost use Rattle.std.specs.Prelude.{◌≡◌, ◌<◌, ℕ, [], ◌∷◌, ◌++◌, map, length, IfOk, OnOk, OnErr, Some, None, true, false, slice_set, if◌then◌else◌, ◌==◌, IsSomeAnd};
-ghost use Rattle.lset_words.specs.Words.{key_of, IsWithin};
-ghost use Rattle.lset_history.specs.History.{MayBegin, MayEnd, with_begun, with_ended};
+ghost use Rattle.std.specs.Prelude.{◌≡◌, ◌<◌, ◌≤◌, ℕ, [], ◌∷◌, ◌++◌, length, not, IfOk, OnOk, OnErr, Some, None, slice_set, IsSomeAnd};
+ghost use Rattle.lset_words.specs.Words.{IsWithin};
+ghost use Rattle.lset_history.specs.History.{MayBegin, with_begun, with_ended};
+ghost use Rattle.lset_history.specs.Changes.{moments_of, IsLaterThanAll, is_present_now, with_change};
 ghost use Rattle.lset_replay.specs.Trace.{
   open_call_at,
   place_at,
-  opened,
-  watched,
   changed_at,
   settled,
+  fit,
   fit_of,
-  is_key,
   number_at,
   begun_call,
   no_trace,
@@ -20,30 +19,20 @@ ghost use Rattle.lset_replay.specs.Trace.{
   MayFollow,
 };
 
-use crate::places::{OpenCall, Place, watched};
-use lset_history::{History, HistoryFault};
+use crate::places::{OpenCall, Place, needs_key};
+use lset_history::{Changes, History, HistoryFault};
 use lset_steps::{Event, Told};
 use lset_words::{Call, Key, Reply};
 use std::alloc::{AllocError, Global};
-use std::collections::BTreeSet;
 
 /// The history of a run so far, and what its calls need for their places: the call under way of each
-/// thread, the place of each call that has one, and the keys of the set.
+/// thread, the place of each call that has one, and when keys were put in and taken out.
 #[derive(Drop)]
 pub struct Recorder {
     pub history: History,
     pub under_way: Vec<Option<OpenCall>>,
     pub places: Vec<Option<Place>>,
-    pub keys: BTreeSet<u32>,
-}
-
-/// The calls under way after a change of `key`.
-fn watch_all(calls: &mut [Option<OpenCall>], key: Key, present: bool, moment: u32)
-    ensures { calls.new ≡ map (watched key.0 present moment) calls.old }
-{
-    for call in calls.iter_mut() {
-        *call = watched(*call, key, present, moment);
-    }
+    pub changes: Changes,
 }
 
 impl Recorder {
@@ -57,7 +46,7 @@ impl Recorder {
             history: History::new(alloc, threads, quota),
             under_way: vec![in alloc; None; threads as usize]?,
             places: Vec::new(alloc),
-            keys: BTreeSet::new(alloc),
+            changes: Changes::new(alloc),
         })
     }
 
@@ -71,14 +60,28 @@ impl Recorder {
         }
     }
 
+    /// The least moment of an open call, up to a last one, that this reply fits, where the call changes nothing.
+    fn fit(&self, made: OpenCall, reply: Reply, last: u32) -> Option<u32>
+        requires { made.begun ≤ last }
+        ensures { result ≡ fit (moments_of self.now.changes) made reply last }
+    {
+        let (first, _looked) = self.changes.first(
+            made.call.key().0,
+            needs_key(made.call, reply),
+            made.begun,
+            last,
+        );
+        first
+    }
+
     fn begin(&mut self, thread: u32, call: Call, moment: u32) -> Result<(), AllocError>
         requires may { MayBegin self.old.history thread moment }
         requires seat { thread < length self.old.under_way.items }
         ensures history { OnOk result (self.new.history ≡ with_begun self.old.history (begun_call thread call moment)) }
         ensures under_way { OnOk result (self.new.under_way.items ≡ slice_set self.old.under_way.items thread
-            (Some (opened (length self.old.history.calls) call (is_key self.old.keys (key_of call).0) moment))) }
+            (Some (record { number = length self.old.history.calls; call = call; begun = moment }))) }
         ensures places { OnOk result (self.new.places.items ≡ self.old.places.items ++ None ∷ []) }
-        ensures keys { OnOk result (self.new.keys ≡ self.old.keys) }
+        ensures changes { OnOk result (self.new.changes ≡ self.old.changes) }
     {
         let number = match self.history.begin(thread, call, moment) {
             Ok(number) => number,
@@ -86,8 +89,11 @@ impl Recorder {
             Err(_) => unreachable!(),
         };
         self.places.push(None)?;
-        let present = self.keys.contains(&call.key().0);
-        self.under_way[thread as usize] = Some(OpenCall::opened(number, call, present, moment));
+        self.under_way[thread as usize] = Some(OpenCall {
+            number,
+            call,
+            begun: moment,
+        });
         Ok(())
     }
 
@@ -98,21 +104,19 @@ impl Recorder {
         present: bool,
         moment: u32,
     ) -> Result<(), AllocError>
-        requires { IsSomeAnd (open_call_at self.old.under_way.items thread) (λ o. o.number < length self.old.places.items) }
+        requires under_way { IsSomeAnd (open_call_at self.old.under_way.items thread) (λ o. o.number < length self.old.places.items) }
+        requires later { IsLaterThanAll (moments_of self.old.changes) moment }
+        requires turn { present ≡ not (is_present_now (moments_of self.old.changes) key.0) }
         ensures history { OnOk result (self.new.history ≡ self.old.history) }
-        ensures under_way { OnOk result (self.new.under_way.items ≡ map (watched key.0 present moment) self.old.under_way.items) }
+        ensures under_way { OnOk result (self.new.under_way.items ≡ self.old.under_way.items) }
         ensures places { OnOk result (self.new.places.items
             ≡ slice_set self.old.places.items (number_at self.old.under_way.items thread) (Some (changed_at moment))) }
-        ensures keys { OnOk result ((k : ℕ) → is_key self.new.keys k ≡ (if k == key.0 then present else is_key self.old.keys k)) }
+        ensures changes { OnOk result ((k : ℕ) → moments_of self.new.changes k
+            ≡ with_change (moments_of self.old.changes) key.0 moment k) }
     {
-        if present {
-            self.keys.insert(key.0)?;
-        } else {
-            self.keys.remove(&key.0);
-        }
+        self.changes.note(key.0, present, moment)?;
         let open = self.open_call(thread);
         self.places[open.number as usize] = Some(Place::changed(moment));
-        watch_all(&mut self.under_way, key, present, moment);
         Ok(())
     }
 
@@ -121,10 +125,10 @@ impl Recorder {
         ensures history { self.new.history ≡ with_ended self.old.history (number_at self.old.under_way.items thread) (moment, reply) }
         ensures under_way { self.new.under_way.items ≡ slice_set self.old.under_way.items thread None }
         ensures places { let number = number_at self.old.under_way.items thread in
-            let fits = fit_of (open_call_at self.old.under_way.items thread) reply in
+            let fits = fit_of (moments_of self.old.changes) (open_call_at self.old.under_way.items thread) reply moment in
             self.new.places.items ≡ slice_set self.old.places.items number
             (settled (place_at self.old.places.items number) fits reply) }
-        ensures keys { self.new.keys ≡ self.old.keys }
+        ensures changes { self.new.changes ≡ self.old.changes }
     {
         let open = self.open_call(thread);
         let Ok(()) = self.history.end(open.number, reply, moment) else {
@@ -132,14 +136,14 @@ impl Recorder {
         };
         let number = open.number as usize;
         if self.places[number].is_none() {
-            self.places[number] = Place::read(open.fit(reply), reply);
+            self.places[number] = Place::read(self.fit(open, reply, moment), reply);
         }
         self.under_way[thread as usize] = None;
     }
 
     /// Follows the event that leads to a moment, and what it told.
     pub fn follow(&mut self, event: Event, told: Told, moment: u32) -> Result<(), AllocError>
-        requires { MayFollow self.old moment event }
+        requires { MayFollow self.old moment event told }
         ensures trace { OnOk result (trace_of self.new ≡ trace_after moment (entry_told event told) (trace_of self.old)) }
         ensures threads { OnOk result (self.new.history.threads ≡ self.old.history.threads) }
         ensures quota { OnOk result (self.new.history.quota ≡ self.old.history.quota) }

@@ -1,17 +1,20 @@
-ghost use Rattle.std.specs.Prelude.{◌≡◌, ◌+◌, ◌<◌, ◌^◌, length, IfOk};
-ghost use Rattle.lset_schedule.specs.Plan.{IsSchedule, view};
+ghost use Rattle.std.specs.Prelude.{◌≡◌, ◌≤◌, IfOk};
+ghost use Rattle.lset_schedule.specs.declared.TheConstants.{MOST_EVENTS};
+ghost use Rattle.std.specs.List.{sum_by};
+ghost use Rattle.lset_schedule.specs.Plan.{IsSchedule, view, event_count};
+ghost use Rattle.lset_replay.specs.Events.{events_from, first_event_line};
 ghost use Rattle.lset_replay.specs.Follows.{HasFollowed, FollowsAll};
 ghost use Rattle.lset_lists.specs.Tables.{table_of};
 ghost use Rattle.lset_replay.specs.Reports.{Replays, IsExplained, fault_at};
 ghost use Rattle.lset_replay.specs.Reports as report;
 
-use crate::events::{LineEvent, events_of};
+use crate::events::{FIRST_EVENT_LINE, event_of};
 use crate::order::in_order;
 use crate::recorder::Recorder;
 use crate::{ReplayFault, Report};
 use lset_headline::runs_are_linearizable;
 use lset_lists::{List, Task, on_list};
-use lset_schedule::Schedule;
+use lset_schedule::{Line, Schedule};
 use lset_steps::laws::has_account;
 use lset_steps::{Machine, StepFault, World};
 use lset_words::layout;
@@ -27,20 +30,28 @@ fn refusal(cause: StepFault, line: u64) -> ReplayFault
     }
 }
 
+/// Follows the events of the lines, one after another.
 fn follow_all<M: Machine>(
     world: &mut World<M>,
     recorder: &mut Recorder,
-    events: &[LineEvent],
+    lines: &[Line],
 ) -> Result<(), ReplayFault>
-    requires few { length events.now + 1 < 2 ^ 32 }
-    requires start { HasFollowed M.table world.old.threads world.old.quota events.now 0 world.old recorder.old }
-    ensures { FollowsAll M.table world.old.threads world.old.quota events.now result world.new recorder.new }
+    requires few { sum_by event_count lines.now ≤ MOST_EVENTS }
+    requires start { HasFollowed M.table world.old.threads world.old.quota (events_from first_event_line lines.now) 0
+        world.old recorder.old }
+    ensures { FollowsAll M.table world.old.threads world.old.quota (events_from first_event_line lines.now) result
+        world.new recorder.new }
 {
     has_account::<M>();
-    for (index, next) in events.iter().enumerate() {
-        match world.step(next.event) {
-            Ok(told) => recorder.follow(next.event, told, index as u32 + 1)?,
-            Err(cause) => return Err(refusal(cause, next.line)),
+    let mut moment = 0u32;
+    for (index, line) in lines.iter().enumerate() {
+        let (next, times) = event_of(FIRST_EVENT_LINE + index as u64, *line);
+        for _done in 0..times {
+            moment += 1;
+            match world.step(next.event) {
+                Ok(told) => recorder.follow(next.event, told, moment)?,
+                Err(cause) => return Err(refusal(cause, next.line)),
+            }
         }
     }
     Ok(())
@@ -57,11 +68,10 @@ fn replay_on<M: Machine>(alloc: Global, schedule: &Schedule) -> Result<Report, R
     let Ok(layout) = layout(schedule.threads, schedule.quota) else {
         unreachable!();
     };
-    let events = events_of(alloc, schedule)?;
     let mut world = World::<M>::new(alloc, layout)?;
     let mut recorder = Recorder::new(alloc, schedule.threads, schedule.quota)?;
-    follow_all(&mut world, &mut recorder, &events)?;
-    let order = in_order(alloc, &recorder.places, events.len() as u32)?;
+    follow_all(&mut world, &mut recorder, &schedule.lines)?;
+    let order = in_order(alloc, &recorder.places)?;
     let keys = world.content()?;
     Ok(Report {
         kind: schedule.kind,
@@ -92,7 +102,7 @@ impl Task for Replaying<'_> {
 }
 
 /// Replays a schedule on the list of its kind, one event after another. The schedule is within its limits, as
-/// what `read_schedule` gives: 1 to 64 threads, a quota of 0 to 16,384, and at most 10,000 events.
+/// what `read_schedule` gives: 1 to 64 threads, a quota of 0 to 16,384, and at most 1,000,000 events.
 ///
 /// It is refused at the first event that is not enabled, with the number of its line: `NoThread` where there is no such thread, `Busy` where a thread
 /// begins a call and has one open, `Idle` where a thread makes a step and has no call open. `Memory` where a

@@ -2,10 +2,10 @@ use lset_history::History;
 use lset_words::{Kind, Placed};
 
 /// The most calls of a report that has a text.
-pub const MOST_CALLS: usize = 10_000;
+pub const MOST_CALLS: usize = 1_000_000;
 
 /// The most places of such a report's order.
-pub const MOST_PLACES: usize = 10_000;
+pub const MOST_PLACES: usize = 1_000_000;
 
 /// The most keys of such a report.
 pub const MOST_KEYS: usize = 1_048_576;

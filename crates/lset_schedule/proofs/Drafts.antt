@@ -5,7 +5,7 @@ use Rattle.std.specs.List.{AllByRecursion, count_by, sum_by}
 use Rattle.std.proofs.lemmas.Grind.{flat_map-append}
 use Rattle.std.proofs.lemmas.List.Sums.{sum_by-append, sum_by-cons}
 use Rattle.lset_words.specs.declared.TheConstants.{MOST_THREADS}
-use Rattle.lset_schedule.specs.declared.TheConstants.{MOST_EVENTS}
+use Rattle.lset_schedule.specs.declared.TheConstants.{MOST_GENERATED}
 use Rattle.lset_words.specs.declared.Kind.{Kind}
 use Rattle.lset_words.specs.Words.{IsWithin}
 use Rattle.lset_steps.specs.declared.Event.{Event}
@@ -39,7 +39,7 @@ pub record IsDraft (T : Table) (n q calls keys turns left : ℕ) (lines : List L
   pub run : RunsTo T n q (events_of_lines lines) w.state
   pub each : AllByRecursion (IsGeneratedLine n keys) lines
   pub begun : count_by is_begin lines + left ≡ calls
-  pub few : length lines ≤ MOST_EVENTS
+  pub few : length lines ≤ MOST_GENERATED
   pub alone : n ≡ 1 → length lines ≡ turns
   pub start : IsUnbegun turns n calls left lines w.state ⊎ StartsWithBegin lines
 
@@ -161,11 +161,11 @@ draft_event T n q calls keys turns left t lines w e d more lt h small = record {
     enabled : Enabled w.state e
     enabled = next_enabled w.state n t left keys e d.run.locals lt small h
 
-    not_full : length lines ≢ MOST_EVENTS
+    not_full : length lines ≢ MOST_GENERATED
     not_full full = more (inl full)
 
-    room : length lines + 1 ≤ MOST_EVENTS
-    room = let f : length lines ≢ MOST_EVENTS = not_full in let g : length lines ≤ MOST_EVENTS = d.few in omega arith
+    room : length lines + 1 ≤ MOST_GENERATED
+    room = let f : length lines ≢ MOST_GENERATED = not_full in let g : length lines ≤ MOST_GENERATED = d.few in omega arith
 
     started : IsUnbegun turns n calls left lines w.state ⊎ StartsWithBegin lines
         → StartsWithBegin (lines ++ line_of_event e ∷ [])
@@ -185,7 +185,7 @@ draft_along T n q calls keys turns left left' lines lines' w w' e f h d =
 generated : (T : Table) (n q calls keys turns left : ℕ) (lines : List Line) (w : WorldState)
     → IsDraft T n q calls keys turns left lines w
     → (0 < calls → StartsWithBegin lines)
-    → (n ≡ 1 → (length lines ≡ MOST_EVENTS) ⊎ ((left ≡ 0) × ((local_of w.state 0).pc ≡ 0)))
+    → (n ≡ 1 → (length lines ≡ MOST_GENERATED) ⊎ ((left ≡ 0) × ((local_of w.state 0).pc ≡ 0)))
     → IsGenerated T n q calls keys lines
 generated T n q calls keys turns left lines w d first alone = record {
   each = d.each;
@@ -217,13 +217,13 @@ draft_over T n q calls keys turns left lines w d over =
     first some (inr b) over = b
 
     alone : n ≡ 1 → IsOver w.state (length lines) left
-        → (length lines ≡ MOST_EVENTS) ⊎ ((left ≡ 0) × ((local_of w.state 0).pc ≡ 0))
+        → (length lines ≡ MOST_GENERATED) ⊎ ((left ≡ 0) × ((local_of w.state 0).pc ≡ 0))
     alone one (inl full) = inl full
     alone one (inr rest) = inr (rest.0, rest.1 0 (some_thread one))
 
 -- With one thread each turn makes an event, so there are fewer than 10,000 turns.
 pub draft_end : (T : Table) (n q calls keys turns left : ℕ) (lines : List Line) (w : WorldState)
-    → IsDraft T n q calls keys turns left lines w → MOST_EVENTS < turns → IsGenerated T n q calls keys lines
+    → IsDraft T n q calls keys turns left lines w → MOST_GENERATED < turns → IsGenerated T n q calls keys lines
 draft_end T n q calls keys turns left lines w d late =
     generated T n q calls keys turns left lines w d (λ _. first d.start) (λ one. absurd (too_many one))
   where
@@ -259,10 +259,10 @@ events_counted n keys (l ∷ ls) each =
     ∙ ap (λ k. 1 + k) (events_counted n keys ls each.1) ∙ omega arith
 
 pub generated_fits : (T : Table) (kind : Kind) (n q calls keys : ℕ) (lines : List Line) → keys < 2 ^ 32
-    → length lines ≤ MOST_EVENTS → IsGenerated T n q calls keys lines
+    → length lines ≤ MOST_GENERATED → IsGenerated T n q calls keys lines
     → IsSchedule (record { kind = kind; threads = n; quota = q; lines = lines })
 generated_fits T kind n q calls keys lines small few made = record {
   header = made.run.limits;
   lines = lines_fit n keys lines made.run.limits.few small made.each;
-  few = rw (events_counted n keys lines made.each) few;
+  few = rw (events_counted n keys lines made.each) (omega arith);
 }

@@ -1,7 +1,7 @@
 -- The lines that a seed stands for: the turns of the generator, one after another. (This project's own format.)
 use Rattle.std.specs.Prelude.{◌≡◌, ℕ, zero, suc, ◌-◌, ◌%◌, ◌<◌, ◌⊎◌, ◌==◌, if◌then◌else◌, Option, Some, None, List, [], ◌∷◌, ◌++◌, length}
 use Rattle.rand_core.specs.Stream.{Stream, next_u32}
-use Rattle.lset_schedule.specs.declared.TheConstants.{MOST_EVENTS, MOST_TURNS}
+use Rattle.lset_schedule.specs.declared.TheConstants.{MOST_GENERATED, MOST_TURNS}
 use Rattle.lset_steps.specs.declared.Event.{Event}
 use Rattle.lset_steps.specs.declared.Event.TheVariants as event
 use Rattle.lset_steps.specs.Steps.{Table, State, after, local_of, opening}
@@ -21,7 +21,7 @@ left_after left (event.Go t) = left
 -- no turn follows: the events are as many as may be, or no call is left and none is open
 abbrev pub IsOver : State → ℕ → ℕ → Type 0
 IsOver s events left =
-    (events ≡ MOST_EVENTS) ⊎ ((left ≡ 0) × ((t : ℕ) → t < length s.locals → (local_of s t).pc ≡ 0))
+    (events ≡ MOST_GENERATED) ⊎ ((left ≡ 0) × ((t : ℕ) → t < length s.locals → (local_of s t).pc ≡ 0))
 
 -- what stands between two turns, with the answers that are still to come
 pub record Progress : Type 0 where

@@ -2,7 +2,7 @@
 use Rattle.std.specs.Prelude.{◌≡◌, ℕ, ◌<◌, ◌≤◌, ◌⊎◌, Bool, true, false, List, [], ◌∷◌, length, count_by, flat_map, replicate}
 use Rattle.std.specs.List.{AllByRecursion}
 use Rattle.lset_words.specs.declared.TheConstants.{MOST_THREADS, MOST_QUOTA}
-use Rattle.lset_schedule.specs.declared.TheConstants.{MOST_EVENTS}
+use Rattle.lset_schedule.specs.declared.TheConstants.{MOST_GENERATED}
 use Rattle.lset_words.specs.declared.fault.LayoutFault.{LayoutFault}
 use Rattle.lset_words.specs.declared.fault.LayoutFault.TheVariants as layout
 use Rattle.lset_words.specs.Words.{IsWithin, key_of}
@@ -49,7 +49,7 @@ pub record IsGenerated (T : Table) (threads quota calls keys : ℕ) (lines : Lis
   pub few : count_by is_begin lines ≤ calls
   -- with one thread all calls were begun and have ended, or the events are as many as a schedule may have
   pub alone : threads ≡ 1
-      → (length lines ≡ MOST_EVENTS)
+      → (length lines ≡ MOST_GENERATED)
       ⊎ ((count_by is_begin lines ≡ calls) × NoneOpenAfter T threads quota (events_of_lines lines) 0)
 
 -- what is refused by the limits of a layout

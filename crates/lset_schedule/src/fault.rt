@@ -23,7 +23,7 @@ pub enum Cause {
     Event,
     /// A thread or a key is no number up to 4294967295, or the steps are no number from 1 to 10000.
     Number,
-    /// The events up to and with this line are more than 10,000.
+    /// The events up to and with this line are more than 1,000,000.
     TooMany,
     /// The line has bytes and no newline.
     NotEnded,

@@ -8,7 +8,7 @@ ghost use Rattle.lset_schedule.specs.GeneratorTurns.{HasOpenCall, IsIdle, IsNext
 use crate::draws::draw_call;
 use crate::fault::GenFault;
 use crate::value::{Line, Schedule};
-use crate::{MOST_EVENTS, MOST_TURNS};
+use crate::{MOST_GENERATED, MOST_TURNS};
 use lset_steps::{Event, Machine, World};
 use lset_words::{Layout, layout};
 use rand_core::{Rng, SeedableRng};
@@ -54,7 +54,7 @@ fn is_over<M: Machine>(world: &World<M>, threads: u32, events: usize, left: u32)
     requires locals { length world.now.state.locals ≡ threads }
     ensures { IsTrue result ↔ IsOver world.now.state events left }
 {
-    if events == MOST_EVENTS as usize {
+    if events == MOST_GENERATED as usize {
         return true;
     }
     left == 0 && !has_open_call(world, threads)
@@ -101,7 +101,7 @@ fn generated_lines<M: Machine, R: Rng>(
 ) -> Result<Vec<Line>, AllocError>
     requires { 0 < keys }
     ensures made { IfOk result (λ v. IsGenerated M.table layout.threads layout.quota calls keys v.items) }
-    ensures few { IfOk result (λ v. length v.items ≤ MOST_EVENTS) }
+    ensures few { IfOk result (λ v. length v.items ≤ MOST_GENERATED) }
     ensures drawn { IfOk result (λ v. AreDrawn M.table layout.threads keys MOST_TURNS
         (before_turns layout.threads layout.quota calls (R.stream rng.old)) v.items) }
 {

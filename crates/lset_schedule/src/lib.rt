@@ -21,10 +21,13 @@ const TITLE: &str = "listset-schedule 1";
 
 /// The most events of a schedule, the steps of a `go` line counted one by one. (This project's own limit, as
 /// are those below.)
-pub const MOST_EVENTS: u32 = 10_000;
+pub const MOST_EVENTS: u32 = 1_000_000;
 
 /// The most steps of one `go` line.
 pub const MOST_STEPS: u32 = 10_000;
+
+/// The most events of a generated schedule.
+pub const MOST_GENERATED: u32 = 10_000;
 
 /// The most turns of the generator of schedules.
 pub const MOST_TURNS: u32 = 100_000;

@@ -23,7 +23,7 @@ impl Line {
     }
 }
 
-/// A schedule of at most 10,000 events: the kind of list, its threads, 1 to 64, the slots of each, 0 to
+/// A schedule of at most 1,000,000 events: the kind of list, its threads, 1 to 64, the slots of each, 0 to
 /// 16,384, and its lines. The number of a thread in a line may be any `u32`.
 #[derive(Debug, Drop)]
 pub struct Schedule {

@@ -2,6 +2,8 @@
 #![tactic(auto)]
 
 #[cfg(test)]
+mod changes;
+#[cfg(test)]
 mod coarse;
 #[cfg(test)]
 mod fine;
@@ -13,6 +15,8 @@ mod history;
 mod lazy;
 #[cfg(test)]
 mod lock_free;
+#[cfg(test)]
+mod long_runs;
 #[cfg(test)]
 mod marked;
 #[cfg(test)]

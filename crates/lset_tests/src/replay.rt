@@ -343,10 +343,10 @@ fn the_largest_table(rt: HostRuntime) -> Result<(), Fail> {
     Ok(())
 }
 
-/// As many events as there may be: 1,428 adds to a lock-free list, each of a key below all others, which takes 6 steps,
+/// Ten thousand events: 1,428 adds to a lock-free list, each of a key below all others, which takes 6 steps,
 /// and one that finds its thread without a slot after 3.
 #[test]
-fn as_many_events_as_there_may_be(rt: HostRuntime) -> Result<(), Fail> {
+fn ten_thousand_events(rt: HostRuntime) -> Result<(), Fail> {
     let header = "list lock-free\nthreads 1\nquota 1428\n";
     let mut text = format!(in rt.alloc(); "listset-schedule 1\n{header}")?;
     let mut want = format!(in rt.alloc(); "listset-report 1\n{header}")?;

@@ -110,7 +110,6 @@ fn first_faults_of_the_events(rt: HostRuntime) -> Result<(), Fail> {
         ("go  0 1\n", 5, Cause::Event),
         ("begin 0 add 5", 5, Cause::NotEnded),
         ("begin 0 add 5\ngo 0 7", 6, Cause::NotEnded),
-        ("begin 0 add 5\ngo 0 10000\n", 6, Cause::TooMany),
     ];
     for (events, line, cause) in rows {
         let text = format!(in rt.alloc(); "{HEAD}{events}")?;
@@ -131,18 +130,18 @@ fn one_step_lines(alloc: Global, events: u32) -> Result<String, AllocError> {
 }
 
 #[test]
-fn ten_thousand_events_are_read_and_no_more(rt: HostRuntime) -> Result<(), Fail> {
-    let text = one_step_lines(rt.alloc(), 10_000)?;
+fn a_million_lines_of_one_step_are_read_and_no_more(rt: HostRuntime) -> Result<(), Fail> {
+    let text = one_step_lines(rt.alloc(), 1_000_000)?;
     let schedule = read_schedule(rt.alloc(), text.as_bytes())?;
-    assert_eq!(rt; schedule.lines.len(), 10_000);
+    assert_eq!(rt; schedule.lines.len(), 1_000_000);
     let written = write_schedule(rt.alloc(), &schedule)?;
     assert!(rt; written.as_slice() == text.as_bytes());
-    let one_more = one_step_lines(rt.alloc(), 10_001)?;
+    let one_more = one_step_lines(rt.alloc(), 1_000_001)?;
     let found = read_schedule(rt.alloc(), one_more.as_bytes()).err();
     assert_eq!(rt;
         found,
         Some(ScheduleFault {
-            line: 10_005,
+            line: 1_000_005,
             cause: Cause::TooMany
         })
     );

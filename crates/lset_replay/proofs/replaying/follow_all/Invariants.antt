@@ -1,6 +1,18 @@
+use Rattle.std.proofs.Common.{◌≡◌, ◌+◌, length, take}
+use Rattle.lset_replay.specs.Events.{events_from}
 use Rattle.lset_replay.specs.Follows.{HasFollowed}
 use Rattle.lset_replay.proofs.replaying.follow_all.Given as goal
 
+-- the events of the lines so far have been followed
 abbrev pub invariant-loop-index : goal.invariant-loop-index
-invariant-loop-index g l = HasFollowed g.M.Machine.table l.initial.world.threads l.initial.world.quota l.events l.index
-    l.world l.recorder
+invariant-loop-index g l = record {
+  count : l.moment ≡ length (events_from 5 (take l.index l.lines));
+  followed : HasFollowed g.M.Machine.table l.fn.world.threads l.fn.world.quota (events_from 5 l.lines) l.moment l.world l.recorder;
+}
+
+-- and some of the next line
+abbrev pub invariant-loop-done : goal.invariant-loop-done
+invariant-loop-done g l = record {
+  count : l.moment ≡ length (events_from 5 (take l.index l.lines)) + l._done;
+  followed : HasFollowed g.M.Machine.table l.fn.world.threads l.fn.world.quota (events_from 5 l.lines) l.moment l.world l.recorder;
+}

@@ -14,12 +14,12 @@ returns-in-Some-answer-clause-trace c =
       | in-Some+in_ok-change-in-Go w ↦ (let i = w.in-Some.is in rw (w.self-is, i)
           (changed_trace c.args.self.now w.change.new.self c.args.moment c.in-Go.thread w.in-Some.key w.in-Some.present
           w.in_ok-change-in-Go.ensures.history
-          w.in_ok-change-in-Go.ensures.under_way w.in_ok-change-in-Go.ensures.places w.in_ok-change-in-Go.ensures.keys))
+          w.in_ok-change-in-Go.ensures.under_way w.in_ok-change-in-Go.ensures.places w.in_ok-change-in-Go.ensures.changes))
       | in_default w ↦ (let i = w.in_default.is in rw (w.self-is, i) refl)
     ] in
     let last : trace_of c.end.new.self ≡ ended_on c.args.moment c.in-Go.thread (Some c.in-Some-answer.reply)
     (trace_of c.match-told.self) =
     ended_trace c.match-told.self c.end.new.self c.args.moment c.in-Go.thread c.in-Some-answer.reply c.end.ensures.history
-    c.end.ensures.under_way c.end.ensures.places c.end.ensures.keys in
+    c.end.ensures.under_way c.end.ensures.places c.end.ensures.changes in
     rw (c.in-Go.is, c.in-Some-answer.is) (last ∙ ap (λ (s : Trace). ended_on c.args.moment c.in-Go.thread
     (Some c.in-Some-answer.reply) s) middle)

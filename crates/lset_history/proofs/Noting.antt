@@ -1,0 +1,90 @@
+-- What the map of changes holds after one more change.
+use Rattle.std.proofs.Common.{◌≡◌, ℕ, ◌+◌, ◌<◌, ◌⊎◌, inl, inr, Bool, true, false, List, [], ◌∷◌, ◌++◌, length, get_or, map, sym, refl, subst, ap, ◌∙◌, arith}
+use Rattle.std.specs.Prelude.{All, ◌==◌, Option, Some, None, Vec, if◌then◌else◌}
+use Rattle.std.specs.declared.alloc.Global.{Global}
+use Rattle.std.specs.Ordering.{nat_cmp, is_eq}
+use Rattle.std.specs.Option.{option_map}
+use Rattle.std.specs.Map.{lookup, set_value}
+use Rattle.std.specs.BTreeMap.{BTreeMap, get, is_at, UpdatesBy}
+use Rattle.std.specs.List.Sorted.{IsStrictlyIncreasing}
+use Rattle.std.proofs.lemmas.Map.Made.{lookup-map_values}
+use Rattle.std.proofs.lemmas.List.{get_or_push, get_or_append_left, length_push}
+use Rattle.std.proofs.lemmas.List.Elements.{All-get_or}
+use mathlib.Core.Bool.{cond}
+use Rattle.lset_words.proofs.Numbers.{same_number}
+use Rattle.lset_history.specs.Changes.{ChangesValue, changes_in, moments_in, moments_of, with_change, IsLaterThanAll, Rise}
+use Rattle.lset_history.proofs.KeySets.{same_test}
+
+abbrev pub Kept : Type 0
+Kept = BTreeMap ℕ (Vec ℕ Global)
+
+abbrev pub items_in : Option (Vec ℕ Global) → List ℕ
+items_in None = []
+items_in (Some v) = v.items
+
+items_mapped : (o : Option (Vec ℕ Global)) → moments_in (option_map (λ (v : Vec ℕ Global). v.items) o) ≡ items_in o
+items_mapped None = refl
+items_mapped (Some v) = refl
+
+pub kept_moments : (m : Kept) (k : ℕ) → moments_of (changes_in m) k ≡ items_in (get nat_cmp m k)
+kept_moments m k = ap moments_in (lookup-map_values (λ (v : Vec ℕ Global). v.items) (is_at (nat_cmp k)) m.entries)
+    ∙ items_mapped (get nat_cmp m k)
+
+-- the key has these moments now
+pub noted_map : (m n : Kept) (key at : ℕ) (w : Vec ℕ Global) → UpdatesBy nat_cmp (nat_cmp key) m n (Some w)
+    → w.items ≡ items_in (get nat_cmp m key) ++ at ∷ []
+    → (k : ℕ) → moments_of (changes_in n) k ≡ with_change (moments_of (changes_in m)) key at k
+noted_map m n key at w up is k = kept_moments n k ∙ ap items_in (up.0 k) ∙ by_test (k == key) refl
+  where
+    by_test : (b : Bool) → (k == key) ≡ b → items_in (cond (is_eq (nat_cmp key k)) (Some w) (get nat_cmp m k))
+        ≡ (if b then moments_of (changes_in m) k ++ at ∷ [] else moments_of (changes_in m) k)
+    by_test true e = ap (λ z. items_in (cond z (Some w) (get nat_cmp m k))) (sym (same_test key k) ∙ e) ∙ is
+        ∙ ap (λ z. items_in (get nat_cmp m z) ++ at ∷ []) (sym (same_number k key e))
+        ∙ ap (λ z. z ++ at ∷ []) (sym (kept_moments m k))
+    by_test false e = ap (λ z. items_in (cond z (Some w) (get nat_cmp m k))) (sym (same_test key k) ∙ e)
+        ∙ sym (kept_moments m k)
+
+rises_more : (ms : List ℕ) (at : ℕ) → IsStrictlyIncreasing ms → All (λ m. m < at) ms → IsStrictlyIncreasing (ms ++ at ∷ [])
+rises_more ms at rise later k below =
+    let long : length (ms ++ at ∷ []) ≡ length ms + 1 = length_push ms at in
+    elim (last_or_before k (length ms) (omega arith)) [
+      | inl e ↦ (let a : get_or (ms ++ at ∷ []) (k + 1) 0 ≡ at = get_or_push ms at 0 (k + 1) (sym e) in
+          let b : get_or (ms ++ at ∷ []) k 0 ≡ get_or ms k 0 = get_or_append_left ms (at ∷ []) 0 k (omega arith) in
+          let c : get_or ms k 0 < at = All-get_or (λ m. m < at) ms k 0 (omega arith) later in
+          omega arith)
+      | inr l ↦ (let a : get_or (ms ++ at ∷ []) (k + 1) 0 ≡ get_or ms (k + 1) 0 = get_or_append_left ms (at ∷ []) 0 (k + 1) l in
+          let b : get_or (ms ++ at ∷ []) k 0 ≡ get_or ms k 0 = get_or_append_left ms (at ∷ []) 0 k (omega arith) in
+          let c : get_or ms k 0 < get_or ms (k + 1) 0 = rise k l in
+          omega arith)
+    ]
+  where
+    last_or_before : (k n : ℕ) → k + 1 < n + 1 → (k + 1 ≡ n) ⊎ (k + 1 < n)
+    last_or_before k n l = grind arith
+
+pub rise_noted : (c d : ChangesValue) (key at : ℕ) → Rise c → IsLaterThanAll (moments_of c) at
+    → ((k : ℕ) → moments_of d k ≡ with_change (moments_of c) key at k) → Rise d
+rise_noted c d key at rise later is k = subst (λ z. IsStrictlyIncreasing z) (sym (is k)) (by_test (k == key))
+  where
+    by_test : (b : Bool) → IsStrictlyIncreasing (if b then moments_of c k ++ at ∷ [] else moments_of c k)
+    by_test true = rises_more (moments_of c k) at (rise k) (later.1 k)
+    by_test false = rise k
+
+-- a value written back with the same items
+abbrev pub shown : List (ℕ × Vec ℕ Global) → List (ℕ × List ℕ)
+shown es = map (λ (e : ℕ × Vec ℕ Global). (e.0, e.1.items)) es
+
+some_same : (a b : Vec ℕ Global) → Some a ≡ Some b → a ≡ b
+some_same a b e = cc
+
+same_by : (b : Bool) (x : ℕ × Vec ℕ Global) (es rest : List (ℕ × Vec ℕ Global)) (v w : Vec ℕ Global) (o : Option (Vec ℕ Global))
+    → cond b (Some x.1) o ≡ Some v → w.items ≡ v.items → (o ≡ Some v → shown rest ≡ shown es)
+    → shown (cond b ((x.0, w) ∷ es) (x ∷ rest)) ≡ shown (x ∷ es)
+same_by true x es rest v w o e f g =
+    ap (λ z. (x.0, z) ∷ shown es) (f ∙ ap (λ (z : Vec ℕ Global). z.items) (sym (some_same x.1 v e)))
+same_by false x es rest v w o e f g = ap (λ z. (x.0, x.1.items) ∷ z) (g e)
+
+pub same_items : (test : ℕ → Bool) (es : List (ℕ × Vec ℕ Global)) (v w : Vec ℕ Global) → lookup test es ≡ Some v → w.items ≡ v.items
+    → shown (set_value test es w) ≡ shown es
+same_items test [] v w e f = refl
+same_items test (x ∷ es) v w e f =
+    same_by (test x.0) x es (set_value test es w) v w (lookup test es) e f (λ g. same_items test es v w g f)

@@ -1,0 +1,16 @@
+use Rattle.std.proofs.Common.{◌-◌, ◌≤◌, ◌<◌, ◌^◌, ℕ, length}
+use Rattle.std.specs.Prelude.{slice_index}
+use Rattle.lset_history.proofs.changes.count_upto.Given as goal
+
+-- the count lies from `low` to `high`, and a look halves what is between them
+abbrev pub invariant-loop-low : goal.invariant-loop-low
+invariant-loop-low l = record {
+  inside : l.high ≤ length l.moments;
+  ordered : l.low ≤ l.high;
+  upto : (i : ℕ) → i < l.low → slice_index l.moments i ≤ l.at;
+  past : (i : ℕ) → l.high ≤ i → i < length l.moments → l.at < slice_index l.moments i;
+  looked : (b : ℕ) → b ≤ 64 → length l.moments < 2 ^ b → (l.looked ≤ b) × (l.high - l.low < 2 ^ (b - l.looked));
+}
+
+abbrev pub decreases-loop-low : goal.decreases-loop-low
+decreases-loop-low l = l.high - l.low

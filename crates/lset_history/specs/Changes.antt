@@ -1,0 +1,64 @@
+-- When keys were put in and taken out, and the first moment at which a key is there, or is not.
+use Rattle.std.specs.Prelude.{ℕ, ◌<◌, ◌≤◌, ◌==◌, length, map, slice_index, nat_lt, Bool, false, not, if◌then◌else◌, List, [], ◌∷◌, ◌++◌, All, Option, Some, None, Vec}
+use Rattle.std.specs.declared.alloc.Global.{Global}
+use Rattle.std.specs.List.Sorted.{IsStrictlyIncreasing}
+use Rattle.std.specs.Ordering.{nat_cmp}
+use Rattle.std.specs.Map.{lookup}
+use Rattle.std.specs.BTreeMap.{BTreeMap, is_at}
+
+-- each key that was ever put in, with the moments at which it was put in and taken out, in turn, from the earliest on
+pub record ChangesValue : Type 0 where
+  pub entries : List (ℕ × List ℕ)
+
+abbrev pub no_changes : ChangesValue
+no_changes = record { entries = [] }
+
+abbrev pub moments_in : Option (List ℕ) → List ℕ
+moments_in None = []
+moments_in (Some ms) = ms
+
+abbrev pub moments_of : ChangesValue → ℕ → List ℕ
+moments_of c key = moments_in (lookup (is_at (nat_cmp key)) c.entries)
+
+-- whether a key is there at a moment, where it was there (`present`) or not before all these changes of it
+abbrev pub state_at : Bool → List ℕ → ℕ → Bool
+state_at present [] moment = present
+state_at present (m ∷ ms) moment = if nat_lt moment m then present else state_at (not present) ms moment
+
+-- the same after all of them
+abbrev pub state_after : Bool → List ℕ → Bool
+state_after present [] = present
+state_after present (m ∷ ms) = state_after (not present) ms
+
+-- by the changes of each key
+abbrev pub is_present : (ℕ → List ℕ) → ℕ → ℕ → Bool
+is_present changes key moment = state_at false (changes key) moment
+
+abbrev pub is_present_now : (ℕ → List ℕ) → ℕ → Bool
+is_present_now changes key = state_after false (changes key)
+
+-- the moment is above 0 and above every moment noted
+abbrev pub IsLaterThanAll : (ℕ → List ℕ) → ℕ → Type 0
+IsLaterThanAll changes moment = (0 < moment) × ((key : ℕ) → All (λ m. m < moment) (changes key))
+
+-- one more change of a key
+abbrev pub with_change : (ℕ → List ℕ) → ℕ → ℕ → ℕ → List ℕ
+with_change changes key moment k = if k == key then changes k ++ moment ∷ [] else changes k
+
+-- THE FIRST MOMENT from `first` to `last` at which a fact holds, or none
+abbrev pub IsFirst : (ℕ → Type 0) → ℕ → ℕ → Option ℕ → Type 0
+IsFirst P first last None = (m : ℕ) → first ≤ m → m ≤ last → P m → ⊥
+IsFirst P first last (Some k) = (first ≤ k) × (k ≤ last) × P k × ((m : ℕ) → first ≤ m → m < k → P m → ⊥)
+
+-- what is kept
+abbrev pub changes_in : BTreeMap ℕ (Vec ℕ Global) → ChangesValue
+changes_in kept = record { entries = map (λ (e : ℕ × Vec ℕ Global). (e.0, e.1.items)) kept.entries }
+
+abbrev pub Rise : ChangesValue → Type 0
+Rise c = (key : ℕ) → IsStrictlyIncreasing (moments_of c key)
+
+-- how many of these moments are not above one, where they rise
+pub record IsCountUpTo (ms : List ℕ) (moment count : ℕ) : Type 0 where
+  pub inside : count ≤ length ms
+  pub upto : (i : ℕ) → i < count → slice_index ms i ≤ moment
+  pub past : (i : ℕ) → count ≤ i → i < length ms → moment < slice_index ms i

@@ -1,0 +1,14 @@
+use Rattle.std.proofs.Common.{◌≡◌, ◌-◌, arith, rules}
+use Rattle.lset_words.specs.Words.{key_of}
+use Rattle.lset_history.specs.Changes.{is_present, moments_of}
+use Rattle.lset_history.proofs.Firsts.{one_first, first_passing_is}
+use Rattle.lset_replay.specs.Trace.{fit, needs_key}
+use Rattle.lset_replay.proofs.recorder.Recorder.fit.Goals as goal
+
+-- what is found is the first moment, and there is one
+pub returns : goal.returns
+returns c = one_first (λ m. is_present (moments_of c.args.self.now.changes) (key_of c.args.made.call).0 m ≡ needs_key c.args.made.call c.args.reply)
+    c.args.made.begun c.args.last _ (fit (moments_of c.args.self.now.changes) c.args.made c.args.reply c.args.last)
+    (search rules)
+    (first_passing_is (needs_key c.args.made.call c.args.reply) (λ m. is_present (moments_of c.args.self.now.changes) (key_of c.args.made.call).0 m)
+    c.args.made.begun (c.args.last - c.args.made.begun) c.args.last (omega arith))
