@@ -1,0 +1,9 @@
+pub mod Stepped
+pub mod Runs
+pub mod Keeps
+pub mod Calls
+pub mod Joins
+pub mod Counts
+pub mod Opens
+pub mod EndOfAll
+pub mod Ending

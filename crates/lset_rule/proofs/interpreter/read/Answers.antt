@@ -1,0 +1,30 @@
+use Rattle.std.proofs.Common.{rules, ◌≡◌, ◌<◌, None}
+use Rattle.lset_words.specs.declared.Call.TheVariants.{Contains}
+use Rattle.lset_words.specs.Words.{target, tail_word}
+use Rattle.lset_rule.proofs.Calls.{first_comes, first_reached, reached, comes_next}
+use Rattle.lset_rule.proofs.Ending.{falls}
+use Rattle.lset_rule.proofs.interpreter.read.Goals as goal
+
+pub next-requires : goal.next-requires
+next-requires g c = let low : target (Contains c.args.key) < tail_word = search rules in
+    first_reached g.M.Machine.table g.met.M.Machine.lawful (Contains c.args.key) low c.args.place.now.me.0 c.args.slots c.resting.result c.begin-begun.result c.requires.idle.1 c.requires.idle.0 c.requires.slots c.resting.ensures c.begin-begun.ensures
+
+pub loop-fed-init : goal.loop-fed-init
+loop-fed-init g c = (
+  first_comes g.M.Machine.table g.met.M.Machine.lawful (Contains c.args.key) c.args.place.now.me.0 c.start_on-seen.result c.start_on-seen.new.place.me.0 c.args.slots c.resting.result c.begin-begun.result c.feed-fed.result
+      c.start_on-seen.ensures.starts c.requires.slots c.resting.ensures c.begin-begun.ensures c.feed-fed.ensures,
+  c.start_on-seen.ensures.place,
+)
+
+pub next-requires-in-loop-fed : goal.next-requires-in-loop-fed
+next-requires-in-loop-fed g c = let none : c.loop-fed.fed.answer ≡ None = search rules in
+    reached g.M.Machine.table g.met.M.Machine.lawful (Contains c.args.key) c.args.place.now.me.0 c.loop-fed.place.me.0 c.loop-fed.fed c.requires.idle.0.0 c.loop-fed.invariant.0 none
+
+pub loop-fed-smaller : goal.loop-fed-smaller
+loop-fed-smaller g c = let T = g.M.Machine.table in
+    let none : c.loop-fed.fed.answer ≡ None = search rules in
+    let v = c.args.place.now.me.0 in
+    let w = c.loop-fed.place.me.0 in
+    let w' = c.step_on-seen.new.place.me.0 in
+    falls T g.met.M.Machine.lawful g.met.M.OpenReads.reads c.args.key c.step_on-seen.result v w w' c.loop-fed.fed c.feed-fed-in-loop-fed.result c.requires.idle.0.0 c.loop-fed.invariant.0 none
+    (comes_next T (Contains c.args.key) v w c.loop-fed.fed c.step_on-seen.result w' c.feed-fed-in-loop-fed.result c.loop-fed.invariant.0 none c.step_on-seen.ensures.goes c.feed-fed-in-loop-fed.ensures) c.step_on-seen.ensures.goes

@@ -1,0 +1,83 @@
+-- THE RUN OF A LIST OF EVENTS, computed from the opening state event by event: its last state, and of each thread what it holds then (its
+-- registers), its call under way and its ended calls, with the numbers of their events. The first event has the number 1.
+use Rattle.std.specs.Prelude.{◌≡◌, ℕ, zero, suc, ◌+◌, ◌==◌, if◌then◌else◌, List, [], ◌∷◌, ◌++◌, length, Option, Some, None}
+use Rattle.lset_words.specs.declared.Reply.{Reply}
+use Rattle.lset_words.specs.declared.history.CallRecord.{CallRecord}
+use Rattle.lset_words.specs.Log.{Log, Entry, history_at}
+use Rattle.lset_words.specs.Log.Entry.{began, stepped}
+use Rattle.lset_steps.specs.declared.Local.{Local}
+use Rattle.lset_steps.specs.declared.Event.{Event}
+use Rattle.lset_steps.specs.Steps.{Table, State, Run, state_at, event_at, local_of, log_of}
+use Rattle.lset_rule.specs.declared.view.OwnCall.{OwnCall}
+use Rattle.lset_rule.specs.declared.view.Under.{Under}
+use Rattle.lset_rule.specs.declared.view.Shape.{Shape}
+
+-- the list begins with these events
+abbrev pub StartsWith : List Event → List Event → Type 0
+StartsWith log seen = (rest : List Event) × (log ≡ seen ++ rest)
+
+-- a thread: its registers, its call under way and its ended calls
+pub record Here : Type 0 where
+  pub local : Local
+  pub under : Option Under
+  pub done : List OwnCall
+
+abbrev pub here : Local → Option Under → List OwnCall → Here
+here l u d = record { local = l; under = u; done = d }
+
+-- the call under way, once it has answered r at event n
+abbrev pub own : Under → Reply → ℕ → OwnCall
+own u r n = record { call = u.call; reply = r; begun = u.begun; ended = n }
+
+-- the call under way after a step that answered, or did not
+abbrev pub under_after : Option Reply → Option Under → Option Under
+under_after (Some r) u = None
+under_after None None = None
+under_after None (Some u) = Some (record u { steps = u.steps + 1 })
+
+-- the call that ends at event n, if one does
+abbrev pub ending : Option Reply → Option Under → ℕ → List OwnCall
+ending (Some r) (Some u) n = own u r n ∷ []
+ending (Some r) None n = []
+ending None u n = []
+
+-- THE CALLS OF A THREAD in a log: the one under way, with the number of its Begin and the count of its steps, and the ended ones.
+-- under_next and done_next: after event n, from what was before it
+abbrev pub under_next : ℕ → Entry → ℕ → Option Under → Option Under
+under_next n (began u c) t before = if u == t then Some (record { call = c; begun = n; steps = 0 }) else before
+under_next n (stepped u change answer) t before = if u == t then under_after answer before else before
+
+abbrev pub done_next : ℕ → Entry → ℕ → Option Under → List OwnCall → List OwnCall
+done_next n (began u c) t open_now before = before
+done_next n (stepped u change answer) t open_now before = if u == t then before ++ ending answer open_now n else before
+
+-- after the first k events
+abbrev pub under_at : Log → ℕ → ℕ → Option Under
+under_at log t zero = None
+under_at log t (suc k) = under_next (suc k) (log k) t (under_at log t k)
+
+abbrev pub done_at : Log → ℕ → ℕ → List OwnCall
+done_at log t zero = []
+done_at log t (suc k) = done_next (suc k) (log k) t (under_at log t k) (done_at log t k)
+
+-- a thread after the first k events of a run
+abbrev pub here_at : Table → ℕ → ℕ → (ℕ → Event) → ℕ → ℕ → Here
+here_at T n q es t k = here (local_of (state_at T n q es k) t) (under_at (log_of T n q es) t k) (done_at (log_of T n q es) t k)
+
+-- THE SAME OF A LIST OF EVENTS, of a set with this many threads and slots: its log, its last state, each thread at its end, and that it is
+-- a run (each event may come where it comes)
+abbrev pub log_by : Table → Shape → List Event → Log
+log_by T k es = log_of T k.threads k.quota (event_at es)
+
+abbrev pub end_of : Table → Shape → List Event → State
+end_of T k es = state_at T k.threads k.quota (event_at es) (length es)
+
+abbrev pub at_end : Table → Shape → List Event → ℕ → Here
+at_end T k es t = here_at T k.threads k.quota (event_at es) t (length es)
+
+abbrev pub IsRunOf : Table → Shape → List Event → Type 0
+IsRunOf T k es = Run T k.threads k.quota (event_at es) (length es)
+
+-- what the run of these events shows
+abbrev pub history_of : Table → Shape → List Event → List CallRecord
+history_of T k es = history_at (log_by T k es) (length es)

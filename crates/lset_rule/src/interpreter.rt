@@ -1,0 +1,126 @@
+//! Whole calls on the shared words, made step by step as the machine's table says.
+ghost use Rattle.std.specs.Prelude.{◌≡◌};
+ghost use Rattle.lset_words.specs.declared.Call.TheVariants.{Contains};
+ghost use Rattle.lset_rule.specs.Views.{IsIdle, Stands};
+ghost use Rattle.lset_rule.specs.Calls.{Makes};
+ghost use Rattle.lset_rule.specs.Seats.{IsOf, IsSeat};
+ghost use Rattle.lset_rule.specs.Slots.{slots_of};
+
+use crate::slots::Slots;
+use crate::word_steps::{Place, Words, start_on, step_on};
+use crossbeam_utils::Backoff;
+use lset_steps::{Action, Machine, OpenReads};
+use lset_words::{Call, Key, Reply};
+use std::marker::Brand;
+use std::sync::Wait;
+
+/// What a call does between two steps of its own. No contract rests on it: it sees no word and no seat, and changes how
+/// long a call takes and nothing else.
+pub trait Pause {
+    /// Asked after each step that does not answer. `thread` is the number of the caller's thread, and `failed` says that
+    /// the step was an exchange that found another value than it looked for, as at a lock that is taken.
+    fn moved(&self, thread: u32, failed: bool);
+}
+
+/// Backs off after each failed exchange, longer each time: `Backoff` of `crossbeam_utils`, which spins at first and then
+/// yields the processor. One is made for each call.
+#[derive(Drop)]
+pub struct Spin {
+    backoff: Backoff,
+}
+
+impl Spin {
+    /// A pause to which nothing has failed yet.
+    pub fn new() -> Spin {
+        Spin {
+            backoff: Backoff::new(),
+        }
+    }
+}
+
+impl Pause for Spin {
+    fn moved(&self, _thread: u32, failed: bool) {
+        if failed {
+            self.backoff.snooze();
+        }
+    }
+}
+
+/// Whether the step was an exchange that was not made.
+fn has_failed(action: Action, seen: u64) -> bool {
+    match action {
+        Action::Exchange(_, old, _) => seen != old,
+        _ => false,
+    }
+}
+
+/// Makes a whole call, step by step, and waits where the list does, as at a lock.
+///
+/// `place` is the place of an idle seat of these words, and `slots` are those of its thread, as the last call left them.
+/// The answer is the slots as this call leaves them, and the reply. `pause` is asked after each step that does
+/// not answer.
+///
+/// Nothing is said about when a call returns: if it does, it was a call of the machine, begun after all that the place had
+/// seen, and the record of the place grew by it and its reply.
+pub fn walk<M: Machine, R: Wait, P: Pause>(
+    rt: &R,
+    table: &Words<M>,
+    place: &mut Place,
+    slots: Slots,
+    call: Call,
+    pause: &P,
+) -> (Slots, Reply)
+    requires place { IsOf table.now.table_id table.now.key place.old }
+    requires idle { IsIdle place.old.me.0 × Stands M.table place.old.me.0 }
+    requires slots { slots ≡ slots_of place.old.me.0.local }
+    ensures place { IsSeat place.old place.new }
+    ensures slots { result.0 ≡ slots_of place.new.me.0.local }
+    ensures made { Makes M.table call place.old.me.0 result.1 place.new.me.0 }
+{
+    let begun = M::begin(call, &slots.resting());
+    let action = M::next(&begun);
+    let seen = start_on::<M, Brand>(table, place, call, action);
+    let mut fed = M::feed(&begun, seen);
+    let mut failed = has_failed(action, seen);
+    for _ in rt.forever() {
+        if let Some(reply) = fed.answer {
+            return (Slots::of(&fed.local), reply);
+        }
+        pause.moved(fed.local.thread, failed);
+        let action = M::next(&fed.local);
+        let seen = step_on::<M>(table, place, action);
+        fed = M::feed(&fed.local, seen);
+        failed = has_failed(action, seen);
+    }
+    unreachable!()
+}
+
+/// Makes a whole `contains` of `key`, step by step, that waits for nobody and returns: for the lists whose walk meets each
+/// node at most once (`OpenReads`), which are those that mark nodes before they unlink them.
+///
+/// `place`, `slots` and the answer are as those of [`walk`].
+pub fn read<M: OpenReads>(
+    table: &Words<M>,
+    place: &mut Place,
+    slots: Slots,
+    key: Key,
+) -> (Slots, Reply)
+    requires place { IsOf table.now.table_id table.now.key place.old }
+    requires idle { IsIdle place.old.me.0 × Stands M.table place.old.me.0 }
+    requires slots { slots ≡ slots_of place.old.me.0.local }
+    ensures place { IsSeat place.old place.new }
+    ensures slots { result.0 ≡ slots_of place.new.me.0.local }
+    ensures made { Makes M.table (Contains key) place.old.me.0 result.1 place.new.me.0 }
+{
+    let call = Call::Contains(key);
+    let begun = M::begin(call, &slots.resting());
+    let seen = start_on::<M, Brand>(table, place, call, M::next(&begun));
+    let mut fed = M::feed(&begun, seen);
+    loop {
+        if let Some(reply) = fed.answer {
+            return (Slots::of(&fed.local), reply);
+        }
+        let seen = step_on::<M>(table, place, M::next(&fed.local));
+        fed = M::feed(&fed.local, seen);
+    }
+}

@@ -1,0 +1,22 @@
+//! The rule of a list on shared words, for every machine (`lset_steps::Machine`): between any two moves of the threads
+//! there is a list of events whose run ends with the words of the table, and each seat has seen the first events of it.
+//!
+//! `rule` states it for the table of words, `view` is what a seat knows, `word_steps` are the steps that a call makes,
+//! and `interpreter` makes whole calls of them. Its definitions stand in specs/: `Pasts`, `Runs`, `Views`, `Rule`,
+//! `Calls`, `Seats`, to be read in this order.
+#![tactic(auto)]
+
+mod interpreter;
+mod rule;
+mod slots;
+mod view;
+mod word_steps;
+
+pub use interpreter::{Pause, Spin, read, walk};
+pub use rule::{Asking, Cutting, Follows, Learning, Onward, Starting, Taking};
+pub use slots::Slots;
+pub use view::{Aside, OwnCall, Past, Shape, Under, View};
+pub use word_steps::{
+    Place, Words, exchange_first, exchange_on, load_first, load_on, start_on, step_on, store_first,
+    store_on,
+};
