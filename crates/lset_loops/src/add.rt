@@ -1,0 +1,106 @@
+//! The `add` of LockFreeList, as Herlihy and Shavit write it.
+ghost use Rattle.std.specs.Prelude.{◌≡◌, false};
+ghost use Rattle.lset_words.specs.declared.Call.TheVariants.{Add};
+ghost use Rattle.lset_words.specs.Words.{key_word_of, target};
+ghost use Rattle.lset_lock_free.specs.LockFree.{lock_free};
+ghost use Rattle.lset_rule.specs.Views.{IsIdle, Stands};
+ghost use Rattle.lset_rule.specs.Calls.{Makes};
+ghost use Rattle.lset_rule.specs.Seats.{IsOf, IsSeat};
+ghost use Rattle.lset_rule.specs.Slots.{slots_of};
+ghost use Rattle.lset_loops.specs.Standing.{AtPutting, HasAnswered, HasPutIn};
+
+use crate::walk::{Origin, Window, find, restart, start};
+use lset_lock_free::LockFreeList;
+use lset_rule::{Pause, Place, Slots, Words, exchange_on, store_on};
+use lset_steps::rows::{key_index, link_index};
+use lset_words::{Call, Key, Reply, slot_node};
+use std::marker::Brand;
+use std::sync::Wait;
+
+/// Writes the key and the link of the thread's next slot, and puts it in behind `pred`. Answers whether it could: not where
+/// the link of `pred` has changed.
+fn put_in<O: Origin, P: Pause>(
+    table: &Words<LockFreeList>,
+    place: &mut Place,
+    slots: Slots,
+    key: Key,
+    window: Window,
+    pause: &P,
+) -> bool
+    requires place { IsOf table.now.table_id table.now.key place.old }
+    requires seat { O.from.spent ≡ false }
+    requires slots { slots ≡ slots_of O.from.local }
+    requires key { key_word_of key ≡ target O.call }
+    requires at { AtPutting O.call O.from window place.old.me.0 }
+    ensures place { IsSeat place.old place.new }
+    ensures put { HasPutIn O.call O.from result place.new.me.0 }
+{
+    let node = slot_node(slots.quota, slots.thread, slots.used);
+    store_on::<LockFreeList>(table, place, key_index(node), key.word());
+    pause.moved(slots.thread, false);
+    let before = 2 * window.curr;
+    store_on::<LockFreeList>(table, place, link_index(node), before);
+    pause.moved(slots.thread, false);
+    let seen = exchange_on::<LockFreeList>(table, place, link_index(window.pred), before, 2 * node);
+    seen == before
+}
+
+fn add_from<O: Origin, R: Wait, P: Pause>(
+    rt: &R,
+    table: &Words<LockFreeList>,
+    place: &mut Place,
+    slots: Slots,
+    key: Key,
+    pause: &P,
+) -> (Slots, Reply)
+    requires place { IsOf table.now.table_id table.now.key place.old }
+    requires idle { IsIdle place.old.me.0 × Stands lock_free place.old.me.0 }
+    requires from { O.from ≡ place.old.me.0 }
+    requires call { O.call ≡ Add key }
+    requires slots { slots ≡ slots_of O.from.local }
+    ensures place { IsSeat place.old place.new }
+    ensures answered { HasAnswered O.call O.from result.1 result.0 place.new.me.0 }
+{
+    let mut window = start::<O>(table, place, Call::Add(key));
+    for _ in rt.forever() {
+        let found = find::<O, R, P>(rt, table, place, slots.thread, key, window, pause);
+        if found.word == key.word() {
+            return (slots, Reply::False);
+        }
+        if slots.used >= slots.quota {
+            return (slots, Reply::Full);
+        }
+        pause.moved(slots.thread, false);
+        if put_in::<O, P>(table, place, slots, key, found.window, pause) {
+            let used = slots.used + 1;
+            return (Slots { used, ..slots }, Reply::True);
+        }
+        pause.moved(slots.thread, true);
+        window = restart::<O>(table, place);
+    }
+    unreachable!()
+}
+
+/// Makes a whole `add` of `key` to a LockFreeList: it walks to the first key that is not below its own, and puts its next
+/// slot in before it, or starts over where the link has changed. (Herlihy and Shavit's lock-free `add`.)
+///
+/// `place` is the place of an idle seat of these words, and `slots` are those of its thread. The answer is the slots as the
+/// call leaves them, and the reply. `pause` is asked after each step that does not answer. Nothing is said about when the
+/// call returns.
+pub fn add_on<R: Wait, P: Pause>(
+    rt: &R,
+    table: &Words<LockFreeList>,
+    place: &mut Place,
+    slots: Slots,
+    key: Key,
+    pause: &P,
+) -> (Slots, Reply)
+    requires place { IsOf table.now.table_id table.now.key place.old }
+    requires idle { IsIdle place.old.me.0 × Stands lock_free place.old.me.0 }
+    requires slots { slots ≡ slots_of place.old.me.0.local }
+    ensures place { IsSeat place.old place.new }
+    ensures slots { result.0 ≡ slots_of place.new.me.0.local }
+    ensures made { Makes lock_free (Add key) place.old.me.0 result.1 place.new.me.0 }
+{
+    add_from::<Brand, R, P>(rt, table, place, slots, key, pause)
+}

@@ -1,0 +1,115 @@
+//! A `contains`, as Herlihy and Shavit write it.
+ghost use Rattle.std.specs.Prelude.{◌≡◌, ◌%◌, ◌==◌, if◌then◌else◌};
+ghost use Rattle.lset_words.specs.declared.Call.TheVariants.{Contains};
+ghost use Rattle.lset_words.specs.declared.Reply.TheVariants.{True, False};
+ghost use Rattle.lset_steps.specs.RowLaws.{HasReading};
+ghost use Rattle.lset_rule.specs.Views.{IsIdle, Stands};
+ghost use Rattle.lset_rule.specs.Calls.{Makes};
+ghost use Rattle.lset_rule.specs.Seats.{IsOf, IsSeat};
+ghost use Rattle.lset_rule.specs.Slots.{slots_of};
+ghost use Rattle.lset_lazy.proofs.Rows.{lazy_rows};
+ghost use Rattle.lset_lock_free.proofs.Rows.{lock_free_rows};
+
+use lset_lazy::LazyList;
+use lset_lock_free::LockFreeList;
+use lset_rule::{Pause, Place, Slots, Words, load_first, load_on};
+use lset_steps::OpenReads;
+use lset_steps::rows::{key_index, link_index};
+use lset_words::{Call, Key, Reply};
+use std::marker::Brand;
+use std::sync::Wait;
+
+const HEAD: u64 = 0;
+
+/// A list whose `contains` has the rows 20 to 22 of `lset_steps`.
+pub trait ReadsByRows: OpenReads {
+    ghost reading: { HasReading Self.table };
+}
+
+impl ReadsByRows for LazyList {
+    ghost reading = { lazy_rows.reading };
+}
+
+impl ReadsByRows for LockFreeList {
+    ghost reading = { lock_free_rows.reading };
+}
+
+/// What the link word of the node with the key says: a node without a mark is in the set.
+fn reply_by_mark(link: u64) -> Reply
+    ensures { result ≡ (if link % 2 == 0 then True else False) }
+{
+    if link % 2 == 0 {
+        Reply::True
+    } else {
+        Reply::False
+    }
+}
+
+/// Makes a whole `contains` of `key`: it goes on to the first key that is not below its own, and asks for the mark of a node
+/// that has it. (Herlihy and Shavit's wait-free `contains`.)
+///
+/// `place` is the place of an idle seat of these words, and `slots` are those of its thread. The answer is the slots and the
+/// reply. `pause` is asked after each step that does not answer. Nothing is said about when the call returns.
+pub fn contains_on<M: ReadsByRows, R: Wait, P: Pause>(
+    rt: &R,
+    table: &Words<M>,
+    place: &mut Place,
+    slots: Slots,
+    key: Key,
+    pause: &P,
+) -> (Slots, Reply)
+    requires place { IsOf table.now.table_id table.now.key place.old }
+    requires idle { IsIdle place.old.me.0 × Stands M.table place.old.me.0 }
+    requires slots { slots ≡ slots_of place.old.me.0.local }
+    ensures place { IsSeat place.old place.new }
+    ensures slots { result.0 ≡ slots_of place.new.me.0.local }
+    ensures made { Makes M.table (Contains key) place.old.me.0 result.1 place.new.me.0 }
+{
+    let target = key.word();
+    let mut link = load_first::<M, Brand>(table, place, Call::Contains(key), link_index(HEAD));
+    for _ in rt.forever() {
+        pause.moved(slots.thread, false);
+        let curr = link / 2;
+        let word = load_on::<M>(table, place, key_index(curr));
+        if word > target {
+            return (slots, Reply::False);
+        }
+        pause.moved(slots.thread, false);
+        if word == target {
+            let bit = load_on::<M>(table, place, link_index(curr));
+            return (slots, reply_by_mark(bit));
+        }
+        link = load_on::<M>(table, place, link_index(curr));
+    }
+    unreachable!()
+}
+
+/// The same, which waits for nobody and asks nobody, and returns.
+pub fn contains_now_on<M: ReadsByRows>(
+    table: &Words<M>,
+    place: &mut Place,
+    slots: Slots,
+    key: Key,
+) -> (Slots, Reply)
+    requires place { IsOf table.now.table_id table.now.key place.old }
+    requires idle { IsIdle place.old.me.0 × Stands M.table place.old.me.0 }
+    requires slots { slots ≡ slots_of place.old.me.0.local }
+    ensures place { IsSeat place.old place.new }
+    ensures slots { result.0 ≡ slots_of place.new.me.0.local }
+    ensures made { Makes M.table (Contains key) place.old.me.0 result.1 place.new.me.0 }
+{
+    let target = key.word();
+    let mut link = load_first::<M, Brand>(table, place, Call::Contains(key), link_index(HEAD));
+    loop {
+        let curr = link / 2;
+        let word = load_on::<M>(table, place, key_index(curr));
+        if word > target {
+            return (slots, Reply::False);
+        }
+        if word == target {
+            let mark = load_on::<M>(table, place, link_index(curr));
+            return (slots, reply_by_mark(mark));
+        }
+        link = load_on::<M>(table, place, link_index(curr));
+    }
+}

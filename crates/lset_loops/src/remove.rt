@@ -1,0 +1,119 @@
+//! The `remove` of LockFreeList, as Herlihy and Shavit write it.
+ghost use Rattle.std.specs.Prelude.{◌≡◌, false};
+ghost use Rattle.lset_words.specs.declared.Call.TheVariants.{Remove};
+ghost use Rattle.lset_words.specs.declared.Reply.TheVariants.{True};
+ghost use Rattle.lset_lock_free.specs.LockFree.{lock_free};
+ghost use Rattle.lset_rule.specs.Views.{IsIdle, Stands};
+ghost use Rattle.lset_rule.specs.Calls.{Makes};
+ghost use Rattle.lset_rule.specs.Seats.{IsOf, IsSeat};
+ghost use Rattle.lset_rule.specs.Slots.{slots_of};
+ghost use Rattle.lset_loops.specs.Standing.{AtTakingOut, AtUnlinking, HasAnswered, HasTakenOut};
+
+use crate::walk::{Origin, Window, find, restart, start};
+use lset_lock_free::LockFreeList;
+use lset_rule::{Pause, Place, Slots, Words, exchange_on, load_on};
+use lset_steps::rows::link_index;
+use lset_words::{Call, Key, Reply};
+use std::marker::Brand;
+use std::sync::Wait;
+
+/// Tries once to take the marked node `curr` out; where that fails, a walk will.
+fn unlink<O: Origin>(table: &Words<LockFreeList>, place: &mut Place, window: Window, succ: u64)
+    requires place { IsOf table.now.table_id table.now.key place.old }
+    requires seat { O.from.spent ≡ false }
+    requires at { AtUnlinking O.call O.from window succ place.old.me.0 }
+    ensures place { IsSeat place.old place.new }
+    ensures ends { HasAnswered O.call O.from True (slots_of O.from.local) place.new.me.0 }
+{
+    let after = 2 * succ;
+    exchange_on::<LockFreeList>(
+        table,
+        place,
+        link_index(window.pred),
+        2 * window.curr,
+        after,
+    );
+}
+
+/// Marks the node `curr`, and tries to take it out. Answers whether it could mark it: not where its link has changed.
+fn mark<O: Origin, P: Pause>(
+    table: &Words<LockFreeList>,
+    place: &mut Place,
+    thread: u32,
+    window: Window,
+    pause: &P,
+) -> bool
+    requires place { IsOf table.now.table_id table.now.key place.old }
+    requires seat { O.from.spent ≡ false }
+    requires at { AtTakingOut O.call O.from window place.old.me.0 }
+    ensures place { IsSeat place.old place.new }
+    ensures marked { HasTakenOut O.call O.from result place.new.me.0 }
+{
+    let own_link = link_index(window.curr);
+    let link = load_on::<LockFreeList>(table, place, own_link);
+    pause.moved(thread, false);
+    let succ = link / 2;
+    let unmarked = 2 * succ;
+    let seen = exchange_on::<LockFreeList>(table, place, own_link, unmarked, unmarked + 1);
+    if seen != unmarked {
+        return false;
+    }
+    pause.moved(thread, false);
+    unlink::<O>(table, place, window, succ);
+    true
+}
+
+fn remove_from<O: Origin, R: Wait, P: Pause>(
+    rt: &R,
+    table: &Words<LockFreeList>,
+    place: &mut Place,
+    slots: Slots,
+    key: Key,
+    pause: &P,
+) -> (Slots, Reply)
+    requires place { IsOf table.now.table_id table.now.key place.old }
+    requires idle { IsIdle place.old.me.0 × Stands lock_free place.old.me.0 }
+    requires from { O.from ≡ place.old.me.0 }
+    requires call { O.call ≡ Remove key }
+    requires slots { slots ≡ slots_of O.from.local }
+    ensures place { IsSeat place.old place.new }
+    ensures answered { HasAnswered O.call O.from result.1 result.0 place.new.me.0 }
+{
+    let mut window = start::<O>(table, place, Call::Remove(key));
+    for _ in rt.forever() {
+        let found = find::<O, R, P>(rt, table, place, slots.thread, key, window, pause);
+        if found.word != key.word() {
+            return (slots, Reply::False);
+        }
+        pause.moved(slots.thread, false);
+        if mark::<O, P>(table, place, slots.thread, found.window, pause) {
+            return (slots, Reply::True);
+        }
+        pause.moved(slots.thread, true);
+        window = restart::<O>(table, place);
+    }
+    unreachable!()
+}
+
+/// Makes a whole `remove` of `key` from a LockFreeList: it walks to the first key that is not below its own, marks the node
+/// that has it, or starts over where the link has changed, and tries once to take it out. (Herlihy and Shavit's lock-free
+/// `remove`.)
+///
+/// The arguments and the answer are as those of [`crate::add_on`].
+pub fn remove_on<R: Wait, P: Pause>(
+    rt: &R,
+    table: &Words<LockFreeList>,
+    place: &mut Place,
+    slots: Slots,
+    key: Key,
+    pause: &P,
+) -> (Slots, Reply)
+    requires place { IsOf table.now.table_id table.now.key place.old }
+    requires idle { IsIdle place.old.me.0 × Stands lock_free place.old.me.0 }
+    requires slots { slots ≡ slots_of place.old.me.0.local }
+    ensures place { IsSeat place.old place.new }
+    ensures slots { result.0 ≡ slots_of place.new.me.0.local }
+    ensures made { Makes lock_free (Remove key) place.old.me.0 result.1 place.new.me.0 }
+{
+    remove_from::<Brand, R, P>(rt, table, place, slots, key, pause)
+}
