@@ -1,0 +1,150 @@
+ghost use Rattle.std.specs.Prelude.{◌≡◌, All, IfSome};
+
+use lset_coarse::CoarseList;
+use lset_fine::FineList;
+use lset_lazy::LazyList;
+use lset_live::{LiveSet, Running, Seat, open};
+use lset_lock_free::LockFreeList;
+use lset_optimistic::OptimisticList;
+use lset_rule::Spin;
+use lset_words::{Call, Key, Reply};
+use std::alloc::{AllocError, Global};
+use std::process::Abort;
+use std::sync::Wait;
+use std::sync::atomic::{AtomicU64, Ordering};
+use std::test::Fail;
+use std::thread;
+use std::thread::Threads;
+
+/// How many keys there are.
+const KEYS: u64 = 24;
+
+/// How many calls each seat makes.
+const CALLS: u32 = 1000;
+
+/// The next of a row of numbers (Knuth's linear congruence).
+fn next_number(number: u64) -> u64 {
+    number
+        .wrapping_mul(6_364_136_223_846_793_005)
+        .wrapping_add(1_442_695_040_888_963_407)
+}
+
+fn drawn_call(number: u64) -> Call {
+    let key = Key((number >> 40) as u32 % KEYS as u32);
+    match (number >> 33) % 3 {
+        0 => Call::Add(key),
+        1 => Call::Remove(key),
+        _ => Call::Contains(key),
+    }
+}
+
+/// Counts how often a key was put in and not taken out.
+fn note(counts: &[AtomicU64], call: Call, reply: Reply) {
+    if reply != Reply::True {
+        return;
+    }
+    match call {
+        Call::Add(key) => {
+            if let Some(count) = counts.get(key.0 as usize) {
+                count.fetch_add(1, Ordering::SeqCst);
+            }
+        }
+        Call::Remove(key) => {
+            if let Some(count) = counts.get(key.0 as usize) {
+                count.fetch_sub(1, Ordering::SeqCst);
+            }
+        }
+        Call::Contains(_) => {}
+    }
+}
+
+/// A seat makes its calls.
+fn make_calls<M: Running, R: Wait>(
+    rt: &R,
+    set: &LiveSet<M>,
+    counts: &[AtomicU64],
+    seat: &mut Seat<M>,
+)
+    requires { seat.old.set ≡ set.now }
+    ensures { seat.new.set ≡ set.now }
+{
+    let mut number = u64::from(seat.thread());
+    for _ in 0..CALLS {
+        number = next_number(number);
+        let call = drawn_call(number);
+        let reply = set.call(rt, seat, call, &Spin::new());
+        note(counts, call, reply);
+    }
+}
+
+/// The seats make their calls, each in a thread.
+fn make_all_calls<M: Running + Send + Sync, R: Threads + Wait + Sync>(
+    rt: &R,
+    set: &LiveSet<M>,
+    counts: &[AtomicU64],
+    seats: &mut [Seat<M>],
+)
+    requires { All (λ s. s.set ≡ set.now) seats.old }
+    ensures { All (λ s. s.set ≡ set.now) seats.new }
+{
+    thread::for_each_mut(
+        rt,
+        seats,
+        8,
+        &|_, seat: &mut Seat<M>|
+            requires { seat.now.set ≡ set.now }
+            ensures { seat.exit.now.set ≡ set.entry.now }
+        { make_calls(rt, set, counts, seat) },
+    );
+}
+
+fn gathered<M: Running>(set: &LiveSet<M>, mut seats: Vec<Seat<M>>) -> Option<Seat<M>>
+    requires { All (λ s. s.set ≡ set.now) seats.items }
+    ensures { IfSome result (λ s. s.set ≡ set.now) }
+{
+    let mut all = None;
+    while let Some(seat) = seats.pop() {
+        all = Some(set.gather_onto(all, seat));
+    }
+    all
+}
+
+fn no_counts(alloc: Global) -> Result<Vec<AtomicU64>, AllocError> {
+    let mut counts = Vec::new(alloc);
+    for _ in 0..KEYS {
+        counts.push(AtomicU64::new(0))?;
+    }
+    Ok(counts)
+}
+
+/// A key is left exactly where it was put in once more than it was taken out.
+fn leaves_what_was_added<M: Running + Send + Sync, R: Threads + Wait + Abort + Sync>(
+    rt: &R,
+    alloc: Global,
+) -> Result<(), Fail> {
+    let (set, mut seats) = open::<M>(alloc, 8, CALLS)?;
+    let counts = no_counts(alloc)?;
+    make_all_calls(rt, &set, &counts, seats.as_mut_slice());
+    let Some(all) = gathered(&set, seats) else {
+        return Err(Fail::new("no seat"));
+    };
+    assert_eq!(rt; all.held(), 8);
+    let Ok(closed) = set.close(all) else {
+        return Err(Fail::new("the set is not closed"));
+    };
+    let keys = closed.keys()?;
+    for (key, count) in (0..).zip(&counts) {
+        let wanted = u64::from(keys.contains(&key));
+        assert_eq!(rt; count.load(Ordering::SeqCst), wanted);
+    }
+    Ok(())
+}
+
+#[test]
+fn a_thousand_calls_of_each_of_eight_seats(rt: HostRuntime) -> Result<(), Fail> {
+    leaves_what_was_added::<CoarseList, HostRuntime>(&rt, rt.alloc())?;
+    leaves_what_was_added::<FineList, HostRuntime>(&rt, rt.alloc())?;
+    leaves_what_was_added::<OptimisticList, HostRuntime>(&rt, rt.alloc())?;
+    leaves_what_was_added::<LazyList, HostRuntime>(&rt, rt.alloc())?;
+    leaves_what_was_added::<LockFreeList, HostRuntime>(&rt, rt.alloc())
+}

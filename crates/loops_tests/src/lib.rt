@@ -1,0 +1,7 @@
+//! Plain loops beside the interpreter: the same programs, on one thread.
+#![tactic(auto)]
+
+#[cfg(test)]
+mod compared;
+#[cfg(test)]
+mod stepwise;

@@ -1,0 +1,178 @@
+-- What a seat has seen is explained by an order of calls that keeps its record.
+use Rattle.std.proofs.Common.{◌≡◌, ⊎_elim, inl, ℕ, suc, ◌+◌, ◌<◌, ◌==◌, Bool, true, false, cond, List, [], ◌∷◌, ◌++◌, map, length, Option, Some, None, refl, sym, ap, ◌∙◌, subst, arith, append-nil, append_assoc}
+use Rattle.std.specs.Prelude.{if◌then◌else◌}
+use Rattle.std.proofs.lemmas.List.{map-append}
+use mathlib.Core.Option.{some}
+use lib.ListN.{get_elem?}
+use Rattle.lset_words.proofs.Numbers.{equal_test}
+use Rattle.lset_words.specs.declared.Key.{Key}
+use Rattle.lset_words.specs.declared.Call.{Call}
+use Rattle.lset_words.specs.declared.Call.TheVariants.{Contains}
+use Rattle.lset_words.specs.declared.Reply.{Reply}
+use Rattle.lset_words.specs.declared.Reply.TheVariants.{True, False, Full}
+use Rattle.lset_words.specs.declared.history.CallRecord.{CallRecord}
+use Rattle.lset_words.specs.declared.history.Placed.{Placed}
+use Rattle.lset_words.specs.History.{Precedes, answered, call_numbered, no_call}
+use Rattle.lset_words.specs.SequentialSet.{SetState, Answered, IsLegal, empty_set, reply_to, after_call, has_key}
+use Rattle.lset_history.proofs.Histories.{IsPart, part_of}
+use Rattle.lset_headline.specs.Headline.{ExplainsRun, RunsAreLinearizable}
+use Rattle.lset_steps.specs.declared.Event.{Event}
+use Rattle.lset_steps.specs.declared.Event.TheVariants.{Begin, Go}
+use Rattle.lset_steps.specs.Steps.{Table, State, Enabled, state_at, event_at, local_of, entry_of}
+use Rattle.lset_steps.specs.Laws.{Lawful}
+use Rattle.lset_rule.specs.declared.view.OwnCall.{OwnCall}
+use Rattle.lset_rule.specs.declared.view.Under.{Under}
+use Rattle.lset_rule.specs.declared.view.Aside.{Aside}
+use Rattle.lset_rule.specs.declared.view.Shape.{Shape}
+use Rattle.lset_rule.specs.declared.view.Past.{Past}
+use Rattle.lset_rule.specs.declared.view.View.{View}
+use Rattle.lset_rule.specs.Pasts.{calls_of, root}
+use Rattle.lset_rule.specs.Runs.{Here, log_by, at_end, IsRunOf, history_of}
+use Rattle.lset_rule.specs.Views.{Stands, AreIdle, HasAside, HasThread}
+use Rattle.lset_rule.specs.Calls.{Makes}
+use Rattle.lset_rule.proofs.Stepped.{Tied, tied}
+use Rattle.lset_live.specs.Records.{Keeps, called, thread_of}
+use Rattle.lset_live.specs.Dated.{call_of, record_of}
+use Rattle.lset_live.specs.Explained.{IsAnswered, IsExplained}
+use Rattle.lset_live.specs.Seats.{reply_of, is_true}
+use Rattle.lset_live.proofs.Dated.{root_is, said_by}
+use Rattle.lset_live.proofs.Histories.{of_thread, ended_record, thread_records, MayBegin, thread_calls}
+use Rattle.lset_live.proofs.Orders.{keeps}
+
+-- a thread that begins a call has none under way
+may_begin : (T : Table) (s : State) (e : Event) (u : ℕ) (o : Option Under) → Tied o (local_of s u) → Enabled s e → MayBegin (entry_of T s e) u o
+may_begin T s (Begin t c) u None ti en = λ is. refl
+may_begin T s (Begin t c) u (Some x) ti en = λ is. absurd (ti.0 (ap (λ z. (local_of s z).pc) (sym is) ∙ en.1))
+may_begin T s (Go t) u o ti en = tt
+
+-- the calls of a thread of a run of events
+calls_of_thread : (T : Table) (law : Lawful T) (k : Shape) (es : List Event) → IsRunOf T k es → (u : ℕ) → u < k.threads
+    → of_thread u (history_of T k es) ≡ thread_records u (at_end T k es u).done (at_end T k es u).under
+calls_of_thread T law k es r u low = thread_calls (log_by T k es) u (length es)
+    (λ j l. may_begin T (state_at T k.threads k.quota (event_at es) j) (event_at es j) u _ (tied T law k.threads k.quota (event_at es) (length es) r u j low (omega arith)) (r.enabled j l)) (length es) (omega arith)
+
+-- a further thread of a view is idle, and its calls are those of the record
+aside_idle : (w : ℕ → Here) (t : ℕ) (r : Past) (os : List Aside) → AreIdle w t r os → (u : ℕ) → HasAside os u → ((w u).under ≡ None) × ((w u).done ≡ calls_of u r)
+aside_idle w t r [] a u h = absurd h
+aside_idle w t r (o ∷ os) a u h = ⊎_elim
+    (λ (e : u ≡ o.thread). subst (λ z. ((w z).under ≡ None) × ((w z).done ≡ calls_of z r)) (sym e) (ap (λ (x : Here). x.under) a.1, ap (λ (x : Here). x.done) a.1))
+    (λ x. aside_idle w t r os a.3 u x) h
+
+module _ (T : Table) (law : Lawful T) (v : View) (st : Stands T v) (idle : v.under ≡ None) where
+  at_rest : (u : ℕ) → HasThread v u → ((at_end T v.shape v.seen u).under ≡ None) × ((at_end T v.shape v.seen u).done ≡ calls_of u v.past)
+  at_rest u h = ⊎_elim
+      (λ (e : u ≡ v.thread). subst (λ z. ((at_end T v.shape v.seen z).under ≡ None) × ((at_end T v.shape v.seen z).done ≡ calls_of z v.past)) (sym e)
+      (ap (λ (x : Here). x.under) st.own ∙ idle, ap (λ (x : Here). x.done) st.own))
+      (λ x. aside_idle (at_end T v.shape v.seen) v.thread v.past v.others st.others u x) h
+
+  -- what the history has of a thread of the view
+  pub own : (u : ℕ) → HasThread v u → of_thread u (history_of T v.shape v.seen) ≡ map (ended_record u) (calls_of u v.past)
+  own u h = let a = at_rest u h in calls_of_thread T law v.shape v.seen st.ran u (st.in_range u h)
+      ∙ ((λ i. thread_records u (a.1 i) (a.0 i)) ∙ append-nil (map (ended_record u) (calls_of u v.past)))
+
+  module _ (linear : RunsAreLinearizable T) where
+    abbrev pub order : List Placed
+    order = (linear v.shape.threads v.shape.quota (length v.seen) (event_at v.seen) st.ran).0
+
+    pub explains : ExplainsRun T v.shape.threads v.shape.quota (event_at v.seen) (length v.seen) order
+    explains = (linear v.shape.threads v.shape.quota (length v.seen) (event_at v.seen) st.ran).1
+
+    pub part : IsPart v.shape.threads [] (history_of T v.shape v.seen)
+    part = part_of v.shape.threads [] (history_of T v.shape v.seen) explains.history
+
+    -- the calls of one thread, one after the other
+    pub turns : (i j : ℕ) → i < j → j < length (history_of T v.shape v.seen)
+        → (call_numbered (history_of T v.shape v.seen) i).thread ≡ (call_numbered (history_of T v.shape v.seen) j).thread
+        → Precedes (call_numbered (history_of T v.shape v.seen) i) (call_numbered (history_of T v.shape v.seen) j)
+    turns i j lt l same = (part.pairs i j no_call lt l).none_open same
+
+    pub kept : Keeps (map (answered (history_of T v.shape v.seen)) order) (record_of v.past)
+    kept = keeps v.shape.quota (empty_set v.shape.threads) (history_of T v.shape v.seen) order explains.linearizes turns
+        (λ u. calls_of u v.past) v.past st.apart st.ordered (λ u h. own u (st.named u h)) (λ u. refl)
+
+    pub explained : IsExplained T v.shape v.seen (record_of v.past)
+    explained = record { run = st.ran; order = order; linearizes = explains.linearizes; keeps = kept }
+
+pub made_explained : (T : Table) (law : Lawful T) → RunsAreLinearizable T → (c : Call) (v : View) (r : Reply) (w : View) → Makes T c v r w
+    → IsExplained T w.shape w.seen (record_of w.past)
+made_explained T law linear c v r w m = explained T law w m.stands m.idle linear
+
+-- THE CALL IN THE HISTORY
+abbrev head_of : CallRecord → List CallRecord → CallRecord
+head_of d [] = d
+head_of d (x ∷ xs) = x
+
+abbrev tail_of : List CallRecord → List CallRecord
+tail_of [] = []
+tail_of (x ∷ xs) = xs
+
+-- the last call of a thread has a number in the history
+last_numbered : (u : ℕ) (H xs : List CallRecord) (y : CallRecord) → of_thread u H ≡ xs ++ y ∷ [] → (n : ℕ) × (get_elem? H n ≡ some y)
+last_numbered u [] [] y e = let l = ap length e in absurd (omega arith)
+last_numbered u [] (x ∷ xs) y e = let l = ap length e in absurd (omega arith)
+last_numbered u (h ∷ H) xs y e = by_test (h.thread == u) xs (λ ys e'. last_numbered u H ys y e') e
+  where
+    next : (n : ℕ) × (get_elem? H n ≡ some y) → (n : ℕ) × (get_elem? (h ∷ H) n ≡ some y)
+    next (n, at) = (suc n, at)
+
+    by_test : (b : Bool) (ys : List CallRecord) → ((zs : List CallRecord) → of_thread u H ≡ zs ++ y ∷ [] → (n : ℕ) × (get_elem? H n ≡ some y))
+        → cond b (h ∷ of_thread u H) (of_thread u H) ≡ ys ++ y ∷ [] → (n : ℕ) × (get_elem? (h ∷ H) n ≡ some y)
+    by_test false ys rest e = next (rest ys e)
+    by_test true [] rest e = (0, ap some (ap (head_of h) e))
+    by_test true (x ∷ ys) rest e = next (rest ys (ap tail_of e))
+
+module _ (T : Table) (law : Lawful T) (c : Call) (v : View) (r : Reply) (w : View) (m : Makes T c v r w) where
+  abbrev made : OwnCall
+  made = record { call = c; reply = r; begun = length m.log + 1; ended = length w.seen }
+
+  rooted : root v.past ≡ w.thread
+  rooted = sym (ap root m.past) ∙ m.stands.of_thread
+
+  calls_now : of_thread w.thread (history_of T w.shape w.seen) ≡ map (ended_record w.thread) (calls_of w.thread v.past) ++ ended_record w.thread made ∷ []
+  calls_now = own T law w m.stands m.idle w.thread (inl refl)
+      ∙ (ap (λ p. map (ended_record w.thread) (calls_of w.thread p)) m.past
+      ∙ (ap (λ b. map (ended_record w.thread) (calls_of w.thread v.past ++ cond b (made ∷ []) [])) (equal_test w.thread (root v.past) (sym rooted))
+      ∙ map-append (ended_record w.thread) (calls_of w.thread v.past) (made ∷ [])))
+
+  entry : (n : ℕ) × (get_elem? (history_of T w.shape w.seen) n ≡ some (ended_record w.thread made))
+  entry = last_numbered w.thread (history_of T w.shape w.seen) (map (ended_record w.thread) (calls_of w.thread v.past)) (ended_record w.thread made) calls_now
+
+  pub made_answered : IsAnswered T w.shape (thread_of (record_of v.past)) c r v.seen w.seen
+  made_answered = subst (λ t. IsAnswered T w.shape t c r v.seen w.seen) (sym (root_is v.past ∙ rooted)) record {
+    others = m.before.0;
+    since = m.between;
+    is = m.seen ∙ (ap (λ l. l ++ Go v.thread ∷ []) (append_assoc m.log (Begin v.thread c ∷ []) m.between)
+        ∙ (λ i. m.before.1 i ++ Begin (sym m.same.2 i) c ∷ m.between ++ Go (sym m.same.2 i) ∷ []));
+    number = entry.0;
+    call = entry.1 ∙ ap (λ l. some (record { thread = w.thread; call = c; begun = length l + 1; ended = Some (length w.seen, r) })) m.before.1;
+  }
+
+-- A `contains` never answers Full.
+abbrev NotFull : Reply → Type 0
+NotFull Full = ⊥
+NotFull True = Unit {0}
+NotFull False = Unit {0}
+
+legal_at : (q : ℕ) (s : SetState) (xs : List Answered) (a : Answered) (ys : List Answered) → IsLegal q s (xs ++ a ∷ ys) → (z : SetState) × (reply_to q z a.thread a.call ≡ a.reply)
+legal_at q s [] a ys l = (s, l.0)
+legal_at q s (x ∷ xs) a ys l = legal_at q (after_call s x.thread x.call x.reply) xs a ys l.1
+
+not_full : (b : Bool) → (if b then True else False) ≡ Full → ⊥
+not_full true e = subst (λ r. NotFull r) e tt
+not_full false e = subst (λ r. NotFull r) e tt
+
+read_not_full : (T : Table) (law : Lawful T) → RunsAreLinearizable T → (key : Key) (v w : View) → Makes T (Contains key) v Full w → ⊥
+read_not_full T law linear key v w m =
+    let call : OwnCall = record { call = Contains key; reply = Full; begun = length m.log + 1; ended = length w.seen } in
+    let ex : IsExplained T w.shape w.seen (called (record_of v.past) (call_of call)) =
+    subst (λ p. IsExplained T w.shape w.seen p) (ap record_of m.past) (made_explained T law linear (Contains key) v Full w m) in
+    let at = ex.keeps.1.1 in
+    let l = legal_at w.shape.quota (empty_set w.shape.threads) at.before (said_by (thread_of (record_of v.past)) call) at.after
+    (subst (λ o. IsLegal w.shape.quota (empty_set w.shape.threads) o) at.is ex.linearizes.legal) in
+    not_full (has_key key.0 l.0.keys) l.1
+
+pub as_bool : (T : Table) (law : Lawful T) → RunsAreLinearizable T → (key : Key) (v : View) (r : Reply) (w : View) → Makes T (Contains key) v r w
+    → (b : Bool) → b ≡ is_true r → Makes T (Contains key) v (reply_of b) w
+as_bool T law linear key v True w m b e = subst (λ z. Makes T (Contains key) v (reply_of z) w) (sym e) m
+as_bool T law linear key v False w m b e = subst (λ z. Makes T (Contains key) v (reply_of z) w) (sym e) m
+as_bool T law linear key v Full w m b e = absurd (read_not_full T law linear key v w m)

@@ -1,0 +1,9 @@
+pub mod Records
+pub mod Handing
+mod Dated
+mod Histories
+mod Orders
+mod Explained
+mod Closing
+mod Walking
+pub mod NewSeats

@@ -1,0 +1,45 @@
+-- What is said of a call of a running set, and of sets that were closed.
+use Rattle.std.specs.Prelude.{◌≡◌, ℕ, ◌+◌, ◌<◌, ◌⊎◌, List, [], ◌∷◌, ◌++◌, All, Some, length, map}
+use mathlib.Core.Option.{some}
+use lib.ListN.{get_elem?}
+use Rattle.lset_words.specs.declared.Call.{Call}
+use Rattle.lset_words.specs.declared.Reply.{Reply}
+use Rattle.lset_words.specs.declared.history.Placed.{Placed}
+use Rattle.lset_words.specs.History.{Linearizes, answered}
+use Rattle.lset_words.specs.SequentialSet.{Answered, IsLegal, empty_set, set_left}
+use Rattle.lset_steps.specs.declared.Event.{Event}
+use Rattle.lset_steps.specs.declared.Event.TheVariants.{Begin, Go}
+use Rattle.lset_steps.specs.Steps.{Table}
+use Rattle.lset_rule.specs.declared.view.Shape.{Shape}
+use Rattle.lset_rule.specs.Runs.{IsRunOf, history_of}
+use Rattle.lset_live.specs.Records.{Record, Names, Keeps, calls_by}
+
+-- The call c of thread t answered r: it began after the events that were seen before it, and its answering step is the last of the events
+-- that are seen now.
+pub record IsAnswered (T : Table) (k : Shape) (t : ℕ) (c : Call) (r : Reply) (before after : List Event) : Type 0 where
+  pub others : List Event
+  pub since : List Event
+  pub is : after ≡ (before ++ others) ++ Begin t c ∷ since ++ Go t ∷ []
+  pub number : ℕ
+  pub call : get_elem? (history_of T k after) number ≡ some (record { thread = t; call = c; begun = length (before ++ others) + 1; ended = Some (length after, r) })
+
+-- The events are a run of the machine, and an order of its calls linearizes their history, from the empty set, and keeps the record.
+pub record IsExplained (T : Table) (k : Shape) (events : List Event) (r : Record) : Type 0 where
+  pub run : IsRunOf T k events
+  pub order : List Placed
+  pub linearizes : Linearizes k.quota (empty_set k.threads) (history_of T k events) order
+  pub keeps : Keeps (map (answered (history_of T k events)) order) r
+
+-- some record of the list names the thread
+abbrev pub NamedIn : ℕ → List Record → Type 0
+NamedIn u [] = ⊥
+NamedIn u (r ∷ rs) = Names u r ⊎ NamedIn u rs
+
+-- ONE LEGAL ORDER of calls keeps each of the records, has no other call, and leaves the keys.
+pub record Explains (k : Shape) (records : List Record) (keys : List ℕ) : Type 0 where
+  pub order : List Answered
+  pub legal : IsLegal k.quota (empty_set k.threads) order
+  pub keeps : All (Keeps order) records
+  pub threads : All (λ (a : Answered). a.thread < k.threads) order
+  pub no_other : (u : ℕ) → u < k.threads → ¬ (NamedIn u records) → calls_by u order ≡ []
+  pub leaves : (set_left (empty_set k.threads) order).keys ≡ keys

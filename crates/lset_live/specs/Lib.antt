@@ -1,0 +1,6 @@
+pub mod Records
+pub mod Explained
+pub mod Seats
+pub mod Closes
+pub mod Dated
+pub mod Codes

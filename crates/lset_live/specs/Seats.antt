@@ -1,0 +1,59 @@
+-- What contracts see of a running set and of a seat.
+use Rattle.std.specs.Prelude.{◌≡◌, ◌⊎◌, ◌<◌, ◌≤◌, ℕ, Bool, true, false, List, [], ◌∷◌, Option, Some, None, map}
+use Rattle.std.specs.List.{range_with_len}
+use Rattle.atomic_table.specs.Seated.{TableId}
+use Rattle.lset_words.specs.declared.Reply.{Reply}
+use Rattle.lset_words.specs.declared.Reply.TheVariants.{True, False, Full}
+use Rattle.lset_steps.specs.declared.Event.{Event}
+use Rattle.lset_rule.specs.declared.view.Shape.{Shape}
+use Rattle.lset_live.specs.declared.fault.OpenFault.{OpenFault}
+use Rattle.lset_live.specs.declared.fault.OpenFault.TheVariants as fault
+use Rattle.lset_live.specs.Records.{Record, fresh, gathered}
+
+-- a set: its table, its threads and its quota
+pub record SetValue : Type 0 where
+  pub table : TableId
+  pub shape : Shape
+
+-- a seat: its set, its record, the seats that it holds (itself included), and the events that it has seen. The running program stores
+-- none of these but the count.
+pub record SeatValue : Type 0 where
+  pub set : SetValue
+  pub past : Record
+  pub held : ℕ
+  pub events : List Event
+
+-- the seat of a thread as the set is opened
+abbrev pub new_seat : SetValue → ℕ → SeatValue
+new_seat set t = record { set = set; past = fresh t; held = 1; events = [] }
+
+-- a set that was just opened with these numbers: seat t is that of thread t
+abbrev pub IsOpened : SetValue → ℕ → ℕ → List SeatValue → Type 0
+IsOpened set threads quota seats = (set.shape ≡ record { threads = threads; quota = quota }) × (seats ≡ map (new_seat set) (range_with_len 0 threads))
+
+-- why a set is not opened; want of memory, within the limits, is not told apart
+abbrev pub RefusesSeats : ℕ → ℕ → OpenFault → Type 0
+RefusesSeats seats quota fault.Seats = (seats ≡ 0) ⊎ (64 < seats)
+RefusesSeats seats quota fault.Quota = (0 < seats) × (seats ≤ 64) × (16384 < quota)
+RefusesSeats seats quota fault.Memory = (0 < seats) × (seats ≤ 64) × (quota ≤ 16384)
+
+-- what an answer of `contains_now` counts as
+abbrev pub reply_of : Bool → Reply
+reply_of true = True
+reply_of false = False
+
+abbrev pub is_true : Reply → Bool
+is_true True = true
+is_true False = false
+is_true Full = false
+
+-- the records of some seats, gathered one after the other into the first
+abbrev pub gather_onto : Option Record → List Record → Option Record
+gather_onto r [] = r
+gather_onto None (g ∷ gs) = gather_onto (Some g) gs
+gather_onto (Some r) (g ∷ gs) = gather_onto (Some (gathered r g)) gs
+
+-- the seats that are held by a seat, if there is one
+abbrev pub held_in : Option SeatValue → ℕ
+held_in None = 0
+held_in (Some s) = s.held

@@ -1,0 +1,41 @@
+//! All seats of a set together.
+ghost use Rattle.std.specs.Prelude.{◌≡◌, ◌+◌, ◌<◌, ◌≤◌, ◌↔◌, IfSome, IsTrue, Some, [], ◌∷◌, length, sum_by};
+ghost use Rattle.std.specs.Option.{option_map};
+ghost use Rattle.lset_live.specs.Seats.{gather_onto, held_in};
+
+use crate::running::Running;
+use crate::seat::Seat;
+use crate::set::LiveSet;
+
+impl<M: Running> LiveSet<M> {
+    /// Answers whether the seats hold all seats of the set, as many as there are.
+    pub fn is_held_by(&self, seats: &[Seat<M>]) -> bool
+        ensures all { IsTrue result ↔ (sum_by (λ s. s.held) seats.now ≡ self.now.shape.threads) }
+        ensures few { IsTrue result → (0 < length seats.now) × (length seats.now ≤ 64) }
+    {
+        let most = u64::from(self.seats());
+        let mut total = 0u64;
+        for seat in seats {
+            total += u64::from(seat.held());
+            if total > most {
+                return false;
+            }
+        }
+        total == most
+    }
+
+    /// Gathers a seat into the one that was gathered so far, if there is one.
+    pub fn gather_onto(&self, into: Option<Seat<M>>, from: Seat<M>) -> Seat<M>
+        requires into { IfSome into (λ s. s.set ≡ self.now) }
+        requires from { from.set ≡ self.now }
+        ensures record { Some result.past ≡ gather_onto (option_map (λ s. s.past) into) (from.past ∷ []) }
+        ensures held { result.held ≡ held_in into + from.held }
+        ensures seat { result.set ≡ self.now }
+    {
+        let Some(mut into) = into else {
+            return from;
+        };
+        self.gather(&mut into, from);
+        into
+    }
+}

@@ -1,0 +1,20 @@
+//! Running sets: the words of a list in a table that threads share, one seat for each thread.
+#![tactic(auto)]
+
+mod closed;
+mod fault;
+mod gathering;
+mod opening;
+mod running;
+mod seat;
+mod set;
+mod set_calls;
+
+pub use closed::Closed;
+pub use fault::OpenFault;
+pub use lset_rule::{Pause, Spin};
+pub use opening::open;
+pub use running::{Running, RunningReads};
+pub use seat::Seat;
+pub use set::{LiveSet, SeatsOut};
+pub use set_calls::SetCalls;

@@ -1,0 +1,228 @@
+//! A running set and its calls.
+ghost use Rattle.std.specs.Prelude.{◌≡◌, ◌≢◌, ◌+◌, ◌<◌, ◌≤◌, ℕ, List, [], ◌∷◌, length, IfOk, IfErr};
+ghost use Rattle.lset_words.specs.Words.{word_count};
+ghost use Rattle.lset_words.specs.declared.Call.TheVariants.{Add, Remove, Contains};
+ghost use Rattle.lset_rule.specs.declared.view.Past.{Fresh};
+ghost use Rattle.lset_rule.specs.Views.{IsIdle};
+ghost use Rattle.lset_rule.specs.Seats.{IsOf};
+ghost use Rattle.lset_rule.specs.Runs.{StartsWith};
+ghost use Rattle.lset_rule.specs.Rule.{left_view, right_view};
+ghost use Rattle.lset_live.specs.Closes.{HasKeys, shape_of};
+ghost use Rattle.lset_live.specs.Explained.{Explains, IsAnswered, IsExplained};
+ghost use Rattle.lset_live.specs.Records.{called, gathered, thread_of};
+ghost use Rattle.lset_live.specs.Seats.{is_true, reply_of};
+
+use crate::closed::Closed;
+use crate::running::{Running, RunningReads, call_on};
+use crate::seat::Seat;
+use atomic_table::Table;
+use lset_headline::runs_are_linearizable;
+use lset_rule::{Cutting, Follows, Learning, Pause, Place, Shape, Spin, Taking, View};
+use lset_words::{Call, Key, Reply};
+use std::alloc::Global;
+use std::marker::Model;
+use std::sync::Wait;
+
+/// A running set of the list `M` (Herlihy and Shavit's `Set`, with a quota). Threads share it by `&`, and each calls from
+/// a seat of its own. Contracts see its table, its threads and its quota.
+#[derive(Drop)]
+pub struct LiveSet<M: Running> {
+    pub(crate) table: Table<(), View, Shape, Follows<M>, Global>,
+    pub(crate) threads: u32,
+    pub(crate) quota: u32,
+    pub(crate) alloc: Global,
+    ghost sized: { (table.shared.table_id.words ≡ word_count threads quota) × (table.shared.table_id.slots ≡ 0) },
+    ghost shaped: { table.shared.key ≡ record { threads = threads; quota = quota } },
+    ghost within: { (0 < threads) × (threads ≤ 64) × (quota ≤ 16384) },
+}
+
+impl<M: Running> Model for LiveSet<M> {
+    ghost use Rattle.lset_live.specs.Seats.{SetValue};
+
+    ghost Value = { SetValue };
+
+    ghost view = { λ s. record { table = s.table.shared.table_id; shape = s.table.shared.key } };
+}
+
+/// A set that is not closed, since the seat does not hold all seats.
+#[derive(Drop)]
+pub struct SeatsOut<M: Running> {
+    pub set: LiveSet<M>,
+    pub seat: Seat<M>,
+}
+
+impl<M: Running> LiveSet<M> {
+    /// The number of seats that the set was opened with.
+    pub fn seats(&self) -> u32
+        ensures seats { result ≡ self.now.shape.threads }
+        ensures range { (0 < result) × (result ≤ 64) }
+    {
+        self.threads
+    }
+
+    /// The quota that the set was opened with.
+    pub fn quota(&self) -> u32
+        ensures quota { result ≡ self.now.shape.quota }
+        ensures range { result ≤ 16384 }
+    {
+        self.quota
+    }
+
+    /// Makes the call from the seat, which is one of this set. `pause` is asked after each of its steps but the last.
+    ///
+    /// The seat's record grows by the call with its reply. The call begins after all that the seat had seen, and its
+    /// answering step is the last event that the seat has then seen. One order of the calls of these events linearizes
+    /// their history and keeps the record (Herlihy and Wing). It may wait for the locks of others, and takes no memory.
+    pub fn call<R: Wait, P: Pause>(
+        &self,
+        rt: &R,
+        seat: &mut Seat<M>,
+        call: Call,
+        pause: &P,
+    ) -> Reply
+        requires { seat.old.set ≡ self.now }
+        ensures seat { (seat.new.set ≡ self.now) × (seat.new.held ≡ seat.old.held) }
+        ensures record { seat.new.past ≡ called seat.old.past (record { call = call; reply = result }) }
+        ensures answered { IsAnswered M.table self.now.shape (thread_of seat.old.past) call result seat.old.events seat.new.events }
+        ensures explained { IsExplained M.table self.now.shape seat.new.events seat.new.past }
+    {
+        runs_are_linearizable::<M>();
+        let (slots, reply) = call_on::<M, R, P>(
+            rt,
+            &self.table.shared,
+            &mut seat.place,
+            seat.slots,
+            call,
+            pause,
+        );
+        seat.slots = slots;
+        reply
+    }
+
+    /// Puts the key in, and answers `True`, if it was not there; `Full` where it was not and the thread has used all of its
+    /// slots. As `call` with `Spin`.
+    pub fn add<R: Wait>(&self, rt: &R, seat: &mut Seat<M>, key: Key) -> Reply
+        requires { seat.old.set ≡ self.now }
+        ensures seat { (seat.new.set ≡ self.now) × (seat.new.held ≡ seat.old.held) }
+        ensures record { seat.new.past ≡ called seat.old.past (record { call = Add key; reply = result }) }
+        ensures answered { IsAnswered M.table self.now.shape (thread_of seat.old.past) (Add key) result seat.old.events seat.new.events }
+        ensures explained { IsExplained M.table self.now.shape seat.new.events seat.new.past }
+    {
+        self.call(rt, seat, Call::Add(key), &Spin::new())
+    }
+
+    /// Takes the key out, and answers `True`, if it was there. As `call` with `Spin`.
+    pub fn remove<R: Wait>(&self, rt: &R, seat: &mut Seat<M>, key: Key) -> Reply
+        requires { seat.old.set ≡ self.now }
+        ensures seat { (seat.new.set ≡ self.now) × (seat.new.held ≡ seat.old.held) }
+        ensures record { seat.new.past ≡ called seat.old.past (record { call = Remove key; reply = result }) }
+        ensures answered { IsAnswered M.table self.now.shape (thread_of seat.old.past) (Remove key) result seat.old.events seat.new.events }
+        ensures explained { IsExplained M.table self.now.shape seat.new.events seat.new.past }
+    {
+        self.call(rt, seat, Call::Remove(key), &Spin::new())
+    }
+
+    /// Answers whether the key is there. As `call` with `Spin`.
+    pub fn contains<R: Wait>(&self, rt: &R, seat: &mut Seat<M>, key: Key) -> Reply
+        requires { seat.old.set ≡ self.now }
+        ensures seat { (seat.new.set ≡ self.now) × (seat.new.held ≡ seat.old.held) }
+        ensures record { seat.new.past ≡ called seat.old.past (record { call = Contains key; reply = result }) }
+        ensures answered { IsAnswered M.table self.now.shape (thread_of seat.old.past) (Contains key) result seat.old.events seat.new.events }
+        ensures explained { IsExplained M.table self.now.shape seat.new.events seat.new.past }
+    {
+        self.call(rt, seat, Call::Contains(key), &Spin::new())
+    }
+
+    /// `into` takes `from` in: its record, the seats that it holds, and what it has seen. A call that follows is explained
+    /// with all gathered calls before it.
+    pub fn gather(&self, into: &mut Seat<M>, from: Seat<M>)
+        requires into { into.old.set ≡ self.now }
+        requires from { from.set ≡ self.now }
+        ensures seat { into.new.set ≡ self.now }
+        ensures record { into.new.past ≡ gathered into.old.past from.past }
+        ensures held { into.new.held ≡ into.old.held + from.held }
+        ensures events { StartsWith into.new.events into.old.events × StartsWith into.new.events from.events }
+    {
+        let Seat {
+            place,
+            slots: _,
+            held,
+            of: _,
+        } = from;
+        self.table
+            .shared
+            .join_seat::<Taking>(&mut into.place, place);
+        self.table.shared.load::<Learning<M>>(&mut into.place, 0);
+        into.held += held;
+    }
+
+    /// Closes the set, where the seat holds all seats of it; else `SeatsOut` gives both back unchanged. One legal order of
+    /// calls keeps the seat's record, has no other call, and leaves just the keys that are left.
+    pub fn close(self, seat: Seat<M>) -> Result<Closed, SeatsOut<M>>
+        requires { seat.set ≡ self }
+        ensures all { IfOk result (λ c. seat.held ≡ self.shape.threads) }
+        ensures closed { IfOk result (λ c. (keys : List ℕ) → HasKeys c keys → Explains self.shape (seat.past ∷ []) keys) }
+        ensures out { IfErr result (λ b. (seat.held ≢ self.shape.threads) × (b.set ≡ self) × (b.seat ≡ seat)) }
+    {
+        runs_are_linearizable::<M>();
+        if seat.held != self.threads {
+            return Err(SeatsOut { set: self, seat });
+        }
+        let LiveSet {
+            alloc,
+            table,
+            threads,
+            quota,
+        } = self;
+        let Seat {
+            place,
+            slots: _,
+            held: _,
+            of: _,
+        } = seat;
+        let words = table.close_with(place);
+        Ok(Closed {
+            alloc,
+            words,
+            threads,
+            quota,
+        })
+    }
+
+    pub(crate) fn split_off(&self, place: &mut Place) -> Place
+        requires place { IsOf self.now.table self.now.shape place.old × IsIdle place.old.me.0 }
+        requires fresh { (place.old.me.0.past ≡ Fresh place.old.me.0.thread) × (0 < length place.old.me.0.others) }
+        ensures old { (place.new.table_id ≡ place.old.table_id) × (place.new.id ≡ place.old.id) × (place.new.me ≡ (left_view place.old.me.0, place.old.me.1)) }
+        ensures new { (result.table_id ≡ place.old.table_id) × (result.me ≡ (right_view place.old.me.0, [])) }
+    {
+        self.table.shared.split_seat::<Cutting>(place)
+    }
+}
+
+impl<M: RunningReads> LiveSet<M> {
+    /// Answers whether the key is there, waits for nobody, and takes no memory. It makes at most `bound` steps, each a
+    /// load (`lset_steps::OpenReads`). The answer counts as the reply `True` or `False`.
+    pub fn contains_now(&self, seat: &mut Seat<M>, key: Key) -> bool
+        requires { seat.old.set ≡ self.now }
+        ensures seat { (seat.new.set ≡ self.now) × (seat.new.held ≡ seat.old.held) }
+        ensures record { seat.new.past ≡ called seat.old.past (record { call = Contains key; reply = reply_of result }) }
+        ensures answered { IsAnswered M.table self.now.shape (thread_of seat.old.past) (Contains key) (reply_of result) seat.old.events seat.new.events }
+        ensures explained { IsExplained M.table self.now.shape seat.new.events seat.new.past }
+    {
+        runs_are_linearizable::<M>();
+        let (slots, reply) = M::contains_now_on(
+            &self.table.shared,
+            &mut seat.place,
+            seat.slots,
+            key,
+        );
+        seat.slots = slots;
+        is_true(reply)
+    }
+}
+
+fn is_true(reply: Reply) -> bool
+    ensures { result ≡ is_true reply }
+{
+    matches!(reply, Reply::True)
+}
