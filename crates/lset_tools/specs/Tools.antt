@@ -4,7 +4,7 @@ use Rattle.std.specs.Io.KnownBytes.{Appends, Keeps}
 use Rattle.lset_tools.specs.declared.answer.Answer.{Answer}
 use Rattle.lset_tools.specs.declared.streams.TheConstants.{LONGEST}
 use Rattle.lset_tools.specs.declared.trouble.Trouble.{Trouble}
-use Rattle.lset_tools.specs.declared.trouble.Trouble.TheVariants.{CannotRead, TooLong, CannotWrite, Memory, Line, Bad}
+use Rattle.lset_tools.specs.declared.trouble.Trouble.TheVariants.{CannotRead, TooLong, CannotWrite, Memory, Line, Bad, CannotListen, Work, Serve}
 use Rattle.lset_tools.specs.Trouble.{trouble_text}
 use Rattle.lset_tools.specs.Trouble as trouble
 
@@ -67,3 +67,6 @@ IsInputTrouble bytes CannotWrite = ⊥
 IsInputTrouble bytes Memory = Unit {0}
 IsInputTrouble bytes (Line number cause) = ⊥
 IsInputTrouble bytes (Bad name) = ⊥
+IsInputTrouble bytes CannotListen = ⊥
+IsInputTrouble bytes (Work name) = ⊥
+IsInputTrouble bytes (Serve name) = ⊥

@@ -15,8 +15,12 @@ use Rattle.lset_tools.specs.declared.trouble.LineCause.{LineCause}
 use Rattle.lset_tools.specs.declared.trouble.LineCause.TheVariants as line
 use Rattle.lset_tools.specs.declared.trouble.ValueName.{ValueName}
 use Rattle.lset_tools.specs.declared.trouble.ValueName.TheVariants as value
+use Rattle.lset_tools.specs.declared.trouble.WorkName.{WorkName}
+use Rattle.lset_tools.specs.declared.trouble.WorkName.TheVariants as work
+use Rattle.lset_tools.specs.declared.trouble.ServeName.{ServeName}
+use Rattle.lset_tools.specs.declared.trouble.ServeName.TheVariants as serve
 use Rattle.lset_tools.specs.declared.trouble.Trouble.{Trouble}
-use Rattle.lset_tools.specs.declared.trouble.Trouble.TheVariants.{CannotRead, TooLong, CannotWrite, Memory, Line, Bad}
+use Rattle.lset_tools.specs.declared.trouble.Trouble.TheVariants.{CannotRead, TooLong, CannotWrite, Memory, Line, Bad, CannotListen, Work, Serve}
 
 -- of an input that was not read
 abbrev pub of_input : InputFault → Trouble
@@ -69,6 +73,9 @@ status_of CannotWrite = 1
 status_of Memory = 3
 status_of (Line number cause) = 1
 status_of (Bad name) = 2
+status_of CannotListen = 1
+status_of (Work name) = 1
+status_of (Serve name) = 1
 
 abbrev pub name_of : LineCause → List ℕ
 name_of line.NoThread = codes "NoThread"
@@ -101,6 +108,21 @@ value_word value.Quota = codes "QUOTA"
 value_word value.Calls = codes "CALLS"
 value_word value.Keys = codes "KEYS"
 value_word value.Seed = codes "SEED"
+value_word value.Seats = codes "SEATS"
+value_word value.Port = codes "PORT"
+value_word value.Sessions = codes "SESSIONS"
+
+abbrev pub work_name : WorkName → List ℕ
+work_name work.Programs = codes "Programs"
+work_name work.Spawn = codes "Spawn"
+work_name work.Gate = codes "Gate"
+
+abbrev pub serve_name : ServeName → List ℕ
+serve_name serve.Seats = codes "Seats"
+serve_name serve.Accept = codes "Accept"
+serve_name serve.Spawn = codes "Spawn"
+serve_name serve.Send = codes "Send"
+serve_name serve.Left = codes "Left"
 
 abbrev pub trouble_text : Trouble → List ℕ
 trouble_text CannotRead = codes "listset: cannot read\n"
@@ -109,3 +131,6 @@ trouble_text CannotWrite = codes "listset: cannot write\n"
 trouble_text Memory = codes "listset: out of memory\n"
 trouble_text (Line number cause) = codes "listset: line " ++ decimal number ++ codes ": " ++ name_of cause ++ codes "\n"
 trouble_text (Bad name) = codes "listset: bad " ++ value_word name ++ codes "\n"
+trouble_text CannotListen = codes "listset: cannot listen\n"
+trouble_text (Work name) = codes "listset: work: " ++ work_name name ++ codes "\n"
+trouble_text (Serve name) = codes "listset: serve: " ++ serve_name name ++ codes "\n"

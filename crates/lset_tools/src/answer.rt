@@ -3,7 +3,7 @@ ghost use Rattle.lset_tools.specs.Tools.{Delivers, AppendsFront, Made, Outcome, 
 ghost use Rattle.lset_tools.specs.Trouble.{trouble_text};
 
 use crate::streams::put;
-use crate::trouble::{LineCause, Trouble, ValueName};
+use crate::trouble::{LineCause, ServeName, Trouble, ValueName, WorkName};
 use std::alloc::Global;
 use std::io::Write;
 
@@ -52,6 +52,24 @@ fn tell_bad<F: Write>(alloc: Global, faults: &mut F, name: ValueName)
     }
 }
 
+fn tell_work<F: Write>(alloc: Global, faults: &mut F, name: WorkName)
+    ensures { AppendsFront (F.contents faults.old) (F.contents faults.new) (trouble_text (Trouble.Work name)) }
+{
+    let word = name.name();
+    if let Ok(text) = format!(in alloc; "listset: work: {word}\n") {
+        tell_text(faults, text.as_bytes());
+    }
+}
+
+fn tell_serve<F: Write>(alloc: Global, faults: &mut F, name: ServeName)
+    ensures { AppendsFront (F.contents faults.old) (F.contents faults.new) (trouble_text (Trouble.Serve name)) }
+{
+    let word = name.name();
+    if let Ok(text) = format!(in alloc; "listset: serve: {word}\n") {
+        tell_text(faults, text.as_bytes());
+    }
+}
+
 /// Writes the line about a trouble, as far as the writes succeed, and none where memory for it is refused.
 fn tell<F: Write>(alloc: Global, faults: &mut F, trouble: Trouble)
     ensures { AppendsFront (F.contents faults.old) (F.contents faults.new) (trouble_text trouble) }
@@ -60,9 +78,12 @@ fn tell<F: Write>(alloc: Global, faults: &mut F, trouble: Trouble)
         Trouble::CannotRead => tell_text(faults, b"listset: cannot read\n"),
         Trouble::TooLong => tell_text(faults, b"listset: too long\n"),
         Trouble::CannotWrite => tell_text(faults, b"listset: cannot write\n"),
+        Trouble::CannotListen => tell_text(faults, b"listset: cannot listen\n"),
         Trouble::Memory => tell_text(faults, b"listset: out of memory\n"),
         Trouble::Line(line, cause) => tell_line(alloc, faults, line, cause),
         Trouble::Bad(name) => tell_bad(alloc, faults, name),
+        Trouble::Work(name) => tell_work(alloc, faults, name),
+        Trouble::Serve(name) => tell_serve(alloc, faults, name),
     }
 }
 

@@ -15,5 +15,7 @@ pub use checking::tool_check;
 pub use generating::tool_gen;
 pub use replaying::tool_replay;
 pub use streams::{LONGEST, put};
-pub use trouble::{LineCause, Trouble, ValueName};
-pub use values::{MOST_CALLS_ASKED, MOST_KEYS_ASKED, MOST_SEED, Request};
+pub use trouble::{LineCause, ServeName, Trouble, ValueName, WorkName};
+pub use values::{
+    MOST_CALLS_ASKED, MOST_KEYS_ASKED, MOST_SEED, Request, kind_at, number_at, read_request,
+};

@@ -1,5 +1,5 @@
 ghost use Rattle.std.specs.Prelude.{◌≡◌};
-ghost use Rattle.lset_tools.specs.Trouble.{of_input, of_schedule, of_replay, of_report, status_of, name_of, value_word};
+ghost use Rattle.lset_tools.specs.Trouble.{of_input, of_schedule, of_replay, of_report, status_of, name_of, serve_name, value_word, work_name};
 ghost use Rattle.lset_tools.specs.declared.trouble.Trouble.TheVariants.{Memory};
 
 use crate::streams::InputFault;
@@ -31,6 +31,35 @@ pub enum ValueName {
     Calls,
     Keys,
     Seed,
+    Seats,
+    Port,
+    Sessions,
+}
+
+/// Why programs are not run to their ends. Want of memory is a trouble of its own.
+#[derive(Clone, Copy, Debug, PartialEq, Eq)]
+pub enum WorkName {
+    /// The programs are not as many as the seats, or the seats do not hold all seats of the set.
+    Programs,
+    /// A thread was refused.
+    Spawn,
+    /// A gate let a call not pass.
+    Gate,
+}
+
+/// Why sessions are not served to their ends. Want of memory is a trouble of its own.
+#[derive(Clone, Copy, Debug, PartialEq, Eq)]
+pub enum ServeName {
+    /// The seats do not hold all seats of the set.
+    Seats,
+    /// A connection was not accepted.
+    Accept,
+    /// A thread was refused.
+    Spawn,
+    /// A connection was not taken by the channel of the workers.
+    Send,
+    /// The workers received fewer connections than were accepted.
+    Left,
 }
 
 /// What ends a run of the program with a line on standard error.
@@ -48,6 +77,12 @@ pub enum Trouble {
     Line(u64, LineCause),
     /// A value of the command line is missing or is none of those that may stand there.
     Bad(ValueName),
+    /// The system gives no listening socket.
+    CannotListen,
+    /// Programs were not run to their ends.
+    Work(WorkName),
+    /// Sessions were not served to their ends.
+    Serve(ServeName),
 }
 
 impl Trouble {
@@ -58,8 +93,13 @@ impl Trouble {
         match self {
             Trouble::Memory => 3,
             Trouble::Bad(_) => 2,
-            Trouble::CannotRead | Trouble::TooLong | Trouble::CannotWrite | Trouble::Line(_, _) =>
-                1,
+            Trouble::CannotRead
+            | Trouble::TooLong
+            | Trouble::CannotWrite
+            | Trouble::CannotListen
+            | Trouble::Line(_, _)
+            | Trouble::Work(_)
+            | Trouble::Serve(_) => 1,
         }
     }
 }
@@ -167,6 +207,37 @@ impl ValueName {
             ValueName::Calls => "CALLS",
             ValueName::Keys => "KEYS",
             ValueName::Seed => "SEED",
+            ValueName::Seats => "SEATS",
+            ValueName::Port => "PORT",
+            ValueName::Sessions => "SESSIONS",
+        }
+    }
+}
+
+impl WorkName {
+    /// Its name, as the line on standard error has it.
+    pub fn name(self) -> &'static str
+        ensures { result.now ≡ work_name self }
+    {
+        match self {
+            WorkName::Programs => "Programs",
+            WorkName::Spawn => "Spawn",
+            WorkName::Gate => "Gate",
+        }
+    }
+}
+
+impl ServeName {
+    /// Its name, as the line on standard error has it.
+    pub fn name(self) -> &'static str
+        ensures { result.now ≡ serve_name self }
+    {
+        match self {
+            ServeName::Seats => "Seats",
+            ServeName::Accept => "Accept",
+            ServeName::Spawn => "Spawn",
+            ServeName::Send => "Send",
+            ServeName::Left => "Left",
         }
     }
 }

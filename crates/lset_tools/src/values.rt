@@ -34,14 +34,16 @@ pub struct Request {
     pub seed: u64,
 }
 
-fn kind_at(values: &[String], index: usize) -> Option<Kind>
+/// The list whose word the value with this index, from 0, is; `None` where it is missing or no such word.
+pub fn kind_at(values: &[String], index: usize) -> Option<Kind>
     ensures { result ≡ kind_at (map string_bytes values.now) index }
 {
     read_kind(values.get(index)?.as_bytes())
 }
 
-/// The number from `low` to `high` that the value with this index spells, without leading zeros.
-fn number_at(values: &[String], index: usize, low: u32, high: u32) -> Option<u32>
+/// The number from `low` to `high` that the value with this index, from 0, spells, as a decimal without leading zeros;
+/// `None` where the value is missing or spells none of them.
+pub fn number_at(values: &[String], index: usize, low: u32, high: u32) -> Option<u32>
     ensures value { result ≡ number_at (map string_bytes values.now) index low high }
     ensures range { IfSome result (λ n. (low ≤ n) × (n ≤ high)) }
 {

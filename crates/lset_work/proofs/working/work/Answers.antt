@@ -1,0 +1,33 @@
+use Rattle.std.proofs.Common.{refl, sym, ap, ◌∙◌, rules, length, map, None}
+use Rattle.std.specs.Option.{option_map}
+use Rattle.lset_live.specs.Seats.{gather_onto}
+use Rattle.lset_work.specs.Programs.{Fit, worked}
+use Rattle.lset_live.proofs.Records.{gathered_explains}
+use Rattle.lset_live.proofs.Handing.{starts_map}
+use Rattle.lset_work.proofs.ProgramLaws.{memory_refuses, threads_refuse}
+use Rattle.lset_work.proofs.working.work.Goals as goal
+
+pub returns-in_default-clause-refused : goal.returns-in_default-clause-refused
+returns-in_default-clause-refused g c =
+    let fit : Fit c.args.set c.args.seats.items (length c.args.programs.items) = search rules in
+    memory_refuses _ fit
+
+pub returns-in-Err-clause-refused : goal.returns-in-Err-clause-refused
+returns-in-Err-clause-refused g c =
+    let fit : Fit c.args.set c.args.seats.items (length c.args.programs.items) = search rules in
+    threads_refuse _ _ c.in-Err.ensures fit
+
+pub returns-in-Ok-keys-clause-outcome : goal.returns-in-Ok-keys-clause-outcome
+returns-in-Ok-keys-clause-outcome g c =
+    let starts = map (λ s. s.past) c.args.seats.items in
+    let replies = map (λ v. v.items) c.in-Ok.gathered.replies.items in
+    let programs = starts_map (λ p. p.calls) (λ v. v.items) c.in-Some.room.programs.items c.args.programs.items c.in-Some.ensures in
+    let told = sym (ap (option_map (λ s. s.past)) c.in-Some-seat.is) ∙ c.in-Ok.ensures.gathers ∙ ap (λ ps. gather_onto None (worked starts ps replies)) programs in
+    gathered_explains c.args.set.shape c.in-Some-seat.seat.past (worked starts (map (λ p. p.items) c.args.programs.items) replies) c.in-Ok-keys.keys.items told
+    (c.in-Ok-close.ensures.closed _ c.in-Ok-keys.ensures)
+
+pub returns-in-Ok-keys-clause-replies : goal.returns-in-Ok-keys-clause-replies
+returns-in-Ok-keys-clause-replies g c =
+    let programs = starts_map (λ p. p.calls) (λ v. v.items) c.in-Some.room.programs.items c.args.programs.items c.in-Some.ensures in
+    starts_map (λ v. v.items) (λ l. length l) c.in-Ok.gathered.replies.items _ refl ∙ c.in-Ok.ensures.counted ∙ ap (map (λ l. length l)) programs
+    ∙ sym (starts_map (λ v. v.items) (λ l. length l) c.args.programs.items _ refl)

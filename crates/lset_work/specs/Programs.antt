@@ -1,0 +1,56 @@
+-- [Work]: programs of calls, and what threads make of them.
+use Rattle.std.specs.Prelude.{◌≡◌, ℕ, List, [], ◌∷◌, length, map, sum_by, Option, Some, None, IfSome}
+use Rattle.std.specs.Option.{option_map}
+use Rattle.lset_words.specs.declared.Call.{Call}
+use Rattle.lset_words.specs.declared.Reply.{Reply}
+use Rattle.lset_live.specs.Records.{CallMade, Record, with_calls}
+use Rattle.lset_live.specs.Seats.{SeatValue, SetValue, gather_onto, held_in}
+use Rattle.lset_work.specs.declared.fault.WorkCause.{WorkCause}
+use Rattle.lset_work.specs.declared.fault.WorkCause.TheVariants.{Programs, Spawn, Gate, Memory}
+
+-- the calls of a program with their replies
+abbrev pub made : List Call → List Reply → List CallMade
+made [] replies = []
+made (c ∷ cs) [] = []
+made (c ∷ cs) (a ∷ more) = record { call = c; reply = a } ∷ made cs more
+
+-- the records of seats, each followed by the calls of its program with their replies
+abbrev pub worked : List Record → List (List Call) → List (List Reply) → List Record
+worked [] programs replies = []
+worked (r ∷ rs) [] replies = []
+worked (r ∷ rs) (p ∷ ps) [] = []
+worked (r ∷ rs) (p ∷ ps) (a ∷ more) = with_calls r (made p a) ∷ worked rs ps more
+
+-- there are as many programs as seats, and the seats hold all seats of the set
+abbrev pub Fit : SetValue → List SeatValue → ℕ → Type 0
+Fit set seats programs = (programs ≡ length seats) × (sum_by (λ (s : SeatValue). s.held) seats ≡ set.shape.threads)
+
+-- What comes back after a cause: all that was given, where the programs do not fit; nothing, once threads were started. Memory is wanted
+-- before that and after.
+abbrev pub GivesBack : {Given : Type 0} → Given → WorkCause → Option Given → Type 0
+GivesBack given Programs back = back ≡ Some given
+GivesBack given Spawn back = back ≡ None
+GivesBack given Gate back = back ≡ None
+GivesBack given Memory back = IfSome back (λ b. b ≡ given)
+
+-- ---- what the functions on the way say
+
+-- one reply for each call of the program, and the record followed by these calls
+abbrev pub IsMadeOn : Record → List Call → List Reply → Record → Type 0
+IsMadeOn before program replies after = (length replies ≡ length program) × (after ≡ with_calls before (made program replies))
+
+-- The programs were made on the seats, and the seats were gathered into the last one, if there are any.
+pub record HaveRun (set : SetValue) (seats : List SeatValue) (programs : List (List Call)) (last : Option SeatValue) (replies : List (List Reply)) : Type 0 where
+  pub fit : length programs ≡ length seats
+  -- one reply for each call of each program
+  pub counted : map (λ (l : List Reply). length l) replies ≡ map (λ (l : List Call). length l) programs
+  pub gathers : option_map (λ (s : SeatValue). s.past) last ≡ gather_onto None (worked (map (λ (s : SeatValue). s.past) seats) programs replies)
+  pub held : held_in last ≡ sum_by (λ (s : SeatValue). s.held) seats
+  pub same : IfSome last (λ (s : SeatValue). s.set ≡ set)
+
+-- a cause that comes up once threads are started
+abbrev pub IsOfThreads : WorkCause → Type 0
+IsOfThreads Programs = ⊥
+IsOfThreads Spawn = Unit {0}
+IsOfThreads Gate = Unit {0}
+IsOfThreads Memory = ⊥

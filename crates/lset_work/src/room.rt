@@ -1,0 +1,57 @@
+//! The lists that the threads fill, all reserved before the first thread starts.
+ghost use Rattle.std.specs.Prelude.{◌≡◌, ◌<◌, ◌≤◌, ◌^◌, [], IfSome, All, map, length, vec_capacity};
+
+use crate::workers::Worker;
+use lset_live::Running;
+use lset_words::{Call, Reply};
+use std::alloc::Global;
+
+/// A program, with room for its replies.
+#[derive(Drop)]
+pub struct Program {
+    pub calls: Vec<Call>,
+    pub replies: Vec<Reply>,
+    ghost empty: { replies.items ≡ [] },
+    ghost room: { length calls.items ≤ vec_capacity replies },
+    ghost short: { length calls.items < 2 ^ 32 },
+}
+
+/// All lists that the threads fill: their programs with room for the replies, and room for their handles and for the lists
+/// of replies.
+#[derive(Drop)]
+pub struct Room<M: Running> {
+    pub programs: Vec<Program>,
+    pub workers: Vec<Worker<M>>,
+    pub replies: Vec<Vec<Reply>>,
+    ghost no_workers: { workers.items ≡ [] },
+    ghost worker_room: { length programs.items ≤ vec_capacity workers },
+    ghost no_replies: { replies.items ≡ [] },
+    ghost reply_room: { length programs.items ≤ vec_capacity replies },
+}
+
+fn with_room(alloc: Global, programs: Vec<Vec<Call>>) -> Option<Vec<Program>>
+    requires { All (λ p. length p.items < 2 ^ 32) programs.items }
+    ensures { IfSome result (λ v. map (λ p. p.calls) v.items ≡ programs.items) }
+{
+    let mut all = Vec::with_capacity(alloc, programs.len()).ok()?;
+    for calls in programs {
+        let replies = Vec::with_capacity(alloc, calls.len()).ok()?;
+        let Ok(()) = all.push(Program { calls, replies }) else {
+            return None;
+        };
+    }
+    Some(all)
+}
+
+/// Reserves all lists. `None` where memory is refused.
+pub fn reserved<M: Running>(alloc: Global, programs: Vec<Vec<Call>>) -> Option<Room<M>>
+    requires { All (λ p. length p.items < 2 ^ 32) programs.items }
+    ensures { IfSome result (λ r. map (λ p. p.calls) r.programs.items ≡ programs.items) }
+{
+    let many = programs.len();
+    Some(Room {
+        programs: with_room(alloc, programs)?,
+        workers: Vec::with_capacity(alloc, many).ok()?,
+        replies: Vec::with_capacity(alloc, many).ok()?,
+    })
+}

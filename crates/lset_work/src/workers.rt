@@ -1,0 +1,148 @@
+//! The threads: what each makes of its program, their starts and their ends.
+ghost use Rattle.std.specs.Prelude.{◌≡◌, ◌≤◌, [], IfSome, All, map, length, vec_capacity};
+ghost use Rattle.lset_work.specs.Programs.{HaveRun, IsMadeOn};
+
+use crate::gate::Gate;
+use crate::room::Program;
+use lset_live::{LiveSet, Running, Seat};
+use lset_rule::Spin;
+use lset_words::{Call, Reply};
+use std::snapshot::Snapshot;
+use std::sync::Wait;
+use std::thread::{Promise, PromisedHandle, Scope, Threads};
+
+/// What a thread gives back: its seat, and the replies of its program unless a gate answered false.
+#[derive(Drop)]
+pub struct Done<M: Running> {
+    pub seat: Seat<M>,
+    pub replies: Option<Vec<Reply>>,
+}
+
+/// What a thread owes: the calls of its program, made on its seat.
+#[derive(Drop)]
+pub struct Owed<M: Running> {
+    pub set: Snapshot<LiveSet<M>>,
+    pub seat: Snapshot<Seat<M>>,
+    pub program: Snapshot<Vec<Call>>,
+}
+
+impl<M: Running> Promise<Done<M>> for Owed<M> {
+    ghost kept_by = { λ owed done. (done.seat.set ≡ owed.set.value) × (done.seat.held ≡ owed.seat.value.held)
+        × IfSome done.replies (λ v. IsMadeOn owed.seat.value.past owed.program.value.items v.items done.seat.past) };
+}
+
+/// A thread that was started.
+pub type Worker<M> = PromisedHandle<Done<M>, Owed<M>>;
+
+fn run_program<R: Wait, M: Running, G: Gate>(
+    rt: &R,
+    set: &LiveSet<M>,
+    gate: &G,
+    mut seat: Seat<M>,
+    program: Program,
+) -> Done<M>
+    requires { seat.set ≡ set.now }
+    ensures seat { (result.seat.set ≡ set.now) × (result.seat.held ≡ seat.held) }
+    ensures made { IfSome result.replies (λ v. IsMadeOn seat.past program.calls.items v.items result.seat.past) }
+{
+    let Program { calls, mut replies } = program;
+    let thread = seat.thread();
+    for (number, call) in calls.iter().enumerate() {
+        if !gate.pass(thread, number as u32) {
+            return Done {
+                seat,
+                replies: None,
+            };
+        }
+        let reply = set.call(rt, &mut seat, *call, &Spin::new());
+        let Ok(()) = replies.push(reply) else {
+            unreachable!()
+        };
+    }
+    Done {
+        seat,
+        replies: Some(replies),
+    }
+}
+
+/// Starts the thread of a program. `None` where it is refused.
+fn start_one<'s, E, R: Wait + Sync, M: Running + Send + Sync, G: Gate + Sync>(
+    scope: &Scope<'s, E>,
+    rt: &'s R,
+    set: &'s LiveSet<M>,
+    gate: &'s G,
+    seat: Seat<M>,
+    program: Program,
+) -> Option<Worker<M>>
+    requires { seat.set ≡ set.now }
+    ensures { IfSome result (λ w. (w.promise.set.value ≡ set.now) × (w.promise.seat.value ≡ seat) × (w.promise.program.value ≡ program.calls)) }
+{
+    let owed = Owed {
+        set: Snapshot::of(set),
+        seat: Snapshot::of(&seat),
+        program: Snapshot::of(&program.calls),
+    };
+    scope
+        .spawn_with(owed, move || run_program(rt, set, gate, seat, program))
+        .ok()
+}
+
+/// Starts a thread for each seat. `None` where one is refused.
+pub fn start_all<'s, E, R: Wait + Sync, M: Running + Send + Sync, G: Gate + Sync>(
+    scope: &Scope<'s, E>,
+    rt: &'s R,
+    set: &'s LiveSet<M>,
+    gate: &'s G,
+    mut workers: Vec<Worker<M>>,
+    seats: Vec<Seat<M>>,
+    programs: Vec<Program>,
+) -> Option<Vec<Worker<M>>>
+    requires seats { All (λ s. s.set ≡ set.now) seats.items }
+    requires programs { length programs.items ≡ length seats.items }
+    requires room { (workers.items ≡ []) × (length seats.items ≤ vec_capacity workers) }
+    ensures seats { IfSome result (λ v. map (λ w. w.promise.seat.value) v.items ≡ seats.items) }
+    ensures programs { IfSome result (λ v. map (λ w. w.promise.program.value.items) v.items ≡ map (λ p. p.calls.items) programs.items) }
+    ensures set { IfSome result (λ v. All (λ w. w.promise.set.value ≡ set.now) v.items) }
+{
+    let mut programs = programs.into_iter();
+    for seat in seats {
+        let Some(program) = programs.next() else {
+            unreachable!()
+        };
+        let worker = start_one(scope, rt, set, gate, seat, program)?;
+        let Ok(()) = workers.push(worker) else {
+            unreachable!()
+        };
+    }
+    Some(workers)
+}
+
+/// The replies of the programs, and the seat into which the others were gathered.
+#[derive(Drop)]
+pub struct Gathered<M: Running> {
+    pub seat: Option<Seat<M>>,
+    pub replies: Vec<Vec<Reply>>,
+}
+
+/// Waits for the threads, and gathers their seats. `None` where a gate has answered false.
+pub fn join_all<R: Threads, M: Running>(
+    rt: &R,
+    set: &LiveSet<M>,
+    workers: Vec<Worker<M>>,
+    mut replies: Vec<Vec<Reply>>,
+) -> Option<Gathered<M>>
+    requires started { All (λ w. w.promise.set.value ≡ set.now) workers.items }
+    requires room { (replies.items ≡ []) × (length workers.items ≤ vec_capacity replies) }
+    ensures { IfSome result (λ g. HaveRun set.now (map (λ w. w.promise.seat.value) workers.items)
+        (map (λ w. w.promise.program.value.items) workers.items) g.seat (map (λ v. v.items) g.replies.items)) }
+{
+    let mut seat = None;
+    for worker in workers {
+        let done = worker.join(rt);
+        let Ok(()) = replies.push(done.replies?) else {
+            unreachable!()
+        };
+        seat = Some(set.gather_onto(seat, done.seat));
+    }
+    Some(Gathered { seat, replies })
+}

@@ -1,0 +1,137 @@
+//! Programs of calls on the seats of a running set, all at once.
+ghost use Rattle.std.specs.Prelude.{◌≡◌, ◌<◌, ◌^◌, ◌↔◌, IfOk, IfErr, IsOk, MatchResult, All, map, length};
+ghost use Rattle.lset_live.specs.Explained.{Explains};
+ghost use Rattle.lset_work.specs.Programs.{Fit, GivesBack, HaveRun, IsOfThreads, worked};
+
+use crate::fault::{WorkCause, WorkFault};
+use crate::gate::Gate;
+use crate::room::{Room, reserved};
+use crate::workers::{Gathered, join_all, start_all};
+use lset_live::{LiveSet, Running, Seat};
+use lset_words::{Call, Reply};
+use std::alloc::Global;
+use std::sync::Wait;
+use std::thread;
+use std::thread::{Scope, Threads};
+
+/// What programs made of a set.
+#[derive(Drop)]
+pub struct Outcome {
+    /// The replies of each program, in the order of the seats.
+    pub replies: Vec<Vec<Reply>>,
+    /// The keys that are left, rising.
+    pub keys: Vec<u32>,
+}
+
+/// Runs the programs in a scope of threads, and gathers the seats.
+fn run_in<'s, E, R: Threads + Wait + Sync, M: Running + Send + Sync, G: Gate + Sync>(
+    scope: &Scope<'s, E>,
+    rt: &'s R,
+    set: &'s LiveSet<M>,
+    gate: &'s G,
+    seats: Vec<Seat<M>>,
+    room: Room<M>,
+) -> Result<Gathered<M>, WorkCause>
+    requires seats { All (λ s. s.set ≡ set.now) seats.items }
+    requires programs { length room.programs.items ≡ length seats.items }
+    ensures { MatchResult result (λ g. HaveRun set.now seats.items (map (λ p. p.calls.items) room.programs.items)
+        g.seat (map (λ v. v.items) g.replies.items)) IsOfThreads }
+{
+    let Room {
+        programs,
+        workers,
+        replies,
+    } = room;
+    let Some(workers) = start_all(scope, rt, set, gate, workers, seats, programs) else {
+        return Err(WorkCause::Spawn);
+    };
+    let Some(gathered) = join_all(rt, set, workers, replies) else {
+        return Err(WorkCause::Gate);
+    };
+    Ok(gathered)
+}
+
+/// Runs the programs, and gathers the seats.
+fn run_all<R: Threads + Wait + Sync, M: Running + Send + Sync, G: Gate + Sync>(
+    rt: &R,
+    set: &LiveSet<M>,
+    gate: &G,
+    seats: Vec<Seat<M>>,
+    room: Room<M>,
+) -> Result<Gathered<M>, WorkCause>
+    requires seats { All (λ s. s.set ≡ set.now) seats.items }
+    requires programs { length room.programs.items ≡ length seats.items }
+    ensures { MatchResult result (λ g. HaveRun set.now seats.items (map (λ p. p.calls.items) room.programs.items)
+        g.seat (map (λ v. v.items) g.replies.items)) IsOfThreads }
+{
+    thread::scope(
+        thread::scope_env(),
+        rt,
+        |scope| -> Result<Gathered<M>, WorkCause>
+            requires seats { All (λ s. s.set ≡ set.now) seats.items }
+            requires programs { length room.programs.items ≡ length seats.items }
+            ensures { MatchResult result (λ g. HaveRun set.entry.now seats.items (map (λ p. p.calls.items) room.programs.items)
+                g.seat (map (λ v. v.items) g.replies.items)) IsOfThreads }
+        { run_in(scope, rt, set, gate, seats, room) },
+    )
+}
+
+/// Makes the calls of each program on its seat, all programs at once, one thread for each seat; `gate` is asked before each
+/// call. Then the seats are gathered and the set is closed. One legal order of calls (Herlihy and Wing) keeps each seat's
+/// earlier record followed by the calls of its program with their replies, has no other call, and leaves the keys. No
+/// program has more than 4,294,967,295 calls.
+///
+/// The cause of a `WorkFault` is the first of these: `Programs` where the programs are not as many as the seats, or the
+/// seats do not hold all seats of the set; nothing was called, and set and seats come back. `Spawn` where the system
+/// refused a thread; those that were started run to their ends. `Gate` where the gate answered false; that worker stops,
+/// the others run to their ends. `Memory` where memory was refused, before the first thread started, and then set and
+/// seats come back, or for the keys at the end. When a thread is refused, and when a gate answers false, no clause says.
+/// It waits for its threads, which wait for the locks of the set and as long as the gate does.
+pub fn work<R: Threads + Wait + Sync, M: Running + Send + Sync, G: Gate + Sync>(
+    rt: &R,
+    alloc: Global,
+    set: LiveSet<M>,
+    seats: Vec<Seat<M>>,
+    programs: Vec<Vec<Call>>,
+    gate: &G,
+) -> Result<Outcome, WorkFault<M>>
+    requires seats { All (λ s. s.set ≡ set) seats.items }
+    requires short { All (λ p. length p.items < 2 ^ 32) programs.items }
+    // one reply for each call of each program
+    ensures replies { IfOk result (λ o. map (λ v. length v.items) o.replies.items ≡ map (λ p. length p.items) programs.items) }
+    ensures outcome { IfOk result (λ o. Explains set.shape (worked
+        (map (λ s. s.past) seats.items) (map (λ p. p.items) programs.items) (map (λ v. v.items) o.replies.items)) o.keys.items) }
+    // `Programs` is answered just where programs and seats do not fit
+    ensures fitting { IsOk result → Fit set seats.items (length programs.items) }
+    ensures refused { IfErr result (λ f. f.cause ≡ WorkCause.Programs ↔ ¬ (Fit set seats.items (length programs.items))) }
+    ensures back { IfErr result (λ f. GivesBack (set, seats) f.cause f.back) }
+{
+    if programs.len() != seats.len() || !set.is_held_by(&seats) {
+        return Err(WorkFault {
+            cause: WorkCause::Programs,
+            back: Some((set, seats)),
+        });
+    }
+    let Some(room) = reserved::<M>(alloc, programs) else {
+        return Err(WorkFault {
+            cause: WorkCause::Memory,
+            back: Some((set, seats)),
+        });
+    };
+    let gathered = match run_all(rt, &set, gate, seats, room) {
+        Ok(gathered) => gathered,
+        Err(cause) => return Err(WorkFault { cause, back: None }),
+    };
+    let Gathered { seat, replies } = gathered;
+    let Some(seat) = seat else { unreachable!() };
+    let Ok(closed) = set.close(seat) else {
+        unreachable!()
+    };
+    match closed.keys() {
+        Ok(keys) => Ok(Outcome { replies, keys }),
+        Err(_) => Err(WorkFault {
+            cause: WorkCause::Memory,
+            back: None,
+        }),
+    }
+}
