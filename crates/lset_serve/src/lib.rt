@@ -1,0 +1,9 @@
+//! The tool `serve`: a set server on the loopback, and what was served as a text.
+#![tactic(auto)]
+
+mod request;
+mod serving;
+mod text;
+
+pub use request::{MOST_PORT, MOST_SESSIONS_ASKED, ServeRequest, read_serve_request};
+pub use serving::tool_serve;

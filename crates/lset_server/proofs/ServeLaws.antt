@@ -1,0 +1,234 @@
+-- What workers give back, added up.
+use Rattle.std.proofs.Common.{◌≡◌, ◌≢◌, ℕ, zero, suc, ◌+◌, ◌-◌, ◌*◌, ◌<◌, ◌≤◌, eqb, List, [], ◌∷◌, ◌++◌, length, map, sum_by, Option, None}
+use Rattle.std.proofs.Common.{refl, sym, ap, ◌∙◌, subst, append_assoc, append-nil, arith, length-append, add-one, true, false, ⊎_elim}
+use Rattle.std.proofs.lemmas.Bool.{ne_eqb, eq-eqb}
+use Rattle.std.proofs.lemmas.Bool.Decides.{eqb_tells}
+use Rattle.std.proofs.lemmas.List.{length-map}
+use Rattle.std.proofs.lemmas.List.Sums.{sum_by-cons}
+use Rattle.lset_live.specs.Records.{Record, CallMade, with_calls}
+use Rattle.lset_live.specs.Seats.{SeatValue, gather_onto}
+use Rattle.lset_live.proofs.Records.{with_calls-append, gather_more}
+use Rattle.lset_session.specs.declared.TheConstants.{MOST_LINES}
+use Rattle.lset_session.specs.declared.sessions.Why.{Why}
+use Rattle.lset_session.specs.SessionText.{calls_in}
+use Rattle.lset_session.specs.Sessions.{IsSession}
+use Rattle.lset_server.specs.declared.channel.TheConstants.{PARTS}
+use Rattle.lset_server.specs.declared.channel.Tally.{Tally}
+use Rattle.lset_server.specs.Tallies.{tally, weigh, one_at, times, numbers_below, ReceivedOnce}
+use Rattle.lset_server.specs.Serving.{followed, HasGathered}
+use Rattle.lset_server.specs.Workers.{HasWorked, HaveWorked}
+use Rattle.lset_server.proofs.Moves.{weigh-append}
+
+-- ---- one worker
+
+pub worked_none : (s : SeatValue) (v : Tally) → v ≡ tally 1 [] [] → HasWorked s s v 0 0
+worked_none s v e = record { received = []; view = e; number = refl; added = []; recorded = refl; count = refl; held = refl }
+
+-- one session more
+pub worked_more : (s s1 s2 : SeatValue) (v v' : Tally) (n m k : ℕ) (ns : List ℕ) (why : Why) (i i' w w' : Option (List ℕ)) → HasWorked s s1 v n m
+    → length ns ≡ 1 → v' ≡ tally v.parts v.sent (v.received ++ ns) → IsSession why k i i' s1.past s2.past w w' → s2.held ≡ s1.held
+    → HasWorked s s2 v' (n + 1) (m + k)
+worked_more s s1 s2 v v' n m k ns why i i' w w' b one e did same = record {
+  received = b.received ++ ns;
+  view = e ∙ ap (λ (u : Tally). tally u.parts u.sent (u.received ++ ns)) b.view;
+  number = omega (arith, b.number, one, length-append b.received ns);
+  added = b.added ++ calls_in did.talk;
+  recorded = did.recorded ∙ ap (λ (q : Record). with_calls q (calls_in did.talk)) b.recorded ∙ sym (with_calls-append s.past b.added (calls_in did.talk));
+  count = omega (arith, b.count, did.count, length-append b.added (calls_in did.talk));
+  held = same ∙ b.held;
+}
+
+-- ---- the sender
+
+numbers-more : (n : ℕ) → numbers_below (n + 1) ≡ numbers_below n ++ n ∷ []
+numbers-more n = ap numbers_below (add-one n)
+
+length-numbers : (n : ℕ) → length (numbers_below n) ≡ n
+length-numbers zero = refl
+length-numbers (suc n) = omega (arith, length-append (numbers_below n) (n ∷ []), length-numbers n)
+
+-- one connection more was sent
+pub sent_more : (v u u' : Tally) (n : ℕ) → u ≡ tally v.parts (v.sent ++ numbers_below n) v.received → u' ≡ tally u.parts (u.sent ++ n ∷ []) u.received
+    → u' ≡ tally v.parts (v.sent ++ numbers_below (n + 1)) v.received
+sent_more v u u' n e f =
+    f ∙ ap (λ (x : Tally). tally x.parts (x.sent ++ n ∷ []) x.received) e
+    ∙ ap (λ l. tally v.parts l v.received) (append_assoc v.sent (numbers_below n) (n ∷ []) ∙ ap (λ l. v.sent ++ l) (sym (numbers-more n)))
+
+-- the word that no more come changes nothing
+pub sent_none : (v u u' : Tally) → u ≡ v → u' ≡ tally u.parts (u.sent ++ []) u.received → u' ≡ v
+sent_none v u u' e f = f ∙ ap (λ l. tally u.parts l u.received) (append-nil u.sent) ∙ e
+
+-- one part more was cut off
+pub part_more : (v u u' : Tally) (n m : ℕ) → u ≡ tally (v.parts - n) v.sent v.received → u' ≡ tally (u.parts - 1) u.sent u.received → m ≡ n + 1
+    → u' ≡ tally (v.parts - m) v.sent v.received
+part_more v u u' n m e f more =
+    let parts : (v.parts - n) - 1 ≡ v.parts - m = omega (arith, more) in
+    f ∙ ap (λ (x : Tally). tally (x.parts - 1) x.sent x.received) e ∙ ap (λ p. tally p v.sent v.received) parts
+
+-- ---- the workers start and come back
+
+followed_more : (rs : List Record) (css : List (List CallMade)) (r : Record) (cs : List CallMade) → length css ≡ length rs
+    → followed (rs ++ r ∷ []) (css ++ cs ∷ []) ≡ followed rs css ++ with_calls r cs ∷ []
+followed_more [] [] r cs e = refl
+followed_more [] (ds ∷ css) r cs e = absurd (omega (arith, e))
+followed_more (q ∷ rs) [] r cs e = absurd (omega (arith, e))
+followed_more (q ∷ rs) (ds ∷ css) r cs e = ap (λ l. with_calls q ds ∷ l) (followed_more rs css r cs (omega (arith, e)))
+
+sum_lengths : (css : List (List CallMade)) (cs : List CallMade) → sum_by (λ l. length l) (css ++ cs ∷ []) ≡ sum_by (λ l. length l) css + length cs
+sum_lengths [] cs = omega (arith, sum_by-cons (λ (l : List CallMade). length l) cs [])
+sum_lengths (ds ∷ css) cs =
+    omega (arith, sum_by-cons (λ (l : List CallMade). length l) ds (css ++ cs ∷ []), sum_by-cons (λ (l : List CallMade). length l) ds css, sum_lengths css cs)
+
+same_tally : (p p' : ℕ) (a a' t t' : List ℕ) → p ≡ p' → a ≡ a' → t ≡ t' → tally p a t ≡ tally p' a' t'
+same_tally p p' a a' t t' e f g = ap (λ x. tally x a t) e ∙ ap (λ x. tally p' x t) f ∙ ap (λ x. tally p' a' x) g
+
+pub joined_none : {H : Type 0} (f : H → Record) (hs hs' : List H) (v : Tally) → hs' ≡ hs
+    → (done : List Record) × (done ++ map f hs' ≡ map f hs) × HaveWorked done None v v (length done) 0 0
+joined_none f hs hs' v e = (
+  [],
+  ap (map f) e,
+  record {
+    added = [];
+    each = refl;
+    count = refl;
+    end_is = refl;
+    received = [];
+    view = same_tally v.parts (v.parts + 0) v.sent v.sent v.received (v.received ++ []) (omega arith) refl (sym (append-nil v.received));
+    number = refl;
+  },
+)
+
+pub joined_next : {H : Type 0} (f : H → Record) (hs rest rest' : List H) (h : H) (s s' : SeatValue) (end end' : Option Record) (v u u' w : Tally) (n m k c : ℕ)
+    → rest ≡ h ∷ rest' → ((done : List Record) × (done ++ map f rest ≡ map f hs) × HaveWorked done end v u (length done) n m) → f h ≡ s.past
+    → HasWorked s s' w k c → u' ≡ tally (u.parts + w.parts) (u.sent ++ w.sent) (u.received ++ w.received) → end' ≡ gather_onto end (s'.past ∷ [])
+    → (done : List Record) × (done ++ map f rest' ≡ map f hs) × HaveWorked done end' v u' (length done) (n + k) (m + c)
+joined_next f hs rest rest' h s s' end end' v u u' w n m k c step (done, split, j) is b both more = (
+  done ++ f h ∷ [],
+  append_assoc done (f h ∷ []) (map f rest') ∙ ap (λ l. done ++ map f l) (sym step) ∙ split,
+  record {
+    added = j.added ++ b.added ∷ [];
+    each = omega (arith, j.each, length-append j.added (b.added ∷ []), length-append done (f h ∷ []));
+    count = omega (arith, j.count, b.count, sum_lengths j.added b.added);
+    end_is = more ∙ ap (λ o. gather_onto o (s'.past ∷ [])) j.end_is ∙ sym (gather_more None (followed done j.added) s'.past)
+        ∙ ap (λ q. gather_onto None (followed done j.added ++ q ∷ [])) (b.recorded ∙ ap (λ q. with_calls q b.added) (sym is))
+        ∙ ap (gather_onto None) (sym (followed_more done j.added (f h) b.added j.each));
+    received = j.received ++ b.received;
+    view = both ∙ ap (λ (x : Tally). tally (x.parts + w.parts) (x.sent ++ w.sent) (x.received ++ w.received)) j.view
+        ∙ ap (λ (x : Tally). tally ((v.parts + length done) + x.parts) (v.sent ++ x.sent) ((v.received ++ j.received) ++ x.received)) b.view
+        ∙ same_tally ((v.parts + length done) + 1) (v.parts + length (done ++ f h ∷ [])) (v.sent ++ []) v.sent ((v.received ++ j.received) ++ b.received)
+        (v.received ++ (j.received ++ b.received)) (omega (arith, length-append done (f h ∷ []))) (append-nil v.sent) (append_assoc v.received j.received b.received);
+    number = omega (arith, j.number, b.number, length-append j.received b.received);
+  },
+)
+
+pub bound_next : (s d most n n' total : ℕ) → s + most * n ≤ total → n ≡ n' + 1 → d ≤ most → s + d + most * n' ≤ total
+bound_next s d most n n' total h e small =
+    let full : s + most * (n' + 1) ≤ total = subst (λ x. s + most * x ≤ total) e h in
+    omega (arith, full, small)
+
+pub bound_next' : (s d most n n' total : ℕ) → s + MOST_LINES * (most * n) ≤ total → n ≡ n' + 1 → d ≤ MOST_LINES * most → s + d + MOST_LINES * (most * n') ≤ total
+bound_next' s d most n n' total h e small =
+    let full : s + MOST_LINES * (most * (n' + 1)) ≤ total = subst (λ x. s + MOST_LINES * (most * x) ≤ total) e h in
+    omega (arith, full, small)
+
+-- ---- the whole
+
+pub held_map : {H T : Type 0} (seat_of : H → T) (held : T → ℕ) (hs : List H) (ss : List T) → map seat_of hs ≡ ss
+    → sum_by (λ h. held (seat_of h)) hs ≡ sum_by held ss
+held_map {H = H} {T = T} seat_of held hs ss e = one hs ∙ ap (sum_by held) e
+  where
+    one : (xs : List H) → sum_by (λ h. held (seat_of h)) xs ≡ sum_by held (map seat_of xs)
+    one [] = refl
+    one (x ∷ xs) =
+        sum_by-cons (λ h. held (seat_of h)) x xs ∙ ap (λ n. held (seat_of x) + n) (one xs) ∙ sym (sum_by-cons held (seat_of x) (map seat_of xs))
+
+pub as_many : {H T : Type 0} (seat_of : H → T) (hs : List H) (ss : List T) → map seat_of hs ≡ ss → length hs ≡ length ss
+as_many seat_of hs ss e = sym (length-map hs seat_of) ∙ ap (λ l. length l) e
+
+-- the pass of the sender has all parts again, and has sent the numbers of all connections
+pub whole_again : (n many : ℕ) (v u w x y : Tally) (received : List ℕ) (k : ℕ) → v ≡ tally PARTS [] [] → n ≤ 64 → u ≡ tally (v.parts - n) v.sent v.received
+    → w ≡ tally u.parts (u.sent ++ numbers_below many) u.received → x ≡ w → k ≡ n → y ≡ tally (x.parts + k) x.sent (x.received ++ received)
+    → y ≡ tally PARTS (numbers_below many) received
+whole_again n many v u w x y received k a few b c d e f =
+    let xv : x ≡ tally (PARTS - n) (numbers_below many) [] =
+    d ∙ c ∙ ap (λ (z : Tally). tally z.parts (z.sent ++ numbers_below many) z.received) (b ∙ ap (λ (z : Tally). tally (z.parts - n) z.sent z.received) a) in
+    f ∙ ap (λ (z : Tally). tally (z.parts + k) z.sent (z.received ++ received)) xv ∙ ap (λ p. tally p (numbers_below many) received) (omega (arith, few, e))
+
+-- the weight of each number 1 is the length
+weigh-one : (xs : List ℕ) → weigh (λ _. 1) xs ≡ length xs
+weigh-one [] = refl
+weigh-one (x ∷ xs) = omega (arith, weigh-one xs)
+
+no_weight : (h : ℕ → ℕ) (xs : List ℕ) → length xs ≡ 0 → weigh h xs ≡ 0
+no_weight h [] e = refl
+no_weight h (x ∷ xs) e = absurd (omega (arith, e))
+
+one_more : (n m : ℕ) → times m (numbers_below (suc n)) ≡ times m (numbers_below n) + (one_at m n + 0)
+one_more n m = weigh-append (one_at m) (numbers_below n) (n ∷ [])
+
+not_it : (n m : ℕ) → n ≢ m → one_at m n ≡ 0
+not_it n m other = rw (ne_eqb n m other) refl
+
+times-beyond : (n m : ℕ) → n ≤ m → times m (numbers_below n) ≡ 0
+times-beyond zero m le = refl
+times-beyond (suc n) m le =
+    let other : one_at m n ≡ 0 = not_it n m (λ e. absurd (omega (arith, e, le))) in
+    omega (arith, other, one_more n m, times-beyond n m (omega (arith, le)))
+
+times-last : (n : ℕ) → times n (numbers_below (suc n)) ≡ 1
+times-last n =
+    let it : one_at n n ≡ 1 = rw (eq-eqb n n refl) refl in
+    let none : n ≤ n = omega arith in
+    omega (arith, one_more n n, it, times-beyond n n none)
+
+times-below : (n m : ℕ) → m < n → times m (numbers_below n) ≡ 1
+times-below zero m lt = absurd (omega (arith, lt))
+times-below (suc n) m lt =
+    ⊎_elim (λ (same : (eqb n m ≡ true) × (n ≡ m)). subst (λ k. times k (numbers_below (suc n)) ≡ 1) same.1 (times-last n))
+    (λ (other : (eqb n m ≡ false) × (n ≢ m)).
+    omega (arith, one_more n m, not_it n m other.1, times-below n m (below other.1)))
+    (eqb_tells n m)
+  where
+    below : (n ≢ m) → m < n
+    below other = omega (arith, lt, other)
+
+-- as many were received as were sent, so none is left
+pub received_once : (n : ℕ) (v : Tally) (received left : List ℕ) → v ≡ tally PARTS (numbers_below n) received → n ≡ length received
+    → ((h : ℕ → ℕ) → weigh h v.sent ≡ weigh h v.received + weigh h left) → ReceivedOnce n v
+received_once n v received left is many balance = record {
+  parts = ap (λ (z : Tally). z.parts) is;
+  sent = ap (λ (z : Tally). z.sent) is;
+  once = λ m lt. sym (alike (one_at m)) ∙ times-below n m lt;
+  no_other = λ m le. sym (alike (one_at m)) ∙ times-beyond n m le;
+}
+  where
+    sent_is : (h : ℕ → ℕ) → weigh h v.sent ≡ weigh h (numbers_below n)
+    sent_is h = ap (λ (z : Tally). weigh h z.sent) is
+
+    none : length left ≡ 0
+    none = omega (
+      arith,
+      balance (λ _. 1),
+      sent_is (λ _. 1),
+      weigh-one (numbers_below n),
+      weigh-one v.received,
+      weigh-one left,
+      many,
+      length-numbers n,
+      ap (λ (z : Tally). length z.received) is,
+    )
+
+    alike : (h : ℕ → ℕ) → weigh h (numbers_below n) ≡ weigh h v.received
+    alike h = omega (arith, sent_is h, balance h, no_weight h left none)
+
+pub all_gathered : (starts starts' : List Record) (end : Option Record) (v v' u : Tally) (workers asked sessions calls : ℕ) (left : List ℕ) → starts ≡ starts'
+    → (j : HaveWorked starts end v v' workers sessions calls) → v' ≡ tally PARTS (numbers_below asked) j.received → sessions ≡ asked
+    → ((h : ℕ → ℕ) → weigh h v'.sent ≡ weigh h v'.received + weigh h left) → u ≡ v' → HasGathered starts' end u asked sessions calls
+all_gathered starts starts' end v v' u workers asked sessions calls left e j is all balance same = record {
+  added = j.added;
+  each = j.each ∙ ap (λ (l : List Record). length l) e;
+  count = j.count;
+  end_is = j.end_is ∙ ap (λ l. gather_onto None (followed l j.added)) e;
+  all = all;
+  received = subst (ReceivedOnce asked) (sym same) (received_once asked v' j.received left is (omega (arith, all, j.number)) balance);
+}

@@ -1,0 +1,4 @@
+pub mod Tallies
+pub mod Tallied
+pub mod Serving
+pub mod Workers

@@ -1,0 +1,31 @@
+-- [Serve]: what a server did.
+use Rattle.std.specs.Prelude.{◌≡◌, ℕ, List, [], ◌∷◌, length, sum_by, Option, None}
+use Rattle.lset_live.specs.Records.{Record, CallMade, with_calls}
+use Rattle.lset_live.specs.Explained.{Explains}
+use Rattle.lset_live.specs.Seats.{gather_onto}
+use Rattle.lset_server.specs.declared.channel.Tally.{Tally}
+use Rattle.lset_server.specs.Tallies.{ReceivedOnce}
+use Rattle.lset_rule.specs.declared.view.Shape.{Shape}
+
+-- each record, followed by calls
+abbrev pub followed : List Record → List (List CallMade) → List Record
+followed [] more = []
+followed (r ∷ rs) [] = r ∷ rs
+followed (r ∷ rs) (cs ∷ more) = with_calls r cs ∷ followed rs more
+
+-- ONE LEGAL ORDER of the calls of these records and of further ones, so many in all, has no other call and leaves the keys. Each record
+-- is followed by calls of its own thread.
+pub record IsServed (k : Shape) (records : List Record) (calls : ℕ) (keys : List ℕ) : Type 0 where
+  pub added : List (List CallMade)
+  pub each : length added ≡ length records
+  pub count : calls ≡ sum_by (λ cs. length cs) added
+  pub explained : Explains k (followed records added) keys
+
+-- The seats of all workers are gathered, and all connections were received, each once.
+pub record HasGathered (starts : List Record) (end : Option Record) (v : Tally) (asked sessions calls : ℕ) : Type 0 where
+  pub added : List (List CallMade)
+  pub each : length added ≡ length starts
+  pub count : calls ≡ sum_by (λ cs. length cs) added
+  pub end_is : end ≡ gather_onto None (followed starts added)
+  pub all : sessions ≡ asked
+  pub received : ReceivedOnce asked v

@@ -1,0 +1,66 @@
+-- The rule of the channel through which connections are passed to the workers. Each pass to the channel has a tally of the numbers under
+-- which connections were sent by it and received by it. Nothing is lost and nothing is doubled: as often as a number was sent, so often
+-- it was received or stands in the queue.
+use Rattle.std.specs.Prelude.{◌≡◌, ◌==◌, ◌≤◌, ◌<◌, ℕ, ◌+◌, zero, suc, List, [], ◌∷◌, ◌++◌, if◌then◌else◌}
+use mathlib.Core.Option.{some}
+use lib.ListN.{get_elem?}
+use Rattle.std.specs.List.{flat_map}
+use Rattle.lset_server.specs.declared.channel.TheConstants.{PARTS}
+use Rattle.lset_server.specs.declared.channel.Message.{Message}
+use Rattle.lset_server.specs.declared.channel.Message.TheVariants as message
+use Rattle.lset_server.specs.declared.channel.Tally.{Tally}
+
+abbrev pub tally : ℕ → List ℕ → List ℕ → Tally
+tally parts sent received = record { parts = parts; sent = sent; received = received }
+
+-- the number of a connection; the word that no more come has none
+abbrev pub number_of : {S : Type 0} → Message S → List ℕ
+number_of (message.Connection c) = c.number ∷ []
+number_of message.Close = []
+
+-- the numbers of the connections among the messages
+abbrev pub numbers : {S : Type 0} → List (Message S) → List ℕ
+numbers = flat_map number_of
+
+-- the weights of the numbers, added up
+abbrev pub weigh : (ℕ → ℕ) → List ℕ → ℕ
+weigh h [] = 0
+weigh h (x ∷ xs) = h x + weigh h xs
+
+-- 1 for the number, and 0 for any other
+abbrev pub one_at : ℕ → ℕ → ℕ
+one_at n m = if m == n then 1 else 0
+
+-- how often a number stands there
+abbrev pub times : ℕ → List ℕ → ℕ
+times n = weigh (one_at n)
+
+-- f of each tally, added up
+abbrev pub total : (Tally → ℕ) → List Tally → ℕ
+total f [] = 0
+total f (v ∷ vs) = f v + total f vs
+
+-- a pass without parts has sent and received nothing
+abbrev pub IdleIsEmpty : List Tally → Type 0
+IdleIsEmpty views = (port : ℕ) (v : Tally) → get_elem? views port ≡ some v → v.parts ≡ 0 → (v.sent ≡ []) × (v.received ≡ [])
+
+-- THE RULE: all parts are with the passes, and whatever the numbers weigh, those that were sent weigh as much as those that were received
+-- and those in the queue together
+abbrev pub IsBalanced : List ℕ → List Tally → Type 0
+IsBalanced queue views =
+    (total (λ v. v.parts) views ≡ PARTS)
+    × ((h : ℕ → ℕ) → total (λ v. weigh h v.sent) views ≡ total (λ v. weigh h v.received) views + weigh h queue)
+    × IdleIsEmpty views
+
+-- the numbers of the first n connections
+abbrev pub numbers_below : ℕ → List ℕ
+numbers_below zero = []
+numbers_below (suc n) = numbers_below n ++ n ∷ []
+
+-- All passes to a channel are joined in one with this tally. The numbers below n were sent, in order, and each of them was received once,
+-- and no other.
+pub record ReceivedOnce (n : ℕ) (v : Tally) : Type 0 where
+  pub parts : v.parts ≡ PARTS
+  pub sent : v.sent ≡ numbers_below n
+  pub once : (m : ℕ) → m < n → times m v.received ≡ 1
+  pub no_other : (m : ℕ) → n ≤ m → times m v.received ≡ 0

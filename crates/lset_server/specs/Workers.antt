@@ -1,0 +1,27 @@
+-- What the workers of a server give back.
+use Rattle.std.specs.Prelude.{◌≡◌, ℕ, ◌+◌, List, [], ◌++◌, length, sum_by, Option, None}
+use Rattle.lset_live.specs.Records.{Record, CallMade, with_calls}
+use Rattle.lset_live.specs.Seats.{SeatValue, gather_onto}
+use Rattle.lset_server.specs.declared.channel.Tally.{Tally}
+use Rattle.lset_server.specs.Serving.{followed}
+use Rattle.lset_server.specs.Tallies.{tally}
+
+-- A worker received so many connections by its pass, and made so many calls on its seat.
+pub record HasWorked (s s' : SeatValue) (v : Tally) (sessions calls : ℕ) : Type 0 where
+  pub received : List ℕ
+  pub view : v ≡ tally 1 [] received
+  pub number : sessions ≡ length received
+  pub added : List CallMade
+  pub recorded : s'.past ≡ with_calls s.past added
+  pub count : calls ≡ length added
+  pub held : s'.held ≡ s.held
+
+-- The passes of so many workers are joined to the sender's, their seats are gathered, and what they did is added up.
+pub record HaveWorked (starts : List Record) (end : Option Record) (v v' : Tally) (workers sessions calls : ℕ) : Type 0 where
+  pub added : List (List CallMade)
+  pub each : length added ≡ length starts
+  pub count : calls ≡ sum_by (λ cs. length cs) added
+  pub end_is : end ≡ gather_onto None (followed starts added)
+  pub received : List ℕ
+  pub view : v' ≡ tally (v.parts + workers) v.sent (v.received ++ received)
+  pub number : sessions ≡ length received

@@ -1,0 +1,175 @@
+//! The channel through which connections are passed to the workers, under a rule.
+ghost use Rattle.std.specs.Prelude.{◌≡◌, ◌<◌, ◌++◌, [], ℕ, List, MatchResult, ⊤, ◌-◌, ◌+◌};
+ghost use Rattle.crossbeam_channel.specs.Claims.{view, IsSeatAt};
+ghost use Rattle.crossbeam_channel.specs.Ends.{sends_on, receives_on};
+ghost use Rattle.lset_server.specs.Tallies.{tally, weigh, numbers, number_of, IsBalanced};
+
+use crossbeam_channel::protocol::{Join, Lesson, Outcome, Protocol, Split};
+use crossbeam_channel::{Pass, RecvError, RuledReceiver, RuledSender, SendError};
+use std::alloc::Global;
+use std::collections::LinkedList;
+use std::sync::Wait;
+
+/// The parts of the right to know the whole channel: one for each of at most 64 workers, and one for the sender.
+pub const PARTS: u64 = 65;
+
+/// A connection, under the number at which it was accepted, counted from 0.
+#[derive(Drop)]
+pub struct Connection<S> {
+    pub number: u64,
+    pub stream: S,
+}
+
+/// What goes through the channel: a connection, or the word that no more come.
+#[derive(Drop)]
+pub enum Message<S> {
+    Connection(Connection<S>),
+    Close,
+}
+
+/// What contracts see of a pass: the numbers of the connections that were sent and received by it, and how many parts of
+/// the right to know the whole it has. No value of it is made.
+pub struct Tally {
+    pub parts: u64,
+    pub sent: LinkedList<u64>,
+    pub received: LinkedList<u64>,
+}
+
+/// The rule of the channel: what was sent was received or stands in the queue.
+pub struct NothingLost;
+
+impl<S> Protocol<Message<S>, Tally> for NothingLost {
+    ghost use Rattle.std.specs.Prelude.{[]};
+    ghost use Rattle.lset_server.specs.Tallies.{tally, numbers, IsBalanced};
+    ghost use Rattle.lset_server.specs.declared.channel.TheConstants.{PARTS};
+
+    ghost holds = { λ items views. IsBalanced (numbers items) views };
+
+    ghost first = { tally PARTS [] [] };
+}
+
+/// A part is cut off a pass, or a pass is joined to another.
+pub struct Parting;
+
+impl Split<Tally> for Parting {
+    ghost use Rattle.std.specs.Prelude.{◌-◌, []};
+    ghost use Rattle.lset_server.specs.Tallies.{tally};
+
+    ghost left = { λ v. tally (v.parts - 1) v.sent v.received };
+
+    ghost right = { λ v. tally 1 [] [] };
+}
+
+impl Join<Tally> for Parting {
+    ghost use Rattle.std.specs.Prelude.{◌+◌, ◌++◌, []};
+    ghost use Rattle.lset_server.specs.Tallies.{tally};
+
+    ghost both = { λ v w. tally (v.parts + w.parts) (v.sent ++ w.sent) (v.received ++ w.received) };
+
+    ghost spent = { tally 0 [] [] };
+}
+
+/// A message is sent.
+pub struct Sending;
+
+impl<S> Outcome<Message<S>, Tally> for Sending {
+    ghost then = { λ v x w. w ≡ tally v.parts (v.sent ++ number_of x) v.received };
+}
+
+impl<S> Lesson<Message<S>, Tally> for Sending {
+    ghost fact = { λ v items. ⊤ };
+}
+
+/// A message is received.
+pub struct Receiving;
+
+impl<S> Outcome<Message<S>, Tally> for Receiving {
+    ghost then = { λ v x w. w ≡ tally v.parts v.sent (v.received ++ number_of x) };
+}
+
+impl<S> Lesson<Message<S>, Tally> for Receiving {
+    ghost fact = { λ v items. ⊤ };
+}
+
+/// What the pass with all parts knows of the queue.
+pub struct Balanced;
+
+impl<S> Lesson<Message<S>, Tally> for Balanced {
+    ghost use Rattle.std.specs.Prelude.{◌≡◌, ◌+◌, ℕ};
+    ghost use Rattle.lset_server.specs.Tallies.{weigh, numbers};
+
+    ghost fact = { λ v items. (h : ℕ → ℕ) → weigh h v.sent ≡ weigh h v.received + weigh h (numbers items) };
+}
+
+pub type Sender<S> = RuledSender<Message<S>, Tally, NothingLost>;
+
+pub type Receiver<S> = RuledReceiver<Message<S>, Tally, NothingLost>;
+
+/// A token of no bytes that lets its holder send, or receive.
+pub type Token<S> = Pass<Message<S>, Tally>;
+
+/// Sends a message, and waits while the channel is full.
+pub fn send<S: Drop, R: Wait>(
+    rt: &R,
+    to: &Sender<S>,
+    pass: &mut Token<S>,
+    message: Message<S>,
+) -> Result<(), SendError<Message<S>>>
+    requires channel { IsSeatAt (sends_on to.now) pass.old }
+    requires part { 0 < (view pass.old).parts }
+    ensures channel { IsSeatAt (sends_on to.now) pass.new }
+    ensures told { MatchResult result
+        (λ _. view pass.new ≡ tally (view pass.old).parts ((view pass.old).sent ++ number_of message) (view pass.old).received)
+        (λ _. view pass.new ≡ view pass.old) }
+{
+    to.send_as::<Sending, R>(rt, pass, message)
+}
+
+/// Waits for a message.
+pub fn receive<S: Drop, R: Wait>(
+    rt: &R,
+    from: &Receiver<S>,
+    pass: &mut Token<S>,
+) -> Result<Message<S>, RecvError>
+    requires channel { IsSeatAt (receives_on from.now) pass.old }
+    requires part { 0 < (view pass.old).parts }
+    ensures channel { IsSeatAt (receives_on from.now) pass.new }
+    ensures told { MatchResult result
+        (λ x. view pass.new ≡ tally (view pass.old).parts (view pass.old).sent ((view pass.old).received ++ number_of x))
+        (λ _. view pass.new ≡ view pass.old) }
+{
+    from.recv_as::<Receiving, R>(rt, pass)
+}
+
+/// A pass of its own for a receiver.
+pub fn cut_part<S: Drop>(to: &Sender<S>, pass: &mut Token<S>) -> Token<S>
+    requires channel { IsSeatAt (sends_on to.now) pass.old }
+    requires parts { 1 < (view pass.old).parts }
+    ensures channel { IsSeatAt (sends_on to.now) pass.new × IsSeatAt (sends_on to.now) result }
+    ensures told { (view pass.new ≡ tally ((view pass.old).parts - 1) (view pass.old).sent (view pass.old).received)
+        × (view result ≡ tally 1 [] []) }
+{
+    to.another::<Parting>(pass)
+}
+
+/// Takes a receiver's pass back.
+pub fn take_back<S: Drop>(to: &Sender<S>, pass: &mut Token<S>, other: Token<S>)
+    requires channel { IsSeatAt (sends_on to.now) pass.old × IsSeatAt (sends_on to.now) other }
+    requires part { 0 < (view pass.old).parts }
+    ensures channel { IsSeatAt (sends_on to.now) pass.new }
+    ensures told { view pass.new ≡ tally ((view pass.old).parts + (view other).parts)
+        ((view pass.old).sent ++ (view other).sent) ((view pass.old).received ++ (view other).received) }
+{
+    to.absorb::<Parting>(pass, other)
+}
+
+/// With all parts back: what was sent is what was received and what is left in the queue.
+pub fn balance<S: Drop>(to: &Sender<S>, pass: &mut Token<S>)
+    requires channel { IsSeatAt (sends_on to.now) pass.old }
+    requires all { (view pass.old).parts ≡ PARTS }
+    ensures channel { IsSeatAt (sends_on to.now) pass.new × (view pass.new ≡ view pass.old) }
+    ensures told { (queue : List ℕ) × ((h : ℕ → ℕ) →
+        weigh h (view pass.old).sent ≡ weigh h (view pass.old).received + weigh h queue) }
+{
+    to.learn_as::<Balanced>(pass)
+}

@@ -1,0 +1,238 @@
+//! Serving the connections of a listener.
+ghost use Rattle.std.specs.Prelude.{◌≡◌, ◌≢◌, ◌<◌, ◌≤◌, ◌↔◌, ◌++◌, [], All, IfErr, IfOk, IfSome, IsOk, None, OnOk, Some, length, map, sum_by};
+ghost use Rattle.std.specs.Option.{option_map};
+ghost use Rattle.crossbeam_channel.specs.Claims.{view, IsSeatAt};
+ghost use Rattle.crossbeam_channel.specs.Ends.{sends_on, receives_on};
+ghost use Rattle.lset_live.specs.Seats.{held_in};
+ghost use Rattle.lset_server.specs.Serving.{HasGathered, IsServed};
+ghost use Rattle.lset_server.specs.Tallies.{ReceivedOnce, numbers_below, tally};
+ghost use Rattle.lset_server.specs.Tallied.{tally_of};
+ghost use Rattle.lset_server.specs.declared.channel.TheConstants.{PARTS};
+
+use crate::channel::{
+    Connection, Message, NothingLost, Receiver, Sender, Tally, Token, balance, send,
+};
+use crate::workers::{Gathered, join_all, start_all};
+use crossbeam_channel::bounded_with;
+use lset_live::{LiveSet, Running, Seat};
+use std::alloc::Global;
+use std::net::{TcpListener, TcpStream};
+use std::sync::Wait;
+use std::thread;
+use std::thread::{Scope, Threads};
+use thiserror::Error;
+
+/// Why connections were not served.
+#[derive(Clone, Copy, Debug, PartialEq, Eq, Error)]
+pub enum ServeCause {
+    /// The seats do not hold all seats of the set.
+    #[error("the seats do not hold all seats of the set")]
+    Seats,
+    /// The system did not accept a connection.
+    #[error("a connection was not accepted")]
+    Accept,
+    /// The system refused a thread.
+    #[error("a thread was refused")]
+    Spawn,
+    /// The channel gave a connection back.
+    #[error("the channel gave a connection back")]
+    Send,
+    /// Memory was refused.
+    #[error("out of memory")]
+    Memory,
+    /// The workers received fewer connections than were accepted.
+    #[error("the workers received fewer connections than were accepted")]
+    Left,
+}
+
+/// What was served: how many sessions were held and how many calls were made in them, and the keys that are left, rising.
+#[derive(Drop)]
+pub struct Served {
+    pub sessions: u64,
+    pub calls: u64,
+    pub keys: Vec<u32>,
+    pass: Token<TcpStream>,
+}
+
+/// Why connections were not served. The set and the seats come back where the seats do not hold all seats of the set, as
+/// no connection was accepted then.
+#[derive(Drop)]
+pub struct ServeFault<M: Running> {
+    pub cause: ServeCause,
+    pub back: Option<(LiveSet<M>, Vec<Seat<M>>)>,
+}
+
+/// Accepts so many connections and sends them on, numbered from 0.
+fn accept_all<R: Wait>(
+    rt: &R,
+    listener: &TcpListener,
+    to: &Sender<TcpStream>,
+    pass: &mut Token<TcpStream>,
+    sessions: u32,
+) -> Result<(), ServeCause>
+    requires { IsSeatAt (sends_on to.now) pass.old × (0 < (view pass.old).parts) }
+    ensures cause { IfErr result (λ e. e ≢ ServeCause.Seats) }
+    ensures told { OnOk result (IsSeatAt (sends_on to.now) pass.new
+        × (view pass.new ≡ tally (view pass.old).parts ((view pass.old).sent ++ numbers_below sessions) (view pass.old).received)) }
+{
+    for number in 0..sessions {
+        let Ok((stream, _)) = listener.accept() else {
+            return Err(ServeCause::Accept);
+        };
+        let connection = Connection {
+            number: u64::from(number),
+            stream,
+        };
+        if send(rt, to, pass, Message::Connection(connection)).is_err() {
+            return Err(ServeCause::Send);
+        }
+    }
+    Ok(())
+}
+
+/// Tells so many workers that no more connections come.
+fn close_all<R: Wait>(
+    rt: &R,
+    to: &Sender<TcpStream>,
+    pass: &mut Token<TcpStream>,
+    workers: usize,
+) -> Result<(), ServeCause>
+    requires { IsSeatAt (sends_on to.now) pass.old × (0 < (view pass.old).parts) }
+    ensures cause { IfErr result (λ e. e ≢ ServeCause.Seats) }
+    ensures told { OnOk result (IsSeatAt (sends_on to.now) pass.new × (view pass.new ≡ view pass.old)) }
+{
+    for _ in 0..workers {
+        if send(rt, to, pass, Message::Close).is_err() {
+            return Err(ServeCause::Send);
+        }
+    }
+    Ok(())
+}
+
+/// Starts the workers, accepts the connections and joins the workers. Gives the pass with all parts, and the gathered seat.
+fn serve_in<'s, E, R: Threads + Wait + Sync, M: Running + Send + Sync>(
+    scope: &Scope<'s, E>,
+    rt: &'s R,
+    alloc: Global,
+    listener: &TcpListener,
+    to: &Sender<TcpStream>,
+    from: &'s Receiver<TcpStream>,
+    mut pass: Token<TcpStream>,
+    set: &'s LiveSet<M>,
+    seats: Vec<Seat<M>>,
+    sessions: u32,
+) -> Result<(Token<TcpStream>, Gathered<M>), ServeCause>
+    requires pass { IsSeatAt (sends_on to.now) pass × (receives_on from.now ≡ sends_on to.now) × (view pass ≡ tally PARTS [] []) }
+    requires seats { All (λ s. s.set ≡ set.now) seats.items × (length seats.items ≤ 64) }
+    ensures gathered { IfOk result (λ g. HasGathered (map (λ s. s.past) seats.items) (option_map (λ s. s.past) g.1.seat) (view g.0) sessions g.1.sessions g.1.calls) }
+    ensures held { IfOk result (λ g. held_in g.1.seat ≡ sum_by (λ s. s.held) seats.items) }
+    ensures seat { IfOk result (λ g. IfSome g.1.seat (λ s. s.set ≡ set.now)) }
+    ensures cause { IfErr result (λ e. e ≢ ServeCause.Seats) }
+{
+    let workers = seats.len();
+    let started = start_all(alloc, scope, rt, to, from, &mut pass, set, seats, sessions)?;
+    accept_all(rt, listener, to, &mut pass, sessions)?;
+    close_all(rt, to, &mut pass, workers)?;
+    let gathered = join_all(rt, to, &mut pass, set, started, sessions);
+    balance(to, &mut pass);
+    if gathered.sessions != u64::from(sessions) {
+        return Err(ServeCause::Left);
+    }
+    Ok((pass, gathered))
+}
+
+/// Makes the channel and serves through it. After a fault the channel is dropped, and the workers end.
+fn serve_all<R: Threads + Wait + Sync, M: Running + Send + Sync>(
+    rt: &R,
+    alloc: Global,
+    listener: &TcpListener,
+    set: &LiveSet<M>,
+    seats: Vec<Seat<M>>,
+    sessions: u32,
+) -> Result<(Token<TcpStream>, Gathered<M>), ServeCause>
+    requires seats { All (λ s. s.set ≡ set.now) seats.items × (0 < length seats.items) × (length seats.items ≤ 64) }
+    ensures gathered { IfOk result (λ g. HasGathered (map (λ s. s.past) seats.items) (option_map (λ s. s.past) g.1.seat) (view g.0) sessions g.1.sessions g.1.calls) }
+    ensures held { IfOk result (λ g. held_in g.1.seat ≡ sum_by (λ s. s.held) seats.items) }
+    ensures seat { IfOk result (λ g. IfSome g.1.seat (λ s. s.set ≡ set.now)) }
+    ensures cause { IfErr result (λ e. e ≢ ServeCause.Seats) }
+{
+    let Ok((to, from, pass)) = bounded_with::<Message<TcpStream>, Tally, NothingLost, Global>(
+        alloc,
+        seats.len(),
+    ) else {
+        return Err(ServeCause::Memory);
+    };
+    let from = &from;
+    thread::scope(
+        thread::scope_env(),
+        rt,
+        move |scope| -> Result<(Token<TcpStream>, Gathered<M>), ServeCause>
+            requires pass { IsSeatAt (sends_on to) pass × (receives_on from.now ≡ sends_on to) × (view pass ≡ tally PARTS [] []) }
+            requires seats { All (λ s. s.set ≡ set.now) seats.items × (length seats.items ≤ 64) }
+        {
+            serve_in(
+                scope, rt, alloc, listener, &to, from, pass, set, seats, sessions,
+            )
+        },
+    )
+}
+
+/// Accepts `sessions` connections, numbered from 0, and passes each through a channel bounded by the number of seats to a
+/// pool of one worker for each of `seats`, which are seats of `set`. Each worker runs `session` on its seat, with one
+/// connection after another. Then the seats are gathered and the set is closed. A session that ends with a fault does not
+/// end the server.
+///
+/// `ServeCause::Seats` exactly where the seats do not hold all seats of the set; then no connection was accepted, and set
+/// and seats come back. `Accept` and `Spawn` where the system refuses, `Send` where the channel gives a connection back,
+/// `Memory` where memory was refused, `Left` where the workers received fewer connections than were accepted. After these
+/// the workers that were started end, and the set is dropped. It waits for connections and for its workers, and each worker
+/// waits for its client.
+pub fn serve<R: Threads + Wait + Sync, M: Running + Send + Sync>(
+    rt: &R,
+    alloc: Global,
+    listener: TcpListener,
+    set: LiveSet<M>,
+    seats: Vec<Seat<M>>,
+    sessions: u32,
+) -> Result<Served, ServeFault<M>>
+    requires { All (λ s. s.set ≡ set) seats.items }
+    // [Serve]: each connection was received once.
+    ensures received { IfOk result (λ s. (s.sessions ≡ sessions) × ReceivedOnce sessions (tally_of s)) }
+    // [Serve]: one legal order of the seats' earlier calls and so many further ones leaves the keys.
+    ensures served { IfOk result (λ s. IsServed set.shape (map (λ t. t.past) seats.items) s.calls s.keys.items) }
+    ensures all { IsOk result → sum_by (λ s. s.held) seats.items ≡ set.shape.threads }
+    ensures refused { IfErr result (λ f. f.cause ≡ ServeCause.Seats ↔ (sum_by (λ s. s.held) seats.items ≢ set.shape.threads)) }
+    ensures back { IfErr result (λ f. (f.cause ≡ ServeCause.Seats → f.back ≡ Some (set, seats)) × (f.cause ≢ ServeCause.Seats → f.back ≡ None)) }
+{
+    if !set.is_held_by(&seats) {
+        return Err(ServeFault {
+            cause: ServeCause::Seats,
+            back: Some((set, seats)),
+        });
+    }
+    let (pass, gathered) = match serve_all(rt, alloc, &listener, &set, seats, sessions) {
+        Ok(gathered) => gathered,
+        Err(cause) => return Err(ServeFault { cause, back: None }),
+    };
+    let Gathered {
+        seat,
+        sessions,
+        calls,
+    } = gathered;
+    let Some(seat) = seat else { unreachable!() };
+    let Ok(closed) = set.close(seat) else {
+        unreachable!()
+    };
+    let Ok(keys) = closed.keys() else {
+        return Err(ServeFault {
+            cause: ServeCause::Memory,
+            back: None,
+        });
+    };
+    Ok(Served {
+        sessions,
+        calls,
+        keys,
+        pass,
+    })
+}

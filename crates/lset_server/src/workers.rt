@@ -1,0 +1,202 @@
+//! The workers of a server, one for each seat.
+ghost use Rattle.std.specs.Prelude.{◌≡◌, ◌≢◌, ◌<◌, ◌≤◌, ◌-◌, ◌*◌, [], All, IfErr, IfOk, IfSome, OnOk, length, map, sum_by};
+ghost use Rattle.std.specs.Option.{option_map};
+ghost use Rattle.crossbeam_channel.specs.Claims.{view, IsSeatAt};
+ghost use Rattle.crossbeam_channel.specs.Ends.{sends_on, receives_on};
+ghost use Rattle.lset_live.specs.Seats.{held_in};
+ghost use Rattle.lset_session.specs.declared.TheConstants.{MOST_LINES};
+ghost use Rattle.lset_server.specs.Tallies.{tally};
+ghost use Rattle.lset_server.specs.Workers.{HasWorked, HaveWorked};
+ghost use Rattle.lset_server.specs.declared.serving.ServeCause.TheVariants as cause;
+
+use crate::channel::{Connection, Message, Receiver, Sender, Token, cut_part, receive, take_back};
+use crate::serving::ServeCause;
+use lset_live::{LiveSet, Running, Seat};
+use lset_session::{Device, session};
+use std::alloc::Global;
+use std::net::TcpStream;
+use std::snapshot::Snapshot;
+use std::sync::Wait;
+use std::thread::{Promise, PromisedHandle, Scope, Threads};
+
+/// What a worker gives back: its pass, its seat, and how many sessions it held and calls it made.
+#[derive(Drop)]
+pub struct Back<M: Running> {
+    pub pass: Token<TcpStream>,
+    pub seat: Seat<M>,
+    pub sessions: u64,
+    pub calls: u64,
+}
+
+/// What a worker owes: the channel, the set and the seat that it was started with, and the most sessions that it may hold.
+#[derive(Drop)]
+pub struct Owed<M: Running> {
+    pub from: Snapshot<Receiver<TcpStream>>,
+    pub set: Snapshot<LiveSet<M>>,
+    pub seat: Snapshot<Seat<M>>,
+    pub most: u64,
+}
+
+impl<M: Running> Promise<Back<M>> for Owed<M> {
+    ghost kept_by = { λ p b. IsSeatAt (receives_on p.from.value) b.pass × (b.seat.set ≡ p.set.value)
+        × HasWorked p.seat.value b.seat (view b.pass) b.sessions b.calls
+        × (b.sessions ≤ p.most) × (b.calls ≤ MOST_LINES * p.most) };
+}
+
+/// A worker that was started.
+pub type Worker<M> = PromisedHandle<Back<M>, Owed<M>>;
+
+/// Serves connections on the seat, until no more come or `most` were received. A session that ends with a fault ends no
+/// more than itself.
+fn work<R: Wait, M: Running>(
+    rt: &R,
+    from: &Receiver<TcpStream>,
+    mut pass: Token<TcpStream>,
+    set: &LiveSet<M>,
+    mut seat: Seat<M>,
+    most: u32,
+) -> Back<M>
+    requires pass { IsSeatAt (receives_on from.now) pass × (view pass ≡ tally 1 [] []) }
+    requires seat { seat.set ≡ set.now }
+    ensures pass { IsSeatAt (receives_on from.now) result.pass }
+    ensures seat { result.seat.set ≡ set.now }
+    ensures worked { HasWorked seat result.seat (view result.pass) result.sessions result.calls }
+    ensures few { (result.sessions ≤ most) × (result.calls ≤ MOST_LINES * most) }
+{
+    let mut sessions = 0u64;
+    let mut calls = 0u64;
+    while sessions < u64::from(most) {
+        let Ok(Message::Connection(connection)) = receive(rt, from, &mut pass) else {
+            break;
+        };
+        let Connection { number: _, stream } = connection;
+        // Where the option is refused, answers may come later, and nothing else changes.
+        let _ = stream.set_nodelay(true);
+        let ended = session(
+            rt,
+            &mut Device::new(&stream),
+            &mut Device::new(&stream),
+            set,
+            &mut seat,
+        );
+        sessions += 1;
+        calls += ended.calls;
+    }
+    Back {
+        pass,
+        seat,
+        sessions,
+        calls,
+    }
+}
+
+/// Starts a worker on the seat. `None` where the system refuses the thread.
+fn start<'s, E, R: Wait + Sync, M: Running + Send + Sync>(
+    scope: &Scope<'s, E>,
+    rt: &'s R,
+    from: &'s Receiver<TcpStream>,
+    pass: Token<TcpStream>,
+    set: &'s LiveSet<M>,
+    seat: Seat<M>,
+    most: u32,
+) -> Option<Worker<M>>
+    requires pass { IsSeatAt (receives_on from.now) pass × (view pass ≡ tally 1 [] []) }
+    requires seat { seat.set ≡ set.now }
+    ensures owed { IfSome result (λ h. (receives_on h.promise.from.value ≡ receives_on from.now) × (h.promise.set.value ≡ set.now) × (h.promise.most ≡ most)) }
+    ensures seat { IfSome result (λ h. h.promise.seat.value ≡ seat) }
+{
+    let promise = Owed {
+        from: Snapshot::of(from),
+        set: Snapshot::of(set),
+        seat: Snapshot::of(&seat),
+        most: u64::from(most),
+    };
+    scope
+        .spawn_with(promise, move || work(rt, from, pass, set, seat, most))
+        .ok()
+}
+
+/// Starts a worker on each seat, with a part of the sender's pass. All memory for the handles is taken before the first
+/// one is started.
+pub fn start_all<'s, E, R: Wait + Sync, M: Running + Send + Sync>(
+    alloc: Global,
+    scope: &Scope<'s, E>,
+    rt: &'s R,
+    to: &Sender<TcpStream>,
+    from: &'s Receiver<TcpStream>,
+    pass: &mut Token<TcpStream>,
+    set: &'s LiveSet<M>,
+    seats: Vec<Seat<M>>,
+    most: u32,
+) -> Result<Vec<Worker<M>>, ServeCause>
+    requires pass { IsSeatAt (sends_on to.now) pass.old × (receives_on from.now ≡ sends_on to.now) × (length seats.items < (view pass.old).parts) }
+    requires seats { All (λ s. s.set ≡ set.now) seats.items }
+    ensures seats { IfOk result (λ v. map (λ h. h.promise.seat.value) v.items ≡ seats.items) }
+    ensures owed { IfOk result (λ v. All (λ h. (receives_on h.promise.from.value ≡ sends_on to.now) × (h.promise.set.value ≡ set.now) × (h.promise.most ≡ most)) v.items) }
+    ensures cause { IfErr result (λ e. e ≢ cause.Seats) }
+    ensures pass { OnOk result (IsSeatAt (sends_on to.now) pass.new
+        × (view pass.new ≡ tally ((view pass.old).parts - length seats.items) (view pass.old).sent (view pass.old).received)) }
+{
+    let Ok(mut workers) = Vec::with_capacity(alloc, seats.len()) else {
+        return Err(ServeCause::Memory);
+    };
+    for seat in seats {
+        let part = cut_part(to, pass);
+        let Some(worker) = start(scope, rt, from, part, set, seat, most) else {
+            return Err(ServeCause::Spawn);
+        };
+        let Ok(()) = workers.push(worker) else {
+            return Err(ServeCause::Memory);
+        };
+    }
+    Ok(workers)
+}
+
+/// What the workers did together, and the seat into which theirs were gathered.
+#[derive(Drop)]
+pub struct Gathered<M: Running> {
+    pub seat: Option<Seat<M>>,
+    pub sessions: u64,
+    pub calls: u64,
+}
+
+/// Waits for the workers, takes their passes back and gathers their seats.
+pub fn join_all<R: Threads, M: Running>(
+    rt: &R,
+    to: &Sender<TcpStream>,
+    pass: &mut Token<TcpStream>,
+    set: &LiveSet<M>,
+    workers: Vec<Worker<M>>,
+    most: u32,
+) -> Gathered<M>
+    requires pass { IsSeatAt (sends_on to.now) pass.old × (0 < (view pass.old).parts) }
+    requires owed { All (λ h. (receives_on h.promise.from.value ≡ sends_on to.now) × (h.promise.set.value ≡ set.now) × (h.promise.most ≡ most)) workers.items }
+    requires few { length workers.items ≤ 64 }
+    ensures pass { IsSeatAt (sends_on to.now) pass.new }
+    ensures joined { HaveWorked (map (λ h. h.promise.seat.value.past) workers.items) (option_map (λ s. s.past) result.seat)
+        (view pass.old) (view pass.new) (length workers.items) result.sessions result.calls }
+    ensures held { held_in result.seat ≡ sum_by (λ h. h.promise.seat.value.held) workers.items }
+    ensures seat { IfSome result.seat (λ s. s.set ≡ set.now) }
+{
+    let mut seat = None;
+    let mut sessions = 0u64;
+    let mut calls = 0u64;
+    for worker in workers {
+        let back = worker.join(rt);
+        let Back {
+            pass: part,
+            seat: given,
+            sessions: served,
+            calls: made,
+        } = back;
+        take_back(to, pass, part);
+        seat = Some(set.gather_onto(seat, given));
+        sessions += served;
+        calls += made;
+    }
+    Gathered {
+        seat,
+        sessions,
+        calls,
+    }
+}

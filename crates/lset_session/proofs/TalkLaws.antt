@@ -1,0 +1,424 @@
+-- How a session goes on from line to line.
+use Rattle.std.proofs.Common.{◌≡◌, ◌≢◌, ℕ, ◌+◌, ◌-◌, ◌<◌, ◌≤◌, Bool, true, false, eqb, List, [], ◌∷◌, ◌++◌, length, Option, Some, None, if◌then◌else◌}
+use Rattle.std.proofs.Common.{refl, sym, ap, ◌∙◌, subst, append_assoc, append-nil, arith, length-append, take, drop, get_or, take-append-drop, IsTrue, ◌↔◌}
+use Rattle.std.proofs.lemmas.Bool.{ne_eqb, lt-ltb, le-ltb, false≢true}
+use Rattle.std.proofs.Math.Seq.{take-suc}
+use Rattle.std.proofs.Common.{◌⊎◌, inl, inr, add-one}
+use Rattle.std.proofs.lemmas.List.{map-append}
+use Rattle.std.proofs.lemmas.Grind.{flat_map-append}
+use Rattle.std.proofs.lemmas.List.Elements.{All-head, All-tail}
+use Rattle.std.proofs.lemmas.List.Splits.{slice_split_none, slice_split_at}
+use Rattle.std.specs.Io.KnownBytes.{Appends, Consumes, IsAtEnd}
+use Rattle.std.proofs.KnownBytes.{Appends-nil, Appends-trans}
+use Rattle.lset_text.specs.Parts.{cut_at, Lacks}
+use Rattle.lset_text.proofs.PartLaws.{some_part}
+use Rattle.lset_live.specs.Records.{Record, CallMade, with_calls}
+use Rattle.lset_live.proofs.Records.{with_calls-append}
+use Rattle.lset_session.specs.declared.TheConstants.{LONGEST_LINE, MOST_LINES}
+use Rattle.lset_session.specs.declared.sessions.Why.{Why}
+use Rattle.lset_session.specs.declared.sessions.Why.TheVariants as why
+use Rattle.lset_session.specs.declared.requests.Request.{Request}
+use Rattle.lset_session.specs.declared.requests.Request.TheVariants as request
+use Rattle.lset_session.specs.Devices.{CutShort, Writes}
+use Rattle.lset_session.specs.SessionText.{Turn, line, long, limit, turns_after, turns_at, turns_of, request_of, end_after, end_of}
+use Rattle.lset_session.specs.SessionText.{Exchange, made, bad, bye, too_long, at_limit, turn_of, answer_of, call_of, turns_in, answers_in, calls_in}
+use Rattle.lset_session.specs.Sessions.{Wrote, text_end, IsSession}
+use Rattle.lset_session.specs.Talks.{WroteSoFar, IsLast, Told, Heard, counted, failed_by, ending}
+
+-- ---- the parts of a text that goes on
+
+-- bytes without a newline stand before the first part
+cut_more : (q x : List ℕ) (xs : List (List ℕ)) (more : List ℕ) → cut_at 10 more ≡ x ∷ xs → Lacks 10 q
+    → cut_at 10 (q ++ more) ≡ (q ++ x) ∷ xs
+cut_more [] x xs more e lacks = e
+cut_more (b ∷ bs) x xs more e lacks =
+    let not_it = All-head (λ b. eqb b 10 ≡ false) b bs lacks in
+    rw (not_it, cut_more bs x xs more e (All-tail (λ b. eqb b 10 ≡ false) b bs lacks)) refl
+
+pub turns_long : (left : ℕ) (q more : List ℕ) → Lacks 10 q → LONGEST_LINE < length q → turns_at left (cut_at 10 (q ++ more)) ≡ long ∷ []
+turns_long left q more lacks many = by_parts (cut_at 10 more) refl (some_part 10 more)
+  where
+    by_parts : (parts : List (List ℕ)) → cut_at 10 more ≡ parts → 0 < length parts → turns_at left (cut_at 10 (q ++ more)) ≡ long ∷ []
+    by_parts [] e some = absurd (omega arith)
+    by_parts (x ∷ []) e some =
+        let much = lt-ltb LONGEST_LINE (length (q ++ x)) (omega (arith, many, length-append q x)) in
+        rw (cut_more q x [] more e lacks, much) refl
+    by_parts (x ∷ y ∷ ys) e some =
+        let much = lt-ltb LONGEST_LINE (length (q ++ x)) (omega (arith, many, length-append q x)) in
+        rw (cut_more q x (y ∷ ys) more e lacks, much) refl
+
+pub turns_line : (left : ℕ) (p more : List ℕ) → Lacks 10 p → length p ≤ LONGEST_LINE
+    → turns_at left (cut_at 10 (p ++ 10 ∷ more)) ≡ turns_after left (request_of p) (turns_at (left - 1) (cut_at 10 more))
+turns_line left p more lacks short = by_parts (cut_at 10 more) refl (some_part 10 more)
+  where
+    first : cut_at 10 (p ++ 10 ∷ more) ≡ p ∷ cut_at 10 more
+    first = slice_split_at (λ b. eqb b 10) p 10 more lacks refl
+
+    by_parts : (parts : List (List ℕ)) → cut_at 10 more ≡ parts → 0 < length parts
+        → turns_at left (cut_at 10 (p ++ 10 ∷ more)) ≡ turns_after left (request_of p) (turns_at (left - 1) (cut_at 10 more))
+    by_parts [] e some = absurd (omega arith)
+    by_parts (y ∷ ys) e some =
+        let few = le-ltb LONGEST_LINE (length p) short in
+        rw (first, e, few) refl
+
+-- a rest without a newline asks for nothing
+pub turns_rest : (left : ℕ) (p : List ℕ) → Lacks 10 p → length p ≤ LONGEST_LINE → turns_at left (cut_at 10 (p ++ [])) ≡ []
+turns_rest left p lacks short =
+    let few = le-ltb LONGEST_LINE (length p) short in
+    let one = slice_split_none (λ b. eqb b 10) p lacks in
+    rw (append-nil p, one, few) refl
+
+-- ---- the turn of a line
+
+pub turns_quit : (left : ℕ) (e : Exchange) (q : Request) (later : List Turn) → turn_of e ≡ line q → q ≡ request.Quit
+    → turns_after left q later ≡ turn_of e ∷ []
+turns_quit left e request.Quit later h is = ap (λ (t : Turn). t ∷ []) (sym h)
+turns_quit left e request.Bad later h is = absurd cc
+turns_quit left e (request.Call c) later h is = absurd cc
+
+pub turns_other : (left : ℕ) (e : Exchange) (q : Request) (later : List Turn) → turn_of e ≡ line q → q ≢ request.Quit
+    → turns_after left q later ≡ turn_of e ∷ (if eqb left 1 then limit ∷ [] else later)
+turns_other left e request.Quit later h other = absurd (other refl)
+turns_other left e request.Bad later h other = ap (λ (t : Turn). t ∷ (if eqb left 1 then limit ∷ [] else later)) (sym h)
+turns_other left e (request.Call c) later h other = ap (λ (t : Turn). t ∷ (if eqb left 1 then limit ∷ [] else later)) (sym h)
+
+first_turn : (left : ℕ) (e : Exchange) (q : Request) (later : List Turn) → turn_of e ≡ line q
+    → (others : List Turn) × (turns_after left q later ≡ turn_of e ∷ others)
+first_turn left e request.Quit later h = ([], turns_quit left e request.Quit later h refl)
+first_turn left e request.Bad later h = (_, turns_other left e request.Bad later h (λ bad. absurd cc))
+first_turn left e (request.Call c) later h = (_, turns_other left e (request.Call c) later h (λ bad. absurd cc))
+
+end_quit : (e : Exchange) (q : Request) → turn_of e ≡ line q → q ≡ request.Quit → end_of (turn_of e ∷ []) ≡ why.Quit
+end_quit e request.Quit h is = ap (λ t. end_after t why.End) h
+end_quit e request.Bad h is = absurd cc
+end_quit e (request.Call c) h is = absurd cc
+
+end_other : (e : Exchange) (q : Request) (w : Why) → turn_of e ≡ line q → q ≢ request.Quit → end_after (turn_of e) w ≡ w
+end_other e request.Quit w h other = absurd (other refl)
+end_other e request.Bad w h other = ap (λ t. end_after t w) h
+end_other e (request.Call c) w h other = ap (λ t. end_after t w) h
+
+pub counted_is : (e : Exchange) (q : Request) → turn_of e ≡ line q → length (call_of e) ≡ counted q
+counted_is (made c) request.Quit h = absurd cc
+counted_is (made c) request.Bad h = absurd cc
+counted_is (made c) (request.Call d) h = refl
+counted_is bad request.Quit h = refl
+counted_is bad request.Bad h = refl
+counted_is bad (request.Call d) h = absurd cc
+counted_is bye request.Quit h = refl
+counted_is bye request.Bad h = refl
+counted_is bye (request.Call d) h = absurd cc
+counted_is too_long request.Quit h = refl
+counted_is too_long request.Bad h = refl
+counted_is too_long (request.Call d) h = absurd cc
+counted_is at_limit request.Quit h = refl
+counted_is at_limit request.Bad h = refl
+counted_is at_limit (request.Call d) h = absurd cc
+
+-- ---- what was heard
+
+pub heard_nothing : (left : ℕ) (p : List ℕ) (r : Record) (w : Option (List ℕ)) (n : ℕ) → Heard left p None left p r r w w n n
+heard_nothing left p r w n = record {
+  talk = [];
+  told = (refl, λ more. refl);
+  recorded = refl;
+  wrote = Appends-nil w;
+  count = omega arith;
+}
+
+pub heard_long : (left left' : ℕ) (q p' : List ℕ) (r : Record) (w w' : Option (List ℕ)) (n : ℕ) (whole : Bool) → Lacks 10 q → LONGEST_LINE < length q
+    → Writes whole w w' (answer_of too_long) → Heard left q (ending whole why.Long) left' p' r r w w' n n
+heard_long left left' q p' r w w' n true lacks many wrote = record {
+  talk = too_long ∷ [];
+  told = (tt, λ more. ([], turns_long left q more lacks many, λ _. (refl, refl)));
+  recorded = refl;
+  wrote = wrote;
+  count = omega arith;
+}
+heard_long left left' q p' r w w' n false lacks many (front, b, cut, is, wrote) = record {
+  talk = too_long ∷ [];
+  told = (tt, λ more. ([], turns_long left q more lacks many, λ bad. absurd (bad refl)));
+  recorded = refl;
+  wrote = ([], too_long, front, b, cut, refl, is, wrote);
+  count = omega arith;
+}
+
+-- a line that ended, with what was said
+module _ (left left' : ℕ) (p p' : List ℕ) (r r' : Record) (w w' : Option (List ℕ)) (n n' : ℕ) (e : Exchange)
+    (lacks : Lacks 10 p) (short : length p ≤ LONGEST_LINE) (is : turn_of e ≡ line (request_of p))
+    (recorded : r' ≡ with_calls r (call_of e)) (count : n' ≡ n + counted (request_of p)) where
+  abbrev said : List ℕ → List ℕ
+  said more = (p ++ 10 ∷ []) ++ more
+
+  pub line_turns : (more : List ℕ) → turns_at left (cut_at 10 ((p ++ 10 ∷ []) ++ more)) ≡ turns_after left (request_of p) (turns_at (left - 1) (cut_at 10 more))
+  line_turns more = ap (λ t. turns_at left (cut_at 10 t)) (append_assoc p (10 ∷ []) more) ∙ turns_line left p more lacks short
+
+  one_recorded : r' ≡ with_calls r (call_of e ++ [])
+  one_recorded = recorded ∙ ap (with_calls r) (sym (append-nil (call_of e)))
+
+  one_count : n' ≡ n + length (call_of e ++ [])
+  one_count = omega (arith, count, counted_is e (request_of p) is, ap (λ (l : List CallMade). length l) (append-nil (call_of e)))
+
+  pub heard_cut : CutShort w w' (answer_of e) → Heard left (p ++ 10 ∷ []) (Some why.WriteFault) left' p' r r' w w' n n'
+  heard_cut (front, b, cut, all, wrote) = record {
+    talk = e ∷ [];
+    told = (
+      tt,
+      λ more.
+          let others = first_turn left e (request_of p) (turns_at (left - 1) (cut_at 10 more)) is in
+          (others.0, line_turns more ∙ others.1, λ bad. absurd (bad refl)),
+    );
+    recorded = one_recorded;
+    wrote = ([], e, front, b, cut, refl, all, wrote);
+    count = one_count;
+  }
+
+  one_wrote : Appends w w' (answer_of e) → Appends w w' (answers_in (e ∷ []))
+  one_wrote wrote = subst (Appends w w') (sym (append-nil (answer_of e))) wrote
+
+  pub heard_quit : request_of p ≡ request.Quit → Appends w w' (answer_of e) → Heard left (p ++ 10 ∷ []) (Some why.Quit) left' p' r r' w w' n n'
+  heard_quit quit wrote = record {
+    talk = e ∷ [];
+    told = (
+      tt,
+      λ more.
+          ([], line_turns more ∙ turns_quit left e (request_of p) _ is quit, λ _. (refl, end_quit e (request_of p) is quit)),
+    );
+    recorded = one_recorded;
+    wrote = one_wrote wrote;
+    count = one_count;
+  }
+
+  pub heard_line : request_of p ≢ request.Quit → 1 < left → Appends w w' (answer_of e) → Heard left (p ++ 10 ∷ []) None (left - 1) [] r r' w w' n n'
+  heard_line other more_lines wrote = record {
+    talk = e ∷ [];
+    told = (
+      end_other e (request_of p) why.End is other,
+      λ more.
+          let not_last : eqb left 1 ≡ false = ne_eqb left 1 (λ one. absurd (omega (arith, one, more_lines))) in
+          let later = turns_at (left - 1) (cut_at 10 more) in
+          line_turns more ∙ turns_other left e (request_of p) later is other
+          ∙ ap (λ b. turn_of e ∷ (if b then limit ∷ [] else later)) not_last,
+    );
+    recorded = one_recorded;
+    wrote = one_wrote wrote;
+    count = one_count;
+  }
+
+  pub heard_limit : (w'' : Option (List ℕ)) (whole : Bool) → request_of p ≢ request.Quit → left ≡ 1 → Appends w w' (answer_of e)
+      → Writes whole w' w'' (answer_of at_limit) → Heard left (p ++ 10 ∷ []) (ending whole why.Limit) left' p' r r' w w'' n n'
+  heard_limit w'' true other last wrote end = record {
+    talk = e ∷ at_limit ∷ [];
+    told = (
+      tt,
+      λ more.
+          ([], last_turns more, λ _. (refl, end_other e (request_of p) why.Limit is other)),
+    );
+    recorded = one_recorded;
+    wrote = Appends-trans w w' w'' (answer_of e) (answer_of at_limit) wrote end;
+    count = one_count;
+  }
+    where
+      last_turns : (more : List ℕ) → turns_at left (cut_at 10 ((p ++ 10 ∷ []) ++ more)) ≡ turn_of e ∷ limit ∷ []
+      last_turns more = line_turns more ∙ turns_other left e (request_of p) _ is other
+          ∙ ap (λ b. turn_of e ∷ (if eqb b 1 then limit ∷ [] else turns_at (left - 1) (cut_at 10 more))) last
+  heard_limit w'' false other last wrote (front, b, cut, all, end) = record {
+    talk = e ∷ at_limit ∷ [];
+    told = (
+      tt,
+      λ more. (
+        [],
+        line_turns more ∙ turns_other left e (request_of p) _ is other
+            ∙ ap (λ b. turn_of e ∷ (if eqb b 1 then limit ∷ [] else turns_at (left - 1) (cut_at 10 more))) last,
+        λ bad. absurd (bad refl),
+      ),
+    );
+    recorded = one_recorded;
+    wrote = (e ∷ [], at_limit, front, b, cut, refl, all, Appends-trans w w' w'' (answers_in (e ∷ [])) front (one_wrote wrote) end);
+    count = one_count;
+  }
+
+-- ---- one after the other
+
+end_append : (ts us : List Turn) → end_of ts ≡ why.End → end_of (ts ++ us) ≡ end_of us
+end_append [] us h = refl
+end_append (line request.Quit ∷ ts) us h = absurd cc
+end_append (line request.Bad ∷ ts) us h = end_append ts us h
+end_append (line (request.Call c) ∷ ts) us h = end_append ts us h
+end_append (long ∷ ts) us h = absurd cc
+end_append (limit ∷ ts) us h = absurd cc
+
+turns_then : (s t : List Exchange) (rest : List Turn) → turns_in s ++ (turns_in t ++ rest) ≡ turns_in (s ++ t) ++ rest
+turns_then s t rest = sym (append_assoc (turns_in s) (turns_in t) rest) ∙ ap (λ l. l ++ rest) (sym (map-append turn_of s t))
+
+end_then : (s t : List Exchange) → end_of (turns_in s) ≡ why.End → end_of (turns_in (s ++ t)) ≡ end_of (turns_in t)
+end_then s t h = ap end_of (map-append turn_of s t) ∙ end_append (turns_in s) (turns_in t) h
+
+told_then : (l l' l'' : ℕ) (p p' p'' cs : List ℕ) (o : Option Why) (s t : List Exchange) → Told l p None l' p' s → Told l' (p' ++ cs) o l'' p'' t
+    → Told l (p ++ cs) o l'' p'' (s ++ t)
+told_then l l' l'' p p' p'' cs None s t h k = (
+  end_then s t h.0 ∙ k.0,
+  λ more.
+      ap (λ b. turns_at l (cut_at 10 b)) (append_assoc p cs more) ∙ h.1 (cs ++ more)
+      ∙ ap (λ b. turns_in s ++ turns_at l' (cut_at 10 b)) (sym (append_assoc p' cs more))
+      ∙ ap (λ b. turns_in s ++ b) (k.1 more) ∙ turns_then s t _,
+)
+told_then l l' l'' p p' p'' cs (Some w) s t h k = (
+  k.0,
+  λ more.
+      let last = k.1 more in (
+        last.0,
+        ap (λ b. turns_at l (cut_at 10 b)) (append_assoc p cs more) ∙ h.1 (cs ++ more)
+            ∙ ap (λ b. turns_in s ++ turns_at l' (cut_at 10 b)) (sym (append_assoc p' cs more))
+            ∙ ap (λ b. turns_in s ++ b) last.1 ∙ turns_then s t last.0,
+        λ other. ((last.2 other).0, end_then s t h.0 ∙ (last.2 other).1),
+      ),
+)
+
+wrote_whole : (w w' w'' : Option (List ℕ)) (s t : List Exchange) → Appends w w' (answers_in s) → Appends w' w'' (answers_in t)
+    → Appends w w'' (answers_in (s ++ t))
+wrote_whole w w' w'' s t h k =
+    subst (Appends w w'') (sym (flat_map-append answer_of s t)) (Appends-trans w w' w'' (answers_in s) (answers_in t) h k)
+
+wrote_then : (o : Option Why) (w w' w'' : Option (List ℕ)) (s t : List Exchange) → Appends w w' (answers_in s) → WroteSoFar o w' w'' t → WroteSoFar o w w'' (s ++ t)
+wrote_then None w w' w'' s t h k = wrote_whole w w' w'' s t h k
+wrote_then (Some why.WriteFault) w w' w'' s t h (said, last, front, b, cut, all, is, k) = (
+  s ++ said,
+  last,
+  front,
+  b,
+  cut,
+  ap (λ l. s ++ l) all ∙ sym (append_assoc s said (last ∷ [])),
+  is,
+  subst (Appends w w'')
+      (sym (append_assoc (answers_in s) (answers_in said) front) ∙ ap (λ l. l ++ front) (sym (flat_map-append answer_of s said)))
+      (Appends-trans w w' w'' (answers_in s) (answers_in said ++ front) h k),
+)
+wrote_then (Some why.Quit) w w' w'' s t h k = wrote_whole w w' w'' s t h k
+wrote_then (Some why.End) w w' w'' s t h k = wrote_whole w w' w'' s t h k
+wrote_then (Some why.Long) w w' w'' s t h k = wrote_whole w w' w'' s t h k
+wrote_then (Some why.Limit) w w' w'' s t h k = wrote_whole w w' w'' s t h k
+wrote_then (Some why.ReadFault) w w' w'' s t h k = wrote_whole w w' w'' s t h k
+
+pub heard_then : (l l' l'' : ℕ) (p p' p'' cs : List ℕ) (o : Option Why) (r r' r'' : Record) (w w' w'' : Option (List ℕ)) (n n' n'' : ℕ)
+    → Heard l p None l' p' r r' w w' n n' → Heard l' (p' ++ cs) o l'' p'' r' r'' w' w'' n' n'' → Heard l (p ++ cs) o l'' p'' r r'' w w'' n n''
+heard_then l l' l'' p p' p'' cs o r r' r'' w w' w'' n n' n'' h k = record {
+  talk = h.talk ++ k.talk;
+  told = told_then l l' l'' p p' p'' cs o h.talk k.talk h.told k.told;
+  recorded = k.recorded ∙ ap (λ (q : Record). with_calls q (calls_in k.talk)) h.recorded ∙ sym (with_calls-append r (calls_in h.talk) (calls_in k.talk))
+      ∙ ap (with_calls r) (sym (flat_map-append call_of h.talk k.talk));
+  wrote = wrote_then o w w' w'' h.talk k.talk h.wrote k.wrote;
+  count = omega (
+    arith,
+    h.count,
+    k.count,
+    ap (λ (l : List CallMade). length l) (flat_map-append call_of h.talk k.talk),
+    length-append (calls_in h.talk) (calls_in k.talk),
+  );
+}
+
+-- what comes after the end is not heard
+pub heard_more : (l l' : ℕ) (p p' cs : List ℕ) (end : Why) (r r' : Record) (w w' : Option (List ℕ)) (n n' : ℕ)
+    → Heard l p (Some end) l' p' r r' w w' n n' → Heard l (p ++ cs) (Some end) l' p' r r' w w' n n'
+heard_more l l' p p' cs end r r' w w' n n' h = record {
+  talk = h.talk;
+  told = (
+    h.told.0,
+    λ more.
+        let last = h.told.1 (cs ++ more) in
+        (last.0, ap (λ b. turns_at l (cut_at 10 b)) (append_assoc p cs more) ∙ last.1, last.2),
+  );
+  recorded = h.recorded;
+  wrote = h.wrote;
+  count = h.count;
+}
+
+-- ---- the bytes of one read
+
+-- one byte more
+pub heard_byte : (l l' l'' : ℕ) (p p' p'' xs : List ℕ) (i : ℕ) (o : Option Why) (r r' r'' : Record) (w w' w'' : Option (List ℕ)) (n n' n'' : ℕ)
+    → i < length xs → Heard l (p ++ take i xs) None l' p' r r' w w' n n' → Heard l' (p' ++ get_or xs i 0 ∷ []) o l'' p'' r' r'' w' w'' n' n''
+    → Heard l (p ++ take (i + 1) xs) o l'' p'' r r'' w w'' n n''
+heard_byte l l' l'' p p' p'' xs i o r r' r'' w w' w'' n n' n'' lt h k =
+    let regrouped : (p ++ take i xs) ++ get_or xs i 0 ∷ [] ≡ p ++ take (i + 1) xs =
+    append_assoc p (take i xs) (get_or xs i 0 ∷ []) ∙ ap (λ t. p ++ t) (sym (take-suc xs i 0 lt) ∙ ap (λ j. take j xs) (sym (add-one i))) in
+    subst (λ t. Heard l t o l'' p'' r r'' w w'' n n'') regrouped
+    (heard_then l l' l'' (p ++ take i xs) p' p'' (get_or xs i 0 ∷ []) o r r' r'' w w' w'' n n' n'' h k)
+
+-- the bytes after the end are not heard
+pub heard_rest : (l l' : ℕ) (p p' xs : List ℕ) (i : ℕ) (end : Why) (r r' : Record) (w w' : Option (List ℕ)) (n n' : ℕ)
+    → Heard l (p ++ take i xs) (Some end) l' p' r r' w w' n n' → Heard l (p ++ xs) (Some end) l' p' r r' w w' n n'
+heard_rest l l' p p' xs i end r r' w w' n n' h =
+    subst (λ t. Heard l t (Some end) l' p' r r' w w' n n') (append_assoc p (take i xs) (drop i xs) ∙ ap (λ t. p ++ t) (take-append-drop i xs))
+    (heard_more l l' (p ++ take i xs) p' (drop i xs) end r r' w w' n n' h)
+
+-- ---- the end
+
+-- no whole line is left, and no line has ended the session
+pub spoken_rest : (end : Why) (bytes : List ℕ) (left : ℕ) (p : List ℕ) (r r' : Record) (s s' w w' : Option (List ℕ)) (n : ℕ) → Lacks 10 p → length p ≤ LONGEST_LINE
+    → (end ≡ why.End) ⊎ (end ≡ why.ReadFault) → (end ≡ why.End → IsAtEnd s') → Consumes s s' bytes → Heard MOST_LINES bytes None left p r r' w w' 0 n
+    → IsSession end n s s' r r' w w'
+unfolding turns_of
+spoken_rest end bytes left p r r' s s' w w' n lacks short which drained read h =
+    let all : turns_of bytes ≡ turns_in h.talk =
+    ap (λ b. turns_at MOST_LINES (cut_at 10 b)) (sym (append-nil bytes)) ∙ h.told.1 [] ∙ ap (λ t. turns_in h.talk ++ t) (turns_rest left p lacks short)
+    ∙ append-nil (turns_in h.talk) in
+    record {
+      bytes = bytes;
+      talk = h.talk;
+      read = read;
+      recorded = h.recorded;
+      count = omega (arith, h.count);
+      wrote = wrote_so end which h.talk h.wrote;
+      turns = ([], all ∙ sym (append-nil (turns_in h.talk)), λ _. refl);
+      ends = λ _. ap end_of all ∙ h.told.0 ∙ at_end end which;
+      drained = drained;
+    }
+  where
+    wrote_so : (end : Why) → (end ≡ why.End) ⊎ (end ≡ why.ReadFault) → (talk : List Exchange) → Appends w w' (answers_in talk) → Wrote end w w' talk
+    wrote_so end (inl is) talk h = rw is h
+    wrote_so end (inr is) talk h = rw is h
+
+    at_end : (end : Why) → (end ≡ why.End) ⊎ (end ≡ why.ReadFault) → why.End ≡ text_end end
+    at_end end (inl is) = rw is refl
+    at_end end (inr is) = rw is refl
+
+pub spoken_last : (end : Why) (bytes : List ℕ) (left : ℕ) (p : List ℕ) (r r' : Record) (s s' w w' : Option (List ℕ)) (n : ℕ)
+    → Consumes s s' bytes → Heard MOST_LINES bytes (Some end) left p r r' w w' 0 n → IsSession end n s s' r r' w w'
+unfolding turns_of
+spoken_last end bytes left p r r' s s' w w' n read h =
+    let last = h.told.1 [] in
+    let all : turns_of bytes ≡ turns_in h.talk ++ last.0 = ap (λ b. turns_at MOST_LINES (cut_at 10 b)) (sym (append-nil bytes)) ∙ last.1 in
+    record {
+      bytes = bytes;
+      talk = h.talk;
+      read = read;
+      recorded = h.recorded;
+      count = omega (arith, h.count);
+      wrote = h.wrote;
+      turns = (last.0, all, λ other. (last.2 other).0);
+      ends = λ other. ap end_of (all ∙ ap (λ t. turns_in h.talk ++ t) (last.2 other).0 ∙ append-nil (turns_in h.talk)) ∙ (last.2 other).1 ∙ itself end h.told.0;
+      drained = λ is. absurd (not_end end h.told.0 is);
+    }
+  where
+    not_end : (end : Why) → IsLast end → end ≡ why.End → ⊥
+    not_end end l is = subst IsLast is l
+
+    itself : (end : Why) → IsLast end → end ≡ text_end end
+    itself why.Quit l = refl
+    itself why.Long l = refl
+    itself why.Limit l = refl
+    itself why.WriteFault l = refl
+    itself why.End l = absurd l
+    itself why.ReadFault l = absurd l
+
+pub not_reading : (end : Why) → IsLast end → end ≡ why.ReadFault → ⊥
+not_reading end l is = subst IsLast is l
+
+pub failed_is : (end : Why) (b : Bool) → b ≡ failed_by (Some end) → IsTrue b ↔ (end ≡ why.WriteFault)
+failed_is why.Quit b h = (λ t. absurd (false≢true (sym h ∙ t)), λ e. absurd cc)
+failed_is why.End b h = (λ t. absurd (false≢true (sym h ∙ t)), λ e. absurd cc)
+failed_is why.Long b h = (λ t. absurd (false≢true (sym h ∙ t)), λ e. absurd cc)
+failed_is why.Limit b h = (λ t. absurd (false≢true (sym h ∙ t)), λ e. absurd cc)
+failed_is why.ReadFault b h = (λ t. absurd (false≢true (sym h ∙ t)), λ e. absurd cc)
+failed_is why.WriteFault b h = (λ t. refl, λ e. h)

@@ -1,0 +1,122 @@
+-- [Session text]: what the lines of a session ask for, and what is answered. It speaks of all bytes of the input at once, cut at newlines.
+use Rattle.std.specs.Prelude.{ℕ, ◌-◌, ◌==◌, nat_lt, List, [], ◌∷◌, map, length, codes, Option, Some, None, if◌then◌else◌}
+use Rattle.std.specs.List.{flat_map}
+use Rattle.std.specs.Str.{bytes_eq}
+use Rattle.lset_words.specs.declared.Key.{Key}
+use Rattle.lset_words.specs.declared.Call.TheVariants.{Add, Remove, Contains}
+use Rattle.lset_words.specs.declared.Reply.{Reply}
+use Rattle.lset_words.specs.declared.Reply.TheVariants as reply
+use Rattle.lset_text.specs.Parts.{cut_at, ended}
+use Rattle.lset_text.specs.Numbers.{number_in, max_number}
+use Rattle.lset_live.specs.Records.{CallMade}
+use Rattle.lset_session.specs.declared.TheConstants.{LONGEST_LINE, MOST_LINES}
+use Rattle.lset_session.specs.declared.requests.Request.{Request}
+use Rattle.lset_session.specs.declared.requests.Request.TheVariants as request
+use Rattle.lset_session.specs.declared.sessions.Why.{Why}
+use Rattle.lset_session.specs.declared.sessions.Why.TheVariants as why
+
+-- ---- what a line asks for
+
+abbrev pub call_in : List ℕ → Key → Request
+call_in word key =
+    if bytes_eq word (codes "ADD") then request.Call (Add key)
+    else (if bytes_eq word (codes "REMOVE") then request.Call (Remove key)
+    else (if bytes_eq word (codes "CONTAINS") then request.Call (Contains key)
+    else request.Bad))
+
+abbrev pub call_with : List ℕ → Option ℕ → Request
+call_with word None = request.Bad
+call_with word (Some k) = call_in word (record { 0 = k })
+
+abbrev pub request_of_pieces : List (List ℕ) → Request
+request_of_pieces [] = request.Bad
+request_of_pieces (a ∷ []) = if bytes_eq a (codes "QUIT") then request.Quit else request.Bad
+request_of_pieces (a ∷ b ∷ []) = call_with a (number_in 0 max_number b)
+request_of_pieces (a ∷ b ∷ c ∷ more) = request.Bad
+
+-- the request of a line, without its newline
+unfoldable pub request_of : List ℕ → Request
+request_of line = request_of_pieces (cut_at 32 line)
+
+-- ---- what the bytes of a session ask for
+
+-- a line that is answered, a line that is too long, or that no more lines are answered
+pub data Turn : Type 0 where
+  line : Request → Turn
+  long : Turn
+  limit : Turn
+
+-- the turn of a line, and those after it: none after QUIT, and the limit where no further line may be answered
+abbrev pub turns_after : ℕ → Request → List Turn → List Turn
+turns_after left request.Quit later = line request.Quit ∷ []
+turns_after left request.Bad later = line request.Bad ∷ (if left == 1 then limit ∷ [] else later)
+turns_after left (request.Call c) later = line (request.Call c) ∷ (if left == 1 then limit ∷ [] else later)
+
+-- the turns of the parts between newlines, where `left` more lines may be answered; the last part has no newline
+abbrev pub turns_at : ℕ → List (List ℕ) → List Turn
+turns_at left [] = []
+turns_at left (rest ∷ []) = if nat_lt LONGEST_LINE (length rest) then long ∷ [] else []
+turns_at left (first ∷ next ∷ more) =
+    if nat_lt LONGEST_LINE (length first) then long ∷ []
+    else turns_after left (request_of first) (turns_at (left - 1) (next ∷ more))
+
+unfoldable pub turns_of : List ℕ → List Turn
+turns_of bytes = turns_at MOST_LINES (cut_at 10 bytes)
+
+-- how a session with these turns ends
+abbrev pub end_after : Turn → Why → Why
+end_after (line request.Quit) otherwise = why.Quit
+end_after (line request.Bad) otherwise = otherwise
+end_after (line (request.Call c)) otherwise = otherwise
+end_after long otherwise = why.Long
+end_after limit otherwise = why.Limit
+
+abbrev pub end_of : List Turn → Why
+end_of [] = why.End
+end_of (t ∷ ts) = end_after t (end_of ts)
+
+-- ---- what is said
+
+-- a turn with its answer: a call with its reply, or what else a turn is answered by
+pub data Exchange : Type 0 where
+  made : CallMade → Exchange
+  bad : Exchange
+  bye : Exchange
+  too_long : Exchange
+  at_limit : Exchange
+
+abbrev pub turn_of : Exchange → Turn
+turn_of (made c) = line (request.Call c.call)
+turn_of bad = line request.Bad
+turn_of bye = line request.Quit
+turn_of too_long = long
+turn_of at_limit = limit
+
+abbrev pub reply_word : Reply → List ℕ
+reply_word reply.True = codes "TRUE"
+reply_word reply.False = codes "FALSE"
+reply_word reply.Full = codes "FULL"
+
+-- the line that answers a turn
+abbrev pub answer_of : Exchange → List ℕ
+answer_of (made c) = ended (reply_word c.reply)
+answer_of bad = ended (codes "BAD")
+answer_of bye = ended (codes "BYE")
+answer_of too_long = ended (codes "LONG")
+answer_of at_limit = ended (codes "LIMIT")
+
+abbrev pub call_of : Exchange → List CallMade
+call_of (made c) = c ∷ []
+call_of bad = []
+call_of bye = []
+call_of too_long = []
+call_of at_limit = []
+
+abbrev pub turns_in : List Exchange → List Turn
+turns_in talk = map turn_of talk
+
+abbrev pub answers_in : List Exchange → List ℕ
+answers_in talk = flat_map answer_of talk
+
+abbrev pub calls_in : List Exchange → List CallMade
+calls_in talk = flat_map call_of talk

@@ -1,0 +1,47 @@
+-- [Session]: what a session did that has ended.
+use Rattle.std.specs.Prelude.{◌≡◌, ◌≢◌, ℕ, List, [], ◌∷◌, ◌++◌, length, Option}
+use Rattle.std.specs.Io.KnownBytes.{Appends, Consumes, IsAtEnd}
+use Rattle.lset_live.specs.Records.{Record, with_calls}
+use Rattle.lset_session.specs.declared.sessions.Why.{Why}
+use Rattle.lset_session.specs.declared.sessions.Why.TheVariants as why
+use Rattle.lset_session.specs.SessionText.{Turn, turns_of, end_of, Exchange, turns_in, answers_in, calls_in, answer_of}
+
+-- the answers were written up to the last one, and of the last one a proper front
+abbrev pub CutAnswers : Option (List ℕ) → Option (List ℕ) → List Exchange → Type 0
+CutAnswers w w' talk =
+    (said : List Exchange) × (last : Exchange) × (front : List ℕ) × (b : ℕ) × (cut : List ℕ)
+    × (talk ≡ said ++ last ∷ []) × (answer_of last ≡ front ++ b ∷ cut) × Appends w w' (answers_in said ++ front)
+
+-- what was written of the answers, where the session has ended so
+abbrev pub Wrote : Why → Option (List ℕ) → Option (List ℕ) → List Exchange → Type 0
+Wrote why.WriteFault w w' talk = CutAnswers w w' talk
+Wrote why.Quit w w' talk = Appends w w' (answers_in talk)
+Wrote why.End w w' talk = Appends w w' (answers_in talk)
+Wrote why.Long w w' talk = Appends w w' (answers_in talk)
+Wrote why.Limit w w' talk = Appends w w' (answers_in talk)
+Wrote why.ReadFault w w' talk = Appends w w' (answers_in talk)
+
+-- how the text that was read ends, where the session has ended so: a reader that has failed has ended no text
+abbrev pub text_end : Why → Why
+text_end why.Quit = why.Quit
+text_end why.End = why.End
+text_end why.Long = why.Long
+text_end why.Limit = why.Limit
+text_end why.ReadFault = why.End
+text_end why.WriteFault = why.WriteFault
+
+-- A SESSION that has ended so and made so many calls: the bytes that were left to read before and after it (s, s'), the record of its
+-- seat (r, r'), and the bytes that were written (w, w').
+pub record IsSession (end : Why) (calls : ℕ) (s s' : Option (List ℕ)) (r r' : Record) (w w' : Option (List ℕ)) : Type 0 where
+  -- the bytes that were read, and what was asked and answered
+  pub bytes : List ℕ
+  pub talk : List Exchange
+  pub read : Consumes s s' bytes
+  -- what was asked are the turns of these bytes: all of them, unless a write has failed
+  pub turns : (later : List Turn) × (turns_of bytes ≡ turns_in talk ++ later) × (end ≢ why.WriteFault → later ≡ [])
+  pub recorded : r' ≡ with_calls r (calls_in talk)
+  pub count : calls ≡ length (calls_in talk)
+  pub wrote : Wrote end w w' talk
+  -- the text of these bytes ends so, unless a write has failed
+  pub ends : end ≢ why.WriteFault → end_of (turns_of bytes) ≡ text_end end
+  pub drained : end ≡ why.End → IsAtEnd s'

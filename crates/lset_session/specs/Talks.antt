@@ -1,0 +1,86 @@
+-- A session that has come so far: what the functions behind `session` say of the bytes that they were given.
+use Rattle.std.specs.Prelude.{◌≡◌, ◌≢◌, ℕ, ◌+◌, ◌*◌, ◌<◌, ◌≤◌, List, [], ◌++◌, take, length, Option, Some, None, Bool, true, false, if◌then◌else◌}
+use Rattle.std.specs.Io.KnownBytes.{Appends}
+use Rattle.lset_text.specs.Parts.{cut_at, Lacks}
+use Rattle.lset_live.specs.Records.{Record, with_calls}
+use Rattle.lset_session.specs.declared.TheConstants.{LONGEST_LINE, MOST_LINES}
+use Rattle.lset_session.specs.declared.sessions.Why.{Why}
+use Rattle.lset_session.specs.declared.sessions.Why.TheVariants as why
+use Rattle.lset_session.specs.declared.sessions.Talk.{Talk}
+use Rattle.lset_session.specs.declared.requests.Request.{Request}
+use Rattle.lset_session.specs.declared.requests.Request.TheVariants as request
+use Rattle.lset_session.specs.SessionText.{Turn, turns_at, end_of, Exchange, turns_in, answers_in, calls_in}
+use Rattle.lset_session.specs.Sessions.{Wrote}
+
+-- what was written of the answers, where the session goes on (`None`) or has ended
+abbrev pub WroteSoFar : Option Why → Option (List ℕ) → Option (List ℕ) → List Exchange → Type 0
+WroteSoFar None w w' talk = Appends w w' (answers_in talk)
+WroteSoFar (Some end) w w' talk = Wrote end w w' talk
+
+-- a turn ends a session so, or a write that has failed
+abbrev pub IsLast : Why → Type 0
+IsLast why.Quit = Unit {0}
+IsLast why.Long = Unit {0}
+IsLast why.Limit = Unit {0}
+IsLast why.WriteFault = Unit {0}
+IsLast why.End = ⊥
+IsLast why.ReadFault = ⊥
+
+-- the turns of the talk are the first ones; where the session has not ended, those that follow are the turns of the bytes
+-- that are pending and of what comes after them
+abbrev pub Told : ℕ → List ℕ → Option Why → ℕ → List ℕ → List Exchange → Type 0
+Told left bytes None left' pending talk =
+    (end_of (turns_in talk) ≡ why.End)
+    × ((more : List ℕ) → turns_at left (cut_at 10 (bytes ++ more)) ≡ turns_in talk ++ turns_at left' (cut_at 10 (pending ++ more)))
+Told left bytes (Some w) left' pending talk =
+    IsLast w × ((more : List ℕ) → (later : List Turn) × (turns_at left (cut_at 10 (bytes ++ more)) ≡ turns_in talk ++ later)
+    × (w ≢ why.WriteFault → (later ≡ []) × (end_of (turns_in talk) ≡ w)))
+
+-- Of these bytes, where `left` lines may be answered: how the session goes on (`None`) or ends, and what it did.
+pub record Heard (left : ℕ) (bytes : List ℕ) (o : Option Why) (left' : ℕ) (pending : List ℕ) (r r' : Record)
+    (w w' : Option (List ℕ)) (calls calls' : ℕ) : Type 0 where
+  pub talk : List Exchange
+  pub told : Told left bytes o left' pending talk
+  pub recorded : r' ≡ with_calls r (calls_in talk)
+  pub wrote : WroteSoFar o w w' talk
+  pub count : calls' ≡ calls + length (calls_in talk)
+
+-- the bytes of a line that has not ended
+abbrev pub pending_of : Talk → List ℕ
+pending_of t = take t.len t.line
+
+-- what holds of a session that goes on
+pub record IsTalk (t : Talk) : Type 0 where
+  pub room : length t.line ≡ LONGEST_LINE
+  pub short : t.len ≤ LONGEST_LINE
+  pub line : Lacks 10 (pending_of t)
+  pub more : 0 < t.left
+  pub few : t.calls + t.left ≤ MOST_LINES
+
+-- each byte brings the session nearer to its end
+abbrev pub Nearer : Talk → Talk → ℕ → Type 0
+Nearer t u n = (LONGEST_LINE + 1) * u.left + t.len + n ≤ (LONGEST_LINE + 1) * t.left + u.len
+
+-- a session heard these bytes
+abbrev pub Hears : List ℕ → Option Why → Talk → Talk → Record → Record → Option (List ℕ) → Option (List ℕ) → Type 0
+Hears bytes o t u r r' w w' = Heard t.left (pending_of t ++ bytes) o u.left (pending_of u) r r' w w' t.calls u.calls
+
+-- the calls of a request
+abbrev pub counted : Request → ℕ
+counted (request.Call c) = 1
+counted request.Quit = 0
+counted request.Bad = 0
+
+-- whether the writer has failed
+abbrev pub failed_by : Option Why → Bool
+failed_by None = false
+failed_by (Some why.WriteFault) = true
+failed_by (Some why.Quit) = false
+failed_by (Some why.End) = false
+failed_by (Some why.Long) = false
+failed_by (Some why.Limit) = false
+failed_by (Some why.ReadFault) = false
+
+-- the last line was written, or not
+abbrev pub ending : Bool → Why → Option Why
+ending whole w = Some (if whole then w else why.WriteFault)

@@ -1,0 +1,115 @@
+//! What a session reads from and writes to.
+ghost use Rattle.std.specs.Prelude.{◌≡◌, ◌<◌, ◌≤◌, if◌then◌else◌, ℕ, List, Bool, true, false, Option, length, take, IfSome, MatchOption};
+ghost use Rattle.std.specs.Io.KnownBytes.{Appends, Consumes, IsAtEnd, Keeps};
+ghost use Rattle.lset_session.specs.Devices.{inner_of, is_failed, Writes};
+
+use std::io::{Read, Write};
+
+/// What the bytes of a session are read from. Once a read has failed, none follows.
+pub trait Source {
+    /// The bytes that are left, where they are known.
+    ghost remaining: { Self → Option (List ℕ) };
+
+    /// Whether a read has answered `None`.
+    ghost has_failed: { Self → Bool };
+
+    /// Reads bytes to the front of `buffer` and gives their number, which is 0 only at the end of the input or where the
+    /// buffer has no room. `None` where the read fails.
+    fn read(&mut self, buffer: &mut [u8]) -> Option<usize>
+        requires works { has_failed self.old ≡ false }
+        ensures bound { IfSome result (λ n. n ≤ length buffer.new) }
+        ensures bytes { MatchOption result (Keeps (remaining self.old) (remaining self.new))
+            (λ n. Consumes (remaining self.old) (remaining self.new) (take n buffer.new)
+            × (n ≡ 0 → 0 < length buffer.new → IsAtEnd (remaining self.new))) }
+        ensures failed { MatchOption result (has_failed self.new ≡ true) (λ n. has_failed self.new ≡ false) };
+}
+
+/// What the answers of a session are written to. Once a write has failed, none follows.
+pub trait Sink {
+    /// The bytes that were written, where they are known.
+    ghost written: { Self → Option (List ℕ) };
+
+    /// Whether a write has answered `None`.
+    ghost has_failed: { Self → Bool };
+
+    /// Writes a front of `text` and gives its length, at least 1 where the text is not empty. `None` where the write
+    /// fails; nothing was written then.
+    fn write(&mut self, text: &[u8]) -> Option<usize>
+        requires works { has_failed self.old ≡ false }
+        ensures bound { IfSome result (λ n. (n ≤ length text.now) × (0 < length text.now → 0 < n)) }
+        ensures bytes { MatchOption result (Keeps (written self.old) (written self.new))
+            (λ n. Appends (written self.old) (written self.new) (take n text.now)) }
+        ensures failed { MatchOption result (has_failed self.new ≡ true) (λ n. has_failed self.new ≡ false) };
+}
+
+/// A reader or writer of the standard library. An error of it is a failure, and so is a write of some bytes that takes
+/// none.
+#[derive(Drop)]
+pub struct Device<T> {
+    inner: T,
+    failed: bool,
+}
+
+impl<T> Device<T> {
+    /// The device of a reader or writer, which has not failed.
+    pub fn new(inner: T) -> Device<T>
+        ensures inner { inner_of result ≡ inner }
+        ensures works { is_failed result ≡ false }
+    {
+        Device {
+            inner,
+            failed: false,
+        }
+    }
+}
+
+impl<T: Read> Source for Device<T> {
+    ghost remaining = { λ d. T.remaining (inner_of d) };
+
+    ghost has_failed = { is_failed };
+
+    fn read(&mut self, buffer: &mut [u8]) -> Option<usize> {
+        match self.inner.read(buffer) {
+            Ok(count) => Some(count),
+            Err(_) => {
+                self.failed = true;
+                None
+            }
+        }
+    }
+}
+
+impl<T: Write> Sink for Device<T> {
+    ghost written = { λ d. T.contents (inner_of d) };
+
+    ghost has_failed = { is_failed };
+
+    fn write(&mut self, text: &[u8]) -> Option<usize> {
+        if text.is_empty() {
+            return Some(0);
+        }
+        match self.inner.write(text) {
+            Ok(count) if count > 0 => Some(count),
+            _ => {
+                self.failed = true;
+                None
+            }
+        }
+    }
+}
+
+/// Writes the text, and answers whether all of it was written. A write that fails is the last.
+pub(crate) fn write_all<W: Sink>(sink: &mut W, text: &[u8]) -> bool
+    requires works { W.has_failed sink.old ≡ false }
+    ensures text { Writes result (W.written sink.old) (W.written sink.new) text.now }
+    ensures failed { W.has_failed sink.new ≡ (if result then false else true) }
+{
+    let mut rest = text;
+    while !rest.is_empty() {
+        let Some(count) = sink.write(rest) else {
+            return false;
+        };
+        rest = &rest[count..];
+    }
+    true
+}

@@ -1,0 +1,18 @@
+//! Sessions: requests in lines and their answers, over any reader and writer and on any set whose calls are made from
+//! seats. (This project's own line protocol.)
+#![tactic(auto)]
+
+mod devices;
+pub mod failing;
+mod requests;
+mod sessions;
+
+pub use devices::{Device, Sink, Source};
+pub use requests::{Request, read_request};
+pub use sessions::{Ended, Why, session};
+
+/// The most bytes of a line, without its newline.
+pub const LONGEST_LINE: usize = 64;
+
+/// The most lines of a session.
+pub const MOST_LINES: u32 = 1_000_000;

@@ -1,0 +1,46 @@
+//! What a line of a session asks for.
+ghost use Rattle.std.specs.Prelude.{◌≡◌};
+ghost use Rattle.lset_session.specs.SessionText.{request_of};
+
+use lset_text::{cut, number};
+use lset_words::{Call, Key};
+
+/// What a line of a session asks for.
+#[derive(Clone, Copy, Debug, PartialEq, Eq)]
+pub enum Request {
+    /// `ADD k`, `REMOVE k` or `CONTAINS k`.
+    Call(Call),
+    /// `QUIT`.
+    Quit,
+    /// Any other line.
+    Bad,
+}
+
+/// The request of a line, without its newline: `ADD`, `REMOVE` or `CONTAINS`, one space and a key from 0 to
+/// 4,294,967,295 in decimal without leading zeros, or `QUIT`. Any other line is bad. (This project's own format.)
+#[tactic(auto, unfolding(crate::specs::SessionText::request_of))]
+pub fn read_request(line: &[u8]) -> Request
+    ensures { result ≡ request_of line.now }
+{
+    let Some((word, key)) = cut(line, b' ') else {
+        if line == b"QUIT".as_slice() {
+            return Request::Quit;
+        }
+        return Request::Bad;
+    };
+    if let Some((_, _more)) = cut(key, b' ') {
+        return Request::Bad;
+    }
+    let Some(key) = number(key, 0, u32::MAX) else {
+        return Request::Bad;
+    };
+    if word == b"ADD".as_slice() {
+        Request::Call(Call::Add(Key(key)))
+    } else if word == b"REMOVE".as_slice() {
+        Request::Call(Call::Remove(Key(key)))
+    } else if word == b"CONTAINS".as_slice() {
+        Request::Call(Call::Contains(Key(key)))
+    } else {
+        Request::Bad
+    }
+}

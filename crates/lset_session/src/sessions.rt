@@ -1,0 +1,263 @@
+//! Sessions: the lines of a reader are answered on a writer.
+ghost use Rattle.std.specs.Prelude.{◌≡◌, ◌≤◌, ◌↔◌, ◌∷◌, [], Bool, true, false, IsTrue, if◌then◌else◌, length, None};
+ghost use Rattle.lset_live.specs.Records.{called, with_calls};
+ghost use Rattle.lset_session.specs.Devices.{Writes};
+ghost use Rattle.lset_session.specs.SessionText.{Exchange, turn_of, line, answer_of, call_of, reply_word};
+ghost use Rattle.lset_session.specs.Sessions.{IsSession};
+ghost use Rattle.lset_session.specs.Talks.{Hears, IsTalk, Nearer, counted, failed_by};
+ghost use Rattle.lset_text.specs.Parts.{ended};
+
+use crate::devices::{Sink, Source, write_all};
+use crate::requests::{Request, read_request};
+use crate::{LONGEST_LINE, MOST_LINES};
+use lset_live::SetCalls;
+use lset_words::{Call, Reply};
+use std::sync::Wait;
+
+/// Why a session has ended.
+#[derive(Clone, Copy, Debug, PartialEq, Eq)]
+pub enum Why {
+    /// A line was `QUIT`; it was answered `BYE`.
+    Quit,
+    /// No byte is left to read. A rest without a newline was dropped.
+    End,
+    /// A line has more than 64 bytes; it was answered `LONG`.
+    Long,
+    /// 1,000,000 lines were answered, and `LIMIT` was written.
+    Limit,
+    /// A read has failed.
+    ReadFault,
+    /// A write has failed. Of the last answer a proper front was written.
+    WriteFault,
+}
+
+/// The end of a session, and the calls that it made.
+#[derive(Clone, Copy, Debug, PartialEq, Eq)]
+pub struct Ended {
+    pub why: Why,
+    pub calls: u64,
+}
+
+/// A session under way: the line that has not ended yet, how many more lines may be answered, and the
+/// calls that were made.
+#[derive(Drop)]
+struct Talk {
+    line: [u8; LONGEST_LINE],
+    len: usize,
+    left: u32,
+    calls: u64,
+}
+
+fn reply_line(reply: Reply) -> &'static [u8]
+    ensures { result.now ≡ ended (reply_word reply) }
+{
+    match reply {
+        Reply::True => b"TRUE\n",
+        Reply::False => b"FALSE\n",
+        Reply::Full => b"FULL\n",
+    }
+}
+
+/// Makes the call on the seat.
+fn make_call<R: Wait, S: SetCalls>(rt: &R, set: &S, seat: &mut S::Seat, call: Call) -> Reply
+    requires { S.is_of set.now seat.old }
+    ensures record { S.record_of seat.new ≡ called (S.record_of seat.old) (record { call = call; reply = result }) }
+    ensures seat { S.is_of set.now seat.new × (S.held_by seat.new ≡ S.held_by seat.old) }
+{
+    match call {
+        Call::Add(key) => set.add(rt, seat, key),
+        Call::Remove(key) => set.remove(rt, seat, key),
+        Call::Contains(key) => set.contains(rt, seat, key),
+    }
+}
+
+/// Answers a request, and tells whether the answer was written whole.
+fn answer<R: Wait, W: Sink, S: SetCalls>(
+    rt: &R,
+    writer: &mut W,
+    set: &S,
+    seat: &mut S::Seat,
+    request: Request,
+) -> bool
+    requires seat { S.is_of set.now seat.old }
+    requires works { W.has_failed writer.old ≡ false }
+    ensures said { (e : Exchange) × (turn_of e ≡ line request)
+        × (S.record_of seat.new ≡ with_calls (S.record_of seat.old) (call_of e))
+        × Writes result (W.written writer.old) (W.written writer.new) (answer_of e) }
+    ensures failed { W.has_failed writer.new ≡ (if result then false else true) }
+    ensures seat { S.is_of set.now seat.new × (S.held_by seat.new ≡ S.held_by seat.old) }
+{
+    match request {
+        Request::Call(made) => {
+            let reply = make_call(rt, set, seat, made);
+            write_all(writer, reply_line(reply))
+        }
+        Request::Quit => write_all(writer, b"BYE\n"),
+        Request::Bad => write_all(writer, b"BAD\n"),
+    }
+}
+
+/// Writes the line after which a session ends so, and tells how it has ended.
+fn last_line<W: Sink>(writer: &mut W, text: &[u8], why: Why) -> Why
+    requires works { W.has_failed writer.old ≡ false }
+    ensures { (whole : Bool) × (result ≡ (if whole then why else Why.WriteFault))
+        × Writes whole (W.written writer.old) (W.written writer.new) text.now
+        × (W.has_failed writer.new ≡ (if whole then false else true)) }
+{
+    if write_all(writer, text) {
+        why
+    } else {
+        Why::WriteFault
+    }
+}
+
+fn count_of(request: Request) -> u64
+    ensures count { result ≡ counted request }
+    ensures one { result ≤ 1 }
+{
+    match request {
+        Request::Call(_) => 1,
+        Request::Quit | Request::Bad => 0,
+    }
+}
+
+/// Answers the line that has ended. `None` where the session goes on.
+fn line_in<R: Wait, W: Sink, S: SetCalls>(
+    rt: &R,
+    writer: &mut W,
+    set: &S,
+    seat: &mut S::Seat,
+    talk: &mut Talk,
+) -> Option<Why>
+    requires seat { S.is_of set.now seat.old }
+    requires talk { IsTalk talk.old }
+    requires works { W.has_failed writer.old ≡ false }
+    ensures heard { Hears (10 ∷ []) result talk.old talk.new (S.record_of seat.old) (S.record_of seat.new) (W.written writer.old) (W.written writer.new) }
+    ensures on { result ≡ None → IsTalk talk.new × Nearer talk.old talk.new 1 }
+    ensures few { talk.new.calls ≤ MOST_LINES }
+    ensures failed { W.has_failed writer.new ≡ failed_by result }
+    ensures seat { S.is_of set.now seat.new × (S.held_by seat.new ≡ S.held_by seat.old) }
+{
+    let request = read_request(&talk.line[..talk.len]);
+    talk.len = 0;
+    talk.left -= 1;
+    talk.calls += count_of(request);
+    if !answer(rt, writer, set, seat, request) {
+        return Some(Why::WriteFault);
+    }
+    if let Request::Quit = request {
+        return Some(Why::Quit);
+    }
+    if talk.left == 0 {
+        return Some(last_line(writer, b"LIMIT\n", Why::Limit));
+    }
+    None
+}
+
+/// Takes one byte. `None` where the session goes on.
+fn byte_in<R: Wait, W: Sink, S: SetCalls>(
+    rt: &R,
+    writer: &mut W,
+    set: &S,
+    seat: &mut S::Seat,
+    talk: &mut Talk,
+    byte: u8,
+) -> Option<Why>
+    requires seat { S.is_of set.now seat.old }
+    requires talk { IsTalk talk.old }
+    requires works { W.has_failed writer.old ≡ false }
+    ensures heard { Hears (byte ∷ []) result talk.old talk.new (S.record_of seat.old) (S.record_of seat.new) (W.written writer.old) (W.written writer.new) }
+    ensures on { result ≡ None → IsTalk talk.new × Nearer talk.old talk.new 1 }
+    ensures few { talk.new.calls ≤ MOST_LINES }
+    ensures failed { W.has_failed writer.new ≡ failed_by result }
+    ensures seat { S.is_of set.now seat.new × (S.held_by seat.new ≡ S.held_by seat.old) }
+{
+    if byte == b'\n' {
+        return line_in(rt, writer, set, seat, talk);
+    }
+    if talk.len == LONGEST_LINE {
+        return Some(last_line(writer, b"LONG\n", Why::Long));
+    }
+    talk.line[talk.len] = byte;
+    talk.len += 1;
+    None
+}
+
+/// Takes the bytes of one read. `None` where the session goes on.
+fn bytes_in<R: Wait, W: Sink, S: SetCalls>(
+    rt: &R,
+    writer: &mut W,
+    set: &S,
+    seat: &mut S::Seat,
+    talk: &mut Talk,
+    bytes: &[u8],
+) -> Option<Why>
+    requires seat { S.is_of set.now seat.old }
+    requires talk { IsTalk talk.old }
+    requires works { W.has_failed writer.old ≡ false }
+    ensures heard { Hears bytes.now result talk.old talk.new (S.record_of seat.old) (S.record_of seat.new) (W.written writer.old) (W.written writer.new) }
+    ensures on { result ≡ None → IsTalk talk.new × Nearer talk.old talk.new (length bytes.now) }
+    ensures few { talk.new.calls ≤ MOST_LINES }
+    ensures failed { W.has_failed writer.new ≡ failed_by result }
+    ensures seat { S.is_of set.now seat.new × (S.held_by seat.new ≡ S.held_by seat.old) }
+{
+    for byte in bytes {
+        if let Some(why) = byte_in(rt, writer, set, seat, talk, *byte) {
+            return Some(why);
+        }
+    }
+    None
+}
+
+/// Answers the lines of `reader` on `writer`, and makes their calls on `seat`, which is a seat of `set`. The requests are
+/// `ADD k`, `REMOVE k`, `CONTAINS k` and `QUIT`, the answers `TRUE`, `FALSE`, `FULL`, `BYE`, and `BAD` to any other line;
+/// requests and answers end with a newline. The session ends with `QUIT`, where no byte is left, with `LONG` as the 65th
+/// byte of a line comes, with `LIMIT` after the 1,000,000th line unless it was `QUIT`, or where a read or a write fails.
+/// Each answer is handed to `writer` whole before the next call is made. It may wait as its set, its reader and its writer
+/// do, and takes no memory. (This project's own line protocol.)
+pub fn session<R: Wait, I: Source, O: Sink, S: SetCalls>(
+    rt: &R,
+    reader: &mut I,
+    writer: &mut O,
+    set: &S,
+    seat: &mut S::Seat,
+) -> Ended
+    requires seat { S.is_of set.now seat.old }
+    requires works { (I.has_failed reader.old ≡ false) × (O.has_failed writer.old ≡ false) }
+    // [Session]: the calls that were made, and what was written, are those of the text that was read.
+    ensures session { IsSession result.why result.calls (I.remaining reader.old) (I.remaining reader.new)
+        (S.record_of seat.old) (S.record_of seat.new) (O.written writer.old) (O.written writer.new) }
+    // The faults are those of the devices.
+    ensures read_fault { IsTrue (I.has_failed reader.new) ↔ (result.why ≡ Why.ReadFault) }
+    ensures write_fault { IsTrue (O.has_failed writer.new) ↔ (result.why ≡ Why.WriteFault) }
+    ensures few { result.calls ≤ MOST_LINES }
+    ensures seat { S.is_of set.now seat.new × (S.held_by seat.new ≡ S.held_by seat.old) }
+{
+    let mut buffer = [0u8; 512];
+    let mut talk = Talk {
+        line: [0; LONGEST_LINE],
+        len: 0,
+        left: MOST_LINES,
+        calls: 0,
+    };
+    loop {
+        let Some(count) = reader.read(&mut buffer) else {
+            return Ended {
+                why: Why::ReadFault,
+                calls: talk.calls,
+            };
+        };
+        if count == 0 {
+            return Ended {
+                why: Why::End,
+                calls: talk.calls,
+            };
+        }
+        if let Some(why) = bytes_in(rt, writer, set, seat, &mut talk, &buffer[..count]) {
+            return Ended {
+                why,
+                calls: talk.calls,
+            };
+        }
+    }
+}

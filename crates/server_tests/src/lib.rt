@@ -1,0 +1,15 @@
+//! The tests of sessions and of the set server.
+#![tactic(auto)]
+
+#[cfg(test)]
+mod clients;
+#[cfg(test)]
+mod faults;
+#[cfg(test)]
+mod limits;
+#[cfg(test)]
+mod opened;
+#[cfg(test)]
+mod serving;
+#[cfg(test)]
+mod sessions;
