@@ -1,29 +1,39 @@
-//! Replays, checks and generates recorded schedules of concurrent list sets.
+//! Replays, checks and generates recorded schedules of concurrent list sets, and runs and serves such sets.
 #![tactic(auto)]
 
 use lset_dispatch::run_words;
 use lset_tools::{Trouble, deliver};
+use std::alloc::{AllocError, Global};
 use std::io;
 use std::process::ExitCode;
 
-/// Runs the program on the words after its name, and gives the exit status.
-fn run(rt: &HostRuntime) -> io::Result<u8> {
-    let given: Vec<String> = std::env::args(rt)?.skip(1).collect(rt.alloc())?;
-    let mut words = Vec::new(rt.alloc());
-    for word in &given {
+/// The words after the program's name.
+fn words_given(rt: &HostRuntime) -> io::Result<Vec<String>> {
+    Ok(std::env::args(rt)?.skip(1).collect(rt.alloc())?)
+}
+
+fn texts(alloc: Global, given: &[String]) -> Result<Vec<&str>, AllocError> {
+    let mut words = Vec::new(alloc);
+    for word in given {
         words.push(word.as_str())?;
     }
-    let (input, output, faults) = (&mut rt.reader(), &mut io::writer(rt), &mut rt.stderr());
-    Ok(run_words(rt.alloc(), rt, &words, input, output, faults))
+    Ok(words)
 }
 
 /// Ends the program where its words could not be had of the system, which is for want of memory alone.
-fn end_without_words(rt: &HostRuntime) -> u8 {
+fn end_without_words(rt: &HostRuntime) -> ExitCode {
     let (output, faults) = (&mut io::writer(rt), &mut rt.stderr());
-    deliver(rt.alloc(), Err(Trouble::Memory), output, faults)
+    ExitCode::from(deliver(rt.alloc(), Err(Trouble::Memory), output, faults))
 }
 
+// The runtime starts threads and opens sockets only where `main` itself passes it on.
 fn main(rt: HostRuntime) -> ExitCode {
-    let status = run(&rt).unwrap_or_else(|_| end_without_words(&rt));
-    ExitCode::from(status)
+    let Ok(given) = words_given(&rt) else {
+        return end_without_words(&rt);
+    };
+    let Ok(words) = texts(rt.alloc(), &given) else {
+        return end_without_words(&rt);
+    };
+    let (input, output, faults) = (&mut rt.reader(), &mut io::writer(&rt), &mut rt.stderr());
+    ExitCode::from(run_words(&rt, rt.alloc(), &words, input, output, faults))
 }

@@ -1,15 +1,17 @@
-ghost use Rattle.std.specs.Prelude.{◌≡◌, ◌++◌, ◌↔◌, IfOk, IsTrue, OnOk, false, map, option_map, string_bytes};
+ghost use Rattle.std.specs.Prelude.{◌≡◌, ◌++◌, ◌↔◌, IfOk, IsTrue, OnOk, codes, false, map, option_map, string_bytes};
 ghost use Rattle.clap.specs.Words.{FailsBy, app_of, fault_of, found_of, kind_of, new_rule};
 ghost use Rattle.clap.specs.Words.{rows_of, rule_of, subcommand_of};
 ghost use Rattle.clap.specs.Walk.{texts};
 ghost use Rattle.clap.specs.declared.Command.TheViews.{out-Command};
 ghost use Rattle.clap.specs.declared.error.kind.ErrorKind.TheVariants.{OutOfMemory};
-ghost use Rattle.lset_command.specs.CommandLine.{choice_in, choice_of, command_named, file_app, file_of, gen_app};
+ghost use Rattle.lset_command.specs.CommandLine.{choice_in, choice_of, command_named, file_app, file_of, random_app, serve_app};
 ghost use Rattle.lset_command.specs.CommandLine.{listset, rule_past_the_last, values_by, values_in};
 
 use clap::error::ErrorKind;
 use clap::{Arg, ArgMatches, Error};
 use std::alloc::{AllocError, Global};
+
+const KIND_HELP: &str = "The list: coarse, fine, optimistic, lazy or lock-free";
 
 /// A command of the program.
 #[derive(Clone, Copy, Debug, PartialEq, Eq)]
@@ -20,6 +22,10 @@ pub enum Command {
     Check,
     /// Generates a schedule.
     Gen,
+    /// Runs random programs on threads.
+    Run,
+    /// Serves sessions on one set.
+    Serve,
 }
 
 /// A command, with its values in order as they are written.
@@ -31,13 +37,13 @@ pub struct Words {
 
 impl Words {
     /// The path of the file that the command reads, where the words name one. Without one `replay` and `check`
-    /// read the standard input; `gen` reads nothing.
+    /// read the standard input; the others read nothing.
     pub fn file(&self) -> Option<&str>
         ensures { option_map (λ path. path.now) result ≡ file_of (choice_in self.now) }
     {
         match self.command {
             Command::Replay | Command::Check => Some(self.values.first()?.as_str()),
-            Command::Gen => None,
+            Command::Gen | Command::Run | Command::Serve => None,
         }
     }
 }
@@ -72,33 +78,29 @@ fn file_command<'a>(
         .arg(value(alloc, "FILE", file_help))
 }
 
-// The usage is written out, since `clap` would set each value in brackets: it lets values be missing, and
-// who makes the schedule names the first that is.
-fn gen_command<'a>(alloc: Global) -> Result<clap::Command<'a>, AllocError>
-    ensures app { IfOk result (λ c. app_of c ≡ gen_app) }
+// The usage is written out, since `clap` would set each value in brackets: it lets values be missing, and the
+// tool of the command names the first that is.
+fn random_command<'a>(
+    alloc: Global,
+    name: &'a str,
+    about: &'a str,
+    usage: &'a str,
+    calls_help: &'a str,
+) -> Result<clap::Command<'a>, AllocError>
+    ensures app { IfOk result (λ c. app_of c ≡ random_app name.entry.now) }
     ensures local { IfOk result (λ c. (out-Command c).has_globals ≡ false) }
 {
-    clap::Command::new(alloc, "gen")
-        .about(
-            "Prints a random schedule, of 10000 events at most; the same values give the same schedule",
-        )
-        .override_usage("listset gen KIND THREADS QUOTA CALLS KEYS SEED")
-        .arg(value(
-            alloc,
-            "KIND",
-            "The list: coarse, fine, optimistic, lazy or lock-free",
-        ))?
+    clap::Command::new(alloc, name)
+        .about(about)
+        .override_usage(usage)
+        .arg(value(alloc, "KIND", KIND_HELP))?
         .arg(value(alloc, "THREADS", "How many threads: 1 to 64"))?
         .arg(value(
             alloc,
             "QUOTA",
             "How many successful adds each thread may make: 0 to 16384",
         ))?
-        .arg(value(
-            alloc,
-            "CALLS",
-            "How many calls the threads begin together, if 10000 events suffice: 0 to 10000",
-        ))?
+        .arg(value(alloc, "CALLS", calls_help))?
         .arg(value(
             alloc,
             "KEYS",
@@ -110,6 +112,65 @@ fn gen_command<'a>(alloc: Global) -> Result<clap::Command<'a>, AllocError>
             "The seed of the random draws: 0 to 18446744073709551615",
         ))?
         .arg(values_past_the_last(alloc))
+}
+
+fn serve_command<'a>(alloc: Global) -> Result<clap::Command<'a>, AllocError>
+    ensures app { IfOk result (λ c. app_of c ≡ serve_app) }
+    ensures local { IfOk result (λ c. (out-Command c).has_globals ≡ false) }
+{
+    clap::Command::new(alloc, "serve")
+        .about(
+            "Serves sessions on one set, each a client's lines at 127.0.0.1, and prints the keys that are left",
+        )
+        .override_usage("listset serve KIND SEATS QUOTA PORT SESSIONS")
+        .arg(value(alloc, "KIND", KIND_HELP))?
+        .arg(value(
+            alloc,
+            "SEATS",
+            "How many sessions are served at once: 1 to 64",
+        ))?
+        .arg(value(
+            alloc,
+            "QUOTA",
+            "How many successful adds each seat may make: 0 to 16384",
+        ))?
+        .arg(value(
+            alloc,
+            "PORT",
+            "The port to listen on: 0 to 65535, and 0 lets the system choose",
+        ))?
+        .arg(value(
+            alloc,
+            "SESSIONS",
+            "How many sessions to serve before the end: 0 to 10000",
+        ))?
+        .arg(values_past_the_last(alloc))
+}
+
+fn gen_command<'a>(alloc: Global) -> Result<clap::Command<'a>, AllocError>
+    ensures app { IfOk result (λ c. app_of c ≡ random_app (codes "gen")) }
+    ensures local { IfOk result (λ c. (out-Command c).has_globals ≡ false) }
+{
+    random_command(
+        alloc,
+        "gen",
+        "Prints a random schedule, of 10000 events at most; the same values give the same schedule",
+        "listset gen KIND THREADS QUOTA CALLS KEYS SEED",
+        "How many calls the threads begin together, if 10000 events suffice: 0 to 10000",
+    )
+}
+
+fn run_command<'a>(alloc: Global) -> Result<clap::Command<'a>, AllocError>
+    ensures app { IfOk result (λ c. app_of c ≡ random_app (codes "run")) }
+    ensures local { IfOk result (λ c. (out-Command c).has_globals ≡ false) }
+{
+    random_command(
+        alloc,
+        "run",
+        "Runs random calls of threads at once on one set, and prints counts of the replies and the keys that are left",
+        "listset run KIND THREADS QUOTA CALLS KEYS SEED",
+        "How many calls each thread makes: 0 to 10000",
+    )
 }
 
 fn program_command<'a>(alloc: Global) -> Result<clap::Command<'a>, AllocError>
@@ -128,12 +189,16 @@ fn program_command<'a>(alloc: Global) -> Result<clap::Command<'a>, AllocError>
         "The report; standard input where it is left out",
     )?;
     clap::Command::new(alloc, "listset")
-        .about("Replays, checks and generates recorded schedules of concurrent list sets")
+        .about(
+            "Replays, checks and generates recorded schedules of concurrent list sets, and runs and serves such sets",
+        )
         .no_binary_name(true)
         .bin_name("listset")?
         .subcommand(replay)?
         .subcommand(check)?
-        .subcommand(gen_command(alloc)?)
+        .subcommand(gen_command(alloc)?)?
+        .subcommand(run_command(alloc)?)?
+        .subcommand(serve_command(alloc)?)
 }
 
 // Adds the texts that `found` has by the name, of which there may be none.
@@ -174,15 +239,19 @@ fn command_named(name: &str) -> Command
         Command::Check
     } else if name == "gen" {
         Command::Gen
+    } else if name == "run" {
+        Command::Run
+    } else if name == "serve" {
+        Command::Serve
     } else {
         Command::Replay
     }
 }
 
-/// Reads the words that stand after the program's name, by `clap`: `replay [FILE]`, `check [FILE]`, or
-/// `gen KIND THREADS QUOTA CALLS KEYS SEED`. Values come as they are written; some or all may be missing, and
-/// `gen` may have more. No word at all gives `replay` without values. A value that begins with `-` needs a
-/// word `--` before it.
+/// Reads the words that stand after the program's name, by `clap`: `replay [FILE]`, `check [FILE]`,
+/// `gen KIND THREADS QUOTA CALLS KEYS SEED`, `run` with the same values, or `serve KIND SEATS QUOTA PORT SESSIONS`.
+/// Values come as they are written; some or all may be missing, and `gen`, `run` and `serve` may have more. No
+/// word at all gives `replay` without values. A value that begins with `-` needs a word `--` before it.
 ///
 /// The error has the text for the user: the help, where words ask for it (`exit_code` 0), or what is wrong
 /// with the words (`exit_code` 2). It may also say that memory was refused: `is_out_of_memory`.

@@ -1,27 +1,56 @@
 -- How the program ends, from how what was made was delivered.
-use Rattle.std.proofs.Common.{◌≡◌, ℕ, ◌⊎◌, List, Option, Some, Err, refl, subst, inl, inr}
+use Rattle.std.proofs.Common.{◌≡◌, ℕ, List, Option, Some, None, Err, refl, subst, sym, inl, inr}
 use Rattle.std.specs.Prelude.{◌≢◌}
 use Rattle.clap.specs.declared.error.kind.ErrorKind.{ErrorKind}
 use Rattle.clap.specs.declared.error.kind.ErrorKind.TheVariants as kind
 use Rattle.clap.specs.Words.{Text}
 use Rattle.lset_command.specs.CommandLine.{Choice, file_of}
+use Rattle.lset_command.specs.declared.words.Command.{Command}
 use Rattle.lset_tools.specs.declared.trouble.Trouble.TheVariants.{CannotRead}
 use Rattle.lset_tools.specs.Tools.{Made, Outcome, Delivers, AppendsFront, Ends, line_of, status_of}
-use Rattle.lset_dispatch.specs.Dispatch.{DoesOn, DoesOnInput, IsHelp}
+use Rattle.lset_dispatch.specs.Dispatch.{CommandEnds, Does, DoesOn, DoesOnInput, IsHelp}
 
 pub ends_with : (output_old output_new faults_old faults_new : Option (List ℕ)) (status : ℕ) (IsMade : Made → Type 0) (made : Made) → IsMade made
     → (outcome : Outcome) × Delivers made output_old output_new outcome × AppendsFront faults_old faults_new (line_of outcome) × (status ≡ status_of outcome)
     → Ends IsMade output_old output_new faults_old faults_new status
 ends_with output_old output_new faults_old faults_new status IsMade made is (outcome, delivered, told, ended) = (made, outcome, is, delivered, told, ended)
 
-pub with_choice : (IsFile : Option (List ℕ) → Type 0) (input output_old output_new faults_old faults_new : Option (List ℕ)) (status : ℕ) (a b : Choice) → a ≡ b
-    → Ends (DoesOnInput a IsFile input) output_old output_new faults_old faults_new status → Ends (DoesOnInput b IsFile input) output_old output_new faults_old faults_new status
-with_choice IsFile input output_old output_new faults_old faults_new status a b same ends =
-    subst (λ choice. Ends (DoesOnInput choice IsFile input) output_old output_new faults_old faults_new status) same ends
+-- a tool that writes nothing before it has made something
+pub at_once : (IsMade : Made → Type 0) (output_old output_new faults_old faults_new : Option (List ℕ)) (status : ℕ) → Ends IsMade output_old output_new faults_old faults_new status
+    → CommandEnds (λ old first made. (first ≡ old) × IsMade made) output_old output_new faults_old faults_new status
+at_once IsMade output_old output_new faults_old faults_new status (made, outcome, is, delivered, told, ended) =
+    (output_old, (made, outcome, (refl, is), delivered, told, ended))
 
-pub not_opened : (IsFile : Option (List ℕ) → Type 0) (input : Option (List ℕ)) (choice : Choice) (path : Text) → Some path ≡ file_of choice
-    → DoesOnInput choice IsFile input (Err CannotRead)
-not_opened IsFile input choice path named = subst (λ file. DoesOn file choice IsFile input (Err CannotRead)) named (inl refl)
+-- a tool's ending, where the words name the tool's command and have its values
+pub at_command : (input output_old output_new faults_old faults_new : Option (List ℕ)) (status : ℕ) (known command : Command) (given values : List Text) → command ≡ known
+    → given ≡ values → CommandEnds (Does (known, given) input) output_old output_new faults_old faults_new status
+    → CommandEnds (Does (command, values) input) output_old output_new faults_old faults_new status
+at_command input output_old output_new faults_old faults_new status known command given values is same ends =
+    subst (λ v. CommandEnds (Does (command, v) input) output_old output_new faults_old faults_new status) same
+    (subst (λ c. CommandEnds (Does (c, given) input) output_old output_new faults_old faults_new status) (sym is) ends)
+
+pub with_choice : (IsFile : Option (List ℕ) → Type 0) (input output_old output_new faults_old faults_new : Option (List ℕ)) (status : ℕ) (a b : Choice) → a ≡ b
+    → CommandEnds (DoesOnInput a IsFile input) output_old output_new faults_old faults_new status → CommandEnds (DoesOnInput b IsFile input) output_old output_new faults_old faults_new status
+with_choice IsFile input output_old output_new faults_old faults_new status a b same ends =
+    subst (λ choice. CommandEnds (DoesOnInput choice IsFile input) output_old output_new faults_old faults_new status) same ends
+
+-- on the input, where no file is named
+pub on_input : (IsFile : Option (List ℕ) → Type 0) (input output_old output_new faults_old faults_new : Option (List ℕ)) (status : ℕ) (choice : Choice) → None ≡ file_of choice
+    → CommandEnds (Does choice input) output_old output_new faults_old faults_new status → CommandEnds (DoesOnInput choice IsFile input) output_old output_new faults_old faults_new status
+on_input IsFile input output_old output_new faults_old faults_new status choice none ends =
+    subst (λ file. CommandEnds (DoesOn file choice IsFile input) output_old output_new faults_old faults_new status) none ends
+
+-- on the bytes of a file
+pub on_file : (IsFile : Option (List ℕ) → Type 0) (input bytes output_old output_new faults_old faults_new : Option (List ℕ)) (status : ℕ) (choice : Choice) (path : Text)
+    → Some path ≡ file_of choice → IsFile bytes → CommandEnds (Does choice bytes) output_old output_new faults_old faults_new status
+    → CommandEnds (DoesOnInput choice IsFile input) output_old output_new faults_old faults_new status
+on_file IsFile input bytes output_old output_new faults_old faults_new status choice path named is (first, (made, outcome, does, delivered, told, ended)) =
+    subst (λ file. CommandEnds (DoesOn file choice IsFile input) output_old output_new faults_old faults_new status) named
+    (first, (made, outcome, inr (bytes, is, does), delivered, told, ended))
+
+pub not_opened : (IsFile : Option (List ℕ) → Type 0) (input old : Option (List ℕ)) (choice : Choice) (path : Text) → Some path ≡ file_of choice
+    → DoesOnInput choice IsFile input old old (Err CannotRead)
+not_opened IsFile input old choice path named = subst (λ file. DoesOn file choice IsFile input old old (Err CannotRead)) named (inl (refl, refl))
 
 -- what goes to the output asks for help
 pub is_help : (k : ErrorKind) → ¬ ((k ≢ kind.DisplayHelp) × (k ≢ kind.DisplayVersion)) → IsHelp k

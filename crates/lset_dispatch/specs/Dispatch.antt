@@ -7,33 +7,43 @@ use Rattle.clap.specs.declared.error.kind.ErrorKind.{ErrorKind}
 use Rattle.clap.specs.declared.error.kind.ErrorKind.TheVariants.{OutOfMemory, DisplayHelp, DisplayVersion}
 use Rattle.lset_command.specs.CommandLine.{Choice, choice_of, file_of, listset}
 use Rattle.lset_command.specs.declared.words.Command.{Command}
-use Rattle.lset_command.specs.declared.words.Command.TheVariants.{Replay, Check, Gen}
+use Rattle.lset_command.specs.declared.words.Command.TheVariants.{Replay, Check, Gen, Run, Serve}
 use Rattle.lset_tools.specs.declared.trouble.Trouble.TheVariants.{CannotRead, Memory}
 use Rattle.lset_tools.specs.Tools.{Made, Ends, AppendsFront}
 use Rattle.lset_tools.specs.Replaying.{Replays}
 use Rattle.lset_tools.specs.Checking.{Checks}
 use Rattle.lset_tools.specs.Generating.{Generates}
+use Rattle.lset_run.specs.Running as run
+use Rattle.lset_serve.specs.Serving as serve
 
 -- ---- words that are taken
 
--- what a command makes of its values, and of the bytes of its input where they are known
-abbrev pub DoesBy : Command → List Text → Option (List ℕ) → Made → Type 0
-DoesBy Replay values input made = IfSome input (λ bytes. Replays bytes made)
-DoesBy Check values input made = IfSome input (λ bytes. Checks bytes made)
-DoesBy Gen values input made = Generates values made
+-- What a command makes of its values, and of the bytes of its input where they are known. Before that it takes the output from the old
+-- to the first: `serve` writes the line that names its port, the others write nothing.
+abbrev pub DoesBy : Command → List Text → Option (List ℕ) → Option (List ℕ) → Option (List ℕ) → Made → Type 0
+DoesBy Replay values input old first made = (first ≡ old) × IfSome input (λ bytes. Replays bytes made)
+DoesBy Check values input old first made = (first ≡ old) × IfSome input (λ bytes. Checks bytes made)
+DoesBy Gen values input old first made = (first ≡ old) × Generates values made
+DoesBy Run values input old first made = (first ≡ old) × run.Runs values made
+DoesBy Serve values input old first made = serve.Serves (serve.request_of values) old first made
 
-abbrev pub Does : Choice → Option (List ℕ) → Made → Type 0
-Does choice input made = DoesBy choice.0 choice.1 input made
+abbrev pub Does : Choice → Option (List ℕ) → Option (List ℕ) → Option (List ℕ) → Made → Type 0
+Does choice input old first made = DoesBy choice.0 choice.1 input old first made
 
 -- where no file is named, it does so on the standard input; else on what some file holds (that it is the one of this path, or read
 -- from its start, no clause says), or it says that it could not be read
-abbrev pub DoesOn : Option Text → Choice → (Option (List ℕ) → Type 0) → Option (List ℕ) → Made → Type 0
-DoesOn None choice IsFile input made = Does choice input made
-DoesOn (Some path) choice IsFile input made =
-    (made ≡ Err CannotRead) ⊎ ((bytes : Option (List ℕ)) × IsFile bytes × Does choice bytes made)
+abbrev pub DoesOn : Option Text → Choice → (Option (List ℕ) → Type 0) → Option (List ℕ) → Option (List ℕ) → Option (List ℕ) → Made → Type 0
+DoesOn None choice IsFile input old first made = Does choice input old first made
+DoesOn (Some path) choice IsFile input old first made =
+    ((first ≡ old) × (made ≡ Err CannotRead)) ⊎ ((bytes : Option (List ℕ)) × IsFile bytes × Does choice bytes old first made)
 
-abbrev pub DoesOnInput : Choice → (Option (List ℕ) → Type 0) → Option (List ℕ) → Made → Type 0
-DoesOnInput choice IsFile input made = DoesOn (file_of choice) choice IsFile input made
+abbrev pub DoesOnInput : Choice → (Option (List ℕ) → Type 0) → Option (List ℕ) → Option (List ℕ) → Option (List ℕ) → Made → Type 0
+DoesOnInput choice IsFile input old first made = DoesOn (file_of choice) choice IsFile input old first made
+
+-- HOW A COMMAND ENDS: what it writes first is written, and then what it made reaches the output, as with any tool.
+abbrev pub CommandEnds : (Option (List ℕ) → Option (List ℕ) → Made → Type 0) → Option (List ℕ) → Option (List ℕ) → Option (List ℕ) → Option (List ℕ) → ℕ → Type 0
+CommandEnds IsMade output_old output_new faults_old faults_new status =
+    (first : Option (List ℕ)) × Ends (IsMade output_old first) first output_new faults_old faults_new status
 
 -- ---- words that are not taken
 
@@ -63,5 +73,5 @@ Declines kind output_old output_new faults_old faults_new status =
 
 abbrev pub Runs : List Text → (Option (List ℕ) → Type 0) → Option (List ℕ) → Option (List ℕ) → Option (List ℕ) → Option (List ℕ) → Option (List ℕ) → ℕ → Type 0
 Runs words IsFile input output_old output_new faults_old faults_new status =
-    ((fault_of listset words ≡ []) × Ends (DoesOnInput (choice_of (subcommand_of listset words)) IsFile input) output_old output_new faults_old faults_new status)
+    ((fault_of listset words ≡ []) × CommandEnds (DoesOnInput (choice_of (subcommand_of listset words)) IsFile input) output_old output_new faults_old faults_new status)
     ⊎ ((error : Error) × HasKind (fault_of listset words) error × Declines (kind_of error) output_old output_new faults_old faults_new status)

@@ -2,8 +2,7 @@ ghost use Rattle.std.specs.Prelude.{◌≡◌};
 ghost use Rattle.clap.specs.Words.{kind_of};
 ghost use Rattle.clap.specs.Walk.{texts};
 ghost use Rattle.lset_command.specs.CommandLine.{choice_in};
-ghost use Rattle.lset_tools.specs.Tools.{Ends};
-ghost use Rattle.lset_dispatch.specs.Dispatch.{Declines, DoesOnInput, Runs};
+ghost use Rattle.lset_dispatch.specs.Dispatch.{CommandEnds, Declines, DoesOnInput, Runs};
 
 use crate::command::run_command;
 use clap::Error;
@@ -12,7 +11,10 @@ use lset_tools::{Answer, Trouble, deliver, put};
 use std::alloc::Global;
 use std::fs::File;
 use std::io::{Read, Write};
+use std::net::{Net, TcpListener, TcpStream};
 use std::rt::Files;
+use std::sync::Wait;
+use std::thread::Threads;
 
 /// Ends a run whose words are not taken: writes the help that was asked for on `output`, status 0, or what is wrong with
 /// the words on `faults`, status 2. Where memory was refused, before or now, it writes the line about that on `faults`,
@@ -42,41 +44,38 @@ pub fn decline<W: Write, F: Write>(
 }
 
 /// Does the command of the words on the file that they name, or on the input where they name none.
-fn run_taken<S: Files, R: Read, W: Write, F: Write>(
-    alloc: Global,
-    files: &S,
-    words: &Words,
-    input: &mut R,
-    output: &mut W,
-    faults: &mut F,
-) -> u8
-    ensures { Ends (DoesOnInput (choice_in words.now) (λ bytes. (file : S.File) × (bytes ≡ S.File.remaining file)) (R.remaining input.old))
+fn run_taken<
+    H: Files + Net<Listener = TcpListener, Stream = TcpStream> + Threads + Wait + Sync,
+    R: Read,
+    W: Write,
+    F: Write,
+>(rt: &H, alloc: Global, words: &Words, input: &mut R, output: &mut W, faults: &mut F) -> u8
+    ensures { CommandEnds (DoesOnInput (choice_in words.now) (λ bytes. (file : H.File) × (bytes ≡ H.File.remaining file)) (R.remaining input.old))
         (W.contents output.old) (W.contents output.new) (F.contents faults.old) (F.contents faults.new) result }
 {
     let Some(path) = words.file() else {
-        return run_command(alloc, words, input, output, faults);
+        return run_command(rt, alloc, words, input, output, faults);
     };
-    match File::open(files, path) {
-        Ok(mut file) => run_command(alloc, words, &mut file, output, faults),
+    match File::open(rt, path) {
+        Ok(mut file) => run_command(rt, alloc, words, &mut file, output, faults),
         Err(_) => deliver(alloc, Err(Trouble::CannotRead), output, faults),
     }
 }
 
 /// Runs the program on the words that stand after its name: does the command that they ask for, on the file that they
-/// name among `files` or on `input`, or ends as `decline` does. Gives the exit status.
-pub fn run_words<S: Files, R: Read, W: Write, F: Write>(
-    alloc: Global,
-    files: &S,
-    words: &[&str],
-    input: &mut R,
-    output: &mut W,
-    faults: &mut F,
-) -> u8
-    ensures { Runs (texts words.entry.now) (λ bytes. (file : S.File) × (bytes ≡ S.File.remaining file)) (R.remaining input.old)
+/// name among the files of `rt`, on `input` where they name none, or on their values, or ends as `decline` does. Gives the
+/// exit status. `run` and `serve` start threads on `rt` and wait for them, and `serve` listens there.
+pub fn run_words<
+    H: Files + Net<Listener = TcpListener, Stream = TcpStream> + Threads + Wait + Sync,
+    R: Read,
+    W: Write,
+    F: Write,
+>(rt: &H, alloc: Global, words: &[&str], input: &mut R, output: &mut W, faults: &mut F) -> u8
+    ensures { Runs (texts words.entry.now) (λ bytes. (file : H.File) × (bytes ≡ H.File.remaining file)) (R.remaining input.old)
         (W.contents output.old) (W.contents output.new) (F.contents faults.old) (F.contents faults.new) result }
 {
     match tool_words(alloc, words) {
-        Ok(words) => run_taken(alloc, files, &words, input, output, faults),
+        Ok(words) => run_taken(rt, alloc, &words, input, output, faults),
         Err(error) => decline(alloc, &error, output, faults),
     }
 }

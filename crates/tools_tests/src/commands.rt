@@ -5,7 +5,7 @@ use std::test::Fail;
 
 #[test]
 fn words_give_a_command_and_its_values(rt: HostRuntime) -> Result<(), Fail> {
-    let rows: [(&[&str], Command, &str); 9] = [
+    let rows: [(&[&str], Command, &str); 12] = [
         (&[], Command::Replay, ""),
         (&["replay"], Command::Replay, ""),
         (&["replay", "a.schedule"], Command::Replay, " a.schedule"),
@@ -23,6 +23,17 @@ fn words_give_a_command_and_its_values(rt: HostRuntime) -> Result<(), Fail> {
             Command::Gen,
             " fine 2 4 0 8 1 more of it",
         ),
+        (
+            &["run", "coarse", "1", "4", "0", "8", "1"],
+            Command::Run,
+            " coarse 1 4 0 8 1",
+        ),
+        (
+            &["serve", "lazy", "2", "16", "0", "1", "more"],
+            Command::Serve,
+            " lazy 2 16 0 1 more",
+        ),
+        (&["serve"], Command::Serve, ""),
     ];
     for (words, command, values) in rows {
         let asked = tool_words(rt.alloc(), words)?;
@@ -43,8 +54,10 @@ fn replay_and_check_read_the_file_of_their_words(rt: HostRuntime) -> Result<(), 
     assert_eq!(rt; named.file(), Some("a.report"));
     let unnamed = tool_words(rt.alloc(), &["replay"])?;
     assert_eq!(rt; unnamed.file(), None);
-    let no_file = tool_words(rt.alloc(), &["gen", "fine"])?;
-    assert_eq!(rt; no_file.file(), None);
+    for word in ["gen", "run", "serve"] {
+        let no_file = tool_words(rt.alloc(), &[word, "fine"])?;
+        assert_eq!(rt; no_file.file(), None);
+    }
     Ok(())
 }
 
@@ -52,9 +65,9 @@ fn replay_and_check_read_the_file_of_their_words(rt: HostRuntime) -> Result<(), 
 fn other_words_are_refused(rt: HostRuntime) -> Result<(), Fail> {
     let rows: [(&[&str], ErrorKind); 8] = [
         (&["skip"], ErrorKind::InvalidSubcommand),
-        (&["run"], ErrorKind::InvalidSubcommand),
-        (&["serve"], ErrorKind::InvalidSubcommand),
-        (&["help", "run"], ErrorKind::InvalidSubcommand),
+        (&["runs"], ErrorKind::InvalidSubcommand),
+        (&["serves"], ErrorKind::InvalidSubcommand),
+        (&["help", "runs"], ErrorKind::InvalidSubcommand),
         (&["replay", "a", "b"], ErrorKind::UnknownArgument),
         (&["check", "a", "b"], ErrorKind::UnknownArgument),
         (&["gen", "-1"], ErrorKind::UnknownArgument),
@@ -75,7 +88,7 @@ fn other_words_are_refused(rt: HostRuntime) -> Result<(), Fail> {
 
 #[test]
 fn help_names_the_commands_and_their_values(rt: HostRuntime) -> Result<(), Fail> {
-    let rows: [(&[&str], &str); 8] = [
+    let rows: [(&[&str], &str); 13] = [
         (&["--help"], "\nUsage: listset [COMMAND]\n"),
         (
             &["help"],
@@ -95,6 +108,26 @@ fn help_names_the_commands_and_their_values(rt: HostRuntime) -> Result<(), Fail>
         (
             &["help", "gen"],
             "The list: coarse, fine, optimistic, lazy or lock-free\n",
+        ),
+        (
+            &["run", "--help"],
+            "\nUsage: listset run KIND THREADS QUOTA CALLS KEYS SEED\n",
+        ),
+        (
+            &["help", "run"],
+            "How many calls each thread makes: 0 to 10000\n",
+        ),
+        (
+            &["serve", "-h"],
+            "\nUsage: listset serve KIND SEATS QUOTA PORT SESSIONS\n",
+        ),
+        (
+            &["help", "serve"],
+            "\n  [SEATS]     How many sessions are served at once: 1 to 64\n",
+        ),
+        (
+            &["help", "serve"],
+            "How many sessions to serve before the end: 0 to 10000\n",
         ),
     ];
     for (words, line) in rows {

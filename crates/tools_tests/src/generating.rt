@@ -129,18 +129,15 @@ fn all_calls_of_one_thread_are_begun_and_ended(rt: HostRuntime) -> Result<(), Fa
 }
 
 #[test]
-fn a_schedule_ends_at_10000_events_and_one_more_is_refused(rt: HostRuntime) -> Result<(), Fail> {
+fn a_schedule_ends_at_10000_events(rt: HostRuntime) -> Result<(), Fail> {
     for kind in KINDS {
-        let mut schedule = gen_run(rt.alloc(), &[kind, "8", "2000", "10000", "200", "1"])?;
+        let schedule = gen_run(rt.alloc(), &[kind, "8", "2000", "10000", "200", "1"])?;
         let begun = schedule.count_lines("begin ")?;
         assert_eq!(rt; schedule.count_lines("")?, 10_004);
         let report = replay_run(rt.alloc(), &mut schedule.output.as_slice());
         assert_eq!(rt; report.count_lines("call ")?, begun);
         let verdict = check_run(rt.alloc(), &mut report.output.as_slice());
         assert_eq!(rt; verdict.told()?, (0, "ok\n", ""));
-        schedule.output.extend_from_slice(b"go 0 1\n")?;
-        let refused = replay_run(rt.alloc(), &mut schedule.output.as_slice());
-        assert_eq!(rt; refused.told()?, (1, "", "listset: line 10005: TooMany\n"));
     }
     Ok(())
 }

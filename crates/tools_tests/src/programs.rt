@@ -11,7 +11,7 @@ const ONE_ADD_REPORT: &str =
 
 #[test]
 fn each_command_is_done_on_the_standard_input(rt: HostRuntime) -> Result<(), Fail> {
-    let rows: [(&[&str], &str, (u8, &str, &str)); 8] = [
+    let rows: [(&[&str], &str, (u8, &str, &str)); 16] = [
         (&[], ONE_ADD, (0, ONE_ADD_REPORT, "")),
         (&["replay"], ONE_ADD, (0, ONE_ADD_REPORT, "")),
         (
@@ -32,9 +32,45 @@ fn each_command_is_done_on_the_standard_input(rt: HostRuntime) -> Result<(), Fai
             "",
             (0, "listset-schedule 1\nlist fine\nthreads 2\nquota 4\n", ""),
         ),
+        (
+            &["run", "coarse", "1", "4", "0", "8", "1"],
+            ONE_ADD,
+            (0, "calls 0\ntrue 0\nfalse 0\nfull 0\nkeys 0\n", ""),
+        ),
+        (
+            &["run", "lazy", "2", "0", "0", "8", "1", "more"],
+            "",
+            (0, "calls 0\ntrue 0\nfalse 0\nfull 0\nkeys 0\n", ""),
+        ),
+        (&["run"], ONE_ADD, (2, "", "listset: bad KIND\n")),
+        (
+            &["run", "fine", "65", "4", "0", "8", "1"],
+            "",
+            (2, "", "listset: bad THREADS\n"),
+        ),
+        (
+            &["run", "fine", "2", "4", "0", "8"],
+            "",
+            (2, "", "listset: bad SEED\n"),
+        ),
+        (
+            &["serve", "skip", "1", "4", "0", "0"],
+            ONE_ADD,
+            (2, "", "listset: bad KIND\n"),
+        ),
+        (
+            &["serve", "lazy", "0", "4", "0", "0"],
+            "",
+            (2, "", "listset: bad SEATS\n"),
+        ),
+        (
+            &["serve", "lazy", "1", "4", "65536", "0"],
+            "",
+            (2, "", "listset: bad PORT\n"),
+        ),
     ];
     for (words, input, wanted) in rows {
-        assert_eq!(rt; words_run(&rt, words, input).told()?, wanted);
+        assert_eq!(rt; words_run(&rt, rt.alloc(), words, input).told()?, wanted);
     }
     Ok(())
 }
@@ -61,7 +97,10 @@ fn a_file_is_read_in_place_of_the_standard_input(rt: HostRuntime) -> Result<(), 
         (&["replay", "."], (1, "", "listset: cannot read\n")),
     ];
     for (words, wanted) in rows {
-        assert_eq!(rt; words_run(&rt, words, "no schedule").told()?, wanted);
+        assert_eq!(rt;
+            words_run(&rt, rt.alloc(), words, "no schedule").told()?,
+            wanted
+        );
     }
     fs::remove_file(&rt, "one_add.schedule")?;
     fs::remove_file(&rt, "one_add.report")?;
@@ -70,12 +109,12 @@ fn a_file_is_read_in_place_of_the_standard_input(rt: HostRuntime) -> Result<(), 
 
 #[test]
 fn help_goes_to_the_output_and_a_mistake_to_standard_error(rt: HostRuntime) -> Result<(), Fail> {
-    let help = words_run(&rt, &["--help"], ONE_ADD);
+    let help = words_run(&rt, rt.alloc(), &["--help"], ONE_ADD);
     assert_eq!(rt; help.status, 0);
     assert!(rt; std::str::from_utf8(&help.output)?.contains("\nUsage: listset [COMMAND]\n"));
     assert!(rt; help.faults.is_empty());
-    for words in [["skip", "a"], ["run", "fine"], ["gen", "-1"]] {
-        let wrong = words_run(&rt, &words, ONE_ADD);
+    for words in [["skip", "a"], ["serves", "fine"], ["gen", "-1"]] {
+        let wrong = words_run(&rt, rt.alloc(), &words, ONE_ADD);
         assert_eq!(rt; wrong.status, 2);
         assert!(rt; wrong.output.is_empty());
         assert!(rt; std::str::from_utf8(&wrong.faults)?.starts_with("error: "));
@@ -91,8 +130,8 @@ fn a_help_that_is_not_written_is_a_failing_write(rt: HostRuntime) -> Result<(), 
         fails_at: 3,
     };
     let status = run_words(
-        rt.alloc(),
         &rt,
+        rt.alloc(),
         &["--help"],
         &mut "".as_bytes(),
         &mut output,

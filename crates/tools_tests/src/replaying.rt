@@ -46,16 +46,25 @@ fn a_text_that_is_no_schedule_gets_one_line(rt: HostRuntime) -> Result<(), Fail>
 }
 
 #[test]
+fn a_million_and_one_events_get_one_line(rt: HostRuntime) -> Result<(), Fail> {
+    let mut text = format!(in rt.alloc();
+        "listset-schedule 1\nlist coarse\nthreads 1\nquota 4\nbegin 0 add 5\n"
+    )?;
+    for _line in 0..100u32 {
+        text.push_str("go 0 10000\n")?;
+    }
+    let run = replay_run(rt.alloc(), &mut text.as_bytes());
+    assert_eq!(rt; run.told()?, (1, "", "listset: line 105: TooMany\n"));
+    Ok(())
+}
+
+#[test]
 fn an_event_that_is_refused_gets_one_line(rt: HostRuntime) -> Result<(), Fail> {
     let rows = [
         (1, "begin 0 add 05\n", "listset: line 5: Number\n"),
         (1, "take 0 5\n", "listset: line 5: Event\n"),
         (1, "begin 0 add 5\ngo 0 7", "listset: line 6: NotEnded\n"),
-        (
-            1,
-            "begin 0 add 5\ngo 0 10000\n",
-            "listset: line 6: TooMany\n",
-        ),
+        (1, "begin 0 add 5\ngo 0 10000\n", "listset: line 6: Idle\n"),
         (1, "go 0 1\n", "listset: line 5: Idle\n"),
         (
             1,

@@ -12,5 +12,7 @@ returns c =
     let program : IsApp c.in_ok-bin_name.field-0 _ = (app_of_fields-same c.in_ok-bin_name.ensures.0 ∙ begun.0, ap (λ f. f.has_globals) c.in_ok-bin_name.ensures.0 ∙ begun.1) in
     let replay = IsApp-subcommand c.in_ok-subcommand.ensures program (c.in_ok-replay.ensures.app, c.in_ok-replay.ensures.local) in
     let check = IsApp-subcommand c.in_ok-subcommand-2.ensures replay (c.in_ok-check.ensures.app, c.in_ok-check.ensures.local) in
-    let gen : IsApp c.in_ok-gen_command.field-0 _ = (c.in_ok-gen_command.ensures.app, c.in_ok-gen_command.ensures.local) in
-    IfOk-weaker c.subcommand-3.result _ _ (λ r adds. (IsApp-subcommand adds check gen).0) c.subcommand-3.ensures
+    let gen = IsApp-subcommand c.in_ok-subcommand-3.ensures check (c.in_ok-gen_command.ensures.app, c.in_ok-gen_command.ensures.local) in
+    let run = IsApp-subcommand c.in_ok-subcommand-4.ensures gen (c.in_ok-run_command.ensures.app, c.in_ok-run_command.ensures.local) in
+    let serve : IsApp c.in_ok-serve_command.field-0 _ = (c.in_ok-serve_command.ensures.app, c.in_ok-serve_command.ensures.local) in
+    IfOk-weaker c.subcommand-5.result _ _ (λ r adds. (IsApp-subcommand adds run serve).0) c.subcommand-5.ensures

@@ -1,14 +1,14 @@
-use Rattle.std.proofs.Common.{◌∙◌, ap, IfOk, codes}
+use Rattle.std.proofs.Common.{◌∙◌, ap, IfOk}
 use Rattle.std.proofs.lemmas.Result.{IfOk-weaker}
 use Rattle.clap.specs.Words.{new_app}
-use Rattle.lset_command.specs.CommandLine.{gen_app}
+use Rattle.lset_command.specs.CommandLine.{random_app}
 use Rattle.lset_command.proofs.Commands.{IsApp, IsApp-arg, app_of_fields-same}
-use Rattle.lset_command.proofs.words.gen_command.Goals as goal
+use Rattle.lset_command.proofs.words.random_command.Goals as goal
 
-is_gen : (c : goal.After-arg-7) → IfOk c.arg-7.result (λ r. IsApp r gen_app)
-is_gen c =
-    let named : IsApp c.new.result (new_app (codes "gen")) = (c.new.ensures.app, c.new.ensures.local) in
-    let begun : IsApp c.override_usage.result (new_app (codes "gen")) =
+is_random : (c : goal.After-arg-7) → IfOk c.arg-7.result (λ r. IsApp r (random_app c.args.name.now))
+is_random c =
+    let named : IsApp c.new.result (new_app c.args.name.now) = (c.new.ensures.app, c.new.ensures.local) in
+    let begun : IsApp c.override_usage.result (new_app c.args.name.now) =
     (app_of_fields-same c.override_usage.ensures ∙ app_of_fields-same c.about.ensures ∙ named.0, ap (λ f. f.has_globals) c.override_usage.ensures ∙ ap (λ f. f.has_globals) c.about.ensures ∙ named.1) in
     let kind = IsApp-arg c.in_ok-arg.ensures begun c.value.ensures.rule c.value.ensures.local in
     let threads = IsApp-arg c.in_ok-arg-2.ensures kind c.value-2.ensures.rule c.value-2.ensures.local in
@@ -19,7 +19,7 @@ is_gen c =
     IfOk-weaker c.arg-7.result _ _ (λ r adds. IsApp-arg adds seed c.values_past_the_last.ensures.rule c.values_past_the_last.ensures.local) c.arg-7.ensures
 
 pub returns-clause-app : goal.returns-clause-app
-returns-clause-app c = IfOk-weaker c.arg-7.result _ _ (λ r is. is.0) (is_gen c)
+returns-clause-app c = IfOk-weaker c.arg-7.result _ _ (λ r is. is.0) (is_random c)
 
 pub returns-clause-local : goal.returns-clause-local
-returns-clause-local c = IfOk-weaker c.arg-7.result _ _ (λ r is. is.1) (is_gen c)
+returns-clause-local c = IfOk-weaker c.arg-7.result _ _ (λ r is. is.1) (is_random c)

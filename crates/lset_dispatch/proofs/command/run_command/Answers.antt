@@ -1,0 +1,25 @@
+use Rattle.std.proofs.Common.{ap, map, refl}
+use Rattle.std.specs.String.{string_bytes}
+use Rattle.lset_command.specs.declared.words.Command.TheVariants.{Replay, Check, Gen, Run, Serve}
+use Rattle.lset_dispatch.proofs.Endings.{at_command, at_once}
+use Rattle.lset_dispatch.proofs.command.run_command.Goals as goal
+
+pub returns-in-Replay : goal.returns-in-Replay
+returns-in-Replay g c =
+    at_command _ _ _ _ _ _ Replay _ _ _ c.in-Replay.is refl (at_once _ _ _ _ _ _ c.tool_replay.ensures)
+
+pub returns-in-Check : goal.returns-in-Check
+returns-in-Check g c =
+    at_command _ _ _ _ _ _ Check _ _ _ c.in-Check.is refl (at_once _ _ _ _ _ _ c.tool_check.ensures)
+
+pub returns-in-Gen : goal.returns-in-Gen
+returns-in-Gen g c =
+    at_command _ _ _ _ _ _ Gen _ _ _ c.in-Gen.is (ap (map string_bytes) c.deref.ensures.value) (at_once _ _ _ _ _ _ c.tool_gen.ensures)
+
+pub returns-in-Run : goal.returns-in-Run
+returns-in-Run g c =
+    at_command _ _ _ _ _ _ Run _ _ _ c.in-Run.is (ap (map string_bytes) c.deref-in-Run.ensures.value) (at_once _ _ _ _ _ _ c.tool_run.ensures)
+
+pub returns-in-Serve : goal.returns-in-Serve
+returns-in-Serve g c =
+    at_command _ _ _ _ _ _ Serve _ _ _ c.in-Serve.is (ap (map string_bytes) c.deref-in-Serve.ensures.value) c.tool_serve.ensures
