@@ -1,4 +1,5 @@
 use lset_history::{HistoryFault, OrderFault};
+use lset_live::OpenFault;
 use lset_replay::{ReplayFault, ReportFault};
 use lset_schedule::{GenFault, ScheduleFault};
 use lset_steps::StepFault;
@@ -17,6 +18,8 @@ pub enum Wrong {
     History(#[from] HistoryFault),
     #[error("{0}")]
     Order(#[from] OrderFault),
+    #[error("{0}")]
+    Open(#[from] OpenFault),
     #[error("{0}")]
     Schedule(#[from] ScheduleFault),
     #[error("{0}")]

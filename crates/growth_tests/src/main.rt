@@ -17,6 +17,7 @@ macro_rules! answer {
 }
 
 mod calls;
+mod live;
 mod sets;
 mod texts;
 mod tools;
@@ -25,6 +26,7 @@ use calls::{Calls, Wrong};
 use std::alloc::{AllocError, Global};
 use std::io::{self, Read};
 use std::process::ExitCode;
+use std::sync::Wait;
 
 /// The number on the input, 0 where there is none.
 fn number_on(input: &mut impl Read) -> io::Result<u32> {
@@ -42,11 +44,13 @@ fn take_blocks(alloc: Global, count: u32) -> Result<(), AllocError> {
     Ok(())
 }
 
-fn make_calls(alloc: Global, calls: &mut Calls) -> Result<(), Wrong> {
+fn make_calls<R: Wait>(rt: &R, alloc: Global, calls: &mut Calls) -> Result<(), Wrong> {
     sets::worlds(alloc, calls)?;
     sets::oracles(alloc, calls)?;
     sets::histories(alloc, calls)?;
+    live::running_sets(rt, alloc, calls)?;
     texts::replays(alloc, calls)?;
+    texts::refusals(alloc, calls)?;
     texts::schedules_drawn(alloc, calls)?;
     texts::programs_drawn(alloc, calls)?;
     tools::tools(alloc, calls)
@@ -57,7 +61,7 @@ fn main(rt: HostRuntime) -> io::Result<ExitCode> {
     let blocks = number_on(&mut rt.reader())?;
     take_blocks(alloc, blocks)?;
     let mut calls = Calls::new();
-    if let Err(wrong) = make_calls(alloc, &mut calls) {
+    if let Err(wrong) = make_calls(&rt, alloc, &mut calls) {
         println!(rt; "{}: {wrong}", calls.name)?;
         return Ok(ExitCode::from(1));
     }

@@ -15,6 +15,18 @@ const FIVE_ADDS: &str =
 const FIVE_ADDS_REPORT: &str =
     "listset-report 1\nlist coarse\nthreads 1\nquota 5\ncall 0 0 add 1 1 8 true\ncall 1 0 add 2 9 18 true\ncall 2 0 add 3 19 30 true\ncall 3 0 add 4 31 44 true\ncall 4 0 add 5 45 60 true\nplace 0 true\nplace 1 true\nplace 2 true\nplace 3 true\nplace 4 true\nkey 1\nkey 2\nkey 3\nkey 4\nkey 5\nend\n";
 
+/// A `go` line of no steps, behind other events.
+const NO_SCHEDULE: &str =
+    "listset-schedule 1\nlist coarse\nthreads 1\nquota 5\nbegin 0 add 1\ngo 0 7\nbegin 0 add 2\ngo 0 9\nbegin 0 add 3\ngo 0 0\n";
+
+/// A report without its last line.
+const NO_REPORT: &str =
+    "listset-report 1\nlist coarse\nthreads 1\nquota 5\ncall 0 0 add 1 1 8 true\ncall 1 0 add 2 9 18 true\nplace 0 true\nplace 1 true\nkey 1\nkey 2\n";
+
+/// A step of a thread after the end of its third call.
+const IDLE: &str =
+    "listset-schedule 1\nlist coarse\nthreads 1\nquota 5\nbegin 0 add 1\ngo 0 7\nbegin 0 add 2\ngo 0 9\nbegin 0 add 3\ngo 0 12\n";
+
 /// A `contains` drawn from seed 0, whose generator begins 298703107, 4236525527, 336081875: the one thread; what is
 /// 2 modulo 3, a `contains`; what is 3 modulo 8, the key.
 pub const DRAWN: &str =
@@ -26,8 +38,8 @@ pub fn replays(alloc: Global, calls: &mut Calls) -> Result<(), Wrong> {
         calls,
         "read_schedule",
         ScheduleFault {
+            line: 1..=14,
             cause: Cause::Memory,
-            ..
         },
         read_schedule(alloc, FIVE_ADDS.as_bytes())
     )?;
@@ -50,8 +62,8 @@ pub fn replays(alloc: Global, calls: &mut Calls) -> Result<(), Wrong> {
         calls,
         "read_report",
         ReportFault {
+            line: 1..=20,
             cause: ReportCause::Memory,
-            ..
         },
         read_report(alloc, FIVE_ADDS_REPORT.as_bytes())
     )?;
@@ -68,6 +80,45 @@ pub fn replays(alloc: Global, calls: &mut Calls) -> Result<(), Wrong> {
         write_report(alloc, &found)
     )?;
     check(text.as_slice() == FIVE_ADDS_REPORT.as_bytes())
+}
+
+/// Reads what is no schedule and what is no report, and replays a schedule that is refused.
+pub fn refusals(alloc: Global, calls: &mut Calls) -> Result<(), Wrong> {
+    let fault = answer!(
+        calls,
+        "read_schedule",
+        ScheduleFault {
+            line: 1..=10,
+            cause: Cause::Memory,
+        },
+        read_schedule(alloc, NO_SCHEDULE.as_bytes())
+    )
+    .err();
+    let (line, cause) = (10, Cause::Number);
+    check(fault == Some(ScheduleFault { line, cause }))?;
+    let fault = answer!(
+        calls,
+        "read_report",
+        ReportFault {
+            line: 1..=10,
+            cause: ReportCause::Memory,
+        },
+        read_report(alloc, NO_REPORT.as_bytes())
+    )
+    .err();
+    let (line, cause) = (11, ReportCause::NotEnded);
+    check(fault == Some(ReportFault { line, cause }))?;
+    let plan = answer!(
+        calls,
+        "read_schedule",
+        ScheduleFault {
+            line: 1..=10,
+            cause: Cause::Memory,
+        },
+        read_schedule(alloc, IDLE.as_bytes())
+    )?;
+    let fault = answer!(calls, "replay", ReplayFault::Memory, replay(alloc, &plan)).err();
+    check(fault == Some(ReplayFault::Idle(10)))
 }
 
 pub fn schedules_drawn(alloc: Global, calls: &mut Calls) -> Result<(), Wrong> {

@@ -1,0 +1,167 @@
+ghost use Rattle.std.specs.Prelude.{◌≡◌, ◌<◌, IfOk};
+
+use lset_history::Oracle;
+use lset_replay::{Report, replay};
+use lset_schedule::read_schedule;
+use lset_tools::tool_gen;
+use lset_words::{Call, CallRecord, Key, Reply};
+use std::alloc::{AllocError, Global};
+use std::test::Fail;
+
+const KINDS: [&str; 5] = ["coarse", "fine", "optimistic", "lazy", "lock-free"];
+
+const SEEDS: u64 = 200;
+
+/// What a schedule is drawn for.
+#[derive(Clone, Copy)]
+struct Drawn {
+    threads: u64,
+    quota: u64,
+    calls: u64,
+    keys: u64,
+}
+
+const ALONE: Drawn = Drawn {
+    threads: 1,
+    quota: 3,
+    calls: 60,
+    keys: 5,
+};
+
+const TOGETHER: Drawn = Drawn {
+    threads: 4,
+    quota: 8,
+    calls: 80,
+    keys: 5,
+};
+
+impl Drawn {
+    /// The text of the schedule of a seed.
+    fn text(self, alloc: Global, kind: &str, seed: u64) -> Result<Vec<u8>, AllocError> {
+        let mut values = Vec::new(alloc);
+        values.push(String::from_str(alloc, kind)?)?;
+        for number in [self.threads, self.quota, self.calls, self.keys, seed] {
+            values.push(number.to_string(alloc)?)?;
+        }
+        let mut text = Vec::new(alloc);
+        let mut faults = Vec::new(alloc);
+        let _status = tool_gen(alloc, &values, &mut text, &mut faults);
+        Ok(text)
+    }
+}
+
+/// The first lines of a text, up to the last that ends in its first bytes.
+fn front(text: &[u8], bytes: usize) -> &[u8] {
+    let cut = &text[..bytes.min(text.len())];
+    let rest = cut.iter().rev().take_while(|byte| **byte != b'\n').count();
+    &cut[..cut.len().saturating_sub(rest)]
+}
+
+fn replayed(alloc: Global, text: &[u8]) -> Result<Report, Fail> {
+    let schedule = read_schedule(alloc, text)?;
+    Ok(replay(alloc, &schedule)?)
+}
+
+/// A call of the one thread.
+fn apply(oracle: &mut Oracle, call: Call) -> Result<Reply, AllocError>
+    requires { 0 < oracle.old.threads }
+    ensures { oracle.new.threads ≡ oracle.old.threads }
+{
+    oracle.apply(0, call)
+}
+
+/// The sequential set of one thread, after calls that it answers as they were answered; `None` where it answers one of them
+/// otherwise, or one is open.
+fn made(alloc: Global, calls: &[CallRecord]) -> Result<Option<Oracle>, AllocError> {
+    let mut oracle = Oracle::new(alloc, 1, 3)?;
+    for told in calls {
+        let reply = apply(&mut oracle, told.call)?;
+        if told.ended.map(|(_, reply)| reply) != Some(reply) {
+            return Ok(None);
+        }
+    }
+    Ok(Some(oracle))
+}
+
+/// How many of the calls got a reply.
+fn replies(calls: &[CallRecord], reply: Reply) -> usize {
+    calls
+        .iter()
+        .filter(|made| made.ended.is_some_and(|(_, given)| given == reply))
+        .count()
+}
+
+/// One thread gets the replies of the sequential set and leaves its keys, by each list and each seed, and meets all three
+/// replies.
+#[test]
+fn one_thread_is_the_sequential_set(rt: HostRuntime) -> Result<(), Fail> {
+    for kind in KINDS {
+        for seed in 0..SEEDS {
+            let text = ALONE.text(rt.alloc(), kind, seed)?;
+            let report = replayed(rt.alloc(), &text)?;
+            let calls = report.history.calls();
+            assert_eq!(rt; calls.len(), 60);
+            for reply in [Reply::True, Reply::False, Reply::Full] {
+                assert!(rt; replies(calls, reply) > 0);
+            }
+            let oracle = made(rt.alloc(), calls)?.ok_or(seed)?;
+            assert_eq!(rt; report.keys, oracle.keys()?);
+        }
+    }
+    Ok(())
+}
+
+/// Whether the call with the number changed the set: it was answered True, or is open and stands in the order.
+fn is_done(report: &Report, number: usize, made: &CallRecord) -> bool {
+    match made.ended {
+        Some((_, reply)) => reply == Reply::True,
+        None => report
+            .order
+            .iter()
+            .any(|place| place.call as usize == number),
+    }
+}
+
+/// How many times a call was made that changed the set.
+fn times(report: &Report, call: Call) -> usize {
+    let calls = report.history.calls().iter().enumerate();
+    calls
+        .filter(|(number, made)| made.call == call && is_done(report, *number, made))
+        .count()
+}
+
+/// Whether the closing keys are those below `most` that were added once more than removed, and each other key below it was
+/// removed as often as added.
+fn adds_up(report: &Report, most: u32) -> bool {
+    let mut kept = 0usize;
+    for key in 0..most {
+        let added = times(report, Call::Add(Key(key)));
+        let removed = times(report, Call::Remove(Key(key)));
+        let is_there = report.keys.contains(&key);
+        if added != removed.saturating_add(usize::from(is_there)) {
+            return false;
+        }
+        kept = kept.saturating_add(usize::from(is_there));
+    }
+    report.keys.len() == kept
+}
+
+/// Several threads leave the keys of their adds and removes, key by key, also where the schedule stops early.
+#[test]
+fn several_threads_leave_what_they_added(rt: HostRuntime) -> Result<(), Fail> {
+    for kind in KINDS {
+        let mut open = 0usize;
+        for seed in 0..SEEDS {
+            let text = TOGETHER.text(rt.alloc(), kind, seed)?;
+            let whole = replayed(rt.alloc(), &text)?;
+            assert_eq!(rt; whole.history.calls().len(), 80);
+            assert!(rt; adds_up(&whole, 5));
+            let early = replayed(rt.alloc(), front(&text, text.len() / 2))?;
+            assert!(rt; adds_up(&early, 5));
+            let calls = early.history.calls().iter();
+            open = open.saturating_add(calls.filter(|made| made.ended.is_none()).count());
+        }
+        assert!(rt; open > 0);
+    }
+    Ok(())
+}
