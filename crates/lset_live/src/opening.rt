@@ -74,6 +74,7 @@ fn open_on<M: Running>(
 }
 
 /// Opens a set with 1 to 64 seats, seat `t` for thread `t`, and a quota of 0 to 16,384 slots for each.
+/// All memory that a set takes is taken here, but for that of `Closed::keys`.
 /// `OpenFault::Seats` where the seats are outside their limits, else `OpenFault::Quota` where the quota is, and
 /// `OpenFault::Memory` where memory was refused.
 pub fn open<M: Running>(

@@ -22,11 +22,11 @@ use std::sync::Wait;
 /// are the interpreter (`lset_rule::walk`): it takes the row from `next`, makes this one step on the table, feeds what was
 /// seen, and asks `pause` after each step that does not answer. A list may have bodies of its own, loops over the steps
 /// of `lset_rule`, with the same clauses: they owe that the place is still that of the same seat and table, that the
-/// registers given back are those in its view, and that the call was made. It began after all that the seat had seen,
+/// slots given back are those in its view, and that the call was made. It began after all that the seat had seen,
 /// its last step answered, and the record grew by just this call (`Makes`).
 ///
 /// Of each function: `rt` is what a call waits by, `table` are the words, `place` is the seat's place among their views,
-/// `local` are the registers of its thread, which has no call under way, and `key` is any key.
+/// `slots` are those of its thread, which has no call under way, and `key` is any key.
 pub trait Running: Machine {
     /// Makes an `add`: the key goes in where it is not there.
     fn add_on<R: Wait, P: Pause>(
