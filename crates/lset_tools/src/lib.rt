@@ -14,7 +14,7 @@ pub use answer::{Answer, deliver};
 pub use checking::tool_check;
 pub use generating::tool_gen;
 pub use replaying::tool_replay;
-pub use streams::{LONGEST, put};
+pub use streams::{InputFault, LONGEST, input_of, put};
 pub use trouble::{LineCause, ServeName, Trouble, ValueName, WorkName};
 pub use values::{
     MOST_CALLS_ASKED, MOST_KEYS_ASKED, MOST_SEED, Request, kind_at, number_at, read_request,
