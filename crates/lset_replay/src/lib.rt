@@ -11,13 +11,15 @@ mod recorder;
 mod replaying;
 mod report;
 mod report_fault;
+mod traced;
 mod writing;
 
 pub use fault::ReplayFault;
 pub use reading::{read_report, reports_read_back};
 pub use replaying::replay;
-pub use report::{MOST_CALLS, MOST_KEYS, MOST_PLACES, Report};
+pub use report::{MOST_CALLS, MOST_KEYS, MOST_PLACES, PlacedReport, Report};
 pub use report_fault::{ReportCause, ReportFault};
+pub use traced::{CallEnd, Deed, Trace, TracedEvent};
 pub use writing::write_report;
 
 /// The first line of a report's text.

@@ -1,5 +1,5 @@
 use lset_history::History;
-use lset_words::{Kind, Placed};
+use lset_words::{Kind, Placed, Point};
 
 /// The most calls of a report that has a text.
 pub const MOST_CALLS: usize = 1_000_000;
@@ -19,4 +19,11 @@ pub struct Report {
     pub history: History,
     pub order: Vec<Placed>,
     pub keys: Vec<u32>,
+}
+
+/// A report, and for each place of its order the moment at which its call stands and whether it changes the set there.
+#[derive(Drop)]
+pub struct PlacedReport {
+    pub report: Report,
+    pub points: Vec<Point>,
 }

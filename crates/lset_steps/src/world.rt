@@ -30,6 +30,13 @@ pub enum StepFault {
     Idle,
 }
 
+/// A key of the chain, and whether its node is marked.
+#[derive(Clone, Copy, Debug, PartialEq, Eq)]
+pub struct ChainKey {
+    pub key: u32,
+    pub marked: bool,
+}
+
 /// The words of a list and what each thread holds, after the events of a run of the machine `M`.
 #[derive(Drop)]
 pub struct World<M: Machine> {

@@ -16,3 +16,10 @@ pub struct Placed {
     pub call: u32,
     pub reply: Reply,
 }
+
+/// Where a call of an order stands: the moment, and whether it changes the set there.
+#[derive(Clone, Copy, Debug, PartialEq, Eq)]
+pub struct Point {
+    pub moment: u32,
+    pub change: bool,
+}

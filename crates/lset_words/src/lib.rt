@@ -9,7 +9,7 @@ mod history;
 mod table;
 
 pub use fault::LayoutFault;
-pub use history::{CallRecord, Placed};
+pub use history::{CallRecord, Placed, Point};
 pub use table::{Layout, key_index, link_index, lock_index, slot_node, words_are_apart};
 
 /// The most threads of a list. (This project's own limit, as are those below.)

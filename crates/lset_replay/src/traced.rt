@@ -1,0 +1,44 @@
+use lset_steps::{Action, ChainKey, Local, StepFault};
+use lset_words::{Call, Key, Kind, Reply};
+
+/// What an event of a run did: a thread began a call, which has this number in the history, or made one access and saw this value
+/// (of a store, the value stored; of an exchange, what the word held before).
+#[derive(Clone, Copy, Debug, PartialEq, Eq)]
+pub enum Deed {
+    Begin(Call, u32),
+    Access(Action, u64),
+}
+
+/// The end of a call: its number in the history, its reply, and the moment at which it stands in the order.
+#[derive(Clone, Copy, Debug, PartialEq, Eq)]
+pub struct CallEnd {
+    pub call: u32,
+    pub reply: Reply,
+    pub moment: u32,
+}
+
+/// An event of a run, and what it did: the number of its line in the schedule's text, its thread and what the thread held before
+/// and after, the key that it put in (`true`) or took out (`false`), the end of the call where it ended one, and the
+/// chain after it, where chains are asked for and the event changed it.
+#[derive(Debug, Drop)]
+pub struct TracedEvent {
+    pub line: u64,
+    pub thread: u32,
+    pub deed: Deed,
+    pub before: Local,
+    pub after: Local,
+    pub change: Option<(Key, bool)>,
+    pub end: Option<CallEnd>,
+    pub chain: Option<Vec<ChainKey>>,
+}
+
+/// The events of a schedule, one after another, up to the first that is not enabled; and of that one, the
+/// number of its line and the first cause.
+#[derive(Debug, Drop)]
+pub struct Trace {
+    pub kind: Kind,
+    pub threads: u32,
+    pub quota: u32,
+    pub events: Vec<TracedEvent>,
+    pub refused: Option<(u64, StepFault)>,
+}
