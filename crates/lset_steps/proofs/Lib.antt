@@ -28,4 +28,5 @@ pub mod ReadOutline
 pub mod ReadBound
 pub mod ReadWalk
 pub mod WalkedTo
+pub mod ChainWalk
 mod Promised

@@ -1,10 +1,11 @@
 -- What a world is, and what a step of it answers.
-use Rattle.std.specs.Prelude.{◌≡◌, ◌≢◌, ℕ, ◌-◌, ◌%◌, ◌<◌, ◌≤◌, List, [], ◌∷◌, length, Result, Ok, Err, if◌then◌else◌, ◌==◌, nat_lt, ◌&&◌}
+use Rattle.std.specs.Prelude.{◌≡◌, ◌≢◌, ℕ, ◌-◌, ◌%◌, ◌<◌, ◌≤◌, Bool, not, List, [], ◌∷◌, map, filter, length, Result, Ok, Err, if◌then◌else◌, ◌==◌, nat_lt, ◌&&◌}
 use Rattle.std.specs.List.Sorted.{IsStrictlyIncreasing}
 use Rattle.lset_words.specs.Words.{word_count}
 use Rattle.lset_steps.specs.declared.Event.{Event}
 use Rattle.lset_steps.specs.declared.Event.TheVariants.{Begin, Go}
 use Rattle.lset_steps.specs.declared.Told.{Told}
+use Rattle.lset_steps.specs.declared.world.ChainKey.{ChainKey}
 use Rattle.lset_steps.specs.declared.world.StepFault.{StepFault}
 use Rattle.lset_steps.specs.declared.world.StepFault.TheVariants.{NoThread, Busy, Idle}
 use Rattle.lset_steps.specs.Steps.{Table, State, Run, state_at, event_at, after, told, local_of, Enabled}
@@ -48,3 +49,23 @@ keys_in v (b ∷ bs) = if nat_lt 1 b && v.link b % 2 == 0 then (v.key b - 1) ∷
 -- [Content], rising: the keys of the unmarked user nodes of the chain, from the head to the tail
 abbrev pub IsContent : View → List ℕ → Type 0
 IsContent v keys = ((ns : List ℕ) × IsChain v ns × (keys ≡ keys_in v ns)) × IsStrictlyIncreasing keys
+
+-- the keys of the user nodes among nodes, each with whether its node is marked
+abbrev pub chain_keys : View → List ℕ → List ChainKey
+chain_keys v [] = []
+chain_keys v (b ∷ bs) =
+    if nat_lt 1 b then record { key = v.key b - 1; marked = v.link b % 2 == 1 } ∷ chain_keys v bs else chain_keys v bs
+
+-- those of the chain, from the head to the tail
+abbrev pub AreChainKeys : View → List ChainKey → Type 0
+AreChainKeys v keys = (ns : List ℕ) × IsChain v ns × (keys ≡ chain_keys v ns)
+
+-- those without a mark
+abbrev pub is_unmarked : ChainKey → Bool
+is_unmarked k = not k.marked
+
+abbrev pub key_alone : ChainKey → ℕ
+key_alone k = k.key
+
+abbrev pub unmarked_keys : List ChainKey → List ℕ
+unmarked_keys keys = map key_alone (filter is_unmarked keys)

@@ -13,7 +13,7 @@ pub mod rows;
 mod world;
 
 use lset_words::{Call, Key, Kind, Layout, Reply};
-pub use world::{ChainKey, StepFault, World};
+pub use world::{ChainKey, StepFault, World, opening_words};
 
 /// What a thread holds of its own: its number, its quota and the slots that it has used, the call with
 /// its program counter (0 where none is open) and reply, and the registers. (This project's own table.)

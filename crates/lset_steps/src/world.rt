@@ -1,10 +1,10 @@
-ghost use Rattle.std.specs.Prelude.{◌≡◌, ◌≢◌, ℕ, ◌+◌, ◌*◌, ◌/◌, ◌%◌, ◌<◌, ◌≤◌, IfOk, OnErr, MatchResult, IsTrue, ◌↔◌, length, slice_index, map, List};
+ghost use Rattle.std.specs.Prelude.{◌≡◌, ◌≢◌, ℕ, ◌+◌, ◌*◌, ◌/◌, ◌%◌, ◌<◌, ◌≤◌, IfOk, OnErr, MatchOption, MatchResult, IsTrue, ◌↔◌, length, slice_index, map, List};
 ghost use Rattle.std.specs.List.{range_with_len};
 ghost use Rattle.lset_words.specs.Words.{word_count, lock_index};
 ghost use Rattle.lset_steps.specs.Chain.{node_key, node_link};
-ghost use Rattle.lset_steps.specs.Steps.{Enabled, Table, idle, opening, opening_word, after, told, local_of, seen_by, left_by};
+ghost use Rattle.lset_steps.specs.Steps.{Enabled, Table, idle, opening, opening_word, after, told, local_of, seen_by, seen_next, left_by};
 ghost use Rattle.lset_steps.specs.Laws.{Occurs, Sees, StateLaws, word_named, view_of};
-ghost use Rattle.lset_steps.specs.Worlds.{WorldState, IsRun, StepResult, IsContent};
+ghost use Rattle.lset_steps.specs.Worlds.{WorldState, IsRun, StepResult, IsContent, AreChainKeys, unmarked_keys};
 
 use crate::{Action, Event, Local, Machine, Told};
 use lset_words::{Call, Layout, key_index, link_index, unpack};
@@ -76,7 +76,10 @@ fn opening_word_at(layout: &Layout, i: u64) -> u64
     }
 }
 
-fn opening_words(alloc: Global, layout: &Layout) -> Result<Vec<u64>, AllocError>
+/// The words of a list before any event, for a table of the threads and quota of `layout`, as many as it has words, at
+/// most 3,145,737: an empty chain from head to tail, free locks, and unused slots of zeros. It fails only where memory was
+/// refused. (This project's own table.)
+pub fn opening_words(alloc: Global, layout: &Layout) -> Result<Vec<u64>, AllocError>
     ensures { IfOk result (λ v. v.items ≡ map (opening_word layout.now.threads layout.now.quota)
         (range_with_len 0 (word_count layout.now.threads layout.now.quota))) }
 {
@@ -119,6 +122,17 @@ fn access(words: &mut Vec<u64>, action: Action) -> u64
     }
 }
 
+/// What an access will see.
+fn sight(words: &[u64], action: Action) -> u64
+    requires { word_named action < length words.now }
+    ensures { result ≡ seen_by words.now action }
+{
+    match action {
+        Action::Load(w) | Action::Exchange(w, _, _) => words[w as usize],
+        Action::Store(_, v) => v,
+    }
+}
+
 impl<M: Machine> World<M> {
     /// The world before any event: the opening words, and every thread idle. It fails only where memory
     /// was refused.
@@ -157,6 +171,30 @@ impl<M: Machine> World<M> {
         self.locals[t as usize].pc != 0
     }
 
+    /// What thread `t` holds; `None` where there is no such thread.
+    pub fn holds(&self, t: u32) -> Option<Local>
+        ensures { MatchOption result (self.now.threads ≤ t) (λ l.
+            (t < self.now.threads) × (l ≡ local_of self.now.state t)) }
+    {
+        if t < self.threads {
+            Some(self.local(t))
+        } else {
+            None
+        }
+    }
+
+    /// The next access of thread `t`, and the value that it will see; `None` where the thread has no open call, or
+    /// there is no such thread.
+    pub fn next(&self, t: u32) -> Option<(Action, u64)>
+        ensures { MatchOption result (Enabled self.now.state (Event.Go t) → ⊥) (λ s. Enabled self.now.state (Event.Go t)
+            × (s.0 ≡ M.table.next (local_of self.now.state t)) × (s.1 ≡ seen_next M.table self.now.state t)) }
+    {
+        if t >= self.threads || self.local(t).pc == 0 {
+            return None;
+        }
+        Some(self.next_access(t))
+    }
+
     /// The keys of the set, rising: those of the unmarked nodes of the chain between head and tail. It
     /// fails only where memory was refused.
     pub fn content(&self) -> Result<Vec<u32>, AllocError>
@@ -172,6 +210,26 @@ impl<M: Machine> World<M> {
             node = self.next_node(node);
         }
         Ok(keys)
+    }
+
+    /// The keys of the nodes of the chain between head and tail, from head to tail, each with whether its node is
+    /// marked. It fails only where memory was refused. (Herlihy and Shavit's lists; the marks are Harris's.)
+    pub fn chain(&self) -> Result<Vec<ChainKey>, AllocError>
+        ensures keys { IfOk result (λ v. AreChainKeys (view_of self.now.threads self.now.quota self.now.state) v.items) }
+        ensures content { IfOk result (λ v.
+            IsContent (view_of self.now.threads self.now.quota self.now.state) (unmarked_keys v.items)) }
+    {
+        self.keeps_its_laws();
+        let mut chain = Vec::new(self.alloc);
+        let mut node = self.next_node(HEAD);
+        while node != TAIL {
+            chain.push(ChainKey {
+                key: (self.node_key(node) - 1) as u32,
+                marked: self.is_marked(node),
+            })?;
+            node = self.next_node(node);
+        }
+        Ok(chain)
     }
 
     /// What is so in every state of every run.
@@ -207,6 +265,18 @@ impl<M: Machine> World<M> {
         ensures { result ≡ local_of self.now.state t }
     {
         self.locals[t as usize]
+    }
+
+    fn next_access(&self, t: u32) -> (Action, u64)
+        requires { Enabled self.now.state (Event.Go t) }
+        ensures action { result.0 ≡ M.table.next (local_of self.now.state t) }
+        ensures seen { result.1 ≡ seen_next M.table self.now.state t }
+    {
+        let words = &self.words;
+        let local = self.local(t);
+        let action = M::next(&local);
+        let seen = sight(words, action);
+        (action, seen)
     }
 
     fn begin(&mut self, t: u32, call: Call) -> Told

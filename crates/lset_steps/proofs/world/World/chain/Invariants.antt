@@ -1,0 +1,11 @@
+use Rattle.std.proofs.Common.{◌-◌}
+use Rattle.lset_steps.specs.Chain.{node_key}
+use Rattle.lset_steps.specs.Laws.{view_of}
+use Rattle.lset_steps.proofs.ChainWalk.{HasMet}
+use Rattle.lset_steps.proofs.world.World.chain.Given as goal
+
+abbrev pub invariant-loop-node : goal.invariant-loop-node
+invariant-loop-node g l = HasMet (view_of l.self.threads l.self.quota l.self.state) l.chain.items l.node
+
+abbrev pub decreases-loop-node : goal.decreases-loop-node
+decreases-loop-node g l = node_key l.self.state.words 1 - node_key l.self.state.words l.node
