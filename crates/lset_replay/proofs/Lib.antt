@@ -1,5 +1,7 @@
 pub mod EventLists
 pub mod Ranks
+pub mod RankedPoints
+pub mod Pointed
 pub mod KeyChanges
 pub mod LeastFits
 pub mod Following

@@ -39,7 +39,7 @@ module _ (q : ℕ) (contents : Contents) (counts : Counts) where
   change_there x None None p h = absurd (cc)
   change_there x None (Some end) p h = let e = h.1 in cc
 
-  stands_there : (x : TracedCall) (changed : Option ℕ) (ended : Option (ℕ × Reply)) (p : Option Place)
+  pub stands_there : (x : TracedCall) (changed : Option ℕ) (ended : Option (ℕ × Reply)) (p : Option Place)
       → PlaceBy q contents counts x changed ended p
       → StandsBy q contents counts x changed ended (moment_of p)
   stands_there x (Some m) ended p h = ap moment_of h

@@ -1,6 +1,9 @@
 -- The order of placement, from the place of each call.
-use Rattle.std.specs.Prelude.{ℕ, zero, suc, ◌+◌, ◌*◌, ◌<◌, ◌≤◌, ◌==◌, ◌&&◌, Bool, true, false, not, if◌then◌else◌, List, [], ◌∷◌, ◌++◌, length, Option, Some, None, IfSome}
+use Rattle.std.specs.Prelude.{◌≡◌, ℕ, zero, suc, ◌+◌, ◌*◌, ◌/◌, ◌%◌, ◌<◌, ◌≤◌, ◌==◌, ◌&&◌, Bool, true, false, not, if◌then◌else◌, List, [], ◌∷◌, ◌++◌, length, Option, Some, None, IfSome}
+use Rattle.std.specs.List.Sorted.{IsNonDecreasingBy}
 use Rattle.lset_words.specs.declared.history.Placed.{Placed}
+use Rattle.lset_words.specs.declared.history.Point.{Point}
+use Rattle.lset_words.specs.Points.{place_numbered, point_numbered, moment_of}
 use Rattle.lset_replay.specs.declared.order.Ranked.{Ranked}
 use Rattle.lset_replay.specs.declared.places.Place.{Place}
 use Rattle.lset_replay.specs.Trace.{place_at}
@@ -42,3 +45,17 @@ ranked_from number (Some p ∷ ps) = record {
   rank = rank_at p.moment p.change;
   placed = record { call = number; reply = p.reply };
 } ∷ ranked_from (suc number) ps
+
+-- the point of a call with a rank
+abbrev pub point_ranked : ℕ → Point
+point_ranked rank = record { moment = rank / 2; change = rank % 2 == 0 }
+
+-- the points of an order: each says where the place of its call is, and the moments do not fall
+abbrev pub point_of : Place → Point
+point_of p = record { moment = p.moment; change = p.change }
+
+pub record ArePointsAt (places : List (Option Place)) (order : List Placed) (points : List Point) : Type 0 where
+  pub one_each : length points ≡ length order
+  pub there : (i : ℕ) → i < length order
+      → (p : Place) × (place_at places (place_numbered order i).call ≡ Some p) × (point_numbered points i ≡ point_of p)
+  pub never_fall : IsNonDecreasingBy moment_of points

@@ -1,5 +1,6 @@
 pub mod Events
 pub mod Reports
+pub mod PlacedReports
 pub mod Texts
 pub mod Trace
 pub mod Blocks

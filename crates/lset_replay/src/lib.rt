@@ -16,7 +16,7 @@ mod writing;
 
 pub use fault::ReplayFault;
 pub use reading::{read_report, reports_read_back};
-pub use replaying::replay;
+pub use replaying::{replay, replay_with_points};
 pub use report::{MOST_CALLS, MOST_KEYS, MOST_PLACES, PlacedReport, Report};
 pub use report_fault::{ReportCause, ReportFault};
 pub use traced::{CallEnd, Deed, Trace, TracedEvent};

@@ -1,9 +1,9 @@
 ghost use Rattle.std.specs.Prelude.{◌≡◌, ℕ, ◌≤◌, length, map, IfOk};
 ghost use Rattle.lset_schedule.specs.declared.TheConstants.{MOST_EVENTS};
-ghost use Rattle.lset_replay.specs.Blocks.{blocks_upto, StandUpTo, rank_at, ranked_from};
+ghost use Rattle.lset_replay.specs.Blocks.{ArePointsAt, blocks_upto, point_ranked, StandUpTo, rank_at, ranked_from};
 
 use crate::places::Place;
-use lset_words::Placed;
+use lset_words::{Placed, Point};
 use std::alloc::{AllocError, Global};
 
 /// A call that stands, and its rank: the lesser the earlier.
@@ -28,6 +28,22 @@ impl Ranked {
             },
         }
     }
+
+    fn point(&self) -> Point
+        ensures { result ≡ point_ranked self.now.rank }
+    {
+        Point {
+            moment: self.rank / 2,
+            change: self.rank % 2 == 0,
+        }
+    }
+}
+
+/// An order, and for each of its places the point.
+#[derive(Drop)]
+pub struct Ordered {
+    pub order: Vec<Placed>,
+    pub points: Vec<Point>,
 }
 
 /// The calls that stand, by their numbers.
@@ -55,14 +71,27 @@ fn without_ranks(alloc: Global, ranked: &[Ranked]) -> Result<Vec<Placed>, AllocE
     Ok(order)
 }
 
+fn points_of(alloc: Global, ranked: &[Ranked]) -> Result<Vec<Point>, AllocError>
+    ensures { IfOk result (λ v. v.items ≡ map (λ x. point_ranked x.rank) ranked.now) }
+{
+    let mut points = Vec::with_capacity(alloc, ranked.len())?;
+    for next in ranked {
+        points.push(next.point())?;
+    }
+    Ok(points)
+}
+
 /// The order of calls with these places: moment after moment, and at one moment the change first, then the
-/// others by their numbers.
-pub fn in_order(alloc: Global, places: &[Option<Place>]) -> Result<Vec<Placed>, AllocError>
+/// others by their numbers; and its points.
+pub fn in_order(alloc: Global, places: &[Option<Place>]) -> Result<Ordered, AllocError>
     requires few { length places.now ≤ MOST_EVENTS }
     requires inside { StandUpTo MOST_EVENTS places.now }
-    ensures { IfOk result (λ v. (last : ℕ) → StandUpTo last places.now → v.items ≡ blocks_upto places.now last) }
+    ensures order { IfOk result (λ o. (last : ℕ) → StandUpTo last places.now → o.order.items ≡ blocks_upto places.now last) }
+    ensures points { IfOk result (λ o. ArePointsAt places.now o.order.items o.points.items) }
 {
     let mut ranked = ranked_calls(alloc, places)?;
     ranked.sort_by_key(|next| next.rank)?;
-    without_ranks(alloc, &ranked)
+    let order = without_ranks(alloc, &ranked)?;
+    let points = points_of(alloc, &ranked)?;
+    Ok(Ordered { order, points })
 }

@@ -7,11 +7,12 @@ ghost use Rattle.lset_replay.specs.Follows.{HasFollowed, FollowsAll};
 ghost use Rattle.lset_lists.specs.Tables.{table_of};
 ghost use Rattle.lset_replay.specs.Reports.{Replays, IsExplained, fault_at};
 ghost use Rattle.lset_replay.specs.Reports as report;
+ghost use Rattle.lset_replay.specs.PlacedReports.{ReplaysWithPoints};
 
 use crate::events::{FIRST_EVENT_LINE, event_of};
 use crate::order::in_order;
 use crate::recorder::Recorder;
-use crate::{ReplayFault, Report};
+use crate::{PlacedReport, ReplayFault, Report};
 use lset_headline::runs_are_linearizable;
 use lset_lists::{List, Task, on_list};
 use lset_schedule::{Line, Schedule};
@@ -58,10 +59,10 @@ fn follow_all<M: Machine>(
 }
 
 /// Replays a schedule on the list of the machine `M`.
-fn replay_on<M: Machine>(alloc: Global, schedule: &Schedule) -> Result<Report, ReplayFault>
+fn replay_on<M: Machine>(alloc: Global, schedule: &Schedule) -> Result<PlacedReport, ReplayFault>
     requires { IsSchedule (view schedule.now) }
-    ensures replays { Replays M.table (view schedule.now) result }
-    ensures explained { IfOk result (λ r. IsExplained (report.view r)) }
+    ensures replays { ReplaysWithPoints M.table (view schedule.now) result }
+    ensures explained { IfOk result (λ r. IsExplained (report.view r.report)) }
 {
     has_account::<M>();
     runs_are_linearizable::<M>();
@@ -71,13 +72,17 @@ fn replay_on<M: Machine>(alloc: Global, schedule: &Schedule) -> Result<Report, R
     let mut world = World::<M>::new(alloc, layout)?;
     let mut recorder = Recorder::new(alloc, schedule.threads, schedule.quota)?;
     follow_all(&mut world, &mut recorder, &schedule.lines)?;
-    let order = in_order(alloc, &recorder.places)?;
+    let ordered = in_order(alloc, &recorder.places)?;
     let keys = world.content()?;
-    Ok(Report {
+    let report = Report {
         kind: schedule.kind,
         history: recorder.history,
-        order,
+        order: ordered.order,
         keys,
+    };
+    Ok(PlacedReport {
+        report,
+        points: ordered.points,
     })
 }
 
@@ -89,14 +94,14 @@ struct Replaying<'a> {
 }
 
 impl Task for Replaying<'_> {
-    type Out = Result<Report, ReplayFault>;
+    type Out = Result<PlacedReport, ReplayFault>;
 
     ghost may = { λ task kind. IsSchedule (view task.schedule.now) };
 
-    ghost done = { λ task table result. Replays table (view task.schedule.now) result
-        × IfOk result (λ r. IsExplained (report.view r)) };
+    ghost done = { λ task table result. ReplaysWithPoints table (view task.schedule.now) result
+        × IfOk result (λ r. IsExplained (report.view r.report)) };
 
-    fn run<M: List>(self) -> Result<Report, ReplayFault> {
+    fn run<M: List>(self) -> Result<PlacedReport, ReplayFault> {
         replay_on::<M>(self.alloc, self.schedule)
     }
 }
@@ -113,6 +118,19 @@ pub fn replay(alloc: Global, schedule: &Schedule) -> Result<Report, ReplayFault>
     requires { IsSchedule (view schedule.now) }
     ensures replays { Replays (table_of schedule.now.kind) (view schedule.now) result }
     ensures explained { IfOk result (λ r. IsExplained (report.view r)) }
+{
+    let placed = replay_with_points(alloc, schedule)?;
+    Ok(placed.report)
+}
+
+/// Replays a schedule as `replay` does, with the same report or fault, and tells for each place of the order the
+/// moment at which its call stands and whether it changes the set there. Each point lies in the bar of its call: from its
+/// beginning to its end, or to the last moment of the run where it is open. The schedule is within its limits, as
+/// what `read_schedule` gives. (Herlihy and Wing's linearization points.)
+pub fn replay_with_points(alloc: Global, schedule: &Schedule) -> Result<PlacedReport, ReplayFault>
+    requires { IsSchedule (view schedule.now) }
+    ensures replays { ReplaysWithPoints (table_of schedule.now.kind) (view schedule.now) result }
+    ensures explained { IfOk result (λ r. IsExplained (report.view r.report)) }
 {
     on_list(schedule.kind, Replaying { alloc, schedule })
 }

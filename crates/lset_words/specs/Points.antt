@@ -23,12 +23,9 @@ abbrev pub call_placed : List CallRecord → List Placed → ℕ → CallRecord
 call_placed history order i = call_numbered history (place_numbered order i).call
 
 -- the end of a call's bar: its own end, or the last moment of the run where it is open
-abbrev pub bar_end : ℕ → CallRecord → ℕ
-bar_end last x = at x.ended
-  where
-    at : Option (ℕ × Reply) → ℕ
-    at None = last
-    at (Some end) = end.0
+abbrev pub bar_end : ℕ → Option (ℕ × Reply) → ℕ
+bar_end last None = last
+bar_end last (Some end) = end.0
 
 abbrev pub moment_of : Point → ℕ
 moment_of p = p.moment
@@ -40,7 +37,7 @@ pub record LieInBars (last : ℕ) (history : List CallRecord) (order : List Plac
   pub known : (i : ℕ) → i < length order → (place_numbered order i).call < length history
   -- no earlier than the call's beginning, and no later than its end,
   pub from : (i : ℕ) → i < length order → (call_placed history order i).begun ≤ (point_numbered points i).moment
-  pub upto : (i : ℕ) → i < length order → (point_numbered points i).moment ≤ bar_end last (call_placed history order i)
+  pub upto : (i : ℕ) → i < length order → (point_numbered points i).moment ≤ bar_end last (call_placed history order i).ended
   -- and the moments do not fall along the order.
   pub never_fall : IsNonDecreasingBy moment_of points
 

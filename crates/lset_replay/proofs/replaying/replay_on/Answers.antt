@@ -6,10 +6,11 @@ use Rattle.lset_schedule.specs.declared.TheConstants.{MOST_EVENTS}
 use Rattle.lset_schedule.specs.declared.value.Line.{Line}
 use Rattle.lset_schedule.specs.Plan.{view, event_count}
 use Rattle.lset_replay.specs.declared.places.Place.{Place}
-use Rattle.lset_replay.specs.Blocks.{StandUpTo, blocks_upto}
-use Rattle.lset_replay.specs.Events.{events_from}
+use Rattle.lset_replay.specs.Blocks.{ArePointsAt, StandUpTo, blocks_upto}
+use Rattle.lset_replay.specs.Events.{events_from, events_of}
 use Rattle.lset_replay.proofs.EventLists.{length_of_events}
 use Rattle.lset_replay.proofs.Ranks.{stand_upto_later}
+use Rattle.lset_replay.proofs.Pointed.{points_are_of}
 use Rattle.lset_replay.proofs.Reported.{few_places, places_upto, replay_is, explained_is}
 use Rattle.lset_replay.proofs.replaying.replay_on.Goals as goal
 
@@ -40,26 +41,37 @@ in_order-requires-clause-inside g c =
 
 pub returns-clause-replays : goal.returns-clause-replays
 returns-clause-replays g c =
-    replay_is g.M.Machine.table c.has_account.ensures (view c.args.schedule.now) c.in_ok-world.world.threads
-    c.in_ok-world.world.quota (events_from 5 c.deref.result.now)
-    c.follow_all.new.world c.follow_all.new.recorder c.in_ok-order.order.items c.in_ok-keys.keys.items c.in_ok-follow_all.ensures
-    (ap (λ (w : WorldState). w.threads) c.in_ok-world.ensures ∙ ap (λ (s : Sizes). s.threads) c.in-Ok.ensures.sizes)
-    (ap (λ (w : WorldState). w.quota) c.in_ok-world.ensures ∙ ap (λ (s : Sizes). s.quota) c.in-Ok.ensures.sizes)
-    (ap (λ (ls : List Line). events_from 5 ls) c.deref.ensures.value)
-    (c.in_ok-order.ensures (length (events_from 5 c.deref.result.now))
-    (subst (λ xs. StandUpTo (length (events_from 5 c.deref.result.now)) xs) (sym c.deref-2.ensures.value)
-    (places_upto g.M.Machine.table c.has_account.ensures c.in_ok-world.world.threads c.in_ok-world.world.quota
-    (events_from 5 c.deref.result.now) (length (events_from 5 c.deref.result.now))
-    c.follow_all.new.world c.follow_all.new.recorder c.in_ok-follow_all.ensures))
-    ∙ ap (λ xs. blocks_upto xs (length (events_from 5 c.deref.result.now))) c.deref-2.ensures.value)
-    c.in_ok-keys.ensures
+    let threads : c.in_ok-world.world.threads ≡ c.args.schedule.now.threads =
+    ap (λ (w : WorldState). w.threads) c.in_ok-world.ensures ∙ ap (λ (s : Sizes). s.threads) c.in-Ok.ensures.sizes in
+    let quota : c.in_ok-world.world.quota ≡ c.args.schedule.now.quota =
+    ap (λ (w : WorldState). w.quota) c.in_ok-world.ensures ∙ ap (λ (s : Sizes). s.quota) c.in-Ok.ensures.sizes in
+    let events : events_from 5 c.deref.result.now ≡ events_of (view c.args.schedule.now) =
+    ap (λ (ls : List Line). events_from 5 ls) c.deref.ensures.value in (
+      replay_is g.M.Machine.table c.has_account.ensures (view c.args.schedule.now) c.in_ok-world.world.threads
+          c.in_ok-world.world.quota (events_from 5 c.deref.result.now)
+          c.follow_all.new.world c.follow_all.new.recorder c.in_ok-ordered.ordered.order.items c.in_ok-keys.keys.items
+          c.in_ok-follow_all.ensures threads quota events
+          (c.in_ok-ordered.ensures.order (length (events_from 5 c.deref.result.now))
+          (subst (λ xs. StandUpTo (length (events_from 5 c.deref.result.now)) xs) (sym c.deref-2.ensures.value)
+          (places_upto g.M.Machine.table c.has_account.ensures c.in_ok-world.world.threads c.in_ok-world.world.quota
+          (events_from 5 c.deref.result.now) (length (events_from 5 c.deref.result.now))
+          c.follow_all.new.world c.follow_all.new.recorder c.in_ok-follow_all.ensures))
+          ∙ ap (λ xs. blocks_upto xs (length (events_from 5 c.deref.result.now))) c.deref-2.ensures.value)
+          c.in_ok-keys.ensures,
+      points_are_of g.M.Machine.table c.has_account.ensures (view c.args.schedule.now) c.in_ok-world.world.threads
+          c.in_ok-world.world.quota (events_from 5 c.deref.result.now)
+          c.follow_all.new.world c.follow_all.new.recorder c.in_ok-ordered.ordered.order.items
+          c.in_ok-ordered.ordered.points.items c.in_ok-follow_all.ensures threads quota events
+          (subst (λ ps. ArePointsAt ps c.in_ok-ordered.ordered.order.items c.in_ok-ordered.ordered.points.items)
+          c.deref-2.ensures.value c.in_ok-ordered.ensures.points),
+    )
 
 pub returns-clause-explained : goal.returns-clause-explained
 returns-clause-explained g c = explained_is g.M.Machine.table c.runs_are_linearizable.ensures (view c.args.schedule.now)
     (record {
       kind = c.args.schedule.now.kind;
       history = c.follow_all.new.recorder.history;
-      order = c.in_ok-order.order.items;
+      order = c.in_ok-ordered.ordered.order.items;
       keys = c.in_ok-keys.keys.items;
     })
-    (returns-clause-replays g c)
+    (returns-clause-replays g c).0

@@ -1,0 +1,168 @@
+-- The points that are made of the places are those of the run.
+use Rattle.std.proofs.Common.{◌≡◌, ℕ, zero, suc, ◌<◌, ◌≤◌, Bool, true, false, List, [], ◌∷◌, length, sym, refl, subst, ap, ◌∙◌, arith}
+use Rattle.std.specs.Prelude.{Option, Some, None, IsTrue, ◌↔◌}
+use Rattle.std.proofs.lemmas.List.{length-map}
+use Rattle.lset_words.specs.declared.Reply.{Reply}
+use Rattle.lset_words.specs.declared.history.CallRecord.{CallRecord}
+use Rattle.lset_words.specs.declared.history.Placed.{Placed}
+use Rattle.lset_words.specs.declared.history.Point.{Point}
+use Rattle.lset_words.specs.Log.{Log, TracedCall, calls_at, history_at, record_of}
+use Rattle.lset_words.specs.Account.{Contents, Counts, Account, FitsSometime}
+use Rattle.lset_words.specs.Placement.{StandsAt, traced_at, no_traced}
+use Rattle.lset_words.specs.History.{call_numbered}
+use Rattle.lset_words.specs.Points.{place_numbered, point_numbered, call_placed, bar_end, LieInBars, IsPointOf, StandAsPlaced}
+use Rattle.lset_history.proofs.Lists.{all_at, get_or_mapped}
+use Rattle.lset_history.proofs.Calls.{Traced, ChangedBy, EndedBy, ReplyOf}
+use Rattle.lset_history.proofs.CallSteps.{run_of, calls_of}
+use Rattle.lset_schedule.specs.Plan.{Plan}
+use Rattle.lset_steps.specs.declared.Event.{Event}
+use Rattle.lset_steps.specs.Steps.{Table, event_at, log_of}
+use Rattle.lset_steps.specs.Chain.{contents_of, counts_of}
+use Rattle.lset_steps.specs.Laws.{views}
+use Rattle.lset_steps.specs.Worlds.{WorldState}
+use Rattle.lset_steps.specs.Promises.{HasAccount}
+use Rattle.lset_replay.specs.declared.events.LineEvent.{LineEvent}
+use Rattle.lset_replay.specs.declared.places.Place.{Place}
+use Rattle.lset_replay.specs.declared.recorder.Recorder.{Recorder}
+use Rattle.lset_replay.specs.Events.{only_events, events_of}
+use Rattle.lset_replay.specs.Trace.{Trace, place_at, changed_at, trace_of}
+use Rattle.lset_replay.specs.Blocks.{ArePointsAt, point_of}
+use Rattle.lset_replay.specs.Follows.{HasFollowed}
+use Rattle.lset_replay.specs.PlacedReports.{ArePointsOf}
+use Rattle.lset_replay.proofs.EventLists.{as_many}
+use Rattle.lset_replay.proofs.Following.{Follows, PlaceBy, PlaceOf}
+use Rattle.lset_replay.proofs.Ordered.{stands_there}
+use Rattle.lset_replay.proofs.Ready.{follows}
+
+-- a call with a place is known
+pub known_place : (ps : List (Option Place)) (i : ℕ) (p : Place) → place_at ps i ≡ Some p → i < length ps
+known_place [] i p e = absurd (cc)
+known_place (x ∷ ps) zero p e = omega arith
+known_place (x ∷ ps) (suc i) p e = let l : i < length ps = known_place ps i p e in omega arith
+
+module _ (q : ℕ) (contents : Contents) (counts : Counts) where
+  -- a place tells a change just where the call changes the set at its moment
+  change_tells : (x : TracedCall) (changed : Option ℕ) (ended : Option (ℕ × Reply)) (p : Place)
+      → PlaceBy q contents counts x changed ended (Some p) → IsTrue p.change ↔ (changed ≡ Some p.moment)
+  change_tells x (Some m) ended p h =
+      let c : p.change ≡ true = cc in let m' : Some m ≡ Some p.moment = cc in (λ t. m', λ e. c)
+  change_tells x None None p h = absurd (cc)
+  change_tells x None (Some end) p h =
+      let s = h.1 in let c : p.change ≡ false = cc in (λ t. absurd (let f : p.change ≡ true = t in cc), λ e. absurd (cc))
+
+module _ (n q last : ℕ) (log : Log) (contents : Contents) (counts : Counts) (account : Account n q last log contents counts) where
+  -- it lies in the bar of its call
+  after_begin : (x : TracedCall) (changed : Option ℕ) (ended : Option (ℕ × Reply)) (p : Place)
+      → PlaceBy q contents counts x changed ended (Some p)
+      → ChangedBy (run_of n q log contents counts) last x.thread x.call x.begun changed
+      → x.begun ≤ p.moment
+  after_begin x (Some m) ended p h c = let l : x.begun < m = c.1.later in let e : p.moment ≡ m = cc in omega arith
+  after_begin x None None p h c = absurd (cc)
+  after_begin x None (Some end) p h c =
+      let s = h.1 in let l : x.begun ≤ h.0 = h.2.from in let e : p.moment ≡ h.0 = cc in omega arith
+
+  before_end : (x : TracedCall) (changed : Option ℕ) (ended : Option (ℕ × Reply)) (p : Place)
+      → PlaceBy q contents counts x changed ended (Some p)
+      → ChangedBy (run_of n q log contents counts) last x.thread x.call x.begun changed
+      → EndedBy (run_of n q log contents counts) last x.thread x.call x.begun changed ended
+      → p.moment ≤ bar_end last ended
+  before_end x (Some m) None p h c e = let l : m ≤ last = c.0 in let s : p.moment ≡ m = cc in omega arith
+  before_end x (Some m) (Some end) p h c e =
+      let l : m ≤ end.0 = e.1.right.0 in let s : p.moment ≡ m = cc in omega arith
+  before_end x None None p h c e = absurd (cc)
+  before_end x None (Some end) p h c e =
+      let t = h.1 in let l : h.0 ≤ end.0 = h.2.upto in let s : p.moment ≡ h.0 = cc in omega arith
+
+  module _ (places : List (Option Place)) (follow : (s : Trace) × (s.places ≡ places) × Follows n q log contents counts last s)
+      (order : List Placed) (points : List Point)
+      (h : ArePointsAt places order points) where
+    abbrev traced : ℕ → TracedCall
+    traced i = traced_at (calls_at log last) (place_numbered order i).call
+
+    inside : (i : ℕ) → i < length order → (place_numbered order i).call < length (calls_at log last)
+    inside i l =
+        let a : (place_numbered order i).call < length places =
+        known_place places (place_numbered order i).call (h.there i l).0 (h.there i l).1 in
+        let b : length follow.0.places ≡ length (calls_at log last) = follow.2.numbered in
+        let c : length follow.0.places ≡ length places = ap (λ (xs : List (Option Place)). length xs) follow.1 in
+        omega arith
+
+    placed_there : (i : ℕ) (l : i < length order) → PlaceOf q contents counts (traced i) (Some (h.there i l).0)
+    placed_there i l = subst (λ z. PlaceOf q contents counts (traced i) z)
+        (ap (λ ps. place_at ps (place_numbered order i).call) follow.1 ∙ (h.there i l).1)
+        (follow.2.placed (place_numbered order i).call (inside i l))
+
+    is_traced : (i : ℕ) (l : i < length order) → Traced (run_of n q log contents counts) last (traced i)
+    is_traced i l = all_at (Traced (run_of n q log contents counts) last) (calls_at log last) no_traced
+        (place_numbered order i).call (inside i l) (calls_of n q last log contents counts account last (omega arith)).each
+
+    point_is : (i : ℕ) (l : i < length order) → IsPointOf q contents counts (traced i) (point_numbered points i)
+    point_is i l = subst (λ p. IsPointOf q contents counts (traced i) p) (sym (h.there i l).2) (record {
+      stands = stands_there q contents counts (traced i) (traced i).changed (traced i).ended (Some (h.there i l).0) (placed_there i l);
+      change = change_tells q contents counts (traced i) (traced i).changed (traced i).ended (h.there i l).0 (placed_there i l);
+    })
+
+    pub stand : StandAsPlaced q (calls_at log last) contents counts order points
+    stand = record { each = point_is }
+
+    recorded : (i : ℕ) → call_placed (history_at log last) order i ≡ record_of (traced i)
+    recorded i = get_or_mapped record_of (calls_at log last) (place_numbered order i).call no_traced
+
+    pub lie : LieInBars last (history_at log last) order points
+    lie = record {
+      one_each = h.one_each;
+      known = λ i l. let a : length (history_at log last) ≡ length (calls_at log last) = length-map (calls_at log last) record_of in
+          let b : (place_numbered order i).call < length (calls_at log last) = inside i l in omega arith;
+      from = λ i l. subst (λ (p : Point). (call_placed (history_at log last) order i).begun ≤ p.moment) (sym (h.there i l).2)
+          (subst (λ (x : CallRecord). x.begun ≤ (h.there i l).0.moment) (sym (recorded i))
+          (after_begin (traced i) (traced i).changed (traced i).ended (h.there i l).0 (placed_there i l) (is_traced i l).changes));
+      upto = λ i l. subst (λ (p : Point). p.moment ≤ bar_end last (call_placed (history_at log last) order i).ended) (sym (h.there i l).2)
+          (subst (λ (x : CallRecord). (h.there i l).0.moment ≤ bar_end last x.ended) (sym (recorded i))
+          (before_end (traced i) (traced i).changed (traced i).ended (h.there i l).0 (placed_there i l) (is_traced i l).changes
+          (is_traced i l).ends));
+      never_fall = h.never_fall;
+    }
+
+-- THE POINTS of a run that has been followed
+module _ (T : Table) (accounts : HasAccount T) (n q : ℕ) (events : List LineEvent) (w : WorldState) (r : Recorder)
+    (h : HasFollowed T n q events (length events) w r) where
+  abbrev es : ℕ → Event
+  es = event_at (only_events events)
+
+  abbrev log : Log
+  log = log_of T n q es
+
+  abbrev contents : Contents
+  contents = contents_of (views T n q es)
+
+  abbrev counts : Counts
+  counts = counts_of (views T n q es)
+
+  account_then : Account n q (length events) log contents counts
+  account_then = accounts n q (length events) es h.run
+
+  kept_then : Follows n q log contents counts (length events) (trace_of r)
+  kept_then = subst (λ s. Follows n q log contents counts (length events) s) (sym h.trace)
+      (follows n q (length events) log contents counts account_then (length events) (omega arith))
+
+  pub points_then : (order : List Placed) (points : List Point) → ArePointsAt r.places.items order points
+      → ArePointsOf T n q (only_events events) r.history.calls order points
+  points_then order points a = record {
+    bars = subst (λ k. LieInBars k r.history.calls order points) (sym (as_many events))
+        (subst (λ xs. LieInBars (length events) xs order points) (sym kept_then.history)
+        (lie n q (length events) log contents counts account_then r.places.items (trace_of r, refl, kept_then) order points a));
+    stand = subst (λ k. StandAsPlaced q (calls_at log k) contents counts order points) (sym (as_many events))
+        (stand n q (length events) log contents counts account_then r.places.items (trace_of r, refl, kept_then) order points a);
+  }
+
+-- those of a schedule's events
+pub points_are_of : (T : Table) (accounts : HasAccount T) (p : Plan) (n q : ℕ) (events : List LineEvent) (w : WorldState)
+    (r : Recorder) (order : List Placed) (points : List Point)
+    → HasFollowed T n q events (length events) w r → n ≡ p.threads → q ≡ p.quota → events ≡ events_of p
+    → ArePointsAt r.places.items order points
+    → ArePointsOf T p.threads p.quota (only_events (events_of p)) r.history.calls order points
+points_are_of T accounts p n q events w r order points h a b d at =
+    subst (λ es. ArePointsOf T p.threads p.quota (only_events es) r.history.calls order points) d
+    (subst (λ z. ArePointsOf T z p.quota (only_events events) r.history.calls order points) a
+    (subst (λ z. ArePointsOf T n z (only_events events) r.history.calls order points) b
+    (points_then T accounts n q events w r h order points at)))
