@@ -2,6 +2,7 @@ pub mod EventLists
 pub mod Ranks
 pub mod RankedPoints
 pub mod Pointed
+pub mod Telling
 pub mod KeyChanges
 pub mod LeastFits
 pub mod Following

@@ -5,6 +5,8 @@ pub mod Texts
 pub mod Trace
 pub mod Blocks
 pub mod Follows
+pub mod Tracing
+pub mod Tracer
 pub mod ReportReading
 pub mod ReportCalls
 pub mod ReportReader

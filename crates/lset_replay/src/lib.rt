@@ -12,6 +12,7 @@ mod replaying;
 mod report;
 mod report_fault;
 mod traced;
+mod tracing;
 mod writing;
 
 pub use fault::ReplayFault;
@@ -20,6 +21,7 @@ pub use replaying::{replay, replay_with_points};
 pub use report::{MOST_CALLS, MOST_KEYS, MOST_PLACES, PlacedReport, Report};
 pub use report_fault::{ReportCause, ReportFault};
 pub use traced::{CallEnd, Deed, Trace, TracedEvent};
+pub use tracing::trace;
 pub use writing::write_report;
 
 /// The first line of a report's text.

@@ -1,0 +1,302 @@
+-- From event to event of a trace: what the tracer tells of each is what the run has there.
+use Rattle.std.proofs.Common.{◌≡◌, ℕ, suc, ◌+◌, ◌<◌, ◌≤◌, ◌⊎◌, inl, inr, Bool, true, false, List, [], ◌∷◌, ◌++◌, length, map, set, get_or, sym, refl, subst, ap, ◌∙◌, arith, get_or-set_same}
+use Rattle.std.specs.Prelude.{Option, Some, None, IsSomeAnd}
+use Rattle.std.proofs.lemmas.List.{length_push, get_or_push, get_or_append_left}
+use Rattle.lset_words.specs.declared.Call.{Call}
+use Rattle.lset_words.specs.declared.Reply.{Reply}
+use Rattle.lset_words.specs.Log.{Log, Entry, Change, TracedCall, traced_on, calls_at, record_of}
+use Rattle.lset_words.specs.Log.Entry.{began, stepped}
+use Rattle.lset_words.specs.Account.{Account, Contents, Counts, Enters}
+use Rattle.lset_words.specs.Placement.{StandsAt, traced_at, no_traced}
+use Rattle.lset_words.specs.History.{call_numbered}
+use Rattle.lset_history.proofs.Calls.{new_call}
+use Rattle.lset_history.proofs.Lists.{get_or_mapped}
+use Rattle.lset_history.proofs.OpenCalls.{OpenNumber, open_number, last_number, length_stepped, step_sets}
+use Rattle.lset_steps.specs.declared.Event.{Event}
+use Rattle.lset_steps.specs.declared.Event.TheVariants.{Begin, Go}
+use Rattle.lset_steps.specs.declared.Told.{Told}
+use Rattle.lset_steps.specs.declared.world.ChainKey.{ChainKey}
+use Rattle.lset_steps.specs.declared.world.StepFault.{StepFault}
+use Rattle.lset_steps.specs.Steps.{Table, State, Run, Enabled, state_at, event_at, entry_of, log_of, told, local_of, seen_next}
+use Rattle.lset_steps.specs.Chain.{contents_of, counts_of}
+use Rattle.lset_steps.specs.Laws.{Lawful, views, view_of}
+use Rattle.lset_steps.specs.Worlds.{WorldState, AreChainKeys, Refused, thread_of}
+use Rattle.lset_steps.specs.Promises.{HasAccount}
+use Rattle.lset_replay.specs.declared.events.LineEvent.{LineEvent}
+use Rattle.lset_replay.specs.declared.places.OpenCall.{OpenCall}
+use Rattle.lset_replay.specs.declared.places.Place.{Place}
+use Rattle.lset_replay.specs.declared.recorder.Recorder.{Recorder}
+use Rattle.lset_replay.specs.declared.traced.CallEnd.{CallEnd}
+use Rattle.lset_replay.specs.declared.traced.Deed.{Deed}
+use Rattle.lset_replay.specs.declared.traced.Deed.TheVariants as deed
+use Rattle.lset_replay.specs.declared.traced.Trace.{Trace}
+use Rattle.lset_replay.specs.declared.traced.TracedEvent.{TracedEvent}
+use Rattle.lset_schedule.specs.Plan.{Plan}
+use Rattle.lset_replay.specs.Events.{only_events, events_of, line_at}
+use Rattle.lset_replay.specs.Reports.{IsFirstRefused}
+use Rattle.lset_replay.specs.Trace.{trace_of, MayFollow, open_call_at, place_at, changed_at}
+use Rattle.lset_replay.specs.Follows.{HasFollowed}
+use Rattle.lset_replay.specs.Tracing.{IsDeedAt, EndsCall, TellsEnd, TellsChain, TellsEvent, TellsEvents, IsTraceOf}
+use Rattle.lset_replay.specs.Tracer.{deed_ahead, open_number_of, end_there, end_with, NotesChain, MadeEvent, KeepsChain, HasTraced}
+use Rattle.lset_replay.proofs.EventSteps.{ready, followed}
+use Rattle.lset_replay.proofs.Following.{Follows, IsWatched, PlaceBy, PlaceOf, calls_are}
+use Rattle.lset_replay.proofs.Ordered.{moment_of, stands_there}
+use Rattle.lset_replay.proofs.Ready.{follows}
+use Rattle.lset_replay.proofs.Reported.{few_places}
+
+-- a call that has ended has a place
+has_place : (q : ℕ) (contents : Contents) (counts : Counts) (x : TracedCall) (changed : Option ℕ) (ended : Option (ℕ × Reply))
+    (end : ℕ × Reply) (p : Option Place) → ended ≡ Some end → PlaceBy q contents counts x changed ended p
+    → (there : Place) × (p ≡ Some there)
+has_place q contents counts x (Some m) ended end p e h = (changed_at m, h)
+has_place q contents counts x None None end p e h = absurd (cc)
+has_place q contents counts x None (Some d) end p e h = (record { moment = h.0; reply = d.1; change = false }, h.1)
+
+-- ONE EVENT, from moment k to the next
+module _ (T : Table) (accounts : HasAccount T) (n q : ℕ) (events : List LineEvent) (chains : Bool) (k : ℕ) (w w' : WorldState)
+    (r r' : Recorder) (kept kept' : List ChainKey) (next : LineEvent) (x : TracedEvent)
+    (h : HasFollowed T n q events k w r) (h' : HasFollowed T n q events (suc k) w' r')
+    (made : MadeEvent T next (suc k) chains w r kept x w' r' kept')
+    (is : event_at (only_events events) k ≡ next.event) (line_there : next.line ≡ line_at events k) where
+  abbrev es : ℕ → Event
+  es = event_at (only_events events)
+
+  abbrev log : Log
+  log = log_of T n q es
+
+  abbrev contents : Contents
+  contents = contents_of (views T n q es)
+
+  abbrev counts : Counts
+  counts = counts_of (views T n q es)
+
+  account : Account n q (suc k) log contents counts
+  account = accounts n q (suc k) es h'.run
+
+  earlier : Follows n q log contents counts k (trace_of r)
+  earlier = subst (λ s. Follows n q log contents counts k s) (sym h.trace)
+      (follows n q (suc k) log contents counts account k (omega arith))
+
+  later : Follows n q log contents counts (suc k) (trace_of r')
+  later = subst (λ s. Follows n q log contents counts (suc k) s) (sym h'.trace)
+      (follows n q (suc k) log contents counts account (suc k) (omega arith))
+
+  state_is : w.state ≡ state_at T n q es k
+  state_is = ap (λ (z : WorldState). z.state) h.world
+
+  state_later : w'.state ≡ state_at T n q es (suc k)
+  state_later = ap (λ (z : WorldState). z.state) h'.world
+
+  entry_now : (e : Event) → es k ≡ e → log k ≡ entry_of T (state_at T n q es k) e
+  entry_now e i = ap (λ z. entry_of T (state_at T n q es k) z) i
+
+  entered : (e : Event) → es k ≡ e → Enters n q log contents counts k (entry_of T (state_at T n q es k) e)
+  entered e i = subst (λ z. Enters n q log contents counts k (entry_of T (state_at T n q es k) z)) i
+      (account.enters k (omega arith))
+
+  -- what it did
+  did_there : (e : Event) → es k ≡ e → (d : Deed) → d ≡ deed_ahead T w.state (length r.places.items) e → IsDeedAt T n q es k e d
+  did_there (Begin t call) i d e = (
+    length r.places.items,
+    e,
+    ap (λ xs. call_numbered (map record_of xs) (length r.places.items)) (calls_are log k (began t call) (entry_now (Begin t call) i))
+        ∙ get_or_mapped record_of (calls_at log k ++ new_call k t call ∷ []) (length r.places.items) no_traced
+        ∙ ap record_of (get_or_push (calls_at log k) (new_call k t call) no_traced (length r.places.items) (sym earlier.numbered)),
+  )
+  did_there (Go t) i d e = e ∙ ap (λ s. deed.Access (T.next (local_of s t)) (seen_next T s t)) state_is
+
+  -- the end of a call
+  ended_there : (t : ℕ) (change : Option Change) (reply : Reply) → log k ≡ stepped t change (Some reply)
+      → Enters n q log contents counts k (stepped t change (Some reply)) → (end : Option CallEnd)
+      → end ≡ end_with (Some reply) (open_number_of (open_call_at r.under_way.items t)) r'.places.items
+      → IsSomeAnd end (λ c. EndsCall T n q es k t reply c)
+  ended_there t change reply at en end e =
+      let o : (o : OpenCall) × (open_call_at r.under_way.items t ≡ Some o) × IsWatched log contents counts k t o =
+      earlier.busy t en.of_a_thread en.under_way in
+      let num : ℕ = last_number log t k in
+      let number : OpenNumber (calls_at log k) t (last_number log t k) =
+      open_number n q (suc k) log contents counts account k (omega arith) t en.under_way in
+      let here : TracedCall = traced_at (calls_at log k) (last_number log t k) in
+      let inside : last_number log t k < length (calls_at log k) = number.below in
+      let long : length (calls_at log (suc k)) ≡ length (calls_at log k) = length_stepped log k t change (Some reply) at in
+      let call : traced_at (calls_at log (suc k)) (last_number log t k)
+      ≡ traced_on (suc k) change (Some reply) (traced_at (calls_at log k) (last_number log t k)) =
+      ap (λ xs. traced_at xs (last_number log t k)) (calls_are log k (stepped t change (Some reply)) at
+      ∙ step_sets n q (suc k) log contents counts account k t change (Some reply) (omega arith) en.under_way)
+      ∙ get_or-set_same (calls_at log k) (last_number log t k)
+      (traced_on (suc k) change (Some reply) (traced_at (calls_at log k) (last_number log t k))) no_traced number.below in
+      let ended : (traced_at (calls_at log (suc k)) (last_number log t k)).ended ≡ Some (suc k, reply) =
+      ap (λ (z : TracedCall). z.ended) call in
+      let placed : PlaceOf q contents counts (traced_at (calls_at log (suc k)) (last_number log t k))
+      (place_at r'.places.items (last_number log t k)) =
+      later.placed (last_number log t k) (omega arith) in
+      let there : (p : Place) × (place_at r'.places.items (last_number log t k) ≡ Some p) =
+      has_place q contents counts (traced_at (calls_at log (suc k)) (last_number log t k))
+      (traced_at (calls_at log (suc k)) (last_number log t k)).changed (traced_at (calls_at log (suc k)) (last_number log t k)).ended
+      (suc k, reply) (place_at r'.places.items (last_number log t k)) ended placed in
+      let end_is : end ≡ Some (record { call = last_number log t k; reply = reply; moment = there.0.moment }) =
+      e ∙ ap (λ z. end_with (Some reply) (open_number_of z) r'.places.items) o.1
+      ∙ ap (λ z. end_with (Some reply) (Some z) r'.places.items) o.2.number_is
+      ∙ ap (λ z. end_there (last_number log t k) reply z) there.1 in
+      subst (λ z. IsSomeAnd z (λ c. EndsCall T n q es k t reply c)) (sym end_is) (record {
+        of_thread = ap (λ (z : TracedCall). z.thread) call ∙ number.open_call.0;
+        ended = ended;
+        reply_is = refl;
+        stands = subst (λ z. StandsAt q contents counts (traced_at (calls_at log (suc k)) (last_number log t k)) (moment_of z)) there.1
+            (stands_there q contents counts (traced_at (calls_at log (suc k)) (last_number log t k))
+            (traced_at (calls_at log (suc k)) (last_number log t k)).changed
+            (traced_at (calls_at log (suc k)) (last_number log t k)).ended
+            (place_at r'.places.items (last_number log t k)) placed);
+      })
+
+  by_answer : (t : ℕ) → es k ≡ Go t → (a : Option Reply) → (told T (state_at T n q es k) (Go t)).answer ≡ a → (end : Option CallEnd)
+      → end ≡ end_with a (open_number_of (open_call_at r.under_way.items t)) r'.places.items
+      → TellsEnd T n q es k t a end
+  by_answer t i None says end e = e
+  by_answer t i (Some reply) says end e =
+      ended_there t (told T (state_at T n q es k) (Go t)).change reply
+      (entry_now (Go t) i ∙ ap (λ z. stepped t (told T (state_at T n q es k) (Go t)).change z) says)
+      (subst (λ z. Enters n q log contents counts k (stepped t (told T (state_at T n q es k) (Go t)).change z)) says (entered (Go t) i))
+      end e
+
+  end_there_is : (e : Event) → es k ≡ e → (end : Option CallEnd)
+      → end ≡ end_with (told T w.state e).answer (open_number_of (open_call_at r.under_way.items (thread_of e))) r'.places.items
+      → TellsEnd T n q es k (thread_of e) (told T (state_at T n q es k) e).answer end
+  end_there_is (Begin t call) i end e = e
+  end_there_is (Go t) i end e = by_answer t i (told T (state_at T n q es k) (Go t)).answer refl end
+      (e ∙ ap (λ s. end_with (told T s (Go t)).answer (open_number_of (open_call_at r.under_way.items t)) r'.places.items) state_is)
+
+  -- the chain
+  chain_there : (c : Bool) → KeepsChain c (view_of w.threads w.quota w.state) kept
+      → NotesChain c (view_of w'.threads w'.quota w'.state) kept x.chain kept'
+      → TellsChain c (views T n q es k) (views T n q es (suc k)) x.chain
+  chain_there false a b = b
+  chain_there true a b = (
+    kept,
+    kept',
+    subst (λ (z : WorldState). AreChainKeys (view_of z.threads z.quota z.state) kept) h.world a,
+    subst (λ (z : WorldState). AreChainKeys (view_of z.threads z.quota z.state) kept') h'.world b.0,
+    b.1,
+  )
+
+  pub event_told : KeepsChain chains (view_of w.threads w.quota w.state) kept → TellsEvent T n q events es chains k x
+  event_told c = record {
+    line_is = made.line ∙ line_there;
+    thread_is = made.thread ∙ ap thread_of (sym is);
+    before_is = made.before ∙ ap (λ s. local_of s (thread_of next.event)) state_is
+        ∙ ap (λ e. local_of (state_at T n q es k) (thread_of e)) (sym is);
+    after_is = made.later ∙ ap (λ s. local_of s (thread_of next.event)) state_later
+        ∙ ap (λ e. local_of (state_at T n q es (suc k)) (thread_of e)) (sym is);
+    did = subst (λ e. IsDeedAt T n q es k e x.deed) (sym is) (did_there next.event is x.deed made.deed);
+    change_is = made.change ∙ ap (λ s. (told T s next.event).change) state_is
+        ∙ ap (λ e. (told T (state_at T n q es k) e).change) (sym is);
+    end_is = subst (λ e. TellsEnd T n q es k (thread_of e) (told T (state_at T n q es k) e).answer x.end) (sym is)
+        (end_there_is next.event is x.end made.end);
+    chain_is = chain_there chains c made.chain;
+  }
+
+-- AND ALL so far
+module _ (T : Table) (accounts : HasAccount T) (n q : ℕ) (events : List LineEvent) (chains : Bool) (k : ℕ) (w : WorldState)
+    (r : Recorder) (kept : List ChainKey) (traced : List TracedEvent)
+    (h : HasTraced T n q events chains k w r kept traced) where
+  pub seats : Lawful T → length w.state.locals ≡ w.threads
+  seats law = subst (λ (z : WorldState). length z.state.locals ≡ z.threads) (sym h.followed.world)
+      (law.states n q k k (event_at (only_events events)) h.followed.run (omega arith)).locals
+
+  pub few_begun : length r.places.items ≤ k
+  few_begun = few_places T accounts n q events k w r h.followed
+
+  module _ (next : LineEvent) (is : event_at (only_events events) k ≡ next.event) where
+    pub may_follow : Enabled w.state next.event → MayFollow r (suc k) next.event (told T w.state next.event)
+    may_follow en = ready T accounts n q events k w r h.followed next.event is en (told T w.state next.event) refl
+
+    pub traced_more : (w' : WorldState) (r' : Recorder) (kept' : List ChainKey) (x : TracedEvent) → next.line ≡ line_at events k
+        → MadeEvent T next (suc k) chains w r kept x w' r' kept'
+        → HasTraced T n q events chains (suc k) w' r' kept' (traced ++ x ∷ [])
+    traced_more w' r' kept' x line made =
+        let more : HasFollowed T n q events (suc k) w' r' =
+        followed T accounts n q events k w r h.followed next.event is w' r' (told T w.state next.event) made.enabled made.world refl
+        made.trace made.threads made.quota in
+        let count : length traced ≡ k = h.count in
+        let long : length (traced ++ x ∷ []) ≡ length traced + 1 = length_push traced x in
+        record {
+          followed = more;
+          count = omega arith;
+          chain = keeps chains made.chain;
+          each = λ i d l. elim (before_or_last i (length traced) (omega arith)) [
+            | inl below ↦ subst (λ z. TellsEvent T n q events (event_at (only_events events)) chains i z)
+                (sym (get_or_append_left traced (x ∷ []) d i below)) (h.each i d below)
+            | inr e ↦ subst (λ z. TellsEvent T n q events (event_at (only_events events)) chains i z)
+                (sym (get_or_push traced x d i (sym e)))
+                (subst (λ j. TellsEvent T n q events (event_at (only_events events)) chains j x) (sym (e ∙ count))
+                (event_told T accounts n q events chains k w w' r r' kept kept' next x h.followed more made is line h.chain))
+          ];
+        }
+      where
+        before_or_last : (i k : ℕ) → i < suc k → (i < k) ⊎ (i ≡ k)
+        before_or_last i k l = grind arith
+
+        keeps : (c : Bool) → NotesChain c (view_of w'.threads w'.quota w'.state) kept x.chain kept'
+            → KeepsChain c (view_of w'.threads w'.quota w'.state) kept'
+        keeps false b = tt
+        keeps true b = b.0
+
+    pub told_to_refused : (cause : StepFault) → k < length events → next.line ≡ line_at events k → Refused w next.event cause
+        → TellsEvents T n q events chains traced (Some (next.line, cause))
+    told_to_refused cause below line refused = record {
+      run = subst (λ z. Run T n q (event_at (only_events events)) z) (sym h.count) h.followed.run;
+      each = h.each;
+      ends = (
+        record {
+          index = k;
+          known = below;
+          line_is = line;
+          before = h.followed.run;
+          refused = subst (λ z. Refused (record {
+            threads = n;
+            quota = q;
+            state = state_at T n q (event_at (only_events events)) k;
+          }) z cause) (sym is)
+              (subst (λ z. Refused z next.event cause) h.followed.world refused);
+        },
+        sym h.count,
+      );
+    }
+
+  pub told_all : k ≡ length events → TellsEvents T n q events chains traced None
+  told_all e = record {
+    run = subst (λ z. Run T n q (event_at (only_events events)) z) (sym h.count) h.followed.run;
+    each = h.each;
+    ends = h.count ∙ e;
+  }
+
+-- nothing has been told
+pub traced_none : (T : Table) (n q : ℕ) (events : List LineEvent) (chains : Bool) (w : WorldState) (r : Recorder)
+    (kept : List ChainKey) (traced : List TracedEvent) → HasFollowed T n q events 0 w r → traced ≡ []
+    → AreChainKeys (view_of w.threads w.quota w.state) kept
+    → HasTraced T n q events chains 0 w r kept traced
+traced_none T n q events chains w r kept traced followed none chain =
+    let count : length traced ≡ 0 = ap (λ (xs : List TracedEvent). length xs) none in
+    record {
+      followed = followed;
+      count = count;
+      chain = keeps chains;
+      each = λ i d l. absurd (omega arith);
+    }
+  where
+    keeps : (c : Bool) → KeepsChain c (view_of w.threads w.quota w.state) kept
+    keeps false = tt
+    keeps true = chain
+
+-- the trace of a schedule
+pub trace_is : (T : Table) (p : Plan) (chains : Bool) (n q : ℕ) (events : List LineEvent) (t : Trace)
+    → n ≡ p.threads → q ≡ p.quota → events ≡ events_of p → t.kind ≡ p.kind → t.threads ≡ p.threads → t.quota ≡ p.quota
+    → TellsEvents T n q events chains t.events.items t.refused → IsTraceOf T p chains t
+trace_is T p chains n q events t a b d kind threads quota tells = record {
+  kind_is = kind;
+  threads_are = threads;
+  quota_is = quota;
+  tells = subst (λ es. TellsEvents T p.threads p.quota es chains t.events.items t.refused) d
+      (subst (λ z. TellsEvents T z p.quota events chains t.events.items t.refused) a
+      (subst (λ z. TellsEvents T n z events chains t.events.items t.refused) b tells));
+}

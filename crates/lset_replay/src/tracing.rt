@@ -1,0 +1,266 @@
+ghost use Rattle.std.specs.Prelude.{◌≡◌, ℕ, ◌<◌, ◌≤◌, ◌^◌, ◌↔◌, IsTrue, length, IfOk, Some};
+ghost use Rattle.std.specs.List.{sum_by};
+ghost use Rattle.lset_lists.specs.Tables.{table_of};
+ghost use Rattle.lset_steps.specs.Steps.{Enabled, local_of, told};
+ghost use Rattle.lset_steps.specs.Laws.{view_of};
+ghost use Rattle.lset_steps.specs.Worlds.{thread_of};
+ghost use Rattle.lset_schedule.specs.declared.TheConstants.{MOST_EVENTS};
+ghost use Rattle.lset_schedule.specs.Plan.{IsSchedule, view, event_count};
+ghost use Rattle.lset_replay.specs.Events.{events_from, first_event_line};
+ghost use Rattle.lset_replay.specs.Trace.{MayFollow, open_call_at};
+ghost use Rattle.lset_replay.specs.Tracing.{IsTraceOf, TellsEvents};
+ghost use Rattle.lset_replay.specs.Tracer.{HasTraced, MakesEvent, NotesChain, deed_ahead, end_with, open_number_of};
+ghost use Rattle.lset_replay.specs.declared.tracing.Stop.TheVariants.{Memory};
+
+use crate::events::{FIRST_EVENT_LINE, LineEvent, event_of};
+use crate::recorder::Recorder;
+use crate::{CallEnd, Deed, Trace, TracedEvent};
+use lset_lists::{List, Task, on_list};
+use lset_schedule::{Line, Schedule};
+use lset_steps::laws::has_account;
+use lset_steps::{ChainKey, Event, Local, Machine, StepFault, World};
+use lset_words::{Reply, layout};
+use std::alloc::{AllocError, Global};
+
+/// Why an event is not told.
+#[derive(Clone, Copy, Debug, PartialEq, Eq)]
+pub enum Stop {
+    Refused(StepFault),
+    Memory,
+}
+
+impl From<AllocError> for Stop {
+    ghost from_gives = { λ _ stop. stop ≡ Memory };
+
+    fn from(_refused: AllocError) -> Stop {
+        Stop::Memory
+    }
+}
+
+fn thread_of(event: Event) -> u32
+    ensures { result ≡ thread_of event }
+{
+    match event {
+        Event::Begin(thread, _) | Event::Go(thread) => thread,
+    }
+}
+
+/// The thread's own state before an event that is enabled, and what the event will do.
+fn look<M: Machine>(world: &World<M>, recorder: &Recorder, event: Event) -> Option<(Local, Deed)>
+    requires seats { length world.now.state.locals ≡ world.now.threads }
+    requires few { length recorder.now.places.items < 2 ^ 32 }
+    ensures { Enabled world.now.state event → result ≡ Some (
+      local_of world.now.state (thread_of event),
+      deed_ahead M.table world.now.state (length recorder.now.places.items) event,
+    ) }
+{
+    let deed = match event {
+        Event::Begin(_, call) => Deed::Begin(call, recorder.places.len() as u32),
+        Event::Go(thread) => {
+            let (action, seen) = world.next(thread)?;
+            Deed::Access(action, seen)
+        }
+    };
+    Some((world.holds(thread_of(event))?, deed))
+}
+
+/// The number of the call that a thread has open.
+fn open_number(recorder: &Recorder, thread: u32) -> Option<u32>
+    ensures { result ≡ open_number_of (open_call_at recorder.now.under_way.items thread) }
+{
+    let open = (*recorder.under_way.get(thread as usize)?)?;
+    Some(open.number)
+}
+
+/// The end of the call with a number, where there is an answer.
+fn call_end(recorder: &Recorder, number: Option<u32>, answer: Option<Reply>) -> Option<CallEnd>
+    ensures { result ≡ end_with answer number recorder.now.places.items }
+{
+    let reply = answer?;
+    let call = number?;
+    let place = (*recorder.places.get(call as usize)?)?;
+    Some(CallEnd {
+        call,
+        reply,
+        moment: place.moment,
+    })
+}
+
+fn is_same_chain(before: &[ChainKey], later: &[ChainKey]) -> bool
+    ensures { IsTrue result ↔ (before.now ≡ later.now) }
+{
+    before == later
+}
+
+fn copy_of(alloc: Global, chain: &[ChainKey]) -> Result<Vec<ChainKey>, AllocError>
+    ensures { IfOk result (λ v. v.items ≡ chain.now) }
+{
+    chain.iter().copied().collect(alloc)
+}
+
+/// The chain of the world, where chains are asked for and it is another than the one that is kept, in whose place
+/// it then comes.
+fn changed_chain<M: Machine>(
+    alloc: Global,
+    world: &World<M>,
+    kept: &mut Vec<ChainKey>,
+    chains: bool,
+) -> Result<Option<Vec<ChainKey>>, AllocError>
+    ensures { IfOk result (λ chain. NotesChain chains (view_of world.now.threads world.now.quota world.now.state)
+        kept.old.items chain kept.new.items) }
+{
+    if !chains {
+        return Ok(None);
+    }
+    let chain = world.chain()?;
+    if is_same_chain(kept, &chain) {
+        return Ok(None);
+    }
+    *kept = copy_of(alloc, &chain)?;
+    Ok(Some(chain))
+}
+
+/// Makes an event in the world, follows it to the moment, and tells it.
+fn trace_event<M: Machine>(
+    alloc: Global,
+    world: &mut World<M>,
+    recorder: &mut Recorder,
+    kept: &mut Vec<ChainKey>,
+    next: LineEvent,
+    moment: u32,
+    chains: bool,
+) -> Result<TracedEvent, Stop>
+    requires seats { length world.old.state.locals ≡ world.old.threads }
+    requires few { length recorder.old.places.items < 2 ^ 32 }
+    requires may { Enabled world.old.state next.event
+        → MayFollow recorder.old moment next.event (told M.table world.old.state next.event) }
+    ensures { MakesEvent M.table next moment chains world.old recorder.old kept.old.items result
+        world.new recorder.new kept.new.items }
+{
+    let thread = thread_of(next.event);
+    let ahead = look(world, recorder, next.event);
+    let number = open_number(recorder, thread);
+    let told = match world.step(next.event) {
+        Ok(told) => told,
+        Err(cause) => return Err(Stop::Refused(cause)),
+    };
+    recorder.follow(next.event, told, moment)?;
+    let chain = changed_chain(alloc, world, kept, chains)?;
+    let (Some((before, deed)), Some(after)) = (ahead, world.holds(thread)) else {
+        unreachable!();
+    };
+    Ok(TracedEvent {
+        line: next.line,
+        thread,
+        deed,
+        before,
+        after,
+        change: told.change,
+        end: call_end(recorder, number, told.answer),
+        chain,
+    })
+}
+
+/// Makes and tells the events of the lines, one after another, up to the first that is not enabled, whose line and
+/// cause it answers.
+fn trace_lines<M: Machine>(
+    alloc: Global,
+    world: &mut World<M>,
+    recorder: &mut Recorder,
+    kept: &mut Vec<ChainKey>,
+    traced: &mut Vec<TracedEvent>,
+    lines: &[Line],
+    chains: bool,
+) -> Result<Option<(u64, StepFault)>, AllocError>
+    requires few { sum_by event_count lines.now ≤ MOST_EVENTS }
+    requires start { HasTraced M.table world.old.threads world.old.quota (events_from first_event_line lines.now) chains 0
+        world.old recorder.old kept.old.items traced.old.items }
+    ensures { IfOk result (λ refused. TellsEvents M.table world.old.threads world.old.quota
+        (events_from first_event_line lines.now) chains traced.new.items refused) }
+{
+    has_account::<M>();
+    let mut moment = 0u32;
+    for (index, line) in lines.iter().enumerate() {
+        let (next, times) = event_of(FIRST_EVENT_LINE + index as u64, *line);
+        for _done in 0..times {
+            moment += 1;
+            match trace_event(alloc, world, recorder, kept, next, moment, chains) {
+                Ok(told) => traced.push(told)?,
+                Err(Stop::Refused(cause)) => return Ok(Some((next.line, cause))),
+                Err(Stop::Memory) => return Err(AllocError),
+            }
+        }
+    }
+    Ok(None)
+}
+
+/// Traces a schedule on the list of the machine `M`.
+fn trace_on<M: Machine>(
+    alloc: Global,
+    schedule: &Schedule,
+    chains: bool,
+) -> Result<Trace, AllocError>
+    requires { IsSchedule (view schedule.now) }
+    ensures { IfOk result (λ t. IsTraceOf M.table (view schedule.now) chains t) }
+{
+    let Ok(layout) = layout(schedule.threads, schedule.quota) else {
+        unreachable!();
+    };
+    let mut world = World::<M>::new(alloc, layout)?;
+    let mut recorder = Recorder::new(alloc, schedule.threads, schedule.quota)?;
+    let mut kept = world.chain()?;
+    let mut events = Vec::new(alloc);
+    let refused = trace_lines(
+        alloc,
+        &mut world,
+        &mut recorder,
+        &mut kept,
+        &mut events,
+        &schedule.lines,
+        chains,
+    )?;
+    Ok(Trace {
+        kind: schedule.kind,
+        threads: schedule.threads,
+        quota: schedule.quota,
+        events,
+        refused,
+    })
+}
+
+/// The trace of a schedule, whatever its list.
+#[derive(Clone, Copy)]
+struct Tracing<'a> {
+    alloc: Global,
+    schedule: &'a Schedule,
+    chains: bool,
+}
+
+impl Task for Tracing<'_> {
+    type Out = Result<Trace, AllocError>;
+
+    ghost may = { λ task kind. IsSchedule (view task.schedule.now) };
+
+    ghost done = { λ task table result. IfOk result (λ t. IsTraceOf table (view task.schedule.now) task.chains t) };
+
+    fn run<M: List>(self) -> Result<Trace, AllocError> {
+        trace_on::<M>(self.alloc, self.schedule, self.chains)
+    }
+}
+
+/// Tells the events of a schedule on the list of its kind, one after another, up to the first that is not enabled:
+/// what each did, what its thread held before and after, the change that it made, and the call that it ended, with
+/// the moment at which that call stands in the order of the schedule's report. Where `chains` are asked for, each event that changed the
+/// chain or a mark in it has the chain after it, which takes a walk along the chain for each event. The schedule is within its
+/// limits, as what `read_schedule` gives. It fails only where memory was refused. (This project's own.)
+pub fn trace(alloc: Global, schedule: &Schedule, chains: bool) -> Result<Trace, AllocError>
+    requires { IsSchedule (view schedule.now) }
+    ensures { IfOk result (λ t. IsTraceOf (table_of schedule.now.kind) (view schedule.now) chains t) }
+{
+    let task = Tracing {
+        alloc,
+        schedule,
+        chains,
+    };
+    on_list(schedule.kind, task)
+}
