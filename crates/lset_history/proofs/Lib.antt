@@ -23,3 +23,5 @@ pub mod Verdicts
 pub mod ChangeLaws
 pub mod Counting
 pub mod Noting
+pub mod FirstPoints
+pub mod Clashes

@@ -4,3 +4,5 @@ pub mod Faults
 pub mod Checks
 pub mod Laws
 pub mod Changes
+pub mod Points
+pub mod Refusals

@@ -73,7 +73,7 @@ fn has_reply(oracle: &mut Oracle, call_record: CallRecord, reply: Reply) -> Resu
 
 /// The first place that has another reply than the history, or than the sequential set after the earlier
 /// places; `oracle` goes on by the calls of the order.
-fn first_wrong_reply(
+pub(crate) fn first_wrong_reply(
     oracle: &mut Oracle,
     calls: &[CallRecord],
     order: &[Placed],

@@ -1,0 +1,45 @@
+ghost use Rattle.std.specs.Prelude.{◌≡◌, IfOk};
+ghost use Rattle.lset_words.specs.History.{call_numbered};
+ghost use Rattle.lset_history.specs.Points.{PointsExist, first_points};
+
+use crate::History;
+use lset_words::{CallRecord, Placed};
+use std::alloc::{AllocError, Global};
+
+/// Points of an order exist exactly where no place is too early: a moment for each place, in the bar of the call that
+/// stands there and never falling along the order. Where there are any, the first points are such, and no others are
+/// earlier at any place. (The two views of Herlihy and Wing's linearizability, for finite histories: an order of
+/// the calls, and points between their beginnings and ends.)
+pub fn points_exist()
+    ensures { PointsExist }
+{}
+
+/// The moment at which the call with this number began; 0 where there is none.
+fn begun_of(calls: &[CallRecord], number: u32) -> u32
+    ensures { result ≡ (call_numbered calls.now number).begun }
+{
+    match calls.get(number as usize) {
+        Some(call_record) => call_record.begun,
+        None => 0,
+    }
+}
+
+/// The first points of an order of the calls of the history: for each place the later of the moment at which its call began
+/// and the point before it (Herlihy and Wing). They lie in the bars of the calls where no place is too early, as
+/// `points_exist` says. A call that the history has not counts as begun at 0. An error is want of memory.
+pub fn first_points(
+    alloc: Global,
+    history: &History,
+    order: &[Placed],
+) -> Result<Vec<u32>, AllocError>
+    ensures { IfOk result (λ v. v.items ≡ first_points history.now.calls order.now) }
+{
+    let calls = history.calls();
+    let mut points = Vec::new(alloc);
+    let mut last = 0u32;
+    for place in order {
+        last = begun_of(calls, place.call).max(last);
+        points.push(last)?;
+    }
+    Ok(points)
+}
