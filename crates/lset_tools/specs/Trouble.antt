@@ -72,7 +72,7 @@ status_of TooLong = 1
 status_of CannotWrite = 1
 status_of Memory = 3
 status_of (Line number cause) = 1
-status_of (Bad name) = 2
+status_of (Bad wrong) = 2
 status_of CannotListen = 1
 status_of (Work name) = 1
 status_of (Serve name) = 1
@@ -111,6 +111,9 @@ value_word value.Seed = codes "SEED"
 value_word value.Seats = codes "SEATS"
 value_word value.Port = codes "PORT"
 value_word value.Sessions = codes "SESSIONS"
+value_word value.Name = codes "NAME"
+value_word value.From = codes "FROM"
+value_word value.To = codes "TO"
 
 abbrev pub work_name : WorkName → List ℕ
 work_name work.Programs = codes "Programs"
@@ -130,7 +133,7 @@ trouble_text TooLong = codes "listset: too long\n"
 trouble_text CannotWrite = codes "listset: cannot write\n"
 trouble_text Memory = codes "listset: out of memory\n"
 trouble_text (Line number cause) = codes "listset: line " ++ decimal number ++ codes ": " ++ name_of cause ++ codes "\n"
-trouble_text (Bad name) = codes "listset: bad " ++ value_word name ++ codes "\n"
+trouble_text (Bad wrong) = codes "listset: bad " ++ value_word wrong ++ codes "\n"
 trouble_text CannotListen = codes "listset: cannot listen\n"
 trouble_text (Work name) = codes "listset: work: " ++ work_name name ++ codes "\n"
 trouble_text (Serve name) = codes "listset: serve: " ++ serve_name name ++ codes "\n"

@@ -1,11 +1,21 @@
-ghost use Rattle.std.specs.Prelude.{◌≡◌, Result};
+ghost use Rattle.std.specs.Prelude.{◌≡◌, IfOk, Result};
 ghost use Rattle.lset_tools.specs.Tools.{Delivers, AppendsFront, Made, Outcome, view, status_of, line_of};
 ghost use Rattle.lset_tools.specs.Trouble.{trouble_text};
 
 use crate::streams::put;
 use crate::trouble::{LineCause, ServeName, Trouble, ValueName, WorkName};
-use std::alloc::Global;
+use std::alloc::{AllocError, Global};
 use std::io::Write;
+
+const CANNOT_READ: &[u8] = b"listset: cannot read\n";
+
+const TOO_LONG: &[u8] = b"listset: too long\n";
+
+const CANNOT_WRITE: &[u8] = b"listset: cannot write\n";
+
+const CANNOT_LISTEN: &[u8] = b"listset: cannot listen\n";
+
+const OUT_OF_MEMORY: &[u8] = b"listset: out of memory\n";
 
 /// What a tool makes of its input: the text for its output, and the exit status once that is written.
 #[derive(Drop)]
@@ -27,63 +37,85 @@ impl Answer {
     }
 }
 
-/// Writes a line, as far as the writes succeed.
-fn tell_text<F: Write>(faults: &mut F, text: &[u8])
-    ensures { AppendsFront (F.contents faults.old) (F.contents faults.new) text.now }
+/// The line about a trouble, as the program writes it on standard error. `AllocError` where memory for it is refused.
+pub fn line_of_trouble(alloc: Global, trouble: Trouble) -> Result<Vec<u8>, AllocError>
+    ensures { IfOk result (λ line. line.items ≡ trouble_text trouble) }
 {
-    let _whole = put(faults, text);
+    match trouble {
+        Trouble::CannotRead => Vec::from_slice(alloc, CANNOT_READ),
+        Trouble::TooLong => Vec::from_slice(alloc, TOO_LONG),
+        Trouble::CannotWrite => Vec::from_slice(alloc, CANNOT_WRITE),
+        Trouble::CannotListen => Vec::from_slice(alloc, CANNOT_LISTEN),
+        Trouble::Memory => Vec::from_slice(alloc, OUT_OF_MEMORY),
+        Trouble::Line(line, cause) => line_of_cause(alloc, line, cause),
+        Trouble::Bad(name) => line_of_value(alloc, name),
+        Trouble::Work(name) => line_of_work(alloc, name),
+        Trouble::Serve(name) => line_of_serve(alloc, name),
+    }
 }
 
-fn tell_line<F: Write>(alloc: Global, faults: &mut F, line: u64, cause: LineCause)
-    ensures { AppendsFront (F.contents faults.old) (F.contents faults.new) (trouble_text (Trouble.Line line cause)) }
+fn line_of_cause(alloc: Global, line: u64, cause: LineCause) -> Result<Vec<u8>, AllocError>
+    ensures { IfOk result (λ text. text.items ≡ trouble_text (Trouble.Line line cause)) }
 {
     let name = cause.name();
-    if let Ok(text) = format!(in alloc; "listset: line {line}: {name}\n") {
-        tell_text(faults, text.as_bytes());
-    }
+    let text = format!(in alloc; "listset: line {line}: {name}\n")?;
+    Ok(text.into_bytes())
 }
 
-fn tell_bad<F: Write>(alloc: Global, faults: &mut F, name: ValueName)
-    ensures { AppendsFront (F.contents faults.old) (F.contents faults.new) (trouble_text (Trouble.Bad name)) }
+fn line_of_value(alloc: Global, name: ValueName) -> Result<Vec<u8>, AllocError>
+    ensures { IfOk result (λ text. text.items ≡ trouble_text (Trouble.Bad name)) }
 {
     let word = name.word();
-    if let Ok(text) = format!(in alloc; "listset: bad {word}\n") {
-        tell_text(faults, text.as_bytes());
-    }
+    let text = format!(in alloc; "listset: bad {word}\n")?;
+    Ok(text.into_bytes())
 }
 
-fn tell_work<F: Write>(alloc: Global, faults: &mut F, name: WorkName)
-    ensures { AppendsFront (F.contents faults.old) (F.contents faults.new) (trouble_text (Trouble.Work name)) }
+fn line_of_work(alloc: Global, name: WorkName) -> Result<Vec<u8>, AllocError>
+    ensures { IfOk result (λ text. text.items ≡ trouble_text (Trouble.Work name)) }
 {
     let word = name.name();
-    if let Ok(text) = format!(in alloc; "listset: work: {word}\n") {
-        tell_text(faults, text.as_bytes());
-    }
+    let text = format!(in alloc; "listset: work: {word}\n")?;
+    Ok(text.into_bytes())
 }
 
-fn tell_serve<F: Write>(alloc: Global, faults: &mut F, name: ServeName)
-    ensures { AppendsFront (F.contents faults.old) (F.contents faults.new) (trouble_text (Trouble.Serve name)) }
+fn line_of_serve(alloc: Global, name: ServeName) -> Result<Vec<u8>, AllocError>
+    ensures { IfOk result (λ text. text.items ≡ trouble_text (Trouble.Serve name)) }
 {
     let word = name.name();
-    if let Ok(text) = format!(in alloc; "listset: serve: {word}\n") {
-        tell_text(faults, text.as_bytes());
+    let text = format!(in alloc; "listset: serve: {word}\n")?;
+    Ok(text.into_bytes())
+}
+
+/// Writes a line, as far as the writes succeed.
+fn tell_line<F: Write>(faults: &mut F, line: &[u8])
+    ensures { AppendsFront (F.contents faults.old) (F.contents faults.new) line.now }
+{
+    let _whole = put(faults, line);
+}
+
+/// Writes a line that takes memory, as far as the writes succeed, and none where memory is refused.
+fn tell_made<F: Write>(alloc: Global, faults: &mut F, trouble: Trouble)
+    ensures { AppendsFront (F.contents faults.old) (F.contents faults.new) (trouble_text trouble) }
+{
+    if let Ok(line) = line_of_trouble(alloc, trouble) {
+        tell_line(faults, &line);
     }
 }
 
-/// Writes the line about a trouble, as far as the writes succeed, and none where memory for it is refused.
+/// Writes the line about a trouble, as far as the writes succeed. A line that has a number or a name takes memory, and is
+/// not written where that is refused.
 fn tell<F: Write>(alloc: Global, faults: &mut F, trouble: Trouble)
     ensures { AppendsFront (F.contents faults.old) (F.contents faults.new) (trouble_text trouble) }
 {
     match trouble {
-        Trouble::CannotRead => tell_text(faults, b"listset: cannot read\n"),
-        Trouble::TooLong => tell_text(faults, b"listset: too long\n"),
-        Trouble::CannotWrite => tell_text(faults, b"listset: cannot write\n"),
-        Trouble::CannotListen => tell_text(faults, b"listset: cannot listen\n"),
-        Trouble::Memory => tell_text(faults, b"listset: out of memory\n"),
-        Trouble::Line(line, cause) => tell_line(alloc, faults, line, cause),
-        Trouble::Bad(name) => tell_bad(alloc, faults, name),
-        Trouble::Work(name) => tell_work(alloc, faults, name),
-        Trouble::Serve(name) => tell_serve(alloc, faults, name),
+        Trouble::CannotRead => tell_line(faults, CANNOT_READ),
+        Trouble::TooLong => tell_line(faults, TOO_LONG),
+        Trouble::CannotWrite => tell_line(faults, CANNOT_WRITE),
+        Trouble::CannotListen => tell_line(faults, CANNOT_LISTEN),
+        Trouble::Memory => tell_line(faults, OUT_OF_MEMORY),
+        Trouble::Line(_, _) | Trouble::Bad(_) | Trouble::Work(_) | Trouble::Serve(_) => {
+            tell_made(alloc, faults, trouble)
+        }
     }
 }
 

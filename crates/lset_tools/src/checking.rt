@@ -1,12 +1,13 @@
-ghost use Rattle.std.specs.Prelude.{◌≡◌, ◌≢◌, OnOk, IfOk, IfErr, IfSome};
+ghost use Rattle.std.specs.Prelude.{◌≡◌, ◌≢◌, ◌⊎◌, OnOk, IfOk, IfErr, IfSome};
 ghost use Rattle.lset_history.specs.declared.fault.OrderFault.TheVariants as order;
 ghost use Rattle.lset_replay.specs.Reports as reports;
-ghost use Rattle.lset_tools.specs.Tools.{Ends, view};
-ghost use Rattle.lset_tools.specs.Checking.{refusal_text, IsAnswerOn, Checks};
-ghost use Rattle.lset_tools.specs.declared.trouble.Trouble.TheVariants.{Memory};
+ghost use Rattle.lset_replay.specs.ReportReading.{reading};
+ghost use Rattle.lset_tools.specs.Tools.{Ends, IsTaken, view};
+ghost use Rattle.lset_tools.specs.Checking.{refusal_text, IsAnswerOn, IsFirstFault, Checks};
+ghost use Rattle.lset_tools.specs.declared.trouble.Trouble.TheVariants.{CannotRead, Memory};
 
 use crate::answer::{Answer, deliver};
-use crate::streams::input_of;
+use crate::streams::{LONGEST, input_of};
 use crate::trouble::Trouble;
 use lset_history::{OrderFault, check_order};
 use lset_replay::{Report, read_report};
@@ -48,12 +49,34 @@ fn answer_on(alloc: Global, report: &Report) -> Result<Answer, Trouble>
     }
 }
 
-fn checked<R: Read>(alloc: Global, input: &mut R) -> Result<Answer, Trouble>
+/// The answer on the report whose text the bytes are.
+fn answer_of(alloc: Global, bytes: &[u8]) -> Result<Answer, Trouble>
+    requires { IsTaken bytes.now }
+    ensures checks { Checks bytes.now (view result) }
+    ensures trouble { IfErr result (λ t. (t ≡ Memory) ⊎ IsFirstFault (reading bytes.now) t) }
+{
+    let report = read_report(alloc, bytes)?;
+    answer_on(alloc, &report)
+}
+
+/// Judges the order of the report whose text the bytes are: `ok` with status 0, or `refused`, the name of the first fault
+/// and, but for `WrongSet`, the number of its call, with status 1. The error is `TooLong` where there are more than
+/// `LONGEST` bytes, `Line` with the first fault of a text that is no report's, and `Memory` where memory was refused.
+pub fn checked(alloc: Global, bytes: &[u8]) -> Result<Answer, Trouble>
+    ensures checks { Checks bytes.now (view result) }
+    ensures read { IfErr result (λ t. t ≢ CannotRead) }
+{
+    if bytes.len() > LONGEST {
+        return Err(Trouble::TooLong);
+    }
+    answer_of(alloc, bytes)
+}
+
+fn checked_input<R: Read>(alloc: Global, input: &mut R) -> Result<Answer, Trouble>
     ensures { IfSome (R.remaining input.old) (λ bytes. Checks bytes (view result)) }
 {
     let bytes = input_of(alloc, input)?;
-    let report = read_report(alloc, &bytes)?;
-    answer_on(alloc, &report)
+    checked(alloc, &bytes)
 }
 
 /// Checks the report on the input: whether its order linearizes its history (Herlihy and Wing) and leaves just its
@@ -70,6 +93,6 @@ pub fn tool_check<R: Read, W: Write, F: Write>(
     ensures { Ends (λ made. IfSome (R.remaining input.old) (λ bytes. Checks bytes made))
         (W.contents output.old) (W.contents output.new) (F.contents faults.old) (F.contents faults.new) result }
 {
-    let made = checked(alloc, input);
+    let made = checked_input(alloc, input);
     deliver(alloc, made, output, faults)
 }

@@ -5,15 +5,17 @@
 mod answer;
 mod checking;
 mod generating;
+mod moments;
 mod replaying;
 mod streams;
 mod trouble;
 mod values;
 
-pub use answer::{Answer, deliver};
-pub use checking::tool_check;
+pub use answer::{Answer, deliver, line_of_trouble};
+pub use checking::{checked, tool_check};
 pub use generating::tool_gen;
-pub use replaying::tool_replay;
+pub use moments::{MOST_MOMENT, Moments, read_moments};
+pub use replaying::{replayed, tool_replay};
 pub use streams::{InputFault, LONGEST, input_of, put};
 pub use trouble::{LineCause, ServeName, Trouble, ValueName, WorkName};
 pub use values::{

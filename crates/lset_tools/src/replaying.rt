@@ -1,11 +1,11 @@
-ghost use Rattle.std.specs.Prelude.{◌≡◌, ◌⊎◌, IfErr, IfSome};
+ghost use Rattle.std.specs.Prelude.{◌≡◌, ◌≢◌, ◌⊎◌, IfErr, IfSome};
 ghost use Rattle.lset_schedule.specs.ScheduleReading.{reading};
 ghost use Rattle.lset_tools.specs.Tools.{Ends, IsTaken, view};
 ghost use Rattle.lset_tools.specs.Replaying.{IsFirstFault, Replays};
-ghost use Rattle.lset_tools.specs.declared.trouble.Trouble.TheVariants.{Memory};
+ghost use Rattle.lset_tools.specs.declared.trouble.Trouble.TheVariants.{CannotRead, Memory};
 
 use crate::answer::{Answer, deliver};
-use crate::streams::input_of;
+use crate::streams::{LONGEST, input_of};
 use crate::trouble::Trouble;
 use lset_replay::{replay, write_report};
 use lset_schedule::read_schedule;
@@ -24,11 +24,24 @@ fn report_of(alloc: Global, bytes: &[u8]) -> Result<Answer, Trouble>
     Ok(Answer { text, status: 0 })
 }
 
-fn replayed<R: Read>(alloc: Global, input: &mut R) -> Result<Answer, Trouble>
+/// Replays the schedule whose text the bytes are: the text of its report, with status 0. The error is `TooLong` where there
+/// are more than `LONGEST` bytes, `Line` with the first fault of the text, or with the first event that is not enabled,
+/// and `Memory` where memory was refused.
+pub fn replayed(alloc: Global, bytes: &[u8]) -> Result<Answer, Trouble>
+    ensures replays { Replays bytes.now (view result) }
+    ensures read { IfErr result (λ t. t ≢ CannotRead) }
+{
+    if bytes.len() > LONGEST {
+        return Err(Trouble::TooLong);
+    }
+    report_of(alloc, bytes)
+}
+
+fn replayed_input<R: Read>(alloc: Global, input: &mut R) -> Result<Answer, Trouble>
     ensures { IfSome (R.remaining input.old) (λ bytes. Replays bytes (view result)) }
 {
     let bytes = input_of(alloc, input)?;
-    report_of(alloc, &bytes)
+    replayed(alloc, &bytes)
 }
 
 /// Replays the schedule on the input: writes its report on the output, or one line about what is wrong on
@@ -43,6 +56,6 @@ pub fn tool_replay<R: Read, W: Write, F: Write>(
     ensures { Ends (λ made. IfSome (R.remaining input.old) (λ bytes. Replays bytes made))
         (W.contents output.old) (W.contents output.new) (F.contents faults.old) (F.contents faults.new) result }
 {
-    let made = replayed(alloc, input);
+    let made = replayed_input(alloc, input);
     deliver(alloc, made, output, faults)
 }

@@ -22,7 +22,7 @@ pub enum LineCause {
     Report(ReportCause),
 }
 
-/// A value that a command takes.
+/// A value or an option that a command takes.
 #[derive(Clone, Copy, Debug, PartialEq, Eq)]
 pub enum ValueName {
     Kind,
@@ -34,6 +34,9 @@ pub enum ValueName {
     Seats,
     Port,
     Sessions,
+    Name,
+    From,
+    To,
 }
 
 /// Why programs are not run to their ends. Want of memory is a trouble of its own.
@@ -75,7 +78,7 @@ pub enum Trouble {
     Memory,
     /// A line of the input, counted from 1, is refused.
     Line(u64, LineCause),
-    /// A value of the command line is missing or is none of those that may stand there.
+    /// A value or an option of the command line is missing or is none of those that may stand there.
     Bad(ValueName),
     /// The system gives no listening socket.
     CannotListen,
@@ -210,6 +213,9 @@ impl ValueName {
             ValueName::Seats => "SEATS",
             ValueName::Port => "PORT",
             ValueName::Sessions => "SESSIONS",
+            ValueName::Name => "NAME",
+            ValueName::From => "FROM",
+            ValueName::To => "TO",
         }
     }
 }
