@@ -1,0 +1,101 @@
+-- The classic interleavings: their names, the lists that they are about, and their texts.
+use Rattle.std.specs.Prelude.{◌≡◌, ℕ, List, Contains, codes, Option, Some, None}
+use Rattle.lset_words.specs.declared.Kind.{Kind}
+use Rattle.lset_words.specs.declared.Kind.TheVariants.{Coarse, Fine, Optimistic, Lazy, LockFree}
+use Rattle.lset_schedule.specs.Plan.{Plan, IsSchedule, schedule_text}
+use Rattle.lset_replay.specs.Reports.{ReportValue}
+use Rattle.lset_replay.specs.ReportReading.{IsReport}
+use Rattle.lset_replay.specs.Texts.{report_text}
+use Rattle.lset_examples.specs.declared.example.Example.{Example}
+use Rattle.lset_examples.specs.declared.example.Example.TheVariants.{FailedTries, Full, HandOverHand, SameGap, StalePred, MarkedInChain}
+use Rattle.lset_examples.specs.declared.example.Example.TheVariants.{MarkedPred, ReadInAnothersStep, TwoRemovers, Snip, TriesAgain}
+use Rattle.lset_examples.specs.declared.example.TheConstants.{ALL}
+use Rattle.lset_examples.specs.declared.texts.TheConstants as texts
+
+-- the name by which an example is asked for
+abbrev pub name_of : Example → List ℕ
+name_of FailedTries = codes "failed-tries"
+name_of Full = codes "full"
+name_of HandOverHand = codes "hand-over-hand"
+name_of SameGap = codes "same-gap"
+name_of StalePred = codes "stale-pred"
+name_of MarkedInChain = codes "marked-in-chain"
+name_of MarkedPred = codes "marked-pred"
+name_of ReadInAnothersStep = codes "read-in-anothers-step"
+name_of TwoRemovers = codes "two-removers"
+name_of Snip = codes "snip"
+name_of TriesAgain = codes "tries-again"
+
+-- the list that it is about
+abbrev pub kind_of : Example → Kind
+kind_of FailedTries = Coarse
+kind_of Full = Coarse
+kind_of HandOverHand = Fine
+kind_of SameGap = Optimistic
+kind_of StalePred = Optimistic
+kind_of MarkedInChain = Lazy
+kind_of MarkedPred = Lazy
+kind_of ReadInAnothersStep = Lazy
+kind_of TwoRemovers = LockFree
+kind_of Snip = LockFree
+kind_of TriesAgain = LockFree
+
+-- what happens in it, in half a line
+abbrev pub about_of : Example → List ℕ
+about_of FailedTries = codes "two adds of one key: the second's tries of the lock fail"
+about_of Full = codes "an add beyond its thread's quota; a remove gives no slot back"
+about_of HandOverHand = codes "a remover waits for an adder before it, then goes hand over hand"
+about_of SameGap = codes "two adds into one gap: the second sees the changed link and walks again"
+about_of StalePred = codes "pred is taken out after the walk: the second walk does not find it"
+about_of MarkedInChain = codes "contains answers false, and the key's node is still in the chain"
+about_of MarkedPred = codes "pred is marked after the walk: its link gives it away"
+about_of ReadInAnothersStep = codes "contains stands in the step of the thread that removed its key"
+about_of TwoRemovers = codes "two removes of one key: one marks, the other walks again and answers false"
+about_of Snip = codes "an add takes out the node that a remove has marked"
+about_of TriesAgain = codes "an exchange fails, and the add walks again with the same slot"
+
+-- the text of its schedule
+abbrev pub text_of : Example → List ℕ
+text_of FailedTries = texts.FAILED_TRIES.now
+text_of Full = texts.FULL.now
+text_of HandOverHand = texts.HAND_OVER_HAND.now
+text_of SameGap = texts.SAME_GAP.now
+text_of StalePred = texts.STALE_PRED.now
+text_of MarkedInChain = texts.MARKED_IN_CHAIN.now
+text_of MarkedPred = texts.MARKED_PRED.now
+text_of ReadInAnothersStep = texts.READ_IN_ANOTHERS_STEP.now
+text_of TwoRemovers = texts.TWO_REMOVERS.now
+text_of Snip = texts.SNIP.now
+text_of TriesAgain = texts.TRIES_AGAIN.now
+
+-- the text of the report of a list that lacks the check in question, of the examples that have one
+abbrev pub broken_of : Example → Option (List ℕ)
+broken_of FailedTries = None
+broken_of Full = None
+broken_of HandOverHand = None
+broken_of SameGap = None
+broken_of StalePred = Some texts.STALE_PRED_BROKEN.now
+broken_of MarkedInChain = Some texts.MARKED_IN_CHAIN_BROKEN.now
+broken_of MarkedPred = None
+broken_of ReadInAnothersStep = None
+broken_of TwoRemovers = None
+broken_of Snip = None
+broken_of TriesAgain = None
+
+-- the text of a schedule on the example's list
+abbrev pub IsScheduleOf : Example → List ℕ → Type 0
+IsScheduleOf e text = (p : Plan) × IsSchedule p × (p.kind ≡ kind_of e) × (text ≡ schedule_text p)
+
+-- the text of a report on the example's list
+abbrev pub IsReportOf : Example → List ℕ → Type 0
+IsReportOf e text = (r : ReportValue) × IsReport r × (r.kind ≡ kind_of e) × (text ≡ report_text r)
+
+-- ---- laws
+
+-- no two examples have one name
+abbrev pub NamesAreDistinct : Type 0
+NamesAreDistinct = (e f : Example) → name_of e ≡ name_of f → e ≡ f
+
+-- none is left out of those that are listed
+abbrev pub EachIsListed : Type 0
+EachIsListed = (e : Example) → Contains ALL e

@@ -1,0 +1,182 @@
+ghost use Rattle.std.specs.Prelude.{◌≡◌, Some, IfSome};
+ghost use Rattle.std.specs.Option.{option_copied};
+ghost use Rattle.lset_examples.specs.Examples.{
+  name_of,
+  kind_of,
+  about_of,
+  text_of,
+  broken_of,
+  IsScheduleOf,
+  IsReportOf,
+  NamesAreDistinct,
+  EachIsListed,
+};
+
+use crate::texts;
+use lset_replay::reports_read_back;
+use lset_words::Kind;
+
+/// A classic interleaving of calls on one of the five lists (most of them from Herlihy and Shavit's chapter on linked lists, and
+/// drawn up for their steps here): a schedule in which the list needs the one thing that it is remembered by.
+#[derive(Clone, Copy, Debug, PartialEq, Eq)]
+pub enum Example {
+    FailedTries,
+    Full,
+    HandOverHand,
+    SameGap,
+    StalePred,
+    MarkedInChain,
+    MarkedPred,
+    ReadInAnothersStep,
+    TwoRemovers,
+    Snip,
+    TriesAgain,
+}
+
+/// All examples, in the order of the lists that they are about.
+pub const ALL: [Example; 11] = [
+    Example::FailedTries,
+    Example::Full,
+    Example::HandOverHand,
+    Example::SameGap,
+    Example::StalePred,
+    Example::MarkedInChain,
+    Example::MarkedPred,
+    Example::ReadInAnothersStep,
+    Example::TwoRemovers,
+    Example::Snip,
+    Example::TriesAgain,
+];
+
+impl Example {
+    /// The name by which it is asked for.
+    pub fn name(self) -> &'static str
+        ensures { result.now ≡ name_of self }
+    {
+        match self {
+            Example::FailedTries => "failed-tries",
+            Example::Full => "full",
+            Example::HandOverHand => "hand-over-hand",
+            Example::SameGap => "same-gap",
+            Example::StalePred => "stale-pred",
+            Example::MarkedInChain => "marked-in-chain",
+            Example::MarkedPred => "marked-pred",
+            Example::ReadInAnothersStep => "read-in-anothers-step",
+            Example::TwoRemovers => "two-removers",
+            Example::Snip => "snip",
+            Example::TriesAgain => "tries-again",
+        }
+    }
+
+    /// The list that it is about.
+    pub fn kind(self) -> Kind
+        ensures { result ≡ kind_of self }
+    {
+        match self {
+            Example::FailedTries | Example::Full => Kind::Coarse,
+            Example::HandOverHand => Kind::Fine,
+            Example::SameGap | Example::StalePred => Kind::Optimistic,
+            Example::MarkedInChain | Example::MarkedPred | Example::ReadInAnothersStep =>
+                Kind::Lazy,
+            Example::TwoRemovers | Example::Snip | Example::TriesAgain => Kind::LockFree,
+        }
+    }
+
+    /// What happens in it, in half a line.
+    pub fn about(self) -> &'static str
+        ensures { result.now ≡ about_of self }
+    {
+        match self {
+            Example::FailedTries => "two adds of one key: the second's tries of the lock fail",
+            Example::Full => "an add beyond its thread's quota; a remove gives no slot back",
+            Example::HandOverHand =>
+                "a remover waits for an adder before it, then goes hand over hand",
+            Example::SameGap =>
+                "two adds into one gap: the second sees the changed link and walks again",
+            Example::StalePred =>
+                "pred is taken out after the walk: the second walk does not find it",
+            Example::MarkedInChain =>
+                "contains answers false, and the key's node is still in the chain",
+            Example::MarkedPred => "pred is marked after the walk: its link gives it away",
+            Example::ReadInAnothersStep =>
+                "contains stands in the step of the thread that removed its key",
+            Example::TwoRemovers =>
+                "two removes of one key: one marks, the other walks again and answers false",
+            Example::Snip => "an add takes out the node that a remove has marked",
+            Example::TriesAgain => "an exchange fails, and the add walks again with the same slot",
+        }
+    }
+
+    /// The text of its schedule, on the list that it is about.
+    pub fn schedule_text(self) -> &'static str
+        ensures constant { result.now ≡ text_of self }
+        ensures schedule { IsScheduleOf self result.now }
+    {
+        self.schedule_constant()
+    }
+
+    fn schedule_constant(self) -> &'static str
+        ensures { result.now ≡ text_of self }
+    {
+        match self {
+            Example::FailedTries => texts::FAILED_TRIES,
+            Example::Full => texts::FULL,
+            Example::HandOverHand => texts::HAND_OVER_HAND,
+            Example::SameGap => texts::SAME_GAP,
+            Example::StalePred => texts::STALE_PRED,
+            Example::MarkedInChain => texts::MARKED_IN_CHAIN,
+            Example::MarkedPred => texts::MARKED_PRED,
+            Example::ReadInAnothersStep => texts::READ_IN_ANOTHERS_STEP,
+            Example::TwoRemovers => texts::TWO_REMOVERS,
+            Example::Snip => texts::SNIP,
+            Example::TriesAgain => texts::TRIES_AGAIN,
+        }
+    }
+
+    /// The text of the report that a list without the check in question would give of the schedule, for the two examples that
+    /// have one. Its order does not explain its calls and keys: `check` refuses it.
+    pub fn broken_report_text(self) -> Option<&'static str>
+        ensures constant { option_copied result ≡ broken_of self }
+        ensures report { IfSome result (λ text. IsReportOf self text.now) }
+    {
+        reports_read_back();
+        self.broken_constant()
+    }
+
+    fn broken_constant(self) -> Option<&'static str>
+        ensures { option_copied result ≡ broken_of self }
+    {
+        match self {
+            Example::StalePred => Some(texts::STALE_PRED_BROKEN),
+            Example::MarkedInChain => Some(texts::MARKED_IN_CHAIN_BROKEN),
+            Example::FailedTries
+            | Example::Full
+            | Example::HandOverHand
+            | Example::SameGap
+            | Example::MarkedPred
+            | Example::ReadInAnothersStep
+            | Example::TwoRemovers
+            | Example::Snip
+            | Example::TriesAgain => None,
+        }
+    }
+}
+
+/// The example with this name; `None` for a name that no example has.
+pub fn named(name: &str) -> Option<Example>
+    ensures found { IfSome result (λ example. name.now ≡ name_of example) }
+    ensures only { (example : Example) → name.now ≡ name_of example → result ≡ Some example }
+{
+    for example in &ALL {
+        if example.name() == name {
+            return Some(*example);
+        }
+    }
+    None
+}
+
+/// No two examples have one name, and each is listed.
+pub fn names_are_distinct()
+    ensures names { NamesAreDistinct }
+    ensures listed { EachIsListed }
+{}

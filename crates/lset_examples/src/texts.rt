@@ -1,0 +1,182 @@
+//! The texts of the examples, as they lie in `crates/run_examples/data`; the program `run_examples` compares the two.
+
+pub const FAILED_TRIES: &str = "\
+listset-schedule 1
+list coarse
+threads 2
+quota 4
+begin 0 add 5
+begin 1 add 5
+go 0 1
+go 1 3
+go 0 6
+go 1 4
+";
+
+pub const FULL: &str = "\
+listset-schedule 1
+list coarse
+threads 1
+quota 1
+begin 0 add 5
+go 0 7
+begin 0 remove 5
+go 0 6
+begin 0 add 7
+go 0 4
+";
+
+pub const HAND_OVER_HAND: &str = "\
+listset-schedule 1
+list fine
+threads 2
+quota 4
+begin 1 add 9
+go 1 9
+begin 0 add 5
+begin 1 remove 9
+go 0 4
+go 1 2
+go 0 5
+go 1 12
+";
+
+pub const SAME_GAP: &str = "\
+listset-schedule 1
+list optimistic
+threads 2
+quota 4
+begin 0 add 5
+begin 1 add 7
+go 0 2
+go 1 2
+go 1 8
+go 0 15
+";
+
+pub const STALE_PRED: &str = "\
+listset-schedule 1
+list optimistic
+threads 2
+quota 4
+begin 1 add 3
+go 1 10
+begin 0 add 5
+go 0 4
+begin 1 remove 3
+go 1 9
+go 0 16
+";
+
+pub const MARKED_IN_CHAIN: &str = "\
+listset-schedule 1
+list lazy
+threads 2
+quota 4
+begin 1 add 5
+go 1 11
+begin 1 remove 5
+go 1 7
+begin 0 contains 5
+go 0 3
+go 1 3
+";
+
+pub const MARKED_PRED: &str = "\
+listset-schedule 1
+list lazy
+threads 2
+quota 4
+begin 1 add 3
+go 1 11
+begin 0 add 5
+go 0 4
+begin 1 remove 3
+go 1 10
+go 0 16
+";
+
+pub const READ_IN_ANOTHERS_STEP: &str = "\
+listset-schedule 1
+list lazy
+threads 2
+quota 4
+begin 1 add 5
+go 1 11
+begin 0 contains 5
+go 0 2
+begin 1 remove 5
+go 1 10
+begin 1 add 5
+go 1 11
+go 0 1
+";
+
+pub const TWO_REMOVERS: &str = "\
+listset-schedule 1
+list lock-free
+threads 2
+quota 4
+begin 0 add 5
+go 0 6
+begin 0 remove 5
+begin 1 remove 5
+go 0 4
+go 1 4
+go 1 2
+go 0 4
+";
+
+pub const SNIP: &str = "\
+listset-schedule 1
+list lock-free
+threads 2
+quota 4
+begin 0 add 5
+go 0 6
+begin 0 remove 5
+go 0 5
+begin 1 add 7
+go 1 8
+go 0 1
+";
+
+pub const TRIES_AGAIN: &str = "\
+listset-schedule 1
+list lock-free
+threads 2
+quota 4
+begin 0 add 5
+begin 1 add 7
+go 0 5
+go 1 6
+go 0 7
+";
+
+pub const STALE_PRED_BROKEN: &str = "\
+listset-report 1
+list optimistic
+threads 2
+quota 4
+call 0 1 add 3 1 11 true
+call 1 0 add 5 12 34 true
+call 2 1 remove 3 17 26 true
+place 0 true
+place 2 true
+place 1 true
+end
+";
+
+pub const MARKED_IN_CHAIN_BROKEN: &str = "\
+listset-report 1
+list lazy
+threads 2
+quota 4
+call 0 1 add 5 1 12 true
+call 1 1 remove 5 13 27 true
+call 2 0 contains 5 21 24 true
+place 0 true
+place 1 true
+place 2 true
+end
+";
