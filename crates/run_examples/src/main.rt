@@ -1,5 +1,6 @@
 //! Runs the examples, as a program over the library would. Of each file of the folder that it runs in, by name: `NAME.schedule`
-//! is replayed and its report compared with `NAME.report`; the order of `NAME.report` is checked against its calls and keys.
+//! is replayed and its report compared with `NAME.report`; the order of `NAME.report` is checked against its calls and keys. Then
+//! the files of the classic interleavings are compared with the texts that `lset_examples` has.
 #![tactic(auto)]
 
 ghost use Rattle.std.specs.Prelude.{◌≡◌, length, IfOk};
@@ -8,6 +9,7 @@ ghost use Rattle.lset_schedule.specs.Plan.{Plan, IsSchedule, schedule_text};
 ghost use Rattle.lset_replay.specs.Reports.{ReportValue, IsExplained};
 ghost use Rattle.lset_replay.specs.Texts.{report_text};
 
+use lset_examples::{ALL, Example};
 use lset_history::{OrderFault, check_order};
 use lset_replay::{ReplayFault, ReportFault, read_report, replay, write_report};
 use lset_schedule::{ScheduleFault, read_schedule};
@@ -94,6 +96,26 @@ fn files(rt: &HostRuntime) -> io::Result<Vec<String>> {
     Ok(names)
 }
 
+fn compare_file(rt: &HostRuntime, file: &str, text: &str) -> io::Result<()> {
+    if fs::read(rt, file)?.as_slice() == text.as_bytes() {
+        println!(rt; "{file}: the library's text")
+    } else {
+        println!(rt; "{file}: another text than the library's")
+    }
+}
+
+fn compare_example(rt: &HostRuntime, example: Example) -> io::Result<()> {
+    let alloc = rt.alloc();
+    let name = example.name();
+    let schedule = format!(in alloc; "{name}.schedule")?;
+    compare_file(rt, schedule.as_str(), example.schedule_text())?;
+    if let Some(text) = example.broken_report_text() {
+        let report = format!(in alloc; "{name}.broken.report")?;
+        compare_file(rt, report.as_str(), text)?;
+    }
+    Ok(())
+}
+
 fn main(rt: HostRuntime) -> io::Result<()> {
     for file in &files(&rt)? {
         if let Some(name) = file.strip_suffix(".schedule") {
@@ -102,6 +124,9 @@ fn main(rt: HostRuntime) -> io::Result<()> {
         if let Some(name) = file.strip_suffix(".report") {
             check_report(&rt, name)?;
         }
+    }
+    for example in ALL {
+        compare_example(&rt, example)?;
     }
     Ok(())
 }
