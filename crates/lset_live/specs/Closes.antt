@@ -1,5 +1,6 @@
 -- What a closed set says.
 use Rattle.std.specs.Prelude.{◌≡◌, ℕ, ◌<◌, ◌≤◌, List, length}
+use Rattle.lset_words.specs.declared.TheConstants.{MOST_WORDS}
 use Rattle.lset_words.specs.Words.{lock_index, tail_word}
 use Rattle.lset_steps.specs.declared.Event.{Event}
 use Rattle.lset_steps.specs.Chain.{view, IsOrdered}
@@ -32,7 +33,7 @@ HasKeys c keys = IsContent (view c.threads c.quota c.words (λ t. 0)) keys
 
 -- what the walk along the chain rests on
 pub record HasLaws (c : LastWords) : Type 0 where
-  pub few : length c.words ≤ 3145737
+  pub few : length c.words ≤ MOST_WORDS
   pub used : ℕ → ℕ
   pub ordered : IsOrdered (view c.threads c.quota c.words used)
   pub head_key : (view c.threads c.quota c.words used).key 0 ≡ 0

@@ -1,9 +1,11 @@
 -- What contracts see of a running set and of a seat.
-use Rattle.std.specs.Prelude.{◌≡◌, ◌⊎◌, ◌<◌, ◌≤◌, ℕ, Bool, true, false, List, [], ◌∷◌, Option, Some, None, map}
+use Rattle.std.specs.Prelude.{◌≡◌, ℕ, Bool, true, false, List, [], ◌∷◌, Option, Some, None, map}
 use Rattle.std.specs.List.{range_with_len}
 use Rattle.atomic_table.specs.Seated.{TableId}
 use Rattle.lset_words.specs.declared.Reply.{Reply}
 use Rattle.lset_words.specs.declared.Reply.TheVariants.{True, False, Full}
+use Rattle.lset_words.specs.declared.fault.LayoutFault.TheVariants as layout
+use Rattle.lset_words.specs.Words.{Sizes, IsWithin, RefusesSizes}
 use Rattle.lset_steps.specs.declared.Event.{Event}
 use Rattle.lset_rule.specs.declared.view.Shape.{Shape}
 use Rattle.lset_live.specs.declared.fault.OpenFault.{OpenFault}
@@ -32,10 +34,10 @@ abbrev pub IsOpened : SetValue → ℕ → ℕ → List SeatValue → Type 0
 IsOpened set threads quota seats = (set.shape ≡ record { threads = threads; quota = quota }) × (seats ≡ map (new_seat set) (range_with_len 0 threads))
 
 -- why a set is not opened; want of memory, within the limits, is not told apart
-abbrev pub RefusesSeats : ℕ → ℕ → OpenFault → Type 0
-RefusesSeats seats quota fault.Seats = (seats ≡ 0) ⊎ (64 < seats)
-RefusesSeats seats quota fault.Quota = (0 < seats) × (seats ≤ 64) × (16384 < quota)
-RefusesSeats seats quota fault.Memory = (0 < seats) × (seats ≤ 64) × (quota ≤ 16384)
+abbrev pub RefusesSeats : Sizes → OpenFault → Type 0
+RefusesSeats s fault.Seats = RefusesSizes s layout.Threads
+RefusesSeats s fault.Quota = RefusesSizes s layout.Quota
+RefusesSeats s fault.Memory = IsWithin s
 
 -- what an answer of `contains_now` counts as
 abbrev pub reply_of : Bool → Reply

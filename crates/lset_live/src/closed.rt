@@ -1,5 +1,6 @@
 //! A set that no thread shares any more.
 ghost use Rattle.std.specs.Prelude.{◌≡◌, ◌<◌, ◌≤◌, ◌/◌, ◌%◌, ◌↔◌, IfOk, IsTrue, length, slice_index};
+ghost use Rattle.lset_words.specs.declared.TheConstants.{MOST_WORDS};
 ghost use Rattle.lset_words.specs.Words.{lock_index};
 ghost use Rattle.lset_steps.specs.Chain.{node_key, node_link};
 ghost use Rattle.lset_live.specs.Closes.{HasKeys, HasLaws};
@@ -64,7 +65,7 @@ impl Closed {
 
     fn node_key(&self, node: u64) -> u64
         requires inside { lock_index node < length self.now.words }
-        requires few { length self.now.words ≤ 3145737 }
+        requires few { length self.now.words ≤ MOST_WORDS }
         ensures { result ≡ node_key self.now.words node }
     {
         self.word(3 + 3 * node)
@@ -72,7 +73,7 @@ impl Closed {
 
     fn next_node(&self, node: u64) -> u64
         requires inside { lock_index node < length self.now.words }
-        requires few { length self.now.words ≤ 3145737 }
+        requires few { length self.now.words ≤ MOST_WORDS }
         ensures { result ≡ node_link self.now.words node / 2 }
     {
         self.word(4 + 3 * node) / 2
@@ -80,7 +81,7 @@ impl Closed {
 
     fn is_marked(&self, node: u64) -> bool
         requires inside { lock_index node < length self.now.words }
-        requires few { length self.now.words ≤ 3145737 }
+        requires few { length self.now.words ≤ MOST_WORDS }
         ensures { IsTrue result ↔ (node_link self.now.words node % 2 ≡ 1) }
     {
         self.word(4 + 3 * node) % 2 == 1

@@ -1,6 +1,7 @@
 //! All seats of a set together.
 ghost use Rattle.std.specs.Prelude.{◌≡◌, ◌+◌, ◌<◌, ◌≤◌, ◌↔◌, IfSome, IsTrue, Some, [], ◌∷◌, length, sum_by};
 ghost use Rattle.std.specs.Option.{option_map};
+ghost use Rattle.lset_words.specs.declared.TheConstants.{MOST_THREADS};
 ghost use Rattle.lset_live.specs.Seats.{gather_onto, held_in};
 
 use crate::running::Running;
@@ -11,7 +12,7 @@ impl<M: Running> LiveSet<M> {
     /// Answers whether the seats hold all seats of the set, as many as there are.
     pub fn is_held_by(&self, seats: &[Seat<M>]) -> bool
         ensures all { IsTrue result ↔ (sum_by (λ s. s.held) seats.now ≡ self.now.shape.threads) }
-        ensures few { IsTrue result → (0 < length seats.now) × (length seats.now ≤ 64) }
+        ensures few { IsTrue result → (0 < length seats.now) × (length seats.now ≤ MOST_THREADS) }
     {
         let most = u64::from(self.seats());
         let mut total = 0u64;

@@ -1,6 +1,5 @@
 //! Opening a set.
 ghost use Rattle.std.specs.Prelude.{◌≡◌, All, IfOk, IfErr};
-ghost use Rattle.lset_steps.specs.Steps.{opening, opening_word};
 ghost use Rattle.lset_live.specs.Seats.{IsOpened, RefusesSeats};
 
 use crate::fault::OpenFault;
@@ -9,31 +8,10 @@ use crate::seat::Seat;
 use crate::set::LiveSet;
 use atomic_table::Table;
 use lset_rule::{Shape, Slots};
+use lset_steps::opening_words;
 use lset_words::{Layout, LayoutFault, layout};
 use std::alloc::{AllocError, Global};
 use std::marker::PhantomData;
-
-fn opening_word_at(layout: &Layout, i: u64) -> u64
-    ensures { result ≡ opening_word layout.now.threads layout.now.quota i }
-{
-    match i {
-        1 => u64::from(layout.threads()),
-        2 => u64::from(layout.quota()),
-        4 | 7 => 2,
-        6 => 4_294_967_297,
-        _ => 0,
-    }
-}
-
-fn opening_words(alloc: Global, layout: &Layout) -> Result<Vec<u64>, AllocError>
-    ensures { IfOk result (λ v. v.items ≡ (opening layout.now.threads layout.now.quota).words) }
-{
-    let mut words = Vec::new(alloc);
-    for i in 0..layout.words() {
-        words.push(opening_word_at(layout, i))?;
-    }
-    Ok(words)
-}
 
 fn open_on<M: Running>(
     alloc: Global,
@@ -73,7 +51,7 @@ fn open_on<M: Running>(
     Ok((set, seats))
 }
 
-/// Opens a set with 1 to 64 seats, seat `t` for thread `t`, and a quota of 0 to 16,384 slots for each.
+/// Opens a set with 1 to `MOST_THREADS` seats, seat `t` for thread `t`, and a quota of 0 to `MOST_QUOTA` slots for each.
 /// All memory that a set takes is taken here, but for that of `Closed::keys`.
 /// `OpenFault::Seats` where the seats are outside their limits, else `OpenFault::Quota` where the quota is, and
 /// `OpenFault::Memory` where memory was refused.
@@ -84,7 +62,7 @@ pub fn open<M: Running>(
 ) -> Result<(LiveSet<M>, Vec<Seat<M>>), OpenFault>
     ensures opened { IfOk result (λ r. IsOpened r.0 seats quota r.1.items) }
     ensures seats { IfOk result (λ r. All (λ s. s.set ≡ r.0) r.1.items) }
-    ensures refused { IfErr result (RefusesSeats seats quota) }
+    ensures refused { IfErr result (RefusesSeats (record { threads = seats; quota = quota })) }
 {
     match layout(seats, quota) {
         Ok(layout) => match open_on::<M>(alloc, layout) {

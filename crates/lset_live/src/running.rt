@@ -117,14 +117,14 @@ impl Running for OptimisticList {}
 
 impl Running for LazyList {
     fn contains_on<R: Wait, P: Pause>(
-        rt: &R,
+        _rt: &R,
         table: &Words<Self>,
         place: &mut Place,
         slots: Slots,
         key: Key,
         pause: &P,
     ) -> (Slots, Reply) {
-        lset_loops::contains_on::<Self, R, P>(rt, table, place, slots, key, pause)
+        lset_loops::contains_on::<Self, P>(table, place, slots, key, pause)
     }
 }
 
@@ -152,14 +152,14 @@ impl Running for LockFreeList {
     }
 
     fn contains_on<R: Wait, P: Pause>(
-        rt: &R,
+        _rt: &R,
         table: &Words<Self>,
         place: &mut Place,
         slots: Slots,
         key: Key,
         pause: &P,
     ) -> (Slots, Reply) {
-        lset_loops::contains_on::<Self, R, P>(rt, table, place, slots, key, pause)
+        lset_loops::contains_on::<Self, P>(table, place, slots, key, pause)
     }
 }
 

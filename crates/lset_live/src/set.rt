@@ -2,6 +2,7 @@
 ghost use Rattle.std.specs.Prelude.{◌≡◌, ◌≢◌, ◌+◌, ◌<◌, ◌≤◌, ℕ, List, [], ◌∷◌, length, IfOk, IfErr};
 ghost use Rattle.lset_words.specs.Words.{word_count};
 ghost use Rattle.lset_words.specs.declared.Call.TheVariants.{Add, Remove, Contains};
+ghost use Rattle.lset_words.specs.declared.TheConstants.{MOST_QUOTA, MOST_THREADS};
 ghost use Rattle.lset_rule.specs.declared.view.Past.{Fresh};
 ghost use Rattle.lset_rule.specs.Views.{IsIdle};
 ghost use Rattle.lset_rule.specs.Seats.{IsOf};
@@ -33,7 +34,7 @@ pub struct LiveSet<M: Running> {
     pub(crate) alloc: Global,
     ghost sized: { (table.shared.table_id.words ≡ word_count threads quota) × (table.shared.table_id.slots ≡ 0) },
     ghost shaped: { table.shared.key ≡ record { threads = threads; quota = quota } },
-    ghost within: { (0 < threads) × (threads ≤ 64) × (quota ≤ 16384) },
+    ghost within: { (0 < threads) × (threads ≤ MOST_THREADS) × (quota ≤ MOST_QUOTA) },
 }
 
 impl<M: Running> Model for LiveSet<M> {
@@ -55,7 +56,7 @@ impl<M: Running> LiveSet<M> {
     /// The number of seats that the set was opened with.
     pub fn seats(&self) -> u32
         ensures seats { result ≡ self.now.shape.threads }
-        ensures range { (0 < result) × (result ≤ 64) }
+        ensures range { (0 < result) × (result ≤ MOST_THREADS) }
     {
         self.threads
     }
@@ -63,7 +64,7 @@ impl<M: Running> LiveSet<M> {
     /// The quota that the set was opened with.
     pub fn quota(&self) -> u32
         ensures quota { result ≡ self.now.shape.quota }
-        ensures range { result ≤ 16384 }
+        ensures range { result ≤ MOST_QUOTA }
     {
         self.quota
     }

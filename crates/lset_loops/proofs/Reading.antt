@@ -1,5 +1,6 @@
 -- The rows of a contains.
-use Rattle.std.proofs.Common.{◌≡◌, ℕ, ◌+◌, ◌-◌, ◌/◌, ◌%◌, ◌<◌, ◌≤◌, ◌==◌, Bool, true, false, if◌then◌else◌, refl, sym, ap, ◌∙◌, arith}
+use Rattle.std.proofs.Common.{◌≡◌, ℕ, ◌+◌, ◌-◌, ◌/◌, ◌%◌, ◌<◌, ◌≤◌, ◌==◌, Bool, true, false, if◌then◌else◌, ◌⊎◌, inl, inr, refl, sym, ap, ◌∙◌, subst, arith}
+use Rattle.std.proofs.Math.Nat.{eq-or-lt_of_le}
 use Rattle.lset_words.specs.declared.Key.{Key}
 use Rattle.lset_words.specs.declared.Call.{Call}
 use Rattle.lset_words.specs.declared.Call.TheVariants.{Contains}
@@ -36,13 +37,13 @@ starts m laws k v n w s = row_first m (Contains k) v n w (reading_row k v 21 (n 
 pub acts_first : (m : Table) → HasReading m → (k : Key) (v : View) → Load (link_index 0) ≡ m.next (m.begin (Contains k) v.local)
 acts_first m laws k v = sym (laws.row_20 (reading_row k v 20 0) refl).0 ∙ ap m.next (sym (laws.begins (Contains k) v.local))
 
-pub acts_20 : (m : Table) → HasReading m → (k : Key) (v : View) (x : ℕ) (w : View) → AtRead m k v 20 x w → Load (link_index x) ≡ m.next w.local
+acts_20 : (m : Table) → HasReading m → (k : Key) (v : View) (x : ℕ) (w : View) → AtRead m k v 20 x w → Load (link_index x) ≡ m.next w.local
 acts_20 m laws k v x w at = row_acts m (Contains k) v w (reading_row k v 20 x) (Load (link_index x)) at (laws.row_20 (reading_row k v 20 x) refl).0
 
 pub acts_21 : (m : Table) → HasReading m → (k : Key) (v : View) (x : ℕ) (w : View) → AtRead m k v 21 x w → Load (key_index x) ≡ m.next w.local
 acts_21 m laws k v x w at = row_acts m (Contains k) v w (reading_row k v 21 x) (Load (key_index x)) at (laws.row_21 (reading_row k v 21 x) refl).0
 
-pub acts_22 : (m : Table) → HasReading m → (k : Key) (v : View) (x : ℕ) (w : View) → AtRead m k v 22 x w → Load (link_index x) ≡ m.next w.local
+acts_22 : (m : Table) → HasReading m → (k : Key) (v : View) (x : ℕ) (w : View) → AtRead m k v 22 x w → Load (link_index x) ≡ m.next w.local
 acts_22 m laws k v x w at = row_acts m (Contains k) v w (reading_row k v 22 x) (Load (link_index x)) at (laws.row_22 (reading_row k v 22 x) refl).0
 
 pub goes_20 : (m : Table) → HasReading m → (k : Key) (v : View) (x : ℕ) (w : View) (n : ℕ) (w' : View) → AtRead m k v 20 x w → Goes m w n w' → AtRead m k v 21 (n / 2) w'
@@ -65,6 +66,24 @@ pub same_21 : (m : Table) → HasReading m → (k : Key) (v : View) (x : ℕ) (w
 same_21 m laws k v x w n w' eq at g = row_next m (Contains k) v w (reading_row k v 21 x) n w' (reading_row k v 22 x) at g
     (fed_21 m laws k v x n ∙ (if_not_below n (target (Contains k)) (omega arith) (continued (reading_row k v 20 x)) (from_key k v x n)
     ∙ if_same n (target (Contains k)) eq (continued (reading_row k v 22 x)) (leaves_with False (reading_row k v 21 x))))
+
+-- At a node whose key word n is not above its own it loads the link, for the mark or to go on: the row is that by n.
+abbrev pub link_row : Key → ℕ → ℕ
+link_row k n = if n == target (Contains k) then 22 else 20
+
+at_link_by : (m : Table) → HasReading m → (k : Key) (v : View) (x : ℕ) (w : View) (n : ℕ) (w' : View) → (n ≡ target (Contains k)) ⊎ (n < target (Contains k)) → AtRead m k v 21 x w → Goes m w n w' → AtRead m k v (link_row k n) x w'
+at_link_by m laws k v x w n w' (inl eq) at g = subst (λ pc. AtRead m k v pc x w') (sym (if_same n (target (Contains k)) eq 22 20)) (same_21 m laws k v x w n w' eq at g)
+at_link_by m laws k v x w n w' (inr lt) at g = subst (λ pc. AtRead m k v pc x w') (sym (if_other n (target (Contains k)) (λ e. omega arith) 22 20)) (below_21 m laws k v x w n w' lt at g)
+
+pub at_link : (m : Table) → HasReading m → (k : Key) (v : View) (x : ℕ) (w : View) (n : ℕ) (w' : View) → n ≤ target (Contains k) → AtRead m k v 21 x w → Goes m w n w' → AtRead m k v (link_row k n) x w'
+at_link m laws k v x w n w' le at g = at_link_by m laws k v x w n w' (eq-or-lt_of_le le) at g
+
+acts_by : (m : Table) → HasReading m → (k : Key) (v : View) (x : ℕ) (w : View) (b : Bool) → AtRead m k v (if b then 22 else 20) x w → Load (link_index x) ≡ m.next w.local
+acts_by m laws k v x w true at = acts_22 m laws k v x w at
+acts_by m laws k v x w false at = acts_20 m laws k v x w at
+
+pub acts_link : (m : Table) → HasReading m → (k : Key) (v : View) (x : ℕ) (w : View) (n : ℕ) → AtRead m k v (link_row k n) x w → Load (link_index x) ≡ m.next w.local
+acts_link m laws k v x w n at = acts_by m laws k v x w (n == target (Contains k)) at
 
 -- the call has answered, and left the slots as they were
 abbrev pub Ends : Table → Key → View → Reply → View → Type 0

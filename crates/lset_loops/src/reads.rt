@@ -17,7 +17,6 @@ use lset_steps::OpenReads;
 use lset_steps::rows::{key_index, link_index};
 use lset_words::{Call, Key, Reply};
 use std::marker::Brand;
-use std::sync::Wait;
 
 const HEAD: u64 = 0;
 
@@ -49,9 +48,8 @@ fn reply_by_mark(link: u64) -> Reply
 /// that has it. (Herlihy and Shavit's wait-free `contains`.)
 ///
 /// `place` is the place of an idle seat of these words, and `slots` are those of its thread. The answer is the slots and the
-/// reply. `pause` is asked after each step that does not answer. Nothing is said about when the call returns.
-pub fn contains_on<M: ReadsByRows, R: Wait, P: Pause>(
-    rt: &R,
+/// reply. `pause` is asked after each step that does not answer. It waits for nobody, and returns.
+pub fn contains_on<M: ReadsByRows, P: Pause>(
     table: &Words<M>,
     place: &mut Place,
     slots: Slots,
@@ -67,7 +65,7 @@ pub fn contains_on<M: ReadsByRows, R: Wait, P: Pause>(
 {
     let target = key.word();
     let mut link = load_first::<M, Brand>(table, place, Call::Contains(key), link_index(HEAD));
-    for _ in rt.forever() {
+    loop {
         pause.moved(slots.thread, false);
         let curr = link / 2;
         let word = load_on::<M>(table, place, key_index(curr));
@@ -75,16 +73,22 @@ pub fn contains_on<M: ReadsByRows, R: Wait, P: Pause>(
             return (slots, Reply::False);
         }
         pause.moved(slots.thread, false);
-        if word == target {
-            let bit = load_on::<M>(table, place, link_index(curr));
-            return (slots, reply_by_mark(bit));
-        }
         link = load_on::<M>(table, place, link_index(curr));
+        if word == target {
+            return (slots, reply_by_mark(link));
+        }
     }
-    unreachable!()
 }
 
-/// The same, which waits for nobody and asks nobody, and returns.
+/// Asks nobody between two steps.
+#[derive(Drop)]
+struct Unasked;
+
+impl Pause for Unasked {
+    fn moved(&self, _thread: u32, _failed: bool) {}
+}
+
+/// The same with no pause.
 pub fn contains_now_on<M: ReadsByRows>(
     table: &Words<M>,
     place: &mut Place,
@@ -98,18 +102,5 @@ pub fn contains_now_on<M: ReadsByRows>(
     ensures slots { result.0 ≡ slots_of place.new.me.0.local }
     ensures made { Makes M.table (Contains key) place.old.me.0 result.1 place.new.me.0 }
 {
-    let target = key.word();
-    let mut link = load_first::<M, Brand>(table, place, Call::Contains(key), link_index(HEAD));
-    loop {
-        let curr = link / 2;
-        let word = load_on::<M>(table, place, key_index(curr));
-        if word > target {
-            return (slots, Reply::False);
-        }
-        if word == target {
-            let mark = load_on::<M>(table, place, link_index(curr));
-            return (slots, reply_by_mark(mark));
-        }
-        link = load_on::<M>(table, place, link_index(curr));
-    }
+    contains_on::<M, Unasked>(table, place, slots, key, &Unasked)
 }

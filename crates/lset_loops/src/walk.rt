@@ -96,7 +96,8 @@ fn take_out<O: Origin, P: Pause>(
     ensures at { AtWindow O.call O.from result place.new.me.0 }
 {
     let before = 2 * window.curr;
-    let seen = exchange_on::<LockFreeList>(table, place, link_index(window.pred), before, 2 * succ);
+    let pred_link = link_index(window.pred);
+    let seen = exchange_on::<LockFreeList>(table, place, pred_link, before, 2 * succ);
     if seen == before {
         return Window {
             pred: window.pred,

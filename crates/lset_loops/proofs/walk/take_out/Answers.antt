@@ -10,8 +10,8 @@ pub overflow_mul-before : goal.overflow_mul-before
 overflow_mul-before g c = let C = g.O.Origin.call in let v = g.O.Origin.from in let sp = c.requires.seat in let p = c.args.window.pred in let x = c.args.window.curr in let s = c.args.succ in let at0 = c.requires.at in
     let q : x < 1048578 = (small C v 3 p x s c.args.place.now.me.0 sp at0).curr in search rules
 
-pub link_index-requires : goal.link_index-requires
-link_index-requires g c = let C = g.O.Origin.call in let v = g.O.Origin.from in let sp = c.requires.seat in let p = c.args.window.pred in let x = c.args.window.curr in let s = c.args.succ in let at0 = c.requires.at in
+pub link_index-pred_link-requires : goal.link_index-pred_link-requires
+link_index-pred_link-requires g c = let C = g.O.Origin.call in let v = g.O.Origin.from in let sp = c.requires.seat in let p = c.args.window.pred in let x = c.args.window.curr in let s = c.args.succ in let at0 = c.requires.at in
     let q : p < 1048578 = (small C v 3 p x s c.args.place.now.me.0 sp at0).pred in omega arith
 
 pub overflow_mul-succ : goal.overflow_mul-succ
@@ -24,7 +24,7 @@ exchange_on-seen-requires-clause-open g c = let C = g.O.Origin.call in let v = g
 
 pub exchange_on-seen-requires-clause-row : goal.exchange_on-seen-requires-clause-row
 exchange_on-seen-requires-clause-row g c = let C = g.O.Origin.call in let v = g.O.Origin.from in let sp = c.requires.seat in let p = c.args.window.pred in let x = c.args.window.curr in let s = c.args.succ in let at0 = c.requires.at in
-    ap (λ i. Exchange i (2 * x) (2 * s)) c.link_index.ensures ∙ acts_3 C v p x s c.args.place.now.me.0 at0
+    ap (λ i. Exchange i (2 * x) (2 * s)) c.link_index-pred_link.ensures ∙ acts_3 C v p x s c.args.place.now.me.0 at0
 
 pub returns-then-seen-before-clause-at : goal.returns-then-seen-before-clause-at
 returns-then-seen-before-clause-at g c = let C = g.O.Origin.call in let v = g.O.Origin.from in let sp = c.requires.seat in let p = c.args.window.pred in let x = c.args.window.curr in let s = c.args.succ in let at0 = c.requires.at in
