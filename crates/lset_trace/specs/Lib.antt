@@ -1,0 +1,3 @@
+pub mod WordTexts
+pub mod TraceTexts
+pub mod Tracing
