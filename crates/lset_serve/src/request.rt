@@ -1,5 +1,5 @@
 //! What the values of `serve` ask for.
-ghost use Rattle.std.specs.Prelude.{◌≡◌, ◌≤◌, ◌<◌, ◌^◌, IfOk, map, string_bytes};
+ghost use Rattle.std.specs.Prelude.{◌≡◌, ◌≤◌, IfOk, map, string_bytes};
 ghost use Rattle.lset_serve.specs.Serving.{request_of};
 
 use lset_tools::{ValueName, kind_at, number_at};
@@ -32,7 +32,7 @@ pub struct ServeRequest {
 #[tactic(auto, unfolding(crate::specs::Serving::request_of))]
 pub fn read_serve_request(values: &[String]) -> Result<ServeRequest, ValueName>
     ensures value { result ≡ request_of (map string_bytes values.now) }
-    ensures known { IfOk result (λ r. (r.seats ≤ 64) × (r.port < 2 ^ 16)) }
+    ensures known { IfOk result (λ r. (r.seats ≤ MOST_THREADS) × (r.port ≤ MOST_PORT)) }
 {
     let kind = kind_at(values, 0).ok_or(ValueName::Kind)?;
     let seats = number_at(values, 1, 1, MOST_THREADS).ok_or(ValueName::Seats)?;

@@ -1,7 +1,9 @@
 //! The tool.
-ghost use Rattle.std.specs.Prelude.{◌≡◌, ◌≤◌, ◌<◌, ◌^◌, IfErr, IfOk, OnOk, map, string_bytes};
+ghost use Rattle.std.specs.Prelude.{◌≡◌, ◌≤◌, IfErr, IfOk, OnOk, map, string_bytes};
 ghost use Rattle.std.specs.Io.KnownBytes.{Appends};
+ghost use Rattle.lset_words.specs.declared.TheConstants.{MOST_THREADS};
 ghost use Rattle.lset_tools.specs.Tools as tools;
+ghost use Rattle.lset_serve.specs.declared.request.TheConstants.{MOST_PORT};
 ghost use Rattle.lset_serve.specs.Serving.{Announces, Answers, EndsServer, ServeEnds, Serves, first_line, of_server, request_of};
 
 use crate::request::{ServeRequest, read_serve_request};
@@ -53,7 +55,7 @@ fn serve_list<
     R: Net<Listener = TcpListener, Stream = TcpStream> + Threads + Wait + Sync,
     W: Write,
 >(rt: &R, alloc: Global, request: ServeRequest, output: &mut W) -> Result<Answer, Trouble>
-    requires { (request.seats ≤ 64) × (request.port < 2 ^ 16) }
+    requires { (request.seats ≤ MOST_THREADS) × (request.port ≤ MOST_PORT) }
     ensures first { Announces (tools.view result) (W.contents output.old) (W.contents output.new) }
     ensures made { IfOk (tools.view result) (Answers request) }
 {
