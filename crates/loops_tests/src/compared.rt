@@ -1,6 +1,5 @@
 ghost use Rattle.std.specs.Prelude.{◌≡◌, All, IfOk};
 
-use crate::stepwise::{SteppedLazyList, SteppedLockFreeList};
 use lset_lazy::LazyList;
 use lset_live::{LiveSet, Running, RunningReads, Seat, open};
 use lset_lock_free::LockFreeList;
@@ -11,6 +10,7 @@ use std::cell::Cell;
 use std::process::Abort;
 use std::sync::Wait;
 use std::test::Fail;
+use stepped_lists::{SteppedLazyList, SteppedLockFreeList};
 
 /// Counts the steps that do not answer.
 #[derive(Drop)]

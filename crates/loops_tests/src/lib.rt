@@ -3,5 +3,3 @@
 
 #[cfg(test)]
 mod compared;
-#[cfg(test)]
-mod stepwise;
