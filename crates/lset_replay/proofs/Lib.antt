@@ -3,6 +3,7 @@ pub mod Ranks
 pub mod RankedPoints
 pub mod Pointed
 pub mod Telling
+pub mod ToldReports
 pub mod KeyChanges
 pub mod LeastFits
 pub mod Following

@@ -1,5 +1,5 @@
 -- The points that are made of the places are those of the run.
-use Rattle.std.proofs.Common.{◌≡◌, ℕ, zero, suc, ◌<◌, ◌≤◌, Bool, true, false, List, [], ◌∷◌, length, sym, refl, subst, ap, ◌∙◌, arith}
+use Rattle.std.proofs.Common.{◌≡◌, ℕ, zero, suc, ◌<◌, ◌≤◌, true, false, List, [], ◌∷◌, length, sym, refl, subst, ap, ◌∙◌, arith}
 use Rattle.std.specs.Prelude.{Option, Some, None, IsTrue, ◌↔◌}
 use Rattle.std.proofs.lemmas.List.{length-map}
 use Rattle.lset_words.specs.declared.Reply.{Reply}
@@ -7,12 +7,11 @@ use Rattle.lset_words.specs.declared.history.CallRecord.{CallRecord}
 use Rattle.lset_words.specs.declared.history.Placed.{Placed}
 use Rattle.lset_words.specs.declared.history.Point.{Point}
 use Rattle.lset_words.specs.Log.{Log, TracedCall, calls_at, history_at, record_of}
-use Rattle.lset_words.specs.Account.{Contents, Counts, Account, FitsSometime}
-use Rattle.lset_words.specs.Placement.{StandsAt, traced_at, no_traced}
-use Rattle.lset_words.specs.History.{call_numbered}
+use Rattle.lset_words.specs.Account.{Contents, Counts, Account}
+use Rattle.lset_words.specs.Placement.{traced_at, no_traced}
 use Rattle.lset_words.specs.Points.{place_numbered, point_numbered, call_placed, bar_end, LieInBars, IsPointOf, StandAsPlaced}
 use Rattle.lset_history.proofs.Lists.{all_at, get_or_mapped}
-use Rattle.lset_history.proofs.Calls.{Traced, ChangedBy, EndedBy, ReplyOf}
+use Rattle.lset_history.proofs.Calls.{Traced, ChangedBy, EndedBy}
 use Rattle.lset_history.proofs.CallSteps.{run_of, calls_of}
 use Rattle.lset_schedule.specs.Plan.{Plan}
 use Rattle.lset_steps.specs.declared.Event.{Event}
@@ -25,8 +24,8 @@ use Rattle.lset_replay.specs.declared.events.LineEvent.{LineEvent}
 use Rattle.lset_replay.specs.declared.places.Place.{Place}
 use Rattle.lset_replay.specs.declared.recorder.Recorder.{Recorder}
 use Rattle.lset_replay.specs.Events.{only_events, events_of}
-use Rattle.lset_replay.specs.Trace.{Trace, place_at, changed_at, trace_of}
-use Rattle.lset_replay.specs.Blocks.{ArePointsAt, point_of}
+use Rattle.lset_replay.specs.Trace.{Trace, place_at, trace_of}
+use Rattle.lset_replay.specs.Blocks.{ArePointsAt}
 use Rattle.lset_replay.specs.Follows.{HasFollowed}
 use Rattle.lset_replay.specs.PlacedReports.{ArePointsOf}
 use Rattle.lset_replay.proofs.EventLists.{as_many}

@@ -1,10 +1,9 @@
 -- From event to event of a trace: what the tracer tells of each is what the run has there.
-use Rattle.std.proofs.Common.{◌≡◌, ℕ, suc, ◌+◌, ◌<◌, ◌≤◌, ◌⊎◌, inl, inr, Bool, true, false, List, [], ◌∷◌, ◌++◌, length, map, set, get_or, sym, refl, subst, ap, ◌∙◌, arith, get_or-set_same}
+use Rattle.std.proofs.Common.{◌≡◌, ℕ, suc, ◌+◌, ◌<◌, ◌≤◌, ◌⊎◌, inl, inr, Bool, true, false, List, [], ◌∷◌, ◌++◌, length, map, sym, refl, subst, ap, ◌∙◌, arith, get_or-set_same}
 use Rattle.std.specs.Prelude.{Option, Some, None, IsSomeAnd}
 use Rattle.std.proofs.lemmas.List.{length_push, get_or_push, get_or_append_left}
-use Rattle.lset_words.specs.declared.Call.{Call}
 use Rattle.lset_words.specs.declared.Reply.{Reply}
-use Rattle.lset_words.specs.Log.{Log, Entry, Change, TracedCall, traced_on, calls_at, record_of}
+use Rattle.lset_words.specs.Log.{Log, Change, TracedCall, traced_on, calls_at, record_of}
 use Rattle.lset_words.specs.Log.Entry.{began, stepped}
 use Rattle.lset_words.specs.Account.{Account, Contents, Counts, Enters}
 use Rattle.lset_words.specs.Placement.{StandsAt, traced_at, no_traced}
@@ -14,10 +13,9 @@ use Rattle.lset_history.proofs.Lists.{get_or_mapped}
 use Rattle.lset_history.proofs.OpenCalls.{OpenNumber, open_number, last_number, length_stepped, step_sets}
 use Rattle.lset_steps.specs.declared.Event.{Event}
 use Rattle.lset_steps.specs.declared.Event.TheVariants.{Begin, Go}
-use Rattle.lset_steps.specs.declared.Told.{Told}
 use Rattle.lset_steps.specs.declared.world.ChainKey.{ChainKey}
 use Rattle.lset_steps.specs.declared.world.StepFault.{StepFault}
-use Rattle.lset_steps.specs.Steps.{Table, State, Run, Enabled, state_at, event_at, entry_of, log_of, told, local_of, seen_next}
+use Rattle.lset_steps.specs.Steps.{Table, Run, Enabled, state_at, event_at, entry_of, log_of, told, local_of, seen_next}
 use Rattle.lset_steps.specs.Chain.{contents_of, counts_of}
 use Rattle.lset_steps.specs.Laws.{Lawful, views, view_of}
 use Rattle.lset_steps.specs.Worlds.{WorldState, AreChainKeys, Refused, thread_of}
@@ -33,7 +31,6 @@ use Rattle.lset_replay.specs.declared.traced.Trace.{Trace}
 use Rattle.lset_replay.specs.declared.traced.TracedEvent.{TracedEvent}
 use Rattle.lset_schedule.specs.Plan.{Plan}
 use Rattle.lset_replay.specs.Events.{only_events, events_of, line_at}
-use Rattle.lset_replay.specs.Reports.{IsFirstRefused}
 use Rattle.lset_replay.specs.Trace.{trace_of, MayFollow, open_call_at, place_at, changed_at}
 use Rattle.lset_replay.specs.Follows.{HasFollowed}
 use Rattle.lset_replay.specs.Tracing.{IsDeedAt, EndsCall, TellsEnd, TellsChain, TellsEvent, TellsEvents, IsTraceOf}

@@ -7,6 +7,7 @@ pub mod Blocks
 pub mod Follows
 pub mod Tracing
 pub mod Tracer
+pub mod TracedReports
 pub mod ReportReading
 pub mod ReportCalls
 pub mod ReportReader

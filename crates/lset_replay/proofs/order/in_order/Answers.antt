@@ -6,7 +6,7 @@ use Rattle.lset_words.specs.declared.history.Placed.{Placed}
 use Rattle.lset_words.specs.declared.history.Point.{Point}
 use Rattle.lset_words.specs.declared.Reply.TheVariants.{False}
 use Rattle.lset_replay.specs.declared.order.Ranked.{Ranked}
-use Rattle.lset_replay.specs.Blocks.{blocks_upto, StandUpTo, ranked_from, ArePointsAt}
+use Rattle.lset_replay.specs.Blocks.{ranked_from, ArePointsAt}
 use Rattle.lset_replay.proofs.Ranks.{placed_in, is_earlier, of_rank, ranks_stay, block_after_block, sorted_upto}
 use Rattle.lset_replay.proofs.RankedPoints.{points_in, sorted_ranked, points_are}
 use Rattle.lset_replay.proofs.order.in_order.Goals as goal

@@ -1,9 +1,9 @@
-use Rattle.std.proofs.Common.{rules, ◌≡◌, List, refl, ap, ◌∙◌}
+use Rattle.std.proofs.Common.{rules, List, refl, ap, ◌∙◌}
 use Rattle.lset_words.specs.Words.{Sizes}
 use Rattle.lset_steps.specs.Worlds.{WorldState}
 use Rattle.lset_schedule.specs.declared.value.Line.{Line}
 use Rattle.lset_schedule.specs.Plan.{view}
-use Rattle.lset_replay.specs.Events.{events_from, events_of}
+use Rattle.lset_replay.specs.Events.{events_from}
 use Rattle.lset_replay.specs.Follows.{HasFollowed}
 use Rattle.lset_replay.proofs.Telling.{traced_none, trace_is}
 use Rattle.lset_replay.proofs.tracing.trace_on.Goals as goal
