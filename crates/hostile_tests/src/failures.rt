@@ -1,6 +1,7 @@
 ghost use Rattle.std.specs.Prelude.{◌<◌};
 
 use super::devices::{Failure, Plan, Reader, WHOLE, Writer};
+use lset_examples::{Example, tool_example};
 use lset_tools::{tool_check, tool_gen, tool_replay};
 use std::alloc::{AllocError, Global};
 use std::test::Fail;
@@ -29,6 +30,8 @@ enum Tool {
     Check,
     /// With this KIND, and with numbers that are right.
     Gen(&'static str),
+    /// Of this name.
+    Example(&'static str),
 }
 
 /// A run of a tool whose devices do not fail.
@@ -57,7 +60,7 @@ fn row_of(
     }
 }
 
-fn rows() -> [Row; 7] {
+fn rows() -> [Row; 9] {
     [
         row_of(Tool::Replay, SCHEDULE, 0, REPORT, ""),
         row_of(Tool::Replay, REPORT, 1, "", NO_TITLE),
@@ -66,6 +69,14 @@ fn rows() -> [Row; 7] {
         row_of(Tool::Check, SCHEDULE, 1, "", NO_TITLE),
         row_of(Tool::Gen("coarse"), "", 0, NO_CALLS, ""),
         row_of(Tool::Gen("skip"), "", 2, "", "listset: bad KIND\n"),
+        row_of(
+            Tool::Example("full"),
+            "",
+            0,
+            Example::Full.schedule_text(),
+            "",
+        ),
+        row_of(Tool::Example("snap"), "", 2, "", "listset: bad NAME\n"),
     ]
 }
 
@@ -116,6 +127,7 @@ fn ran(alloc: Global, row: Row, plans: [Plan; 3]) -> Result<Run, AllocError> {
             let values = gen_values(alloc, kind)?;
             tool_gen(alloc, &values, &mut output, &mut faults)
         }
+        Tool::Example(name) => { tool_example(alloc, false, Some(name), &mut output, &mut faults) }
     };
     Ok(Run {
         status,
@@ -130,7 +142,7 @@ fn reads(row: Row, most: usize) -> usize
     requires { 0 < most }
 {
     match row.tool {
-        Tool::Gen(_) => 0,
+        Tool::Gen(_) | Tool::Example(_) => 0,
         _ => row.input.len().div_ceil(most).saturating_add(1),
     }
 }

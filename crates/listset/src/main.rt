@@ -1,4 +1,4 @@
-//! Replays, checks and generates recorded schedules of concurrent list sets, and runs and serves such sets.
+//! Replays, checks, draws and generates recorded schedules of concurrent list sets, and runs and serves such sets.
 #![tactic(auto)]
 
 use lset_dispatch::run_words;

@@ -8,7 +8,7 @@ use Rattle.clap.specs.declared.error.Error.{Error}
 use Rattle.clap.specs.declared.parser.matches.ArgMatches.{ArgMatches}
 use Rattle.clap.specs.declared.parser.matches.ArgMatches.TheViews.{out-ArgMatches, out-SubCommand}
 use Rattle.clap.specs.declared.parser.matches.SubCommand.{SubCommand}
-use Rattle.lset_command.specs.CommandLine.{choice_of, command_named, listset, values_in}
+use Rattle.lset_command.specs.CommandLine.{Choice, OptionValues, choice_of, command_named, listset, options_in, values_in}
 use Rattle.lset_command.specs.declared.words.Command.{Command}
 use Rattle.lset_command.specs.declared.words.Command.TheVariants.{Replay}
 use Rattle.lset_command.specs.declared.words.Words.{Words}
@@ -18,6 +18,9 @@ is_simple-listset = refl
 
 is_simple_and_free-listset : is_simple_and_free listset ≡ true
 is_simple_and_free-listset = refl
+
+abbrev pub chosen : Command → List Text → OptionValues → Choice
+chosen command values options = record { command = command; values = values; options = options }
 
 -- what clap says of a command that is the program
 pub program_matches : (m : ArgMatches) (a : App) (words : List Text) → a ≡ listset → HasMatchesOf a words m → subcommand_rows_of m ≡ subcommand_of listset words
@@ -43,13 +46,14 @@ one_command m found name rows = go (out-ArgMatches m).subcommand
     go None named with_rows is = absurd cc
     go (Some b) named with_rows is = cc
 
-pub chosen_command : (command : Command) (name : Text) (values : List Text) (rows : List Row) (found : Option (Text × List Row)) → found ≡ Some (name, rows)
-    → command ≡ command_named name → values ≡ values_in rows → (command, values) ≡ choice_of found
-chosen_command command name values rows found is named all =
-    ap (λ n. (n, values)) named ∙ ap (λ v. (command_named name, v)) all ∙ sym (ap choice_of is)
+pub chosen_command : (command : Command) (name : Text) (values : List Text) (options : OptionValues) (rows : List Row) (found : Option (Text × List Row)) → found ≡ Some (name, rows)
+    → command ≡ command_named name → values ≡ values_in rows → options ≡ options_in rows
+    → chosen command values options ≡ choice_of found
+chosen_command command name values options rows found is named all flags =
+    ap (λ n. chosen n values options) named ∙ ap (λ v. chosen (command_named name) v options) all ∙ ap (chosen (command_named name) (values_in rows)) flags ∙ sym (ap choice_of is)
 
-pub chosen_replay : (values : List Text) (found : Option (Text × List Row)) → found ≡ None → values ≡ [] → (Replay, values) ≡ choice_of found
-chosen_replay values found is empty = ap (λ v. (Replay, v)) empty ∙ sym (ap choice_of is)
+pub chosen_replay : (values : List Text) (options : OptionValues) (found : Option (Text × List Row)) → found ≡ None → values ≡ [] → options ≡ options_in [] → chosen Replay values options ≡ choice_of found
+chosen_replay values options found is empty none = ap (λ v. chosen Replay v options) empty ∙ ap (chosen Replay []) none ∙ sym (ap choice_of is)
 
 -- the same error, handed on
 pub fails_as : (kinds : Kinds) (r : Result Words Error) (e : Error) → IsErrAnd r (λ given. given ≡ e) → HasKind kinds e → FailsBy kinds r

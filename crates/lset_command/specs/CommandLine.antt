@@ -1,18 +1,45 @@
 -- The words that the program takes: its commands and their values, as a simple command of clap, whose
 -- definitions say which values the words give.
-use Rattle.std.specs.Prelude.{List, [], map, codes, Option, Some, None, true, unwrap_or, slice_get, string_bytes, if◌then◌else◌}
+use Rattle.std.specs.Prelude.{List, [], map, codes, Bool, true, false, ◌||◌, Option, Some, None, option_map, unwrap_or, slice_get, string_bytes, if◌then◌else◌}
 use Rattle.std.specs.List.{flat_map}
+use Rattle.std.specs.Option.{option_map_or}
 use Rattle.std.specs.Str.{bytes_eq}
 use Rattle.clap.specs.Lexer.{usize_max}
-use Rattle.clap.specs.Words.{App, Row, Rule, Text, all_of, new_app, new_rule, with_rule, with_subcommand}
+use Rattle.clap.specs.Words.{App, Row, Rule, Text, all_of, first_of, new_app, new_rule, with_rule, with_subcommand}
 use Rattle.clap.specs.Simple.{on_top}
+use Rattle.clap.specs.declared.builder.action.ArgAction.TheVariants.{SetTrue}
 use Rattle.lset_command.specs.declared.words.Command.{Command}
-use Rattle.lset_command.specs.declared.words.Command.TheVariants.{Replay, Check, Gen, Run, Serve}
+use Rattle.lset_command.specs.declared.words.Command.TheVariants.{Replay, Check, Show, Trace, Example, Gen, Run, Serve}
+use Rattle.lset_command.specs.declared.words.Options.{Options}
 use Rattle.lset_command.specs.declared.words.Words.{Words}
+
+-- a flag, `--NAME`
+abbrev pub flag_rule : Text → Rule
+flag_rule name = record (new_rule name) { long = Some name; action = Some SetTrue }
+
+-- an option of one value, `--NAME M`
+abbrev pub option_rule : Text → Rule
+option_rule name = record (new_rule name) { long = Some name; value_names = 1 }
 
 -- `replay [FILE]` and `check [FILE]`
 abbrev pub file_app : Text → App
 file_app name = with_rule (new_app name) (new_rule (codes "FILE"))
+
+-- `show [--svg] [--from M] [--to M] [FILE]`
+abbrev pub show_app : App
+show_app =
+    with_rule (with_rule (with_rule (file_app (codes "show"))
+    (flag_rule (codes "svg")))
+    (option_rule (codes "from")))
+    (option_rule (codes "to"))
+
+-- `trace [--chain] [FILE]`
+abbrev pub trace_app : App
+trace_app = with_rule (file_app (codes "trace")) (flag_rule (codes "chain"))
+
+-- `example [--broken] [NAME]`
+abbrev pub example_app : App
+example_app = with_rule (with_rule (new_app (codes "example")) (new_rule (codes "NAME"))) (flag_rule (codes "broken"))
 
 -- any number of values, which stand past the last that is looked at
 abbrev pub rule_past_the_last : Rule
@@ -44,49 +71,103 @@ serve_app =
 -- the program; the words begin after its name
 abbrev pub listset : App
 listset =
-    with_subcommand (with_subcommand (with_subcommand (with_subcommand (with_subcommand (on_top (λ s. record s { no_binary_name = true }) (new_app (codes "listset")))
+    with_subcommand (with_subcommand (with_subcommand (with_subcommand
+    (with_subcommand (with_subcommand (with_subcommand (with_subcommand (on_top (λ s. record s { no_binary_name = true }) (new_app (codes "listset")))
     (file_app (codes "replay")).top)
     (file_app (codes "check")).top)
+    show_app.top)
+    trace_app.top)
+    example_app.top)
     (random_app (codes "gen")).top)
     (random_app (codes "run")).top)
     serve_app.top
 
--- the texts of a name among the rows that a parse found
+-- ---- what a parse of the words found
+
+-- the name of a flag or of an option; each other name is that of values
+abbrev pub is_option : Text → Bool
+is_option name = bytes_eq name (codes "svg") || (bytes_eq name (codes "from") || (bytes_eq name (codes "to")
+    || (bytes_eq name (codes "chain") || bytes_eq name (codes "broken"))))
+
+-- the values of a name among the rows that a parse found
 abbrev pub values_by : Text → List Row → List Text
-values_by name rows = unwrap_or (all_of name rows) []
+values_by name rows = if is_option name then [] else unwrap_or (all_of name rows) []
 
 -- the values of a command, in order
 abbrev pub values_in : List Row → List Text
 values_in rows = flat_map (λ row. values_by row.id rows) rows
 
+-- whether the flag of a name is on; clap gives it the text `true` or `false`
+abbrev pub is_on : Text → List Row → Bool
+is_on name rows = option_map_or (λ text. bytes_eq text (codes "true")) (first_of name rows) false
+
+-- the flags that are on, and the texts of the options, where they are given
+pub record OptionValues : Type 0 where
+  pub svg : Bool
+  pub from : Option Text
+  pub to : Option Text
+  pub chain : Bool
+  pub broken : Bool
+
+abbrev pub options_in : List Row → OptionValues
+options_in rows = record {
+  svg = is_on (codes "svg") rows;
+  from = first_of (codes "from") rows;
+  to = first_of (codes "to") rows;
+  chain = is_on (codes "chain") rows;
+  broken = is_on (codes "broken") rows;
+}
+
 -- the command of a name; a parse of the program's words finds the names of `listset` alone
 unfoldable pub command_named : Text → Command
 command_named name =
     if bytes_eq name (codes "check") then Check
+    else (if bytes_eq name (codes "show") then Show
+    else (if bytes_eq name (codes "trace") then Trace
+    else (if bytes_eq name (codes "example") then Example
     else (if bytes_eq name (codes "gen") then Gen
     else (if bytes_eq name (codes "run") then Run
     else (if bytes_eq name (codes "serve") then Serve
-    else Replay)))
+    else Replay))))))
 
--- a command and its values
-abbrev pub Choice : Type 0
-Choice = Command × List Text
+-- a command with its values, its flags and its options
+pub record Choice : Type 0 where
+  pub command : Command
+  pub values : List Text
+  pub options : OptionValues
 
 -- what a parse of the words has found; where the words name no command, it is `replay`
 abbrev pub choice_of : Option (Text × List Row) → Choice
-choice_of None = (Replay, [])
-choice_of (Some found) = (command_named found.0, values_in found.1)
+choice_of None = record { command = Replay; values = []; options = options_in [] }
+choice_of (Some found) = record { command = command_named found.0; values = values_in found.1; options = options_in found.1 }
+
+-- ---- the words as the program has them
+
+abbrev pub options_of : Options → OptionValues
+options_of o = record {
+  svg = o.svg;
+  from = option_map string_bytes o.from;
+  to = option_map string_bytes o.to;
+  chain = o.chain;
+  broken = o.broken;
+}
 
 abbrev pub choice_in : Words → Choice
-choice_in w = (w.command, map string_bytes w.values.items)
+choice_in w = record { command = w.command; values = map string_bytes w.values.items; options = options_of w.options }
 
--- the path of the file that a command reads: its first value, if it has one; `gen`, `run` and `serve` read none
-abbrev pub file_by : Command → List Text → Option Text
-file_by Replay values = slice_get values 0
-file_by Check values = slice_get values 0
-file_by Gen values = None
-file_by Run values = None
-file_by Serve values = None
+abbrev pub first_value : Choice → Option Text
+first_value choice = slice_get choice.values 0
+
+-- the path of the file that a command reads: its first value, if it has one; the commands that take no file read none
+abbrev pub file_by : Command → Option Text → Option Text
+file_by Replay first = first
+file_by Check first = first
+file_by Show first = first
+file_by Trace first = first
+file_by Example first = None
+file_by Gen first = None
+file_by Run first = None
+file_by Serve first = None
 
 abbrev pub file_of : Choice → Option Text
-file_of choice = file_by choice.0 choice.1
+file_of choice = file_by choice.command (first_value choice)

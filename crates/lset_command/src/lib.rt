@@ -1,6 +1,6 @@
-//! The words of the program's command line: which command they name, and its values.
+//! The words of the program's command line: which command they name, its values, its flags and its options.
 #![tactic(auto)]
 
 mod words;
 
-pub use words::{Command, Words, is_out_of_memory, tool_words};
+pub use words::{Command, Options, Words, is_out_of_memory, tool_words};

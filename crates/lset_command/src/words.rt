@@ -1,14 +1,15 @@
-ghost use Rattle.std.specs.Prelude.{◌≡◌, ◌++◌, ◌↔◌, IfOk, IsTrue, OnOk, codes, false, map, option_map, string_bytes};
+ghost use Rattle.std.specs.Prelude.{◌≡◌, ◌++◌, ◌↔◌, [], IfOk, IsTrue, OnOk, codes, false, map, option_map, string_bytes};
 ghost use Rattle.clap.specs.Words.{FailsBy, app_of, fault_of, found_of, kind_of, new_rule};
 ghost use Rattle.clap.specs.Words.{rows_of, rule_of, subcommand_of};
-ghost use Rattle.clap.specs.Walk.{texts};
+ghost use Rattle.clap.specs.Walk.{first_of, texts};
 ghost use Rattle.clap.specs.declared.Command.TheViews.{out-Command};
 ghost use Rattle.clap.specs.declared.error.kind.ErrorKind.TheVariants.{OutOfMemory};
-ghost use Rattle.lset_command.specs.CommandLine.{choice_in, choice_of, command_named, file_app, file_of, random_app, serve_app};
-ghost use Rattle.lset_command.specs.CommandLine.{listset, rule_past_the_last, values_by, values_in};
+ghost use Rattle.lset_command.specs.CommandLine.{choice_in, choice_of, command_named, file_app, file_of, first_value, random_app, serve_app};
+ghost use Rattle.lset_command.specs.CommandLine.{example_app, flag_rule, option_rule, show_app, trace_app};
+ghost use Rattle.lset_command.specs.CommandLine.{is_on, is_option, listset, options_in, options_of, rule_past_the_last, values_by, values_in};
 
 use clap::error::ErrorKind;
-use clap::{Arg, ArgMatches, Error};
+use clap::{Arg, ArgAction, ArgMatches, Error};
 use std::alloc::{AllocError, Global};
 
 const KIND_HELP: &str = "The list: coarse, fine, optimistic, lazy or lock-free";
@@ -20,6 +21,12 @@ pub enum Command {
     Replay,
     /// Checks the order of a report.
     Check,
+    /// Draws a schedule or a report.
+    Show,
+    /// Tells what each step of a schedule did.
+    Trace,
+    /// Prints a classic schedule.
+    Example,
     /// Generates a schedule.
     Gen,
     /// Runs random programs on threads.
@@ -28,22 +35,45 @@ pub enum Command {
     Serve,
 }
 
-/// A command, with its values in order as they are written.
+/// The flags that are on, and the options as they are written. Those that a command does not have are off, and `None`.
+#[derive(Debug, Drop)]
+pub struct Options {
+    /// `show` draws an SVG.
+    pub svg: bool,
+    /// The first moment that `show` draws.
+    pub from: Option<String>,
+    /// The last moment that `show` draws.
+    pub to: Option<String>,
+    /// `trace` tells the chain.
+    pub chain: bool,
+    /// `example` prints the report of a broken list.
+    pub broken: bool,
+}
+
+/// A command, with its values in order as they are written, its flags and its options.
 #[derive(Debug, Drop)]
 pub struct Words {
     pub command: Command,
     pub values: Vec<String>,
+    pub options: Options,
 }
 
 impl Words {
-    /// The path of the file that the command reads, where the words name one. Without one `replay` and `check`
-    /// read the standard input; the others read nothing.
+    /// The first of the values, if there is one.
+    pub fn first_value(&self) -> Option<&str>
+        ensures { option_map (λ value. value.now) result ≡ first_value (choice_in self.now) }
+    {
+        Some(self.values.first()?.as_str())
+    }
+
+    /// The path of the file that the command reads, where the words name one. Without one `replay`, `check`, `show`
+    /// and `trace` read the standard input; the others read nothing.
     pub fn file(&self) -> Option<&str>
         ensures { option_map (λ path. path.now) result ≡ file_of (choice_in self.now) }
     {
         match self.command {
-            Command::Replay | Command::Check => Some(self.values.first()?.as_str()),
-            Command::Gen | Command::Run | Command::Serve => None,
+            Command::Replay | Command::Check | Command::Show | Command::Trace => self.first_value(),
+            Command::Example | Command::Gen | Command::Run | Command::Serve => None,
         }
     }
 }
@@ -54,6 +84,24 @@ fn value<'a>(alloc: Global, name: &'a str, help: &'a str) -> Arg<'a>
     ensures local { result.global ≡ false }
 {
     Arg::new(alloc, name).help(help)
+}
+
+fn flag<'a>(alloc: Global, name: &'a str, help: &'a str) -> Arg<'a>
+    ensures rule { rule_of result ≡ flag_rule name.entry.now }
+    ensures local { result.global ≡ false }
+{
+    Arg::new(alloc, name)
+        .long(name)
+        .action(ArgAction::SetTrue)
+        .help(help)
+}
+
+// An option whose value is a moment.
+fn moment_option<'a>(alloc: Global, name: &'a str, help: &'a str) -> Arg<'a>
+    ensures rule { rule_of result ≡ option_rule name.entry.now }
+    ensures local { result.global ≡ false }
+{
+    Arg::new(alloc, name).long(name).value_name("M").help(help)
 }
 
 // Any number of values past the last, of which help says nothing.
@@ -76,6 +124,64 @@ fn file_command<'a>(
     clap::Command::new(alloc, name)
         .about(about)
         .arg(value(alloc, "FILE", file_help))
+}
+
+fn show_command<'a>(alloc: Global) -> Result<clap::Command<'a>, AllocError>
+    ensures app { IfOk result (λ c. app_of c ≡ show_app) }
+    ensures local { IfOk result (λ c. (out-Command c).has_globals ≡ false) }
+{
+    file_command(
+        alloc,
+        "show",
+        "Draws the history of a schedule or a report: a bar for each call, with the point at which it takes effect",
+        "The schedule or report; standard input where it is left out",
+    )?
+    .arg(flag(alloc, "svg", "Draws an SVG in place of text"))?
+    .arg(moment_option(
+        alloc,
+        "from",
+        "The first moment to draw: 1 to 4294967295; 1 where it is left out",
+    ))?
+    .arg(moment_option(
+        alloc,
+        "to",
+        "The last moment to draw: the first or a later one; 4294967295 where it is left out",
+    ))
+}
+
+fn trace_command<'a>(alloc: Global) -> Result<clap::Command<'a>, AllocError>
+    ensures app { IfOk result (λ c. app_of c ≡ trace_app) }
+    ensures local { IfOk result (λ c. (out-Command c).has_globals ≡ false) }
+{
+    file_command(
+        alloc,
+        "trace",
+        "Tells what each step of a schedule did: the word, what was seen, and what changed",
+        "The schedule; standard input where it is left out",
+    )?
+    .arg(flag(
+        alloc,
+        "chain",
+        "Tells the chain after each step that changed it",
+    ))
+}
+
+fn example_command<'a>(alloc: Global) -> Result<clap::Command<'a>, AllocError>
+    ensures app { IfOk result (λ c. app_of c ≡ example_app) }
+    ensures local { IfOk result (λ c. (out-Command c).has_globals ≡ false) }
+{
+    clap::Command::new(alloc, "example")
+        .about("Prints a classic schedule, or the list of their names")
+        .arg(value(
+            alloc,
+            "NAME",
+            "The name of the schedule; the list of names where it is left out",
+        ))?
+        .arg(flag(
+            alloc,
+            "broken",
+            "Prints the report that a broken list would give, where the example has one",
+        ))
 }
 
 // The usage is written out, since `clap` would set each value in brackets: it lets values be missing, and the
@@ -173,35 +279,57 @@ fn run_command<'a>(alloc: Global) -> Result<clap::Command<'a>, AllocError>
     )
 }
 
-fn program_command<'a>(alloc: Global) -> Result<clap::Command<'a>, AllocError>
-    ensures { IfOk result (λ c. app_of c ≡ listset) }
+fn replay_command<'a>(alloc: Global) -> Result<clap::Command<'a>, AllocError>
+    ensures app { IfOk result (λ c. app_of c ≡ file_app (codes "replay")) }
+    ensures local { IfOk result (λ c. (out-Command c).has_globals ≡ false) }
 {
-    let replay = file_command(
+    file_command(
         alloc,
         "replay",
         "Replays a schedule of atomic steps and prints a report (the command where none is given)",
         "The schedule; standard input where it is left out",
-    )?;
-    let check = file_command(
+    )
+}
+
+fn check_command<'a>(alloc: Global) -> Result<clap::Command<'a>, AllocError>
+    ensures app { IfOk result (λ c. app_of c ≡ file_app (codes "check")) }
+    ensures local { IfOk result (λ c. (out-Command c).has_globals ≡ false) }
+{
+    file_command(
         alloc,
         "check",
         "Checks that the order in a report explains its calls and its keys",
         "The report; standard input where it is left out",
-    )?;
+    )
+}
+
+fn program_command<'a>(alloc: Global) -> Result<clap::Command<'a>, AllocError>
+    ensures { IfOk result (λ c. app_of c ≡ listset) }
+{
     clap::Command::new(alloc, "listset")
         .about(
-            "Replays, checks and generates recorded schedules of concurrent list sets, and runs and serves such sets",
+            "Replays, checks, draws and generates recorded schedules of concurrent list sets, and runs and serves such sets",
         )
         .no_binary_name(true)
         .bin_name("listset")?
-        .subcommand(replay)?
-        .subcommand(check)?
+        .subcommand(replay_command(alloc)?)?
+        .subcommand(check_command(alloc)?)?
+        .subcommand(show_command(alloc)?)?
+        .subcommand(trace_command(alloc)?)?
+        .subcommand(example_command(alloc)?)?
         .subcommand(gen_command(alloc)?)?
         .subcommand(run_command(alloc)?)?
         .subcommand(serve_command(alloc)?)
 }
 
-// Adds the texts that `found` has by the name, of which there may be none.
+// Whether the name is that of a flag or of an option.
+fn is_option(name: &str) -> bool
+    ensures { result ≡ is_option name.now }
+{
+    name == "svg" || name == "from" || name == "to" || name == "chain" || name == "broken"
+}
+
+// Adds the texts that `found` has by the name, if it is that of values. There may be none.
 fn push_values(
     alloc: Global,
     values: &mut Vec<String>,
@@ -211,6 +339,9 @@ fn push_values(
     ensures { OnOk result (map string_bytes values.new.items
         ≡ map string_bytes values.old.items ++ values_by name.now (rows_of (found_of found.now))) }
 {
+    if is_option(name) {
+        return Ok(());
+    }
     let Some(texts) = found.get_strs(name) else {
         return Ok(());
     };
@@ -230,6 +361,55 @@ fn values_of(alloc: Global, found: &ArgMatches<'_>) -> Result<Vec<String>, Alloc
     Ok(values)
 }
 
+// Whether the flag of the name is on.
+fn is_on(found: &ArgMatches<'_>, name: &str) -> bool
+    ensures { result ≡ is_on name.now (rows_of (found_of found.now)) }
+{
+    match found.get_str(name) {
+        Some(text) => text == "true",
+        None => false,
+    }
+}
+
+// The text of the option of the name, if it is given.
+fn option_text(
+    alloc: Global,
+    found: &ArgMatches<'_>,
+    name: &str,
+) -> Result<Option<String>, AllocError>
+    ensures { IfOk result (λ text. option_map string_bytes text ≡ first_of name.now (rows_of (found_of found.now))) }
+{
+    match found.get_str(name) {
+        Some(text) => Ok(Some(String::from_str(alloc, text)?)),
+        None => Ok(None),
+    }
+}
+
+fn options_of(alloc: Global, found: &ArgMatches<'_>) -> Result<Options, AllocError>
+    ensures { IfOk result (λ o. options_of o ≡ options_in (rows_of (found_of found.now))) }
+{
+    Ok(Options {
+        svg: is_on(found, "svg"),
+        from: option_text(alloc, found, "from")?,
+        to: option_text(alloc, found, "to")?,
+        chain: is_on(found, "chain"),
+        broken: is_on(found, "broken"),
+    })
+}
+
+// No flag and no option.
+fn no_options() -> Options
+    ensures { options_of result ≡ options_in [] }
+{
+    Options {
+        svg: false,
+        from: None,
+        to: None,
+        chain: false,
+        broken: false,
+    }
+}
+
 // The command of a name among those that `program_command` lists.
 #[tactic(auto, unfolding(crate::specs::CommandLine::command_named))]
 fn command_named(name: &str) -> Command
@@ -237,6 +417,12 @@ fn command_named(name: &str) -> Command
 {
     if name == "check" {
         Command::Check
+    } else if name == "show" {
+        Command::Show
+    } else if name == "trace" {
+        Command::Trace
+    } else if name == "example" {
+        Command::Example
     } else if name == "gen" {
         Command::Gen
     } else if name == "run" {
@@ -249,9 +435,10 @@ fn command_named(name: &str) -> Command
 }
 
 /// Reads the words that stand after the program's name, by `clap`: `replay [FILE]`, `check [FILE]`,
+/// `show [--svg] [--from M] [--to M] [FILE]`, `trace [--chain] [FILE]`, `example [--broken] [NAME]`,
 /// `gen KIND THREADS QUOTA CALLS KEYS SEED`, `run` with the same values, or `serve KIND SEATS QUOTA PORT SESSIONS`.
-/// Values come as they are written; some or all may be missing, and `gen`, `run` and `serve` may have more. No
-/// word at all gives `replay` without values. A value that begins with `-` needs a word `--` before it.
+/// Values and options come as they are written; some or all may be missing, and `gen`, `run` and `serve` may have
+/// more values. No word at all gives `replay` without values. A value that begins with `-` needs a word `--` before it.
 ///
 /// The error has the text for the user: the help, where words ask for it (`exit_code` 0), or what is wrong
 /// with the words (`exit_code` 2). It may also say that memory was refused: `is_out_of_memory`.
@@ -265,11 +452,17 @@ pub fn tool_words<'a>(alloc: Global, words: &'a [&'a str]) -> Result<Words, Erro
         return Ok(Words {
             command: Command::Replay,
             values: Vec::new(alloc),
+            options: no_options(),
         });
     };
     let values = values_of(alloc, found)?;
+    let options = options_of(alloc, found)?;
     let command = command_named(name);
-    Ok(Words { command, values })
+    Ok(Words {
+        command,
+        values,
+        options,
+    })
 }
 
 /// Whether memory was refused while the words were read.

@@ -1,14 +1,16 @@
 -- How the program ends, from how what was made was delivered.
-use Rattle.std.proofs.Common.{◌≡◌, ℕ, List, Option, Some, None, Err, refl, subst, sym, inl, inr}
+use Rattle.std.proofs.Common.{◌≡◌, ℕ, List, Option, Some, None, Err, refl, ap, ◌∙◌, subst, sym, inl, inr}
 use Rattle.std.specs.Prelude.{◌≢◌}
 use Rattle.clap.specs.declared.error.kind.ErrorKind.{ErrorKind}
 use Rattle.clap.specs.declared.error.kind.ErrorKind.TheVariants as kind
 use Rattle.clap.specs.Words.{Text}
-use Rattle.lset_command.specs.CommandLine.{Choice, file_of}
+use Rattle.lset_command.specs.CommandLine.{Choice, OptionValues, file_of}
 use Rattle.lset_command.specs.declared.words.Command.{Command}
-use Rattle.lset_tools.specs.declared.trouble.Trouble.TheVariants.{CannotRead}
+use Rattle.lset_tools.specs.declared.trouble.ValueName.{ValueName}
+use Rattle.lset_tools.specs.declared.trouble.Trouble.TheVariants.{CannotRead, Bad}
+use Rattle.lset_tools.specs.Moments.{moments_of}
 use Rattle.lset_tools.specs.Tools.{Made, Outcome, Delivers, AppendsFront, Ends, line_of, status_of}
-use Rattle.lset_dispatch.specs.Dispatch.{CommandEnds, Does, DoesOn, DoesOnInput, IsHelp}
+use Rattle.lset_dispatch.specs.Dispatch.{CommandEnds, Does, DoesBy, DoesOn, DoesOnInput, IsHelp, ShowsBy, ShowsWithin}
 
 pub ends_with : (output_old output_new faults_old faults_new : Option (List ℕ)) (status : ℕ) (IsMade : Made → Type 0) (made : Made) → IsMade made
     → (outcome : Outcome) × Delivers made output_old output_new outcome × AppendsFront faults_old faults_new (line_of outcome) × (status ≡ status_of outcome)
@@ -21,13 +23,19 @@ pub at_once : (IsMade : Made → Type 0) (output_old output_new faults_old fault
 at_once IsMade output_old output_new faults_old faults_new status (made, outcome, is, delivered, told, ended) =
     (output_old, (made, outcome, (refl, is), delivered, told, ended))
 
+-- the same of equal arguments
+pub with_argument : {A : Type 0} (IsMade : A → Made → Type 0) (output_old output_new faults_old faults_new : Option (List ℕ)) (status : ℕ) (given argument : A) → given ≡ argument
+    → Ends (IsMade given) output_old output_new faults_old faults_new status → Ends (IsMade argument) output_old output_new faults_old faults_new status
+with_argument IsMade output_old output_new faults_old faults_new status given argument same ends =
+    subst (λ a. Ends (IsMade a) output_old output_new faults_old faults_new status) same ends
+
 -- a tool's ending, where the words name the tool's command and have its values
-pub at_command : (input output_old output_new faults_old faults_new : Option (List ℕ)) (status : ℕ) (known command : Command) (given values : List Text) → command ≡ known
-    → given ≡ values → CommandEnds (Does (known, given) input) output_old output_new faults_old faults_new status
-    → CommandEnds (Does (command, values) input) output_old output_new faults_old faults_new status
-at_command input output_old output_new faults_old faults_new status known command given values is same ends =
-    subst (λ v. CommandEnds (Does (command, v) input) output_old output_new faults_old faults_new status) same
-    (subst (λ c. CommandEnds (Does (c, given) input) output_old output_new faults_old faults_new status) (sym is) ends)
+pub at_command : (input output_old output_new faults_old faults_new : Option (List ℕ)) (status : ℕ) (known command : Command) (given values : List Text) (options : OptionValues)
+    → command ≡ known → given ≡ values → CommandEnds (DoesBy known given options input) output_old output_new faults_old faults_new status
+    → CommandEnds (DoesBy command values options input) output_old output_new faults_old faults_new status
+at_command input output_old output_new faults_old faults_new status known command given values options is same ends =
+    subst (λ v. CommandEnds (DoesBy command v options input) output_old output_new faults_old faults_new status) same
+    (subst (λ c. CommandEnds (DoesBy c given options input) output_old output_new faults_old faults_new status) (sym is) ends)
 
 pub with_choice : (IsFile : Option (List ℕ) → Type 0) (input output_old output_new faults_old faults_new : Option (List ℕ)) (status : ℕ) (a b : Choice) → a ≡ b
     → CommandEnds (DoesOnInput a IsFile input) output_old output_new faults_old faults_new status → CommandEnds (DoesOnInput b IsFile input) output_old output_new faults_old faults_new status
@@ -51,6 +59,12 @@ on_file IsFile input bytes output_old output_new faults_old faults_new status ch
 pub not_opened : (IsFile : Option (List ℕ) → Type 0) (input old : Option (List ℕ)) (choice : Choice) (path : Text) → Some path ≡ file_of choice
     → DoesOnInput choice IsFile input old old (Err CannotRead)
 not_opened IsFile input old choice path named = subst (λ file. DoesOn file choice IsFile input old old (Err CannotRead)) named (inl (refl, refl))
+
+-- a wrong option of `show` is named
+pub wrong_moment : (options : OptionValues) (input : Option (List ℕ)) (from to : Option Text) (wrong : ValueName) → from ≡ options.from → to ≡ options.to
+    → Err wrong ≡ moments_of from to → ShowsBy options input (Err (Bad wrong))
+wrong_moment options input from to wrong first last is =
+    subst (λ m. ShowsWithin options.svg m input (Err (Bad wrong))) (is ∙ ap (λ f. moments_of f to) first ∙ ap (moments_of options.from) last) refl
 
 -- what goes to the output asks for help
 pub is_help : (k : ErrorKind) → ¬ ((k ≢ kind.DisplayHelp) × (k ≢ kind.DisplayVersion)) → IsHelp k

@@ -1,34 +1,51 @@
 -- [Tools]: which tool does the command that the words ask for, and how the program ends where the words are not taken.
-use Rattle.std.specs.Prelude.{◌≡◌, ◌≢◌, ℕ, ◌⊎◌, List, [], Option, Some, None, IfSome, Ok, Err}
+use Rattle.std.specs.Prelude.{◌≡◌, ◌≢◌, ℕ, ◌⊎◌, Bool, List, [], slice_get, Option, Some, None, IfSome, Result, Ok, Err}
 use Rattle.std.specs.Io.KnownBytes.{Keeps}
 use Rattle.clap.specs.Words.{Text, fault_of, kind_of, subcommand_of, HasKind}
 use Rattle.clap.specs.declared.error.Error.{Error}
 use Rattle.clap.specs.declared.error.kind.ErrorKind.{ErrorKind}
 use Rattle.clap.specs.declared.error.kind.ErrorKind.TheVariants.{OutOfMemory, DisplayHelp, DisplayVersion}
-use Rattle.lset_command.specs.CommandLine.{Choice, choice_of, file_of, listset}
+use Rattle.lset_command.specs.CommandLine.{Choice, OptionValues, choice_of, file_of, listset}
 use Rattle.lset_command.specs.declared.words.Command.{Command}
-use Rattle.lset_command.specs.declared.words.Command.TheVariants.{Replay, Check, Gen, Run, Serve}
-use Rattle.lset_tools.specs.declared.trouble.Trouble.TheVariants.{CannotRead, Memory}
+use Rattle.lset_command.specs.declared.words.Command.TheVariants.{Replay, Check, Show, Trace, Example, Gen, Run, Serve}
+use Rattle.lset_tools.specs.declared.moments.Moments.{Moments}
+use Rattle.lset_tools.specs.declared.trouble.ValueName.{ValueName}
+use Rattle.lset_tools.specs.declared.trouble.Trouble.TheVariants.{CannotRead, Memory, Bad}
 use Rattle.lset_tools.specs.Tools.{Made, Ends, AppendsFront}
 use Rattle.lset_tools.specs.Replaying.{Replays}
 use Rattle.lset_tools.specs.Checking.{Checks}
 use Rattle.lset_tools.specs.Generating.{Generates}
+use Rattle.lset_tools.specs.Moments.{moments_of}
+use Rattle.lset_show.specs.Showing.{Shows}
+use Rattle.lset_trace.specs.Tracing.{Traces}
+use Rattle.lset_examples.specs.Exampling.{Exampled}
 use Rattle.lset_run.specs.Running as run
 use Rattle.lset_serve.specs.Serving as serve
 
 -- ---- words that are taken
 
--- What a command makes of its values, and of the bytes of its input where they are known. Before that it takes the output from the old
--- to the first: `serve` writes the line that names its port, the others write nothing.
-abbrev pub DoesBy : Command → List Text → Option (List ℕ) → Option (List ℕ) → Option (List ℕ) → Made → Type 0
-DoesBy Replay values input old first made = (first ≡ old) × IfSome input (λ bytes. Replays bytes made)
-DoesBy Check values input old first made = (first ≡ old) × IfSome input (λ bytes. Checks bytes made)
-DoesBy Gen values input old first made = (first ≡ old) × Generates values made
-DoesBy Run values input old first made = (first ≡ old) × run.Runs values made
-DoesBy Serve values input old first made = serve.Serves (serve.request_of values) old first made
+-- what `show` makes of its input, within the moments that its options ask for; a wrong option is named
+abbrev pub ShowsWithin : Bool → Result Moments ValueName → Option (List ℕ) → Made → Type 0
+ShowsWithin svg (Ok moments) input made = IfSome input (λ bytes. Shows svg (record { from = moments.from; to = moments.to }) bytes made)
+ShowsWithin svg (Err wrong) input made = made ≡ Err (Bad wrong)
+
+abbrev pub ShowsBy : OptionValues → Option (List ℕ) → Made → Type 0
+ShowsBy options input made = ShowsWithin options.svg (moments_of options.from options.to) input made
+
+-- What a command makes of its values and options, and of the bytes of its input where they are known. Before that it takes the output from
+-- the old to the first: `serve` writes the line that names its port, the others write nothing.
+abbrev pub DoesBy : Command → List Text → OptionValues → Option (List ℕ) → Option (List ℕ) → Option (List ℕ) → Made → Type 0
+DoesBy Replay values options input old first made = (first ≡ old) × IfSome input (λ bytes. Replays bytes made)
+DoesBy Check values options input old first made = (first ≡ old) × IfSome input (λ bytes. Checks bytes made)
+DoesBy Show values options input old first made = (first ≡ old) × ShowsBy options input made
+DoesBy Trace values options input old first made = (first ≡ old) × IfSome input (λ bytes. Traces options.chain bytes made)
+DoesBy Example values options input old first made = (first ≡ old) × Exampled options.broken (slice_get values 0) made
+DoesBy Gen values options input old first made = (first ≡ old) × Generates values made
+DoesBy Run values options input old first made = (first ≡ old) × run.Runs values made
+DoesBy Serve values options input old first made = serve.Serves (serve.request_of values) old first made
 
 abbrev pub Does : Choice → Option (List ℕ) → Option (List ℕ) → Option (List ℕ) → Made → Type 0
-Does choice input old first made = DoesBy choice.0 choice.1 input old first made
+Does choice input old first made = DoesBy choice.command choice.values choice.options input old first made
 
 -- where no file is named, it does so on the standard input; else on what some file holds (that it is the one of this path, or read
 -- from its start, no clause says), or it says that it could not be read

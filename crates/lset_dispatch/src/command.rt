@@ -1,18 +1,55 @@
-ghost use Rattle.lset_command.specs.CommandLine.{choice_in};
-ghost use Rattle.lset_dispatch.specs.Dispatch.{CommandEnds, Does};
+ghost use Rattle.std.specs.Prelude.{◌≡◌, option_map, string_bytes};
+ghost use Rattle.std.specs.Option.{option_copied};
+ghost use Rattle.lset_command.specs.CommandLine.{choice_in, options_of};
+ghost use Rattle.lset_tools.specs.Tools.{Ends};
+ghost use Rattle.lset_dispatch.specs.Dispatch.{CommandEnds, Does, ShowsBy};
 
-use lset_command::{Command, Words};
+use lset_command::{Command, Options, Words};
+use lset_examples::tool_example;
+use lset_picture::Window;
 use lset_run::tool_run;
 use lset_serve::tool_serve;
-use lset_tools::{tool_check, tool_gen, tool_replay};
+use lset_show::tool_show;
+use lset_tools::{Trouble, deliver, read_moments, tool_check, tool_gen, tool_replay};
+use lset_trace::tool_trace;
 use std::alloc::Global;
 use std::io::{Read, Write};
 use std::net::{Net, TcpListener, TcpStream};
 use std::sync::Wait;
 use std::thread::Threads;
 
-/// Does the command of the words with its tool, `replay` and `check` on the input, `gen`, `run` and `serve` on the values,
-/// and gives the tool's exit status. `run` and `serve` start threads on `rt`, and wait for them; `serve` listens there.
+fn text_of(option: &Option<String>) -> Option<&str>
+    ensures { option_copied result ≡ option_map string_bytes option.now }
+{
+    Some(option.as_ref()?.as_str())
+}
+
+/// Shows the input within the moments that the options ask for, or tells which of them is wrong, and gives the exit status.
+fn show<R: Read, W: Write, F: Write>(
+    alloc: Global,
+    options: &Options,
+    input: &mut R,
+    output: &mut W,
+    faults: &mut F,
+) -> u8
+    ensures { Ends (ShowsBy (options_of options.now) (R.remaining input.old))
+        (W.contents output.old) (W.contents output.new) (F.contents faults.old) (F.contents faults.new) result }
+{
+    match read_moments(text_of(&options.from), text_of(&options.to)) {
+        Ok(moments) => {
+            let window = Window {
+                from: moments.from,
+                to: moments.to,
+            };
+            tool_show(alloc, options.svg, window, input, output, faults)
+        }
+        Err(wrong) => deliver(alloc, Err(Trouble::Bad(wrong)), output, faults),
+    }
+}
+
+/// Does the command of the words with its tool, `replay`, `check`, `show` and `trace` on the input, the others on their
+/// values, and gives the tool's exit status. `run` and `serve` start threads on `rt`, and wait for them; `serve` listens
+/// there.
 pub fn run_command<
     H: Net<Listener = TcpListener, Stream = TcpStream> + Threads + Wait + Sync,
     R: Read,
@@ -22,9 +59,19 @@ pub fn run_command<
     ensures { CommandEnds (Does (choice_in words.now) (R.remaining input.old))
         (W.contents output.old) (W.contents output.new) (F.contents faults.old) (F.contents faults.new) result }
 {
+    let options = &words.options;
     match words.command {
         Command::Replay => tool_replay(alloc, input, output, faults),
         Command::Check => tool_check(alloc, input, output, faults),
+        Command::Show => show(alloc, options, input, output, faults),
+        Command::Trace => tool_trace(alloc, options.chain, input, output, faults),
+        Command::Example => tool_example(
+            alloc,
+            options.broken,
+            words.first_value(),
+            output,
+            faults,
+        ),
         Command::Gen => tool_gen(alloc, &words.values, output, faults),
         Command::Run => tool_run(rt, alloc, &words.values, output, faults),
         Command::Serve => tool_serve(rt, alloc, &words.values, output, faults),

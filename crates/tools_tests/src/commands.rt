@@ -1,11 +1,11 @@
 use clap::error::ErrorKind;
-use lset_command::{Command, is_out_of_memory, tool_words};
-use std::alloc::AllocError;
+use lset_command::{Command, Options, is_out_of_memory, tool_words};
+use std::alloc::{AllocError, Global};
 use std::test::Fail;
 
 #[test]
 fn words_give_a_command_and_its_values(rt: HostRuntime) -> Result<(), Fail> {
-    let rows: [(&[&str], Command, &str); 12] = [
+    let rows: [(&[&str], Command, &str); 19] = [
         (&[], Command::Replay, ""),
         (&["replay"], Command::Replay, ""),
         (&["replay", "a.schedule"], Command::Replay, " a.schedule"),
@@ -34,6 +34,13 @@ fn words_give_a_command_and_its_values(rt: HostRuntime) -> Result<(), Fail> {
             " lazy 2 16 0 1 more",
         ),
         (&["serve"], Command::Serve, ""),
+        (&["show"], Command::Show, ""),
+        (&["show", "--svg", "a.report"], Command::Show, " a.report"),
+        (&["show", "a", "--from", "3", "--to=9"], Command::Show, " a"),
+        (&["trace", "a.schedule"], Command::Trace, " a.schedule"),
+        (&["trace", "--chain", "--", "-a"], Command::Trace, " -a"),
+        (&["example"], Command::Example, ""),
+        (&["example", "snip", "--broken"], Command::Example, " snip"),
     ];
     for (words, command, values) in rows {
         let asked = tool_words(rt.alloc(), words)?;
@@ -48,13 +55,61 @@ fn words_give_a_command_and_its_values(rt: HostRuntime) -> Result<(), Fail> {
     Ok(())
 }
 
+/// The flags that are on, and the options with their texts.
+fn told(alloc: Global, options: &Options) -> Result<String, Fail> {
+    let mut text = String::new(alloc);
+    let flags = [
+        (options.svg, "svg "),
+        (options.chain, "chain "),
+        (options.broken, "broken "),
+    ];
+    for (is_on, name) in flags {
+        if is_on {
+            text.push_str(name)?;
+        }
+    }
+    if let Some(from) = &options.from {
+        write!(text, "from {from} ")?;
+    }
+    if let Some(to) = &options.to {
+        write!(text, "to {to} ")?;
+    }
+    Ok(text)
+}
+
 #[test]
-fn replay_and_check_read_the_file_of_their_words(rt: HostRuntime) -> Result<(), Fail> {
-    let named = tool_words(rt.alloc(), &["check", "a.report"])?;
-    assert_eq!(rt; named.file(), Some("a.report"));
-    let unnamed = tool_words(rt.alloc(), &["replay"])?;
-    assert_eq!(rt; unnamed.file(), None);
-    for word in ["gen", "run", "serve"] {
+fn words_give_flags_and_options(rt: HostRuntime) -> Result<(), Fail> {
+    let rows: [(&[&str], &str); 10] = [
+        (&[], ""),
+        (&["replay", "svg"], ""),
+        (&["show"], ""),
+        (&["show", "--svg"], "svg "),
+        (&["show", "--from", "3"], "from 3 "),
+        (&["show", "--to=x", "a", "--from="], "from  to x "),
+        (
+            &["show", "--svg", "--to", "9", "--from", "8"],
+            "svg from 8 to 9 ",
+        ),
+        (&["trace", "a", "--chain"], "chain "),
+        (&["example", "--broken", "stale-pred"], "broken "),
+        (&["example", "--", "--broken"], ""),
+    ];
+    for (words, wanted) in rows {
+        let asked = tool_words(rt.alloc(), words)?;
+        assert_eq!(rt; told(rt.alloc(), &asked.options)?.as_str(), wanted);
+    }
+    Ok(())
+}
+
+#[test]
+fn some_commands_read_the_file_of_their_words(rt: HostRuntime) -> Result<(), Fail> {
+    for word in ["replay", "check", "show", "trace"] {
+        let named = tool_words(rt.alloc(), &[word, "a.report"])?;
+        assert_eq!(rt; named.file(), Some("a.report"));
+        let unnamed = tool_words(rt.alloc(), &[word])?;
+        assert_eq!(rt; unnamed.file(), None);
+    }
+    for word in ["example", "gen", "run", "serve"] {
         let no_file = tool_words(rt.alloc(), &[word, "fine"])?;
         assert_eq!(rt; no_file.file(), None);
     }
@@ -63,7 +118,7 @@ fn replay_and_check_read_the_file_of_their_words(rt: HostRuntime) -> Result<(), 
 
 #[test]
 fn other_words_are_refused(rt: HostRuntime) -> Result<(), Fail> {
-    let rows: [(&[&str], ErrorKind); 8] = [
+    let rows: [(&[&str], ErrorKind); 17] = [
         (&["skip"], ErrorKind::InvalidSubcommand),
         (&["runs"], ErrorKind::InvalidSubcommand),
         (&["serves"], ErrorKind::InvalidSubcommand),
@@ -72,6 +127,18 @@ fn other_words_are_refused(rt: HostRuntime) -> Result<(), Fail> {
         (&["check", "a", "b"], ErrorKind::UnknownArgument),
         (&["gen", "-1"], ErrorKind::UnknownArgument),
         (&["--version"], ErrorKind::UnknownArgument),
+        (&["--svg"], ErrorKind::UnknownArgument),
+        (&["replay", "--chain"], ErrorKind::UnknownArgument),
+        (&["check", "--from", "1"], ErrorKind::UnknownArgument),
+        (&["show", "a", "b"], ErrorKind::UnknownArgument),
+        (&["show", "--from"], ErrorKind::InvalidValue),
+        (&["show", "--svg=yes"], ErrorKind::TooManyValues),
+        (
+            &["show", "--to", "1", "--to", "2"],
+            ErrorKind::ArgumentConflict,
+        ),
+        (&["trace", "--svg"], ErrorKind::UnknownArgument),
+        (&["example", "a", "b"], ErrorKind::UnknownArgument),
     ];
     for (words, kind) in rows {
         let word = words[0];
@@ -88,11 +155,39 @@ fn other_words_are_refused(rt: HostRuntime) -> Result<(), Fail> {
 
 #[test]
 fn help_names_the_commands_and_their_values(rt: HostRuntime) -> Result<(), Fail> {
-    let rows: [(&[&str], &str); 13] = [
+    let rows: [(&[&str], &str); 20] = [
         (&["--help"], "\nUsage: listset [COMMAND]\n"),
         (
             &["help"],
-            "\n  gen     Prints a random schedule, of 10000 events at most",
+            "\n  gen      Prints a random schedule, of 10000 events at most",
+        ),
+        (
+            &["help"],
+            "\n  example  Prints a classic schedule, or the list of their names\n",
+        ),
+        (
+            &["show", "--help"],
+            "\nUsage: listset show [OPTIONS] [FILE]\n",
+        ),
+        (
+            &["help", "show"],
+            "\n      --from <M>  The first moment to draw: 1 to 4294967295;",
+        ),
+        (
+            &["trace", "-h"],
+            "\nUsage: listset trace [OPTIONS] [FILE]\n",
+        ),
+        (
+            &["help", "trace"],
+            "\n      --chain  Tells the chain after each step that changed it\n",
+        ),
+        (
+            &["example", "-h"],
+            "\nUsage: listset example [OPTIONS] [NAME]\n",
+        ),
+        (
+            &["help", "example"],
+            "\n  [NAME]  The name of the schedule;",
         ),
         (&["replay", "--help"], "\nUsage: listset replay [FILE]\n"),
         (&["help", "check"], "\nUsage: listset check [FILE]\n"),

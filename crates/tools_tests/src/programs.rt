@@ -6,12 +6,16 @@ use std::test::Fail;
 const ONE_ADD: &str =
     "listset-schedule 1\nlist coarse\nthreads 1\nquota 4\nbegin 0 add 5\ngo 0 7\n";
 
+/// The schedule of the example `full`.
+const FULL: &str =
+    "listset-schedule 1\nlist coarse\nthreads 1\nquota 1\nbegin 0 add 5\ngo 0 7\nbegin 0 remove 5\ngo 0 6\nbegin 0 add 7\ngo 0 4\n";
+
 const ONE_ADD_REPORT: &str =
     "listset-report 1\nlist coarse\nthreads 1\nquota 4\ncall 0 0 add 5 1 8 true\nplace 0 true\nkey 5\nend\n";
 
 #[test]
 fn each_command_is_done_on_the_standard_input(rt: HostRuntime) -> Result<(), Fail> {
-    let rows: [(&[&str], &str, (u8, &str, &str)); 16] = [
+    let rows: [(&[&str], &str, (u8, &str, &str)); 21] = [
         (&[], ONE_ADD, (0, ONE_ADD_REPORT, "")),
         (&["replay"], ONE_ADD, (0, ONE_ADD_REPORT, "")),
         (
@@ -67,6 +71,23 @@ fn each_command_is_done_on_the_standard_input(rt: HostRuntime) -> Result<(), Fai
             &["serve", "lazy", "1", "4", "65536", "0"],
             "",
             (2, "", "listset: bad PORT\n"),
+        ),
+        (&["example", "full"], ONE_ADD, (0, FULL, "")),
+        (
+            &["example", "--broken", "full"],
+            "",
+            (2, "", "listset: bad NAME\n"),
+        ),
+        (&["example", "Full"], "", (2, "", "listset: bad NAME\n")),
+        (
+            &["show", "--from", "0"],
+            ONE_ADD,
+            (2, "", "listset: bad FROM\n"),
+        ),
+        (
+            &["show", "--from", "9", "--to", "8"],
+            ONE_ADD,
+            (2, "", "listset: bad TO\n"),
         ),
     ];
     for (words, input, wanted) in rows {

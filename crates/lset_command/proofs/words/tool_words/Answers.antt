@@ -18,7 +18,7 @@ returns-in_default-clause-taken c =
     let m = c.in_ok-matches.matches in
     let found = subcommand_of listset (texts c.args.words.now) in
     let none : found ≡ None = no_command m found c.in_default.ensures.name (program_matches m _ (texts c.args.words.now) c.in_ok-program_command.ensures c.in_ok-matches.ensures.matches) in
-    chosen_replay _ found none (ap (map string_bytes) c.new.ensures.items)
+    chosen_replay _ _ found none (ap (map string_bytes) c.new.ensures.items) c.no_options.ensures
 
 pub returns-in_default-clause-refused : goal.returns-in_default-clause-refused
 returns-in_default-clause-refused c =
@@ -30,7 +30,7 @@ returns-clause-taken c =
     let found = subcommand_of listset (texts c.args.words.now) in
     let one = one_command m found c.in-Some.name.now (rows_of (found_of c.in-Some.found.now)) c.in-Some.ensures.name c.in-Some.ensures.rows
     (program_matches m _ (texts c.args.words.now) c.in_ok-program_command.ensures c.in_ok-matches.ensures.matches) in
-    chosen_command _ _ _ _ found one c.command_named-command.ensures c.in_ok-values.ensures
+    chosen_command _ _ _ _ _ found one c.command_named-command.ensures c.in_ok-values.ensures c.in_ok-options.ensures
 
 pub returns-clause-refused : goal.returns-clause-refused
 returns-clause-refused c =
