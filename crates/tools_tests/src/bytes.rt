@@ -1,8 +1,8 @@
 use lset_replay::ReportCause;
 use lset_schedule::Cause;
 use lset_tools::{
-    Answer, LONGEST, LineCause, Moments, Trouble, ValueName, checked, line_of_trouble,
-    read_moments, replayed,
+    Answer, LineCause, Moments, Trouble, ValueName, checked, line_of_trouble, read_moments,
+    replayed,
 };
 use std::test::Fail;
 
@@ -31,17 +31,6 @@ fn bytes_are_replayed_and_checked(rt: HostRuntime) -> Result<(), Fail> {
     assert!(rt; told(&replayed(rt.alloc(), ONE_ADD_REPORT.as_bytes())) == Err(no_title));
     assert!(rt; told(&checked(rt.alloc(), ONE_ADD_REPORT.as_bytes())) == Ok((0, "ok\n")));
     assert!(rt; told(&checked(rt.alloc(), ONE_ADD.as_bytes())) == Err(no_report));
-    Ok(())
-}
-
-#[test]
-fn one_byte_more_than_the_longest_is_too_long(rt: HostRuntime) -> Result<(), Fail> {
-    let mut bytes = Vec::from_elem(rt.alloc(), 0u8, LONGEST)?;
-    let last = Trouble::Line(1, LineCause::Schedule(Cause::NotEnded));
-    assert!(rt; told(&replayed(rt.alloc(), &bytes)) == Err(last));
-    bytes.push(0)?;
-    assert!(rt; told(&replayed(rt.alloc(), &bytes)) == Err(Trouble::TooLong));
-    assert!(rt; told(&checked(rt.alloc(), &bytes)) == Err(Trouble::TooLong));
     Ok(())
 }
 
