@@ -1,0 +1,130 @@
+// Draws the history: a bar for each call, the moment at which it takes effect, the contents of the set below, and the order.
+"use strict";
+
+const HISTORY_LEFT = 50;
+const HISTORY_RIGHT = 16;
+const LEAST_STEP = 7; // pixels of one event
+
+// The events that are drawn: all where there is room for them, else a window that moves by thirds.
+function windowOf(total, count, room) {
+  const most = Math.max(30, Math.floor(room / LEAST_STEP));
+  if (total <= most) return { first: 1, last: Math.max(total, 1) };
+  const third = Math.floor(most / 3);
+  const wanted = (Math.floor(Math.max(count - 1, 0) / third) - 1) * third + 1;
+  const first = Math.max(1, Math.min(total - most + 1, wanted));
+  return { first, last: first + most - 1 };
+}
+
+// Where an event stands, and a thread's lane.
+function scaleOf(trace, count, width) {
+  const { first, last } = windowOf(trace.events.length, count, width - HISTORY_LEFT - HISTORY_RIGHT);
+  const step = (width - HISTORY_LEFT - HISTORY_RIGHT) / (last - first + 1);
+  const lane = trace.threads > 12 ? 24 : trace.threads > 6 ? 32 : 40;
+  return {
+    first, last, step, lane, width, edge: width - HISTORY_RIGHT, count, height: 12 + trace.threads * lane,
+    x: (moment) => HISTORY_LEFT + (moment - first + 0.5) * step,
+    y: (thread) => 8 + thread * lane + lane / 2,
+  };
+}
+
+// A point is reached once the call that has it is known to stand there: at its change, or when it answers.
+const isReached = (call, count) => call.at <= count && (call.changes || (call.ended !== null && call.ended <= count));
+const callText = (call) => `${call.operation}(${call.key})`;
+const openReply = "true"; // an open call that stands in the order has changed the set
+
+function drawLanes(trace, scale) {
+  let drawn = "";
+  for (let thread = 0; thread < trace.threads; thread++) {
+    const y = scale.y(thread);
+    drawn += `<line class="lane" x1="${HISTORY_LEFT - 6}" x2="${scale.edge}" y1="${y}" y2="${y}"/>` +
+      `<g class="badge ${colourOf(thread)}"><rect x="2" y="${y - 10}" width="38" height="20" rx="4"/><text x="21" y="${y + 5}">t${thread}</text></g>`;
+  }
+  return drawn;
+}
+
+function drawBar(call, scale) {
+  const { first, last, count } = scale;
+  const half = scale.lane * 0.34;
+  const y = scale.y(call.thread);
+  const left = call.begun < first ? HISTORY_LEFT - 6 : scale.x(call.begun);
+  const right = call.ended === null || call.ended > last ? scale.edge : scale.x(call.ended);
+  const state = `${call.begun <= count ? "begun" : "later"}${call.ended === null ? " open" : ""}`;
+  const told = `call ${call.id}: t${call.thread} ${callText(call)} ${call.reply ?? "still open"}, events ${call.begun} to ${call.ended ?? "the end"}`;
+  return `<g class="bar ${state} ${colourOf(call.thread)}"><title>${told}</title><rect x="${left}" y="${y - half}" width="${Math.max(right - left, 4)}" ` +
+    `height="${2 * half}" rx="4"/>${drawBarText(call, scale, left, right, y)}</g>`;
+}
+
+// The call and its reply, left of the point or right of it, where there is room.
+function drawBarText(call, scale, left, right, y) {
+  const text = `${callText(call)}${call.reply === null ? "" : ` ${call.reply}`}`;
+  const wide = 8 * text.length;
+  const point = call.at === null ? -99 : scale.x(call.at) - left;
+  const start = point > wide + 14 || point < -8 ? 6 : point + 13;
+  if (right - left <= wide + start) return "";
+  const done = call.ended !== null && call.ended <= scale.count;
+  const reply = call.reply === null ? "" : `<tspan class="reply${done ? "" : " later"}"> ${call.reply}</tspan>`;
+  return `<text x="${left + start}" y="${y + 5}">${callText(call)}${reply}</text>`;
+}
+
+// The point of a call: a disc where it changes the set, a ring where its reply fits there.
+function drawPoint(call, scale) {
+  const x = scale.x(call.at);
+  const y = scale.y(call.thread);
+  const state = isReached(call, scale.count) ? "reached" : "later";
+  const told = `call ${call.id}, ${callText(call)}, ${call.changes ? "changes the set at" : "changes nothing; its reply fits at"} event ${call.at}`;
+  const inner = call.changes ? "" : `<circle class="hole" cx="${x}" cy="${y}" r="3"/>`;
+  return `<g class="point ${state} ${colourOf(call.thread)}"><title>${told}</title><line x1="${x}" x2="${x}" y1="${y}" y2="${scale.height}"/>` +
+    `<circle cx="${x}" cy="${y}" r="6.5"/>${inner}</g>`;
+}
+
+function drawCursor(scale, bottom) {
+  if (scale.count < scale.first || scale.count > scale.last) return "";
+  return `<line class="cursor" x1="${scale.x(scale.count)}" x2="${scale.x(scale.count)}" y1="0" y2="${bottom}"/>`;
+}
+
+// The bars and points: the part that scrolls where there are many threads.
+function drawCalls(trace, scale) {
+  const shown = trace.calls.filter((call) => call.begun <= scale.last && (call.ended === null || call.ended >= scale.first));
+  const placed = trace.calls.filter((call) => call.at !== null && call.at >= scale.first && call.at <= scale.last);
+  return `<svg width="${scale.width}" height="${scale.height}" role="img" aria-label="the history of the calls">${drawLanes(trace, scale)}` +
+    `${shown.map((call) => drawBar(call, scale)).join("")}${placed.map((call) => drawPoint(call, scale)).join("")}${drawCursor(scale, scale.height)}</svg>`;
+}
+
+function drawContent(part, scale) {
+  const left = part.from <= scale.first ? HISTORY_LEFT - 6 : scale.x(part.from);
+  const right = part.to > scale.last ? scale.edge : scale.x(part.to);
+  const all = `{${part.keys.join(", ")}}`;
+  const room = Math.floor((right - left - 10) / 8);
+  const text = all.length <= room ? all : room > 6 ? `${all.slice(0, room - 2)}…` : "";
+  const isNow = scale.count < part.to && (scale.count >= part.from || part.from <= scale.first);
+  return `<g class="content${isNow ? " now" : ""}"><title>${all}</title><rect x="${left}" y="0" width="${Math.max(right - left, 1)}" height="24"/>` +
+    `<text x="${left + 5}" y="17">${text}</text></g>`;
+}
+
+// The contents of the set, and below them the number of the event.
+function drawContents(trace, scale) {
+  const parts = contentsIn(trace, scale.first, scale.last).map((part) => drawContent(part, scale)).join("");
+  const total = trace.events.length;
+  const isWindow = scale.first > 1 || scale.last < total;
+  const x = Math.min(Math.max(scale.x(scale.count), HISTORY_LEFT + 12), scale.width - 44);
+  const number = scale.count > 0 ? `<text class="number" x="${x}" y="42">event ${scale.count}</text>` : "";
+  const onLeft = x > scale.width / 2;
+  const note = isWindow ? `<text class="note" x="${onLeft ? 4 : scale.edge}" y="42" text-anchor="${onLeft ? "start" : "end"}">events ${scale.first} to ${scale.last} of ${total}</text>` : "";
+  return `<svg width="${scale.width}" height="50" role="img" aria-label="the contents of the set"><text class="name" x="6" y="17">set</text>${parts}` +
+    `${drawCursor(scale, 24)}${number}${note}</svg>`;
+}
+
+// The order of the calls: those that are reached, and pale those that come later.
+function drawOrder(trace, count) {
+  if (trace.order.length === 0) return "No call stands in the order.";
+  const reached = trace.order.filter((call) => isReached(call, count)).length;
+  const first = Math.max(0, Math.min(reached - 8, trace.order.length - 14));
+  const last = Math.min(trace.order.length, first + 22);
+  const items = trace.order.slice(first, last).map((call) => {
+    const state = isReached(call, count) ? "reached" : "later";
+    return `<li class="${state}">${chipOf(call.thread)} ${callText(call)} <b>${call.reply ?? openReply}</b></li>`;
+  });
+  const before = first > 0 ? `<li class="later">${first} before …</li>` : "";
+  const after = last < trace.order.length ? `<li class="later">… ${trace.order.length - last} more</li>` : "";
+  return `<ol>${before}${items.join("")}${after}</ol>`;
+}

@@ -1,0 +1,89 @@
+// The words, the threads and the chain after so many events of a trace. No step is computed here: each event's line says
+// what was written and what its thread holds then.
+"use strict";
+
+const AT_REST = { pc: 0, used: 0, reply: "none", pred: "head", curr: "head", succ: "head", node: "head", pkey: "-inf", ckey: "-inf", call: null };
+const BEGUN = { pred: "head", curr: "head", succ: "head", node: "head", pkey: "-inf", ckey: "-inf", reply: "none" };
+const linkTarget = (link) => link.replace("*", "");
+
+class State {
+  constructor(trace) {
+    this.trace = trace;
+    this.count = 0;
+    this.lock = "free"; // the list's own lock
+    this.nodes = {
+      head: { key: "-inf", link: "tail", lock: "free", reached: true },
+      tail: { key: "+inf", link: "tail", lock: "free", reached: true },
+    };
+    this.threads = Array.from({ length: trace.threads }, () => ({ ...AT_REST }));
+    this.undo = [];
+  }
+
+  // Goes to the state after `count` events, on or back.
+  moveTo(count) {
+    while (this.count < count) this.apply(this.trace.events[this.count++]);
+    while (this.count > count) {
+      this.count--;
+      for (const [holder, name, before] of this.undo.pop().reverse()) holder[name] = before;
+    }
+  }
+
+  apply(event) {
+    const done = [];
+    const set = (holder, name, value) => {
+      done.push([holder, name, holder[name]]);
+      holder[name] = value;
+    };
+    const thread = this.threads[event.thread];
+    if (event.deed === "begin") {
+      for (const name in BEGUN) set(thread, name, BEGUN[name]);
+      set(thread, "call", event.call);
+    }
+    for (const name in event.changes) set(thread, name, event.changes[name]);
+    if (event.deed === "store" || (event.deed === "exchange" && event.saw === event.from)) this.write(event, set);
+    this.undo.push(done);
+  }
+
+  write(event, set) {
+    const [owner, field] = event.word.split(".");
+    if (owner === "list") return set(this, field, event.to);
+    const node = (this.nodes[owner] ??= newNode());
+    set(node, field, event.to);
+    if (field !== "link" || !node.reached) return;
+    const target = (this.nodes[linkTarget(event.to)] ??= newNode());
+    if (!target.reached) set(target, "reached", true);
+  }
+
+  // The nodes from the head to the tail, as the link words lead.
+  chain() {
+    const found = new Set(["head"]);
+    for (let name = "head"; name !== "tail"; ) {
+      name = linkTarget(this.nodes[name].link);
+      if (found.has(name) || !(name in this.nodes)) break;
+      found.add(name);
+    }
+    return [...found];
+  }
+}
+
+// A slot in the beginning. It is `reached` once a node that is reached has led to it: up to then it is a thread's own.
+const newNode = () => ({ key: "-inf", link: "head", lock: "free", reached: false });
+const isWritten = (node) => node.key !== "-inf" || node.link !== "head" || node.lock !== "free";
+const ownerOf = (trace, name) => Math.floor((Number(name.slice(1)) - 2) / trace.quota);
+
+// The contents of the set from event `first` to `last`: the keys, rising, and the events from which and up to which they stand.
+function contentsIn(trace, first, last) {
+  const keys = new Set();
+  const part = (from) => ({ from, to: last + 1, keys: [...keys].sort((one, other) => one - other) });
+  const toggle = (event) => (event.put !== undefined ? keys.add(event.put) : keys.delete(event.took));
+  const before = trace.changes.filter((event) => event.number < first);
+  before.forEach(toggle);
+  const parts = [part(first)];
+  for (const event of trace.changes.slice(before.length)) {
+    if (event.number > last) break;
+    toggle(event);
+    parts[parts.length - 1].to = event.number;
+    parts.push(part(event.number));
+  }
+  return parts;
+}

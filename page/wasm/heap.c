@@ -1,0 +1,78 @@
+// The heap of the module: the three functions of a Rattle program's heap, for WebAssembly with a 64-bit memory, and two for
+// the page itself. No proof covers this file.
+//
+// Blocks have 2^k bytes, k from 5 to 40; the 16 bytes before what is handed out hold k. A freed block goes to the list of its
+// size. A new one is cut from the end of the memory, which grows by whole pages; where it cannot grow, memory is refused.
+typedef unsigned long long u64;
+typedef struct { u64 ok; char *block; } Tried;
+
+enum { HEAD = 16, PAGE = 65536, LEAST_CLASS = 5, CLASSES = 41, PAGES_AT_ONCE = 16 };
+static const u64 MOST = 1ULL << 39;
+
+extern char __heap_base;
+static char *top, *end;
+static char *freed[CLASSES];
+
+static int class_of(u64 count) {
+    int k = LEAST_CLASS;
+    while ((1ULL << k) < count + HEAD) k++;
+    return k;
+}
+
+// Makes room for so many bytes more at the end, by more pages than that needs where the memory may grow so far.
+static int grow(u64 bytes) {
+    u64 needed = (bytes + PAGE - 1) / PAGE;
+    u64 wanted = needed < PAGES_AT_ONCE ? PAGES_AT_ONCE : needed;
+    if (__builtin_wasm_memory_grow(0, wanted) == ~0ULL) {
+        wanted = needed;
+        if (__builtin_wasm_memory_grow(0, wanted) == ~0ULL) return 0;
+    }
+    end += wanted * PAGE;
+    return 1;
+}
+
+static char *take(int k) {
+    u64 size = 1ULL << k;
+    char *block = freed[k];
+    if (block) {
+        freed[k] = *(char **)block;
+        return block;
+    }
+    if (!top) {
+        top = (char *)(((u64)&__heap_base + 31) / 32 * 32 + HEAD);
+        end = (char *)(__builtin_wasm_memory_size(0) * PAGE);
+    }
+    if (top + size > end && !grow((u64)(top + size - end))) return 0;
+    block = top + HEAD;
+    top += size;
+    *(u64 *)(block - HEAD) = k;
+    return block;
+}
+
+Tried rattle_alloc(u64 count, u64 alignment) {
+    (void)alignment; // every block stands at a multiple of 32
+    if (count > MOST) return (Tried){0, 0};
+    char *block = take(class_of(count));
+    return (Tried){block != 0, block};
+}
+
+void rattle_dealloc(char *block) {
+    u64 k = *(u64 *)(block - HEAD);
+    *(char **)block = freed[k];
+    freed[k] = block;
+}
+
+Tried rattle_realloc(char *block, u64 kept, u64 count, u64 alignment) {
+    u64 k = *(u64 *)(block - HEAD);
+    if (count + HEAD <= 1ULL << k) return (Tried){1, block};
+    Tried tried = rattle_alloc(count, alignment);
+    if (tried.ok) {
+        __builtin_memcpy(tried.block, block, kept);
+        rattle_dealloc(block);
+    }
+    return tried;
+}
+
+// Blocks for the page itself, for the bytes that it hands in and for those that it gets back; 0 where memory is refused.
+char *page_alloc(u64 count) { return rattle_alloc(count, HEAD).block; }
+void page_free(char *block) { if (block) rattle_dealloc(block); }
