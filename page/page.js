@@ -108,10 +108,16 @@ function goToTurn(step) {
   goTo(count);
 }
 
-// Tells a fault of the text: the program's own line, and the cause in words.
+// Tells a fault of the text: the program's own line, and the cause in words. The run that is shown is then that of another text.
 function tellFault(line, cause, said) {
   page.faultLine = line;
+  setOld(true);
   byId("fault").textContent = cause in CAUSES ? `${said}: ${CAUSES[cause]}` : said;
+}
+
+function setOld(isOld) {
+  byId("stage").classList.toggle("old", isOld);
+  byId("old").hidden = !isOld;
 }
 
 function tellLine(text) {
@@ -134,6 +140,7 @@ function takeTrace(text, count, source) {
   Object.assign(page, { trace, state: new State(trace), source, faultLine: null });
   byId("fault").textContent = "";
   if (refused !== null) tellFault(refused.line, refused.cause, `line ${refused.line}: ${refused.cause}`);
+  setOld(false);
   goTo(count);
   return true;
 }
@@ -219,15 +226,18 @@ function refreshReport() {
   if (byId("report-box").open && page.engine !== null) showOwnReport(page.engine, page.text);
 }
 
-// The address names the example and the event, so that a link leads there.
+// The address names the example and the event, so that a link leads there. It follows once nothing has moved for a moment:
+// browsers refuse a page that changes it at each step.
+let addressTimer = 0;
+
 function keepAddress() {
+  clearTimeout(addressTimer);
+  addressTimer = setTimeout(setAddress, 400);
+}
+
+function setAddress() {
   const wanted = page.example === "" ? "" : `#example=${page.example}&event=${page.count}`;
-  if (location.hash === wanted) return;
-  try {
-    history.replaceState(null, "", wanted === "" ? location.pathname + location.search : wanted);
-  } catch {
-    // a browser that does not let a page of a file have another address
-  }
+  if (location.hash !== wanted) history.replaceState(null, "", wanted === "" ? location.pathname + location.search : wanted);
 }
 
 async function openFile(file) {

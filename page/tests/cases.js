@@ -1,0 +1,26 @@
+// Compares what the engine answers with what the program answered: in node and in a browser.
+"use strict";
+
+const bytesOf = (base64) => Uint8Array.from(atob(base64), (letter) => letter.charCodeAt(0));
+
+async function sumOf(bytes) {
+  const sum = new Uint8Array(await crypto.subtle.digest("SHA-256", bytes));
+  return [...sum].map((byte) => byte.toString(16).padStart(2, "0")).join("");
+}
+
+// How many cases passed, and a line for each that failed.
+async function compared(engine, cases) {
+  const result = { passed: 0, failed: [] };
+  for (const wanted of cases) {
+    const name = `listset ${wanted.words.join(" ")} on ${JSON.stringify(atob(wanted.text).slice(0, 300))}`;
+    try {
+      const answer = engine.askBytes(wanted.function, bytesOf(wanted.text));
+      const isSame = answer.status === wanted.status && answer.bytes.length === wanted.length && (await sumOf(answer.bytes)) === wanted.sum;
+      if (isSame) result.passed++;
+      else result.failed.push(`${name}: status ${answer.status} and ${answer.bytes.length} bytes, not ${wanted.status} and ${wanted.length}`);
+    } catch (fault) {
+      result.failed.push(`${name}: ${fault.message}`);
+    }
+  }
+  return result;
+}

@@ -1,0 +1,59 @@
+// node tests/compare.js CASES: compares the module with the program's answers, and each file of the page with its limits.
+"use strict";
+
+const fs = require("fs");
+const path = require("path");
+const vm = require("vm");
+
+const folder = path.dirname(__dirname);
+for (const file of ["engine.js", "rows.js", "calls.js", "trace.js", "state.js", "tests/cases.js"]) {
+  vm.runInThisContext(fs.readFileSync(path.join(folder, file), "utf8"), { filename: file });
+}
+const inPage = (words) => vm.runInThisContext(words);
+
+function check(result, name, isGood) {
+  if (isGood) result.passed++;
+  else result.failed.push(name);
+}
+
+// Each trace is read, its schedule is the one that was given, and the state goes on and back to where it began.
+function checkTraces(result, engine, cases) {
+  for (const { text } of cases.filter((wanted) => wanted.function === "listset_trace")) {
+    const schedule = Buffer.from(text, "base64").toString();
+    const answer = engine.ask("listset_trace", schedule);
+    if (!answer.text.startsWith("listset-trace")) continue;
+    const trace = inPage("readTrace")(answer.text);
+    const lines = inPage("scheduleLines")(trace, trace.events.length).join("\n") + "\n";
+    if (trace.refused === null) check(result, `the schedule of the trace of ${schedule}`, lines === schedule);
+    const state = new (inPage("State"))(trace);
+    const atFirst = JSON.stringify(state.threads);
+    state.moveTo(trace.events.length);
+    check(result, `the keys in the chain of ${schedule}`, keysOf(state) === keysAtLast(trace));
+    state.moveTo(0);
+    check(result, `back to the start of ${schedule}`, JSON.stringify(state.threads) === atFirst);
+  }
+}
+
+// The keys of the nodes without a mark in the chain, and those that the events put in and took out.
+function keysOf(state) {
+  const inside = state.chain().filter((name) => name !== "head" && name !== "tail" && !state.nodes[name].link.endsWith("*"));
+  return inside.map((name) => state.nodes[name].key).join();
+}
+
+function keysAtLast(trace) {
+  const last = trace.events.length;
+  const parts = inPage("contentsIn")(trace, last + 1, last + 1);
+  return parts[0].keys.join();
+}
+
+async function main() {
+  const cases = JSON.parse(fs.readFileSync(process.argv[2], "utf8"));
+  const engine = await inPage("Engine").start();
+  const result = await inPage("compared")(engine, cases);
+  const module = fs.readFileSync(path.join(folder, "listset.wasm")).toString("base64");
+  check(result, "engine.js has the bytes of listset.wasm", inPage("ENGINE") === module);
+  checkTraces(result, engine, cases);
+  process.stdout.write(JSON.stringify(result));
+}
+
+main();

@@ -1,0 +1,177 @@
+// Drives the page in a frame as a person would, and posts how many checks passed and which failed.
+"use strict";
+
+const frame = document.getElementById("page");
+const result = { passed: 0, failed: [] };
+const inPage = (words) => frame.contentWindow.eval(words);
+const part = (id) => frame.contentDocument.getElementById(id);
+const textOf = (id) => part(id).textContent;
+const sleep = (milliseconds) => new Promise((done) => setTimeout(done, milliseconds));
+
+function check(name, isGood) {
+  if (isGood) result.passed++;
+  else result.failed.push(`${name} (event "${textOf("where")}", fault "${textOf("fault")}", source "${textOf("source")}")`);
+}
+
+const press = (key, more = {}) => frame.contentDocument.body.dispatchEvent(new frame.contentWindow.KeyboardEvent("keydown", { key, bubbles: true, ...more }));
+
+function runSchedule(lines) {
+  part("schedule").value = lines.join("\n") + "\n";
+  part("schedule").oninput();
+  part("run").click();
+}
+
+const header = (kind, threads) => ["listset-schedule 1", `list ${kind}`, `threads ${threads}`, "quota 4"];
+
+function pick(name) {
+  part("examples").value = name;
+  part("examples").onchange();
+}
+
+// Each example goes to its end, event by event, and its calls stand in the order of its report.
+function driveExamples() {
+  const names = [...part("examples").options].map((option) => option.value).filter((name) => name !== "");
+  check("eleven examples", names.length === 11);
+  for (const name of names) {
+    pick(name);
+    const total = inPage("page.trace.events.length");
+    for (let count = 0; count < total; count++) part("next").click();
+    check(`${name} goes to its end`, textOf("where") === `event ${total} of ${total}` && total > 0 && textOf("fault") === "");
+    check(`${name} is a run of the replayer`, textOf("source").includes("by the proved replayer"));
+    const report = inPage("page.engine.ask('listset_replay', page.text).text");
+    const places = [...report.matchAll(/^place (\d+) /gm)].map((found) => Number(found[1]));
+    check(`${name}: the order is that of the report`, JSON.stringify(places) === inPage("JSON.stringify(page.trace.order.map((call) => call.id))"));
+    for (let count = 0; count < total; count++) part("back").click();
+    check(`${name} goes back to its start`, textOf("where") === `event 0 of ${total}` && part("back").disabled);
+  }
+}
+
+// In the middle of a run another thread is given a step, and then begins a call.
+function driveMoves() {
+  pick("read-in-anothers-step");
+  for (let count = 0; count < 14; count++) part("next").click();
+  const before = inPage("page.text");
+  part("moves").querySelector('[data-thread="0"] button').click();
+  const text = part("schedule").value;
+  check("a step of another thread", textOf("where") === "event 15 of 15" && text.endsWith("begin 0 contains 5\ngo 0 2\n"));
+  check("the example is left", part("examples").value === "");
+  const row = part("moves").querySelector('[data-thread="1"]');
+  row.querySelector("select").value = "remove";
+  row.querySelector("select").onchange();
+  row.querySelector("input").value = "5";
+  row.querySelector("input").oninput();
+  row.querySelector("button").click();
+  check("a call is begun", part("schedule").value.endsWith("go 0 2\nbegin 1 remove 5\n") && textOf("where") === "event 16 of 16");
+  press("1");
+  check("a digit is a step of that thread", part("schedule").value.endsWith("begin 1 remove 5\ngo 1 1\n"));
+  for (let count = 0; count < 3; count++) press("u");
+  check("undo, three times", inPage("page.text") === before && textOf("where").startsWith("event 14 of 39"));
+}
+
+// Texts that are refused are shown with their fault and its line.
+function driveFaults() {
+  runSchedule([...header("coarse", 2), "begin 0 add 5", "go 0 3", "go 1 1"]);
+  check("a step of a thread at rest", textOf("fault").includes("line 7: Idle") && textOf("where") === "event 0 of 4");
+  check("its line is marked", part("marks").querySelectorAll(".bad").length === 1);
+  runSchedule([...header("lazy", 2), "begin 0 add 05"]);
+  check("a number with a leading zero", textOf("fault").startsWith("listset: line 5: Number:"));
+  check("its line is marked too", part("marks").querySelector(".bad").style.top === "90px");
+  check("the run that is shown is told to be the one before", !part("old").hidden);
+  runSchedule([...header("skip", 2)]);
+  check("a list that there is not", textOf("fault").startsWith("listset: line 2: Kind:"));
+  runSchedule([...header("lock-free", 2), "begin 5 add 5"]);
+  check("a thread that there is not", textOf("fault").includes("line 5: NoThread"));
+  runSchedule([...header("fine", 1), "begin 0 add 7", "go 0 9"]);
+  check("a good one takes the fault away", textOf("fault") === "" && part("marks").querySelectorAll(".bad").length === 0 && part("old").hidden);
+}
+
+function driveKeys() {
+  pick("read-in-anothers-step");
+  press("ArrowRight");
+  check("right arrow", textOf("where").startsWith("event 1 "));
+  press("PageDown");
+  check("page down", textOf("where").startsWith("event 11 "));
+  press("ArrowLeft", { shiftKey: true });
+  check("shift and left arrow", textOf("where").startsWith("event 10 "));
+  press("End");
+  check("the end", textOf("where").startsWith("event 39 ") && part("last").disabled);
+  check("contains stands in the step of the other thread", textOf("said").includes("it took effect at event 23, a step of t1"));
+  part("slider").value = 23;
+  part("slider").oninput();
+  check("the slider", textOf("where").startsWith("event 23 "));
+  check("a marked node is hatched and crossed", part("list").querySelectorAll(".box.marked").length === 1 && part("list").querySelectorAll(".cross").length === 1);
+  press("?");
+  check("the keys are told", !part("key-help").hidden);
+  press("?");
+}
+
+const fileOf = (name, text) => new frame.contentWindow.File([text], name);
+
+// Files: a trace of the engine's own, one with a changed line, one that is none, a schedule, a report.
+async function driveFiles() {
+  pick("snip");
+  const trace = inPage("page.trace.text");
+  const open = (name, text) => {
+    frame.contentWindow.opened = fileOf(name, text);
+    return inPage("openFile(opened)");
+  };
+  await open("own.trace", trace);
+  check("a trace is opened", textOf("source").includes("gives the same"));
+  await open("other.trace", trace.replace("saw tail", "saw head"));
+  check("a trace that the replayer does not give", textOf("source").includes("gives another, from its event 2 on"));
+  await open("none.trace", trace.replace("event 7 ", "event 07 "));
+  check("a trace that is none", textOf("fault").startsWith('this is no trace: line 11: "07" is no number'));
+  await open("cut.trace", trace.slice(0, -4));
+  check("a trace that is cut", textOf("fault").startsWith("this is no trace: line "));
+  await open("one.schedule", [...header("coarse", 1), "begin 0 add 5", "go 0 7", ""].join("\n"));
+  check("a schedule is opened", textOf("where") === "event 0 of 8");
+  await open("one.report", inPage("page.engine.ask('listset_replay', page.text).text"));
+  check("a report is checked", textOf("checked") === "ok");
+  pick("stale-pred");
+  part("broken").click();
+  check("the report of a broken list is refused", textOf("checked") === "refused WrongSet");
+}
+
+function driveManyThreads() {
+  const lines = header("lazy", 64);
+  for (let thread = 0; thread < 64; thread++) lines.push(`begin ${thread} add ${thread}`, `go ${thread} ${thread % 2 === 0 ? 11 + 2 * (thread / 2) : 3}`);
+  runSchedule(lines);
+  part("last").click();
+  check("64 threads", textOf("fault") === "" && textOf("title") === "LazyList, 64 threads, step by step");
+  check("the table has those with a call", part("threads").querySelectorAll("tbody tr").length === 32);
+  part("all-threads").click();
+  check("or all", part("threads").querySelectorAll("tbody tr").length === 64);
+  part("all-threads").click();
+  const wide = frame.contentDocument.documentElement;
+  check("nothing is wider than the page", wide.scrollWidth <= wide.clientWidth);
+  frame.width = 380;
+  frame.contentWindow.dispatchEvent(new frame.contentWindow.Event("resize"));
+  check("nor on a narrow screen", wide.scrollWidth <= wide.clientWidth);
+  frame.width = 1300;
+}
+
+async function compareCases() {
+  if (location.protocol === "file:") return;
+  const cases = await (await fetch("/cases.json")).json();
+  const found = await compared(inPage("page.engine"), cases);
+  result.passed += found.passed;
+  result.failed.push(...found.failed);
+}
+
+async function drive() {
+  while (frame.contentDocument?.body?.dataset.ready !== "yes") await sleep(20);
+  check("the engine runs here", inPage("page.engine") !== null);
+  driveExamples();
+  driveMoves();
+  driveFaults();
+  driveKeys();
+  await driveFiles();
+  driveManyThreads();
+  await compareCases();
+}
+
+frame.onload = () =>
+  drive()
+    .catch((fault) => result.failed.push(`the drive stopped: ${fault.stack}`))
+    .then(() => fetch(location.search.slice(1), { method: "POST", mode: "no-cors", body: JSON.stringify(result) }));
+frame.src = "../index.html";
