@@ -1,0 +1,30 @@
+-- [Tools]: how what a tool makes of a text is handed to a caller outside, who gives room for it.
+use Rattle.std.specs.Prelude.{◌≡◌, ◌≢◌, ℕ, ◌≤◌, ◌<◌, ◌⊎◌, List, ◌++◌, length, drop, Ok, Err}
+use Rattle.lset_tools.specs.declared.trouble.Trouble.TheVariants.{CannotRead}
+use Rattle.lset_tools.specs.Tools.{Made}
+use Rattle.lset_tools.specs.Trouble as trouble
+
+-- what the program prints of it: the answer's text, or the line about the trouble
+abbrev pub text_of : Made → List ℕ
+text_of (Ok answer) = answer.text
+text_of (Err t) = trouble.trouble_text t
+
+-- the exit status of the program
+abbrev pub status_of : Made → ℕ
+status_of (Ok answer) = answer.status
+status_of (Err t) = trouble.status_of t
+
+-- the text stands at the front of the room, and the rest is as it was; or there is no room for it, and nothing was written
+abbrev pub Handed : List ℕ → List ℕ → List ℕ → Type 0
+Handed text old new = ((length text ≤ length old) × (new ≡ text ++ drop (length text) old)) ⊎ ((length old < length text) × (new ≡ old))
+
+-- What was made reaches the caller: its text where there is room, its status, and the length of the text.
+pub record IsHanded (made : Made) (old new : List ℕ) (status count : ℕ) : Type 0 where
+  pub text : Handed (text_of made) old new
+  pub status_is : status ≡ status_of made
+  pub count_is : count ≡ length (text_of made)
+
+-- A tool that makes something of a text ends so outside. No device is read, so none fails.
+abbrev pub Hands : (Made → Type 0) → List ℕ → List ℕ → ℕ → ℕ → Type 0
+Hands IsMade old new status count =
+    (made : Made) × IsMade made × (made ≢ Err CannotRead) × IsHanded made old new status count
