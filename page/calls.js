@@ -47,7 +47,8 @@ function answerOf(engine, name, given) {
 function answerInRoom(engine, name, text, length, room) {
   const out = blockOf(engine, room);
   const status = blockOf(engine, 1);
-  const count = Number(engine[name](text, BigInt(length), out, BigInt(room), status));
+  const given = name === "listset_examples" ? [] : [text, BigInt(length)];
+  const count = Number(engine[name](...given, out, BigInt(room), status));
   const memory = engine.memory.buffer;
   const bytes = count <= room ? new Uint8Array(memory, Number(out), count).slice() : null;
   const said = new Uint8Array(memory, Number(status), 1)[0];

@@ -80,7 +80,8 @@ const keyNumber = (key) => (key === "-inf" ? -1 : key === "+inf" ? Infinity : Nu
 // Each node aside stands below the place that its key has in the chain, or right of it where that is taken.
 function placeAside(state, chain, shown, places, y) {
   const taken = [];
-  for (const name of shown) {
+  const byKey = [...shown].sort((one, other) => keyNumber(state.nodes[one].key) - keyNumber(state.nodes[other].key));
+  for (const name of byKey) {
     const before = chain.filter((other) => other !== "tail" && keyNumber(state.nodes[other].key) < keyNumber(state.nodes[name].key));
     const place = places[before[before.length - 1] ?? "head"];
     let x = place.x + (place.width + GAP) / 2;
@@ -163,8 +164,9 @@ function pointerLabels(pointers, places) {
       const place = places[name];
       if (!place || place.folded) continue;
       const text = `▲ t${thread} ${at[name].join(", ")}`;
-      const label = { thread, name, text, left: place.x, right: place.x + 9 * text.length + 8, lane: 0 };
-      const isInTheWay = (other) => other.lane === label.lane && other.left < label.right && label.left < other.right;
+      const label = { thread, name, text, row: place.y, left: place.x, right: place.x + 9 * text.length + 8, lane: 0 };
+      const isBeside = (other) => other.left >= label.right || label.left >= other.right;
+      const isInTheWay = (other) => other.row === label.row && other.lane === label.lane && !isBeside(other);
       while (labels.some(isInTheWay)) label.lane++;
       labels.push(label);
     }
@@ -194,13 +196,13 @@ function arranged(state, event) {
   const items = foldedChain(chain, important);
   const { places, width } = placesOfChain(items);
   const { shown, more } = nodesAside(state, chain, important);
-  const lanesUnder = (labels) => labels.reduce((most, label) => Math.max(most, label.lane + 1), 0);
-  const below = TOP + NODE_HEIGHT + 18 * lanesUnder(pointerLabels(pointers, places)) + 62;
+  const lanesUnder = (labels, row) => labels.reduce((most, label) => (label.row === row ? Math.max(most, label.lane + 1) : most), 0);
+  const below = TOP + NODE_HEIGHT + 18 * lanesUnder(pointerLabels(pointers, places), TOP) + 62;
   const right = placeAside(state, chain, shown, places, below);
   const labels = pointerLabels(pointers, places);
   const bottom = shown.length > 0 ? below : TOP;
   const names = [...items.filter((item) => item.name).map((item) => item.name), ...shown];
-  const height = bottom + NODE_HEIGHT + 18 * lanesUnder(labels) + 14;
+  const height = bottom + NODE_HEIGHT + 18 * lanesUnder(labels, bottom) + 14;
   return { chain, items, places, labels, names, more, width: Math.max(width, right, 420), height };
 }
 

@@ -160,7 +160,7 @@ function runText(text, count) {
     tellFault(null, "", fault.message);
     return;
   }
-  if (answer.text.startsWith("listset-trace")) takeTrace(answer.text, count, "this run: by the proved replayer, in this browser");
+  if (answer.text.startsWith("listset-trace")) takeTrace(answer.text, count, "run by the proved replayer");
   else tellLine(answer.text.trim());
   showMarks();
   refreshReport();
