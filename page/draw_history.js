@@ -21,7 +21,14 @@ function scaleOf(trace, count, width) {
   const step = (width - HISTORY_LEFT - HISTORY_RIGHT) / (last - first + 1);
   const lane = trace.threads > 12 ? 24 : trace.threads > 6 ? 32 : 40;
   return {
-    first, last, step, lane, width, edge: width - HISTORY_RIGHT, count, height: 12 + trace.threads * lane,
+    first,
+    last,
+    step,
+    lane,
+    width,
+    count,
+    edge: width - HISTORY_RIGHT,
+    height: 12 + trace.threads * lane,
     x: (moment) => HISTORY_LEFT + (moment - first + 0.5) * step,
     y: (thread) => 8 + thread * lane + lane / 2,
   };
@@ -32,14 +39,18 @@ const isReached = (call, count) => call.at <= count && (call.changes || (call.en
 const callText = (call) => `${call.operation}(${call.key})`;
 const openReply = "true"; // an open call that stands in the order has changed the set
 
-function drawLanes(trace, scale) {
-  let drawn = "";
-  for (let thread = 0; thread < trace.threads; thread++) {
-    const y = scale.y(thread);
-    drawn += `<line class="lane" x1="${HISTORY_LEFT - 6}" x2="${scale.edge}" y1="${y}" y2="${y}"/>` +
-      `<g class="badge ${colourOf(thread)}"><rect x="2" y="${y - 10}" width="38" height="20" rx="4"/><text x="21" y="${y + 5}">t${thread}</text></g>`;
-  }
-  return drawn;
+function drawLane(scale, thread) {
+  const y = scale.y(thread);
+  const badge = tag("rect", { x: 2, y: y - 10, width: 38, height: 20, rx: 4 }) + label({ x: 21, y: y + 5 }, `t${thread}`);
+  return (
+    tag("line", { class: "lane", x1: HISTORY_LEFT - 6, x2: scale.edge, y1: y, y2: y }) +
+    tag("g", { class: `badge ${colourOf(thread)}` }, badge)
+  );
+}
+
+function callInWords(call) {
+  const events = `events ${call.begun} to ${call.ended ?? "the end"}`;
+  return `call ${call.id}: t${call.thread} ${callText(call)} ${call.reply ?? "still open"}, ${events}`;
 }
 
 function drawBar(call, scale) {
@@ -49,9 +60,13 @@ function drawBar(call, scale) {
   const left = call.begun < first ? HISTORY_LEFT - 6 : scale.x(call.begun);
   const right = call.ended === null || call.ended > last ? scale.edge : scale.x(call.ended);
   const state = `${call.begun <= count ? "begun" : "later"}${call.ended === null ? " open" : ""}`;
-  const told = `call ${call.id}: t${call.thread} ${callText(call)} ${call.reply ?? "still open"}, events ${call.begun} to ${call.ended ?? "the end"}`;
-  return `<g class="bar ${state} ${colourOf(call.thread)}"><title>${told}</title><rect x="${left}" y="${y - half}" width="${Math.max(right - left, 4)}" ` +
-    `height="${2 * half}" rx="4"/>${drawBarText(call, scale, left, right, y)}</g>`;
+  return tag(
+    "g",
+    { class: `bar ${state} ${colourOf(call.thread)}` },
+    title(callInWords(call)),
+    tag("rect", { x: left, y: y - half, width: Math.max(right - left, 4), height: 2 * half, rx: 4 }),
+    drawBarText(call, scale, left, right, y),
+  );
 }
 
 // The call and its reply, left of the point or right of it, where there is room.
@@ -62,8 +77,8 @@ function drawBarText(call, scale, left, right, y) {
   const start = point > wide + 14 || point < -8 ? 6 : point + 13;
   if (right - left <= wide + start) return "";
   const done = call.ended !== null && call.ended <= scale.count;
-  const reply = call.reply === null ? "" : `<tspan class="reply${done ? "" : " later"}"> ${call.reply}</tspan>`;
-  return `<text x="${left + start}" y="${y + 5}">${callText(call)}${reply}</text>`;
+  const reply = call.reply === null ? "" : tag("tspan", { class: done ? "reply" : "reply later" }, ` ${call.reply}`);
+  return tag("text", { x: left + start, y: y + 5 }, callText(call), reply);
 }
 
 // The point of a call: a disc where it changes the set, a ring where its reply fits there.
@@ -71,23 +86,33 @@ function drawPoint(call, scale) {
   const x = scale.x(call.at);
   const y = scale.y(call.thread);
   const state = isReached(call, scale.count) ? "reached" : "later";
-  const told = `call ${call.id}, ${callText(call)}, ${call.changes ? "changes the set at" : "changes nothing; its reply fits at"} event ${call.at}`;
-  const inner = call.changes ? "" : `<circle class="hole" cx="${x}" cy="${y}" r="3"/>`;
-  return `<g class="point ${state} ${colourOf(call.thread)}"><title>${told}</title><line x1="${x}" x2="${x}" y1="${y}" y2="${scale.height}"/>` +
-    `<circle cx="${x}" cy="${y}" r="6.5"/>${inner}</g>`;
+  const how = call.changes ? "changes the set at" : "changes nothing; its reply fits at";
+  return tag(
+    "g",
+    { class: `point ${state} ${colourOf(call.thread)}` },
+    title(`call ${call.id}, ${callText(call)}, ${how} event ${call.at}`),
+    tag("line", { x1: x, x2: x, y1: y, y2: scale.height }),
+    tag("circle", { cx: x, cy: y, r: 6.5 }),
+    call.changes ? "" : tag("circle", { class: "hole", cx: x, cy: y, r: 3 }),
+  );
 }
 
 function drawCursor(scale, bottom) {
   if (scale.count < scale.first || scale.count > scale.last) return "";
-  return `<line class="cursor" x1="${scale.x(scale.count)}" x2="${scale.x(scale.count)}" y1="0" y2="${bottom}"/>`;
+  const x = scale.x(scale.count);
+  return tag("line", { class: "cursor", x1: x, x2: x, y1: 0, y2: bottom });
 }
 
 // The bars and points: the part that scrolls where there are many threads.
 function drawCalls(trace, scale) {
-  const shown = trace.calls.filter((call) => call.begun <= scale.last && (call.ended === null || call.ended >= scale.first));
-  const placed = trace.calls.filter((call) => call.at !== null && call.at >= scale.first && call.at <= scale.last);
-  return `<svg width="${scale.width}" height="${scale.height}" role="img" aria-label="the history of the calls">${drawLanes(trace, scale)}` +
-    `${shown.map((call) => drawBar(call, scale)).join("")}${placed.map((call) => drawPoint(call, scale)).join("")}${drawCursor(scale, scale.height)}</svg>`;
+  const { first, last, width, height } = scale;
+  const shown = trace.calls.filter((call) => call.begun <= last && (call.ended === null || call.ended >= first));
+  const placed = shown.filter((call) => call.at !== null && call.at >= first && call.at <= last);
+  const lanes = Array.from({ length: trace.threads }, (_, thread) => drawLane(scale, thread));
+  const bars = shown.map((call) => drawBar(call, scale));
+  const points = placed.map((call) => drawPoint(call, scale));
+  const frame = { width, height, role: "img", "aria-label": "the history of the calls" };
+  return tag("svg", frame, ...lanes, ...bars, ...points, drawCursor(scale, height));
 }
 
 function drawContent(part, scale) {
@@ -97,21 +122,30 @@ function drawContent(part, scale) {
   const room = Math.floor((right - left - 10) / 8);
   const text = all.length <= room ? all : room > 6 ? `${all.slice(0, room - 2)}…` : "";
   const isNow = scale.count < part.to && (scale.count >= part.from || part.from <= scale.first);
-  return `<g class="content${isNow ? " now" : ""}"><title>${all}</title><rect x="${left}" y="0" width="${Math.max(right - left, 1)}" height="24"/>` +
-    `<text x="${left + 5}" y="17">${text}</text></g>`;
+  return tag(
+    "g",
+    { class: isNow ? "content now" : "content" },
+    title(all),
+    tag("rect", { x: left, y: 0, width: Math.max(right - left, 1), height: 24 }),
+    label({ x: left + 5, y: 17 }, text),
+  );
+}
+
+// Which events are drawn, where they are not all; on the side where the number of the event is not.
+function drawWindow(scale, total, x) {
+  if (scale.first === 1 && scale.last >= total) return "";
+  const place = x > scale.width / 2 ? { x: 4, "text-anchor": "start" } : { x: scale.edge, "text-anchor": "end" };
+  return label({ class: "note", y: 42, ...place }, `events ${scale.first} to ${scale.last} of ${total}`);
 }
 
 // The contents of the set, and below them the number of the event.
 function drawContents(trace, scale) {
-  const parts = contentsIn(trace, scale.first, scale.last).map((part) => drawContent(part, scale)).join("");
-  const total = trace.events.length;
-  const isWindow = scale.first > 1 || scale.last < total;
+  const parts = contentsIn(trace, scale.first, scale.last).map((part) => drawContent(part, scale));
   const x = Math.min(Math.max(scale.x(scale.count), HISTORY_LEFT + 12), scale.width - 44);
-  const number = scale.count > 0 ? `<text class="number" x="${x}" y="42">event ${scale.count}</text>` : "";
-  const onLeft = x > scale.width / 2;
-  const note = isWindow ? `<text class="note" x="${onLeft ? 4 : scale.edge}" y="42" text-anchor="${onLeft ? "start" : "end"}">events ${scale.first} to ${scale.last} of ${total}</text>` : "";
-  return `<svg width="${scale.width}" height="50" role="img" aria-label="the contents of the set"><text class="name" x="6" y="17">set</text>${parts}` +
-    `${drawCursor(scale, 24)}${number}${note}</svg>`;
+  const number = scale.count > 0 ? label({ class: "number", x, y: 42 }, `event ${scale.count}`) : "";
+  const name = label({ class: "name", x: 6, y: 17 }, "set");
+  const frame = { width: scale.width, height: 50, role: "img", "aria-label": "the contents of the set" };
+  return tag("svg", frame, name, ...parts, drawCursor(scale, 24), number, drawWindow(scale, trace.events.length, x));
 }
 
 // The order of the calls: those that are reached, and pale those that come later.

@@ -11,10 +11,6 @@ const MOST_UNFOLDED = 14; // a longer chain is folded
 const MOST_ASIDE = 10; // nodes drawn that are not in the chain
 const MOST_POINTING = 6; // threads whose registers are drawn
 
-const escaped = (text) => String(text).replace(/[&<>"]/g, (sign) => ({ "&": "&amp;", "<": "&lt;", ">": "&gt;", '"': "&quot;" })[sign]);
-const colourOf = (thread) => `thread-${thread % 8}`;
-const keyText = (key) => String(key).replace("-inf", "−∞").replace("+inf", "+∞");
-const chipOf = (thread) => `<span class="chip ${colourOf(thread)}">t${thread}</span>`;
 
 // The registers of the threads that point at nodes: of the thread of this event, and then of those with the least numbers.
 function pointersOf(state, event) {
@@ -36,7 +32,8 @@ function importantNodes(state, event, pointers) {
   const important = new Set(["head", "tail"]);
   if (event?.word) important.add(event.word.split(".")[0]);
   for (const { at } of pointers) Object.keys(at).forEach((name) => important.add(name));
-  Object.keys(state.nodes).filter((name) => state.nodes[name].lock !== "free").slice(0, 8).forEach((name) => important.add(name));
+  const locked = Object.keys(state.nodes).filter((name) => state.nodes[name].lock !== "free");
+  locked.slice(0, 8).forEach((name) => important.add(name));
   return important;
 }
 
@@ -60,8 +57,9 @@ function placesOfChain(items) {
   let x = 16;
   for (const item of items) {
     item.x = x;
-    for (const name of item.folded ?? [item.name]) places[name] = { x, y: TOP, width: item.folded ? FOLD_WIDTH : NODE_WIDTH, folded: !!item.folded };
-    x += (item.folded ? FOLD_WIDTH : NODE_WIDTH) + GAP;
+    const width = item.folded ? FOLD_WIDTH : NODE_WIDTH;
+    for (const name of item.folded ?? [item.name]) places[name] = { x, y: TOP, width, folded: !!item.folded };
+    x += width + GAP;
   }
   return { places, width: x - GAP + 16 };
 }
@@ -82,7 +80,8 @@ function placeAside(state, chain, shown, places, y) {
   const taken = [];
   const byKey = [...shown].sort((one, other) => keyNumber(state.nodes[one].key) - keyNumber(state.nodes[other].key));
   for (const name of byKey) {
-    const before = chain.filter((other) => other !== "tail" && keyNumber(state.nodes[other].key) < keyNumber(state.nodes[name].key));
+    const key = keyNumber(state.nodes[name].key);
+    const before = chain.filter((other) => keyNumber(state.nodes[other].key) < key);
     const place = places[before[before.length - 1] ?? "head"];
     let x = place.x + (place.width + GAP) / 2;
     while (taken.some((other) => Math.abs(other - x) < NODE_WIDTH + 12)) x += NODE_WIDTH + 16;
@@ -92,39 +91,72 @@ function placeAside(state, chain, shown, places, y) {
   return taken.length === 0 ? 0 : Math.max(...taken) + NODE_WIDTH + 16;
 }
 
+// What a node is: one of the chain, a thread's own that is not in it yet, or one that was taken out.
+function kindOf(state, name, place) {
+  if (!state.nodes[name].reached) return `own ${colourOf(ownerOf(state.trace, name))}`;
+  return place.aside ? "out" : "in";
+}
+
+function nodeInWords(node, name, kind) {
+  const where = { in: "", out: ", taken out" }[kind] ?? ", not in the list yet";
+  return `${name}: key ${keyText(node.key)}, link ${said(node.link)}, lock ${node.lock}${where}`;
+}
+
 function drawNode(state, name, place, event) {
   const node = state.nodes[name];
-  const isMarked = node.link.endsWith("*");
-  const isOwn = !node.reached;
-  const kind = isOwn ? `own ${colourOf(ownerOf(state.trace, name))}` : place.aside ? "out" : "in";
   const { x, y } = place;
-  const side = x + NODE_WIDTH - LINK_WIDTH;
+  const kind = kindOf(state, name, place);
+  const isMarked = node.link.endsWith("*");
   const [hot, field] = event?.word?.split(".") ?? [];
-  const label = keyText(node.key);
-  const size = label.length > 7 ? 11 : label.length > 4 ? 16 : 21;
-  const told = `${name}: key ${label}, link ${said(node.link)}, lock ${node.lock}` + (isOwn ? ", not in the list yet" : place.aside ? ", taken out" : "");
-  let drawn = `<g class="node ${kind}"><title>${told}</title>`;
-  if (hot === name) drawn += `<rect data-hot="${x}" class="hot" x="${x - 6}" y="${y - 6}" width="${NODE_WIDTH + 12}" height="${NODE_HEIGHT + 12}" rx="9"/>`;
-  drawn += `<rect class="box${isMarked ? " marked" : ""}" x="${x}" y="${y}" width="${NODE_WIDTH}" height="${NODE_HEIGHT}" rx="5"/>`;
-  drawn += `<line class="side" x1="${side}" x2="${side}" y1="${y}" y2="${y + NODE_HEIGHT}"/>`;
-  drawn += `<text class="key${hot === name && field === "key" ? " touched" : ""}" x="${(x + side) / 2}" y="${y + 34}" font-size="${size}">${label}</text>`;
-  drawn += `<text class="name" x="${x + 2}" y="${y - 7}">${name}</text>`;
-  if (isMarked) drawn += `<text class="cross" x="${side + LINK_WIDTH / 2}" y="${y + 34}">✗</text>`;
-  return drawn + (node.lock === "free" ? "" : drawLock(node.lock, x + NODE_WIDTH - 38, y - 28)) + "</g>";
+  const box = { x, y, width: NODE_WIDTH, height: NODE_HEIGHT, rx: 5, class: isMarked ? "box marked" : "box" };
+  const side = x + NODE_WIDTH - LINK_WIDTH;
+  return tag(
+    "g",
+    { class: `node ${kind}` },
+    title(nodeInWords(node, name, kind)),
+    hot === name ? drawHot(x, y) : "",
+    tag("rect", box),
+    tag("line", { class: "side", x1: side, x2: side, y1: y, y2: y + NODE_HEIGHT }),
+    drawKey(node, (x + side) / 2, y + 34, hot === name && field === "key"),
+    label({ class: "name", x: x + 2, y: y - 7 }, name),
+    isMarked ? label({ class: "cross", x: side + LINK_WIDTH / 2, y: y + 34 }, "✗") : "",
+    node.lock === "free" ? "" : drawLock(node.lock, x + NODE_WIDTH - 38, y - 28),
+  );
+}
+
+// The frame of the node that the event touches.
+const drawHot = (x, y) =>
+  tag("rect", { "data-hot": x, class: "hot", x: x - 6, y: y - 6, width: NODE_WIDTH + 12, height: NODE_HEIGHT + 12, rx: 9 });
+
+function drawKey(node, x, y, isTouched) {
+  const text = keyText(node.key);
+  const size = text.length > 7 ? 11 : text.length > 4 ? 16 : 21;
+  return label({ class: isTouched ? "key touched" : "key", x, y, style: `font-size:${size}px` }, text);
 }
 
 // A padlock with the thread that has it.
 function drawLock(lock, x, y) {
   const thread = Number(lock.slice(1));
-  return `<g class="lock ${colourOf(thread)}" transform="translate(${x},${y})"><title>locked by t${thread}</title><path d="M12 9 v-3 a6 6 0 0 1 12 0 v3"/>` +
-    `<rect x="0" y="8" width="36" height="18" rx="4"/><text x="18" y="22">t${thread}</text></g>`;
+  return tag(
+    "g",
+    { class: `lock ${colourOf(thread)}`, transform: `translate(${x},${y})` },
+    title(`locked by t${thread}`),
+    tag("path", { d: "M12 9 v-3 a6 6 0 0 1 12 0 v3" }),
+    tag("rect", { x: 0, y: 8, width: 36, height: 18, rx: 4 }),
+    label({ x: 18, y: 22 }, `t${thread}`),
+  );
 }
 
 function drawFold(item) {
   const { x } = item;
   const count = item.folded.length;
-  return `<g class="fold"><title>${count} nodes of the chain that no thread looks at</title><rect x="${x}" y="${TOP + 9}" width="${FOLD_WIDTH}" height="${NODE_HEIGHT - 18}" rx="18"/>` +
-    `<text x="${x + FOLD_WIDTH / 2}" y="${TOP + NODE_HEIGHT / 2 + 5}">… ${count} …</text></g>`;
+  return tag(
+    "g",
+    { class: "fold" },
+    title(`${count} nodes of the chain that no thread looks at`),
+    tag("rect", { x, y: TOP + 9, width: FOLD_WIDTH, height: NODE_HEIGHT - 18, rx: 18 }),
+    label({ x: x + FOLD_WIDTH / 2, y: TOP + NODE_HEIGHT / 2 + 5 }, `… ${count} …`),
+  );
 }
 
 // The arrow of a node's link.
@@ -134,18 +166,25 @@ function drawLink(state, name, places, event) {
   const from = places[name];
   const to = places[target];
   if (!to || from.folded || name === "tail" || (target === "head" && !reached)) return "";
-  const isHot = event?.word === `${name}.link`;
+  const kind = event?.word === `${name}.link` ? "hot" : from.aside ? "out" : "in";
   const isMarked = link.endsWith("*");
-  const x1 = from.x + NODE_WIDTH - (isMarked ? 1 : LINK_WIDTH / 2);
-  const y1 = from.y + NODE_HEIGHT / 2;
+  const x = from.x + NODE_WIDTH - (isMarked ? 1 : LINK_WIDTH / 2);
+  const y = from.y + NODE_HEIGHT / 2;
+  return tag(
+    "g",
+    { class: `link ${kind}${from.aside ? " aside" : ""}` },
+    title(`${name}.link: ${said(link)}`),
+    isMarked ? "" : tag("circle", { cx: x, cy: y, r: 4 }),
+    tag("path", { d: pathOf(from, to, x, y), "marker-end": `url(#tip-${kind})` }),
+  );
+}
+
+function pathOf(from, to, x1, y1) {
   const x2 = to.x - 3;
   const y2 = to.y + NODE_HEIGHT / 2;
-  const kind = isHot ? "hot" : from.aside ? "out" : "in";
-  let path = `M${x1} ${y1} C${x1 + 50} ${y1}, ${x2 - 30} ${y2}, ${x2} ${y2}`;
-  if (!from.aside && !to.aside) path = `M${x1} ${y1} L${x2} ${y2}`;
-  else if (from.aside && !to.aside) path = pathUp(from, to, x1, y1);
-  const root = isMarked ? "" : `<circle cx="${x1}" cy="${y1}" r="4"/>`;
-  return `<g class="link ${kind}${from.aside ? " aside" : ""}"><title>${name}.link: ${said(link)}</title>${root}<path d="${path}" marker-end="url(#tip-${kind})"/></g>`;
+  if (!from.aside && !to.aside) return `M${x1} ${y1} L${x2} ${y2}`;
+  if (from.aside && !to.aside) return pathUp(from, to, x1, y1);
+  return `M${x1} ${y1} C${x1 + 50} ${y1}, ${x2 - 30} ${y2}, ${x2} ${y2}`;
 }
 
 // From a node below the chain to one in it: up into its bottom's right corner, where no register is written.
@@ -164,29 +203,41 @@ function pointerLabels(pointers, places) {
       const place = places[name];
       if (!place || place.folded) continue;
       const text = `▲ t${thread} ${at[name].join(", ")}`;
-      const label = { thread, name, text, row: place.y, left: place.x, right: place.x + 9 * text.length + 8, lane: 0 };
-      const isBeside = (other) => other.left >= label.right || label.left >= other.right;
-      const isInTheWay = (other) => other.row === label.row && other.lane === label.lane && !isBeside(other);
-      while (labels.some(isInTheWay)) label.lane++;
-      labels.push(label);
+      const right = place.x + 9 * text.length + 8;
+      const own = { thread, name, text, row: place.y, left: place.x, right, lane: 0 };
+      const isBeside = (other) => other.left >= own.right || own.left >= other.right;
+      const isInTheWay = (other) => other.row === own.row && other.lane === own.lane && !isBeside(other);
+      while (labels.some(isInTheWay)) own.lane++;
+      labels.push(own);
     }
   }
   return labels;
 }
 
 const drawPointer = ({ thread, name, text, left, lane }, places) =>
-  `<text class="pointer ${colourOf(thread)}" x="${left}" y="${places[name].y + NODE_HEIGHT + 21 + 18 * lane}">${text}</text>`;
+  label({ class: `pointer ${colourOf(thread)}`, x: left, y: places[name].y + NODE_HEIGHT + 21 + 18 * lane }, text);
 
 function drawListLock(state) {
   if (state.trace.kind !== "coarse") return "";
-  const lock = state.lock === "free" ? '<text x="98" y="20" class="free">free</text>' : drawLock(state.lock, 98, -2);
-  return `<text class="name" x="16" y="20">the list's lock</text><g transform="translate(12,0)">${lock}</g>`;
+  const lock = state.lock === "free" ? label({ x: 110, y: 20 }, "free") : drawLock(state.lock, 110, -2);
+  return label({ class: "name", x: 16, y: 20 }, "the list's lock") + lock;
 }
 
-const MARKERS = ["in", "out", "hot"].map((kind) => `<marker id="tip-${kind}" class="tip ${kind}" viewBox="0 0 10 10" refX="9" refY="5" ` +
-  'markerWidth="11" markerHeight="11" markerUnits="userSpaceOnUse" orient="auto"><path d="M0 0 L10 5 L0 10 z"/></marker>').join("");
-const DEFINITIONS = '<defs><pattern id="hatch" width="7" height="7" patternUnits="userSpaceOnUse" patternTransform="rotate(45)">' +
-  `<rect class="ground" width="7" height="7"/><line class="stripe" x1="0" x2="0" y1="0" y2="7"/></pattern>${MARKERS}</defs>`;
+const ARROW = { viewBox: "0 0 10 10", refX: 9, refY: 5, markerWidth: 11, markerHeight: 11, markerUnits: "userSpaceOnUse" };
+const drawTip = (kind) =>
+  tag("marker", { id: `tip-${kind}`, class: `tip ${kind}`, ...ARROW, orient: "auto" }, tag("path", { d: "M0 0 L10 5 L0 10 z" }));
+const HATCH = { id: "hatch", width: 7, height: 7, patternUnits: "userSpaceOnUse", patternTransform: "rotate(45)" };
+const DEFINITIONS = tag(
+  "defs",
+  {},
+  tag(
+    "pattern",
+    HATCH,
+    tag("rect", { class: "ground", width: 7, height: 7 }),
+    tag("line", { class: "stripe", x1: 0, x2: 0, y1: 0, y2: 7 }),
+  ),
+  ...["in", "out", "hot"].map(drawTip),
+);
 
 // The places of all nodes that are drawn, of the registers under them, and the size of the whole.
 function arranged(state, event) {
@@ -196,7 +247,7 @@ function arranged(state, event) {
   const items = foldedChain(chain, important);
   const { places, width } = placesOfChain(items);
   const { shown, more } = nodesAside(state, chain, important);
-  const lanesUnder = (labels, row) => labels.reduce((most, label) => (label.row === row ? Math.max(most, label.lane + 1) : most), 0);
+  const lanesUnder = (labels, row) => Math.max(0, ...labels.filter((own) => own.row === row).map((own) => own.lane + 1));
   const below = TOP + NODE_HEIGHT + 18 * lanesUnder(pointerLabels(pointers, places), TOP) + 62;
   const right = placeAside(state, chain, shown, places, below);
   const labels = pointerLabels(pointers, places);
@@ -208,23 +259,33 @@ function arranged(state, event) {
 
 function drawList(state, event, room) {
   const { chain, items, places, labels, names, more, width, height } = arranged(state, event);
-  const folds = items.filter((item) => item.folded).map(drawFold);
-  const foldLinks = items.map((item, index) => (item.folded && index + 1 < items.length ? drawFoldLink(item, items[index + 1]) : ""));
+  const folds = items.map((item, index) => (item.folded ? drawFold(item) + drawFoldLink(item, items[index + 1]) : ""));
   const nodes = names.map((name) => drawNode(state, name, places[name], event));
   const links = names.map((name) => drawLink(state, name, places, event));
-  const drawn = [...nodes, ...folds, ...foldLinks, ...links, ...labels.map((label) => drawPointer(label, places)), drawListLock(state)].join("");
+  const pointers = labels.map((own) => drawPointer(own, places));
   const scale = Math.max(0.9, Math.min(1.35, (room - 4) / width));
-  return `<svg width="${width * scale}" height="${height * scale}" viewBox="0 0 ${width} ${height}" role="img" aria-label="${listInWords(chain, state)}">` +
-    `${DEFINITIONS}${drawn}</svg>${more > 0 ? `<p class="note">and ${more} more nodes that are not in the chain</p>` : ""}`;
+  const frame = {
+    width: width * scale,
+    height: height * scale,
+    viewBox: `0 0 ${width} ${height}`,
+    role: "img",
+    "aria-label": listInWords(chain, state),
+  };
+  const drawn = tag("svg", frame, DEFINITIONS, ...nodes, ...folds, ...links, ...pointers, drawListLock(state));
+  return drawn + (more > 0 ? tag("p", { class: "note" }, `and ${more} more nodes that are not in the chain`) : "");
 }
 
+// The arrow from a fold to what comes after it; the tail is never folded.
 function drawFoldLink(item, next) {
   const y = TOP + NODE_HEIGHT / 2;
-  return `<g class="link in"><path d="M${item.x + FOLD_WIDTH} ${y} L${next.x - 3} ${y}" marker-end="url(#tip-in)"/></g>`;
+  const path = { d: `M${item.x + FOLD_WIDTH} ${y} L${next.x - 3} ${y}`, "marker-end": "url(#tip-in)" };
+  return tag("g", { class: "link in" }, tag("path", path));
 }
 
 // The chain for a reader of the screen.
 function listInWords(chain, state) {
-  const keys = chain.filter((name) => name !== "head" && name !== "tail").map((name) => keyText(state.nodes[name].key) + (state.nodes[name].link.endsWith("*") ? " marked" : ""));
-  return escaped(keys.length === 0 ? "the list is empty" : `the list: ${keys.slice(0, 40).join(", ")}${keys.length > 40 ? ", and more" : ""}`);
+  const inside = chain.filter((name) => name !== "head" && name !== "tail").map((name) => state.nodes[name]);
+  const keys = inside.map((node) => keyText(node.key) + (node.link.endsWith("*") ? " marked" : ""));
+  if (keys.length === 0) return "the list is empty";
+  return `the list: ${keys.slice(0, 40).join(", ")}${keys.length > 40 ? ", and more" : ""}`;
 }

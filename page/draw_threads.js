@@ -3,7 +3,6 @@
 
 const MOST_ROWS = 8; // of more threads only those with an open call are shown at first
 
-const said = (value) => (value.endsWith("*") ? `${value.slice(0, -1)}, marked` : keyText(value));
 const isLock = (word) => word.endsWith(".lock");
 const mono = (text) => `<b class="mono">${text}</b>`;
 
@@ -29,7 +28,8 @@ function effectText(trace, event) {
 }
 
 function sentenceOf(trace, count) {
-  if (count === 0) return trace.events.length > 0 ? "Before the first event the list is empty and every thread is at rest." : "The schedule has no event.";
+  if (trace.events.length === 0) return "The schedule has no event.";
+  if (count === 0) return "Before the first event the list is empty and every thread is at rest.";
   const event = trace.events[count - 1];
   let text = `${chipOf(event.thread)} ${deedText(event)}`;
   if (event.put !== undefined) text += ` <b>This puts ${event.put} into the set.</b>`;
@@ -46,7 +46,8 @@ function threadsShown(state, event, all) {
 
 function callCell(held, moved, event) {
   if (held.pc !== 0) return callText(held.call);
-  return moved && event.answer !== undefined ? `${callText(held.call)} <b>${event.answer}</b>` : '<span class="pale">at rest</span>';
+  if (moved && event.answer !== undefined) return `${callText(held.call)} <b>${event.answer}</b>`;
+  return '<span class="pale">at rest</span>';
 }
 
 function rowCell(held, kind) {
@@ -63,18 +64,24 @@ function registerCell(held, name, moved, event) {
 }
 
 function threadRow(state, thread, event) {
+  const { kind, quota } = state.trace;
   const held = state.threads[thread];
   const moved = event?.thread === thread;
-  const registers = LISTS[state.trace.kind].registers.map((name) => `<td>${registerCell(held, name, moved, event)}</td>`).join("");
-  return `<tr${moved ? ' class="moved"' : ""}><th scope="row">${chipOf(thread)}</th><td>${callCell(held, moved, event)}</td>` +
-    `<td class="next">${rowCell(held, state.trace.kind)}</td>${registers}<td>${held.pc !== 0 && held.reply !== "none" ? held.reply : ""}</td>` +
-    `<td>${held.used} of ${state.trace.quota}</td></tr>`;
+  const cells = [
+    tag("td", {}, callCell(held, moved, event)),
+    tag("td", { class: "next" }, rowCell(held, kind)),
+    ...LISTS[kind].registers.map((name) => tag("td", {}, registerCell(held, name, moved, event))),
+    tag("td", {}, held.pc !== 0 && held.reply !== "none" ? held.reply : ""),
+    tag("td", {}, `${held.used} of ${quota}`),
+  ];
+  return tag("tr", moved ? { class: "moved" } : {}, tag("th", { scope: "row" }, chipOf(thread)), ...cells);
 }
 
 function drawThreads(state, event, all) {
-  const heads = ["thread", "call", "next row of the table", ...LISTS[state.trace.kind].registers, "reply", "slots used"];
-  const shown = threadsShown(state, event, all);
-  const rows = shown.map((thread) => threadRow(state, thread, event)).join("");
-  const none = shown.length === 0 ? `<tr><td colspan="${heads.length}" class="pale">every thread is at rest</td></tr>` : "";
-  return `<table><thead><tr>${heads.map((head) => `<th scope="col">${head}</th>`).join("")}</tr></thead><tbody>${rows}${none}</tbody></table>`;
+  const { registers } = LISTS[state.trace.kind];
+  const heads = ["thread", "call", "next row of the table", ...registers, "reply", "slots used"];
+  const rows = threadsShown(state, event, all).map((thread) => threadRow(state, thread, event));
+  if (rows.length === 0) rows.push(`<tr><td colspan="${heads.length}" class="pale">every thread is at rest</td></tr>`);
+  const head = tag("tr", {}, ...heads.map((text) => tag("th", { scope: "col" }, text)));
+  return tag("table", {}, tag("thead", {}, head), tag("tbody", {}, ...rows));
 }

@@ -2,7 +2,13 @@
 import json
 import re
 
-TITLES = {"CoarseList": "coarse", "FineList": "fine", "OptimisticList": "optimistic", "LazyList": "lazy", "LockFreeList": "lock-free"}
+TITLES = {
+    "CoarseList": "coarse",
+    "FineList": "fine",
+    "OptimisticList": "optimistic",
+    "LazyList": "lazy",
+    "LockFreeList": "lock-free",
+}
 REGISTERS = ["pred", "curr", "succ", "node", "pkey", "ckey"]
 
 

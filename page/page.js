@@ -16,8 +16,21 @@ const CAUSES = {
   Idle: "the thread has no call open",
 };
 
+const NO_ENGINE = "The engine is not here: no schedule can be run and no report checked. A file of listset trace can be opened.";
+
 // What the page holds: the engine, the trace that is shown, the state after `count` of its events.
-const page = { engine: null, trace: null, state: null, count: 0, source: "", faultLine: null, text: "", before: [], allThreads: false, example: "" };
+const page = {
+  engine: null,
+  trace: null,
+  state: null,
+  count: 0,
+  source: "",
+  text: "", // the schedule that was run last
+  faultLine: null, // of that text
+  example: "", // whose text that is
+  before: [], // the schedules before, for Undo
+  allThreads: false,
+};
 const byId = (id) => document.getElementById(id);
 
 function show() {
@@ -39,7 +52,8 @@ function show() {
   showHistory(event);
   byId("order").innerHTML = drawOrder(trace, count);
   drawMoves(state, goOn, page.engine !== null);
-  byId("moves-note").textContent = page.engine === null ? "The engine is not here." : `Each goes on from event ${count}; what came after it is dropped.`;
+  const goesOn = `Each goes on from event ${count}; what came after it is dropped.`;
+  byId("moves-note").textContent = page.engine === null ? "The engine is not here." : goesOn;
   scrollToLine(event);
   showMarks();
   keepAddress();
@@ -150,7 +164,7 @@ function runText(text, count) {
   page.text = text;
   byId("schedule").value = text;
   if (page.engine === null) {
-    tellFault(null, "", "The engine is not here, so no schedule can be run. A file of listset trace can be opened.");
+    tellFault(null, "", NO_ENGINE);
     return;
   }
   let answer;
@@ -245,6 +259,7 @@ async function openFile(file) {
   const text = new TextDecoder().decode(bytes);
   const kind = kindOfFile(text);
   if (kind === "report") {
+    if (page.engine === null) return tellFault(null, "", NO_ENGINE);
     byId("report-box").open = true;
     return showReport(page.engine, text, `The report in ${file.name}:`);
   }
@@ -310,7 +325,7 @@ function listen() {
   byId("save-trace").onclick = () => saveText("page.trace", page.trace.text);
   listenToBox();
   document.addEventListener("keydown", pressKey);
-  window.addEventListener("resize", show);
+  window.addEventListener("resize", () => page.trace !== null && show());
 }
 
 function listenToBox() {

@@ -2,8 +2,8 @@
 // what was written and what its thread holds then.
 "use strict";
 
-const AT_REST = { pc: 0, used: 0, reply: "none", pred: "head", curr: "head", succ: "head", node: "head", pkey: "-inf", ckey: "-inf", call: null };
 const BEGUN = { pred: "head", curr: "head", succ: "head", node: "head", pkey: "-inf", ckey: "-inf", reply: "none" };
+const AT_REST = { pc: 0, used: 0, call: null, ...BEGUN };
 const linkTarget = (link) => link.replace("*", "");
 
 class State {

@@ -124,7 +124,8 @@ function takeBegin(pieces, event, trace) {
   const id = pieces.number(trace.calls.length, trace.calls.length, "number of the next call");
   pieces.expect("pc");
   event.changes = { pc: pieces.number(1, 255, "row") };
-  const call = { id, thread: event.thread, operation, key, begun: event.number, ended: null, at: null, changes: false, reply: null };
+  const begun = { id, thread: event.thread, operation, key, begun: event.number };
+  const call = { ...begun, ended: null, at: null, changes: false, reply: null };
   event.call = call;
   trace.calls.push(call);
   trace.open[event.thread] = call;
@@ -215,7 +216,11 @@ function readHeader(lines) {
   list.end();
   const threads = header(3, "threads");
   const quota = header(4, "quota");
-  const trace = { kind, threads: threads.number(1, MOST_THREADS, "number of threads"), quota: quota.number(0, MOST_QUOTA, "quota") };
+  const trace = {
+    kind,
+    threads: threads.number(1, MOST_THREADS, "number of threads"),
+    quota: quota.number(0, MOST_QUOTA, "quota"),
+  };
   threads.end();
   quota.end();
   return trace;
@@ -237,13 +242,14 @@ function readTrace(text) {
       break;
     }
   }
-  if (lines.length !== number + 1 || lines[number] !== "") throw new TraceFault(number, "the last line, and one newline, end a trace");
+  const isEnded = lines.length === number + 1 && lines[number] === "";
+  if (!isEnded) throw new TraceFault(number, "the last line, and one newline, end a trace");
   delete trace.open;
   trace.order = orderOf(trace.calls);
   return trace;
 }
 
-// The calls that stand in the order: by their moments, at one moment the call that changes the set first, then by their numbers.
+// The calls that stand in the order: by their moments, at one moment the call that changes the set first, then by number.
 function orderOf(calls) {
   const placed = calls.filter((call) => call.at !== null);
   return placed.sort((one, other) => one.at - other.at || Number(other.changes) - Number(one.changes) || one.id - other.id);

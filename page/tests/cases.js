@@ -15,9 +15,10 @@ async function compared(engine, cases) {
     const name = `listset ${wanted.words.join(" ")} on ${JSON.stringify(atob(wanted.text).slice(0, 300))}`;
     try {
       const answer = engine.askBytes(wanted.function, bytesOf(wanted.text));
-      const isSame = answer.status === wanted.status && answer.bytes.length === wanted.length && (await sumOf(answer.bytes)) === wanted.sum;
-      if (isSame) result.passed++;
-      else result.failed.push(`${name}: status ${answer.status} and ${answer.bytes.length} bytes, not ${wanted.status} and ${wanted.length}`);
+      const found = `status ${answer.status}, ${answer.bytes.length} bytes, sum ${await sumOf(answer.bytes)}`;
+      const due = `status ${wanted.status}, ${wanted.length} bytes, sum ${wanted.sum}`;
+      if (found === due) result.passed++;
+      else result.failed.push(`${name}: ${found}, not ${due}`);
     } catch (fault) {
       result.failed.push(`${name}: ${fault.message}`);
     }
