@@ -24,7 +24,10 @@ pub record IsHanded (made : Made) (old new : List ℕ) (status count : ℕ) : Ty
   pub status_is : status ≡ status_of made
   pub count_is : count ≡ length (text_of made)
 
--- A tool that makes something of a text ends so outside. No device is read, so none fails.
+-- Something is made of a text that is given: no device is read for it, so none fails.
+abbrev pub OfText : (List ℕ → Made → Type 0) → List ℕ → Made → Type 0
+OfText Makes text made = Makes text made × (made ≢ Err CannotRead)
+
+-- A tool ends so outside: what it made is handed over.
 abbrev pub Hands : (Made → Type 0) → List ℕ → List ℕ → ℕ → ℕ → Type 0
-Hands IsMade old new status count =
-    (made : Made) × IsMade made × (made ≢ Err CannotRead) × IsHanded made old new status count
+Hands IsMade old new status count = (made : Made) × IsMade made × IsHanded made old new status count

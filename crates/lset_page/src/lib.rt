@@ -1,20 +1,30 @@
 //! The tools as functions of C for a web page: a text in, a text out, and the exit status of the program `listset`.
+//!
+//! Each function puts what the program prints of the text, on its output or as the line about a trouble, at the front of
+//! `room`, gives its length in bytes, and sets `status` to the program's exit status: 0, 1 where something is wrong with the
+//! text, 2 where a name is wrong, 3 where memory was refused. Where `room` is too short nothing is written there, and the
+//! caller asks again with as many bytes. That is our own form of a call across the border of a WebAssembly module.
 #![tactic(auto)]
 
 mod handing;
+mod naming;
 
+ghost use Rattle.std.specs.Prelude.{true, false, None, Some};
 ghost use Rattle.lset_tools.specs.Replaying.{Replays};
 ghost use Rattle.lset_tools.specs.Checking.{Checks};
-ghost use Rattle.lset_page.specs.Page.{Hands};
+ghost use Rattle.lset_trace.specs.Tracing.{Traces};
+ghost use Rattle.lset_examples.specs.Exampling.{Exampled};
+ghost use Rattle.lset_page.specs.Page.{Hands, OfText};
 
 use handing::hand;
+use lset_examples::exampled;
 use lset_tools::{checked, replayed};
+use lset_trace::traced;
+use naming::exampled_by;
 use std::alloc::Global;
 
-/// Replays the schedule whose text is given: puts what `listset replay` prints of it at the front of `room` where that is
-/// long enough, gives its length in bytes, and sets `status` to the exit status: 0 with the report, 1 with the line about the
-/// first fault of the text or the first event that is not enabled, or where the text has more than `LONGEST` bytes, and 3
-/// where memory was refused. Where the room is too short nothing is written there, and the caller asks again with more.
+/// What `listset replay` prints of the schedule whose text is given: its report, or the line about the first fault of the
+/// text or the first event that is not enabled, or about a text of more than 67,108,864 bytes.
 #[unsafe(no_mangle)]
 pub extern "C" fn listset_replay(
     alloc: Global,
@@ -22,13 +32,13 @@ pub extern "C" fn listset_replay(
     room: &mut [u8],
     status: &mut u8,
 ) -> usize
-    ensures { Hands (Replays text.now) room.old room.new status.new result }
+    ensures { Hands (OfText Replays text.now) room.old room.new status.new result }
 {
     hand(alloc, replayed(alloc, text), room, status)
 }
 
-/// Checks the report whose text is given, in the same way: what `listset check` prints is `ok`, with the status 0, or the
-/// first fault of its order with 1, or the line about the first fault of the text with 1.
+/// What `listset check` prints of the report whose text is given: `ok`, or the first fault of its order with status 1; or
+/// the line about the first fault of the text, or about one that is too long.
 #[unsafe(no_mangle)]
 pub extern "C" fn listset_check(
     alloc: Global,
@@ -36,7 +46,69 @@ pub extern "C" fn listset_check(
     room: &mut [u8],
     status: &mut u8,
 ) -> usize
-    ensures { Hands (Checks text.now) room.old room.new status.new result }
+    ensures { Hands (OfText Checks text.now) room.old room.new status.new result }
 {
     hand(alloc, checked(alloc, text), room, status)
+}
+
+/// What `listset trace` prints of the schedule whose text is given: its trace, up to the first event that is not enabled,
+/// which has status 1; or the line about the first fault of the text, or about one that is too long.
+#[unsafe(no_mangle)]
+pub extern "C" fn listset_trace(
+    alloc: Global,
+    text: &[u8],
+    room: &mut [u8],
+    status: &mut u8,
+) -> usize
+    ensures { Hands (OfText (Traces false) text.now) room.old room.new status.new result }
+{
+    hand(alloc, traced(alloc, text, false), room, status)
+}
+
+/// What `listset trace --chain` prints of it: the same, with the chain after each event that changed it.
+#[unsafe(no_mangle)]
+pub extern "C" fn listset_trace_with_chains(
+    alloc: Global,
+    text: &[u8],
+    room: &mut [u8],
+    status: &mut u8,
+) -> usize
+    ensures { Hands (OfText (Traces true) text.now) room.old room.new status.new result }
+{
+    hand(alloc, traced(alloc, text, true), room, status)
+}
+
+/// What `listset example` prints without a name: the names of the examples, each with its list and the line about it.
+#[unsafe(no_mangle)]
+pub extern "C" fn listset_examples(alloc: Global, room: &mut [u8], status: &mut u8) -> usize
+    ensures { Hands (Exampled false None) room.old room.new status.new result }
+{
+    hand(alloc, exampled(alloc, false, None), room, status)
+}
+
+/// What `listset example NAME` prints: the schedule of the example with this name, or `listset: bad NAME` with status 2.
+#[unsafe(no_mangle)]
+pub extern "C" fn listset_example(
+    alloc: Global,
+    name: &[u8],
+    room: &mut [u8],
+    status: &mut u8,
+) -> usize
+    ensures { Hands (Exampled false (Some name.now)) room.old room.new status.new result }
+{
+    hand(alloc, exampled_by(alloc, false, name), room, status)
+}
+
+/// What `listset example --broken NAME` prints: the report of a list without the check that the example with this name
+/// shows, or `listset: bad NAME` with status 2, also where that example has none.
+#[unsafe(no_mangle)]
+pub extern "C" fn listset_broken_example(
+    alloc: Global,
+    name: &[u8],
+    room: &mut [u8],
+    status: &mut u8,
+) -> usize
+    ensures { Hands (Exampled true (Some name.now)) room.old room.new status.new result }
+{
+    hand(alloc, exampled_by(alloc, true, name), room, status)
 }
