@@ -1,0 +1,2 @@
+pub mod InBars
+pub mod RunPictures

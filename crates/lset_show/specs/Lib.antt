@@ -1,0 +1,4 @@
+pub mod Bars
+pub mod ReportPictures
+pub mod SchedulePictures
+pub mod Showing

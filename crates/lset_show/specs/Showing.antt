@@ -1,0 +1,55 @@
+-- [Tools]: what `show` makes of an input.
+use Rattle.std.specs.Prelude.{◌≡◌, ◌⊎◌, ◌==◌, ℕ, Bool, true, false, List, codes, Option, Some, None, Ok, Err, if◌then◌else◌}
+use Rattle.std.specs.List.{starts_with}
+use Rattle.lset_schedule.specs.Plan.{Plan, IsSchedule, schedule_text}
+use Rattle.lset_schedule.specs.ScheduleReading as schedule
+use Rattle.lset_history.specs.declared.refusal.Refusal.{Refusal}
+use Rattle.lset_replay.specs.Reports.{ReportValue}
+use Rattle.lset_replay.specs.ReportReading.{IsReport}
+use Rattle.lset_replay.specs.ReportReading as report
+use Rattle.lset_replay.specs.Texts.{report_text}
+use Rattle.lset_picture.specs.declared.picture.Window.{Window}
+use Rattle.lset_picture.specs.Pictures.{PictureValue}
+use Rattle.lset_picture.specs.PictureTexts.{picture_text}
+use Rattle.lset_picture.specs.Svg.{svg_text}
+use Rattle.lset_tools.specs.declared.trouble.Trouble.{Trouble}
+use Rattle.lset_tools.specs.Tools.{Made, IsTaken, IsInputTrouble}
+use Rattle.lset_tools.specs.Checking as checking
+use Rattle.lset_tools.specs.Replaying as replaying
+use Rattle.lset_show.specs.ReportPictures.{IsPictureOfReport}
+use Rattle.lset_show.specs.SchedulePictures.{IsPictureOfSchedule}
+
+-- the picture of the schedule whose text the bytes are
+abbrev pub ShowsSchedule : List ℕ → PictureValue → Type 0
+ShowsSchedule bytes v = (p : Plan) × IsSchedule p × (bytes ≡ schedule_text p) × IsPictureOfSchedule p v
+
+-- the picture of the report whose text the bytes are
+abbrev pub ShowsReport : List ℕ → PictureValue → Type 0
+ShowsReport bytes v = (r : ReportValue) × IsReport r × (bytes ≡ report_text r) × IsPictureOfReport r v
+
+-- the first line is that of a report
+abbrev pub has_report_title : List ℕ → Bool
+has_report_title bytes = starts_with (λ a b. a == b) bytes (codes "listset-report 1\n")
+
+-- the first fault of the text: of a report where it has the title of one, and else of a schedule or of its replay
+abbrev pub IsFirstFault : List ℕ → Trouble → Type 0
+IsFirstFault bytes t =
+    (has_report_title bytes ≡ true) × checking.IsFirstFault (report.reading bytes) t
+    ⊎ (has_report_title bytes ≡ false) × replaying.IsFirstFault (schedule.reading bytes) t
+
+-- the text of a picture, or its SVG
+abbrev pub drawn : Bool → PictureValue → Window → List ℕ
+drawn svg v window = if svg then svg_text v window else picture_text v window
+
+-- 1 where a refusal is told
+abbrev pub status_of : Option Refusal → ℕ
+status_of None = 0
+status_of (Some refusal) = 1
+
+-- what is made of the bytes of an input: the picture of the schedule or the report whose text they are, or a trouble with the
+-- input, or its first fault
+abbrev pub Shows : Bool → Window → List ℕ → Made → Type 0
+Shows svg window bytes (Ok answer) =
+    IsTaken bytes × (v : PictureValue) × (ShowsSchedule bytes v ⊎ ShowsReport bytes v)
+    × (answer ≡ record { text = drawn svg v window; status = status_of v.refusal })
+Shows svg window bytes (Err t) = IsInputTrouble bytes t ⊎ (IsTaken bytes × IsFirstFault bytes t)

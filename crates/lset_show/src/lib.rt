@@ -1,0 +1,12 @@
+//! Pictures of schedules and of reports, and the tool that draws them: the bars of the calls, the points at which they stand
+//! in the order, and of a refused order why.
+#![tactic(auto)]
+
+mod bars;
+mod reports;
+mod schedules;
+mod showing;
+
+pub use reports::picture_of_report;
+pub use schedules::picture_of_replay;
+pub use showing::{shown, tool_show};

@@ -1,0 +1,135 @@
+ghost use Rattle.std.specs.Prelude.{◌≡◌, ◌⊎◌, IfOk, IfErr, IfSome, IsTrue};
+ghost use Rattle.lset_schedule.specs.ScheduleReading as schedules;
+ghost use Rattle.lset_replay.specs.ReportReading as reports;
+ghost use Rattle.lset_picture.specs.Pictures.{view};
+ghost use Rattle.lset_tools.specs.Tools.{Ends, IsTaken};
+ghost use Rattle.lset_tools.specs.Tools as tools;
+ghost use Rattle.lset_tools.specs.Checking as checking;
+ghost use Rattle.lset_tools.specs.Replaying as replaying;
+ghost use Rattle.lset_tools.specs.declared.trouble.Trouble.TheVariants.{Memory};
+ghost use Rattle.lset_show.specs.Showing.{ShowsSchedule, ShowsReport, Shows, IsFirstFault, has_report_title, drawn, status_of};
+
+use crate::{picture_of_replay, picture_of_report};
+use lset_picture::{Picture, Window, write_picture, write_svg};
+use lset_replay::read_report;
+use lset_schedule::read_schedule;
+use lset_tools::{Answer, Trouble, deliver, input_of};
+use std::alloc::{AllocError, Global};
+use std::io::{Read, Write};
+
+/// The first line of a report's text.
+const REPORT_TITLE: &[u8] = b"listset-report 1\n";
+
+fn has_report_title(bytes: &[u8]) -> bool
+    ensures { result ≡ has_report_title bytes.now }
+{
+    bytes.starts_with(REPORT_TITLE)
+}
+
+/// The picture of the schedule whose text the bytes are.
+fn of_schedule(alloc: Global, bytes: &[u8]) -> Result<Picture, Trouble>
+    ensures shows { IfOk result (λ p. ShowsSchedule bytes.now (view p)) }
+    ensures trouble { IfErr result (λ t. (t ≡ Memory) ⊎ replaying.IsFirstFault (schedules.reading bytes.now) t) }
+{
+    let schedule = read_schedule(alloc, bytes)?;
+    let picture = picture_of_replay(alloc, &schedule)?;
+    Ok(picture)
+}
+
+/// The picture of the report whose text the bytes are.
+fn of_report(alloc: Global, bytes: &[u8]) -> Result<Picture, Trouble>
+    ensures shows { IfOk result (λ p. ShowsReport bytes.now (view p)) }
+    ensures trouble { IfErr result (λ t. (t ≡ Memory) ⊎ checking.IsFirstFault (reports.reading bytes.now) t) }
+{
+    let report = read_report(alloc, bytes)?;
+    let picture = picture_of_report(alloc, report)?;
+    Ok(picture)
+}
+
+/// The picture of the schedule or the report whose text the bytes are.
+fn picture_of(alloc: Global, bytes: &[u8]) -> Result<Picture, Trouble>
+    ensures shows { IfOk result (λ p. ShowsSchedule bytes.now (view p) ⊎ ShowsReport bytes.now (view p)) }
+    ensures trouble { IfErr result (λ t. (t ≡ Memory) ⊎ IsFirstFault bytes.now t) }
+{
+    if has_report_title(bytes) {
+        of_report(alloc, bytes)
+    } else {
+        of_schedule(alloc, bytes)
+    }
+}
+
+/// The text of the picture, or its SVG.
+fn text_of(
+    alloc: Global,
+    picture: &Picture,
+    svg: bool,
+    window: Window,
+) -> Result<Vec<u8>, AllocError>
+    ensures { IfOk result (λ v. v.items ≡ drawn svg (view picture.now) window) }
+{
+    if svg {
+        write_svg(alloc, picture, window)
+    } else {
+        write_picture(alloc, picture, window)
+    }
+}
+
+/// 1 where the picture tells a refusal, and else 0.
+fn status_of(picture: &Picture) -> u8
+    ensures { result ≡ status_of (view picture.now).refusal }
+{
+    match picture.refusal {
+        None => 0,
+        Some(_) => 1,
+    }
+}
+
+/// The answer of `show` on an input of these bytes, at most `LONGEST`: the picture of the schedule or the report whose text
+/// they are, within the window, as text or as an SVG (`svg`); its status is 1 where the order of the report is refused,
+/// and else 0.
+///
+/// A text with the first line of a report that is none has the first fault of `read_report`; any other text that is no
+/// schedule has that of `read_schedule`, and a schedule that is not replayed that of `replay`. `Trouble::Memory`
+/// where memory was refused.
+pub fn shown(alloc: Global, bytes: &[u8], svg: bool, window: Window) -> Result<Answer, Trouble>
+    requires { IsTaken bytes.now }
+    ensures { Shows svg window bytes.now (tools.view result) }
+{
+    let picture = picture_of(alloc, bytes)?;
+    let text = text_of(alloc, &picture, svg, window)?;
+    Ok(Answer {
+        text,
+        status: status_of(&picture),
+    })
+}
+
+fn drawn_of<R: Read>(
+    alloc: Global,
+    svg: bool,
+    window: Window,
+    input: &mut R,
+) -> Result<Answer, Trouble>
+    ensures { IfSome (R.remaining input.old) (λ bytes. Shows svg window bytes (tools.view result)) }
+{
+    let bytes = input_of(alloc, input)?;
+    shown(alloc, &bytes, svg, window)
+}
+
+/// Draws the schedule or the report on the input: writes its picture on the output, as text or as an SVG (`svg`), of the
+/// moments in the window, or one line about what is wrong on `faults` and nothing on the output. The first line of the
+/// input says which it is. Gives the exit status: 0 where the picture was written, 1 where it was written and tells
+/// why the order is refused, 3 where memory was refused, else 1. A failing write on `faults` leaves the status as it is.
+pub fn tool_show<R: Read, W: Write, F: Write>(
+    alloc: Global,
+    svg: bool,
+    window: Window,
+    input: &mut R,
+    output: &mut W,
+    faults: &mut F,
+) -> u8
+    ensures { Ends (λ made. IfSome (R.remaining input.old) (λ bytes. Shows svg window bytes made))
+        (W.contents output.old) (W.contents output.new) (F.contents faults.old) (F.contents faults.new) result }
+{
+    let answer = drawn_of(alloc, svg, window, input);
+    deliver(alloc, answer, output, faults)
+}
