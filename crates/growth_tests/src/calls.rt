@@ -5,6 +5,7 @@ use lset_schedule::{GenFault, ScheduleFault};
 use lset_steps::StepFault;
 use lset_words::LayoutFault;
 use std::alloc::AllocError;
+use std::io;
 use thiserror::Error;
 
 /// What a call answered, and is not to answer.
@@ -30,6 +31,8 @@ pub enum Wrong {
     Report(#[from] ReportFault),
     #[error("out of memory")]
     Memory(#[from] AllocError),
+    #[error("{0}")]
+    Socket(#[from] io::Error),
     #[error("another answer")]
     Answer,
 }

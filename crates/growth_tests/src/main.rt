@@ -1,5 +1,6 @@
 //! Makes the public calls of the libraries and tools that take memory, compares what each answers, and tells which call
-//! answered want of memory. That call is made again, with memory, and then has to answer as if nothing had been refused.
+//! answered want of memory (or `Spawn`, where a thread is refused for it). That call is made again, with memory, and then
+//! has to answer as if nothing had been refused.
 //!
 //! Run as it stands no growth is refused. `.ci/growths` refuses them in turn: it has the one allocation of a fixed
 //! number fail, and by the number on the standard input this program takes as many blocks before its first call.
@@ -17,16 +18,21 @@ macro_rules! answer {
 }
 
 mod calls;
+mod changes;
+mod examples;
 mod live;
 mod sets;
 mod texts;
+mod threads;
 mod tools;
 
 use calls::{Calls, Wrong};
 use std::alloc::{AllocError, Global};
 use std::io::{self, Read};
+use std::net::{Net, TcpListener, TcpStream};
 use std::process::ExitCode;
 use std::sync::Wait;
+use std::thread::Threads;
 
 /// The number on the input, 0 where there is none.
 fn number_on(input: &mut impl Read) -> io::Result<u32> {
@@ -44,15 +50,23 @@ fn take_blocks(alloc: Global, count: u32) -> Result<(), AllocError> {
     Ok(())
 }
 
-fn make_calls<R: Wait>(rt: &R, alloc: Global, calls: &mut Calls) -> Result<(), Wrong> {
+fn make_calls<R: Net<Listener = TcpListener, Stream = TcpStream> + Threads + Wait + Sync>(
+    rt: &R,
+    alloc: Global,
+    calls: &mut Calls,
+) -> Result<(), Wrong> {
     sets::worlds(alloc, calls)?;
     sets::oracles(alloc, calls)?;
     sets::histories(alloc, calls)?;
+    changes::changes(alloc, calls)?;
     live::running_sets(rt, alloc, calls)?;
+    threads::programs_on_threads(rt, alloc, calls)?;
+    threads::a_session(rt, alloc, calls)?;
     texts::replays(alloc, calls)?;
     texts::refusals(alloc, calls)?;
     texts::schedules_drawn(alloc, calls)?;
     texts::programs_drawn(alloc, calls)?;
+    examples::examples(alloc, calls)?;
     tools::tools(alloc, calls)
 }
 

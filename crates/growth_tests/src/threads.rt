@@ -1,0 +1,155 @@
+//! Programs on threads, and a server with one session. No two threads ask for memory at once, so each run counts the growths
+//! in one order.
+ghost use Rattle.std.specs.Prelude.{◌≡◌, ◌<◌, ◌^◌, IfOk, IfSome, IsTrue, All, length};
+
+use crate::calls::{Calls, Wrong, check};
+use lset_lazy::LazyList;
+use lset_live::{LiveSet, OpenFault, Seat, open};
+use lset_server::{ServeCause, Served, serve};
+use lset_words::{Call, Key, Reply};
+use lset_work::{Always, Outcome, WorkCause, WorkFault, work};
+use std::alloc::{AllocError, Global};
+use std::io::{self, Read, Write};
+use std::net::{Net, TcpListener, TcpStream};
+use std::sync::Wait;
+use std::thread::Threads;
+
+/// A set that was just opened, and its seats.
+fn opened(alloc: Global, seats: u32) -> Result<(LiveSet<LazyList>, Vec<Seat<LazyList>>), OpenFault>
+    ensures { IfOk result (λ r. All (λ s. s.set ≡ r.0) r.1.items) }
+{
+    open::<LazyList>(alloc, seats, 4)
+}
+
+fn are_short(programs: &[Vec<Call>]) -> bool
+    ensures { IsTrue result → All (λ p. length p.items < 2 ^ 32) programs.now }
+{
+    programs.iter().all(
+        |program| -> bool
+            ensures { IsTrue result → length program.now.items < 2 ^ 32 }
+        { program.len() <= 4_294_967_295 },
+    )
+}
+
+/// Add 1, Contains 1; and Add 2, Remove 2.
+fn two_programs(alloc: Global) -> Result<Vec<Vec<Call>>, AllocError>
+    ensures { IfOk result (λ ps. All (λ p. length p.items < 2 ^ 32) ps.items) }
+{
+    let mut programs = Vec::new(alloc);
+    programs.push(vec![in alloc; Call::Add(Key(1)), Call::Contains(Key(1))]?)?;
+    programs.push(vec![in alloc; Call::Add(Key(2)), Call::Remove(Key(2))]?)?;
+    if are_short(&programs) {
+        Ok(programs)
+    } else {
+        Err(AllocError)
+    }
+}
+
+/// Notes how `work` was refused, and gives the set and the seats to go on with: those that came back, or new ones.
+fn after_refusal(
+    alloc: Global,
+    calls: &mut Calls,
+    fault: WorkFault<LazyList>,
+) -> Result<(LiveSet<LazyList>, Vec<Seat<LazyList>>), Wrong>
+    requires { IfSome fault.back (λ b. All (λ s. s.set ≡ b.0) b.1.items) }
+    ensures { IfOk result (λ r. All (λ s. s.set ≡ r.0) r.1.items) }
+{
+    let WorkFault { cause, back } = fault;
+    calls.name = match (cause, back.is_some()) {
+        (WorkCause::Memory, true) => "work (Memory, all comes back)",
+        (WorkCause::Memory, false) => "work (Memory)",
+        (WorkCause::Spawn, false) => "work (Spawn)",
+        _ => return Err(Wrong::Answer),
+    };
+    check(calls.may_be_refused())?;
+    match back {
+        Some(back) => Ok(back),
+        None => Ok(opened(alloc, 2)?),
+    }
+}
+
+/// The replies of both programs, and the key that is left.
+fn is_as_wanted(outcome: &Outcome) -> bool {
+    let both = [Reply::True, Reply::True];
+    outcome.keys.as_slice() == [1].as_slice()
+        && outcome.replies.len() == 2
+        && outcome
+            .replies
+            .iter()
+            .all(|replies| replies.as_slice() == both.as_slice())
+}
+
+/// Two programs on two threads. Where they were refused they are run again.
+pub fn programs_on_threads<R: Threads + Wait + Sync>(
+    rt: &R,
+    alloc: Global,
+    calls: &mut Calls,
+) -> Result<(), Wrong> {
+    let programs = answer!(calls, "Vec::push", AllocError, two_programs(alloc))?;
+    let (set, seats) = answer!(calls, "open", OpenFault::Memory, opened(alloc, 2))?;
+    calls.name = "work";
+    let outcome = match work(rt, alloc, set, seats, programs, &Always) {
+        Ok(outcome) => Ok(outcome),
+        Err(fault) => {
+            let (set, seats) = after_refusal(alloc, calls, fault)?;
+            work(rt, alloc, set, seats, two_programs(alloc)?, &Always)
+        }
+    };
+    match outcome {
+        Ok(outcome) => check(is_as_wanted(&outcome)),
+        Err(_) => Err(Wrong::Answer),
+    }
+}
+
+/// A client that has sent its lines before the server accepts it, so that it needs no thread of its own.
+fn client<R: Net<Listener = TcpListener, Stream = TcpStream>>(
+    rt: &R,
+) -> io::Result<(TcpListener, TcpStream)> {
+    let listener = TcpListener::bind(rt, "127.0.0.1:0")?;
+    let port = listener.local_addr()?.port();
+    let mut stream = TcpStream::connect(rt, ("127.0.0.1", port))?;
+    stream.write_all(b"ADD 7\nCONTAINS 7\nADD 3\nQUIT\n")?;
+    Ok((listener, stream))
+}
+
+/// One session, its four calls and the keys that they leave; and the client's answers.
+fn is_served(served: &Served, stream: &mut TcpStream) -> Result<(), Wrong> {
+    let mut answers = [0u8; 19];
+    stream.read_exact(&mut answers)?;
+    check(answers.as_slice() == b"TRUE\nTRUE\nTRUE\nBYE\n".as_slice())?;
+    check(served.sessions == 1 && served.calls == 3)?;
+    check(served.keys.as_slice() == [3, 7].as_slice())
+}
+
+/// Notes how `serve` was refused.
+fn note_refusal(calls: &mut Calls, cause: ServeCause) -> Result<(), Wrong> {
+    calls.name = match cause {
+        ServeCause::Memory => "serve (Memory)",
+        ServeCause::Spawn => "serve (Spawn)",
+        _ => return Err(Wrong::Answer),
+    };
+    check(calls.may_be_refused())
+}
+
+/// A session with one client. Where it was refused, another server has another client.
+pub fn a_session<R: Net<Listener = TcpListener, Stream = TcpStream> + Threads + Wait + Sync>(
+    rt: &R,
+    alloc: Global,
+    calls: &mut Calls,
+) -> Result<(), Wrong> {
+    let (set, seats) = answer!(calls, "open", OpenFault::Memory, opened(alloc, 1))?;
+    calls.name = "client";
+    let (listener, mut stream) = client(rt)?;
+    calls.name = "serve";
+    let cause = match serve(rt, alloc, listener, set, seats, 1) {
+        Ok(served) => return is_served(&served, &mut stream),
+        Err(fault) => fault.cause,
+    };
+    note_refusal(calls, cause)?;
+    let (set, seats) = opened(alloc, 1)?;
+    let (listener, mut stream) = client(rt)?;
+    match serve(rt, alloc, listener, set, seats, 1) {
+        Ok(served) => is_served(&served, &mut stream),
+        Err(_) => Err(Wrong::Answer),
+    }
+}
