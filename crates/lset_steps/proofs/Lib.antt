@@ -28,5 +28,4 @@ pub mod ReadOutline
 pub mod ReadBound
 pub mod ReadWalk
 pub mod WalkedTo
-pub mod ChainWalk
 mod Promised

@@ -1,109 +1,199 @@
--- What `World::content` knows on its walk along the chain.
-use Rattle.std.proofs.Common.{◌≡◌, ◌≢◌, ℕ, ◌-◌, ◌/◌, ◌%◌, ◌<◌, ◌≤◌, Bool, true, false, inl, inr, List, [], ◌∷◌, ◌++◌, sym, refl, ap, subst, arith, rules}
-use Rattle.std.specs.Prelude.{nat_lt, nat_eq, ◌&&◌, IsTrue, ◌↔◌}
-use Rattle.lset_steps.specs.Chain.{View, Segment, IsChain, IsOrdered}
+-- What a walk along the chain knows: `World::walk`, and that of `Closed::keys` in the crate `lset_live`.
+use Rattle.std.proofs.Common.{◌≡◌, ◌≢◌, ℕ, ◌-◌, ◌/◌, ◌%◌, ◌<◌, ◌≤◌, Bool, true, false, inl, inr, List, [], ◌∷◌, ◌++◌, sym, refl, ap, subst, arith, rules, ◌∙◌, append-nil}
+use Rattle.std.specs.Prelude.{nat_lt, ◌==◌, IsTrue, ◌↔◌, Option, Some, None, option_to_list, filter_map, if◌then◌else◌}
+use Rattle.std.specs.List.{cons_option}
 use Rattle.std.specs.List.Sorted.{IsStrictlyIncreasing}
-use Rattle.lset_steps.specs.Worlds.{keys_in, IsContent}
 use Rattle.std.proofs.lemmas.Bool.{cases_Bool}
+use Rattle.std.proofs.lemmas.List.Elements.{filter_map-append}
 use Rattle.lset_words.proofs.RisingLists.{increasing_from_rises}
+use Rattle.lset_steps.specs.declared.world.ChainKey.{ChainKey}
+use Rattle.lset_steps.specs.Chain.{View, Segment, IsChain, IsOrdered}
+use Rattle.lset_steps.specs.Worlds.{keys_in, IsContent, chain_keys, AreChainKeys, unmarked_keys, AnswersAs, IsPickedFromChain}
 use Rattle.lset_steps.proofs.ContentLists.{content_rises}
 use Rattle.lset_steps.proofs.Segments.{segment-append}
 use Rattle.lset_steps.proofs.QuietMove.{not_one}
 
--- The walk of `content` has come to curr.
-pub record WalkedTo (v : View) (items : List ℕ) (curr : ℕ) : Type 0 where
+-- The walk has come to curr, with these items.
+pub record HasPicked {A : Type 0} (answers : ChainKey → Option A → Type 0) (v : View) (items : List A) (curr : ℕ) : Type 0 where
   pub nodes : List ℕ
   pub seg : Segment v 0 nodes curr
-  pub keys : items ≡ keys_in v nodes
   pub published : v.published curr
   pub above : 0 < v.key curr
+  pub picked : (pick : ChainKey → Option A) → AnswersAs answers pick → items ≡ filter_map pick (chain_keys v nodes)
 
-pub walk_starts : (v : View) → IsOrdered v → v.key 0 < v.key 1 → WalkedTo v [] (v.link 0 / 2)
-walk_starts v ord top =
-    let n = not_one v ord 0 1 ord.tail_published top in
-    let h : v.key 0 < v.key (v.link 0 / 2) = ord.rises 0 ord.head_published n in
-    let up : 0 < v.key (v.link 0 / 2) = omega (arith, h) in
-    record {
-      nodes = 0 ∷ [];
-      seg = (refl, n, refl);
-      keys = refl;
-      published = ord.next_published 0 ord.head_published n;
-      above = up;
-    }
+chain_keys-append : (v : View) (xs ys : List ℕ) → chain_keys v (xs ++ ys) ≡ chain_keys v xs ++ chain_keys v ys
+chain_keys-append v [] ys = refl
+chain_keys-append v (x ∷ xs) ys = let i : chain_keys v (xs ++ ys) ≡ chain_keys v xs ++ chain_keys v ys = chain_keys-append v xs ys in
+    elim (cases_Bool (nat_lt 1 x)) [ inl e ↦ rw (e, i) refl | inr e ↦ rw (e, i) refl ]
 
-keys-append : (v : View) (xs ys : List ℕ) → keys_in v (xs ++ ys) ≡ keys_in v xs ++ keys_in v ys
-keys-append v [] ys = refl
-keys-append v (x ∷ xs) ys = let i : keys_in v (xs ++ ys) ≡ keys_in v xs ++ keys_in v ys = keys-append v xs ys in
-    elim (cases_Bool (nat_lt 1 x && nat_eq (v.link x % 2) 0)) [ inl e ↦ rw (e, i) refl | inr e ↦ rw (e, i) refl ]
+module _ {A : Type 0} (answers : ChainKey → Option A → Type 0) (v : View) (ord : IsOrdered v) where
+  pub none_picked : v.key 0 < v.key 1 → HasPicked answers v [] (v.link 0 / 2)
+  none_picked top =
+      let n = not_one v ord 0 1 ord.tail_published top in
+      let h : v.key 0 < v.key (v.link 0 / 2) = ord.rises 0 ord.head_published n in
+      let up : 0 < v.key (v.link 0 / 2) = omega (arith, h) in
+      record {
+        nodes = 0 ∷ [];
+        seg = (refl, n, refl);
+        published = ord.next_published 0 ord.head_published n;
+        above = up;
+        picked = λ pick same. refl;
+      }
 
-walk_goes : (v : View) → IsOrdered v → (items more : List ℕ) (curr next : ℕ) → curr ≢ 1 → next ≡ v.link curr / 2
-    → keys_in v (curr ∷ []) ≡ more
-    → WalkedTo v items curr → WalkedTo v (items ++ more) next
-walk_goes v ord items more curr next n e k w =
-    let h : v.key curr < v.key (v.link curr / 2) = ord.rises curr w.published n in
-    let a : keys_in v (w.nodes ++ (curr ∷ [])) ≡ keys_in v w.nodes ++ keys_in v (curr ∷ []) = keys-append v w.nodes (curr ∷ []) in
-    let b : items ≡ keys_in v w.nodes = w.keys in
-    subst (WalkedTo v (items ++ more)) (sym e) (record {
-      nodes = w.nodes ++ (curr ∷ []);
-      seg = segment-append v 0 curr (v.link curr / 2) w.nodes (curr ∷ []) w.seg (refl, n, refl);
-      keys = cc;
-      published = ord.next_published curr w.published n;
-      above = omega arith;
-    })
+  -- one node further
+  pub goes : (items more : List A) (curr next : ℕ) → curr ≢ 1 → next ≡ v.link curr / 2
+      → ((pick : ChainKey → Option A) → AnswersAs answers pick → filter_map pick (chain_keys v (curr ∷ [])) ≡ more)
+      → HasPicked answers v items curr → HasPicked answers v (items ++ more) next
+  goes items more curr next n e here w =
+      let h : v.key curr < v.key (v.link curr / 2) = ord.rises curr w.published n in
+      subst (HasPicked answers v (items ++ more)) (sym e) (record {
+        nodes = w.nodes ++ (curr ∷ []);
+        seg = segment-append v 0 curr (v.link curr / 2) w.nodes (curr ∷ []) w.seg (refl, n, refl);
+        published = ord.next_published curr w.published n;
+        above = omega arith;
+        picked = λ pick same. ap (λ xs. xs ++ more) (w.picked pick same)
+            ∙ ap (λ xs. filter_map pick (chain_keys v w.nodes) ++ xs) (sym (here pick same))
+            ∙ sym (filter_map-append pick (chain_keys v w.nodes) (chain_keys v (curr ∷ [])))
+            ∙ sym (ap (λ ks. filter_map pick ks) (chain_keys-append v w.nodes (curr ∷ [])));
+      })
 
--- curr is no head
-pub walk_user : (v : View) → (items : List ℕ) (curr : ℕ) → v.key 0 ≡ 0 → curr ≢ 1 → WalkedTo v items curr → 1 < curr
-walk_user v items curr e n w =
-    let a : 0 < v.key curr = w.above in
-    let z : curr ≢ 0 = λ f. let g : v.key curr ≡ v.key 0 = ap v.key f in omega arith in
-    omega arith
+  -- past a user node, with the answer to its key
+  pub picked_more : (items : List A) (curr next : ℕ) (met : ChainKey) (answer : Option A) → v.key 0 ≡ 0 → curr ≢ 1
+      → next ≡ v.link curr / 2 → met ≡ record { key = v.key curr - 1; marked = v.link curr % 2 == 1 } → answers met answer
+      → HasPicked answers v items curr → HasPicked answers v (items ++ option_to_list answer) next
+  picked_more items curr next met answer head n e is says w =
+      let up : 0 < v.key curr = w.above in
+      let zero : curr ≢ 0 = λ f. let g : v.key curr ≡ v.key 0 = ap v.key f in omega arith in
+      let user : nat_lt 1 curr ≡ true = search rules in
+      let one : chain_keys v (curr ∷ []) ≡ met ∷ [] = rw user (ap (λ k. k ∷ []) (sym is)) in
+      goes items (option_to_list answer) curr next n e (λ pick same. ap (λ ks. filter_map pick ks) one
+      ∙ ap (λ o. cons_option o []) (sym (same met answer says)) ∙ listed answer) w
+    where
+      listed : (o : Option A) → cons_option o [] ≡ option_to_list o
+      listed None = refl
+      listed (Some x) = refl
 
-pub walk_keeps : (v : View) → IsOrdered v → (items : List ℕ) (curr next : ℕ) → v.key 0 ≡ 0 → curr ≢ 1
-    → next ≡ v.link curr / 2 → v.link curr % 2 ≡ 0
-    → WalkedTo v items curr → WalkedTo v (items ++ ((v.key curr - 1) ∷ [])) next
-walk_keeps v ord items curr next z n e m w =
-    let u : 1 < curr = walk_user v items curr z n w in
-    let t : (nat_lt 1 curr && nat_eq (v.link curr % 2) 0) ≡ true = search rules in
-    walk_goes v ord items ((v.key curr - 1) ∷ []) curr next n e (rw t refl) w
+  -- the measure falls
+  pub falls : (items : List A) (curr next : ℕ) → curr ≢ 1 → next ≡ v.link curr / 2 → HasPicked answers v items curr
+      → v.key 1 - v.key next < v.key 1 - v.key curr
+  falls items curr next n e w =
+      let h : v.key curr < v.key (v.link curr / 2) = ord.rises curr w.published n in
+      let t : v.key (v.link curr / 2) ≤ v.key 1 = ord.top (v.link curr / 2) (ord.next_published curr w.published n) in
+      let f : v.key next ≡ v.key (v.link curr / 2) = ap v.key e in
+      omega arith
 
-append-nil' : (xs : List ℕ) → xs ++ [] ≡ xs
-append-nil' [] = refl
-append-nil' (x ∷ xs) = let e : xs ++ [] ≡ xs = append-nil' xs in cc
+  -- a user node has a key that fits a u32
+  pub fits : (items : List A) (curr : ℕ) → v.key 1 ≡ 4294967297 → curr ≢ 1 → HasPicked answers v items curr
+      → v.key curr - 1 < 4294967296
+  fits items curr tail n w =
+      let h : v.key curr < v.key (v.link curr / 2) = ord.rises curr w.published n in
+      let t : v.key (v.link curr / 2) ≤ v.key 1 = ord.top (v.link curr / 2) (ord.next_published curr w.published n) in
+      omega arith
 
-pub walk_skips : (v : View) → IsOrdered v → (items : List ℕ) (curr next : ℕ) → curr ≢ 1 → next ≡ v.link curr / 2
-    → v.link curr % 2 ≢ 0
-    → WalkedTo v items curr → WalkedTo v items next
-walk_skips v ord items curr next n e m w =
-    let f : nat_eq (v.link curr % 2) 0 ≡ false = search rules in
-    let t : (nat_lt 1 curr && nat_eq (v.link curr % 2) 0) ≡ false = search rules in
-    subst (λ z. WalkedTo v z next) (append-nil' items) (walk_goes v ord items [] curr next n e (rw t refl) w)
+  -- at the tail the walk has met the whole chain
+  pub all_picked : (items : List A) (curr : ℕ) → curr ≡ 1 → HasPicked answers v items curr → IsPickedFromChain answers v items
+  all_picked items curr e w =
+      let chain : IsChain v w.nodes = subst (λ z. Segment v 0 w.nodes z) e w.seg in
+      record {
+        nodes = w.nodes;
+        is_chain = chain;
+        rising = increasing_from_rises 0 (keys_in v w.nodes) (content_rises v ord w.nodes chain);
+        picked = w.picked;
+      }
 
--- the measure falls
-pub walk_falls : (v : View) → IsOrdered v → (items : List ℕ) (curr next : ℕ) → curr ≢ 1 → next ≡ v.link curr / 2
-    → WalkedTo v items curr
-    → v.key 1 - v.key next < v.key 1 - v.key curr
-walk_falls v ord items curr next n e w =
-    let h : v.key curr < v.key (v.link curr / 2) = ord.rises curr w.published n in
-    let t : v.key (v.link curr / 2) ≤ v.key 1 = ord.top (v.link curr / 2) (ord.next_published curr w.published n) in
-    let f : v.key next ≡ v.key (v.link curr / 2) = ap v.key e in
-    omega arith
+-- the test of a mark is that of the word
+pub mark_of_word : (word : ℕ) (mark : Bool) → (IsTrue mark ↔ (word % 2 ≡ 1)) → mark ≡ (word % 2 == 1)
+mark_of_word word true same = let e : word % 2 ≡ 1 = same.0 refl in search rules
+mark_of_word word false same = let e : word % 2 ≢ 1 = λ p. not_true (same.1 p) in search rules
+  where
+    not_true : IsTrue false → ⊥
+    not_true t = absurd (cc)
 
--- a user node has a key that fits a u32
-pub key_fits : (v : View) → IsOrdered v → (items : List ℕ) (curr : ℕ) → v.key 1 ≡ 4294967297 → curr ≢ 1
-    → WalkedTo v items curr → v.key curr - 1 < 4294967296
-key_fits v ord items curr tail n w =
-    let h : v.key curr < v.key (v.link curr / 2) = ord.rises curr w.published n in
-    let t : v.key (v.link curr / 2) ≤ v.key 1 = ord.top (v.link curr / 2) (ord.next_published curr w.published n) in
-    omega arith
+-- THE CONTENT: what is picked where the marked keys are left out
+abbrev pub unmarked_key : ChainKey → Option ℕ
+unmarked_key met = if met.marked then None else Some met.key
 
--- at the tail the walk has met the whole chain
-pub walk_ends : (v : View) → IsOrdered v → (items : List ℕ) (curr : ℕ) → curr ≡ 1 → WalkedTo v items curr → IsContent v items
-walk_ends v ord items curr e w =
-    let chain : IsChain v w.nodes = subst (λ z. Segment v 0 w.nodes z) e w.seg in (
-      (w.nodes, chain, w.keys),
-      subst IsStrictlyIncreasing (sym w.keys)
-          (increasing_from_rises 0 (keys_in v w.nodes) (content_rises v ord w.nodes chain)),
-    )
+unmarked_picked : (keys : List ChainKey) → filter_map unmarked_key keys ≡ unmarked_keys keys
+unmarked_picked [] = refl
+unmarked_picked (k ∷ ks) = let i : filter_map unmarked_key ks ≡ unmarked_keys ks = unmarked_picked ks in
+    elim (cases_Bool k.marked) [ inl e ↦ rw e i | inr e ↦ rw e (ap (λ xs. k.key ∷ xs) i) ]
+
+unmarked : (v : View) (ns : List ℕ) → keys_in v ns ≡ unmarked_keys (chain_keys v ns)
+unmarked v [] = refl
+unmarked v (b ∷ bs) = let i : keys_in v bs ≡ unmarked_keys (chain_keys v bs) = unmarked v bs in
+    elim (cases_Bool (nat_lt 1 b)) [
+      | inl e ↦ elim (cases_Bool (v.link b % 2 == 0)) [
+        | inl z ↦ (let o : (v.link b % 2 == 1) ≡ false = search rules in rw (e, z, o) (ap (λ ks. (v.key b - 1) ∷ ks) i))
+        | inr z ↦ (let o : (v.link b % 2 == 1) ≡ true = search rules in rw (e, z, o) i)
+      ]
+      | inr e ↦ rw e i
+    ]
+
+pub content_picked : (answers : ChainKey → Option ℕ → Type 0) (v : View) (items : List ℕ) → AnswersAs answers unmarked_key
+    → IsPickedFromChain answers v items → IsContent v items
+content_picked answers v items same w =
+    let keys : items ≡ keys_in v w.nodes = w.picked unmarked_key same
+    ∙ unmarked_picked (chain_keys v w.nodes) ∙ sym (unmarked v w.nodes) in
+    ((w.nodes, w.is_chain, keys), subst IsStrictlyIncreasing (sym keys) w.rising)
+
+-- THE WHOLE CHAIN: where each key is picked
+picked_whole : (keys : List ChainKey) → filter_map (λ met. Some met) keys ≡ keys
+picked_whole [] = refl
+picked_whole (k ∷ ks) = ap (λ xs. k ∷ xs) (picked_whole ks)
+
+module _ (answers : ChainKey → Option ChainKey → Type 0) (v : View) (items : List ChainKey)
+    (same : AnswersAs answers (λ met. Some met)) (w : IsPickedFromChain answers v items) where
+  keys_are : items ≡ chain_keys v w.nodes
+  keys_are = w.picked (λ met. Some met) same ∙ picked_whole (chain_keys v w.nodes)
+
+  pub chain_picked : AreChainKeys v items
+  chain_picked = (w.nodes, w.is_chain, keys_are)
+
+  pub content_of_chain : IsContent v (unmarked_keys items)
+  content_of_chain =
+      let keys : unmarked_keys items ≡ keys_in v w.nodes = ap (λ ks. unmarked_keys ks) keys_are ∙ sym (unmarked v w.nodes) in
+      ((w.nodes, w.is_chain, keys), subst IsStrictlyIncreasing (sym keys) w.rising)
+
+-- A WALK THAT KEEPS THE UNMARKED KEYS, as `Closed::keys` does
+abbrev pub WalkedTo : View → List ℕ → ℕ → Type 0
+WalkedTo v items curr = HasPicked (λ met answer. answer ≡ unmarked_key met) v items curr
+
+module _ (v : View) (ord : IsOrdered v) where
+  pub walk_starts : v.key 0 < v.key 1 → WalkedTo v [] (v.link 0 / 2)
+  walk_starts top = none_picked _ v ord top
+
+  pub walk_keeps : (items : List ℕ) (curr next : ℕ) → v.key 0 ≡ 0 → curr ≢ 1 → next ≡ v.link curr / 2 → v.link curr % 2 ≡ 0
+      → WalkedTo v items curr → WalkedTo v (items ++ ((v.key curr - 1) ∷ [])) next
+  walk_keeps items curr next head n e m w =
+      let o : (v.link curr % 2 == 1) ≡ false = search rules in
+      picked_more _ v ord items curr next (record { key = v.key curr - 1; marked = v.link curr % 2 == 1 }) (Some (v.key curr - 1))
+      head n e refl (rw o refl) w
+
+  pub walk_skips : (items : List ℕ) (curr next : ℕ) → curr ≢ 1 → next ≡ v.link curr / 2 → v.link curr % 2 ≢ 0
+      → WalkedTo v items curr → WalkedTo v items next
+  walk_skips items curr next n e m w =
+      let o : (v.link curr % 2 == 1) ≡ true = search rules in
+      let passed : filter_map unmarked_key (chain_keys v (curr ∷ [])) ≡ [] =
+      elim (cases_Bool (nat_lt 1 curr)) [ inl u ↦ rw (u, o) refl | inr u ↦ rw u refl ] in
+      subst (λ xs. WalkedTo v xs next) (append-nil items)
+      (goes _ v ord items [] curr next n e (λ pick same. same_picked pick same (chain_keys v (curr ∷ [])) ∙ passed) w)
+    where
+      same_picked : (pick : ChainKey → Option ℕ) → AnswersAs (λ met answer. answer ≡ unmarked_key met) pick → (ks : List ChainKey)
+          → filter_map pick ks ≡ filter_map unmarked_key ks
+      same_picked pick same [] = refl
+      same_picked pick same (k ∷ ks) = ap (λ o. cons_option o (filter_map pick ks)) (sym (same k (unmarked_key k) refl))
+          ∙ ap (λ xs. cons_option (unmarked_key k) xs) (same_picked pick same ks)
+
+  pub walk_falls : (items : List ℕ) (curr next : ℕ) → curr ≢ 1 → next ≡ v.link curr / 2 → WalkedTo v items curr
+      → v.key 1 - v.key next < v.key 1 - v.key curr
+  walk_falls items curr next n e w = falls _ v ord items curr next n e w
+
+  pub key_fits : (items : List ℕ) (curr : ℕ) → v.key 1 ≡ 4294967297 → curr ≢ 1 → WalkedTo v items curr
+      → v.key curr - 1 < 4294967296
+  key_fits items curr tail n w = fits _ v ord items curr tail n w
+
+  pub walk_ends : (items : List ℕ) (curr : ℕ) → curr ≡ 1 → WalkedTo v items curr → IsContent v items
+  walk_ends items curr e w = content_picked _ v items (λ met answer is. is) (all_picked _ v ord items curr e w)
 
 -- what the test of a mark says of the word
 pub unmarked_word : (word : ℕ) (mark : Bool) → (IsTrue mark ↔ (word % 2 ≡ 1)) → mark ≡ false → word % 2 ≡ 0

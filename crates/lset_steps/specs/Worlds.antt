@@ -1,5 +1,5 @@
 -- What a world is, and what a step of it answers.
-use Rattle.std.specs.Prelude.{◌≡◌, ◌≢◌, ℕ, ◌-◌, ◌%◌, ◌<◌, ◌≤◌, Bool, not, List, [], ◌∷◌, map, filter, length, Result, Ok, Err, if◌then◌else◌, ◌==◌, nat_lt, ◌&&◌}
+use Rattle.std.specs.Prelude.{◌≡◌, ◌≢◌, ℕ, ◌-◌, ◌%◌, ◌<◌, ◌≤◌, Bool, not, List, [], ◌∷◌, map, filter, filter_map, length, Option, Result, Ok, Err, if◌then◌else◌, ◌==◌, nat_lt, ◌&&◌}
 use Rattle.std.specs.List.Sorted.{IsStrictlyIncreasing}
 use Rattle.lset_words.specs.Words.{word_count}
 use Rattle.lset_steps.specs.declared.Event.{Event}
@@ -69,3 +69,14 @@ key_alone k = k.key
 
 abbrev pub unmarked_keys : List ChainKey → List ℕ
 unmarked_keys keys = map key_alone (filter is_unmarked keys)
+
+-- each answer is that of `pick`
+abbrev pub AnswersAs : {A : Type 0} → (ChainKey → Option A → Type 0) → (ChainKey → Option A) → Type 0
+AnswersAs {A} answers pick = (met : ChainKey) (answer : Option A) → answers met answer → answer ≡ pick met
+
+-- what such answers pick of the keys of the chain, from the head to the tail
+pub record IsPickedFromChain {A : Type 0} (answers : ChainKey → Option A → Type 0) (v : View) (items : List A) : Type 0 where
+  pub nodes : List ℕ
+  pub is_chain : IsChain v nodes
+  pub rising : IsStrictlyIncreasing (keys_in v nodes)
+  pub picked : (pick : ChainKey → Option A) → AnswersAs answers pick → items ≡ filter_map pick (chain_keys v nodes)

@@ -4,7 +4,7 @@ ghost use Rattle.lset_words.specs.Words.{word_count, lock_index};
 ghost use Rattle.lset_steps.specs.Chain.{node_key, node_link};
 ghost use Rattle.lset_steps.specs.Steps.{Enabled, Table, idle, opening, opening_word, after, told, local_of, seen_by, seen_next, left_by};
 ghost use Rattle.lset_steps.specs.Laws.{Occurs, Sees, StateLaws, word_named, view_of};
-ghost use Rattle.lset_steps.specs.Worlds.{WorldState, IsRun, StepResult, IsContent, AreChainKeys, unmarked_keys};
+ghost use Rattle.lset_steps.specs.Worlds.{WorldState, IsRun, StepResult, IsContent, AreChainKeys, unmarked_keys, IsPickedFromChain};
 
 use crate::{Action, Event, Local, Machine, Told};
 use lset_words::{Call, Layout, key_index, link_index, unpack};
@@ -200,16 +200,7 @@ impl<M: Machine> World<M> {
     pub fn content(&self) -> Result<Vec<u32>, AllocError>
         ensures { IfOk result (λ v. IsContent (view_of self.now.threads self.now.quota self.now.state) v.items) }
     {
-        self.keeps_its_laws();
-        let mut keys = Vec::new(self.alloc);
-        let mut node = self.next_node(HEAD);
-        while node != TAIL {
-            if !self.is_marked(node) {
-                keys.push((self.node_key(node) - 1) as u32)?;
-            }
-            node = self.next_node(node);
-        }
-        Ok(keys)
+        self.walk(|met| if met.marked { None } else { Some(met.key) })
     }
 
     /// The keys of the nodes of the chain between head and tail, from head to tail, each with whether its node is
@@ -219,17 +210,29 @@ impl<M: Machine> World<M> {
         ensures content { IfOk result (λ v.
             IsContent (view_of self.now.threads self.now.quota self.now.state) (unmarked_keys v.items)) }
     {
+        self.walk(|met| Some(met))
+    }
+
+    /// Walks along the chain from head to tail, and keeps what `pick` picks of the keys between them.
+    fn walk<T: Copy, F: Fn(ChainKey) -> Option<T>>(&self, pick: F) -> Result<Vec<T>, AllocError>
+        requires { F.IsAlwaysCallable pick }
+        ensures { IfOk result (λ v.
+            IsPickedFromChain (F.post pick) (view_of self.now.threads self.now.quota self.now.state) v.items) }
+    {
         self.keeps_its_laws();
-        let mut chain = Vec::new(self.alloc);
+        let mut picked = Vec::new(self.alloc);
         let mut node = self.next_node(HEAD);
         while node != TAIL {
-            chain.push(ChainKey {
+            let met = ChainKey {
                 key: (self.node_key(node) - 1) as u32,
                 marked: self.is_marked(node),
-            })?;
+            };
+            if let Some(item) = pick(met) {
+                picked.push(item)?;
+            }
             node = self.next_node(node);
         }
-        Ok(chain)
+        Ok(picked)
     }
 
     /// What is so in every state of every run.
