@@ -1,16 +1,17 @@
 //! FineList: node locks, taken hand over hand (Herlihy and Shavit's fine-grained list).
 #![tactic(auto)]
 
-ghost use Rattle.std.specs.Prelude.{◌≡◌, ◌+◌, ◌≤◌};
-ghost use Rattle.lset_words.specs.Words.{lock_index};
+ghost use Rattle.std.specs.Prelude.{◌≡◌};
 ghost use Rattle.lset_words.specs.declared.Kind.TheVariants.{Fine};
 ghost use Rattle.lset_steps.specs.Rows.{IsSmall};
 ghost use Rattle.lset_fine.specs.Fine.{fine, next_action, at_key, local_after};
 ghost use Rattle.lset_fine.specs.Lawful.{fine_lawful};
 
-use lset_steps::rows::{Targets, begun, decide, key_index, link_index, lock_index, own_slot};
+use lset_steps::rows::{
+    Targets, begun, decide, key_index, link_index, lock_index, own_slot, try_lock,
+};
 use lset_steps::{Action, Fed, Local, Machine};
-use lset_words::{Call, Key, Kind, MOST_NODES, Reply};
+use lset_words::{Call, Key, Kind, Reply};
 
 /// The list with a lock in each node: a walk locks a node before it gives up the one behind it (Herlihy
 /// and Shavit's fine-grained list, by this project's own table).
@@ -25,15 +26,6 @@ const TARGETS: Targets = Targets {
     removes: 10,
     leaves: 12,
 };
-
-/// The try of a node's lock.
-fn try_lock(node: u64, local: &Local) -> Action
-    requires local { IsSmall local.now }
-    requires node { node ≤ MOST_NODES }
-    ensures { result ≡ Action.Exchange (lock_index node) 0 (local.now.thread + 1) }
-{
-    Action::Exchange(lock_index(node), 0, u64::from(local.thread) + 1)
-}
 
 fn next_action(local: &Local) -> Action
     requires { IsSmall local.now }

@@ -2,8 +2,7 @@
 //! after Heller and others).
 #![tactic(auto)]
 
-ghost use Rattle.std.specs.Prelude.{◌≡◌, ◌+◌, ◌/◌, ◌≤◌, Some};
-ghost use Rattle.lset_words.specs.Words.{lock_index};
+ghost use Rattle.std.specs.Prelude.{◌≡◌, ◌/◌, Some};
 ghost use Rattle.lset_words.specs.declared.Kind.TheVariants.{Lazy};
 ghost use Rattle.lset_words.specs.declared.Reply.TheVariants.{True};
 ghost use Rattle.lset_steps.specs.Rows.{IsSmall};
@@ -13,9 +12,9 @@ ghost use Rattle.lset_lazy.specs.Lawful.{lazy_lawful, lazy_reads, lazy_walks};
 pub mod laws;
 
 use lset_steps::reads::{begun_reading, continued, leaves_with, read_action, read_fed};
-use lset_steps::rows::{Targets, decide, key_index, link_index, lock_index, own_slot};
+use lset_steps::rows::{Targets, decide, key_index, link_index, lock_index, own_slot, try_lock};
 use lset_steps::{Action, Fed, Local, Machine, OpenReads};
-use lset_words::{Call, Key, Kind, MOST_NODES, Reply};
+use lset_words::{Call, Key, Kind, Reply};
 
 /// The list whose walks take no lock: a call that changes it locks the two nodes at which its walk stopped, and walks
 /// again where they have changed (Herlihy and Shavit's lazy list, by this project's own table).
@@ -30,15 +29,6 @@ const TARGETS: Targets = Targets {
     removes: 11,
     leaves: 13,
 };
-
-/// The try of a node's lock.
-fn try_lock(node: u64, local: &Local) -> Action
-    requires local { IsSmall local.now }
-    requires node { node ≤ MOST_NODES }
-    ensures { result ≡ Action.Exchange (lock_index node) 0 (local.now.thread + 1) }
-{
-    Action::Exchange(lock_index(node), 0, u64::from(local.thread) + 1)
-}
 
 fn next_action(local: &Local) -> Action
     requires { IsSmall local.now }

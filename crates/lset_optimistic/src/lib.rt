@@ -2,8 +2,7 @@
 //! optimistic list).
 #![tactic(auto)]
 
-ghost use Rattle.std.specs.Prelude.{◌≡◌, ◌+◌, ◌/◌, ◌≤◌};
-ghost use Rattle.lset_words.specs.Words.{lock_index};
+ghost use Rattle.std.specs.Prelude.{◌≡◌, ◌/◌};
 ghost use Rattle.lset_words.specs.declared.Kind.TheVariants.{Optimistic};
 ghost use Rattle.lset_steps.specs.Rows.{IsSmall};
 ghost use Rattle.lset_optimistic.specs.Optimistic.{
@@ -21,9 +20,11 @@ ghost use Rattle.lset_optimistic.specs.Lawful.{optimistic_lawful};
 
 pub mod laws;
 
-use lset_steps::rows::{Targets, begun, decide, key_index, link_index, lock_index, own_slot};
+use lset_steps::rows::{
+    Targets, begun, decide, key_index, link_index, lock_index, own_slot, try_lock,
+};
 use lset_steps::{Action, Fed, Local, Machine};
-use lset_words::{Call, Key, Kind, MOST_NODES, Reply};
+use lset_words::{Call, Key, Kind, Reply};
 
 /// The list that walks without locks, locks the two nodes that it has come to, and walks a second time from the
 /// head to see that the first of them is still in the chain and leads to the other (Herlihy and Shavit's
@@ -39,15 +40,6 @@ const TARGETS: Targets = Targets {
     removes: 12,
     leaves: 14,
 };
-
-/// The try of a node's lock.
-fn try_lock(node: u64, local: &Local) -> Action
-    requires local { IsSmall local.now }
-    requires node { node ≤ MOST_NODES }
-    ensures { result ≡ Action.Exchange (lock_index node) 0 (local.now.thread + 1) }
-{
-    Action::Exchange(lock_index(node), 0, u64::from(local.thread) + 1)
-}
 
 fn next_action(local: &Local) -> Action
     requires { IsSmall local.now }

@@ -1,7 +1,8 @@
-ghost use Rattle.std.specs.Prelude.{◌≡◌, ◌≤◌};
+ghost use Rattle.std.specs.Prelude.{◌≡◌, ◌+◌, ◌^◌, ◌<◌, ◌≤◌};
+ghost use Rattle.lset_words.specs.Words.{lock_index};
 ghost use Rattle.lset_steps.specs.Rows.{own_slot, begun, decided_on, IsSmall};
 
-use crate::Local;
+use crate::{Action, Local};
 use lset_words::{Call, MOST_NODES, Reply, slot_node};
 pub use lset_words::{key_index, link_index, lock_index};
 
@@ -12,6 +13,15 @@ pub fn own_slot(local: &Local) -> u64
     ensures few { result ≤ MOST_NODES }
 {
     slot_node(local.quota, local.thread, local.used)
+}
+
+/// The try of the lock of a node, numbered below `2^62`: where the lock is free, which is 0, the thread takes it, which is its
+/// number and 1. (Herlihy and Shavit's node locks, by this project's own table.)
+pub fn try_lock(node: u64, local: &Local) -> Action
+    requires { node < 2 ^ 62 }
+    ensures { result ≡ Action.Exchange (lock_index node) 0 (local.now.thread + 1) }
+{
+    Action::Exchange(lock_index(node), 0, u64::from(local.thread) + 1)
 }
 
 /// A thread that has begun a call, at the row `pc`: its registers are 0.
