@@ -1,5 +1,5 @@
 -- Records that grow by own calls, and records that are gathered.
-use Rattle.std.proofs.Common.{◌≡◌, ℕ, ◌<◌, inl, inr, ⊎_elim, List, [], ◌∷◌, ◌++◌, Option, Some, None, IfSome, All, refl, subst, sym}
+use Rattle.std.proofs.Common.{◌≡◌, ℕ, inl, inr, ⊎_elim, List, [], ◌∷◌, ◌++◌, Option, Some, None, IfSome, All, refl, subst, sym}
 use Rattle.std.proofs.lemmas.List.Elements.{All-head, All-cons, All-nil}
 use Rattle.lset_words.specs.SequentialSet.{Answered}
 use Rattle.lset_rule.specs.declared.view.Shape.{Shape}

@@ -14,16 +14,22 @@ use Rattle.lset_rule.specs.declared.view.Shape.{Shape}
 use Rattle.lset_rule.specs.Runs.{IsRunOf, history_of}
 use Rattle.lset_live.specs.Records.{Record, Names, Keeps, calls_by}
 
--- The call c of thread t answered r: it began after the events that were seen before it, and its answering step is the last of the events
--- that are seen now.
+-- The call c of thread t answered r: it began after the events that were seen before it, and its answering step is the last of
+-- the events that are seen now.
 pub record IsAnswered (T : Table) (k : Shape) (t : ℕ) (c : Call) (r : Reply) (before after : List Event) : Type 0 where
   pub others : List Event
   pub since : List Event
   pub is : after ≡ (before ++ others) ++ Begin t c ∷ since ++ Go t ∷ []
   pub number : ℕ
-  pub call : get_elem? (history_of T k after) number ≡ some (record { thread = t; call = c; begun = length (before ++ others) + 1; ended = Some (length after, r) })
+  pub call : get_elem? (history_of T k after) number ≡ some (record {
+    thread = t;
+    call = c;
+    begun = length (before ++ others) + 1;
+    ended = Some (length after, r);
+  })
 
--- The events are a run of the machine, and an order of its calls linearizes their history, from the empty set, and keeps the record.
+-- The events are a run of the machine, and an order of its calls linearizes their history, from the empty set, and keeps the
+-- record.
 pub record IsExplained (T : Table) (k : Shape) (events : List Event) (r : Record) : Type 0 where
   pub run : IsRunOf T k events
   pub order : List Placed

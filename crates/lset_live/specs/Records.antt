@@ -1,5 +1,5 @@
--- [Record] of a seat: a thread, its own calls with their replies, and the records that it gathered. And what it means that an order of
--- calls keeps a record.
+-- [Record] of a seat: a thread, its own calls with their replies, and the records that it gathered. And what it means that an
+-- order of calls keeps a record.
 use Rattle.std.specs.Prelude.{◌≡◌, ℕ, ◌==◌, ◌⊎◌, List, [], ◌∷◌, ◌++◌, filter, map}
 use Rattle.lset_words.specs.declared.Call.{Call}
 use Rattle.lset_words.specs.declared.Reply.{Reply}
@@ -56,8 +56,8 @@ placed_by u c = record { thread = u; call = c.call; reply = c.reply }
 abbrev pub HasOwnCalls : List Answered → Record → Type 0
 HasOwnCalls order r = calls_by (thread_of r) order ≡ map (placed_by (thread_of r)) (own_calls r)
 
--- The own call c, which follows the record r, stands behind just the own calls of r, and behind all calls of the threads of the records
--- that r has gathered.
+-- The own call c, which follows the record r, stands behind just the own calls of r, and behind all calls of the threads of the
+-- records that r has gathered.
 pub record Follows (order : List Answered) (r : Record) (c : CallMade) : Type 0 where
   pub before : List Answered
   pub after : List Answered
@@ -71,7 +71,7 @@ KeepsItems order (fresh t) = Unit {0}
 KeepsItems order (called r c) = KeepsItems order r × Follows order r c
 KeepsItems order (gathered r g) = KeepsItems order r × HasOwnCalls order g × KeepsItems order g
 
--- THE ORDER KEEPS THE RECORD: the calls of its thread are, in order, its own calls; each gathered record is kept; and each own call
--- stands behind all calls of the threads of the records that were gathered before it.
+-- THE ORDER KEEPS THE RECORD: the calls of its thread are, in order, its own calls; each gathered record is kept; and each own
+-- call stands behind all calls of the threads of the records that were gathered before it.
 abbrev pub Keeps : List Answered → Record → Type 0
 Keeps order r = HasOwnCalls order r × KeepsItems order r

@@ -17,8 +17,8 @@ pub record SetValue : Type 0 where
   pub table : TableId
   pub shape : Shape
 
--- a seat: its set, its record, the seats that it holds (itself included), and the events that it has seen. The running program stores
--- none of these but the count.
+-- a seat: its set, its record, the seats that it holds (itself included), and the events that it has seen. The running program
+-- stores none of these but the count.
 pub record SeatValue : Type 0 where
   pub set : SetValue
   pub past : Record
@@ -31,7 +31,8 @@ new_seat set t = record { set = set; past = fresh t; held = 1; events = [] }
 
 -- a set that was just opened with these numbers: seat t is that of thread t
 abbrev pub IsOpened : SetValue → ℕ → ℕ → List SeatValue → Type 0
-IsOpened set threads quota seats = (set.shape ≡ record { threads = threads; quota = quota }) × (seats ≡ map (new_seat set) (range_with_len 0 threads))
+IsOpened set threads quota seats = (set.shape ≡ record { threads = threads; quota = quota })
+    × (seats ≡ map (new_seat set) (range_with_len 0 threads))
 
 -- why a set is not opened; want of memory, within the limits, is not told apart
 abbrev pub RefusesSeats : Sizes → OpenFault → Type 0

@@ -30,7 +30,8 @@ impl Model for Closed {
 
     ghost view = { λ c. record { threads = c.threads; quota = c.quota; words = slots_items c.words.words } };
 
-    ghost invariant = { λ c. IsLast (record { threads = c.threads; quota = c.quota; words = slots_items c.words.words }) × IsFull c.words.words × (slots_len c.words.words ≡ word_count c.threads c.quota) × (slots_len c.words.slots ≡ 0) };
+    ghost invariant = { λ c. IsLast (record { threads = c.threads; quota = c.quota; words = slots_items c.words.words })
+        × IsFull c.words.words × (slots_len c.words.words ≡ word_count c.threads c.quota) × (slots_len c.words.slots ≡ 0) };
 }
 
 impl Closed {

@@ -1,10 +1,6 @@
 //! One function for each call, over table, seat and pause. The default bodies are the interpreter.
-ghost use Rattle.std.specs.Prelude.{◌≡◌};
 ghost use Rattle.lset_words.specs.declared.Call.TheVariants.{Add, Remove, Contains};
-ghost use Rattle.lset_rule.specs.Views.{IsIdle, Stands};
-ghost use Rattle.lset_rule.specs.Calls.{Makes};
-ghost use Rattle.lset_rule.specs.Seats.{IsOf, IsSeat};
-ghost use Rattle.lset_rule.specs.Slots.{slots_of};
+ghost use Rattle.lset_rule.specs.Seats.{HasCalled, MayCall};
 
 use lset_coarse::CoarseList;
 use lset_fine::FineList;
@@ -21,9 +17,10 @@ use std::sync::Wait;
 /// A list that has its rows (`Machine`) meets this trait with no body: `impl Running for MyList {}`. The default bodies
 /// are the interpreter (`lset_rule::walk`): it takes the row from `next`, makes this one step on the table, feeds what was
 /// seen, and asks `pause` after each step that does not answer. A list may have bodies of its own, loops over the steps
-/// of `lset_rule`, with the same clauses: they owe that the place is still that of the same seat and table, that the
-/// slots given back are those in its view, and that the call was made. It began after all that the seat had seen,
-/// its last step answered, and the record grew by just this call (`Makes`).
+/// of `lset_rule`, under the same contract. It asks that a call may be made from the place (`MayCall`): that it is a seat
+/// of the table, with no call under way, and that the slots are those in its view. It owes that the call was made
+/// (`HasCalled`): the place is still that of the same seat and table, the slots given back are those in its view, the call
+/// began after all that the seat had seen, its last step answered, and the record grew by just this call (`Makes`).
 ///
 /// Of each function: `rt` is what a call waits by, `table` are the words, `place` is the seat's place among their views,
 /// `slots` are those of its thread, which has no call under way, and `key` is any key.
@@ -37,12 +34,8 @@ pub trait Running: Machine {
         key: Key,
         pause: &P,
     ) -> (Slots, Reply)
-        requires place { IsOf table.now.table_id table.now.key place.old }
-        requires idle { IsIdle place.old.me.0 × Stands Self.table place.old.me.0 }
-        requires slots { slots ≡ slots_of place.old.me.0.local }
-        ensures place { IsSeat place.old place.new }
-        ensures slots { result.0 ≡ slots_of place.new.me.0.local }
-        ensures made { Makes Self.table (Add key) place.old.me.0 result.1 place.new.me.0 }
+        requires { MayCall Self.table table.now.table_id table.now.key slots place.old }
+        ensures { HasCalled Self.table (Add key) place.old result place.new }
     {
         walk::<Self, R, P>(rt, table, place, slots, Call::Add(key), pause)
     }
@@ -56,12 +49,8 @@ pub trait Running: Machine {
         key: Key,
         pause: &P,
     ) -> (Slots, Reply)
-        requires place { IsOf table.now.table_id table.now.key place.old }
-        requires idle { IsIdle place.old.me.0 × Stands Self.table place.old.me.0 }
-        requires slots { slots ≡ slots_of place.old.me.0.local }
-        ensures place { IsSeat place.old place.new }
-        ensures slots { result.0 ≡ slots_of place.new.me.0.local }
-        ensures made { Makes Self.table (Remove key) place.old.me.0 result.1 place.new.me.0 }
+        requires { MayCall Self.table table.now.table_id table.now.key slots place.old }
+        ensures { HasCalled Self.table (Remove key) place.old result place.new }
     {
         walk::<Self, R, P>(rt, table, place, slots, Call::Remove(key), pause)
     }
@@ -75,12 +64,8 @@ pub trait Running: Machine {
         key: Key,
         pause: &P,
     ) -> (Slots, Reply)
-        requires place { IsOf table.now.table_id table.now.key place.old }
-        requires idle { IsIdle place.old.me.0 × Stands Self.table place.old.me.0 }
-        requires slots { slots ≡ slots_of place.old.me.0.local }
-        ensures place { IsSeat place.old place.new }
-        ensures slots { result.0 ≡ slots_of place.new.me.0.local }
-        ensures made { Makes Self.table (Contains key) place.old.me.0 result.1 place.new.me.0 }
+        requires { MayCall Self.table table.now.table_id table.now.key slots place.old }
+        ensures { HasCalled Self.table (Contains key) place.old result place.new }
     {
         walk::<Self, R, P>(rt, table, place, slots, Call::Contains(key), pause)
     }
@@ -95,12 +80,8 @@ pub(crate) fn call_on<M: Running, R: Wait, P: Pause>(
     call: Call,
     pause: &P,
 ) -> (Slots, Reply)
-    requires place { IsOf table.now.table_id table.now.key place.old }
-    requires idle { IsIdle place.old.me.0 × Stands M.table place.old.me.0 }
-    requires slots { slots ≡ slots_of place.old.me.0.local }
-    ensures place { IsSeat place.old place.new }
-    ensures slots { result.0 ≡ slots_of place.new.me.0.local }
-    ensures made { Makes M.table call place.old.me.0 result.1 place.new.me.0 }
+    requires { MayCall M.table table.now.table_id table.now.key slots place.old }
+    ensures { HasCalled M.table call place.old result place.new }
 {
     match call {
         Call::Add(key) => M::add_on::<R, P>(rt, table, place, slots, key, pause),
@@ -174,12 +155,8 @@ pub trait RunningReads: Running + OpenReads {
         slots: Slots,
         key: Key,
     ) -> (Slots, Reply)
-        requires place { IsOf table.now.table_id table.now.key place.old }
-        requires idle { IsIdle place.old.me.0 × Stands Self.table place.old.me.0 }
-        requires slots { slots ≡ slots_of place.old.me.0.local }
-        ensures place { IsSeat place.old place.new }
-        ensures slots { result.0 ≡ slots_of place.new.me.0.local }
-        ensures made { Makes Self.table (Contains key) place.old.me.0 result.1 place.new.me.0 }
+        requires { MayCall Self.table table.now.table_id table.now.key slots place.old }
+        ensures { HasCalled Self.table (Contains key) place.old result place.new }
     {
         read::<Self>(table, place, slots, key)
     }

@@ -84,7 +84,8 @@ impl<M: Running> LiveSet<M> {
         requires { seat.old.set ≡ self.now }
         ensures seat { (seat.new.set ≡ self.now) × (seat.new.held ≡ seat.old.held) }
         ensures record { seat.new.past ≡ called seat.old.past (record { call = call; reply = result }) }
-        ensures answered { IsAnswered M.table self.now.shape (thread_of seat.old.past) call result seat.old.events seat.new.events }
+        ensures answered { IsAnswered M.table self.now.shape (thread_of seat.old.past) call result
+            seat.old.events seat.new.events }
         ensures explained { IsExplained M.table self.now.shape seat.new.events seat.new.past }
     {
         runs_are_linearizable::<M>();
@@ -106,7 +107,8 @@ impl<M: Running> LiveSet<M> {
         requires { seat.old.set ≡ self.now }
         ensures seat { (seat.new.set ≡ self.now) × (seat.new.held ≡ seat.old.held) }
         ensures record { seat.new.past ≡ called seat.old.past (record { call = Add key; reply = result }) }
-        ensures answered { IsAnswered M.table self.now.shape (thread_of seat.old.past) (Add key) result seat.old.events seat.new.events }
+        ensures answered { IsAnswered M.table self.now.shape (thread_of seat.old.past) (Add key) result
+            seat.old.events seat.new.events }
         ensures explained { IsExplained M.table self.now.shape seat.new.events seat.new.past }
     {
         self.call(rt, seat, Call::Add(key), &Spin::new())
@@ -117,7 +119,8 @@ impl<M: Running> LiveSet<M> {
         requires { seat.old.set ≡ self.now }
         ensures seat { (seat.new.set ≡ self.now) × (seat.new.held ≡ seat.old.held) }
         ensures record { seat.new.past ≡ called seat.old.past (record { call = Remove key; reply = result }) }
-        ensures answered { IsAnswered M.table self.now.shape (thread_of seat.old.past) (Remove key) result seat.old.events seat.new.events }
+        ensures answered { IsAnswered M.table self.now.shape (thread_of seat.old.past) (Remove key) result
+            seat.old.events seat.new.events }
         ensures explained { IsExplained M.table self.now.shape seat.new.events seat.new.past }
     {
         self.call(rt, seat, Call::Remove(key), &Spin::new())
@@ -128,7 +131,8 @@ impl<M: Running> LiveSet<M> {
         requires { seat.old.set ≡ self.now }
         ensures seat { (seat.new.set ≡ self.now) × (seat.new.held ≡ seat.old.held) }
         ensures record { seat.new.past ≡ called seat.old.past (record { call = Contains key; reply = result }) }
-        ensures answered { IsAnswered M.table self.now.shape (thread_of seat.old.past) (Contains key) result seat.old.events seat.new.events }
+        ensures answered { IsAnswered M.table self.now.shape (thread_of seat.old.past) (Contains key) result
+            seat.old.events seat.new.events }
         ensures explained { IsExplained M.table self.now.shape seat.new.events seat.new.past }
     {
         self.call(rt, seat, Call::Contains(key), &Spin::new())
@@ -193,7 +197,8 @@ impl<M: Running> LiveSet<M> {
     pub(crate) fn split_off(&self, place: &mut Place) -> Place
         requires place { IsOf self.now.table self.now.shape place.old × IsIdle place.old.me.0 }
         requires fresh { (place.old.me.0.past ≡ Fresh place.old.me.0.thread) × (0 < length place.old.me.0.others) }
-        ensures old { (place.new.table_id ≡ place.old.table_id) × (place.new.id ≡ place.old.id) × (place.new.me ≡ (left_view place.old.me.0, place.old.me.1)) }
+        ensures old { (place.new.table_id ≡ place.old.table_id) × (place.new.id ≡ place.old.id)
+            × (place.new.me ≡ (left_view place.old.me.0, place.old.me.1)) }
         ensures new { (result.table_id ≡ place.old.table_id) × (result.me ≡ (right_view place.old.me.0, [])) }
     {
         self.table.shared.split_seat::<Cutting>(place)
@@ -207,7 +212,8 @@ impl<M: RunningReads> LiveSet<M> {
         requires { seat.old.set ≡ self.now }
         ensures seat { (seat.new.set ≡ self.now) × (seat.new.held ≡ seat.old.held) }
         ensures record { seat.new.past ≡ called seat.old.past (record { call = Contains key; reply = reply_of result }) }
-        ensures answered { IsAnswered M.table self.now.shape (thread_of seat.old.past) (Contains key) (reply_of result) seat.old.events seat.new.events }
+        ensures answered { IsAnswered M.table self.now.shape (thread_of seat.old.past) (Contains key) (reply_of result)
+            seat.old.events seat.new.events }
         ensures explained { IsExplained M.table self.now.shape seat.new.events seat.new.past }
     {
         runs_are_linearizable::<M>();

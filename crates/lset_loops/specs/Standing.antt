@@ -41,7 +41,8 @@ AtHead c v w = (pred : ℕ) × (curr : ℕ) × (succ : ℕ) × At c v 1 pred cur
 
 -- Its last step was the load of the key of `curr`, in which it saw this word, and that is not below the key of the call.
 abbrev pub StopsAt : Call → View → Window → ℕ → View → Type 0
-StopsAt c v at word w = (succ : ℕ) × (before : View) × At c v 4 at.pred at.curr succ before × Goes lock_free before word w × (target c ≤ word)
+StopsAt c v at word w = (succ : ℕ) × (before : View) × At c v 4 at.pred at.curr succ before
+    × Goes lock_free before word w × (target c ≤ word)
 
 -- It is about to write the key of its slot.
 abbrev pub AtPutting : Call → View → Window → View → Type 0

@@ -3,10 +3,7 @@ ghost use Rattle.std.specs.Prelude.{◌≡◌, ◌%◌, ◌==◌, if◌then◌el
 ghost use Rattle.lset_words.specs.declared.Call.TheVariants.{Contains};
 ghost use Rattle.lset_words.specs.declared.Reply.TheVariants.{True, False};
 ghost use Rattle.lset_steps.specs.RowLaws.{HasReading};
-ghost use Rattle.lset_rule.specs.Views.{IsIdle, Stands};
-ghost use Rattle.lset_rule.specs.Calls.{Makes};
-ghost use Rattle.lset_rule.specs.Seats.{IsOf, IsSeat};
-ghost use Rattle.lset_rule.specs.Slots.{slots_of};
+ghost use Rattle.lset_rule.specs.Seats.{HasCalled, MayCall};
 ghost use Rattle.lset_lazy.proofs.Rows.{lazy_rows};
 ghost use Rattle.lset_lock_free.proofs.Rows.{lock_free_rows};
 
@@ -56,12 +53,8 @@ pub fn contains_on<M: ReadsByRows, P: Pause>(
     key: Key,
     pause: &P,
 ) -> (Slots, Reply)
-    requires place { IsOf table.now.table_id table.now.key place.old }
-    requires idle { IsIdle place.old.me.0 × Stands M.table place.old.me.0 }
-    requires slots { slots ≡ slots_of place.old.me.0.local }
-    ensures place { IsSeat place.old place.new }
-    ensures slots { result.0 ≡ slots_of place.new.me.0.local }
-    ensures made { Makes M.table (Contains key) place.old.me.0 result.1 place.new.me.0 }
+    requires { MayCall M.table table.now.table_id table.now.key slots place.old }
+    ensures { HasCalled M.table (Contains key) place.old result place.new }
 {
     let target = key.word();
     let mut link = load_first::<M, Brand>(table, place, Call::Contains(key), link_index(HEAD));
@@ -95,12 +88,8 @@ pub fn contains_now_on<M: ReadsByRows>(
     slots: Slots,
     key: Key,
 ) -> (Slots, Reply)
-    requires place { IsOf table.now.table_id table.now.key place.old }
-    requires idle { IsIdle place.old.me.0 × Stands M.table place.old.me.0 }
-    requires slots { slots ≡ slots_of place.old.me.0.local }
-    ensures place { IsSeat place.old place.new }
-    ensures slots { result.0 ≡ slots_of place.new.me.0.local }
-    ensures made { Makes M.table (Contains key) place.old.me.0 result.1 place.new.me.0 }
+    requires { MayCall M.table table.now.table_id table.now.key slots place.old }
+    ensures { HasCalled M.table (Contains key) place.old result place.new }
 {
     contains_on::<M, Unasked>(table, place, slots, key, &Unasked)
 }

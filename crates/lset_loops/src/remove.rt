@@ -4,8 +4,7 @@ ghost use Rattle.lset_words.specs.declared.Call.TheVariants.{Remove};
 ghost use Rattle.lset_words.specs.declared.Reply.TheVariants.{True};
 ghost use Rattle.lset_lock_free.specs.LockFree.{lock_free};
 ghost use Rattle.lset_rule.specs.Views.{IsIdle, Stands};
-ghost use Rattle.lset_rule.specs.Calls.{Makes};
-ghost use Rattle.lset_rule.specs.Seats.{IsOf, IsSeat};
+ghost use Rattle.lset_rule.specs.Seats.{HasCalled, IsOf, IsSeat, MayCall};
 ghost use Rattle.lset_rule.specs.Slots.{slots_of};
 ghost use Rattle.lset_loops.specs.Standing.{AtTakingOut, AtUnlinking, HasAnswered, HasTakenOut};
 
@@ -108,12 +107,8 @@ pub fn remove_on<R: Wait, P: Pause>(
     key: Key,
     pause: &P,
 ) -> (Slots, Reply)
-    requires place { IsOf table.now.table_id table.now.key place.old }
-    requires idle { IsIdle place.old.me.0 × Stands lock_free place.old.me.0 }
-    requires slots { slots ≡ slots_of place.old.me.0.local }
-    ensures place { IsSeat place.old place.new }
-    ensures slots { result.0 ≡ slots_of place.new.me.0.local }
-    ensures made { Makes lock_free (Remove key) place.old.me.0 result.1 place.new.me.0 }
+    requires { MayCall lock_free table.now.table_id table.now.key slots place.old }
+    ensures { HasCalled lock_free (Remove key) place.old result place.new }
 {
     remove_from::<Brand, R, P>(rt, table, place, slots, key, pause)
 }

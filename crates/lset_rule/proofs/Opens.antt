@@ -13,7 +13,6 @@ use Rattle.lset_rule.specs.declared.view.Past.{Fresh}
 use Rattle.lset_rule.specs.declared.view.View.{View}
 use Rattle.std.proofs.lemmas.List.FromFn.{get_or-map-range_with_len, length-map-range_with_len}
 use Rattle.lset_words.specs.Words.{word_count}
-use Rattle.lset_steps.specs.declared.Local.{Local}
 use Rattle.lset_steps.specs.Steps.{Table, Limits, opening, opening_word, idle}
 use Rattle.atomic_table.specs.declared.shared.Seat.{Seat}
 use Rattle.atomic_table.specs.Seated.{TableId}

@@ -16,7 +16,11 @@ use Rattle.lset_rule.specs.Views.{Stands}
 
 -- the view once the call c has begun, where log are the events of all so far
 abbrev pub begun_view : Table → List Event → Call → View → View
-begun_view m log c v = record v { local = m.begin c v.local; under = Some (record { call = c; begun = length log + 1; steps = 0 }); seen = log ++ Begin v.thread c ∷ [] }
+begun_view m log c v = record v {
+  local = m.begin c v.local;
+  under = Some (record { call = c; begun = length log + 1; steps = 0 });
+  seen = log ++ Begin v.thread c ∷ [];
+}
 
 -- the record after event n: at the answer of the call under way it grows by that call
 abbrev pub record_after : Past → Option Reply → Option Under → ℕ → Past
@@ -26,19 +30,24 @@ record_after r None u n = r
 
 -- the view after a step at which n was seen
 abbrev pub gone_view : Table → List Event → ℕ → View → View
-gone_view m log n v = let f = m.feed v.local n in
-    record v { local = f.local; under = under_after f.answer v.under; past = record_after v.past f.answer v.under (length log + 1); seen = log ++ Go v.thread ∷ [] }
+gone_view m log n v = let f = m.feed v.local n in record v {
+  local = f.local;
+  under = under_after f.answer v.under;
+  past = record_after v.past f.answer v.under (length log + 1);
+  seen = log ++ Go v.thread ∷ [];
+}
 
--- WHAT A STEP TELLS ITS CALLER. log are the events of all before it: they begin with what the caller had seen, and after them the caller
--- sees n. From now on the caller has seen these events and the step, and stands behind it. (Sees: some run of the machine comes to these
--- registers, with n to be seen next; this is what `feed` asks of its caller.)
+-- WHAT A STEP TELLS ITS CALLER. log are the events of all before it: they begin with what the caller had seen, and after them
+-- the caller sees n. From now on the caller has seen these events and the step, and stands behind it. (Sees: some run of the
+-- machine comes to these registers, with n to be seen next; this is what `feed` asks of its caller.)
 abbrev pub Goes : Table → View → ℕ → View → Type 0
 Goes m v n w = (log : List Event) × (on : StartsWith log v.seen) × Sees m v.local n × (w ≡ gone_view m log n v) × Stands m w
     × (seen_next m (end_of m v.shape log) v.thread ≡ n)
 
 -- the same of the first step of the call c, before which the call begins
 abbrev pub Starts : Table → Call → View → ℕ → View → Type 0
-Starts m c v n w = (log : List Event) × (on : StartsWith log v.seen) × Sees m (m.begin c v.local) n × (let b = begun_view m log c v in w ≡ gone_view m b.seen n b) × Stands m w
+Starts m c v n w = (log : List Event) × (on : StartsWith log v.seen) × Sees m (m.begin c v.local) n
+    × (let b = begun_view m log c v in w ≡ gone_view m b.seen n b) × Stands m w
     × (let b = begun_view m log c v in seen_next m (end_of m v.shape b.seen) v.thread ≡ n)
 
 -- as the table's steps tell it; a seat never holds a slot, for there are none
@@ -50,10 +59,11 @@ starting m c st me n me' = Starts m c me.0 n me'.0 × (me'.1 ≡ me.1)
 
 -- all but the registers, the call under way, the record and the events seen
 abbrev pub Same : View → View → Type 0
-Same v w = (w.spent ≡ v.spent) × (w.shape ≡ v.shape) × (w.thread ≡ v.thread) × (w.others ≡ v.others) × (w.ours ≡ v.ours) × (w.theirs ≡ v.theirs)
+Same v w = (w.spent ≡ v.spent) × (w.shape ≡ v.shape) × (w.thread ≡ v.thread) × (w.others ≡ v.others)
+    × (w.ours ≡ v.ours) × (w.theirs ≡ v.theirs)
 
--- A WHOLE CALL: c was made, and answered r. It began after all that v had seen, its last step is the last event, and the record grew by just
--- this call.
+-- A WHOLE CALL: c was made, and answered r. It began after all that v had seen, its last step is the last event, and the record
+-- grew by just this call.
 pub record Makes (m : Table) (c : Call) (v : View) (r : Reply) (w : View) : Type 0 where
   pub log : List Event
   pub between : List Event

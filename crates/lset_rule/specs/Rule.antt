@@ -1,6 +1,6 @@
--- THE RULE of a list on shared words, which holds between any two moves: there is a list L of events whose run ends with the words of the
--- table, and each view fits it. And the views that the moves without an event make: opening, splitting, joining, and the load that ends a
--- joining.
+-- THE RULE of a list on shared words, which holds between any two moves: there is a list L of events whose run ends with the
+-- words of the table, and each view fits it. And the views that the moves without an event make: opening, splitting, joining,
+-- and the load that ends a joining.
 use Rattle.std.specs.Prelude.{◌≡◌, ℕ, zero, suc, ◌+◌, ◌-◌, ◌<◌, ◌≤◌, true, false, List, [], ◌∷◌, ◌++◌, length, None, cond, nat_le}
 use mathlib.Core.Option.{some}
 use lib.ListN.{get_elem?}
@@ -22,8 +22,8 @@ abbrev pub IsQuiet : View → List Event → Type 0
 IsQuiet v [] = Unit {0}
 IsQuiet v (e ∷ es) = ¬ (HasThread v (thread_of e)) × IsQuiet v es
 
--- THE VIEW j FITS L: it has seen the first events of L, those after them are by others, it alone has its threads, and the two lists that it
--- keeps from a joining begin L too.
+-- THE VIEW j FITS L: it has seen the first events of L, those after them are by others, it alone has its threads, and the two
+-- lists that it keeps from a joining begin L too.
 pub record Fits (m : Table) (k : Shape) (log : List Event) (seat_of : ℕ → ℕ) (j : ℕ) (v : View) : Type 0 where
   pub shape : v.shape ≡ k
   pub rest : List Event
@@ -38,12 +38,13 @@ pub record Fits (m : Table) (k : Shape) (log : List Event) (seat_of : ℕ → �
 abbrev pub StandsIn : List View → ℕ → ℕ → Type 0
 StandsIn views j t = (v : View) × (get_elem? views j ≡ some v) × (v.spent ≡ false) × HasThread v t
 
--- THE RULE: there is a run that ends with the words of the table, and each view that is not spent fits it. Each thread stands in one view:
--- in that of its seat, and (by `seat` of Fits) in no other. Seats are not counted: the view of a seat that was dropped stays.
+-- THE RULE: there is a run that ends with the words of the table, and each view that is not spent fits it. Each thread stands
+-- in one view: in that of its seat, and (by `seat` of Fits) in no other. Seats are not counted: the view of a seat that was
+-- dropped stays.
 --
--- What follows from it, at the end of the whole list L (proofs/EndOfAll): the registers of each thread, its call under way and its ended
--- calls are those of the view that has it; and the ended calls of the thread of a record, of the view's own or of a gathered one, are the
--- own calls of that record, with these numbers.
+-- What follows from it, at the end of the whole list L (proofs/EndOfAll): the registers of each thread, its call under way and
+-- its ended calls are those of the view that has it; and the ended calls of the thread of a record, of the view's own or of a
+-- gathered one, are the own calls of that record, with these numbers.
 pub record Holds (m : Table) (k : Shape) (s : table.State (Unit {0}) View) : Type 0 where
   pub log : List Event
   pub ran : IsRunOf m k log
@@ -71,10 +72,19 @@ opener k = record {
   theirs = [];
 }
 
--- SPLITTING A SEAT: it gives up its first further thread, and the new view has that thread, idle, with an empty record and the same events
+-- SPLITTING A SEAT: it gives up its first further thread, and the new view has that thread, idle, with an empty record and the
+-- same events
 abbrev head_aside : View → List Aside → View
 head_aside v [] = record v { spent = true }
-head_aside v (o ∷ os) = record v { thread = o.thread; local = o.local; under = None; others = []; past = Fresh o.thread; ours = []; theirs = [] }
+head_aside v (o ∷ os) = record v {
+  thread = o.thread;
+  local = o.local;
+  under = None;
+  others = [];
+  past = Fresh o.thread;
+  ours = [];
+  theirs = [];
+}
 
 abbrev tail_asides : List Aside → List Aside
 tail_asides [] = []
@@ -86,8 +96,8 @@ left_view v = record v { others = tail_asides v.others }
 abbrev pub right_view : View → View
 right_view v = head_aside v v.others
 
--- JOINING TWO SEATS: the first takes the threads and the record of the second, has seen the longer of the two lists, and keeps both; the
--- second is spent
+-- JOINING TWO SEATS: the first takes the threads and the record of the second, has seen the longer of the two lists, and keeps
+-- both; the second is spent
 abbrev pub longer : List Event → List Event → List Event
 longer xs ys = cond (nat_le (length xs) (length ys)) ys xs
 
@@ -95,12 +105,20 @@ abbrev pub aside : View → Aside
 aside w = record { thread = w.thread; local = w.local }
 
 abbrev pub joined : View → View → View
-joined v w = record v { others = v.others ++ aside w ∷ w.others; past = gathered v.past w.past; seen = longer v.seen w.seen; ours = v.seen; theirs = w.seen }
+joined v w = record v {
+  others = v.others ++ aside w ∷ w.others;
+  past = gathered v.past w.past;
+  seen = longer v.seen w.seen;
+  ours = v.seen;
+  theirs = w.seen;
+}
 
 abbrev pub nobody : View
 nobody = record (opener (record { threads = 0; quota = 0 })) { spent = true }
 
 -- THE LOAD THAT ENDS A JOINING tells that both kept lists begin the events seen, and drops them
 abbrev pub learned : Table → Step (Unit {0}) → Me (Unit {0}) View → ℕ → Me (Unit {0}) View → Type 0
-learned m st me n me' = (me'.0 ≡ record me.0 { ours = []; theirs = [] }) × Stands m me'.0 × (length me.0.ours ≤ length me.0.seen → StartsWith me.0.seen me.0.ours)
+learned m st me n me' =
+    (me'.0 ≡ record me.0 { ours = []; theirs = [] }) × Stands m me'.0
+    × (length me.0.ours ≤ length me.0.seen → StartsWith me.0.seen me.0.ours)
     × (length me.0.theirs ≤ length me.0.seen → StartsWith me.0.seen me.0.theirs) × (me'.1 ≡ me.1)

@@ -1,5 +1,6 @@
--- THE RUN OF A LIST OF EVENTS, computed from the opening state event by event: its last state, and of each thread what it holds then (its
--- registers), its call under way and its ended calls, with the numbers of their events. The first event has the number 1.
+-- THE RUN OF A LIST OF EVENTS, computed from the opening state event by event: its last state, and of each thread what it holds
+-- then (its registers), its call under way and its ended calls, with the numbers of their events. The first event has the
+-- number 1.
 use Rattle.std.specs.Prelude.{◌≡◌, ℕ, zero, suc, ◌+◌, ◌==◌, if◌then◌else◌, List, [], ◌∷◌, ◌++◌, length, Option, Some, None}
 use Rattle.lset_words.specs.declared.Reply.{Reply}
 use Rattle.lset_words.specs.declared.history.CallRecord.{CallRecord}
@@ -64,8 +65,8 @@ done_at log t (suc k) = done_next (suc k) (log k) t (under_at log t k) (done_at 
 abbrev pub here_at : Table → ℕ → ℕ → (ℕ → Event) → ℕ → ℕ → Here
 here_at T n q es t k = here (local_of (state_at T n q es k) t) (under_at (log_of T n q es) t k) (done_at (log_of T n q es) t k)
 
--- THE SAME OF A LIST OF EVENTS, of a set with this many threads and slots: its log, its last state, each thread at its end, and that it is
--- a run (each event may come where it comes)
+-- THE SAME OF A LIST OF EVENTS, of a set with this many threads and slots: its log, its last state, each thread at its end, and
+-- that it is a run (each event may come where it comes)
 abbrev pub log_by : Table → Shape → List Event → Log
 log_by T k es = log_of T k.threads k.quota (event_at es)
 

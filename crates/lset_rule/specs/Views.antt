@@ -1,5 +1,5 @@
--- WHAT A VIEW SAYS BY ITSELF. A seat's view is what its thread knows: the events that it has seen, and of each of its threads what that
--- thread holds after them. Nothing here speaks of the table or of other seats.
+-- WHAT A VIEW SAYS BY ITSELF. A seat's view is what its thread knows: the events that it has seen, and of each of its threads
+-- what that thread holds after them. Nothing here speaks of the table or of other seats.
 use Rattle.std.specs.Prelude.{◌≡◌, ◌≢◌, ◌⊎◌, ℕ, ◌+◌, ◌<◌, false, List, [], ◌∷◌, length, Option, Some, None}
 use Rattle.lset_rule.specs.declared.view.Under.{Under}
 use Rattle.lset_rule.specs.declared.view.Aside.{Aside}
@@ -17,11 +17,12 @@ HasAside (o ∷ os) t = (t ≡ o.thread) ⊎ HasAside os t
 abbrev pub HasThread : View → ℕ → Type 0
 HasThread v t = (t ≡ v.thread) ⊎ HasAside v.others t
 
--- Each of these further threads is another than t and named once, is idle, and has ended just the calls of the record. `ends` says of each
--- thread where it stands.
+-- Each of these further threads is another than t and named once, is idle, and has ended just the calls of the record. `ends`
+-- says of each thread where it stands.
 abbrev pub AreIdle : (ℕ → Here) → ℕ → Past → List Aside → Type 0
 AreIdle ends t r [] = Unit {0}
-AreIdle ends t r (o ∷ os) = (o.thread ≢ t) × (ends o.thread ≡ here o.local None (calls_of o.thread r)) × (¬ (HasAside os o.thread)) × AreIdle ends t r os
+AreIdle ends t r (o ∷ os) = (o.thread ≢ t) × (ends o.thread ≡ here o.local None (calls_of o.thread r))
+    × (¬ (HasAside os o.thread)) × AreIdle ends t r os
 
 -- each call of the record had ended before the call under way began
 abbrev pub InTime : Option Under → Past → Type 0

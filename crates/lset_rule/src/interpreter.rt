@@ -1,10 +1,6 @@
 //! Whole calls on the shared words, made step by step as the machine's table says.
-ghost use Rattle.std.specs.Prelude.{◌≡◌};
 ghost use Rattle.lset_words.specs.declared.Call.TheVariants.{Contains};
-ghost use Rattle.lset_rule.specs.Views.{IsIdle, Stands};
-ghost use Rattle.lset_rule.specs.Calls.{Makes};
-ghost use Rattle.lset_rule.specs.Seats.{IsOf, IsSeat};
-ghost use Rattle.lset_rule.specs.Slots.{slots_of};
+ghost use Rattle.lset_rule.specs.Seats.{HasCalled, MayCall};
 
 use crate::slots::Slots;
 use crate::word_steps::{Place, Words, start_on, step_on};
@@ -70,12 +66,8 @@ pub fn walk<M: Machine, R: Wait, P: Pause>(
     call: Call,
     pause: &P,
 ) -> (Slots, Reply)
-    requires place { IsOf table.now.table_id table.now.key place.old }
-    requires idle { IsIdle place.old.me.0 × Stands M.table place.old.me.0 }
-    requires slots { slots ≡ slots_of place.old.me.0.local }
-    ensures place { IsSeat place.old place.new }
-    ensures slots { result.0 ≡ slots_of place.new.me.0.local }
-    ensures made { Makes M.table call place.old.me.0 result.1 place.new.me.0 }
+    requires { MayCall M.table table.now.table_id table.now.key slots place.old }
+    ensures { HasCalled M.table call place.old result place.new }
 {
     let begun = M::begin(call, &slots.resting());
     let action = M::next(&begun);
@@ -105,12 +97,8 @@ pub fn read<M: OpenReads>(
     slots: Slots,
     key: Key,
 ) -> (Slots, Reply)
-    requires place { IsOf table.now.table_id table.now.key place.old }
-    requires idle { IsIdle place.old.me.0 × Stands M.table place.old.me.0 }
-    requires slots { slots ≡ slots_of place.old.me.0.local }
-    ensures place { IsSeat place.old place.new }
-    ensures slots { result.0 ≡ slots_of place.new.me.0.local }
-    ensures made { Makes M.table (Contains key) place.old.me.0 result.1 place.new.me.0 }
+    requires { MayCall M.table table.now.table_id table.now.key slots place.old }
+    ensures { HasCalled M.table (Contains key) place.old result place.new }
 {
     let call = Call::Contains(key);
     let begun = M::begin(call, &slots.resting());

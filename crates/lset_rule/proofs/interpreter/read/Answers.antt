@@ -1,13 +1,14 @@
-use Rattle.std.proofs.Common.{rules, ◌≡◌, ◌<◌, None}
+use Rattle.std.proofs.Common.{rules, ◌≡◌, ◌<◌, None, sym, ap, ◌∙◌}
 use Rattle.lset_words.specs.declared.Call.TheVariants.{Contains}
 use Rattle.lset_words.specs.Words.{target, tail_word}
-use Rattle.lset_rule.proofs.Calls.{first_comes, first_reached, reached, comes_next}
+use Rattle.lset_rule.specs.Slots.{slots_of}
+use Rattle.lset_rule.proofs.Calls.{first_comes, first_reached, reached, comes_next, made}
 use Rattle.lset_rule.proofs.Ending.{falls}
 use Rattle.lset_rule.proofs.interpreter.read.Goals as goal
 
 pub next-requires : goal.next-requires
 next-requires g c = let low : target (Contains c.args.key) < tail_word = search rules in
-    first_reached g.M.Machine.table g.met.M.Machine.lawful (Contains c.args.key) low c.args.place.now.me.0 c.args.slots c.resting.result c.begin-begun.result c.requires.idle.1 c.requires.idle.0 c.requires.slots c.resting.ensures c.begin-begun.ensures
+    first_reached g.M.Machine.table g.met.M.Machine.lawful (Contains c.args.key) low c.args.place.now.me.0 c.args.slots c.resting.result c.begin-begun.result c.requires.stands c.requires.idle c.requires.slots c.resting.ensures c.begin-begun.ensures
 
 pub loop-fed-init : goal.loop-fed-init
 loop-fed-init g c = (
@@ -18,7 +19,7 @@ loop-fed-init g c = (
 
 pub next-requires-in-loop-fed : goal.next-requires-in-loop-fed
 next-requires-in-loop-fed g c = let none : c.loop-fed.fed.answer ≡ None = search rules in
-    reached g.M.Machine.table g.met.M.Machine.lawful (Contains c.args.key) c.args.place.now.me.0 c.loop-fed.place.me.0 c.loop-fed.fed c.requires.idle.0.0 c.loop-fed.invariant.0 none
+    reached g.M.Machine.table g.met.M.Machine.lawful (Contains c.args.key) c.args.place.now.me.0 c.loop-fed.place.me.0 c.loop-fed.fed c.requires.idle.0 c.loop-fed.invariant.0 none
 
 pub loop-fed-smaller : goal.loop-fed-smaller
 loop-fed-smaller g c = let T = g.M.Machine.table in
@@ -26,5 +27,12 @@ loop-fed-smaller g c = let T = g.M.Machine.table in
     let v = c.args.place.now.me.0 in
     let w = c.loop-fed.place.me.0 in
     let w' = c.step_on-seen.new.place.me.0 in
-    falls T g.met.M.Machine.lawful g.met.M.OpenReads.reads c.args.key c.step_on-seen.result v w w' c.loop-fed.fed c.feed-fed-in-loop-fed.result c.requires.idle.0.0 c.loop-fed.invariant.0 none
+    falls T g.met.M.Machine.lawful g.met.M.OpenReads.reads c.args.key c.step_on-seen.result v w w' c.loop-fed.fed c.feed-fed-in-loop-fed.result c.requires.idle.0 c.loop-fed.invariant.0 none
     (comes_next T (Contains c.args.key) v w c.loop-fed.fed c.step_on-seen.result w' c.feed-fed-in-loop-fed.result c.loop-fed.invariant.0 none c.step_on-seen.ensures.goes c.feed-fed-in-loop-fed.ensures) c.step_on-seen.ensures.goes
+
+pub returns-in-Some : goal.returns-in-Some
+returns-in-Some g c = record {
+  place = c.loop-fed.invariant.1;
+  slots = c.of.ensures ∙ ap slots_of (sym c.loop-fed.invariant.0.0);
+  made = made g.M.Machine.table (Contains c.args.key) c.args.place.now.me.0 c.loop-fed.place.me.0 c.loop-fed.fed c.in-Some.reply c.loop-fed.invariant.0 c.in-Some.is;
+}
