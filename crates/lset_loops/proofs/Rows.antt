@@ -22,7 +22,8 @@ use Rattle.lset_rule.specs.Calls.{Makes, Goes, Starts}
 use Rattle.lset_rule.specs.Seats.{IsOf, IsSeat}
 use Rattle.lset_rule.proofs.Calls.{comes_first, comes_next, mid_open, reached}
 use Rattle.lset_rule.proofs.Ending.{steps_of, not_yet, one_more}
-use Rattle.lset_loops.specs.Standing.{AtRow}
+use Rattle.lset_loops.specs.declared.walk.Window.{Window}
+use Rattle.lset_loops.specs.Standing.{AtRow, StopsAt}
 
 pub row_first : (m : Table) (c : Call) (v : View) (n : ℕ) (w : View) (l : Local) → Starts m c v n w → m.feed (m.begin c v.local) n ≡ continued l → AtRow m c v w l
 row_first m c v n w l s is = let come = comes_first m c v n w (continued l) s (sym is) in (come.1.0, come.1.1, come.0)
@@ -60,6 +61,11 @@ place_on m z k c v l l' s s' of seat at at' = (seat.0 ∙ of.0, at'.0.same.1 ∙
 -- and since its begin
 pub place_from : (m : Table) (z : TableId) (k : Shape) (c : Call) (v : View) (l' : Local) (s s' : Seat (Unit {0}) View) → v ≡ s.me.0 → IsOf z k s → IsSeat s s' → AtRow m c v s'.me.0 l' → IsOf z k s'
 place_from m z k c v l' s s' from of seat at' = (seat.0 ∙ of.0, at'.0.same.1 ∙ (ap (λ (z : View). z.shape) from ∙ of.1), of.2)
+
+-- and where a walk has stopped
+pub place_stopped : (z : TableId) (k : Shape) (c : Call) (v : View) (at : Window) (n : ℕ) (s s' : Seat (Unit {0}) View) → v ≡ s.me.0 → IsOf z k s → IsSeat s s' → StopsAt c v at n s'.me.0 → IsOf z k s'
+place_stopped z k c v at n s s' from of seat (succ, before, stood, last, low) =
+    (seat.0 ∙ of.0, ap (λ (w : View). w.shape) last.3 ∙ (stood.0.same.1 ∙ (ap (λ (w : View). w.shape) from ∙ of.1)), of.2)
 
 pub seat_on : (s s' s'' : Seat (Unit {0}) View) → IsSeat s s' → IsSeat s' s'' → IsSeat s s''
 seat_on s s' s'' a b = (b.0 ∙ a.0, b.1 ∙ a.1, b.2 ∙ a.2)

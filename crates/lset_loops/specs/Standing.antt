@@ -1,5 +1,5 @@
 -- Where a loop stands: its variables are the registers of the row at which the seat's view stands.
-use Rattle.std.specs.Prelude.{◌≡◌, ℕ, ◌+◌, ◌≤◌, Bool, true, false}
+use Rattle.std.specs.Prelude.{◌≡◌, ℕ, ◌+◌, ◌≤◌, Bool, true, false, Option, Some, None}
 use Rattle.lset_words.specs.declared.Call.{Call}
 use Rattle.lset_words.specs.declared.Reply.{Reply}
 use Rattle.lset_words.specs.declared.Reply.TheVariants.{True}
@@ -59,6 +59,11 @@ AtUnlinking c v at succ w = At c v 10 at.pred at.curr succ w
 -- It has answered r, and left these slots.
 abbrev pub HasAnswered : Call → View → Reply → Slots → View → Type 0
 HasAnswered c v r s w = Makes lock_free c v r w × (s ≡ slots_of w.local)
+
+-- It has answered, or it is about to start over.
+abbrev pub HasTried : Call → View → Option (Slots × Reply) → View → Type 0
+HasTried c v (Some answer) w = HasAnswered c v answer.1 answer.0 w
+HasTried c v None w = AtHead c v w
 
 -- a slot more is used
 abbrev pub one_more : Slots → Slots

@@ -3,12 +3,12 @@ ghost use Rattle.std.specs.Prelude.{◌≡◌, false};
 ghost use Rattle.lset_words.specs.declared.Call.TheVariants.{Add};
 ghost use Rattle.lset_words.specs.Words.{key_word_of, target};
 ghost use Rattle.lset_lock_free.specs.LockFree.{lock_free};
-ghost use Rattle.lset_rule.specs.Views.{IsIdle, Stands};
 ghost use Rattle.lset_rule.specs.Seats.{HasCalled, IsOf, IsSeat, MayCall};
 ghost use Rattle.lset_rule.specs.Slots.{slots_of};
-ghost use Rattle.lset_loops.specs.Standing.{AtPutting, HasAnswered, HasPutIn};
+ghost use Rattle.lset_loops.specs.Standing.{AtPutting, HasPutIn};
 
-use crate::walk::{Origin, Window, find, restart, start};
+use crate::change::{Change, make_change};
+use crate::walk::{Found, Origin, Window};
 use lset_lock_free::LockFreeList;
 use lset_rule::{Pause, Place, Slots, Words, exchange_on, store_on};
 use lset_steps::rows::{key_index, link_index};
@@ -44,40 +44,33 @@ fn put_in<O: Origin, P: Pause>(
     seen == before
 }
 
-fn add_from<O: Origin, R: Wait, P: Pause>(
-    rt: &R,
-    table: &Words<LockFreeList>,
-    place: &mut Place,
-    slots: Slots,
-    key: Key,
-    pause: &P,
-) -> (Slots, Reply)
-    requires place { IsOf table.now.table_id table.now.key place.old }
-    requires idle { IsIdle place.old.me.0 × Stands lock_free place.old.me.0 }
-    requires from { O.from ≡ place.old.me.0 }
-    requires call { O.call ≡ Add key }
-    requires slots { slots ≡ slots_of O.from.local }
-    ensures place { IsSeat place.old place.new }
-    ensures answered { HasAnswered O.call O.from result.1 result.0 place.new.me.0 }
-{
-    let mut window = start::<O>(table, place, Call::Add(key));
-    for _ in rt.forever() {
-        let found = find::<O, R, P>(rt, table, place, slots.thread, key, window, pause);
+/// The `add` of a key.
+struct Adding;
+
+impl Change for Adding {
+    ghost call_of = { Add };
+
+    fn attempt<O: Origin, P: Pause>(
+        table: &Words<LockFreeList>,
+        place: &mut Place,
+        slots: Slots,
+        key: Key,
+        found: Found,
+        pause: &P,
+    ) -> Option<(Slots, Reply)> {
         if found.word == key.word() {
-            return (slots, Reply::False);
+            return Some((slots, Reply::False));
         }
         if slots.used >= slots.quota {
-            return (slots, Reply::Full);
+            return Some((slots, Reply::Full));
         }
         pause.moved(slots.thread, false);
-        if put_in::<O, P>(table, place, slots, key, found.window, pause) {
-            let used = slots.used + 1;
-            return (Slots { used, ..slots }, Reply::True);
+        if !put_in::<O, P>(table, place, slots, key, found.window, pause) {
+            return None;
         }
-        pause.moved(slots.thread, true);
-        window = restart::<O>(table, place);
+        let used = slots.used + 1;
+        Some((Slots { used, ..slots }, Reply::True))
     }
-    unreachable!()
 }
 
 /// Makes a whole `add` of `key` to a LockFreeList: it walks to the first key that is not below its own, and puts its next
@@ -97,5 +90,5 @@ pub fn add_on<R: Wait, P: Pause>(
     requires { MayCall lock_free table.now.table_id table.now.key slots place.old }
     ensures { HasCalled lock_free (Add key) place.old result place.new }
 {
-    add_from::<Brand, R, P>(rt, table, place, slots, key, pause)
+    make_change::<Adding, Brand, R, P>(rt, table, place, slots, Call::Add(key), key, pause)
 }

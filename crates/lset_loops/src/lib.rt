@@ -7,6 +7,7 @@
 #![tactic(auto)]
 
 mod add;
+mod change;
 mod reads;
 mod remove;
 mod walk;

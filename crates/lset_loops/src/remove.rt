@@ -3,12 +3,12 @@ ghost use Rattle.std.specs.Prelude.{◌≡◌, false};
 ghost use Rattle.lset_words.specs.declared.Call.TheVariants.{Remove};
 ghost use Rattle.lset_words.specs.declared.Reply.TheVariants.{True};
 ghost use Rattle.lset_lock_free.specs.LockFree.{lock_free};
-ghost use Rattle.lset_rule.specs.Views.{IsIdle, Stands};
 ghost use Rattle.lset_rule.specs.Seats.{HasCalled, IsOf, IsSeat, MayCall};
 ghost use Rattle.lset_rule.specs.Slots.{slots_of};
 ghost use Rattle.lset_loops.specs.Standing.{AtTakingOut, AtUnlinking, HasAnswered, HasTakenOut};
 
-use crate::walk::{Origin, Window, find, restart, start};
+use crate::change::{Change, make_change};
+use crate::walk::{Found, Origin, Window};
 use lset_lock_free::LockFreeList;
 use lset_rule::{Pause, Place, Slots, Words, exchange_on, load_on};
 use lset_steps::rows::link_index;
@@ -62,36 +62,29 @@ fn mark<O: Origin, P: Pause>(
     true
 }
 
-fn remove_from<O: Origin, R: Wait, P: Pause>(
-    rt: &R,
-    table: &Words<LockFreeList>,
-    place: &mut Place,
-    slots: Slots,
-    key: Key,
-    pause: &P,
-) -> (Slots, Reply)
-    requires place { IsOf table.now.table_id table.now.key place.old }
-    requires idle { IsIdle place.old.me.0 × Stands lock_free place.old.me.0 }
-    requires from { O.from ≡ place.old.me.0 }
-    requires call { O.call ≡ Remove key }
-    requires slots { slots ≡ slots_of O.from.local }
-    ensures place { IsSeat place.old place.new }
-    ensures answered { HasAnswered O.call O.from result.1 result.0 place.new.me.0 }
-{
-    let mut window = start::<O>(table, place, Call::Remove(key));
-    for _ in rt.forever() {
-        let found = find::<O, R, P>(rt, table, place, slots.thread, key, window, pause);
+/// The `remove` of a key.
+struct Removing;
+
+impl Change for Removing {
+    ghost call_of = { Remove };
+
+    fn attempt<O: Origin, P: Pause>(
+        table: &Words<LockFreeList>,
+        place: &mut Place,
+        slots: Slots,
+        key: Key,
+        found: Found,
+        pause: &P,
+    ) -> Option<(Slots, Reply)> {
         if found.word != key.word() {
-            return (slots, Reply::False);
+            return Some((slots, Reply::False));
         }
         pause.moved(slots.thread, false);
-        if mark::<O, P>(table, place, slots.thread, found.window, pause) {
-            return (slots, Reply::True);
+        if !mark::<O, P>(table, place, slots.thread, found.window, pause) {
+            return None;
         }
-        pause.moved(slots.thread, true);
-        window = restart::<O>(table, place);
+        Some((slots, Reply::True))
     }
-    unreachable!()
 }
 
 /// Makes a whole `remove` of `key` from a LockFreeList: it walks to the first key that is not below its own, marks the node
@@ -110,5 +103,5 @@ pub fn remove_on<R: Wait, P: Pause>(
     requires { MayCall lock_free table.now.table_id table.now.key slots place.old }
     ensures { HasCalled lock_free (Remove key) place.old result place.new }
 {
-    remove_from::<Brand, R, P>(rt, table, place, slots, key, pause)
+    make_change::<Removing, Brand, R, P>(rt, table, place, slots, Call::Remove(key), key, pause)
 }
