@@ -1,5 +1,6 @@
 -- The programs of a request and the seats of a new set fit each other.
-use Rattle.std.proofs.Common.{◌≡◌, ℕ, zero, suc, ◌+◌, ◌<◌, ◌≤◌, ◌%◌, ◌^◌, List, [], ◌∷◌, length, map, sum_by, All, refl, sym, ap, ◌∙◌, subst, arith}
+use Rattle.std.proofs.Common.{◌≡◌, ℕ, zero, suc, ◌+◌, ◌<◌, ◌≤◌, ◌%◌, ◌^◌, true, false, List, [], ◌∷◌, length, map, sum_by, All}
+use Rattle.std.proofs.Common.{refl, sym, ap, ◌∙◌, subst, arith}
 use Rattle.std.specs.List.{range_with_len, flat_map}
 use Rattle.std.proofs.lemmas.List.{length-map}
 use Rattle.std.proofs.lemmas.List.Elements.{All-cons, All-nil, All-head, All-tail}
@@ -62,8 +63,9 @@ pub programs_length : {P : Type 0} (calls_of : P → List Call) (ps : List P) (t
 programs_length calls_of ps threads calls keys seed e =
     sym (length-map ps calls_of) ∙ ap (λ l. length l) e ∙ length-map (range_with_len 0 threads) (program_of calls keys seed) ∙ length-range_with_len 0 threads
 
-pub run_trouble : (c : WorkCause) (F : Type 0) → F → (c ≡ cause.Programs → ¬ F) → (t : Trouble) → t ≡ of_work c → IsRunTrouble t
-run_trouble cause.Programs F f other t e = absurd (other refl f)
-run_trouble cause.Spawn F f other t e = subst IsRunTrouble (sym e) tt
-run_trouble cause.Gate F f other t e = subst IsRunTrouble (sym e) tt
-run_trouble cause.Memory F f other t e = subst IsRunTrouble (sym e) tt
+pub run_trouble : (c : WorkCause) (F : Type 0) → F → (c ≡ cause.Programs → ¬ F) → (c ≡ cause.Gate → false ≡ true)
+    → (t : Trouble) → t ≡ of_work c → IsRunTrouble t
+run_trouble cause.Programs F f other never t e = absurd (other refl f)
+run_trouble cause.Spawn F f other never t e = subst IsRunTrouble (sym e) tt
+run_trouble cause.Gate F f other never t e = absurd (let z : false ≡ true = never refl in cc)
+run_trouble cause.Memory F f other never t e = subst IsRunTrouble (sym e) tt

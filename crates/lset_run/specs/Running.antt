@@ -13,7 +13,8 @@ use Rattle.lset_work.specs.Programs.{worked}
 use Rattle.lset_work.specs.declared.fault.WorkCause.{WorkCause}
 use Rattle.lset_work.specs.declared.fault.WorkCause.TheVariants as cause
 use Rattle.lset_tools.specs.declared.trouble.Trouble.{Trouble}
-use Rattle.lset_tools.specs.declared.trouble.Trouble.TheVariants.{CannotRead, TooLong, CannotWrite, Memory, Line, Bad, CannotListen, Work, Serve}
+use Rattle.lset_tools.specs.declared.trouble.Trouble.TheVariants.{CannotRead, TooLong, CannotWrite, Memory, Line}
+use Rattle.lset_tools.specs.declared.trouble.Trouble.TheVariants.{Bad, CannotListen, Work, Serve}
 use Rattle.lset_tools.specs.declared.trouble.ValueName.{ValueName}
 use Rattle.lset_tools.specs.declared.trouble.WorkName.TheVariants as work
 use Rattle.lset_tools.specs.declared.values.Request.{Request}
@@ -53,14 +54,14 @@ outcome_text replies keys = text_of (
 abbrev pub programs_for : Request → List (List Call)
 programs_for request = programs_of request.threads request.calls request.keys request.seed
 
--- Replies of these programs, one for each call, and keys. ONE LEGAL ORDER from the empty set has, for each thread, just the calls of its
--- program with these replies, in order, and leaves the keys.
+-- Replies of these programs, one for each call, and keys. ONE LEGAL ORDER from the empty set has, for each thread, just the
+-- calls of its program with these replies, in order, and leaves the keys.
 pub record IsOutcome (request : Request) (replies : List (List Reply)) (keys : List ℕ) : Type 0 where
   pub counted : map (λ (l : List Reply). length l) replies ≡ map (λ (l : List Call). length l) (programs_for request)
   pub explained : Explains (record { threads = request.threads; quota = request.quota })
       (worked (map fresh (range_with_len 0 request.threads)) (programs_for request) replies) keys
 
--- what ends a run: memory or a thread was refused, or a gate answered false (that `Always` never does no clause of `work` says)
+-- what ends a run: memory or a thread was refused
 abbrev pub IsRunTrouble : Trouble → Type 0
 IsRunTrouble CannotRead = ⊥
 IsRunTrouble TooLong = ⊥
@@ -71,7 +72,7 @@ IsRunTrouble (Bad wrong) = ⊥
 IsRunTrouble CannotListen = ⊥
 IsRunTrouble (Work work.Programs) = ⊥
 IsRunTrouble (Work work.Spawn) = Unit {0}
-IsRunTrouble (Work work.Gate) = Unit {0}
+IsRunTrouble (Work work.Gate) = ⊥
 IsRunTrouble (Serve name) = ⊥
 
 -- what is made of a request: the text of an outcome; a wrong value is named

@@ -60,7 +60,8 @@ fn put_keys(out: &mut String, keys: &[u32]) -> Result<(), AllocError>
 /// The text of an outcome: how many calls were made, how many of them have each reply, how many keys are left, and each
 /// key. The only error is want of memory. (This project's own format.)
 pub fn outcome_text(alloc: Global, outcome: &Outcome) -> Result<Vec<u8>, AllocError>
-    ensures { IfOk result (λ v. v.items ≡ outcome_text (flat_map (λ l. l.items) outcome.now.replies.items) outcome.now.keys.items) }
+    ensures { IfOk result (λ v.
+        v.items ≡ outcome_text (flat_map (λ l. l.items) outcome.now.replies.items) outcome.now.keys.items) }
 {
     let replies = joined(alloc, &outcome.replies)?;
     let mut out = String::new(alloc);

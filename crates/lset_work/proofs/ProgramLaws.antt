@@ -1,11 +1,10 @@
 -- Programs that go on call by call, and threads that come back one by one.
-use Rattle.std.proofs.Common.{◌≡◌, ℕ, ◌+◌, ◌<◌, List, [], ◌∷◌, ◌++◌, length, map, take, get_or, sum_by, All, Option, Some, None}
+use Rattle.std.proofs.Common.{◌≡◌, ℕ, ◌+◌, ◌<◌, Bool, true, List, [], ◌∷◌, ◌++◌, length, map, take, get_or, Option, Some, None}
 use Rattle.std.proofs.Common.{refl, sym, ap, ◌∙◌, subst, append_assoc, append-nil, arith, length-append, length-take-le, add-one}
 use Rattle.std.specs.Option.{option_map}
 use Rattle.std.proofs.Math.Seq.{take-suc}
 use Rattle.std.proofs.lemmas.List.{length-map, map-append, get_or_default}
 use Rattle.std.proofs.lemmas.List.Sums.{sum_by-append, sum_by-cons}
-use Rattle.std.proofs.lemmas.List.Elements.{All-head, All-tail, All-append, All-cons, All-nil}
 use Rattle.lset_words.specs.declared.Call.{Call}
 use Rattle.lset_words.specs.declared.Reply.{Reply}
 use Rattle.lset_live.specs.Records.{CallMade, Record, called, with_calls}
@@ -128,8 +127,16 @@ run_of set seats seats' programs programs' last replies e f h =
 pub memory_refuses : (F : Type 0) → F → (Memory ≡ Programs → ¬ F) × (¬ F → Memory ≡ Programs)
 memory_refuses F f = ((λ e. absurd cc), λ n. absurd (n f))
 
-pub threads_refuse : (F : Type 0) (cause : WorkCause) → IsOfThreads cause → F → (cause ≡ Programs → ¬ F) × (¬ F → cause ≡ Programs)
-threads_refuse F Programs of f = absurd of
-threads_refuse F Spawn of f = ((λ e. absurd cc), λ n. absurd (n f))
-threads_refuse F Gate of f = ((λ e. absurd cc), λ n. absurd (n f))
-threads_refuse F Memory of f = absurd of
+pub threads_refuse : (F : Type 0) (may_shut : Bool) (cause : WorkCause) → IsOfThreads may_shut cause → F
+    → (cause ≡ Programs → ¬ F) × (¬ F → cause ≡ Programs)
+threads_refuse F may_shut Programs of f = absurd of
+threads_refuse F may_shut Spawn of f = ((λ e. absurd cc), λ n. absurd (n f))
+threads_refuse F may_shut Gate of f = ((λ e. absurd cc), λ n. absurd (n f))
+threads_refuse F may_shut Memory of f = absurd of
+
+-- only a gate that may answer false is a cause
+pub shut_gate : (may_shut : Bool) (cause : WorkCause) → IsOfThreads may_shut cause → cause ≡ Gate → may_shut ≡ true
+shut_gate may_shut Programs of e = absurd of
+shut_gate may_shut Spawn of e = absurd cc
+shut_gate may_shut Gate of e = of
+shut_gate may_shut Memory of e = absurd of

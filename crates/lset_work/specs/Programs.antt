@@ -1,5 +1,5 @@
 -- [Work]: programs of calls, and what threads make of them.
-use Rattle.std.specs.Prelude.{◌≡◌, ℕ, List, [], ◌∷◌, length, map, sum_by, Option, Some, None, IfSome}
+use Rattle.std.specs.Prelude.{◌≡◌, ℕ, Bool, true, List, [], ◌∷◌, length, map, sum_by, Option, Some, None, IfSome}
 use Rattle.std.specs.Option.{option_map}
 use Rattle.lset_words.specs.declared.Call.{Call}
 use Rattle.lset_words.specs.declared.Reply.{Reply}
@@ -25,8 +25,8 @@ worked (r ∷ rs) (p ∷ ps) (a ∷ more) = with_calls r (made p a) ∷ worked r
 abbrev pub Fit : SetValue → List SeatValue → ℕ → Type 0
 Fit set seats programs = (programs ≡ length seats) × (sum_by (λ (s : SeatValue). s.held) seats ≡ set.shape.threads)
 
--- What comes back after a cause: all that was given, where the programs do not fit; nothing, once threads were started. Memory is wanted
--- before that and after.
+-- What comes back after a cause: all that was given, where the programs do not fit; nothing, once threads were started. Memory
+-- is wanted before that and after.
 abbrev pub GivesBack : {Given : Type 0} → Given → WorkCause → Option Given → Type 0
 GivesBack given Programs back = back ≡ Some given
 GivesBack given Spawn back = back ≡ None
@@ -40,17 +40,19 @@ abbrev pub IsMadeOn : Record → List Call → List Reply → Record → Type 0
 IsMadeOn before program replies after = (length replies ≡ length program) × (after ≡ with_calls before (made program replies))
 
 -- The programs were made on the seats, and the seats were gathered into the last one, if there are any.
-pub record HaveRun (set : SetValue) (seats : List SeatValue) (programs : List (List Call)) (last : Option SeatValue) (replies : List (List Reply)) : Type 0 where
+pub record HaveRun (set : SetValue) (seats : List SeatValue) (programs : List (List Call)) (last : Option SeatValue)
+    (replies : List (List Reply)) : Type 0 where
   pub fit : length programs ≡ length seats
   -- one reply for each call of each program
   pub counted : map (λ (l : List Reply). length l) replies ≡ map (λ (l : List Call). length l) programs
-  pub gathers : option_map (λ (s : SeatValue). s.past) last ≡ gather_onto None (worked (map (λ (s : SeatValue). s.past) seats) programs replies)
+  pub gathers : option_map (λ (s : SeatValue). s.past) last
+      ≡ gather_onto None (worked (map (λ (s : SeatValue). s.past) seats) programs replies)
   pub held : held_in last ≡ sum_by (λ (s : SeatValue). s.held) seats
   pub same : IfSome last (λ (s : SeatValue). s.set ≡ set)
 
--- a cause that comes up once threads are started
-abbrev pub IsOfThreads : WorkCause → Type 0
-IsOfThreads Programs = ⊥
-IsOfThreads Spawn = Unit {0}
-IsOfThreads Gate = Unit {0}
-IsOfThreads Memory = ⊥
+-- a cause that comes up once threads are started, at a gate that may answer false or not
+abbrev pub IsOfThreads : Bool → WorkCause → Type 0
+IsOfThreads may_shut Programs = ⊥
+IsOfThreads may_shut Spawn = Unit {0}
+IsOfThreads may_shut Gate = may_shut ≡ true
+IsOfThreads may_shut Memory = ⊥

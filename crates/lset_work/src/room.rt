@@ -1,6 +1,7 @@
 //! The lists that the threads fill, all reserved before the first thread starts.
 ghost use Rattle.std.specs.Prelude.{◌≡◌, ◌<◌, ◌≤◌, ◌^◌, [], IfSome, All, map, length, vec_capacity};
 
+use crate::gate::Gate;
 use crate::workers::Worker;
 use lset_live::Running;
 use lset_words::{Call, Reply};
@@ -19,9 +20,9 @@ pub struct Program {
 /// All lists that the threads fill: their programs with room for the replies, and room for their handles and for the lists
 /// of replies.
 #[derive(Drop)]
-pub struct Room<M: Running> {
+pub struct Room<M: Running, G: Gate> {
     pub programs: Vec<Program>,
-    pub workers: Vec<Worker<M>>,
+    pub workers: Vec<Worker<M, G>>,
     pub replies: Vec<Vec<Reply>>,
     ghost no_workers: { workers.items ≡ [] },
     ghost worker_room: { length programs.items ≤ vec_capacity workers },
@@ -44,7 +45,7 @@ fn with_room(alloc: Global, programs: Vec<Vec<Call>>) -> Option<Vec<Program>>
 }
 
 /// Reserves all lists. `None` where memory is refused.
-pub fn reserved<M: Running>(alloc: Global, programs: Vec<Vec<Call>>) -> Option<Room<M>>
+pub fn reserved<M: Running, G: Gate>(alloc: Global, programs: Vec<Vec<Call>>) -> Option<Room<M, G>>
     requires { All (λ p. length p.items < 2 ^ 32) programs.items }
     ensures { IfSome result (λ r. map (λ p. p.calls) r.programs.items ≡ programs.items) }
 {

@@ -1,5 +1,5 @@
 //! The threads: what each makes of its program, their starts and their ends.
-ghost use Rattle.std.specs.Prelude.{◌≡◌, ◌≤◌, [], IfSome, All, map, length, vec_capacity};
+ghost use Rattle.std.specs.Prelude.{◌≡◌, ◌≤◌, [], IfSome, MatchOption, All, map, length, true, vec_capacity};
 ghost use Rattle.lset_work.specs.Programs.{HaveRun, IsMadeOn};
 
 use crate::gate::Gate;
@@ -18,21 +18,23 @@ pub struct Done<M: Running> {
     pub replies: Option<Vec<Reply>>,
 }
 
-/// What a thread owes: the calls of its program, made on its seat.
+/// What a thread owes: the calls of its program, made on its seat, unless its gate may answer false.
 #[derive(Drop)]
-pub struct Owed<M: Running> {
+pub struct Owed<M: Running, G: Gate> {
     pub set: Snapshot<LiveSet<M>>,
+    pub gate: Snapshot<G>,
     pub seat: Snapshot<Seat<M>>,
     pub program: Snapshot<Vec<Call>>,
 }
 
-impl<M: Running> Promise<Done<M>> for Owed<M> {
+impl<M: Running, G: Gate> Promise<Done<M>> for Owed<M, G> {
     ghost kept_by = { λ owed done. (done.seat.set ≡ owed.set.value) × (done.seat.held ≡ owed.seat.value.held)
-        × IfSome done.replies (λ v. IsMadeOn owed.seat.value.past owed.program.value.items v.items done.seat.past) };
+        × MatchOption done.replies (G.may_shut owed.gate.value ≡ true)
+        (λ v. IsMadeOn owed.seat.value.past owed.program.value.items v.items done.seat.past) };
 }
 
 /// A thread that was started.
-pub type Worker<M> = PromisedHandle<Done<M>, Owed<M>>;
+pub type Worker<M, G> = PromisedHandle<Done<M>, Owed<M, G>>;
 
 fn run_program<R: Wait, M: Running, G: Gate>(
     rt: &R,
@@ -43,7 +45,8 @@ fn run_program<R: Wait, M: Running, G: Gate>(
 ) -> Done<M>
     requires { seat.set ≡ set.now }
     ensures seat { (result.seat.set ≡ set.now) × (result.seat.held ≡ seat.held) }
-    ensures made { IfSome result.replies (λ v. IsMadeOn seat.past program.calls.items v.items result.seat.past) }
+    ensures made { MatchOption result.replies (G.may_shut gate.now ≡ true)
+        (λ v. IsMadeOn seat.past program.calls.items v.items result.seat.past) }
 {
     let Program { calls, mut replies } = program;
     let thread = seat.thread();
@@ -73,12 +76,14 @@ fn start_one<'s, E, R: Wait + Sync, M: Running + Send + Sync, G: Gate + Sync>(
     gate: &'s G,
     seat: Seat<M>,
     program: Program,
-) -> Option<Worker<M>>
+) -> Option<Worker<M, G>>
     requires { seat.set ≡ set.now }
-    ensures { IfSome result (λ w. (w.promise.set.value ≡ set.now) × (w.promise.seat.value ≡ seat) × (w.promise.program.value ≡ program.calls)) }
+    ensures { IfSome result (λ w. (w.promise.set.value ≡ set.now) × (w.promise.gate.value ≡ gate.now)
+        × (w.promise.seat.value ≡ seat) × (w.promise.program.value ≡ program.calls)) }
 {
     let owed = Owed {
         set: Snapshot::of(set),
+        gate: Snapshot::of(gate),
         seat: Snapshot::of(&seat),
         program: Snapshot::of(&program.calls),
     };
@@ -93,16 +98,18 @@ pub fn start_all<'s, E, R: Wait + Sync, M: Running + Send + Sync, G: Gate + Sync
     rt: &'s R,
     set: &'s LiveSet<M>,
     gate: &'s G,
-    mut workers: Vec<Worker<M>>,
+    mut workers: Vec<Worker<M, G>>,
     seats: Vec<Seat<M>>,
     programs: Vec<Program>,
-) -> Option<Vec<Worker<M>>>
+) -> Option<Vec<Worker<M, G>>>
     requires seats { All (λ s. s.set ≡ set.now) seats.items }
     requires programs { length programs.items ≡ length seats.items }
     requires room { (workers.items ≡ []) × (length seats.items ≤ vec_capacity workers) }
     ensures seats { IfSome result (λ v. map (λ w. w.promise.seat.value) v.items ≡ seats.items) }
-    ensures programs { IfSome result (λ v. map (λ w. w.promise.program.value.items) v.items ≡ map (λ p. p.calls.items) programs.items) }
+    ensures programs { IfSome result (λ v.
+        map (λ w. w.promise.program.value.items) v.items ≡ map (λ p. p.calls.items) programs.items) }
     ensures set { IfSome result (λ v. All (λ w. w.promise.set.value ≡ set.now) v.items) }
+    ensures gate { IfSome result (λ v. All (λ w. w.promise.gate.value ≡ gate.now) v.items) }
 {
     let mut programs = programs.into_iter();
     for seat in seats {
@@ -124,16 +131,19 @@ pub struct Gathered<M: Running> {
     pub replies: Vec<Vec<Reply>>,
 }
 
-/// Waits for the threads, and gathers their seats. `None` where a gate has answered false.
-pub fn join_all<R: Threads, M: Running>(
+/// Waits for the threads, which ask `gate`, and gathers their seats. `None` where it has answered false.
+pub fn join_all<R: Threads, M: Running, G: Gate>(
     rt: &R,
     set: &LiveSet<M>,
-    workers: Vec<Worker<M>>,
+    gate: &G,
+    workers: Vec<Worker<M, G>>,
     mut replies: Vec<Vec<Reply>>,
 ) -> Option<Gathered<M>>
-    requires started { All (λ w. w.promise.set.value ≡ set.now) workers.items }
+    requires set { All (λ w. w.promise.set.value ≡ set.now) workers.items }
+    requires gate { All (λ w. w.promise.gate.value ≡ gate.now) workers.items }
     requires room { (replies.items ≡ []) × (length workers.items ≤ vec_capacity replies) }
-    ensures { IfSome result (λ g. HaveRun set.now (map (λ w. w.promise.seat.value) workers.items)
+    ensures { MatchOption result (G.may_shut gate.now ≡ true)
+        (λ g. HaveRun set.now (map (λ w. w.promise.seat.value) workers.items)
         (map (λ w. w.promise.program.value.items) workers.items) g.seat (map (λ v. v.items) g.replies.items)) }
 {
     let mut seat = None;

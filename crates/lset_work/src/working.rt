@@ -1,5 +1,5 @@
 //! Programs of calls on the seats of a running set, all at once.
-ghost use Rattle.std.specs.Prelude.{◌≡◌, ◌<◌, ◌^◌, ◌↔◌, IfOk, IfErr, IsOk, MatchResult, All, map, length};
+ghost use Rattle.std.specs.Prelude.{◌≡◌, ◌<◌, ◌^◌, ◌↔◌, IfOk, IfErr, IsOk, MatchResult, All, map, length, true};
 ghost use Rattle.lset_live.specs.Explained.{Explains};
 ghost use Rattle.lset_work.specs.Programs.{Fit, GivesBack, HaveRun, IsOfThreads, worked};
 
@@ -30,12 +30,12 @@ fn run_in<'s, E, R: Threads + Wait + Sync, M: Running + Send + Sync, G: Gate + S
     set: &'s LiveSet<M>,
     gate: &'s G,
     seats: Vec<Seat<M>>,
-    room: Room<M>,
+    room: Room<M, G>,
 ) -> Result<Gathered<M>, WorkCause>
     requires seats { All (λ s. s.set ≡ set.now) seats.items }
     requires programs { length room.programs.items ≡ length seats.items }
     ensures { MatchResult result (λ g. HaveRun set.now seats.items (map (λ p. p.calls.items) room.programs.items)
-        g.seat (map (λ v. v.items) g.replies.items)) IsOfThreads }
+        g.seat (map (λ v. v.items) g.replies.items)) (IsOfThreads (G.may_shut gate.now)) }
 {
     let Room {
         programs,
@@ -45,7 +45,7 @@ fn run_in<'s, E, R: Threads + Wait + Sync, M: Running + Send + Sync, G: Gate + S
     let Some(workers) = start_all(scope, rt, set, gate, workers, seats, programs) else {
         return Err(WorkCause::Spawn);
     };
-    let Some(gathered) = join_all(rt, set, workers, replies) else {
+    let Some(gathered) = join_all(rt, set, gate, workers, replies) else {
         return Err(WorkCause::Gate);
     };
     Ok(gathered)
@@ -57,12 +57,12 @@ fn run_all<R: Threads + Wait + Sync, M: Running + Send + Sync, G: Gate + Sync>(
     set: &LiveSet<M>,
     gate: &G,
     seats: Vec<Seat<M>>,
-    room: Room<M>,
+    room: Room<M, G>,
 ) -> Result<Gathered<M>, WorkCause>
     requires seats { All (λ s. s.set ≡ set.now) seats.items }
     requires programs { length room.programs.items ≡ length seats.items }
     ensures { MatchResult result (λ g. HaveRun set.now seats.items (map (λ p. p.calls.items) room.programs.items)
-        g.seat (map (λ v. v.items) g.replies.items)) IsOfThreads }
+        g.seat (map (λ v. v.items) g.replies.items)) (IsOfThreads (G.may_shut gate.now)) }
 {
     thread::scope(
         thread::scope_env(),
@@ -71,7 +71,7 @@ fn run_all<R: Threads + Wait + Sync, M: Running + Send + Sync, G: Gate + Sync>(
             requires seats { All (λ s. s.set ≡ set.now) seats.items }
             requires programs { length room.programs.items ≡ length seats.items }
             ensures { MatchResult result (λ g. HaveRun set.entry.now seats.items (map (λ p. p.calls.items) room.programs.items)
-                g.seat (map (λ v. v.items) g.replies.items)) IsOfThreads }
+                g.seat (map (λ v. v.items) g.replies.items)) (IsOfThreads (G.may_shut gate.entry.now)) }
         { run_in(scope, rt, set, gate, seats, room) },
     )
 }
@@ -85,8 +85,8 @@ fn run_all<R: Threads + Wait + Sync, M: Running + Send + Sync, G: Gate + Sync>(
 /// seats do not hold all seats of the set; nothing was called, and set and seats come back. `Spawn` where the system
 /// refused a thread; those that were started run to their ends. `Gate` where the gate answered false; that worker stops,
 /// the others run to their ends. `Memory` where memory was refused, before the first thread started, and then set and
-/// seats come back, or for the keys at the end. When a thread is refused, and when a gate answers false, no clause says.
-/// It waits for its threads, which wait for the locks of the set and as long as the gate does.
+/// seats come back, or for the keys at the end. When a thread is refused, and when a gate that may answer false does, no
+/// clause says. It waits for its threads, which wait for the locks of the set and as long as the gate does.
 pub fn work<R: Threads + Wait + Sync, M: Running + Send + Sync, G: Gate + Sync>(
     rt: &R,
     alloc: Global,
@@ -105,6 +105,8 @@ pub fn work<R: Threads + Wait + Sync, M: Running + Send + Sync, G: Gate + Sync>(
     ensures fitting { IsOk result → Fit set seats.items (length programs.items) }
     ensures refused { IfErr result (λ f. f.cause ≡ WorkCause.Programs ↔ ¬ (Fit set seats.items (length programs.items))) }
     ensures back { IfErr result (λ f. GivesBack (set, seats) f.cause f.back) }
+    // a gate that never answers false stops no program
+    ensures gate { IfErr result (λ f. f.cause ≡ WorkCause.Gate → G.may_shut gate.now ≡ true) }
 {
     if programs.len() != seats.len() || !set.is_held_by(&seats) {
         return Err(WorkFault {
@@ -112,7 +114,7 @@ pub fn work<R: Threads + Wait + Sync, M: Running + Send + Sync, G: Gate + Sync>(
             back: Some((set, seats)),
         });
     }
-    let Some(room) = reserved::<M>(alloc, programs) else {
+    let Some(room) = reserved::<M, G>(alloc, programs) else {
         return Err(WorkFault {
             cause: WorkCause::Memory,
             back: Some((set, seats)),

@@ -42,4 +42,4 @@ returns-in-Err g c =
     let many = programs_length (λ v. v.items) c.in-Ok.programs.items _ _ _ _ c.in-Ok.ensures.drawn ∙ sym (opened_length _ _ _ _ opened) in
     let fit : Fit c.in-Ok-open.set c.in-Ok-open.seats.items (length c.in-Ok.programs.items) =
     (many, opened_held _ _ _ _ opened ∙ sym (ap (λ k. k.threads) opened.0)) in
-    run_trouble c.in-Err.fault.cause _ fit c.in-Err.ensures.refused.0 _ c.trouble_of.ensures
+    run_trouble c.in-Err.fault.cause _ fit c.in-Err.ensures.refused.0 c.in-Err.ensures.gate _ c.trouble_of.ensures

@@ -11,7 +11,8 @@ loop-worker-init g c =
     let e : into_iter_items c.into_iter-worker-iterator.result ≡ c.args.workers.items = c.into_iter-worker-iterator.ensures.into_iter_gives.0 in
     record {
       so_far = none_yet _ _ _ _ _ _ _ e c.requires.room.0;
-      started = rw e c.requires.started;
+      started = rw e c.requires.set;
+      gated = rw e c.requires.gate;
       room = rw (e, c.requires.room.0) (omega (arith, c.requires.room.1));
     }
 
@@ -27,5 +28,6 @@ loop-worker-preserved g c =
       so_far = one_more c.args.set.now _ _ _ _ _ _ w c.loop-worker.seat c.loop-worker.replies.items _ c.in_ok-done.field-0 c.join-done.result.seat
           c.gather_onto.result step c.in-Ok.ensures.items inv.so_far made back.1 told.record told.held told.seat;
       started = (all_rest _ _ w (λ x. x.promise.set.value ≡ c.args.set.now) step inv.started).1;
+      gated = (all_rest _ _ w (λ x. x.promise.gate.value ≡ c.args.gate.now) step inv.gated).1;
       room = grind (arith, common_steps);
     }

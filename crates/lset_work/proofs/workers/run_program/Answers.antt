@@ -1,4 +1,4 @@
-use Rattle.std.proofs.Common.{◌≡◌, ◌∙◌, ap, arith, length, [], ◌∷◌, length-append}
+use Rattle.std.proofs.Common.{◌∙◌, ap, arith, length, [], ◌∷◌, length-append}
 use Rattle.std.proofs.lemmas.Grind.{common_steps}
 use Rattle.lset_work.proofs.ProgramLaws.{call_at}
 use Rattle.lset_work.proofs.workers.run_program.Goals as goal

@@ -13,10 +13,11 @@ loop-seat-preserved g c =
     let w = c.in_ok-worker.worker in
     let told = c.in_ok-worker.ensures in
     record {
-      seats = moved_more _ c.loop-seat.workers.items _ w _ _ _ c.in-Some.seat grown told.1 step inv.seats;
-      programs = moved_more _ c.loop-seat.workers.items _ w _ _ _ c.in-Some-next.program.calls.items grown (ap (λ v. v.items) told.2) (ap (map (λ p. p.calls.items)) next) inv.programs;
+      seats = moved_more _ c.loop-seat.workers.items _ w _ _ _ c.in-Some.seat grown told.2 step inv.seats;
+      programs = moved_more _ c.loop-seat.workers.items _ w _ _ _ c.in-Some-next.program.calls.items grown (ap (λ v. v.items) told.3) (ap (map (λ p. p.calls.items)) next) inv.programs;
       same = omega (arith, inv.same, ap (λ l. length l) step, ap (λ l. length l) next);
       of = (all_rest _ _ c.in-Some.seat (λ s. s.set ≡ c.args.set.now) step inv.of).1;
       started = all_more c.loop-seat.workers.items _ w (λ x. x.promise.set.value ≡ c.args.set.now) grown inv.started told.0;
+      gated = all_more c.loop-seat.workers.items _ w (λ x. x.promise.gate.value ≡ c.args.gate.now) grown inv.gated told.1;
       room = grind (arith, common_steps);
     }

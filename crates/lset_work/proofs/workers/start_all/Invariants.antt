@@ -9,5 +9,6 @@ invariant-loop-seat g l = record {
   same : length (into_iter_items l.programs) ≡ length (into_iter_items l.seat-iterator);
   of : All (λ s. s.set ≡ l.set) (into_iter_items l.seat-iterator);
   started : All (λ w. w.promise.set.value ≡ l.set) l.workers.items;
+  gated : All (λ w. w.promise.gate.value ≡ l.gate) l.workers.items;
   room : length l.workers.items + length (into_iter_items l.seat-iterator) ≤ vec_capacity l.workers;
 }

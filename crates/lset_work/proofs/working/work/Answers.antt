@@ -4,7 +4,7 @@ use Rattle.lset_live.specs.Seats.{gather_onto}
 use Rattle.lset_work.specs.Programs.{Fit, worked}
 use Rattle.lset_live.proofs.Records.{gathered_explains}
 use Rattle.lset_live.proofs.Handing.{starts_map}
-use Rattle.lset_work.proofs.ProgramLaws.{memory_refuses, threads_refuse}
+use Rattle.lset_work.proofs.ProgramLaws.{memory_refuses, shut_gate, threads_refuse}
 use Rattle.lset_work.proofs.working.work.Goals as goal
 
 pub returns-in_default-clause-refused : goal.returns-in_default-clause-refused
@@ -15,7 +15,10 @@ returns-in_default-clause-refused g c =
 pub returns-in-Err-clause-refused : goal.returns-in-Err-clause-refused
 returns-in-Err-clause-refused g c =
     let fit : Fit c.args.set c.args.seats.items (length c.args.programs.items) = search rules in
-    threads_refuse _ _ c.in-Err.ensures fit
+    threads_refuse _ _ _ c.in-Err.ensures fit
+
+pub returns-in-Err-clause-gate : goal.returns-in-Err-clause-gate
+returns-in-Err-clause-gate g c = shut_gate _ _ c.in-Err.ensures
 
 pub returns-in-Ok-keys-clause-outcome : goal.returns-in-Ok-keys-clause-outcome
 returns-in-Ok-keys-clause-outcome g c =
