@@ -6,6 +6,7 @@ use Rattle.std.proofs.lemmas.List.{length-replicate, get_or-replicate, get_or_ap
 use Rattle.lset_schedule.specs.declared.value.Line.{Line}
 use Rattle.lset_schedule.specs.declared.value.Line.TheVariants as line
 use Rattle.lset_schedule.specs.Plan.{event_count}
+use Rattle.lset_words.specs.declared.Call.TheVariants as call
 use Rattle.lset_steps.specs.declared.Event.TheVariants as event
 use Rattle.lset_steps.specs.Steps.{event_at}
 use Rattle.lset_replay.specs.declared.events.LineEvent.{LineEvent}
@@ -23,10 +24,10 @@ length_of_events n (l ∷ ls) = length-append (events_of_line n l) (events_from 
     ∙ sym (sum_by-cons event_count l ls)
 
 -- the event at an index, and its line
-pub event_is : (es : List LineEvent) (k : ℕ) (d : LineEvent) → k < length es → event_at (only_events es) k ≡ (get_or es k d).event
+event_is : (es : List LineEvent) (k : ℕ) (d : LineEvent) → k < length es → event_at (only_events es) k ≡ (get_or es k d).event
 event_is es k d below = get_or-map event_in es k d (event.Go 0) below
 
-pub line_is : (es : List LineEvent) (k : ℕ) (d : LineEvent) → k < length es → (get_or es k d).line ≡ line_at es k
+line_is : (es : List LineEvent) (k : ℕ) (d : LineEvent) → k < length es → (get_or es k d).line ≡ line_at es k
 line_is es k d below = ap (λ (e : LineEvent). e.line) (get_or_default es k d (record { line = 0; event = event.Go 0 }) below)
 
 pub as_many : (es : List LineEvent) → length (only_events es) ≡ length es
@@ -84,7 +85,7 @@ event_there n (suc i) j (x ∷ ls) l d below is inside =
     ∙ ap (λ k. get_or (events_of_line k l) j d) (let e : n + 1 + i ≡ n + suc i = omega arith in e)
 
 -- the next event of the line at index i, of which j events are behind
-pub next_there : (ls : List Line) (i j k times : ℕ) (l : Line) (next d : LineEvent) → i < length ls → l ≡ get_or ls i l
+next_there : (ls : List Line) (i j k times : ℕ) (l : Line) (next d : LineEvent) → i < length ls → l ≡ get_or ls i l
     → events_of_line (5 + i) l ≡ replicate times next → j < times → k ≡ length (events_from 5 (take i ls)) + j
     → (k < length (events_from 5 ls)) × (get_or (events_from 5 ls) k d ≡ next)
 next_there ls i j k times l next d below is line inside at =
@@ -98,11 +99,50 @@ next_there ls i j k times l next d below is line inside at =
           ∙ ap (λ (es : List LineEvent). get_or es j d) line ∙ get_or-replicate times j next d inside,
     )
 
+-- ---- A LOOP OVER THE LINES, and in each line over its events
+-- what indexing falls back to, past the end
+abbrev pub no_line : Line
+no_line = line.Begin 0 (call.Add (record { 0 = 0 }))
+
+same_line : (ls : List Line) (i : ℕ) → i < length ls → get_or ls i no_line ≡ get_or ls i (get_or ls i no_line)
+same_line ls i below = get_or_default ls i no_line (get_or ls i no_line) below
+
+-- so many events are behind: those of the lines before the one at index i, and j of that line
+abbrev pub AreBehind : List Line → ℕ → ℕ → ℕ → Type 0
+AreBehind ls i j k = k ≡ length (events_from 5 (take i ls)) + j
+
+-- the next event, where k events are behind
+pub record ComesNext (es : List LineEvent) (k : ℕ) (next : LineEvent) : Type 0 where
+  pub known : k < length es
+  pub event_is : event_at (only_events es) k ≡ next.event
+  pub line_is : next.line ≡ line_at es k
+
+pub comes_next : (ls : List Line) (i j k times : ℕ) (next : LineEvent) → i < length ls
+    → events_of_line (5 + i) (get_or ls i no_line) ≡ replicate times next → j < times → AreBehind ls i j k
+    → ComesNext (events_from 5 ls) k next
+comes_next ls i j k times next below line inside behind =
+    let there = next_there ls i j k times (get_or ls i no_line) next next below (same_line ls i below) line inside behind in
+    record {
+      known = there.0;
+      event_is = event_is (events_from 5 ls) k next there.0 ∙ ap (λ (e : LineEvent). e.event) there.1;
+      line_is = sym (ap (λ (e : LineEvent). e.line) there.1) ∙ line_is (events_from 5 ls) k next there.0;
+    }
+
+-- it is one of few
+pub few_behind : (ls : List Line) (k most : ℕ) (next : LineEvent) → sum_by event_count ls ≤ most
+    → ComesNext (events_from 5 ls) k next → k < most
+few_behind ls k most next few there =
+    let below : k < length (events_from 5 ls) = there.known in
+    let all : length (events_from 5 ls) ≡ sum_by event_count ls = length_of_events 5 ls in
+    omega arith
+
 -- the next line: all events of the one at index i are behind
-pub line_done : (ls : List Line) (i k times : ℕ) (l : Line) (next : LineEvent) → i < length ls → l ≡ get_or ls i l
-    → events_of_line (5 + i) l ≡ replicate times next → k ≡ length (events_from 5 (take i ls)) + times
+pub line_done : (ls : List Line) (i j k times : ℕ) (next : LineEvent) → i < length ls
+    → events_of_line (5 + i) (get_or ls i no_line) ≡ replicate times next → times ≤ j → j ≤ times → AreBehind ls i j k
     → k ≡ length (events_from 5 (take (i + 1) ls))
-line_done ls i k times l next below is line at =
+line_done ls i j k times next below line past end behind =
+    let l : Line = get_or ls i no_line in
+    let is : l ≡ get_or ls i l = same_line ls i below in
     let a : length (events_of_line (5 + i) l) ≡ event_count l = length_of_line (5 + i) l in
     let b : length (events_of_line (5 + i) l) ≡ times = ap (λ (es : List LineEvent). length es) line ∙ length-replicate times next in
     let c : length (events_from 5 (take (suc i) ls)) ≡ length (events_from 5 (take i ls)) + event_count l =

@@ -1,14 +1,11 @@
 -- From event to event of a run: the recorder is ready for each enabled one, and follows it.
 use Rattle.std.proofs.Common.{◌≡◌, ℕ, suc, ◌<◌, ◌⊎◌, inl, inr, List, length, sym, refl, subst, ap, ◌∙◌, arith}
-use Rattle.lset_words.specs.Log.{Log}
-use Rattle.lset_words.specs.Account.{Account, Contents, Counts, Enters}
+use Rattle.lset_words.specs.Account.{Account, Enters}
 use Rattle.lset_steps.specs.declared.Event.{Event}
 use Rattle.lset_steps.specs.declared.Event.TheVariants.{Begin, Go}
 use Rattle.lset_steps.specs.declared.Told.{Told}
 use Rattle.lset_steps.specs.declared.world.StepFault.{StepFault}
 use Rattle.lset_steps.specs.Steps.{Table, State, Run, Limits, Enabled, state_at, event_at, entry_of, log_of, told, after, opening}
-use Rattle.lset_steps.specs.Chain.{contents_of, counts_of}
-use Rattle.lset_steps.specs.Laws.{views}
 use Rattle.lset_steps.specs.Worlds.{WorldState, Refused}
 use Rattle.lset_steps.specs.Promises.{HasAccount}
 use Rattle.lset_replay.specs.declared.events.LineEvent.{LineEvent}
@@ -20,6 +17,7 @@ use Rattle.lset_replay.specs.Reports.{IsFirstRefused, IsRefusal, fault_at}
 use Rattle.lset_replay.specs.Trace.{trace_of, trace_after, entry_told, MayFollow, MayChange, no_trace}
 use Rattle.lset_replay.specs.Follows.{HasFollowed}
 use Rattle.lset_history.specs.Changes.{moments_of}
+use Rattle.lset_replay.proofs.Followed.{shown}
 use Rattle.lset_replay.proofs.Ready.{may_begin, may_step}
 
 -- what an event told is its entry
@@ -46,14 +44,7 @@ module _ (T : Table) (accounts : HasAccount T) (n q : ℕ) (events : List LineEv
   abbrev es : ℕ → Event
   es = event_at (only_events events)
 
-  abbrev log : Log
-  log = log_of T n q es
-
-  abbrev contents : Contents
-  contents = contents_of (views T n q es)
-
-  abbrev counts : Counts
-  counts = counts_of (views T n q es)
+  open shown T n q events use {log, contents, counts}
 
   state_is : w.state ≡ state_at T n q es k
   state_is = ap (λ (x : WorldState). x.state) h.world
@@ -104,15 +95,18 @@ module _ (T : Table) (accounts : HasAccount T) (n q : ℕ) (events : List LineEv
   }
 
   pub stopped : (cause : StepFault) (line : ℕ) → k < length events → line ≡ line_at events k → Refused w e cause
-      → IsFirstRefused T n q events line cause
-  stopped cause line below line_is refused = record {
-    index = k;
-    known = below;
-    line_is = line_is;
-    before = h.run;
-    refused = subst (λ z. Refused (record { threads = n; quota = q; state = state_at T n q es k }) z cause) (sym is)
-        (subst (λ z. Refused z e cause) h.world refused);
-  }
+      → (first : IsFirstRefused T n q events line cause) × (first.index ≡ k)
+  stopped cause line below line_is refused = (
+    record {
+      index = k;
+      known = below;
+      line_is = line_is;
+      before = h.run;
+      refused = subst (λ z. Refused (record { threads = n; quota = q; state = state_at T n q es k }) z cause) (sym is)
+          (subst (λ z. Refused z e cause) h.world refused);
+    },
+    refl,
+  )
 
 -- nothing has been followed
 pub at_first : (T : Table) (n q : ℕ) (events : List LineEvent) (w : WorldState) (r : Recorder) → Limits n q

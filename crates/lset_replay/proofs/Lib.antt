@@ -2,6 +2,7 @@ pub mod EventLists
 pub mod Ranks
 pub mod RankedPoints
 pub mod Pointed
+pub mod ChainsKept
 pub mod Telling
 pub mod ToldReports
 pub mod KeyChanges
@@ -9,6 +10,7 @@ pub mod LeastFits
 pub mod Following
 pub mod Stepping
 pub mod Ready
+pub mod Followed
 pub mod Ordered
 pub mod EventSteps
 pub mod Reported

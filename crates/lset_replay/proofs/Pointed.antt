@@ -14,10 +14,7 @@ use Rattle.lset_history.proofs.Lists.{all_at, get_or_mapped}
 use Rattle.lset_history.proofs.Calls.{Traced, ChangedBy, EndedBy}
 use Rattle.lset_history.proofs.CallSteps.{run_of, calls_of}
 use Rattle.lset_schedule.specs.Plan.{Plan}
-use Rattle.lset_steps.specs.declared.Event.{Event}
-use Rattle.lset_steps.specs.Steps.{Table, event_at, log_of}
-use Rattle.lset_steps.specs.Chain.{contents_of, counts_of}
-use Rattle.lset_steps.specs.Laws.{views}
+use Rattle.lset_steps.specs.Steps.{Table}
 use Rattle.lset_steps.specs.Worlds.{WorldState}
 use Rattle.lset_steps.specs.Promises.{HasAccount}
 use Rattle.lset_replay.specs.declared.events.LineEvent.{LineEvent}
@@ -31,7 +28,7 @@ use Rattle.lset_replay.specs.PlacedReports.{ArePointsOf}
 use Rattle.lset_replay.proofs.EventLists.{as_many}
 use Rattle.lset_replay.proofs.Following.{Follows, PlaceBy, PlaceOf}
 use Rattle.lset_replay.proofs.Ordered.{stands_there}
-use Rattle.lset_replay.proofs.Ready.{follows}
+use Rattle.lset_replay.proofs.Followed.{shown, account_then, kept_then}
 
 -- a call with a place is known
 pub known_place : (ps : List (Option Place)) (i : ℕ) (p : Place) → place_at ps i ≡ Some p → i < length ps
@@ -125,34 +122,20 @@ module _ (n q last : ℕ) (log : Log) (contents : Contents) (counts : Counts) (a
 -- THE POINTS of a run that has been followed
 module _ (T : Table) (accounts : HasAccount T) (n q : ℕ) (events : List LineEvent) (w : WorldState) (r : Recorder)
     (h : HasFollowed T n q events (length events) w r) where
-  abbrev es : ℕ → Event
-  es = event_at (only_events events)
-
-  abbrev log : Log
-  log = log_of T n q es
-
-  abbrev contents : Contents
-  contents = contents_of (views T n q es)
-
-  abbrev counts : Counts
-  counts = counts_of (views T n q es)
-
-  account_then : Account n q (length events) log contents counts
-  account_then = accounts n q (length events) es h.run
-
-  kept_then : Follows n q log contents counts (length events) (trace_of r)
-  kept_then = subst (λ s. Follows n q log contents counts (length events) s) (sym h.trace)
-      (follows n q (length events) log contents counts account_then (length events) (omega arith))
+  open shown T n q events use {log, contents, counts}
 
   pub points_then : (order : List Placed) (points : List Point) → ArePointsAt r.places.items order points
       → ArePointsOf T n q (only_events events) r.history.calls order points
-  points_then order points a = record {
-    bars = subst (λ k. LieInBars k r.history.calls order points) (sym (as_many events))
-        (subst (λ xs. LieInBars (length events) xs order points) (sym kept_then.history)
-        (lie n q (length events) log contents counts account_then r.places.items (trace_of r, refl, kept_then) order points a));
-    stand = subst (λ k. StandAsPlaced q (calls_at log k) contents counts order points) (sym (as_many events))
-        (stand n q (length events) log contents counts account_then r.places.items (trace_of r, refl, kept_then) order points a);
-  }
+  points_then order points a =
+      let account = account_then T accounts n q events (length events) w r h in
+      let kept = kept_then T accounts n q events (length events) w r h in
+      record {
+        bars = subst (λ k. LieInBars k r.history.calls order points) (sym (as_many events))
+            (subst (λ xs. LieInBars (length events) xs order points) (sym kept.history)
+            (lie n q (length events) log contents counts account r.places.items (trace_of r, refl, kept) order points a));
+        stand = subst (λ k. StandAsPlaced q (calls_at log k) contents counts order points) (sym (as_many events))
+            (stand n q (length events) log contents counts account r.places.items (trace_of r, refl, kept) order points a);
+      }
 
 -- those of a schedule's events
 pub points_are_of : (T : Table) (accounts : HasAccount T) (p : Plan) (n q : ℕ) (events : List LineEvent) (w : WorldState)

@@ -2,14 +2,13 @@
 use Rattle.std.proofs.Common.{◌≡◌, ℕ, ◌≤◌, List, length, sym, refl, subst, ap, ◌∙◌, arith}
 use Rattle.lset_words.specs.declared.history.CallRecord.{CallRecord}
 use Rattle.lset_words.specs.declared.history.Placed.{Placed}
-use Rattle.lset_words.specs.Log.{Log, calls_at, history_at}
-use Rattle.lset_words.specs.Account.{Account, Contents, Counts}
+use Rattle.lset_words.specs.Log.{calls_at, history_at}
 use Rattle.lset_words.specs.Placement.{IsPlacement}
 use Rattle.lset_words.specs.History.{Linearizes}
 use Rattle.lset_words.specs.SequentialSet.{empty_set}
 use Rattle.lset_steps.specs.declared.Event.{Event}
-use Rattle.lset_steps.specs.Steps.{Table, Run, event_at, log_of}
-use Rattle.lset_steps.specs.Chain.{View, contents_of, counts_of}
+use Rattle.lset_steps.specs.Steps.{Table, Run, event_at}
+use Rattle.lset_steps.specs.Chain.{View}
 use Rattle.lset_steps.specs.Laws.{view_of, views}
 use Rattle.lset_steps.specs.Worlds.{WorldState, IsContent, keys_in}
 use Rattle.lset_steps.specs.Promises.{HasAccount}
@@ -19,11 +18,11 @@ use Rattle.lset_replay.specs.declared.events.LineEvent.{LineEvent}
 use Rattle.lset_replay.specs.declared.recorder.Recorder.{Recorder}
 use Rattle.lset_replay.specs.Events.{only_events, events_of}
 use Rattle.lset_replay.specs.Reports.{IsReportOf, IsReplay, IsExplained, ReportValue}
-use Rattle.lset_replay.specs.Trace.{Trace, trace_of}
+use Rattle.lset_replay.specs.Trace.{Trace}
 use Rattle.lset_replay.specs.Follows.{HasFollowed}
-use Rattle.lset_replay.proofs.Ready.{follows, few_calls}
+use Rattle.lset_replay.proofs.Followed.{shown, account_then, kept_then}
+use Rattle.lset_replay.proofs.Ready.{few_calls}
 use Rattle.lset_replay.proofs.EventLists.{as_many}
-use Rattle.lset_replay.proofs.Following.{Follows}
 use Rattle.lset_replay.proofs.Ordered.{placement, stand_upto}
 use Rattle.lset_replay.specs.Blocks.{blocks_upto, StandUpTo}
 use Rattle.lset_schedule.specs.Plan.{Plan}
@@ -35,50 +34,34 @@ content_once v ks js a b = a.0.2 ∙ ap (keys_in v) (chain_once v 0 a.0.0 b.0.0 
 -- THE REPORT of a run that has been followed
 module _ (T : Table) (accounts : HasAccount T) (n q : ℕ) (events : List LineEvent) (k : ℕ) (w : WorldState) (r : Recorder)
     (h : HasFollowed T n q events k w r) where
-  abbrev es : ℕ → Event
-  es = event_at (only_events events)
-
-  abbrev log : Log
-  log = log_of T n q es
-
-  abbrev contents : Contents
-  contents = contents_of (views T n q es)
-
-  abbrev counts : Counts
-  counts = counts_of (views T n q es)
-
-  account_then : Account n q k log contents counts
-  account_then = accounts n q k es h.run
-
-  kept_then : Follows n q log contents counts k (trace_of r)
-  kept_then = subst (λ s. Follows n q log contents counts k s) (sym h.trace)
-      (follows n q k log contents counts account_then k (omega arith))
+  open shown T n q events use {log, contents, counts}
 
   pub few_places : length r.places.items ≤ k
   few_places =
-      let a : length r.places.items ≡ length (calls_at log k) = kept_then.numbered in
+      let kept = kept_then T accounts n q events k w r h in
+      let a : length r.places.items ≡ length (calls_at log k) = kept.numbered in
       let b : length (calls_at log k) ≤ k = few_calls log k in
       omega arith
 
   pub places_upto : StandUpTo k r.places.items
   places_upto = subst (λ (s : Trace). StandUpTo k s.places) (sym h.trace)
-      (stand_upto n q k log contents counts account_then)
+      (stand_upto n q k log contents counts (account_then T accounts n q events k w r h))
 
   pub order_then : IsPlacement q k (calls_at log k) contents counts
       (blocks_upto r.places.items k)
   order_then = subst (λ (s : Trace). IsPlacement q k (calls_at log k) contents
       counts (blocks_upto s.places k)) (sym h.trace)
-      (placement n q k log contents counts account_then)
+      (placement n q k log contents counts (account_then T accounts n q events k w r h))
 
   report_then : (order : List Placed) (keys : List ℕ) → length (only_events events) ≡ k → order ≡ blocks_upto r.places.items k
       → IsContent (view_of w.threads w.quota w.state) keys → IsReportOf T n q (only_events events) r.history.calls order keys
   report_then order keys e o c = record {
-    run = subst (λ z. Run T n q es z) (sym e) h.run;
-    history_is = kept_then.history ∙ ap (λ z. history_at log z) (sym e);
+    run = subst (λ z. Run T n q (event_at (only_events events)) z) (sym e) h.run;
+    history_is = (kept_then T accounts n q events k w r h).history ∙ ap (λ z. history_at log z) (sym e);
     placement = subst (λ z. IsPlacement q z (calls_at log z) contents
         counts order) (sym e)
         (subst (λ z. IsPlacement q k (calls_at log k) contents counts z) (sym o) order_then);
-    content = subst (λ z. IsContent (views T n q es z) keys) (sym e)
+    content = subst (λ z. IsContent (views T n q (event_at (only_events events)) z) keys) (sym e)
         (subst (λ (z : WorldState). IsContent (view_of z.threads z.quota z.state) keys) h.world c);
   }
 

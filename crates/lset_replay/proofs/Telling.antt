@@ -3,7 +3,7 @@ use Rattle.std.proofs.Common.{◌≡◌, ℕ, suc, ◌+◌, ◌<◌, ◌≤◌, 
 use Rattle.std.specs.Prelude.{Option, Some, None, IsSomeAnd}
 use Rattle.std.proofs.lemmas.List.{length_push, get_or_push, get_or_append_left}
 use Rattle.lset_words.specs.declared.Reply.{Reply}
-use Rattle.lset_words.specs.Log.{Log, Change, TracedCall, traced_on, calls_at, record_of}
+use Rattle.lset_words.specs.Log.{Change, TracedCall, traced_on, calls_at, record_of}
 use Rattle.lset_words.specs.Log.Entry.{began, stepped}
 use Rattle.lset_words.specs.Account.{Account, Contents, Counts, Enters}
 use Rattle.lset_words.specs.Placement.{StandsAt, traced_at, no_traced}
@@ -15,8 +15,7 @@ use Rattle.lset_steps.specs.declared.Event.{Event}
 use Rattle.lset_steps.specs.declared.Event.TheVariants.{Begin, Go}
 use Rattle.lset_steps.specs.declared.world.ChainKey.{ChainKey}
 use Rattle.lset_steps.specs.declared.world.StepFault.{StepFault}
-use Rattle.lset_steps.specs.Steps.{Table, Run, Enabled, state_at, event_at, entry_of, log_of, told, local_of, seen_next}
-use Rattle.lset_steps.specs.Chain.{contents_of, counts_of}
+use Rattle.lset_steps.specs.Steps.{Table, Run, Enabled, state_at, event_at, entry_of, told, local_of, seen_next}
 use Rattle.lset_steps.specs.Laws.{Lawful, views, view_of}
 use Rattle.lset_steps.specs.Worlds.{WorldState, AreChainKeys, Refused, thread_of}
 use Rattle.lset_steps.specs.Promises.{HasAccount}
@@ -35,10 +34,10 @@ use Rattle.lset_replay.specs.Trace.{trace_of, MayFollow, open_call_at, place_at,
 use Rattle.lset_replay.specs.Follows.{HasFollowed}
 use Rattle.lset_replay.specs.Tracing.{IsDeedAt, EndsCall, TellsEnd, TellsChain, TellsEvent, TellsEvents, IsTraceOf}
 use Rattle.lset_replay.specs.Tracer.{deed_ahead, open_number_of, end_there, end_with, NotesChain, MadeEvent, KeepsChain, HasTraced}
-use Rattle.lset_replay.proofs.EventSteps.{ready, followed}
+use Rattle.lset_replay.proofs.EventSteps.{ready, followed, stopped}
 use Rattle.lset_replay.proofs.Following.{Follows, IsWatched, PlaceBy, PlaceOf, calls_are}
 use Rattle.lset_replay.proofs.Ordered.{moment_of, stands_there}
-use Rattle.lset_replay.proofs.Ready.{follows}
+use Rattle.lset_replay.proofs.Followed.{shown, account_then, kept_then}
 use Rattle.lset_replay.proofs.Reported.{few_places}
 
 -- a call that has ended has a place
@@ -58,25 +57,16 @@ module _ (T : Table) (accounts : HasAccount T) (n q : ℕ) (events : List LineEv
   abbrev es : ℕ → Event
   es = event_at (only_events events)
 
-  abbrev log : Log
-  log = log_of T n q es
-
-  abbrev contents : Contents
-  contents = contents_of (views T n q es)
-
-  abbrev counts : Counts
-  counts = counts_of (views T n q es)
+  open shown T n q events use {log, contents, counts}
 
   account : Account n q (suc k) log contents counts
-  account = accounts n q (suc k) es h'.run
+  account = account_then T accounts n q events (suc k) w' r' h'
 
   earlier : Follows n q log contents counts k (trace_of r)
-  earlier = subst (λ s. Follows n q log contents counts k s) (sym h.trace)
-      (follows n q (suc k) log contents counts account k (omega arith))
+  earlier = kept_then T accounts n q events k w r h
 
   later : Follows n q log contents counts (suc k) (trace_of r')
-  later = subst (λ s. Follows n q log contents counts (suc k) s) (sym h'.trace)
-      (follows n q (suc k) log contents counts account (suc k) (omega arith))
+  later = kept_then T accounts n q events (suc k) w' r' h'
 
   state_is : w.state ≡ state_at T n q es k
   state_is = ap (λ (z : WorldState). z.state) h.world
@@ -243,21 +233,9 @@ module _ (T : Table) (accounts : HasAccount T) (n q : ℕ) (events : List LineEv
     told_to_refused cause below line refused = record {
       run = subst (λ z. Run T n q (event_at (only_events events)) z) (sym h.count) h.followed.run;
       each = h.each;
-      ends = (
-        record {
-          index = k;
-          known = below;
-          line_is = line;
-          before = h.followed.run;
-          refused = subst (λ z. Refused (record {
-            threads = n;
-            quota = q;
-            state = state_at T n q (event_at (only_events events)) k;
-          }) z cause) (sym is)
-              (subst (λ z. Refused z next.event cause) h.followed.world refused);
-        },
-        sym h.count,
-      );
+      ends =
+          let first = stopped T accounts n q events k w r h.followed next.event is cause next.line below line refused in
+          (first.0, first.1 ∙ sym h.count);
     }
 
   pub told_all : k ≡ length events → TellsEvents T n q events chains traced None

@@ -26,5 +26,6 @@ pub record ArePointsOf (T : Table) (threads quota : ℕ) (events : List Event) (
 -- what a replay with points by a machine answers
 abbrev pub ReplaysWithPoints : Table → Plan → Result PlacedReport ReplayFault → Type 0
 ReplaysWithPoints T p (Ok r) = IsReplay T p (view r.report)
-    × ArePointsOf T p.threads p.quota (only_events (events_of p)) (view r.report).history.calls (view r.report).order r.points.items
+    × ArePointsOf T p.threads p.quota (only_events (events_of p)) (view r.report).history.calls (view r.report).order
+    r.points.items
 ReplaysWithPoints T p (Err refusal) = IsRefusal T p.threads p.quota (events_of p) refusal

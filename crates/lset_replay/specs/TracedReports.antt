@@ -19,8 +19,8 @@ pub record TellsItsEnd (traced : List TracedEvent) (event : ℕ) (c : CallEnd) :
   pub known : event < length traced
   pub told : (none : TracedEvent) → (slice_index_or traced event none).end ≡ Some c
 
--- A call with that number, which ended then with that reply, stands in the order, and just the event of its end tells that, with the
--- moment of its point.
+-- A call with that number, which ended then with that reply, stands in the order, and just the event of its end tells that, with
+-- the moment of its point.
 pub record IsToldOnce (traced : List TracedEvent) (order : List Placed) (points : List Point) (number end : ℕ) (reply : Reply)
     : Type 0 where
   pub place : ℕ

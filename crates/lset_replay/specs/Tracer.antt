@@ -1,9 +1,10 @@
 -- How far a trace has come, and what each part of the tracer answers.
-use Rattle.std.specs.Prelude.{◌≡◌, ℕ, ◌<◌, Bool, true, false, List, length, Option, Some, None, Result, Ok, Err, slice_index_or, Vec}
+use Rattle.std.specs.Prelude.{◌≡◌, ℕ, ◌%◌, ◌<◌, Bool, true, false, not, nat_lt, ◌==◌, ◌&&◌, List, length, Option, Some, None, Result, Ok, Err, slice_index_or, Vec}
 use Rattle.std.specs.declared.alloc.Global.{Global}
 use Rattle.lset_words.specs.declared.Reply.{Reply}
 use Rattle.lset_steps.specs.declared.Event.{Event}
 use Rattle.lset_steps.specs.declared.Event.TheVariants as event
+use Rattle.lset_steps.specs.declared.Action.TheVariants.{Load, Store, Exchange}
 use Rattle.lset_steps.specs.declared.world.ChainKey.{ChainKey}
 use Rattle.lset_steps.specs.Steps.{Table, State, Enabled, event_at, local_of, seen_next, told, after}
 use Rattle.lset_steps.specs.Chain.{View}
@@ -44,14 +45,25 @@ end_with None number places = None
 end_with (Some reply) None places = None
 end_with (Some reply) (Some number) places = end_there number reply (place_at places number)
 
+-- whether the word with an index is the key or the link of a node: no lock
+abbrev pub is_node_word : ℕ → Bool
+is_node_word word = nat_lt 2 word && not (word % 3 == 2)
+
+-- whether a deed writes such a word
+abbrev pub writes_node : Deed → Bool
+writes_node (deed.Begin call number) = false
+writes_node (deed.Access (Load word) seen) = false
+writes_node (deed.Access (Store word value) seen) = is_node_word word
+writes_node (deed.Access (Exchange word old new) seen) = seen == old && is_node_word word
+
 -- the chain that is kept becomes that of the world, and is told where it is another
 abbrev pub NotesChain : Bool → View → List ChainKey → Option (Vec ChainKey Global) → List ChainKey → Type 0
 NotesChain false v before chain later = chain ≡ None
 NotesChain true v before chain later = AreChainKeys v later × TellsDifference before later chain
 
 -- An event was made in the world w and followed by r, with the chain `kept`, and is told:
-pub record MadeEvent (T : Table) (next : LineEvent) (moment : ℕ) (chains : Bool) (w : WorldState) (r : Recorder) (kept : List ChainKey)
-    (x : TracedEvent) (w' : WorldState) (r' : Recorder) (kept' : List ChainKey) : Type 0 where
+pub record MadeEvent (T : Table) (next : LineEvent) (moment : ℕ) (chains : Bool) (w : WorldState) (r : Recorder)
+    (kept : List ChainKey) (x : TracedEvent) (w' : WorldState) (r' : Recorder) (kept' : List ChainKey) : Type 0 where
   pub enabled : Enabled w.state next.event
   pub world : w' ≡ record w { state = after T w.state next.event }
   pub trace : trace_of r' ≡ trace_after moment (entry_told next.event (told T w.state next.event)) (trace_of r)

@@ -62,8 +62,8 @@ TellsChain false v w chain = chain ≡ None
 TellsChain true v w chain = (before : List ChainKey) × (later : List ChainKey) × AreChainKeys v before × AreChainKeys w later
     × TellsDifference before later chain
 
--- WHAT IS TOLD OF AN EVENT: its line and thread, what the thread holds before and after, what it did, the change that it made, the
--- call that it ended, and the chain.
+-- WHAT IS TOLD OF AN EVENT: its line and thread, what the thread holds before and after, what it did, the change that it made,
+-- the call that it ended, and the chain.
 pub record TellsEvent (T : Table) (n q : ℕ) (events : List LineEvent) (es : ℕ → Event) (chains : Bool) (k : ℕ) (x : TracedEvent)
     : Type 0 where
   pub line_is : x.line ≡ line_at events k

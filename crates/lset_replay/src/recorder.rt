@@ -104,7 +104,8 @@ impl Recorder {
         present: bool,
         moment: u32,
     ) -> Result<(), AllocError>
-        requires under_way { IsSomeAnd (open_call_at self.old.under_way.items thread) (λ o. o.number < length self.old.places.items) }
+        requires under_way { IsSomeAnd (open_call_at self.old.under_way.items thread) (λ o.
+            o.number < length self.old.places.items) }
         requires later { IsLaterThanAll (moments_of self.old.changes) moment }
         requires turn { present ≡ not (is_present_now (moments_of self.old.changes) key.0) }
         ensures history { OnOk result (self.new.history ≡ self.old.history) }
@@ -122,7 +123,8 @@ impl Recorder {
 
     fn end(&mut self, thread: u32, reply: Reply, moment: u32)
         requires { MayStep self.old.history self.old.under_way.items self.old.places.items thread moment }
-        ensures history { self.new.history ≡ with_ended self.old.history (number_at self.old.under_way.items thread) (moment, reply) }
+        ensures history { self.new.history
+            ≡ with_ended self.old.history (number_at self.old.under_way.items thread) (moment, reply) }
         ensures under_way { self.new.under_way.items ≡ slice_set self.old.under_way.items thread None }
         ensures places { let number = number_at self.old.under_way.items thread in
             let fits = fit_of (moments_of self.old.changes) (open_call_at self.old.under_way.items thread) reply moment in

@@ -109,9 +109,9 @@ impl Task for Replaying<'_> {
 /// Replays a schedule on the list of its kind, one event after another. The schedule is within its limits, as
 /// what `read_schedule` gives: 1 to 64 threads, a quota of 0 to 16,384, and at most 1,000,000 events.
 ///
-/// It is refused at the first event that is not enabled, with the number of its line: `NoThread` where there is no such thread, `Busy` where a thread
-/// begins a call and has one open, `Idle` where a thread makes a step and has no call open. `Memory` where a
-/// growth was refused. The order of the report has each call that changed the set at the event that did,
+/// It is refused at the first event that is not enabled, with the number of its line: `NoThread` where there is no such
+/// thread, `Busy` where a thread begins a call and has one open, `Idle` where a thread makes a step and has no call open.
+/// `Memory` where a growth was refused. The order of the report has each call that changed the set at the event that did,
 /// also while it is open, and each other ended call at its least moment that its reply fits. (Herlihy and
 /// Wing's linearizability; the schedules are this project's own.)
 pub fn replay(alloc: Global, schedule: &Schedule) -> Result<Report, ReplayFault>

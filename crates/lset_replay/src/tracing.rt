@@ -1,4 +1,4 @@
-ghost use Rattle.std.specs.Prelude.{◌≡◌, ℕ, ◌<◌, ◌≤◌, ◌^◌, ◌↔◌, IsTrue, length, IfOk, Some};
+ghost use Rattle.std.specs.Prelude.{◌≡◌, ℕ, ◌<◌, ◌≤◌, ◌^◌, ◌↔◌, IsTrue, false, length, IfOk, Some};
 ghost use Rattle.std.specs.List.{sum_by};
 ghost use Rattle.lset_lists.specs.Tables.{table_of};
 ghost use Rattle.lset_steps.specs.Steps.{Enabled, local_of, told};
@@ -9,7 +9,17 @@ ghost use Rattle.lset_schedule.specs.Plan.{IsSchedule, view, event_count};
 ghost use Rattle.lset_replay.specs.Events.{events_from, first_event_line};
 ghost use Rattle.lset_replay.specs.Trace.{MayFollow, open_call_at};
 ghost use Rattle.lset_replay.specs.Tracing.{IsTraceOf, TellsEvents};
-ghost use Rattle.lset_replay.specs.Tracer.{HasTraced, MakesEvent, NotesChain, deed_ahead, end_with, open_number_of};
+ghost use Rattle.lset_replay.specs.Tracer.{
+  HasTraced,
+  MakesEvent,
+  KeepsChain,
+  NotesChain,
+  deed_ahead,
+  end_with,
+  is_node_word,
+  open_number_of,
+  writes_node,
+};
 ghost use Rattle.lset_replay.specs.declared.tracing.Stop.TheVariants.{Memory};
 
 use crate::events::{FIRST_EVENT_LINE, LineEvent, event_of};
@@ -18,7 +28,7 @@ use crate::{CallEnd, Deed, Trace, TracedEvent};
 use lset_lists::{List, Task, on_list};
 use lset_schedule::{Line, Schedule};
 use lset_steps::laws::has_account;
-use lset_steps::{ChainKey, Event, Local, Machine, StepFault, World};
+use lset_steps::{Action, ChainKey, Event, Local, Machine, StepFault, World};
 use lset_words::{Reply, layout};
 use std::alloc::{AllocError, Global};
 
@@ -98,18 +108,39 @@ fn copy_of(alloc: Global, chain: &[ChainKey]) -> Result<Vec<ChainKey>, AllocErro
     chain.iter().copied().collect(alloc)
 }
 
-/// The chain of the world, where chains are asked for and it is another than the one that is kept, in whose place
-/// it then comes.
+/// Whether the word with an index is the key or the link of a node.
+fn is_node_word(word: u64) -> bool
+    ensures { result ≡ is_node_word word }
+{
+    word > 2 && word % 3 != 2
+}
+
+/// Whether a deed writes the key or the link of a node: any other leaves the chain as it was.
+fn writes_node(deed: Deed) -> bool
+    ensures { result ≡ writes_node deed }
+{
+    match deed {
+        Deed::Begin(_, _) | Deed::Access(Action::Load(_), _) => false,
+        Deed::Access(Action::Store(word, _), _) => is_node_word(word),
+        Deed::Access(Action::Exchange(word, old, _), seen) => seen == old && is_node_word(word),
+    }
+}
+
+/// The chain of the world after a deed, where chains are asked for and it is another than the one that is kept, in whose
+/// place it then comes.
 fn changed_chain<M: Machine>(
     alloc: Global,
     world: &World<M>,
     kept: &mut Vec<ChainKey>,
+    deed: Deed,
     chains: bool,
 ) -> Result<Option<Vec<ChainKey>>, AllocError>
+    requires { writes_node deed ≡ false
+        → KeepsChain chains (view_of world.now.threads world.now.quota world.now.state) kept.old.items }
     ensures { IfOk result (λ chain. NotesChain chains (view_of world.now.threads world.now.quota world.now.state)
         kept.old.items chain kept.new.items) }
 {
-    if !chains {
+    if !chains || !writes_node(deed) {
         return Ok(None);
     }
     let chain = world.chain()?;
@@ -134,6 +165,7 @@ fn trace_event<M: Machine>(
     requires few { length recorder.old.places.items < 2 ^ 32 }
     requires may { Enabled world.old.state next.event
         → MayFollow recorder.old moment next.event (told M.table world.old.state next.event) }
+    requires chain { KeepsChain chains (view_of world.old.threads world.old.quota world.old.state) kept.old.items }
     ensures { MakesEvent M.table next moment chains world.old recorder.old kept.old.items result
         world.new recorder.new kept.new.items }
 {
@@ -145,10 +177,10 @@ fn trace_event<M: Machine>(
         Err(cause) => return Err(Stop::Refused(cause)),
     };
     recorder.follow(next.event, told, moment)?;
-    let chain = changed_chain(alloc, world, kept, chains)?;
     let (Some((before, deed)), Some(after)) = (ahead, world.holds(thread)) else {
         unreachable!();
     };
+    let chain = changed_chain(alloc, world, kept, deed, chains)?;
     Ok(TracedEvent {
         line: next.line,
         thread,
@@ -250,9 +282,10 @@ impl Task for Tracing<'_> {
 
 /// Tells the events of a schedule on the list of its kind, one after another, up to the first that is not enabled:
 /// what each did, what its thread held before and after, the change that it made, and the call that it ended, with
-/// the moment at which that call stands in the order of the schedule's report. Where `chains` are asked for, each event that changed the
-/// chain or a mark in it has the chain after it, which takes a walk along the chain for each event. The schedule is within its
-/// limits, as what `read_schedule` gives. It fails only where memory was refused. (This project's own.)
+/// the moment at which that call stands in the order of the schedule's report. Where `chains` are asked for, each event that
+/// changed the chain or a mark in it has the chain after it, which takes a walk along the chain for each event that wrote the
+/// key or the link of a node. The schedule is within its limits, as what `read_schedule` gives. It fails only where memory was
+/// refused. (This project's own.)
 pub fn trace(alloc: Global, schedule: &Schedule, chains: bool) -> Result<Trace, AllocError>
     requires { IsSchedule (view schedule.now) }
     ensures { IfOk result (λ t. IsTraceOf (table_of schedule.now.kind) (view schedule.now) chains t) }

@@ -1,6 +1,7 @@
-use Rattle.std.proofs.Common.{◌≡◌, ◌+◌, length, take}
+use Rattle.std.proofs.Common.{◌≡◌, length, take}
 use Rattle.lset_replay.specs.Events.{events_from}
 use Rattle.lset_replay.specs.Follows.{HasFollowed}
+use Rattle.lset_replay.proofs.EventLists.{AreBehind}
 use Rattle.lset_replay.proofs.replaying.follow_all.Given as goal
 
 -- the events of the lines so far have been followed
@@ -13,6 +14,6 @@ invariant-loop-index g l = record {
 -- and some of the next line
 abbrev pub invariant-loop-done : goal.invariant-loop-done
 invariant-loop-done g l = record {
-  count : l.moment ≡ length (events_from 5 (take l.index l.lines)) + l._done;
+  count : AreBehind l.lines l.index l._done l.moment;
   followed : HasFollowed g.M.Machine.table l.fn.world.threads l.fn.world.quota (events_from 5 l.lines) l.moment l.world l.recorder;
 }

@@ -1,6 +1,7 @@
-use Rattle.std.proofs.Common.{◌≡◌, ◌+◌, length, take}
+use Rattle.std.proofs.Common.{◌≡◌, length, take}
 use Rattle.lset_replay.specs.Events.{events_from}
 use Rattle.lset_replay.specs.Tracer.{HasTraced}
+use Rattle.lset_replay.proofs.EventLists.{AreBehind}
 use Rattle.lset_replay.proofs.tracing.trace_lines.Given as goal
 
 -- the events of the lines so far have been told
@@ -14,7 +15,7 @@ invariant-loop-index g l = record {
 -- and some of the next line
 abbrev pub invariant-loop-done : goal.invariant-loop-done
 invariant-loop-done g l = record {
-  count : l.moment ≡ length (events_from 5 (take l.index l.lines)) + l._done;
+  count : AreBehind l.lines l.index l._done l.moment;
   told : HasTraced g.M.Machine.table l.fn.world.threads l.fn.world.quota (events_from 5 l.lines) l.chains l.moment l.world
       l.recorder l.kept.items l.traced.items;
 }

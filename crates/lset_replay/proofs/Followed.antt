@@ -1,0 +1,40 @@
+-- What is kept of a run whose events have been followed.
+use Rattle.std.proofs.Common.{ℕ, List, sym, subst, arith}
+use Rattle.lset_words.specs.Log.{Log}
+use Rattle.lset_words.specs.Account.{Account, Contents, Counts}
+use Rattle.lset_steps.specs.Steps.{Table, event_at, log_of}
+use Rattle.lset_steps.specs.Chain.{contents_of, counts_of}
+use Rattle.lset_steps.specs.Laws.{views}
+use Rattle.lset_steps.specs.Worlds.{WorldState}
+use Rattle.lset_steps.specs.Promises.{HasAccount}
+use Rattle.lset_replay.specs.declared.events.LineEvent.{LineEvent}
+use Rattle.lset_replay.specs.declared.recorder.Recorder.{Recorder}
+use Rattle.lset_replay.specs.Events.{only_events}
+use Rattle.lset_replay.specs.Trace.{trace_of}
+use Rattle.lset_replay.specs.Follows.{HasFollowed}
+use Rattle.lset_replay.proofs.Following.{Follows}
+use Rattle.lset_replay.proofs.Ready.{follows}
+
+-- what the run of these events shows: its log, and the contents and counts of its worlds
+pub record Shown : Type 1 where
+  pub log : Log
+  pub contents : Contents
+  pub counts : Counts
+
+abbrev pub shown : Table → ℕ → ℕ → List LineEvent → Shown
+shown T n q events = record {
+  log = log_of T n q (event_at (only_events events));
+  contents = contents_of (views T n q (event_at (only_events events)));
+  counts = counts_of (views T n q (event_at (only_events events)));
+}
+
+module _ (T : Table) (accounts : HasAccount T) (n q : ℕ) (events : List LineEvent) (k : ℕ) (w : WorldState) (r : Recorder)
+    (h : HasFollowed T n q events k w r) where
+  open shown T n q events use {log, contents, counts}
+
+  pub account_then : Account n q k log contents counts
+  account_then = accounts n q k (event_at (only_events events)) h.run
+
+  pub kept_then : Follows n q log contents counts k (trace_of r)
+  kept_then = subst (λ s. Follows n q log contents counts k s) (sym h.trace)
+      (follows n q k log contents counts account_then k (omega arith))
