@@ -21,8 +21,8 @@ on_to pc l = continued (record l { pc = pc })
 abbrev pub leaves : Option Reply → Local → Fed
 leaves r l = continued (goes_to 13 r l)
 
--- what a call does with both nodes locked and `curr` unmarked, where `curr` has its key or not: an `add` goes on to row 8, a `remove`
--- to row 11, or it leaves with its reply
+-- what a call does with both nodes locked and `curr` unmarked, where `curr` has its key or not: an `add` goes on to row 8, a
+-- `remove` to row 11, or it leaves with its reply
 abbrev pub decides : Call → Local → Fed
 decides (Add k) l =
     if l.ckey == target (Add k) then leaves (Some False) l
@@ -42,12 +42,19 @@ pub record LazyRows (T : Table) : Type 0 where
   pub row_1 : Does T 1 (λ l. Load (link_index 0)) (λ l seen. continued (record l { pc = 2; pred = 0; curr = seen / 2 })) nothing
   -- It looks at the key of `curr`, and stops at the first that is not below its own.
   pub row_2 : Does T 2 (λ l. Load (key_index l.curr))
-      (λ l seen. if nat_lt seen (target l.call) then continued (record l { pc = 3; ckey = seen }) else continued (record l { pc = 4; ckey = seen }))
+      (λ l seen. if nat_lt seen (target l.call) then continued (record l { pc = 3; ckey = seen })
+      else continued (record l { pc = 4; ckey = seen }))
       nothing
-  pub row_3 : Does T 3 (λ l. Load (link_index l.curr)) (λ l seen. continued (record l { pc = 2; pred = l.curr; curr = seen / 2 })) nothing
+  pub row_3 : Does T 3 (λ l. Load (link_index l.curr))
+      (λ l seen. continued (record l { pc = 2; pred = l.curr; curr = seen / 2 }))
+      nothing
   -- It tries the locks of both nodes, each until it has it.
-  pub row_4 : Does T 4 (λ l. Exchange (lock_index l.pred) 0 (l.thread + 1)) (λ l seen. if seen == 0 then on_to 5 l else on_to 4 l) nothing
-  pub row_5 : Does T 5 (λ l. Exchange (lock_index l.curr) 0 (l.thread + 1)) (λ l seen. if seen == 0 then on_to 6 l else on_to 5 l) nothing
+  pub row_4 : Does T 4 (λ l. Exchange (lock_index l.pred) 0 (l.thread + 1))
+      (λ l seen. if seen == 0 then on_to 5 l else on_to 4 l)
+      nothing
+  pub row_5 : Does T 5 (λ l. Exchange (lock_index l.curr) 0 (l.thread + 1))
+      (λ l seen. if seen == 0 then on_to 6 l else on_to 5 l)
+      nothing
   -- It asks whether `pred` leads to `curr` and has no mark,
   pub row_6 : Does T 6 (λ l. Load (link_index l.pred)) (λ l seen. if seen == 2 * l.curr then on_to 7 l else leaves None l) nothing
   -- and whether `curr` has a mark: it decides, or gives both locks back and walks again.
@@ -61,7 +68,9 @@ pub record LazyRows (T : Table) : Type 0 where
       (λ l seen. leaves (Some True) (record l { used = l.used + 1 }))
       (λ l seen. Some (key_of l.call, true))
   -- A `remove` marks `curr`, which is its change, and takes it out.
-  pub row_11 : Does T 11 (λ l. Store (link_index l.curr) (2 * l.succ + 1)) (λ l seen. on_to 12 l) (λ l seen. Some (key_of l.call, false))
+  pub row_11 : Does T 11 (λ l. Store (link_index l.curr) (2 * l.succ + 1))
+      (λ l seen. on_to 12 l)
+      (λ l seen. Some (key_of l.call, false))
   pub row_12 : Does T 12 (λ l. Store (link_index l.pred) (2 * l.succ)) (λ l seen. leaves (Some True) l) nothing
   -- Both locks are given back.
   pub row_13 : Does T 13 (λ l. Store (lock_index l.curr) 0) (λ l seen. on_to 14 l) nothing

@@ -41,7 +41,8 @@ pub record LockFreeRows (T : Table) : Type 0 where
   pub row_1 : Does T 1 (λ l. Load (link_index 0)) (λ l seen. continued (record l { pc = 2; pred = 0; curr = seen / 2 })) nothing
   -- It looks at the link of `curr`, for its mark.
   pub row_2 : Does T 2 (λ l. Load (link_index l.curr))
-      (λ l seen. if seen % 2 == 0 then continued (record l { pc = 4; succ = seen / 2 }) else continued (record l { pc = 3; succ = seen / 2 }))
+      (λ l seen. if seen % 2 == 0 then continued (record l { pc = 4; succ = seen / 2 })
+      else continued (record l { pc = 3; succ = seen / 2 }))
       nothing
   -- A marked node is taken out, and where `pred` has changed, the walk starts again.
   pub row_3 : Does T 3 (λ l. Exchange (link_index l.pred) (2 * l.curr) (2 * l.succ))
@@ -49,7 +50,8 @@ pub record LockFreeRows (T : Table) : Type 0 where
       nothing
   -- It looks at the key of an unmarked node, and goes on behind it, or decides.
   pub row_4 : Does T 4 (λ l. Load (key_index l.curr))
-      (λ l seen. if nat_lt seen (target l.call) then continued (record l { pc = 2; pred = l.curr; curr = l.succ }) else decides l.call l seen)
+      (λ l seen. if nat_lt seen (target l.call) then continued (record l { pc = 2; pred = l.curr; curr = l.succ })
+      else decides l.call l seen)
       nothing
   -- An `add` writes the key and the link of its slot,
   pub row_5 : Does T 5 (λ l. Store (key_index (own_slot l)) (target l.call)) (λ l seen. on_to 6 l) nothing

@@ -21,13 +21,14 @@ held_at n q es k t = local_of (state_at optimistic n q es k) t
 abbrev pub world_at : ℕ → ℕ → (ℕ → Event) → ℕ → View
 world_at n q es k = views optimistic n q es k
 
--- The second walk is on its way: it has come to `node`, and the thread is about to load the key (row 7) or the link (row 6) of that
--- node.
+-- The second walk is on its way: it has come to `node`, and the thread is about to load the key (row 7) or the link (row 6) of
+-- that node.
 abbrev pub IsWalking : Local → Type 0
 IsWalking l = (l.pc ≡ 6) ⊎ (l.pc ≡ 7)
 
--- The second walk has arrived: the node that it has come to is pred, and the thread stands at one of the rows from the load of the
--- key of pred (7) to the storing of 0 in its lock (14). A thread whose walk has failed stands at row 14 too, but with another node.
+-- The second walk has arrived: the node that it has come to is pred, and the thread stands at one of the rows from the load of
+-- the key of pred (7) to the storing of 0 in its lock (14). A thread whose walk has failed stands at row 14 too, but with
+-- another node.
 pub record HasArrived (l : Local) : Type 0 where
   pub from : 7 ≤ l.pc
   pub upto : l.pc ≤ 14
@@ -43,8 +44,8 @@ pub record IsLockedInChain (v : View) (t a : ℕ) : Type 0 where
   pub in_chain : InChain v a
   pub mine : v.lock a ≡ t + 1
 
--- Node a was in the chain at some moment from `first` to `now`, and from that moment on thread t has had the lock of pred. Node a may
--- have left the chain since.
+-- Node a was in the chain at some moment from `first` to `now`, and from that moment on thread t has had the lock of pred. Node
+-- a may have left the chain since.
 pub record WasInChain (vs : ℕ → View) (first now t pred a : ℕ) : Type 0 where
   pub at : ℕ
   pub from : first ≤ at
@@ -54,27 +55,27 @@ pub record WasInChain (vs : ℕ → View) (first now t pred a : ℕ) : Type 0 wh
 
 -- What holds of each second walk of thread t in a run:
 pub record WalksAreValid (n q last t : ℕ) (es : ℕ → Event) : Type 0 where
-  -- It may pass through nodes that are being unlinked; but each node that it comes to was in the chain at some moment of the call, and
-  -- from that moment on the thread has had the lock of pred.
+  -- It may pass through nodes that are being unlinked; but each node that it comes to was in the chain at some moment of the
+  -- call, and from that moment on the thread has had the lock of pred.
   pub passes : (k : ℕ) → k ≤ last → IsWalking (held_at n q es k t)
       → WasInChain (views optimistic n q es) (begun_at (log_of optimistic n q es) t k) k t (held_at n q es k t).pred
       (held_at n q es k t).node
-  -- Where it has arrived at pred, at a moment j, pred is in the chain then and at each later moment k up to which the thread has not
-  -- stored 0 in the lock of pred; and the lock is the thread's.
+  -- Where it has arrived at pred, at a moment j, pred is in the chain then and at each later moment k up to which the thread has
+  -- not stored 0 in the lock of pred; and the lock is the thread's.
   pub arrives : (j k : ℕ) → j ≤ k → k ≤ last → HasArrived (held_at n q es j t)
       → ((i : ℕ) → j ≤ i → i < k → GivesBack n q es i t (held_at n q es j t).pred → ⊥)
       → IsLockedInChain (world_at n q es k) t (held_at n q es j t).pred
-  -- A thread stands at the row that decides (8), or at those of an Add or a Remove that go on from it (9 to 13), only where its walk has
-  -- arrived.
+  -- A thread stands at the row that decides (8), or at those of an Add or a Remove that go on from it (9 to 13), only where its
+  -- walk has arrived.
   pub decides : (k : ℕ) → k ≤ last → 8 ≤ (held_at n q es k t).pc → (held_at n q es k t).pc ≤ 13 → HasArrived (held_at n q es k t)
 
--- [Validated walk]: where the second walk arrives at pred, pred is in the chain from then to the storing of 0 in its lock, although
--- the walk may have passed through nodes that were being unlinked.
+-- [Validated walk]: where the second walk arrives at pred, pred is in the chain from then to the storing of 0 in its lock,
+-- although the walk may have passed through nodes that were being unlinked.
 abbrev pub ValidatedWalk : Type 0
 ValidatedWalk = (n q last t : ℕ) (es : ℕ → Event) → Run optimistic n q es last → t < n → WalksAreValid n q last t es
 
--- At a moment from `first` on and before `now` thread t made its load of the link of pred (row 8) and saw that it leads to curr, and
--- the reply fits that moment.
+-- At a moment from `first` on and before `now` thread t made its load of the link of pred (row 8) and saw that it leads to curr,
+-- and the reply fits that moment.
 pub record FitsAtALoad (n q : ℕ) (es : ℕ → Event) (first now t : ℕ) (call : Call) (reply : Reply) : Type 0 where
   pub at : ℕ
   pub from : first ≤ at
@@ -84,8 +85,8 @@ pub record FitsAtALoad (n q : ℕ) (es : ℕ → Event) (first now t : ℕ) (cal
   pub leads : (world_at n q es at).link (held_at n q es at t).pred / 2 ≡ (held_at n q es at t).curr
   pub fits : FitsIn q (world_at n q es at) t call reply
 
--- [Optimistic replies fit]: where a call ends that changed nothing, its reply fits a moment of the call, one at which the thread saw
--- that pred leads to curr, after a walk that had arrived (row 8).
+-- [Optimistic replies fit]: where a call ends that changed nothing, its reply fits a moment of the call, one at which the thread
+-- saw that pred leads to curr, after a walk that had arrived (row 8).
 abbrev pub OptimisticRepliesFit : Type 0
 OptimisticRepliesFit = (n q last k t : ℕ) (es : ℕ → Event) (reply : Reply) → Run optimistic n q es last → k < last → t < n
     → es k ≡ Go t → (told optimistic (state_at optimistic n q es k) (Go t)).answer ≡ Some reply

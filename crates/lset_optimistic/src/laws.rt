@@ -12,7 +12,8 @@ pub fn validated_walk()
 {}
 
 /// The reply of a call that changed nothing fits a moment of the call at which the thread saw that its first node
-/// leads to the second, after a walk that had arrived there. (Herlihy and Shavit's linearization points of calls without a change.)
+/// leads to the second, after a walk that had arrived there. (Herlihy and Shavit's linearization points of calls without a
+/// change.)
 pub fn optimistic_replies_fit()
     ensures { OptimisticRepliesFit }
 {}

@@ -1,5 +1,5 @@
--- What is promised of every run of a list with open reads, besides the law of all machines: each step of a contains is a load, and
--- there are at most 2nq + 2 of them, whatever the others do; and each node that its walk passes was in the chain.
+-- What is promised of every run of a list with open reads, besides the law of all machines: each step of a contains is a load,
+-- and there are at most 2nq + 2 of them, whatever the others do; and each node that its walk passes was in the chain.
 use Rattle.std.specs.Prelude.{◌≡◌, ◌≢◌, ℕ, zero, suc, ◌+◌, ◌*◌, ◌<◌, ◌≤◌, if◌then◌else◌, ◌==◌}
 use Rattle.lset_steps.specs.declared.Action.TheVariants.{Load}
 use Rattle.lset_steps.specs.declared.Event.{Event}
@@ -24,9 +24,9 @@ steps_since es t (suc k) = steps_after (es k) t (steps_since es t k)
 abbrev pub most_reads : ℕ → ℕ → ℕ
 most_reads n q = 2 * (n * q) + 2
 
--- [Bounded contains]: thread t, whose open call is a contains, is about to load a word, and has made fewer steps than the bound. So
--- with the next one it has made at most that many; and the bound less its steps is above 0 while the call is open, falls by one with
--- each of them and stays at every event of another thread.
+-- [Bounded contains]: thread t, whose open call is a contains, is about to load a word, and has made fewer steps than the bound.
+-- So with the next one it has made at most that many; and the bound less its steps is above 0 while the call is open, falls by
+-- one with each of them and stays at every event of another thread.
 pub record ReadsNext (T : Table) (n q : ℕ) (es : ℕ → Event) (k t : ℕ) : Type 0 where
   pub loads : (word : ℕ) × (T.next (local_of (state_at T n q es k) t) ≡ Load word)
   pub few : steps_since es t k < most_reads n q
@@ -36,9 +36,9 @@ BoundedReads T = (n q last k t : ℕ) (es : ℕ → Event) → Run T n q es last
     → (local_of (state_at T n q es k) t).pc ≢ 0 → IsRead (local_of (state_at T n q es k) t).call
     → ReadsNext T n q es k t
 
--- [Walk was in the chain]: the walk of thread t's last call, open or ended at the moment k, has passed node a with the link word l
--- where the step after some moment since its Begin loaded the node's link word and saw l. (The load of the mark of the node that has
--- the key is such a step too.)
+-- [Walk was in the chain]: the walk of thread t's last call, open or ended at the moment k, has passed node a with the link word
+-- l where the step after some moment since its Begin loaded the node's link word and saw l. (The load of the mark of the node
+-- that has the key is such a step too.)
 pub record HasPassed (T : Table) (n q : ℕ) (es : ℕ → Event) (k t a l : ℕ) : Type 0 where
   pub at : ℕ
   pub from : begun_at (log_of T n q es) t k ≤ at

@@ -82,8 +82,8 @@ abbrev pub FrozenNodes : Table → Type 0
 FrozenNodes T = (n q last k i : ℕ) (es : ℕ → Event) → Run T n q es last → k ≤ last → (views T n q es k).published i
     → Freezes T n q last es k i
 
--- [Seen in the past]: the link word that is read at a moment k of a node that was in the chain at an earlier moment j, the node had
--- at some moment between while it was in the chain.
+-- [Seen in the past]: the link word that is read at a moment k of a node that was in the chain at an earlier moment j, the node
+-- had at some moment between while it was in the chain.
 abbrev pub SeenInThePast : Table → Type 0
 SeenInThePast T = (n q last j k b : ℕ) (es : ℕ → Event) → Run T n q es last → j ≤ k → k ≤ last
     → InChain (views T n q es j) b → Seen (views T n q es) j k b ((views T n q es k).link b)

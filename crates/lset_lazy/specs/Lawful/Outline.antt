@@ -155,14 +155,17 @@ module _ (n q t : ℕ) (vs : ℕ → View) (first now : ℕ) (ws : List ℕ) (us
       let s : ℕ = node_key ws l.curr in let k : ℕ = target l.call in
       let inn : l.curr < node_count n q = regs.curr in
       let small : s ≤ tail_word = small_key M l.curr x.curr_published in
-      let read : LockedStep true n q t ws used (Load (key_index l.curr)) ws used None = reads_word (key_index l.curr) (omega arith) in
+      let read : LockedStep true n q t ws used (Load (key_index l.curr)) ws used None =
+      reads_word (key_index l.curr) (omega arith) in
       let feeds : fed_by l s ≡ continued (at_key s l) = rw e refl in
       elim (below_or_not s k) [
         | inl lt ↦ passes (Load (key_index l.curr)) ws (record l { pc = 3; ckey = s }) (rw e refl)
-            (feeds ∙ ap continued (if_below s k lt (record l { pc = 3; ckey = s }) (record l { pc = 4; ckey = s }))) (rw e refl) read
+            (feeds ∙ ap continued (if_below s k lt (record l { pc = 3; ckey = s }) (record l { pc = 4; ckey = s })))
+            (rw e refl) read
             (keep_ckey n q t 3 s l.reply l small regs, refl, refl, λ y. omega arith) (at3 refl d x lt)
         | inr ge ↦ passes (Load (key_index l.curr)) ws (record l { pc = 4; ckey = s }) (rw e refl)
-            (feeds ∙ ap continued (if_not_below s k ge (record l { pc = 3; ckey = s }) (record l { pc = 4; ckey = s }))) (rw e refl) read
+            (feeds ∙ ap continued (if_not_below s k ge (record l { pc = 3; ckey = s }) (record l { pc = 4; ckey = s })))
+            (rw e refl) read
             (keep_ckey n q t 4 s l.reply l small regs, refl, refl, λ y. omega arith)
             (at4 refl d (record { spot = x; is = refl; above = ge }))
       ]
@@ -199,7 +202,8 @@ module _ (n q t : ℕ) (vs : ℕ → View) (first now : ℕ) (ws : List ℕ) (us
   go_6 : l.pc ≡ 6 → done ≡ false → Found V (target l.call) l.pred l.curr l.ckey → Both V t l.pred l.curr → Goal
   go_6 e d x b =
       let s : ℕ = node_link ws l.pred in let inn : l.pred < node_count n q = regs.pred in
-      let read : LockedStep true n q t ws used (Load (link_index l.pred)) ws used None = reads_word (link_index l.pred) (omega arith) in
+      let read : LockedStep true n q t ws used (Load (link_index l.pred)) ws used None =
+      reads_word (link_index l.pred) (omega arith) in
       let feeds : fed_by l s ≡ continued (at_pred s l) = rw e refl in
       elim (same_or_not s (2 * l.curr)) [
         | inl y ↦ passes (Load (link_index l.pred)) ws (record l { pc = 7 }) (rw e refl)
@@ -231,7 +235,8 @@ module _ (n q t : ℕ) (vs : ℕ → View) (first now : ℕ) (ws : List ℕ) (us
       let l0 : Local = record l { succ = s / 2 } in
       let next : s / 2 < node_count n q = next_inside M l.curr b.walk.next in
       let a = Load (link_index l.curr) in
-      let read : LockedStep true n q t ws used (Load (link_index l.curr)) ws used None = reads_word (link_index l.curr) (omega arith) in
+      let read : LockedStep true n q t ws used (Load (link_index l.curr)) ws used None =
+      reads_word (link_index l.curr) (omega arith) in
       let feeds : fed_by l s ≡ continued (at_curr s l) = rw e refl in
       let is : l.ckey ≡ node_key ws l.curr = sym x.is in
       let above : target l.call ≤ l.ckey = x.above in
@@ -318,7 +323,8 @@ module _ (n q t : ℕ) (vs : ℕ → View) (first now : ℕ) (ws : List ℕ) (us
           held = record {
             mine = lock_after_link ws l.curr x l.pred ∙ b.walk.held.mine;
             at = mark_keeps V (view n q (slice_set ws (link_index l.curr) x) used) M.ordered l.curr (key_of l.call).0
-                (at_mark true n q ws used M t tn l.curr x (key_of l.call).0 (in_chain b.walk) (found_no_tail M a regs.low) even is a.found)
+                (at_mark true n q ws used M t tn l.curr x (key_of l.call).0 (in_chain b.walk) (found_no_tail M a regs.low)
+                even is a.found)
                 l.pred b.walk.held.at;
             published = b.walk.held.published;
           };
@@ -389,7 +395,8 @@ module _ (n q t : ℕ) (vs : ℕ → View) (first now : ℕ) (ws : List ℕ) (us
   go (at14 e p r ry due) busy = go_14 e p r ry due
   go (at14_again e d p ry) busy = go_14_again e d p ry
   go (at_read a) busy =
-      reads_on lazy (node_locks true) At n q t vs first now ws used done l h th has_read_rows (λ l' b. at_read b) (λ l' b. at0 b) a
+      reads_on lazy (node_locks true) At n q t vs first now ws used done l h th has_read_rows (λ l' b. at_read b)
+      (λ l' b. at0 b) a
 
 -- what it says of a contains
 pub shows_reading : ShowsReading At

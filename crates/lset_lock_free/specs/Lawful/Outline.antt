@@ -258,19 +258,24 @@ module _ (n q t : ℕ) (vs : ℕ → View) (first now : ℕ) (ws : List ℕ) (us
         | inl y ↦
             (let tail : node_link ws 1 ≡ 2 = M.tail_link in
             let user : l.curr ≢ 1 = λ f. (let g : node_link ws l.curr ≡ node_link ws 1 = ap (node_link ws) f in omega arith) in
-            let c : WordStep true n q t ws used (Exchange (link_index l.pred) old new) (slice_set ws (link_index l.pred) new) used None =
+            let c : WordStep true n q t ws used (Exchange (link_index l.pred) old new) (slice_set ws (link_index l.pred) new)
+            used None =
             cuts (Exchange (link_index l.pred) old new) l.pred l.curr l.succ (writes_at l.pred old new y)
             (live l.pred s.pred_published (omega arith)) (below_tail l.pred s.below) user y m in
-            let g = goes_on true n q ws used M t tn (Exchange (link_index l.pred) old new) (slice_set ws (link_index l.pred) new) used None c in
-            let M' = memory_after true n q ws used M t tn (Exchange (link_index l.pred) old new) (slice_set ws (link_index l.pred) new) used None c in
-            let wrote : node_link (slice_set ws (link_index l.pred) new) l.pred ≡ new = link_wrote true n q ws used M l.pred new regs.pred in
+            let g = goes_on true n q ws used M t tn (Exchange (link_index l.pred) old new)
+            (slice_set ws (link_index l.pred) new) used None c in
+            let M' = memory_after true n q ws used M t tn (Exchange (link_index l.pred) old new)
+            (slice_set ws (link_index l.pred) new) used None c in
+            let wrote : node_link (slice_set ws (link_index l.pred) new) l.pred ≡ new =
+            link_wrote true n q ws used M l.pred new regs.pred in
             let at : Spot (view n q (slice_set ws (link_index l.pred) new) used) (target l.call) l.pred l.succ = record {
               pred_published = s.pred_published;
               below = (spot_kept g s).below;
               curr_published = p;
             } in
             let begun : first ≤ now = th.begun in
-            passes (Exchange (link_index l.pred) old new) (slice_set ws (link_index l.pred) new) (record l { pc = 2; curr = l.succ })
+            passes (Exchange (link_index l.pred) old new) (slice_set ws (link_index l.pred) new)
+            (record l { pc = 2; curr = l.succ })
             (rw e refl) (rw e (if_same (node_link ws l.pred) old y on (again l))) (rw e refl) c
             (keep_curr n q t 2 l.succ l regs.succ regs, refl, refl, λ x. omega arith)
             (at2_now refl d at (omega arith) (M'.marked l.pred s.pred_published (omega arith)) (omega arith)))
@@ -381,7 +386,8 @@ module _ (n q t : ℕ) (vs : ℕ → View) (first now : ℕ) (ws : List ℕ) (us
   go_5 : l.pc ≡ 5 → done ≡ false → Spot V (target l.call) l.pred l.curr → Adding V t q l.curr l.call → Goal
   go_5 e d s a =
       let own : ℕ = own_of q t used in let k : ℕ = target l.call in
-      let c : WordStep true n q t ws used (Store (key_index own) k) (slice_set ws (key_index own) k) used None = own_key k a.room in
+      let c : WordStep true n q t ws used (Store (key_index own) k) (slice_set ws (key_index own) k) used None =
+      own_key k a.room in
       let g = goes_on true n q ws used M t tn (Store (key_index own) k) (slice_set ws (key_index own) k) used None c in
       passes (Store (key_index own) k) (slice_set ws (key_index own) k) (record l { pc = 6 })
       (rw (e, own_is) refl) (rw e refl) (rw e refl) c (keep n q t 6 l.reply l regs, refl, refl, λ x. omega arith)
@@ -392,7 +398,8 @@ module _ (n q t : ℕ) (vs : ℕ → View) (first now : ℕ) (ws : List ℕ) (us
       → node_key ws (own_of q t used) ≡ target l.call → Goal
   go_6 e d s a key =
       let own : ℕ = own_of q t used in let x : ℕ = 2 * l.curr in
-      let c : WordStep true n q t ws used (Store (link_index own) x) (slice_set ws (link_index own) x) used None = own_link l.curr a.room in
+      let c : WordStep true n q t ws used (Store (link_index own) x) (slice_set ws (link_index own) x) used None =
+      own_link l.curr a.room in
       let g = goes_on true n q ws used M t tn (Store (link_index own) x) (slice_set ws (link_index own) x) used None c in
       passes (Store (link_index own) x) (slice_set ws (link_index own) x) (record l { pc = 7 })
       (rw (e, own_is) refl) (rw e refl) (rw e refl) c (keep n q t 7 l.reply l regs, refl, refl, λ y. omega arith)
@@ -439,18 +446,21 @@ module _ (n q t : ℕ) (vs : ℕ → View) (first now : ℕ) (ws : List ℕ) (us
       let on : Fed = continued (record l { pc = 10 }) in
       elim (same_or_not (node_link ws l.curr) old) [
         | inl y ↦
-            (let c : WordStep true n q t ws used (Exchange (link_index l.curr) old new) (slice_set ws (link_index l.curr) new) used
+            (let c : WordStep true n q t ws used (Exchange (link_index l.curr) old new) (slice_set ws (link_index l.curr) new)
+            used
             (Some (key_of l.call, false)) =
             sets_mark (Exchange (link_index l.curr) old new) l.curr new (key_of l.call) refl (writes_at l.curr old new y)
             (live l.curr s.curr_published (omega arith)) (found_inner a) (omega arith) (omega arith) a.found in
-            let g = goes_on true n q ws used M t tn (Exchange (link_index l.curr) old new) (slice_set ws (link_index l.curr) new) used
+            let g = goes_on true n q ws used M t tn (Exchange (link_index l.curr) old new)
+            (slice_set ws (link_index l.curr) new) used
             (Some (key_of l.call, false)) c in
             changes (Exchange (link_index l.curr) old new) (slice_set ws (link_index l.curr) new) used (record l { pc = 10 })
             (key_of l.call) false
             (rw e refl) (rw e (if_same (node_link ws l.curr) old y on (again l)))
             (rw e (if_same (node_link ws l.curr) old y (Some (key_of l.call, false)) None)) c (a.call, d)
             (keep n q t 10 l.reply l regs) refl th.counts (λ x. omega arith)
-            (at10 refl refl (spot_kept g s) (removing_kept g s.curr_published a) (link_wrote true n q ws used M l.curr new regs.curr)))
+            (at10 refl refl (spot_kept g s) (removing_kept g s.curr_published a)
+            (link_wrote true n q ws used M l.curr new regs.curr)))
         | inr y ↦ passes (Exchange (link_index l.curr) old new) ws (record l { pc = 1 })
             (rw e refl) (rw e (if_other (node_link ws l.curr) old y on (again l)))
             (rw e (if_other (node_link ws l.curr) old y (Some (key_of l.call, false)) None))
@@ -487,7 +497,8 @@ module _ (n q t : ℕ) (vs : ℕ → View) (first now : ℕ) (ws : List ℕ) (us
   go (at9 e d s a p) busy = go_9 e d s a p
   go (at10 e d s a m) busy = go_10 e d s a m
   go (at_read a) busy =
-      reads_on lock_free (no_locks true) At n q t vs first now ws used done l h th has_read_rows (λ l' b. at_read b) (λ l' b. at0 b) a
+      reads_on lock_free (no_locks true) At n q t vs first now ws used done l h th has_read_rows (λ l' b. at_read b)
+      (λ l' b. at0 b) a
 
 -- what it says of a contains
 pub shows_reading : ShowsReading At

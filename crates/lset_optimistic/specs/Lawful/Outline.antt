@@ -98,7 +98,8 @@ module _ (q t : ℕ) (vs : ℕ → View) (first now : ℕ) (v w : View) (done : 
   stays (at4 e d f) = at4 e d (reached_kept r.goes f)
   stays (at5 e d f p) = at5 e d (reached_kept r.goes f) (s.locks l.pred p)
   stays (at6 e d f c k start g x) =
-      at6 e d (reached_kept r.goes f) (s.locks l.curr c) (rw (s.keys l.node x.node_published) k) start g (second_walk_on vs present s x)
+      at6 e d (reached_kept r.goes f) (s.locks l.curr c) (rw (s.keys l.node x.node_published) k) start g
+      (second_walk_on vs present s x)
   stays (at7 e d f c start g x) = at7 e d (reached_kept r.goes f) (s.locks l.curr c) start g (second_walk_on vs present s x)
   stays (at8 e d f c h a) = at8 e d (reached_kept r.goes f) (s.locks l.curr c) (held_on s h) a
   stays (at9 e d b a) = at9 e d (neighbours_on b) (adding_on s b.0.walk.next a)
@@ -126,7 +127,8 @@ decision {n} {q} {t} {ws} {used} m l tn regs count f c x leads =
     subst (Behind (view n q ws used) t (target l.call) l.pred) leads
     (behind_from m x (m.marked l.pred x.published) f.found.spot.below regs.low) in (
       record { walk = walk; mine = c },
-      decides m targets l.ckey l walk (m.marked l.curr f.found.spot.curr_published) (sym f.found.is) f.found.above regs.low (m.room t tn)
+      decides m targets l.ckey l walk (m.marked l.curr f.found.spot.curr_published) (sym f.found.is) f.found.above regs.low
+          (m.room t tn)
           count regs.quota,
     )
 
