@@ -12,6 +12,7 @@ use Rattle.lset_session.specs.declared.TheConstants.{MOST_LINES}
 use Rattle.lset_session.specs.declared.sessions.Why.{Why}
 use Rattle.lset_session.specs.SessionText.{calls_in}
 use Rattle.lset_session.specs.Sessions.{IsSession}
+use Rattle.lset_words.specs.declared.TheConstants.{MOST_THREADS}
 use Rattle.lset_server.specs.declared.channel.TheConstants.{PARTS}
 use Rattle.lset_server.specs.declared.channel.Tally.{Tally}
 use Rattle.lset_server.specs.Tallies.{tally, weigh, one_at, times, numbers_below, ReceivedOnce}
@@ -146,7 +147,7 @@ pub as_many : {H T : Type 0} (seat_of : H → T) (hs : List H) (ss : List T) →
 as_many seat_of hs ss e = sym (length-map hs seat_of) ∙ ap (λ l. length l) e
 
 -- the pass of the sender has all parts again, and has sent the numbers of all connections
-pub whole_again : (n many : ℕ) (v u w x y : Tally) (received : List ℕ) (k : ℕ) → v ≡ tally PARTS [] [] → n ≤ 64 → u ≡ tally (v.parts - n) v.sent v.received
+pub whole_again : (n many : ℕ) (v u w x y : Tally) (received : List ℕ) (k : ℕ) → v ≡ tally PARTS [] [] → n ≤ MOST_THREADS → u ≡ tally (v.parts - n) v.sent v.received
     → w ≡ tally u.parts (u.sent ++ numbers_below many) u.received → x ≡ w → k ≡ n → y ≡ tally (x.parts + k) x.sent (x.received ++ received)
     → y ≡ tally PARTS (numbers_below many) received
 whole_again n many v u w x y received k a few b c d e f =

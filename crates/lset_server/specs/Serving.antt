@@ -13,8 +13,8 @@ followed [] more = []
 followed (r ∷ rs) [] = r ∷ rs
 followed (r ∷ rs) (cs ∷ more) = with_calls r cs ∷ followed rs more
 
--- ONE LEGAL ORDER of the calls of these records and of further ones, so many in all, has no other call and leaves the keys. Each record
--- is followed by calls of its own thread.
+-- ONE LEGAL ORDER of the calls of these records and of further ones, so many in all, has no other call and leaves the keys.
+-- Each record is followed by calls of its own thread.
 pub record IsServed (k : Shape) (records : List Record) (calls : ℕ) (keys : List ℕ) : Type 0 where
   pub added : List (List CallMade)
   pub each : length added ≡ length records

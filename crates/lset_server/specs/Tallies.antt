@@ -1,6 +1,6 @@
--- The rule of the channel through which connections are passed to the workers. Each pass to the channel has a tally of the numbers under
--- which connections were sent by it and received by it. Nothing is lost and nothing is doubled: as often as a number was sent, so often
--- it was received or stands in the queue.
+-- The rule of the channel through which connections are passed to the workers. Each pass to the channel has a tally of the
+-- numbers under which connections were sent by it and received by it. Nothing is lost and nothing is doubled: as often as a
+-- number was sent, so often it was received or stands in the queue.
 use Rattle.std.specs.Prelude.{◌≡◌, ◌==◌, ◌≤◌, ◌<◌, ℕ, ◌+◌, zero, suc, List, [], ◌∷◌, ◌++◌, if◌then◌else◌}
 use mathlib.Core.Option.{some}
 use lib.ListN.{get_elem?}
@@ -44,8 +44,8 @@ total f (v ∷ vs) = f v + total f vs
 abbrev pub IdleIsEmpty : List Tally → Type 0
 IdleIsEmpty views = (port : ℕ) (v : Tally) → get_elem? views port ≡ some v → v.parts ≡ 0 → (v.sent ≡ []) × (v.received ≡ [])
 
--- THE RULE: all parts are with the passes, and whatever the numbers weigh, those that were sent weigh as much as those that were received
--- and those in the queue together
+-- THE RULE: all parts are with the passes, and whatever the numbers weigh, those that were sent weigh as much as those that
+-- were received and those in the queue together
 abbrev pub IsBalanced : List ℕ → List Tally → Type 0
 IsBalanced queue views =
     (total (λ v. v.parts) views ≡ PARTS)
@@ -57,8 +57,8 @@ abbrev pub numbers_below : ℕ → List ℕ
 numbers_below zero = []
 numbers_below (suc n) = numbers_below n ++ n ∷ []
 
--- All passes to a channel are joined in one with this tally. The numbers below n were sent, in order, and each of them was received once,
--- and no other.
+-- All passes to a channel are joined in one with this tally. The numbers below n were sent, in order, and each of them was
+-- received once, and no other.
 pub record ReceivedOnce (n : ℕ) (v : Tally) : Type 0 where
   pub parts : v.parts ≡ PARTS
   pub sent : v.sent ≡ numbers_below n

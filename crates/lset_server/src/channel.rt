@@ -6,12 +6,14 @@ ghost use Rattle.lset_server.specs.Tallies.{tally, weigh, numbers, number_of, Is
 
 use crossbeam_channel::protocol::{Join, Lesson, Outcome, Protocol, Split};
 use crossbeam_channel::{Pass, RecvError, RuledReceiver, RuledSender, SendError};
+use lset_words::MOST_THREADS;
 use std::alloc::Global;
 use std::collections::LinkedList;
 use std::sync::Wait;
 
-/// The parts of the right to know the whole channel: one for each of at most 64 workers, and one for the sender.
-pub const PARTS: u64 = 65;
+/// The parts of the right to know the whole channel: one for each worker, of which there are no more than threads of a set,
+/// and one for the sender.
+pub const PARTS: u64 = MOST_THREADS as u64 + 1;
 
 /// A connection, under the number at which it was accepted, counted from 0.
 #[derive(Drop)]

@@ -1,6 +1,8 @@
 //! Serving the connections of a listener.
-ghost use Rattle.std.specs.Prelude.{◌≡◌, ◌≢◌, ◌<◌, ◌≤◌, ◌↔◌, ◌++◌, [], All, IfErr, IfOk, IfSome, IsOk, None, OnOk, Some, length, map, sum_by};
+ghost use Rattle.std.specs.Prelude.{◌≡◌, ◌≢◌, ◌<◌, ◌≤◌, ◌↔◌, ◌++◌, [], All, None, Some, length, map, sum_by};
+ghost use Rattle.std.specs.Prelude.{IfErr, IfOk, IfSome, IsOk, OnOk};
 ghost use Rattle.std.specs.Option.{option_map};
+ghost use Rattle.lset_words.specs.declared.TheConstants.{MOST_THREADS};
 ghost use Rattle.crossbeam_channel.specs.Claims.{view, IsSeatAt};
 ghost use Rattle.crossbeam_channel.specs.Ends.{sends_on, receives_on};
 ghost use Rattle.lset_live.specs.Seats.{held_in};
@@ -72,8 +74,8 @@ fn accept_all<R: Wait>(
 ) -> Result<(), ServeCause>
     requires { IsSeatAt (sends_on to.now) pass.old × (0 < (view pass.old).parts) }
     ensures cause { IfErr result (λ e. e ≢ ServeCause.Seats) }
-    ensures told { OnOk result (IsSeatAt (sends_on to.now) pass.new
-        × (view pass.new ≡ tally (view pass.old).parts ((view pass.old).sent ++ numbers_below sessions) (view pass.old).received)) }
+    ensures told { OnOk result (IsSeatAt (sends_on to.now) pass.new × (view pass.new
+        ≡ tally (view pass.old).parts ((view pass.old).sent ++ numbers_below sessions) (view pass.old).received)) }
 {
     for number in 0..sessions {
         let Ok((stream, _)) = listener.accept() else {
@@ -123,8 +125,9 @@ fn serve_in<'s, E, R: Threads + Wait + Sync, M: Running + Send + Sync>(
     sessions: u32,
 ) -> Result<(Token<TcpStream>, Gathered<M>), ServeCause>
     requires pass { IsSeatAt (sends_on to.now) pass × (receives_on from.now ≡ sends_on to.now) × (view pass ≡ tally PARTS [] []) }
-    requires seats { All (λ s. s.set ≡ set.now) seats.items × (length seats.items ≤ 64) }
-    ensures gathered { IfOk result (λ g. HasGathered (map (λ s. s.past) seats.items) (option_map (λ s. s.past) g.1.seat) (view g.0) sessions g.1.sessions g.1.calls) }
+    requires seats { All (λ s. s.set ≡ set.now) seats.items × (length seats.items ≤ MOST_THREADS) }
+    ensures gathered { IfOk result (λ g. HasGathered (map (λ s. s.past) seats.items) (option_map (λ s. s.past) g.1.seat)
+        (view g.0) sessions g.1.sessions g.1.calls) }
     ensures held { IfOk result (λ g. held_in g.1.seat ≡ sum_by (λ s. s.held) seats.items) }
     ensures seat { IfOk result (λ g. IfSome g.1.seat (λ s. s.set ≡ set.now)) }
     ensures cause { IfErr result (λ e. e ≢ ServeCause.Seats) }
@@ -150,8 +153,9 @@ fn serve_all<R: Threads + Wait + Sync, M: Running + Send + Sync>(
     seats: Vec<Seat<M>>,
     sessions: u32,
 ) -> Result<(Token<TcpStream>, Gathered<M>), ServeCause>
-    requires seats { All (λ s. s.set ≡ set.now) seats.items × (0 < length seats.items) × (length seats.items ≤ 64) }
-    ensures gathered { IfOk result (λ g. HasGathered (map (λ s. s.past) seats.items) (option_map (λ s. s.past) g.1.seat) (view g.0) sessions g.1.sessions g.1.calls) }
+    requires seats { All (λ s. s.set ≡ set.now) seats.items × (0 < length seats.items) × (length seats.items ≤ MOST_THREADS) }
+    ensures gathered { IfOk result (λ g. HasGathered (map (λ s. s.past) seats.items) (option_map (λ s. s.past) g.1.seat)
+        (view g.0) sessions g.1.sessions g.1.calls) }
     ensures held { IfOk result (λ g. held_in g.1.seat ≡ sum_by (λ s. s.held) seats.items) }
     ensures seat { IfOk result (λ g. IfSome g.1.seat (λ s. s.set ≡ set.now)) }
     ensures cause { IfErr result (λ e. e ≢ ServeCause.Seats) }
@@ -168,7 +172,7 @@ fn serve_all<R: Threads + Wait + Sync, M: Running + Send + Sync>(
         rt,
         move |scope| -> Result<(Token<TcpStream>, Gathered<M>), ServeCause>
             requires pass { IsSeatAt (sends_on to) pass × (receives_on from.now ≡ sends_on to) × (view pass ≡ tally PARTS [] []) }
-            requires seats { All (λ s. s.set ≡ set.now) seats.items × (length seats.items ≤ 64) }
+            requires seats { All (λ s. s.set ≡ set.now) seats.items × (length seats.items ≤ MOST_THREADS) }
         {
             serve_in(
                 scope, rt, alloc, listener, &to, from, pass, set, seats, sessions,
@@ -202,7 +206,8 @@ pub fn serve<R: Threads + Wait + Sync, M: Running + Send + Sync>(
     ensures served { IfOk result (λ s. IsServed set.shape (map (λ t. t.past) seats.items) s.calls s.keys.items) }
     ensures all { IsOk result → sum_by (λ s. s.held) seats.items ≡ set.shape.threads }
     ensures refused { IfErr result (λ f. f.cause ≡ ServeCause.Seats ↔ (sum_by (λ s. s.held) seats.items ≢ set.shape.threads)) }
-    ensures back { IfErr result (λ f. (f.cause ≡ ServeCause.Seats → f.back ≡ Some (set, seats)) × (f.cause ≢ ServeCause.Seats → f.back ≡ None)) }
+    ensures back { IfErr result (λ f. (f.cause ≡ ServeCause.Seats → f.back ≡ Some (set, seats))
+        × (f.cause ≢ ServeCause.Seats → f.back ≡ None)) }
 {
     if !set.is_held_by(&seats) {
         return Err(ServeFault {

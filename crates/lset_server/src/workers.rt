@@ -1,6 +1,7 @@
 //! The workers of a server, one for each seat.
 ghost use Rattle.std.specs.Prelude.{◌≡◌, ◌≢◌, ◌<◌, ◌≤◌, ◌-◌, ◌*◌, [], All, IfErr, IfOk, IfSome, OnOk, length, map, sum_by};
 ghost use Rattle.std.specs.Option.{option_map};
+ghost use Rattle.lset_words.specs.declared.TheConstants.{MOST_THREADS};
 ghost use Rattle.crossbeam_channel.specs.Claims.{view, IsSeatAt};
 ghost use Rattle.crossbeam_channel.specs.Ends.{sends_on, receives_on};
 ghost use Rattle.lset_live.specs.Seats.{held_in};
@@ -102,7 +103,8 @@ fn start<'s, E, R: Wait + Sync, M: Running + Send + Sync>(
 ) -> Option<Worker<M>>
     requires pass { IsSeatAt (receives_on from.now) pass × (view pass ≡ tally 1 [] []) }
     requires seat { seat.set ≡ set.now }
-    ensures owed { IfSome result (λ h. (receives_on h.promise.from.value ≡ receives_on from.now) × (h.promise.set.value ≡ set.now) × (h.promise.most ≡ most)) }
+    ensures owed { IfSome result (λ h. (receives_on h.promise.from.value ≡ receives_on from.now)
+        × (h.promise.set.value ≡ set.now) × (h.promise.most ≡ most)) }
     ensures seat { IfSome result (λ h. h.promise.seat.value ≡ seat) }
 {
     let promise = Owed {
@@ -129,10 +131,12 @@ pub fn start_all<'s, E, R: Wait + Sync, M: Running + Send + Sync>(
     seats: Vec<Seat<M>>,
     most: u32,
 ) -> Result<Vec<Worker<M>>, ServeCause>
-    requires pass { IsSeatAt (sends_on to.now) pass.old × (receives_on from.now ≡ sends_on to.now) × (length seats.items < (view pass.old).parts) }
+    requires pass { IsSeatAt (sends_on to.now) pass.old × (receives_on from.now ≡ sends_on to.now)
+        × (length seats.items < (view pass.old).parts) }
     requires seats { All (λ s. s.set ≡ set.now) seats.items }
     ensures seats { IfOk result (λ v. map (λ h. h.promise.seat.value) v.items ≡ seats.items) }
-    ensures owed { IfOk result (λ v. All (λ h. (receives_on h.promise.from.value ≡ sends_on to.now) × (h.promise.set.value ≡ set.now) × (h.promise.most ≡ most)) v.items) }
+    ensures owed { IfOk result (λ v. All (λ h. (receives_on h.promise.from.value ≡ sends_on to.now)
+        × (h.promise.set.value ≡ set.now) × (h.promise.most ≡ most)) v.items) }
     ensures cause { IfErr result (λ e. e ≢ cause.Seats) }
     ensures pass { OnOk result (IsSeatAt (sends_on to.now) pass.new
         × (view pass.new ≡ tally ((view pass.old).parts - length seats.items) (view pass.old).sent (view pass.old).received)) }
@@ -170,8 +174,9 @@ pub fn join_all<R: Threads, M: Running>(
     most: u32,
 ) -> Gathered<M>
     requires pass { IsSeatAt (sends_on to.now) pass.old × (0 < (view pass.old).parts) }
-    requires owed { All (λ h. (receives_on h.promise.from.value ≡ sends_on to.now) × (h.promise.set.value ≡ set.now) × (h.promise.most ≡ most)) workers.items }
-    requires few { length workers.items ≤ 64 }
+    requires owed { All (λ h. (receives_on h.promise.from.value ≡ sends_on to.now)
+        × (h.promise.set.value ≡ set.now) × (h.promise.most ≡ most)) workers.items }
+    requires few { length workers.items ≤ MOST_THREADS }
     ensures pass { IsSeatAt (sends_on to.now) pass.new }
     ensures joined { HaveWorked (map (λ h. h.promise.seat.value.past) workers.items) (option_map (λ s. s.past) result.seat)
         (view pass.old) (view pass.new) (length workers.items) result.sessions result.calls }
