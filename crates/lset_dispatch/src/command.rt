@@ -5,8 +5,8 @@ ghost use Rattle.lset_tools.specs.Tools.{Ends};
 ghost use Rattle.lset_dispatch.specs.Dispatch.{CommandEnds, Does, ShowsBy};
 
 use lset_command::{Command, Options, Words};
+use lset_drawing::Window;
 use lset_examples::tool_example;
-use lset_picture::Window;
 use lset_run::tool_run;
 use lset_serve::tool_serve;
 use lset_show::tool_show;

@@ -1,13 +1,3 @@
-pub mod Pictures
-pub mod Standings
-pub mod Moments
-pub mod Sets
 pub mod Cells
-pub mod Columns
-pub mod Headings
 pub mod Rows
-pub mod Orders
-pub mod Refusals
-pub mod Drawings
 pub mod PictureTexts
-pub mod Svg

@@ -1,22 +1,14 @@
 -- The rows of a text picture.
-use Rattle.std.specs.Prelude.{ℕ, ◌+◌, ◌==◌, ◌&&◌, nat_lt, not, Bool, true, false, if◌then◌else◌, List, [], ◌∷◌, ◌++◌, map, codes, zero, suc}
-use Rattle.std.specs.Prelude.{Option, Some, None, String, string_bytes}
-use Rattle.std.specs.declared.alloc.Global.{Global}
-use Rattle.std.specs.List.{list_any}
-use Rattle.std.specs.Fmt.{decimal}
-use Rattle.lset_words.specs.declared.Reply.{Reply}
+use Rattle.std.specs.Prelude.{ℕ, ◌+◌, ◌==◌, ◌&&◌, nat_lt, not, Bool, true, false, if◌then◌else◌, List, [], ◌∷◌, ◌++◌, codes, zero, suc}
 use Rattle.lset_words.specs.declared.history.CallRecord.{CallRecord}
-use Rattle.lset_picture.specs.Cells.{ColumnValue, moment_cells, set_cells, lane_cells, row_line}
-
--- the bytes of some texts
-abbrev pub texts : List (String Global) → List (List ℕ)
-texts ts = map string_bytes ts
+use Rattle.lset_drawing.specs.Pictures.{PictureValue}
+use Rattle.lset_drawing.specs.Moments.{ended_before}
+use Rattle.lset_drawing.specs.Columns.{ColumnValue}
+use Rattle.lset_drawing.specs.Drawings.{DrawingValue}
+use Rattle.lset_drawing.specs.Lines.{thread_label}
+use Rattle.lset_picture.specs.Cells.{moment_cells, set_cells, lane_cells, row_line}
 
 -- ---- whether a bar of a thread is drawn already before a moment
-
-abbrev pub ended_before : ℕ → Option (ℕ × Reply) → Bool
-ended_before m None = false
-ended_before m (Some end) = nat_lt end.0 m
 
 abbrev pub spans : ℕ → ℕ → CallRecord → Bool
 spans thread m x = x.thread == thread && nat_lt x.begun m && not (ended_before m x.ended)
@@ -30,11 +22,9 @@ is_drawn_before thread m (x ∷ xs) = if spans thread m x then true else is_draw
 abbrev pub moment_line : List ColumnValue → List ℕ
 moment_line columns = row_line (codes "moment") (moment_cells columns)
 
-abbrev pub thread_label : ℕ → List ℕ
-thread_label thread = codes "thread " ++ decimal thread
-
 abbrev pub lane_line : List CallRecord → List ColumnValue → ℕ → ℕ → List ℕ
-lane_line calls columns from thread = row_line (thread_label thread) (lane_cells thread true (is_drawn_before thread from calls) columns)
+lane_line calls columns from thread =
+    row_line (thread_label thread) (lane_cells thread true (is_drawn_before thread from calls) columns)
 
 -- the rows of so many threads, from a thread on
 abbrev pub lane_lines : List CallRecord → List ColumnValue → ℕ → ℕ → ℕ → List (List ℕ)
@@ -45,9 +35,8 @@ lane_lines calls columns from (suc left) thread =
 abbrev pub set_line : List ColumnValue → List ℕ
 set_line columns = row_line (codes "set") (set_cells columns)
 
-abbrev pub set_lines : List ColumnValue → Bool → List (List ℕ)
-set_lines columns known = if known then set_line columns ∷ [] else []
+abbrev pub set_lines : DrawingValue → List (List ℕ)
+set_lines d = if d.known then set_line d.columns ∷ [] else []
 
-abbrev pub row_lines : List CallRecord → List ColumnValue → ℕ → ℕ → Bool → List (List ℕ)
-row_lines calls columns from threads known =
-    moment_line columns ∷ (lane_lines calls columns from threads 0 ++ set_lines columns known)
+abbrev pub row_lines : PictureValue → DrawingValue → List (List ℕ)
+row_lines p d = moment_line d.columns ∷ (lane_lines p.history.calls d.columns d.from p.history.threads 0 ++ set_lines d)

@@ -1,84 +1,30 @@
-ghost use Rattle.std.specs.Prelude.{◌≡◌, ◌++◌, ◌<◌, map, true, IfOk, OnOk, string_bytes};
-ghost use Rattle.lset_picture.specs.Cells.{bar_byte, with_start, signs_text, filled, lane_cells, moment_cells, set_cells};
-ghost use Rattle.lset_picture.specs.Columns.{column_view};
-ghost use Rattle.lset_picture.specs.Rows.{
-  texts,
-  spans,
-  is_drawn_before,
-  thread_label,
-  moment_line,
-  lane_line,
-  lane_lines,
-  set_line,
-  row_lines,
-};
+ghost use Rattle.std.specs.Prelude.{◌≡◌, ◌++◌, map, IfOk, OnOk, string_bytes};
+ghost use Rattle.lset_drawing.specs.Pictures.{view};
+ghost use Rattle.lset_drawing.specs.Columns.{column_view};
+ghost use Rattle.lset_drawing.specs.Drawings.{drawing_view};
+ghost use Rattle.lset_drawing.specs.Lines.{texts};
+ghost use Rattle.lset_picture.specs.Cells.{row_line, moment_cells, set_cells};
+ghost use Rattle.lset_picture.specs.Rows.{spans, is_drawn_before, moment_line, lane_line, lane_lines, set_line, row_lines};
 
-use crate::cells::{goes_on, put_filled, row_line, signs_text};
-use crate::columns::Column;
+use crate::bars::lane_cells;
+use lset_drawing::{Column, Drawing, Picture, has_ended_before, put_filled, thread_label};
 use lset_words::CallRecord;
 use std::alloc::{AllocError, Global};
 
-fn bar_fill(drawn: bool) -> char
-    ensures fill { result ≡ bar_byte drawn }
-    ensures ascii { result < 128 }
-{
-    if drawn { '-' } else { ' ' }
-}
-
-/// The signs of a thread at a column, or the start of a bar that began before it.
-fn piece(alloc: Global, column: &Column, thread: u32, cut: bool) -> Result<String, AllocError>
-    ensures { IfOk result (λ s. string_bytes s ≡ with_start cut (signs_text thread column.now.marks.items)) }
-{
-    let signs = signs_text(alloc, &column.marks, thread)?;
-    if signs.is_empty() && cut {
-        return String::from_str(alloc, "<");
-    }
-    Ok(signs)
-}
-
-/// The cell of a thread at a column.
-fn put_lane_cell(
-    out: &mut String,
-    piece: &str,
-    column: &Column,
-    drawn_after: bool,
-) -> Result<(), AllocError>
-    ensures { OnOk result (string_bytes out.new ≡ string_bytes out.old ++ filled (bar_byte drawn_after) column.now.width piece.now) }
-{
-    put_filled(out, piece, column.width as usize, bar_fill(drawn_after))
-}
-
-/// The cells of a thread, whose bar is drawn before the first column (`drawn`) or not.
-fn lane_cells(
-    alloc: Global,
-    columns: &[Column],
-    thread: u32,
-    mut drawn: bool,
-) -> Result<String, AllocError>
-    ensures { IfOk result (λ s. string_bytes s ≡ lane_cells thread true drawn (map column_view columns.now)) }
+/// A row: its label, and its cells, without white space at the end.
+fn row_line(alloc: Global, label: &str, cells: &str) -> Result<String, AllocError>
+    ensures { IfOk result (λ s. string_bytes s ≡ row_line label.now cells.now) }
 {
     let mut out = String::new(alloc);
-    let mut first = true;
-    for column in columns {
-        let piece = piece(alloc, column, thread, first && drawn)?;
-        drawn = goes_on(&column.marks, thread, drawn);
-        put_lane_cell(&mut out, &piece, column, drawn)?;
-        first = false;
-    }
-    if drawn {
-        out.push_str(">")?;
-    }
-    Ok(out)
+    put_filled(&mut out, label, 10, ' ')?;
+    out.push_str(cells)?;
+    String::from_str(alloc, out.trim_end())
 }
 
 fn spans(made: &CallRecord, thread: u32, moment: u32) -> bool
     ensures { result ≡ spans thread moment made.now }
 {
-    let ended_before = match made.ended {
-        None => false,
-        Some((end, _)) => end < moment,
-    };
-    made.thread == thread && made.begun < moment && !ended_before
+    made.thread == thread && made.begun < moment && !has_ended_before(made, moment)
 }
 
 fn is_drawn_before(calls: &[CallRecord], thread: u32, moment: u32) -> bool
@@ -90,12 +36,6 @@ fn is_drawn_before(calls: &[CallRecord], thread: u32, moment: u32) -> bool
         }
     }
     false
-}
-
-pub fn thread_label(alloc: Global, thread: u32) -> Result<String, AllocError>
-    ensures { IfOk result (λ s. string_bytes s ≡ thread_label thread) }
-{
-    format!(in alloc; "thread {thread}")
 }
 
 fn lane_line(
@@ -156,19 +96,18 @@ fn add_lanes(
 pub fn add_rows(
     alloc: Global,
     lines: &mut Vec<String>,
-    calls: &[CallRecord],
-    columns: &[Column],
-    from: u32,
-    threads: u32,
-    known: bool,
+    picture: &Picture,
+    drawing: &Drawing,
 ) -> Result<(), AllocError>
     ensures { OnOk result
-        (texts lines.new.items ≡ texts lines.old.items ++ row_lines calls.now (map column_view columns.now) from threads known) }
+        (texts lines.new.items ≡ texts lines.old.items ++ row_lines (view picture.now) (drawing_view drawing.now)) }
 {
-    lines.push(moment_line(alloc, columns)?)?;
-    add_lanes(alloc, lines, calls, columns, from, threads)?;
-    if known {
-        lines.push(set_line(alloc, columns)?)?;
+    let calls = picture.history.calls();
+    let threads = picture.history.threads();
+    lines.push(moment_line(alloc, &drawing.columns)?)?;
+    add_lanes(alloc, lines, calls, &drawing.columns, drawing.from, threads)?;
+    if drawing.known {
+        lines.push(set_line(alloc, &drawing.columns)?)?;
     }
     Ok(())
 }

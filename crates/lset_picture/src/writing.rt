@@ -1,25 +1,15 @@
-ghost use Rattle.std.specs.Prelude.{◌≡◌, ◌++◌, ◌∷◌, [], IfOk, OnOk, string_bytes};
-ghost use Rattle.lset_text.specs.Parts.{text_of};
-ghost use Rattle.lset_picture.specs.Pictures.{view};
-ghost use Rattle.lset_picture.specs.Rows.{texts};
-ghost use Rattle.lset_picture.specs.Drawings.{drawing_view};
-ghost use Rattle.lset_picture.specs.PictureTexts.{legend, end_lines, cut_lines, drawn_lines, body_lines, picture_lines, picture_text};
+ghost use Rattle.std.specs.Prelude.{◌≡◌, ◌++◌, IfOk, OnOk};
+ghost use Rattle.lset_drawing.specs.Pictures.{view};
+ghost use Rattle.lset_drawing.specs.Drawings.{drawing_view};
+ghost use Rattle.lset_drawing.specs.Lines.{texts};
+ghost use Rattle.lset_picture.specs.PictureTexts.{legend, drawn_rows, picture_lines, picture_text};
 
-use crate::drawings::{Drawing, drawing_in};
-use crate::orders::add_order;
-use crate::refusals::refusal_line;
 use crate::rows::add_rows;
-use crate::sets::keys_line;
-use crate::texts::{cut_line, heading_line};
-use crate::{Picture, Window};
+use lset_drawing::{
+    Drawing, Picture, Window, add_line, add_lines_below, cut_line, drawing_in, heading_line,
+    text_of_lines,
+};
 use std::alloc::{AllocError, Global};
-
-pub fn add_line(alloc: Global, lines: &mut Vec<String>, line: &str) -> Result<(), AllocError>
-    ensures { OnOk result (texts lines.new.items ≡ texts lines.old.items ++ line.now ∷ []) }
-{
-    lines.push(String::from_str(alloc, line)?)?;
-    Ok(())
-}
 
 fn legend(is_cut: bool) -> &'static str
     ensures { result.now ≡ legend is_cut }
@@ -31,96 +21,24 @@ fn legend(is_cut: bool) -> &'static str
     }
 }
 
-/// Adds why the order is refused, or else `legend`, where there are points.
-pub fn add_end(
-    alloc: Global,
-    lines: &mut Vec<String>,
-    picture: &Picture,
-    known: bool,
-    legend: &str,
-) -> Result<(), AllocError>
-    ensures { OnOk result (texts lines.new.items ≡ texts lines.old.items ++ end_lines (view picture.now) known legend.now) }
-{
-    if let Some(refusal) = &picture.refusal {
-        add_line(alloc, lines, "")?;
-        lines.push(refusal_line(alloc, refusal, &picture.keys)?)?;
-    } else if known && !picture.order.is_empty() {
-        add_line(alloc, lines, "")?;
-        add_line(alloc, lines, legend)?;
-    }
-    Ok(())
-}
-
-/// Adds which moments are drawn, where that are not all.
-pub fn add_cut(
+/// Adds which moments are drawn, where that are not all, and the rows; of a history without calls nothing.
+fn add_drawn_rows(
     alloc: Global,
     lines: &mut Vec<String>,
     picture: &Picture,
     drawing: &Drawing,
 ) -> Result<(), AllocError>
     ensures { OnOk result
-        (texts lines.new.items ≡ texts lines.old.items ++ cut_lines (view picture.now) (drawing_view drawing.now)) }
-{
-    if drawing.before || drawing.after {
-        lines.push(cut_line(
-            alloc,
-            picture.events,
-            drawing.from,
-            drawing.last,
-            drawing.before,
-            drawing.after,
-        )?)?;
-    }
-    Ok(())
-}
-
-fn add_drawn(
-    alloc: Global,
-    lines: &mut Vec<String>,
-    picture: &Picture,
-    drawing: &Drawing,
-) -> Result<(), AllocError>
-    ensures { OnOk result
-        (texts lines.new.items ≡ texts lines.old.items ++ drawn_lines (view picture.now) (drawing_view drawing.now)) }
-{
-    let calls = picture.history.calls();
-    let threads = picture.history.threads();
-    add_cut(alloc, lines, picture, drawing)?;
-    add_rows(
-        alloc,
-        lines,
-        calls,
-        &drawing.columns,
-        drawing.from,
-        threads,
-        drawing.known,
-    )?;
-    add_line(alloc, lines, "")?;
-    add_order(
-        alloc,
-        lines,
-        &drawing.standings,
-        drawing.from,
-        drawing.last,
-        &picture.keys,
-    )
-}
-
-fn add_body(
-    alloc: Global,
-    lines: &mut Vec<String>,
-    picture: &Picture,
-    drawing: &Drawing,
-) -> Result<(), AllocError>
-    ensures { OnOk result
-        (texts lines.new.items ≡ texts lines.old.items ++ body_lines (view picture.now) (drawing_view drawing.now)) }
+        (texts lines.new.items ≡ texts lines.old.items ++ drawn_rows (view picture.now) (drawing_view drawing.now)) }
 {
     if picture.history.calls().is_empty() {
-        add_line(alloc, lines, "no calls")?;
-        lines.push(keys_line(alloc, &picture.keys)?)?;
         return Ok(());
     }
-    add_drawn(alloc, lines, picture, drawing)
+    if drawing.is_cut() {
+        lines.push(cut_line(alloc, picture, drawing)?)?;
+    }
+    add_rows(alloc, lines, picture, drawing)?;
+    add_line(alloc, lines, "")
 }
 
 fn picture_lines(
@@ -133,28 +51,21 @@ fn picture_lines(
     let mut lines = Vec::new(alloc);
     lines.push(heading_line(alloc, picture)?)?;
     add_line(alloc, &mut lines, "")?;
-    add_body(alloc, &mut lines, picture, drawing)?;
-    let is_cut = drawing.before || drawing.after;
-    add_end(alloc, &mut lines, picture, drawing.known, legend(is_cut))?;
+    add_drawn_rows(alloc, &mut lines, picture, drawing)?;
+    add_lines_below(
+        alloc,
+        &mut lines,
+        picture,
+        drawing,
+        legend(drawing.is_cut()),
+    )?;
     Ok(lines)
 }
 
-/// The text of some lines, each ended by a newline.
-pub fn text_of_lines(alloc: Global, lines: &[String]) -> Result<Vec<u8>, AllocError>
-    ensures { IfOk result (λ v. v.items ≡ text_of (texts lines.now)) }
-{
-    let mut out = String::new(alloc);
-    for line in lines {
-        out.push_str(line)?;
-        out.push_str("\n")?;
-    }
-    Ok(out.into_bytes())
-}
-
-/// The picture as text: a row for each thread, with a bar for each call and its point, from the moment `window.from` to the moment
-/// `window.to`, of those only the first 64 at which something happens; the set; and the order. Moments count from 1. The only error
-/// is want of memory; what is asked for grows with the events, and not with the moments that are drawn. (The picture with bars and
-/// points is Herlihy and Wing's; its text is this project's own.)
+/// The picture as text: a row for each thread, with a bar for each call and its point, from the moment `window.from` to the
+/// moment `window.to`, of those only the first 64 at which something happens; the set; and the order. Moments count from 1. The
+/// only error is want of memory; what is asked for grows with the events, and not with the moments that are drawn. (The picture
+/// with bars and points is Herlihy and Wing's; its text is this project's own.)
 pub fn write_picture(
     alloc: Global,
     picture: &Picture,

@@ -1,2 +1,3 @@
 pub mod InBars
 pub mod RunPictures
+mod Troubles

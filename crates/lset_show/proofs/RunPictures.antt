@@ -8,8 +8,8 @@ use Rattle.lset_schedule.specs.Plan.{Plan, event_count}
 use Rattle.lset_replay.specs.Events.{events_of, only_events}
 use Rattle.lset_replay.specs.PlacedReports.{ArePointsOf}
 use Rattle.lset_replay.specs.Reports.{ReportValue, IsReplay, IsExplained}
-use Rattle.lset_picture.specs.declared.picture.Window.{Window}
-use Rattle.lset_picture.specs.Pictures.{PictureValue}
+use Rattle.lset_drawing.specs.declared.picture.Window.{Window}
+use Rattle.lset_drawing.specs.Pictures.{PictureValue}
 use Rattle.lset_tools.specs.Tools.{Made}
 use Rattle.lset_show.specs.Bars.{BarsAreApart}
 use Rattle.lset_show.specs.SchedulePictures.{IsPictureOfSchedule}

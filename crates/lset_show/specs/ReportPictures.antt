@@ -13,7 +13,7 @@ use Rattle.lset_history.specs.Faults.{Explains}
 use Rattle.lset_history.specs.Points.{first_points}
 use Rattle.lset_history.specs.Refusals.{IsRefusalOf}
 use Rattle.lset_replay.specs.Reports.{ReportValue}
-use Rattle.lset_picture.specs.Pictures.{PictureValue}
+use Rattle.lset_drawing.specs.Pictures.{PictureValue}
 use Rattle.lset_show.specs.Bars.{IsInBars}
 
 -- an add or a remove changes the set where its reply is True, and no other call does

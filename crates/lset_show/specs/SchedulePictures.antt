@@ -6,7 +6,7 @@ use Rattle.lset_schedule.specs.Plan.{Plan, event_count}
 use Rattle.lset_replay.specs.Events.{events_of, only_events}
 use Rattle.lset_replay.specs.PlacedReports.{ArePointsOf}
 use Rattle.lset_replay.specs.Reports.{IsReplay, IsExplained}
-use Rattle.lset_picture.specs.Pictures.{PictureValue}
+use Rattle.lset_drawing.specs.Pictures.{PictureValue}
 use Rattle.lset_show.specs.Bars.{IsInBars}
 use Rattle.lset_show.specs.ReportPictures.{report_in}
 

@@ -8,10 +8,10 @@ use Rattle.lset_replay.specs.Reports.{ReportValue}
 use Rattle.lset_replay.specs.ReportReading.{IsReport}
 use Rattle.lset_replay.specs.ReportReading as report
 use Rattle.lset_replay.specs.Texts.{report_text}
-use Rattle.lset_picture.specs.declared.picture.Window.{Window}
-use Rattle.lset_picture.specs.Pictures.{PictureValue}
+use Rattle.lset_drawing.specs.declared.picture.Window.{Window}
+use Rattle.lset_drawing.specs.Pictures.{PictureValue}
 use Rattle.lset_picture.specs.PictureTexts.{picture_text}
-use Rattle.lset_picture.specs.Svg.{svg_text}
+use Rattle.lset_svg.specs.Svg.{svg_text}
 use Rattle.lset_tools.specs.declared.trouble.Trouble.{Trouble}
 use Rattle.lset_tools.specs.Tools.{Made, IsTaken, IsInputTrouble}
 use Rattle.lset_tools.specs.Checking as checking

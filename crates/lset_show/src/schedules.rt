@@ -5,11 +5,11 @@ ghost use Rattle.lset_schedule.specs.Plan.{IsSchedule, event_count};
 ghost use Rattle.lset_schedule.specs.Plan as plan;
 ghost use Rattle.lset_replay.specs.Events.{events_of};
 ghost use Rattle.lset_replay.specs.Reports.{IsRefusal};
-ghost use Rattle.lset_picture.specs.Pictures.{view};
+ghost use Rattle.lset_drawing.specs.Pictures.{view};
 ghost use Rattle.lset_show.specs.SchedulePictures.{IsPictureOfSchedule};
 
 use crate::bars::bars_are_apart;
-use lset_picture::Picture;
+use lset_drawing::Picture;
 use lset_replay::{PlacedReport, ReplayFault, Report, replay_with_points};
 use lset_schedule::{Line, Schedule};
 use std::alloc::Global;

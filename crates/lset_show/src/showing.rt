@@ -1,7 +1,7 @@
-ghost use Rattle.std.specs.Prelude.{◌≡◌, ◌⊎◌, IfOk, IfErr, IfSome, IsTrue};
+ghost use Rattle.std.specs.Prelude.{◌≡◌, ◌≢◌, ◌⊎◌, IfOk, IfErr, IfSome, IsTrue};
 ghost use Rattle.lset_schedule.specs.ScheduleReading as schedules;
 ghost use Rattle.lset_replay.specs.ReportReading as reports;
-ghost use Rattle.lset_picture.specs.Pictures.{view};
+ghost use Rattle.lset_drawing.specs.Pictures.{view};
 ghost use Rattle.lset_tools.specs.Tools.{Ends, IsTaken};
 ghost use Rattle.lset_tools.specs.Tools as tools;
 ghost use Rattle.lset_tools.specs.Checking as checking;
@@ -10,10 +10,12 @@ ghost use Rattle.lset_tools.specs.declared.trouble.Trouble.TheVariants.{Memory};
 ghost use Rattle.lset_show.specs.Showing.{ShowsSchedule, ShowsReport, Shows, IsFirstFault, has_report_title, drawn, status_of};
 
 use crate::{picture_of_replay, picture_of_report};
-use lset_picture::{Picture, Window, write_picture, write_svg};
+use lset_drawing::{Picture, Window};
+use lset_picture::write_picture;
 use lset_replay::read_report;
 use lset_schedule::read_schedule;
-use lset_tools::{Answer, Trouble, deliver, input_of};
+use lset_svg::write_svg;
+use lset_tools::{Answer, LONGEST, Trouble, deliver, input_of};
 use std::alloc::{AllocError, Global};
 use std::io::{Read, Write};
 
@@ -84,16 +86,11 @@ fn status_of(picture: &Picture) -> u8
     }
 }
 
-/// The answer of `show` on an input of these bytes, at most `LONGEST`: the picture of the schedule or the report whose text
-/// they are, within the window, as text or as an SVG (`svg`); its status is 1 where the order of the report is refused,
-/// and else 0.
-///
-/// A text with the first line of a report that is none has the first fault of `read_report`; any other text that is no
-/// schedule has that of `read_schedule`, and a schedule that is not replayed that of `replay`. `Trouble::Memory`
-/// where memory was refused.
-pub fn shown(alloc: Global, bytes: &[u8], svg: bool, window: Window) -> Result<Answer, Trouble>
+/// The picture of the schedule or the report whose text the bytes are, as text or as an SVG.
+fn answer_of(alloc: Global, bytes: &[u8], svg: bool, window: Window) -> Result<Answer, Trouble>
     requires { IsTaken bytes.now }
-    ensures { Shows svg window bytes.now (tools.view result) }
+    ensures shows { Shows svg window bytes.now (tools.view result) }
+    ensures trouble { IfErr result (λ t. (t ≡ Memory) ⊎ IsFirstFault bytes.now t) }
 {
     let picture = picture_of(alloc, bytes)?;
     let text = text_of(alloc, &picture, svg, window)?;
@@ -101,6 +98,23 @@ pub fn shown(alloc: Global, bytes: &[u8], svg: bool, window: Window) -> Result<A
         text,
         status: status_of(&picture),
     })
+}
+
+/// The answer of `show` on an input of these bytes: the picture of the schedule or the report whose text they are, of the
+/// moments in `window`, as text or as an SVG (`svg`); its status is 1 where the order of the report is refused, and else 0.
+///
+/// The error is `TooLong` where there are more than `LONGEST` bytes. A text with the first line of a report that is none has
+/// the first fault of `read_report`; any other text that is no schedule has that of `read_schedule`, and a schedule that is
+/// not replayed that of `replay`. `Memory` where memory was refused.
+pub fn shown(alloc: Global, bytes: &[u8], svg: bool, window: Window) -> Result<Answer, Trouble>
+    ensures shows { Shows svg window bytes.now (tools.view result) }
+    // Bytes that are here can be read.
+    ensures read { IfErr result (λ t. t ≢ Trouble.CannotRead) }
+{
+    if bytes.len() > LONGEST {
+        return Err(Trouble::TooLong);
+    }
+    answer_of(alloc, bytes, svg, window)
 }
 
 fn drawn_of<R: Read>(

@@ -1,5 +1,5 @@
 use crate::made::{ALL, Stand, add, assert_text, contains, no_calls, order_of};
-use lset_picture::{Picture, Refusal};
+use lset_drawing::{Picture, Refusal};
 use lset_words::{Kind, Reply};
 use std::alloc::Global;
 use std::test::Fail;

@@ -1,5 +1,5 @@
 use crate::made::{ALL, read_in_anothers_step};
-use lset_picture::write_svg;
+use lset_svg::write_svg;
 use std::test::Fail;
 
 /// How often a piece stands in a text.

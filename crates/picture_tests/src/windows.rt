@@ -1,5 +1,6 @@
 use crate::made::{ALL, assert_text, contains, hand_over_hand, no_calls, picture_of};
-use lset_picture::{Window, write_picture};
+use lset_drawing::Window;
+use lset_picture::write_picture;
 use lset_words::{Kind, Reply};
 use std::test::Fail;
 

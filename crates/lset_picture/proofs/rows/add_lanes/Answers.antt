@@ -1,6 +1,7 @@
 use Rattle.std.proofs.Common.{map}
-use Rattle.lset_picture.specs.Columns.{column_view}
-use Rattle.lset_picture.proofs.Steps.{one_more, text_pushed, lane_lines_step}
+use Rattle.lset_drawing.specs.Columns.{column_view}
+use Rattle.lset_drawing.proofs.MoreLines.{one_more, text_pushed}
+use Rattle.lset_picture.proofs.Lanes.{lane_lines_step}
 use Rattle.lset_picture.proofs.rows.add_lanes.Goals as goal
 
 pub loop-thread-preserved : goal.loop-thread-preserved

@@ -1,6 +1,7 @@
 use Rattle.std.proofs.Common.{◌≡◌, ◌++◌, ◌-◌, map}
-use Rattle.lset_picture.specs.Columns.{column_view}
-use Rattle.lset_picture.specs.Rows.{texts, lane_lines}
+use Rattle.lset_drawing.specs.Columns.{column_view}
+use Rattle.lset_drawing.specs.Lines.{texts}
+use Rattle.lset_picture.specs.Rows.{lane_lines}
 use Rattle.lset_picture.proofs.rows.add_lanes.Given as goal
 
 -- the rows so far, and then those of the threads that are left

@@ -1,7 +1,7 @@
 use Rattle.std.proofs.Common.{◌≡◌, ◌++◌, drop, map}
 use Rattle.std.specs.Prelude.{string_bytes}
 use Rattle.lset_picture.specs.Cells.{moment_cells}
-use Rattle.lset_picture.specs.Columns.{column_view}
+use Rattle.lset_drawing.specs.Columns.{column_view}
 use Rattle.lset_picture.proofs.rows.moment_line.Given as goal
 
 abbrev pub invariant-loop-column : goal.invariant-loop-column

@@ -2,9 +2,9 @@ use Rattle.std.proofs.Common.{List, ap, ◌∙◌}
 use Rattle.std.specs.Prelude.{String}
 use Rattle.std.specs.declared.alloc.Global.{Global}
 use Rattle.lset_text.specs.Parts.{text_of}
-use Rattle.lset_picture.specs.Pictures.{view}
-use Rattle.lset_picture.specs.Rows.{texts}
-use Rattle.lset_picture.specs.Drawings.{DrawingValue}
+use Rattle.lset_drawing.specs.Pictures.{view}
+use Rattle.lset_drawing.specs.Lines.{texts}
+use Rattle.lset_drawing.specs.Drawings.{DrawingValue}
 use Rattle.lset_picture.specs.PictureTexts.{picture_lines}
 use Rattle.lset_picture.proofs.writing.write_picture.Goals as goal
 

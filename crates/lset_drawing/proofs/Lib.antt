@@ -1,0 +1,3 @@
+pub mod MoreLines
+pub mod MoreMoments
+mod FirstMoments

@@ -1,6 +1,0 @@
-use Rattle.std.proofs.Common.{◌≡◌, drop, []}
-use Rattle.lset_picture.specs.Sets.{set_upto}
-use Rattle.lset_picture.proofs.sets.set_at.Given as goal
-
-abbrev pub invariant-loop-standing : goal.invariant-loop-standing
-invariant-loop-standing l = set_upto l.moment l.keys.keys (drop l.standing-index l.standings) ≡ set_upto l.moment [] l.standings

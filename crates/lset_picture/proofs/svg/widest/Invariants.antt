@@ -1,7 +1,0 @@
-use Rattle.std.proofs.Common.{◌≡◌, drop}
-use Rattle.lset_picture.specs.Rows.{texts}
-use Rattle.lset_picture.specs.Svg.{widest}
-use Rattle.lset_picture.proofs.svg.widest.Given as goal
-
-abbrev pub invariant-loop-line : goal.invariant-loop-line
-invariant-loop-line l = widest l.most (texts (drop l.line-index l.lines)) ≡ widest l.initial.most (texts l.lines)

@@ -1,0 +1,5 @@
+pub mod Sheets
+pub mod Bars
+pub mod Dots
+pub mod Rows
+pub mod Svg
