@@ -60,6 +60,7 @@ read-in-anothers-step  lazy        contains stands in the step of the thread tha
 two-removers           lock-free   two removes of one key: one marks, the other walks again and answers false
 snip                   lock-free   an add takes out the node that a remove has marked
 tries-again            lock-free   an exchange fails, and the add walks again with the same slot
+left-in-chain          lock-free   a remove has ended, and its node is still in the chain: contains answers false
 ";
 
 #[test]
@@ -89,7 +90,7 @@ fn each_name_has_a_schedule_whose_report_is_right(rt: HostRuntime) -> Result<(),
 fn each_broken_report_is_refused(rt: HostRuntime) -> Result<(), Fail> {
     let rows = [
         ("stale-pred", "refused WrongSet\n"),
-        ("marked-in-chain", "refused WrongReply 2\n"),
+        ("left-in-chain", "refused WrongReply 3\n"),
     ];
     for (name, verdict) in rows {
         let run = example_run(rt.alloc(), true, Some(name));
@@ -124,7 +125,7 @@ fn a_name_that_stands_for_nothing_is_bad(rt: HostRuntime) -> Result<(), Fail> {
             assert_eq!(rt; run.told()?, bad, "{name}");
         }
     }
-    for name in ["snip", "full", "marked-pred"] {
+    for name in ["snip", "full", "marked-in-chain"] {
         let run = example_run(rt.alloc(), true, Some(name));
         assert_eq!(rt; run.told()?, bad, "{name}");
     }

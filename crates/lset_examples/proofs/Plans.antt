@@ -1,31 +1,20 @@
--- The schedules and reports that the texts of the examples are texts of.
-use Rattle.std.proofs.Common.{◌≡◌, ℕ, List, [], ◌∷◌, Bor, Option, Some, None, Ok, IfSome, unwrap_or, refl, sym, ap, subst, rules, lit<, lit≤}
+-- The schedules that the texts of the examples are texts of, and the list of all.
+use Rattle.std.proofs.Common.{◌≡◌, ℕ, List, [], ◌∷◌, refl, rules, lit<, lit≤}
 use Rattle.std.specs.List.{Contains}
 use Rattle.std.specs.Fmt.{digits}
-use Rattle.std.specs.Option.{option_copied}
 use Rattle.lset_words.specs.Words.{IsWithin}
 use Rattle.lset_words.specs.declared.Kind.{Kind}
 use Rattle.lset_words.specs.declared.Kind.TheVariants.{Coarse, Fine, Optimistic, Lazy, LockFree}
-use Rattle.lset_words.specs.declared.Call.{Call}
 use Rattle.lset_words.specs.declared.Call.TheVariants as call
-use Rattle.lset_words.specs.declared.Reply.TheVariants.{True}
-use Rattle.lset_words.specs.declared.history.CallRecord.{CallRecord}
-use Rattle.lset_words.specs.declared.history.Placed.{Placed}
-use Rattle.lset_text.specs.Headers.{header_of, told_by_line}
-use Rattle.lset_text.specs.Numbers.{number_in}
-use Rattle.lset_text.specs.Spellings.{call_word_of, reply_of}
-use Rattle.lset_text.specs.Spellings.{kind_of as kind_of_word}
-use Rattle.lset_replay.specs.Reports.{ReportValue}
-use Rattle.lset_replay.specs.ReportReading.{reading, report_of, report_from, begun_of, ended_of, place_of, key_of_line, ReportsReadBack}
 use Rattle.lset_schedule.specs.declared.value.Line.{Line}
 use Rattle.lset_schedule.specs.declared.value.Line.TheVariants.{Begin, Go}
 use Rattle.lset_schedule.specs.Plan.{Plan, IsSchedule, schedule_text}
 use Rattle.lset_examples.specs.declared.example.Example.{Example}
-use Rattle.lset_examples.specs.declared.example.Example.TheVariants.{FailedTries, Full, HandOverHand, SameGap, StalePred, MarkedInChain}
-use Rattle.lset_examples.specs.declared.example.Example.TheVariants.{MarkedPred, ReadInAnothersStep, TwoRemovers, Snip, TriesAgain}
-use Rattle.lset_examples.specs.Examples.{text_of, kind_of, broken_of, IsScheduleOf, IsReportOf}
+use Rattle.lset_examples.specs.declared.example.Example.TheVariants.{FailedTries, Full, HandOverHand, SameGap}
+use Rattle.lset_examples.specs.declared.example.Example.TheVariants.{StalePred, MarkedInChain, MarkedPred, ReadInAnothersStep}
+use Rattle.lset_examples.specs.declared.example.Example.TheVariants.{TwoRemovers, Snip, TriesAgain, LeftInChain}
+use Rattle.lset_examples.specs.Examples.{text_of, kind_of, IsScheduleOf}
 use Rattle.lset_examples.specs.declared.example.TheConstants.{ALL}
-use Rattle.lset_examples.specs.declared.texts.TheConstants.{STALE_PRED_BROKEN, MARKED_IN_CHAIN_BROKEN}
 
 abbrev add : ℕ → ℕ → Line
 add thread key = Begin thread (call.Add (record { 0 = key }))
@@ -55,6 +44,8 @@ plan_of ReadInAnothersStep = plan Lazy 2 4 (add 1 5 ∷ go 1 11 ∷ contains 0 5
 plan_of TwoRemovers = plan LockFree 2 4 (add 0 5 ∷ go 0 6 ∷ remove 0 5 ∷ remove 1 5 ∷ go 0 4 ∷ go 1 4 ∷ go 1 2 ∷ go 0 4 ∷ [])
 plan_of Snip = plan LockFree 2 4 (add 0 5 ∷ go 0 6 ∷ remove 0 5 ∷ go 0 5 ∷ add 1 7 ∷ go 1 8 ∷ go 0 1 ∷ [])
 plan_of TriesAgain = plan LockFree 2 4 (add 0 5 ∷ add 1 7 ∷ go 0 5 ∷ go 1 6 ∷ go 0 7 ∷ [])
+plan_of LeftInChain = plan LockFree 2 4 (add 0 5 ∷ go 0 6 ∷ add 0 3 ∷ go 0 5 ∷ remove 1 5 ∷ go 1 5 ∷ go 0 1 ∷ go 1 1
+    ∷ contains 0 5 ∷ go 0 5 ∷ [])
 
 is_text_of_plan : (e : Example) → text_of e ≡ schedule_text (plan_of e)
 unfolding digits
@@ -69,6 +60,7 @@ is_text_of_plan ReadInAnothersStep = refl
 is_text_of_plan TwoRemovers = refl
 is_text_of_plan Snip = refl
 is_text_of_plan TriesAgain = refl
+is_text_of_plan LeftInChain = refl
 
 is_of_kind : (e : Example) → (plan_of e).kind ≡ kind_of e
 is_of_kind FailedTries = refl
@@ -82,6 +74,7 @@ is_of_kind ReadInAnothersStep = refl
 is_of_kind TwoRemovers = refl
 is_of_kind Snip = refl
 is_of_kind TriesAgain = refl
+is_of_kind LeftInChain = refl
 
 two_threads : IsWithin (record { threads = 2; quota = 4 })
 two_threads = record { some = lit< tt; few = lit≤ tt; small = lit≤ tt }
@@ -101,65 +94,11 @@ is_schedule ReadInAnothersStep = record { header = two_threads; lines = search r
 is_schedule TwoRemovers = record { header = two_threads; lines = search rules; few = lit≤ tt }
 is_schedule Snip = record { header = two_threads; lines = search rules; few = lit≤ tt }
 is_schedule TriesAgain = record { header = two_threads; lines = search rules; few = lit≤ tt }
+is_schedule LeftInChain = record { header = two_threads; lines = search rules; few = lit≤ tt }
 
 -- each text is that of a schedule on the example's list
 pub is_schedule_text : (e : Example) → IsScheduleOf e (text_of e)
 is_schedule_text e = (plan_of e, is_schedule e, is_of_kind e, is_text_of_plan e)
-
--- ---- the broken reports
-
-abbrev made : ℕ → Call → ℕ → ℕ → CallRecord
-made thread call begun end = record { thread = thread; call = call; begun = begun; ended = Some (end, True) }
-
-abbrev place : ℕ → Placed
-place call = record { call = call; reply = True }
-
-abbrev report : Kind → List CallRecord → List Placed → ReportValue
-report kind calls order = record {
-  kind = kind;
-  history = record { threads = 2; quota = 4; calls = calls };
-  order = order;
-  keys = [];
-}
-
-abbrev stale_pred : ReportValue
-stale_pred = report Optimistic (made 1 (call.Add (record { 0 = 3 })) 1 11 ∷ made 0 (call.Add (record { 0 = 5 })) 12 34
-    ∷ made 1 (call.Remove (record { 0 = 3 })) 17 26 ∷ []) (place 0 ∷ place 2 ∷ place 1 ∷ [])
-
-abbrev marked_in_chain : ReportValue
-marked_in_chain = report Lazy (made 1 (call.Add (record { 0 = 5 })) 1 12 ∷ made 1 (call.Remove (record { 0 = 5 })) 13 27
-    ∷ made 0 (call.Contains (record { 0 = 5 })) 21 24 ∷ []) (place 0 ∷ place 1 ∷ place 2 ∷ [])
-
-reads_stale_pred : reading STALE_PRED_BROKEN.now ≡ Ok stale_pred
-unfolding report_of report_from header_of told_by_line number_in kind_of_word call_word_of reply_of begun_of ended_of place_of key_of_line
-reads_stale_pred = refl
-
-reads_marked_in_chain : reading MARKED_IN_CHAIN_BROKEN.now ≡ Ok marked_in_chain
-unfolding report_of report_from header_of told_by_line number_in kind_of_word call_word_of reply_of begun_of ended_of place_of key_of_line
-reads_marked_in_chain = refl
-
--- a broken report is the text of a report on the example's list
-is_report : ReportsReadBack → (e : Example) (text : List ℕ) → broken_of e ≡ Some text → IsReportOf e text
-is_report back StalePred text is =
-    let found = (back stale_pred STALE_PRED_BROKEN.now).1 reads_stale_pred in
-    subst (IsReportOf StalePred) (ap (λ o. unwrap_or o []) is) (stale_pred, found.0, refl, found.1)
-is_report back MarkedInChain text is =
-    let found = (back marked_in_chain MARKED_IN_CHAIN_BROKEN.now).1 reads_marked_in_chain in
-    subst (IsReportOf MarkedInChain) (ap (λ o. unwrap_or o []) is) (marked_in_chain, found.0, refl, found.1)
-is_report back FailedTries text is = absurd (cc is)
-is_report back Full text is = absurd (cc is)
-is_report back HandOverHand text is = absurd (cc is)
-is_report back SameGap text is = absurd (cc is)
-is_report back MarkedPred text is = absurd (cc is)
-is_report back ReadInAnothersStep text is = absurd (cc is)
-is_report back TwoRemovers text is = absurd (cc is)
-is_report back Snip text is = absurd (cc is)
-is_report back TriesAgain text is = absurd (cc is)
-
-pub is_report_text : ReportsReadBack → (e : Example) (o : Option (Bor (List ℕ))) → option_copied o ≡ broken_of e
-    → IfSome o (λ text. IsReportOf e text.now)
-is_report_text back e None is = tt
-is_report_text back e (Some text) is = is_report back e text.now (sym is)
 
 -- ---- the list of all
 
@@ -175,3 +114,4 @@ is_listed ReadInAnothersStep = (7, lit< tt, refl)
 is_listed TwoRemovers = (8, lit< tt, refl)
 is_listed Snip = (9, lit< tt, refl)
 is_listed TriesAgain = (10, lit< tt, refl)
+is_listed LeftInChain = (11, lit< tt, refl)

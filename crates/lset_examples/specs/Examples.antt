@@ -2,13 +2,16 @@
 use Rattle.std.specs.Prelude.{◌≡◌, ℕ, List, Contains, codes, Option, Some, None}
 use Rattle.lset_words.specs.declared.Kind.{Kind}
 use Rattle.lset_words.specs.declared.Kind.TheVariants.{Coarse, Fine, Optimistic, Lazy, LockFree}
+use Rattle.lset_words.specs.declared.history.Placed.{Placed}
+use Rattle.lset_history.specs.Faults.{Explains}
 use Rattle.lset_schedule.specs.Plan.{Plan, IsSchedule, schedule_text}
 use Rattle.lset_replay.specs.Reports.{ReportValue}
 use Rattle.lset_replay.specs.ReportReading.{IsReport}
 use Rattle.lset_replay.specs.Texts.{report_text}
 use Rattle.lset_examples.specs.declared.example.Example.{Example}
-use Rattle.lset_examples.specs.declared.example.Example.TheVariants.{FailedTries, Full, HandOverHand, SameGap, StalePred, MarkedInChain}
-use Rattle.lset_examples.specs.declared.example.Example.TheVariants.{MarkedPred, ReadInAnothersStep, TwoRemovers, Snip, TriesAgain}
+use Rattle.lset_examples.specs.declared.example.Example.TheVariants.{FailedTries, Full, HandOverHand, SameGap}
+use Rattle.lset_examples.specs.declared.example.Example.TheVariants.{StalePred, MarkedInChain, MarkedPred, ReadInAnothersStep}
+use Rattle.lset_examples.specs.declared.example.Example.TheVariants.{TwoRemovers, Snip, TriesAgain, LeftInChain}
 use Rattle.lset_examples.specs.declared.example.TheConstants.{ALL}
 use Rattle.lset_examples.specs.declared.texts.TheConstants as texts
 
@@ -25,6 +28,7 @@ name_of ReadInAnothersStep = codes "read-in-anothers-step"
 name_of TwoRemovers = codes "two-removers"
 name_of Snip = codes "snip"
 name_of TriesAgain = codes "tries-again"
+name_of LeftInChain = codes "left-in-chain"
 
 -- the list that it is about
 abbrev pub kind_of : Example → Kind
@@ -39,6 +43,7 @@ kind_of ReadInAnothersStep = Lazy
 kind_of TwoRemovers = LockFree
 kind_of Snip = LockFree
 kind_of TriesAgain = LockFree
+kind_of LeftInChain = LockFree
 
 -- what happens in it, in half a line
 abbrev pub about_of : Example → List ℕ
@@ -53,6 +58,7 @@ about_of ReadInAnothersStep = codes "contains stands in the step of the thread t
 about_of TwoRemovers = codes "two removes of one key: one marks, the other walks again and answers false"
 about_of Snip = codes "an add takes out the node that a remove has marked"
 about_of TriesAgain = codes "an exchange fails, and the add walks again with the same slot"
+about_of LeftInChain = codes "a remove has ended, and its node is still in the chain: contains answers false"
 
 -- the text of its schedule
 abbrev pub text_of : Example → List ℕ
@@ -67,6 +73,7 @@ text_of ReadInAnothersStep = texts.READ_IN_ANOTHERS_STEP.now
 text_of TwoRemovers = texts.TWO_REMOVERS.now
 text_of Snip = texts.SNIP.now
 text_of TriesAgain = texts.TRIES_AGAIN.now
+text_of LeftInChain = texts.LEFT_IN_CHAIN.now
 
 -- the text of the report of a list that lacks the check in question, of the examples that have one
 abbrev pub broken_of : Example → Option (List ℕ)
@@ -75,20 +82,25 @@ broken_of Full = None
 broken_of HandOverHand = None
 broken_of SameGap = None
 broken_of StalePred = Some texts.STALE_PRED_BROKEN.now
-broken_of MarkedInChain = Some texts.MARKED_IN_CHAIN_BROKEN.now
+broken_of MarkedInChain = None
 broken_of MarkedPred = None
 broken_of ReadInAnothersStep = None
 broken_of TwoRemovers = None
 broken_of Snip = None
 broken_of TriesAgain = None
+broken_of LeftInChain = Some texts.LEFT_IN_CHAIN_BROKEN.now
 
 -- the text of a schedule on the example's list
 abbrev pub IsScheduleOf : Example → List ℕ → Type 0
 IsScheduleOf e text = (p : Plan) × IsSchedule p × (p.kind ≡ kind_of e) × (text ≡ schedule_text p)
 
--- the text of a report on the example's list
-abbrev pub IsReportOf : Example → List ℕ → Type 0
-IsReportOf e text = (r : ReportValue) × IsReport r × (r.kind ≡ kind_of e) × (text ≡ report_text r)
+-- no order explains the calls and leaves the keys
+abbrev pub IsUnexplained : ReportValue → Type 0
+IsUnexplained r = (order : List Placed) → Explains r.history order r.keys → ⊥
+
+-- the text of a report on the example's list that no order explains, its own or another
+abbrev pub IsBrokenReportOf : Example → List ℕ → Type 0
+IsBrokenReportOf e text = (r : ReportValue) × IsReport r × (r.kind ≡ kind_of e) × (text ≡ report_text r) × IsUnexplained r
 
 -- ---- laws
 

@@ -7,7 +7,7 @@ ghost use Rattle.lset_examples.specs.Examples.{
   text_of,
   broken_of,
   IsScheduleOf,
-  IsReportOf,
+  IsBrokenReportOf,
   NamesAreDistinct,
   EachIsListed,
 };
@@ -31,10 +31,11 @@ pub enum Example {
     TwoRemovers,
     Snip,
     TriesAgain,
+    LeftInChain,
 }
 
 /// All examples, in the order of the lists that they are about.
-pub const ALL: [Example; 11] = [
+pub const ALL: [Example; 12] = [
     Example::FailedTries,
     Example::Full,
     Example::HandOverHand,
@@ -46,6 +47,7 @@ pub const ALL: [Example; 11] = [
     Example::TwoRemovers,
     Example::Snip,
     Example::TriesAgain,
+    Example::LeftInChain,
 ];
 
 impl Example {
@@ -65,6 +67,7 @@ impl Example {
             Example::TwoRemovers => "two-removers",
             Example::Snip => "snip",
             Example::TriesAgain => "tries-again",
+            Example::LeftInChain => "left-in-chain",
         }
     }
 
@@ -78,7 +81,8 @@ impl Example {
             Example::SameGap | Example::StalePred => Kind::Optimistic,
             Example::MarkedInChain | Example::MarkedPred | Example::ReadInAnothersStep =>
                 Kind::Lazy,
-            Example::TwoRemovers | Example::Snip | Example::TriesAgain => Kind::LockFree,
+            Example::TwoRemovers | Example::Snip | Example::TriesAgain | Example::LeftInChain =>
+                Kind::LockFree,
         }
     }
 
@@ -104,6 +108,8 @@ impl Example {
                 "two removes of one key: one marks, the other walks again and answers false",
             Example::Snip => "an add takes out the node that a remove has marked",
             Example::TriesAgain => "an exchange fails, and the add walks again with the same slot",
+            Example::LeftInChain =>
+                "a remove has ended, and its node is still in the chain: contains answers false",
         }
     }
 
@@ -130,14 +136,15 @@ impl Example {
             Example::TwoRemovers => texts::TWO_REMOVERS,
             Example::Snip => texts::SNIP,
             Example::TriesAgain => texts::TRIES_AGAIN,
+            Example::LeftInChain => texts::LEFT_IN_CHAIN,
         }
     }
 
     /// The text of the report that a list without the check in question would give of the schedule, for the two examples that
-    /// have one. Its order does not explain its calls and keys: `check` refuses it.
+    /// have one. No order explains its calls and keys, whether the one that stands there, which `check` refuses, or another.
     pub fn broken_report_text(self) -> Option<&'static str>
         ensures constant { option_copied result ≡ broken_of self }
-        ensures report { IfSome result (λ text. IsReportOf self text.now) }
+        ensures report { IfSome result (λ text. IsBrokenReportOf self text.now) }
     {
         reports_read_back();
         self.broken_constant()
@@ -148,11 +155,12 @@ impl Example {
     {
         match self {
             Example::StalePred => Some(texts::STALE_PRED_BROKEN),
-            Example::MarkedInChain => Some(texts::MARKED_IN_CHAIN_BROKEN),
+            Example::LeftInChain => Some(texts::LEFT_IN_CHAIN_BROKEN),
             Example::FailedTries
             | Example::Full
             | Example::HandOverHand
             | Example::SameGap
+            | Example::MarkedInChain
             | Example::MarkedPred
             | Example::ReadInAnothersStep
             | Example::TwoRemovers

@@ -153,6 +153,23 @@ go 1 6
 go 0 7
 ";
 
+pub const LEFT_IN_CHAIN: &str = "\
+listset-schedule 1
+list lock-free
+threads 2
+quota 4
+begin 0 add 5
+go 0 6
+begin 0 add 3
+go 0 5
+begin 1 remove 5
+go 1 5
+go 0 1
+go 1 1
+begin 0 contains 5
+go 0 5
+";
+
 pub const STALE_PRED_BROKEN: &str = "\
 listset-report 1
 list optimistic
@@ -167,16 +184,19 @@ place 1 true
 end
 ";
 
-pub const MARKED_IN_CHAIN_BROKEN: &str = "\
+pub const LEFT_IN_CHAIN_BROKEN: &str = "\
 listset-report 1
-list lazy
+list lock-free
 threads 2
 quota 4
-call 0 1 add 5 1 12 true
-call 1 1 remove 5 13 27 true
-call 2 0 contains 5 21 24 true
+call 0 0 add 5 1 7 true
+call 1 0 add 3 8 20 true
+call 2 1 remove 5 14 21 true
+call 3 0 contains 5 22 27 true
 place 0 true
-place 1 true
 place 2 true
+place 1 true
+place 3 true
+key 3
 end
 ";
