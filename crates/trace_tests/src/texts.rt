@@ -1,20 +1,8 @@
-//! Schedules, and their traces as a model of the five lists tells them, which was written apart from this repository. (The model
-//! sets `reply` also at a step that answers at once; the tables of this repository do not, so such a step has no `reply` here.)
+//! Traces as a model of the five lists tells them, which was written apart from this repository, and the schedules of those
+//! that are no example's. (The model sets `reply` also at a step that answers at once; the tables of this repository do not,
+//! so such a step has no `reply` here.)
 
-/// CoarseList: the second thread's tries of the lock fail.
-pub const FAILED_TRIES: &str = "listset-schedule 1
-list coarse
-threads 2
-quota 4
-begin 0 add 5
-begin 1 add 5
-go 0 1
-go 1 3
-go 0 6
-go 1 4
-";
-
-pub const FAILED_TRIES_TRACE: &str = "listset-trace 1
+pub const FAILED_TRIES: &str = "listset-trace 1
 list coarse
 threads 2
 quota 4
@@ -37,46 +25,7 @@ event 16 line 10 thread 1 store list.lock free pc 0 answer false call 1 at 11
 end
 ";
 
-/// CoarseList: a step after the call has ended.
-pub const STEP_OF_NO_CALL: &str = "listset-schedule 1
-list coarse
-threads 1
-quota 4
-begin 0 add 5
-go 0 8
-";
-
-pub const STEP_OF_NO_CALL_TRACE: &str = "listset-trace 1
-list coarse
-threads 1
-quota 4
-event 1 line 5 thread 0 begin add 5 call 0 pc 1
-event 2 line 6 thread 0 exchange list.lock from free to t0 saw free pc 2
-event 3 line 6 thread 0 load head.link saw tail pc 3 curr tail
-event 4 line 6 thread 0 load tail.key saw +inf pc 5 ckey +inf
-event 5 line 6 thread 0 store n2.key 5 pc 6
-event 6 line 6 thread 0 store n2.link tail pc 7
-event 7 line 6 thread 0 store head.link n2 pc 10 used 1 reply true put 5
-event 8 line 6 thread 0 store list.lock free pc 0 answer true call 0 at 7
-refused line 6 Idle
-";
-
-/// FineList: an adder waits for a remover before it.
-pub const HAND_OVER_HAND: &str = "listset-schedule 1
-list fine
-threads 2
-quota 4
-begin 1 add 9
-go 1 9
-begin 0 add 5
-begin 1 remove 9
-go 0 4
-go 1 2
-go 0 5
-go 1 12
-";
-
-pub const HAND_OVER_HAND_TRACE: &str = "listset-trace 1
+pub const HAND_OVER_HAND: &str = "listset-trace 1
 list fine
 threads 2
 quota 4
@@ -118,21 +67,7 @@ event 35 line 12 thread 1 store n2.lock free pc 0 answer true call 2 at 33
 end
 ";
 
-/// OptimisticList: the second walk does not find the predecessor.
-pub const STALE_PREDECESSOR: &str = "listset-schedule 1
-list optimistic
-threads 2
-quota 4
-begin 1 add 3
-go 1 10
-begin 0 add 5
-go 0 4
-begin 1 remove 3
-go 1 9
-go 0 16
-";
-
-pub const STALE_PREDECESSOR_TRACE: &str = "listset-trace 1
+pub const STALE_PRED: &str = "listset-trace 1
 list optimistic
 threads 2
 quota 4
@@ -181,23 +116,7 @@ event 42 line 11 thread 0 store tail.lock free pc 0 answer true call 1 at 40
 end
 ";
 
-/// LazyList: `contains` stands in the step of another thread.
-pub const READ_IN_ANOTHERS_STEP: &str = "listset-schedule 1
-list lazy
-threads 2
-quota 4
-begin 1 add 5
-go 1 11
-begin 0 contains 5
-go 0 2
-begin 1 remove 5
-go 1 10
-begin 1 add 5
-go 1 11
-go 0 1
-";
-
-pub const READ_IN_ANOTHERS_STEP_TRACE: &str = "listset-trace 1
+pub const READ_IN_ANOTHERS_STEP: &str = "listset-trace 1
 list lazy
 threads 2
 quota 4
@@ -243,8 +162,32 @@ event 39 line 13 thread 0 load n6.link saw tail* pc 0 answer false call 1 at 23
 end
 ";
 
-/// LockFreeList: an add takes out the node that a remove has marked.
-pub const SNIP: &str = "listset-schedule 1
+/// CoarseList: a step after the call has ended.
+pub const STEP_OF_NO_CALL: &str = "listset-schedule 1
+list coarse
+threads 1
+quota 4
+begin 0 add 5
+go 0 8
+";
+
+pub const STEP_OF_NO_CALL_TRACE: &str = "listset-trace 1
+list coarse
+threads 1
+quota 4
+event 1 line 5 thread 0 begin add 5 call 0 pc 1
+event 2 line 6 thread 0 exchange list.lock from free to t0 saw free pc 2
+event 3 line 6 thread 0 load head.link saw tail pc 3 curr tail
+event 4 line 6 thread 0 load tail.key saw +inf pc 5 ckey +inf
+event 5 line 6 thread 0 store n2.key 5 pc 6
+event 6 line 6 thread 0 store n2.link tail pc 7
+event 7 line 6 thread 0 store head.link n2 pc 10 used 1 reply true put 5
+event 8 line 6 thread 0 store list.lock free pc 0 answer true call 0 at 7
+refused line 6 Idle
+";
+
+/// LockFreeList: a remove marks the predecessor before the exchange of an add, which then takes it out.
+pub const MARKED_BEFORE_THE_EXCHANGE: &str = "listset-schedule 1
 list lock-free
 threads 2
 quota 2
@@ -259,7 +202,7 @@ go 1 1
 ";
 
 /// With the chain after each event that changed it.
-pub const SNIP_TRACE: &str = "listset-trace 1
+pub const MARKED_BEFORE_THE_EXCHANGE_TRACE: &str = "listset-trace 1
 list lock-free
 threads 2
 quota 2
@@ -299,85 +242,4 @@ event 30 line 11 thread 0 exchange head.link from tail to n2 saw tail pc 0 used 
 chain 5
 event 31 line 12 thread 1 exchange head.link from n4 to tail saw n2 pc 0 answer true call 2 at 21
 end
-";
-
-/// CoarseList: an add beyond its thread's quota.
-pub const FULL: &str = "listset-schedule 1
-list coarse
-threads 1
-quota 1
-begin 0 add 5
-go 0 7
-begin 0 remove 5
-go 0 6
-begin 0 add 7
-go 0 4
-";
-
-/// OptimisticList: two adds into one gap.
-pub const SAME_GAP: &str = "listset-schedule 1
-list optimistic
-threads 2
-quota 4
-begin 0 add 5
-begin 1 add 7
-go 0 2
-go 1 2
-go 1 8
-go 0 15
-";
-
-/// LazyList: the key's node is marked and still in the chain.
-pub const MARKED_IN_CHAIN: &str = "listset-schedule 1
-list lazy
-threads 2
-quota 4
-begin 1 add 5
-go 1 11
-begin 1 remove 5
-go 1 7
-begin 0 contains 5
-go 0 3
-go 1 3
-";
-
-/// LazyList: the predecessor is marked after the walk.
-pub const MARKED_PREDECESSOR: &str = "listset-schedule 1
-list lazy
-threads 2
-quota 4
-begin 1 add 3
-go 1 11
-begin 0 add 5
-go 0 4
-begin 1 remove 3
-go 1 10
-go 0 16
-";
-
-/// LockFreeList: two removes of one key.
-pub const TWO_REMOVERS: &str = "listset-schedule 1
-list lock-free
-threads 2
-quota 4
-begin 0 add 5
-go 0 6
-begin 0 remove 5
-begin 1 remove 5
-go 0 4
-go 1 4
-go 1 2
-go 0 4
-";
-
-/// LockFreeList: an exchange fails, and the add walks again.
-pub const TRIES_AGAIN: &str = "listset-schedule 1
-list lock-free
-threads 2
-quota 4
-begin 0 add 5
-begin 1 add 7
-go 0 5
-go 1 6
-go 0 7
 ";

@@ -1,4 +1,5 @@
 use super::texts;
+use lset_examples::{ALL, Example};
 use lset_tools::Answer;
 use lset_trace::{tool_trace, traced};
 use std::alloc::Global;
@@ -44,16 +45,13 @@ fn without_chains(alloc: Global, text: &str) -> Result<String, Fail> {
 #[test]
 fn traces_are_those_of_the_model(rt: HostRuntime) -> Result<(), Fail> {
     let rows = [
-        (texts::FAILED_TRIES, texts::FAILED_TRIES_TRACE),
-        (texts::HAND_OVER_HAND, texts::HAND_OVER_HAND_TRACE),
-        (texts::STALE_PREDECESSOR, texts::STALE_PREDECESSOR_TRACE),
-        (
-            texts::READ_IN_ANOTHERS_STEP,
-            texts::READ_IN_ANOTHERS_STEP_TRACE,
-        ),
+        (Example::FailedTries, texts::FAILED_TRIES),
+        (Example::HandOverHand, texts::HAND_OVER_HAND),
+        (Example::StalePred, texts::STALE_PRED),
+        (Example::ReadInAnothersStep, texts::READ_IN_ANOTHERS_STEP),
     ];
-    for (schedule, trace) in rows {
-        let run = trace_run(rt.alloc(), false, schedule.as_bytes());
+    for (example, trace) in rows {
+        let run = trace_run(rt.alloc(), false, example.schedule_text().as_bytes());
         assert_eq!(rt; run.told()?, (0, trace, ""));
     }
     Ok(())
@@ -61,26 +59,22 @@ fn traces_are_those_of_the_model(rt: HostRuntime) -> Result<(), Fail> {
 
 #[test]
 fn chains_are_told_where_they_changed(rt: HostRuntime) -> Result<(), Fail> {
-    let run = trace_run(rt.alloc(), true, texts::SNIP.as_bytes());
-    assert_eq!(rt; run.told()?, (0, texts::SNIP_TRACE, ""));
-    let plain = trace_run(rt.alloc(), false, texts::SNIP.as_bytes());
-    let trace = without_chains(rt.alloc(), texts::SNIP_TRACE)?;
+    let schedule = texts::MARKED_BEFORE_THE_EXCHANGE.as_bytes();
+    let run = trace_run(rt.alloc(), true, schedule);
+    assert_eq!(rt;
+        run.told()?,
+        (0, texts::MARKED_BEFORE_THE_EXCHANGE_TRACE, "")
+    );
+    let plain = trace_run(rt.alloc(), false, schedule);
+    let trace = without_chains(rt.alloc(), texts::MARKED_BEFORE_THE_EXCHANGE_TRACE)?;
     assert_eq!(rt; plain.told()?, (0, trace.as_str(), ""));
     Ok(())
 }
 
 #[test]
-fn the_other_schedules_are_traced_to_their_ends(rt: HostRuntime) -> Result<(), Fail> {
-    let rows = [
-        texts::FULL,
-        texts::SAME_GAP,
-        texts::MARKED_IN_CHAIN,
-        texts::MARKED_PREDECESSOR,
-        texts::TWO_REMOVERS,
-        texts::TRIES_AGAIN,
-    ];
-    for schedule in rows {
-        let run = trace_run(rt.alloc(), true, schedule.as_bytes());
+fn each_example_is_traced_to_its_end(rt: HostRuntime) -> Result<(), Fail> {
+    for example in ALL {
+        let run = trace_run(rt.alloc(), true, example.schedule_text().as_bytes());
         let (status, trace, faults) = run.told()?;
         assert_eq!(rt; (status, trace.ends_with("\nend\n"), faults), (0, true, ""));
     }
