@@ -34,7 +34,7 @@ function pick(name) {
 // Each example goes to its end, event by event, and its calls stand in the order of its report.
 function driveExamples() {
   const names = [...part("examples").options].map((option) => option.value).filter((name) => name !== "");
-  check("eleven examples", names.length === 11);
+  check("twelve examples", names.length === 12);
   for (const name of names) {
     pick(name);
     const total = inPage("page.trace.events.length");
