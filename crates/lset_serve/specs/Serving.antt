@@ -10,7 +10,8 @@ use Rattle.lset_server.specs.Serving.{IsServed}
 use Rattle.lset_server.specs.declared.serving.ServeCause.{ServeCause}
 use Rattle.lset_server.specs.declared.serving.ServeCause.TheVariants as cause
 use Rattle.lset_tools.specs.declared.trouble.Trouble.{Trouble}
-use Rattle.lset_tools.specs.declared.trouble.Trouble.TheVariants.{CannotRead, TooLong, CannotWrite, Memory, Line, Bad, CannotListen, Work, Serve}
+use Rattle.lset_tools.specs.declared.trouble.Trouble.TheVariants.{CannotRead, TooLong, CannotWrite, Memory, Line, Bad}
+use Rattle.lset_tools.specs.declared.trouble.Trouble.TheVariants.{CannotListen, Work, Serve}
 use Rattle.lset_tools.specs.declared.trouble.ValueName.{ValueName}
 use Rattle.lset_tools.specs.declared.trouble.ValueName.TheVariants as name
 use Rattle.lset_tools.specs.declared.trouble.ServeName.TheVariants as serve

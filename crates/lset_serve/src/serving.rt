@@ -84,7 +84,8 @@ fn serve_values<
     R: Net<Listener = TcpListener, Stream = TcpStream> + Threads + Wait + Sync,
     W: Write,
 >(rt: &R, alloc: Global, values: &[String], output: &mut W) -> Result<Answer, Trouble>
-    ensures { Serves (request_of (map string_bytes values.now)) (W.contents output.old) (W.contents output.new) (tools.view result) }
+    ensures { Serves (request_of (map string_bytes values.now))
+        (W.contents output.old) (W.contents output.new) (tools.view result) }
 {
     let request = read_serve_request(values)?;
     match request.kind {
