@@ -3,6 +3,7 @@ use lset_live::OpenFault;
 use lset_replay::{ReplayFault, ReportFault};
 use lset_schedule::{GenFault, ScheduleFault};
 use lset_steps::StepFault;
+use lset_tools::{Answer, Trouble};
 use lset_words::LayoutFault;
 use std::alloc::AllocError;
 use std::io;
@@ -43,6 +44,14 @@ pub fn check(is_as_wanted: bool) -> Result<(), Wrong> {
         Ok(())
     } else {
         Err(Wrong::Answer)
+    }
+}
+
+/// The text of an answer that has this status.
+pub fn text_of(answer: Result<Answer, Trouble>, wanted: u8) -> Result<Vec<u8>, Wrong> {
+    match answer {
+        Ok(Answer { text, status }) if status == wanted => Ok(text),
+        _ => Err(Wrong::Answer),
     }
 }
 

@@ -1,30 +1,32 @@
 //! The classic interleavings by name.
-use crate::calls::{Calls, Wrong, check};
+use crate::calls::{Calls, Wrong, check, text_of};
 use lset_examples::{ALL, Example, exampled};
-use lset_tools::{Answer, Trouble};
+use lset_tools::Trouble;
 use std::alloc::Global;
 
-fn made(answer: Result<Answer, Trouble>) -> Result<Vec<u8>, Wrong> {
-    match answer {
-        Ok(Answer { text, status: 0 }) => Ok(text),
-        _ => Err(Wrong::Answer),
-    }
-}
-
-/// The list of names, and a schedule.
+/// The list of names, a schedule, and a broken report.
 pub fn examples(alloc: Global, calls: &mut Calls) -> Result<(), Wrong> {
-    let names = made(answer!(
+    let names = answer!(
         calls,
         "exampled",
         Trouble::Memory,
         exampled(alloc, false, None)
-    ))?;
+    );
+    let names = text_of(names, 0)?;
     check(names.iter().filter(|byte| **byte == b'\n').count() == ALL.len())?;
-    let schedule = made(answer!(
+    let schedule = answer!(
         calls,
         "exampled",
         Trouble::Memory,
         exampled(alloc, false, Some("snip"))
-    ))?;
-    check(schedule.as_slice() == Example::Snip.schedule_text().as_bytes())
+    );
+    check(text_of(schedule, 0)?.as_slice() == Example::Snip.schedule_text().as_bytes())?;
+    let report = answer!(
+        calls,
+        "exampled (broken)",
+        Trouble::Memory,
+        exampled(alloc, true, Some("stale-pred"))
+    );
+    let broken = Example::StalePred.broken_report_text().unwrap_or_default();
+    check(text_of(report, 0)?.as_slice() == broken.as_bytes())
 }

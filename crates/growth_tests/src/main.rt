@@ -21,10 +21,13 @@ mod calls;
 mod changes;
 mod examples;
 mod live;
+mod pictures;
+mod points;
 mod sets;
 mod texts;
 mod threads;
 mod tools;
+mod traces;
 
 use calls::{Calls, Wrong};
 use std::alloc::{AllocError, Global};
@@ -66,6 +69,9 @@ fn make_calls<R: Net<Listener = TcpListener, Stream = TcpStream> + Threads + Wai
     texts::refusals(alloc, calls)?;
     texts::schedules_drawn(alloc, calls)?;
     texts::programs_drawn(alloc, calls)?;
+    points::points(alloc, calls)?;
+    pictures::pictures(alloc, calls)?;
+    traces::traces(alloc, calls)?;
     examples::examples(alloc, calls)?;
     tools::tools(alloc, calls)
 }

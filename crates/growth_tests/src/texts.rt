@@ -1,9 +1,12 @@
+ghost use Rattle.std.specs.Prelude.{IfOk};
+ghost use Rattle.lset_schedule.specs.Plan.{IsSchedule, view};
+
 use crate::calls::{Calls, Wrong, check};
 use lset_coarse::CoarseList;
 use lset_history::{OrderFault, check_order};
 use lset_replay::{ReplayFault, ReportCause, ReportFault, read_report, replay, write_report};
 use lset_schedule::{
-    Cause, GenFault, ScheduleFault, generate, programs, read_schedule, write_schedule,
+    Cause, GenFault, Schedule, ScheduleFault, generate, programs, read_schedule, write_schedule,
 };
 use lset_words::{Call, Key};
 use std::alloc::{AllocError, Global};
@@ -27,10 +30,35 @@ const NO_REPORT: &str =
 const IDLE: &str =
     "listset-schedule 1\nlist coarse\nthreads 1\nquota 5\nbegin 0 add 1\ngo 0 7\nbegin 0 add 2\ngo 0 9\nbegin 0 add 3\ngo 0 12\n";
 
+pub const ONE_ADD: &str =
+    "listset-schedule 1\nlist coarse\nthreads 1\nquota 4\nbegin 0 add 5\ngo 0 7\n";
+
+pub const ONE_ADD_REPORT: &str =
+    "listset-report 1\nlist coarse\nthreads 1\nquota 4\ncall 0 0 add 5 1 8 true\nplace 0 true\nkey 5\nend\n";
+
+/// A report whose order leaves out its call.
+pub const LEFT_OUT: &str =
+    "listset-report 1\nlist coarse\nthreads 1\nquota 4\ncall 0 0 add 5 1 8 true\nkey 5\nend\n";
+
 /// A `contains` drawn from seed 0, whose generator begins 298703107, 4236525527, 336081875: the one thread; what is
 /// 2 modulo 3, a `contains`; what is 3 modulo 8, the key.
 pub const DRAWN: &str =
     "listset-schedule 1\nlist coarse\nthreads 1\nquota 4\nbegin 0 contains 3\ngo 0 1\ngo 0 1\ngo 0 1\ngo 0 1\n";
+
+/// The schedule of one add.
+pub fn one_add(alloc: Global, calls: &mut Calls) -> Result<Schedule, ScheduleFault>
+    ensures { IfOk result (λ schedule. IsSchedule (view schedule)) }
+{
+    answer!(
+        calls,
+        "read_schedule",
+        ScheduleFault {
+            line: 1..=6,
+            cause: Cause::Memory,
+        },
+        read_schedule(alloc, ONE_ADD.as_bytes())
+    )
+}
 
 /// Reads and writes the schedule and its report, and replays the one.
 pub fn replays(alloc: Global, calls: &mut Calls) -> Result<(), Wrong> {

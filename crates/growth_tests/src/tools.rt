@@ -1,6 +1,11 @@
 use crate::calls::{Calls, Wrong};
-use crate::texts::DRAWN;
+use crate::pictures::{ALL, LEFT_OUT_PICTURE, PICTURE};
+use crate::texts::{DRAWN, LEFT_OUT, ONE_ADD, ONE_ADD_REPORT};
+use crate::traces::{EARLY, EARLY_TRACE, TRACE};
+use lset_examples::{Example, tool_example};
+use lset_show::tool_show;
 use lset_tools::{tool_check, tool_gen, tool_replay};
+use lset_trace::tool_trace;
 use std::alloc::{AllocError, Global};
 
 /// What a tool gives and writes.
@@ -96,6 +101,60 @@ fn check_tells(
     streams.compared(status, wanted)
 }
 
+fn show_tells(
+    alloc: Global,
+    streams: &mut Streams,
+    text: &str,
+    wanted: &Told,
+) -> Result<(), ToolFault> {
+    streams.clear();
+    let mut input = text.as_bytes();
+    let status = tool_show(
+        alloc,
+        false,
+        ALL,
+        &mut input,
+        &mut streams.output,
+        &mut streams.faults,
+    );
+    streams.compared(status, wanted)
+}
+
+fn trace_tells(
+    alloc: Global,
+    streams: &mut Streams,
+    text: &str,
+    wanted: &Told,
+) -> Result<(), ToolFault> {
+    streams.clear();
+    let mut input = text.as_bytes();
+    let status = tool_trace(
+        alloc,
+        true,
+        &mut input,
+        &mut streams.output,
+        &mut streams.faults,
+    );
+    streams.compared(status, wanted)
+}
+
+fn example_tells(
+    alloc: Global,
+    streams: &mut Streams,
+    name: &str,
+    wanted: &Told,
+) -> Result<(), ToolFault> {
+    streams.clear();
+    let status = tool_example(
+        alloc,
+        true,
+        Some(name),
+        &mut streams.output,
+        &mut streams.faults,
+    );
+    streams.compared(status, wanted)
+}
+
 fn gen_tells(
     alloc: Global,
     streams: &mut Streams,
@@ -120,30 +179,31 @@ fn gen_values(alloc: Global) -> Result<Vec<String>, AllocError> {
 const EXCHANGED: &str =
     "listset-report 1\nlist coarse\nthreads 1\nquota 4\ncall 0 0 add 5 1 8 true\ncall 1 0 add 7 9 18 true\nplace 1 true\nplace 0 true\nkey 5\nkey 7\nend\n";
 
-const ONE_ADD: &str =
-    "listset-schedule 1\nlist coarse\nthreads 1\nquota 4\nbegin 0 add 5\ngo 0 7\n";
-
-const ONE_ADD_REPORT: &str =
-    "listset-report 1\nlist coarse\nthreads 1\nquota 4\ncall 0 0 add 5 1 8 true\nplace 0 true\nkey 5\nend\n";
-
 /// A step of a thread that has no call open.
 const IDLE: &str = "listset-schedule 1\nlist coarse\nthreads 1\nquota 4\ngo 0 1\n";
 
-fn done(output: &'static str) -> Told {
+fn written(output: &'static str, status: u8) -> Told {
     Told {
-        status: 0,
+        status,
         output,
         faults: "",
     }
 }
 
-fn tool_replays(alloc: Global, streams: &mut Streams, calls: &mut Calls) -> Result<(), Wrong> {
-    let idle = Told {
-        status: 1,
+fn refused(status: u8, faults: &'static str) -> Told {
+    Told {
+        status,
         output: "",
-        faults: "listset: line 5: Idle\n",
-    };
-    for (text, wanted) in [(ONE_ADD, done(ONE_ADD_REPORT)), (IDLE, idle)] {
+        faults,
+    }
+}
+
+fn tool_replays(alloc: Global, streams: &mut Streams, calls: &mut Calls) -> Result<(), Wrong> {
+    let rows = [
+        (ONE_ADD, written(ONE_ADD_REPORT, 0)),
+        (IDLE, refused(1, "listset: line 5: Idle\n")),
+    ];
+    for (text, wanted) in rows {
         answer!(
             calls,
             "tool_replay",
@@ -155,12 +215,11 @@ fn tool_replays(alloc: Global, streams: &mut Streams, calls: &mut Calls) -> Resu
 }
 
 fn tool_checks(alloc: Global, streams: &mut Streams, calls: &mut Calls) -> Result<(), Wrong> {
-    let too_early = Told {
-        status: 1,
-        output: "refused TooEarly 1\n",
-        faults: "",
-    };
-    for (text, wanted) in [(ONE_ADD_REPORT, done("ok\n")), (EXCHANGED, too_early)] {
+    let rows = [
+        (ONE_ADD_REPORT, written("ok\n", 0)),
+        (EXCHANGED, written("refused TooEarly 1\n", 1)),
+    ];
+    for (text, wanted) in rows {
         answer!(
             calls,
             "tool_check",
@@ -171,16 +230,70 @@ fn tool_checks(alloc: Global, streams: &mut Streams, calls: &mut Calls) -> Resul
     Ok(())
 }
 
+fn tool_shows(alloc: Global, streams: &mut Streams, calls: &mut Calls) -> Result<(), Wrong> {
+    let rows = [
+        (ONE_ADD, written(PICTURE, 0)),
+        (LEFT_OUT, written(LEFT_OUT_PICTURE, 1)),
+        (IDLE, refused(1, "listset: line 5: Idle\n")),
+    ];
+    for (text, wanted) in rows {
+        answer!(
+            calls,
+            "tool_show",
+            ToolFault::Memory,
+            show_tells(alloc, streams, text, &wanted)
+        )?;
+    }
+    Ok(())
+}
+
+fn tool_traces(alloc: Global, streams: &mut Streams, calls: &mut Calls) -> Result<(), Wrong> {
+    let rows = [
+        (ONE_ADD, written(TRACE, 0)),
+        (EARLY, written(EARLY_TRACE, 1)),
+        (ONE_ADD_REPORT, refused(1, "listset: line 1: Header\n")),
+    ];
+    for (text, wanted) in rows {
+        answer!(
+            calls,
+            "tool_trace",
+            ToolFault::Memory,
+            trace_tells(alloc, streams, text, &wanted)
+        )?;
+    }
+    Ok(())
+}
+
+fn tool_examples(alloc: Global, streams: &mut Streams, calls: &mut Calls) -> Result<(), Wrong> {
+    let broken = Example::StalePred.broken_report_text().unwrap_or_default();
+    let rows = [
+        ("stale-pred", written(broken, 0)),
+        ("snip", refused(2, "listset: bad NAME\n")),
+    ];
+    for (name, wanted) in rows {
+        answer!(
+            calls,
+            "tool_example",
+            ToolFault::Memory,
+            example_tells(alloc, streams, name, &wanted)
+        )?;
+    }
+    Ok(())
+}
+
 pub fn tools(alloc: Global, calls: &mut Calls) -> Result<(), Wrong> {
     let mut streams = answer!(calls, "Vec::with_capacity", AllocError, Streams::new(alloc))?;
     tool_replays(alloc, &mut streams, calls)?;
     tool_checks(alloc, &mut streams, calls)?;
+    tool_shows(alloc, &mut streams, calls)?;
+    tool_traces(alloc, &mut streams, calls)?;
+    tool_examples(alloc, &mut streams, calls)?;
     let values = answer!(calls, "String::from_str", AllocError, gen_values(alloc))?;
     answer!(
         calls,
         "tool_gen",
         ToolFault::Memory,
-        gen_tells(alloc, &mut streams, &values, &done(DRAWN))
+        gen_tells(alloc, &mut streams, &values, &written(DRAWN, 0))
     )?;
     Ok(())
 }

@@ -1,0 +1,120 @@
+//! Pictures of a schedule and of reports.
+use crate::calls::{Calls, Wrong, check, text_of};
+use crate::texts::{LEFT_OUT, ONE_ADD, ONE_ADD_REPORT, one_add};
+use lset_history::Refusal;
+use lset_picture::Window;
+use lset_replay::{ReplayFault, ReportCause, ReportFault, read_report, replay_with_points};
+use lset_show::{picture_of_replay, picture_of_report, shown};
+use lset_tools::Trouble;
+use lset_words::{Point, Reply};
+use std::alloc::{AllocError, Global};
+
+/// Every moment.
+pub const ALL: Window = Window {
+    from: 1,
+    to: 4_294_967_295,
+};
+
+/// The picture of one add.
+pub const PICTURE: &str = "\
+coarse list, 1 thread, quota 4: 1 call in 8 events
+
+moment    1      7   8
+thread 0  [add 5-*---true]
+set       {}     {5}
+
+order
+   1  at 7     thread 0  add 5 true
+keys  5
+
+* changes the set    o changes nothing, its reply fits there    > still open
+";
+
+/// The picture of a report whose order leaves out its call.
+pub const LEFT_OUT_PICTURE: &str = "\
+coarse list, 1 thread, quota 4: 1 call
+
+moment    1      8
+thread 0  [add 5-true]
+
+order
+keys  5
+
+refused Missing 0: it ended at 8 with true and has no place
+";
+
+/// The call changes the set at the 7th event.
+fn of_replay(alloc: Global, calls: &mut Calls) -> Result<(), Wrong> {
+    let plan = one_add(alloc, calls)?;
+    let placed = answer!(
+        calls,
+        "replay_with_points",
+        ReplayFault::Memory,
+        replay_with_points(alloc, &plan)
+    )?;
+    let points = [Point {
+        moment: 7,
+        change: true,
+    }];
+    check(placed.points.as_slice() == points.as_slice())?;
+    let picture = answer!(
+        calls,
+        "picture_of_replay",
+        ReplayFault::Memory,
+        picture_of_replay(alloc, &plan)
+    )?;
+    check(picture.points.as_slice() == points.as_slice() && picture.refusal.is_none())
+}
+
+/// The report is read again where its picture was refused.
+fn of_report(alloc: Global, calls: &mut Calls) -> Result<(), Wrong> {
+    let report = answer!(
+        calls,
+        "read_report",
+        ReportFault {
+            line: _,
+            cause: ReportCause::Memory,
+        },
+        read_report(alloc, LEFT_OUT.as_bytes())
+    )?;
+    calls.name = "picture_of_report";
+    let picture = match picture_of_report(alloc, report) {
+        Err(AllocError) if calls.may_be_refused() => {
+            picture_of_report(alloc, read_report(alloc, LEFT_OUT.as_bytes())?)?
+        }
+        made => made?,
+    };
+    match picture.refusal {
+        Some(
+            Refusal::Missing {
+                call: 0,
+                moment: 8,
+                reply: Reply::True,
+            },
+        ) => check(picture.points.is_empty()),
+        _ => Err(Wrong::Answer),
+    }
+}
+
+/// Pictures as text, also of a report with its first points, and one as an SVG.
+pub fn pictures(alloc: Global, calls: &mut Calls) -> Result<(), Wrong> {
+    of_replay(alloc, calls)?;
+    of_report(alloc, calls)?;
+    for (text, picture, status) in [(ONE_ADD, PICTURE, 0), (LEFT_OUT, LEFT_OUT_PICTURE, 1)] {
+        let answer = answer!(
+            calls,
+            "shown",
+            Trouble::Memory,
+            shown(alloc, text.as_bytes(), false, ALL)
+        );
+        check(text_of(answer, status)?.as_slice() == picture.as_bytes())?;
+    }
+    let sheet = answer!(
+        calls,
+        "shown (SVG)",
+        Trouble::Memory,
+        shown(alloc, ONE_ADD_REPORT.as_bytes(), true, ALL)
+    );
+    let sheet = text_of(sheet, 0)?;
+    check(sheet.starts_with(b"<svg ") && sheet.ends_with(b"</svg>\n"))
+}
