@@ -12,18 +12,26 @@ pub enum Failure {
     /// An error after which std's own loops call again.
     Interrupted,
     BrokenPipe,
-    /// A write that takes no byte. No reader fails so: it is the end of its text.
+    /// A write that takes no byte, or a flush that fails for it. No reader fails so: it is the end of its text.
     Nothing,
 }
 
 impl Failure {
+    /// The error of a call that has no bytes to take.
+    fn error(self) -> io::Error {
+        io::Error::from(match self {
+            Failure::Interrupted => ErrorKind::Interrupted,
+            Failure::BrokenPipe => ErrorKind::BrokenPipe,
+            Failure::Nothing => ErrorKind::WriteZero,
+        })
+    }
+
     fn answer(self) -> io::Result<usize>
         ensures { IfOk result (λ count. count ≡ 0) }
     {
         match self {
-            Failure::Interrupted => Err(io::Error::from(ErrorKind::Interrupted)),
-            Failure::BrokenPipe => Err(io::Error::from(ErrorKind::BrokenPipe)),
             Failure::Nothing => Ok(0),
+            _ => Err(self.error()),
         }
     }
 }
@@ -91,6 +99,14 @@ impl Writer {
             calls: 0,
         }
     }
+
+    /// Whether it took a front of the text, as many bytes as it takes at a call up to its failing one, and was not called
+    /// again. No flush came before.
+    pub fn stopped_within(&self, text: &str) -> bool {
+        self.calls == self.plan.fails_at.saturating_add(1)
+            && self.taken.len() == self.plan.fails_at.saturating_mul(self.plan.most)
+            && text.as_bytes().starts_with(&self.taken)
+    }
 }
 
 impl Write for Writer {
@@ -106,7 +122,11 @@ impl Write for Writer {
     }
 
     fn flush(&mut self) -> io::Result<()> {
-        self.calls = self.calls.saturating_add(1);
+        let call = self.calls;
+        self.calls = call.saturating_add(1);
+        if call == self.plan.fails_at {
+            return Err(self.plan.failure.error());
+        }
         Ok(())
     }
 }
