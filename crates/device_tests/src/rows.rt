@@ -5,7 +5,7 @@ use crate::texts::{
     SCHEDULE, SHEET, TRACE,
 };
 use lset_examples::{Example, tool_example};
-use lset_picture::Window;
+use lset_drawing::Window;
 use lset_run::tool_run;
 use lset_show::tool_show;
 use lset_tools::{tool_check, tool_gen, tool_replay};

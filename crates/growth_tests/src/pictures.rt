@@ -2,7 +2,7 @@
 use crate::calls::{Calls, Wrong, check, text_of};
 use crate::texts::{LEFT_OUT, ONE_ADD, ONE_ADD_REPORT, one_add};
 use lset_history::Refusal;
-use lset_picture::Window;
+use lset_drawing::Window;
 use lset_replay::{ReplayFault, ReportCause, ReportFault, read_report, replay_with_points};
 use lset_show::{picture_of_replay, picture_of_report, shown};
 use lset_tools::Trouble;
