@@ -16,7 +16,8 @@ status_of (Err t) = trouble.status_of t
 
 -- the text stands at the front of the room, and the rest is as it was; or there is no room for it, and nothing was written
 abbrev pub Handed : List ℕ → List ℕ → List ℕ → Type 0
-Handed text old new = ((length text ≤ length old) × (new ≡ text ++ drop (length text) old)) ⊎ ((length old < length text) × (new ≡ old))
+Handed text old new =
+    ((length text ≤ length old) × (new ≡ text ++ drop (length text) old)) ⊎ ((length old < length text) × (new ≡ old))
 
 -- What was made reaches the caller: its text where there is room, its status, and the length of the text.
 pub record IsHanded (made : Made) (old new : List ℕ) (status count : ℕ) : Type 0 where
