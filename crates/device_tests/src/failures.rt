@@ -152,7 +152,7 @@ fn each_write_of_a_line_fails_in_turn(rt: HostRuntime) -> Result<(), Fail> {
 fn a_read_and_the_line_about_it_fail(rt: HostRuntime) -> Result<(), Fail> {
     let [row, ..] = rows();
     let way = (Failure::Interrupted, 1);
-    for read in 0..=row.input.len() {
+    for read in 0..row.input.len().saturating_add(1) {
         for write in 0..CANNOT_READ.len() {
             let plans = [planned(way, read), WHOLE, planned(way, write)];
             let run = ran(&rt, rt.alloc(), row, plans)?;

@@ -7,7 +7,7 @@ use Rattle.std.proofs.lemmas.Str.Ascii.{IsAscii-cons, IsAscii-nil}
 use Rattle.lset_examples.specs.Examples.{name_of}
 use Rattle.lset_examples.specs.declared.example.Example.{Example}
 use Rattle.lset_examples.specs.declared.example.Example.TheVariants.{FailedTries, Full, HandOverHand, SameGap, StalePred, MarkedInChain}
-use Rattle.lset_examples.specs.declared.example.Example.TheVariants.{MarkedPred, ReadInAnothersStep, TwoRemovers, Snip, TriesAgain}
+use Rattle.lset_examples.specs.declared.example.Example.TheVariants.{MarkedPred, ReadInAnothersStep, TwoRemovers, Snip, TriesAgain, LeftInChain}
 
 abbrev is_ascii : List ℕ → Bool
 is_ascii [] = true
@@ -34,3 +34,4 @@ name_is_utf8 ReadInAnothersStep = spelled (name_of ReadInAnothersStep) refl
 name_is_utf8 TwoRemovers = spelled (name_of TwoRemovers) refl
 name_is_utf8 Snip = spelled (name_of Snip) refl
 name_is_utf8 TriesAgain = spelled (name_of TriesAgain) refl
+name_is_utf8 LeftInChain = spelled (name_of LeftInChain) refl
