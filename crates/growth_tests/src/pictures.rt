@@ -1,8 +1,8 @@
 //! Pictures of a schedule and of reports.
 use crate::calls::{Calls, Wrong, check, text_of};
 use crate::texts::{LEFT_OUT, ONE_ADD, ONE_ADD_REPORT, one_add};
+use lset_drawing::{Picture, Window};
 use lset_history::Refusal;
-use lset_drawing::Window;
 use lset_replay::{ReplayFault, ReportCause, ReportFault, read_report, replay_with_points};
 use lset_show::{picture_of_replay, picture_of_report, shown};
 use lset_tools::Trouble;
@@ -66,8 +66,8 @@ fn of_replay(alloc: Global, calls: &mut Calls) -> Result<(), Wrong> {
     check(picture.points.as_slice() == points.as_slice() && picture.refusal.is_none())
 }
 
-/// The report is read again where its picture was refused.
-fn of_report(alloc: Global, calls: &mut Calls) -> Result<(), Wrong> {
+/// The picture of the report with this text, which is read again where its picture was refused.
+fn of_report(alloc: Global, calls: &mut Calls, text: &str) -> Result<Picture, Wrong> {
     let report = answer!(
         calls,
         "read_report",
@@ -75,31 +75,42 @@ fn of_report(alloc: Global, calls: &mut Calls) -> Result<(), Wrong> {
             line: _,
             cause: ReportCause::Memory,
         },
-        read_report(alloc, LEFT_OUT.as_bytes())
+        read_report(alloc, text.as_bytes())
     )?;
     calls.name = "picture_of_report";
-    let picture = match picture_of_report(alloc, report) {
+    match picture_of_report(alloc, report) {
         Err(AllocError) if calls.may_be_refused() => {
-            picture_of_report(alloc, read_report(alloc, LEFT_OUT.as_bytes())?)?
+            let report = read_report(alloc, text.as_bytes())?;
+            Ok(picture_of_report(alloc, report)?)
         }
-        made => made?,
-    };
-    match picture.refusal {
-        Some(
-            Refusal::Missing {
-                call: 0,
-                moment: 8,
-                reply: Reply::True,
-            },
-        ) => check(picture.points.is_empty()),
-        _ => Err(Wrong::Answer),
+        made => Ok(made?),
     }
+}
+
+/// A report whose order is refused, and one with its first points.
+fn of_reports(alloc: Global, calls: &mut Calls) -> Result<(), Wrong> {
+    let refused = of_report(alloc, calls, LEFT_OUT)?;
+    let is_missing = matches!(
+        refused.refusal,
+        Some(Refusal::Missing {
+            call: 0,
+            moment: 8,
+            reply: Reply::True
+        })
+    );
+    check(is_missing && refused.points.is_empty())?;
+    let explained = of_report(alloc, calls, ONE_ADD_REPORT)?;
+    let points = [Point {
+        moment: 1,
+        change: true,
+    }];
+    check(explained.refusal.is_none() && explained.points.as_slice() == points.as_slice())
 }
 
 /// Pictures as text, also of a report with its first points, and one as an SVG.
 pub fn pictures(alloc: Global, calls: &mut Calls) -> Result<(), Wrong> {
     of_replay(alloc, calls)?;
-    of_report(alloc, calls)?;
+    of_reports(alloc, calls)?;
     for (text, picture, status) in [(ONE_ADD, PICTURE, 0), (LEFT_OUT, LEFT_OUT_PICTURE, 1)] {
         let answer = answer!(
             calls,
