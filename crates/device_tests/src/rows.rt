@@ -4,8 +4,8 @@ use crate::texts::{
     IDLE, IDLE_TRACE, LEFT_OUT, NO_CALLS, NO_TITLE, OUTCOME, PICTURE, REFUSED_PICTURE, REPORT,
     SCHEDULE, SHEET, TRACE,
 };
-use lset_examples::{Example, tool_example};
 use lset_drawing::Window;
+use lset_examples::{Example, tool_example};
 use lset_run::tool_run;
 use lset_show::tool_show;
 use lset_tools::{tool_check, tool_gen, tool_replay};
