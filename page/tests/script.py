@@ -6,8 +6,8 @@ import random
 import subprocess
 from concurrent.futures import ThreadPoolExecutor
 
-GENERATED = 4  # of each list
-REFUSED = 30
+GENERATED = 2  # of each list
+REFUSED = 20
 SECONDS = 120
 WRONG = ["no-such", "--chain", "-x", "replay a b", "replay --chain", "replay --chain a", "replay -x", "check --broken", "check a b",
          "trace --chain --chain", "trace --chain a b", "trace --chain=true", "trace --broken a", "example a b", "example --chain",
