@@ -1,8 +1,10 @@
-//! The tests of running sets.
+//! The tests of running sets, of plain loops beside the interpreter, and of programs on threads.
 #![tactic(auto)]
 
 #[cfg(test)]
 mod calls;
+#[cfg(test)]
+mod compared;
 #[cfg(test)]
 mod gathering;
 #[cfg(test)]
@@ -11,3 +13,5 @@ mod many;
 mod meeting;
 #[cfg(test)]
 mod opened;
+#[cfg(test)]
+mod programs;
