@@ -1,29 +1,16 @@
 ghost use Rattle.std.specs.Prelude.{◌≡◌};
 
 use crate::opened::last_seat;
+use crate::pauses::Count;
 use lset_lazy::LazyList;
 use lset_live::{LiveSet, Running, RunningReads, Seat, open};
 use lset_lock_free::LockFreeList;
-use lset_rule::Pause;
 use lset_words::{Call, Key, Reply};
 use std::alloc::Global;
-use std::cell::Cell;
 use std::process::Abort;
 use std::sync::Wait;
 use std::test::Fail;
 use stepped_lists::{SteppedLazyList, SteppedLockFreeList};
-
-/// Counts the steps that do not answer.
-#[derive(Drop)]
-struct Count {
-    steps: Cell<u64>,
-}
-
-impl Pause for Count {
-    fn moved(&self, _thread: u32, _failed: bool) {
-        self.steps.set(self.steps.get().wrapping_add(1));
-    }
-}
 
 /// The call number `i` of a program over 12 keys.
 fn call_of(i: u32) -> Call {
@@ -50,9 +37,7 @@ fn replies<M: Running, R: Wait>(
 {
     let mut told = Vec::new(alloc);
     for i in 0..400u32 {
-        let count = Count {
-            steps: Cell::new(0),
-        };
+        let count = Count::new(0);
         let reply = set.call(rt, seat, call_of(i), &count);
         told.push((reply, count.steps.get()))?;
     }

@@ -6,6 +6,8 @@ mod calls;
 #[cfg(test)]
 mod compared;
 #[cfg(test)]
+mod full;
+#[cfg(test)]
 mod gathering;
 #[cfg(test)]
 mod many;
@@ -14,4 +16,8 @@ mod meeting;
 #[cfg(test)]
 mod opened;
 #[cfg(test)]
+mod pauses;
+#[cfg(test)]
 mod programs;
+#[cfg(test)]
+mod waiting;

@@ -1,6 +1,7 @@
 ghost use Rattle.std.specs.Prelude.{◌≡◌, ◌<◌, ◌^◌, IfOk, IsTrue, All, length};
 
 use crate::opened::two_seats;
+use crate::waiting::Meeting;
 use lset_coarse::CoarseList;
 use lset_fine::FineList;
 use lset_lazy::LazyList;
@@ -13,11 +14,10 @@ use lset_work::{Always, Gate, Outcome, WorkCause, WorkFault, work};
 use std::alloc::{AllocError, Global};
 use std::process::Abort;
 use std::sync::Wait;
-use std::sync::atomic::{AtomicU64, Ordering};
+use std::sync::atomic::{AtomicU32, Ordering};
 use std::test::Fail;
-use std::thread;
 use std::thread::Threads;
-use std::time::{Clock, Duration};
+use std::time::Clock;
 
 fn adds(alloc: Global, keys: &[u32]) -> Result<Vec<Call>, AllocError> {
     let mut calls = Vec::new(alloc);
@@ -142,44 +142,63 @@ impl Gate for Shut {
     }
 }
 
+/// At the first, a middle and the last call of either seat.
 #[test]
 fn a_gate_ends_a_program(rt: HostRuntime) -> Result<(), Fail> {
-    let alloc = rt.alloc();
-    let shut = Shut { seat: 0, call: 1 };
-    let Err(fault) = worked_by_two::<LazyList, HostRuntime, Shut>(
-        &rt,
-        alloc,
-        two_programs(alloc)?,
-        &shut,
-    )?
-    else {
-        panic!(rt; "the gate was passed")
+    for (seat, call) in [(0, 0), (0, 1), (0, 2), (1, 0), (1, 1)] {
+        let shut = Shut { seat, call };
+        let programs = two_programs(rt.alloc())?;
+        let Err(fault) = worked_by_two::<LazyList, HostRuntime, Shut>(
+            &rt,
+            rt.alloc(),
+            programs,
+            &shut,
+        )?
+        else {
+            panic!(rt; "the gate was passed")
+        };
+        assert!(rt; fault.cause == WorkCause::Gate, "{seat} {call}");
+        assert!(rt; fault.back.is_none(), "{seat} {call}");
+    }
+    Ok(())
+}
+
+/// Counts how often it is asked for each of the first three calls of two seats, and for other ones.
+#[derive(Drop)]
+struct Asked {
+    counts: [AtomicU32; 7],
+}
+
+impl Gate for Asked {
+    fn pass(&self, seat: u32, call: u32) -> bool {
+        let at = if seat < 2 && call < 3 {
+            3 * seat + call
+        } else {
+            6
+        };
+        self.counts[at as usize].fetch_add(1, Ordering::SeqCst);
+        true
+    }
+}
+
+#[test]
+fn a_gate_is_asked_once_for_each_call(rt: HostRuntime) -> Result<(), Fail> {
+    let asked = Asked {
+        counts: [0; 7].map(AtomicU32::new),
     };
-    assert!(rt; fault.cause == WorkCause::Gate);
-    assert!(rt; fault.back.is_none());
+    let programs = two_programs(rt.alloc())?;
+    let worked = worked_by_two::<LazyList, HostRuntime, Asked>(&rt, rt.alloc(), programs, &asked)?;
+    assert!(rt; worked.is_ok());
+    for (count, wanted) in asked.counts.iter().zip([1, 1, 1, 1, 1, 0, 0]) {
+        assert_eq!(rt; count.load(Ordering::SeqCst), wanted);
+    }
     Ok(())
 }
 
 /// Holds each seat at its second call until the other seat is there too.
-#[derive(Drop)]
-struct Meeting<'a, R> {
-    rt: &'a R,
-    there: AtomicU64,
-}
-
 impl<'a, R: Clock> Gate for Meeting<'a, R> {
-    fn pass(&self, _seat: u32, call: u32) -> bool {
-        if call != 1 {
-            return true;
-        }
-        self.there.fetch_add(1, Ordering::SeqCst);
-        for _ in 0..10_000 {
-            if self.there.load(Ordering::SeqCst) >= 2 {
-                return true;
-            }
-            thread::sleep(self.rt, Duration::from_millis(1));
-        }
-        false
+    fn pass(&self, seat: u32, call: u32) -> bool {
+        call != 1 || self.come(seat)
     }
 }
 
@@ -190,10 +209,7 @@ fn meet<M: Running + Send + Sync, R: Threads + Wait + Abort + Sync + Clock>(
     let mut programs = Vec::new(alloc);
     programs.push(adds(alloc, &[1, 3])?)?;
     programs.push(adds(alloc, &[2, 4])?)?;
-    let gate = Meeting {
-        rt,
-        there: AtomicU64::new(0),
-    };
+    let gate = Meeting::new(rt);
     let Ok(outcome) = worked_by_two::<M, R, Meeting<'_, R>>(rt, alloc, programs, &gate)? else {
         panic!(rt; "the workers did not meet")
     };
