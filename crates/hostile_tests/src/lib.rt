@@ -1,9 +1,20 @@
-//! Tests of hostile texts, and of lists beside the sequential set. What is tried, and how often, stands in docs/TESTING.md.
+//! Tests of hostile texts, of devices that fail, and of lists beside the sequential set. What is tried, and how often, stands
+//! in docs/TESTING.md.
 #![tactic(auto)]
 
 #[cfg(test)]
+mod devices;
+#[cfg(test)]
+mod failures;
+#[cfg(test)]
 mod long_texts;
 #[cfg(test)]
+mod row_texts;
+#[cfg(test)]
+mod rows;
+#[cfg(test)]
 mod sequential;
+#[cfg(test)]
+mod servers;
 #[cfg(test)]
 mod texts;

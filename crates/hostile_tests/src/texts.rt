@@ -1,10 +1,10 @@
-use lset_replay::{ReplayFault, ReportCause, ReportFault, read_report, replay};
+use crate::row_texts::NO_CALLS;
+use lset_replay::{ReplayFault, replay};
+use lset_report::{ReportCause, ReportFault, read_report};
 use lset_schedule::{Cause, Line, ScheduleFault, read_schedule};
 use lset_words::{Call, Key};
 use std::alloc::{AllocError, Global};
 use std::test::Fail;
-
-const SCHEDULE_HEAD: &str = "listset-schedule 1\nlist coarse\nthreads 1\nquota 4\n";
 
 /// The report of one add, without its last line.
 const REPORT_FRONT: &str =
@@ -37,7 +37,7 @@ fn hostile_event_lines(rt: HostRuntime) -> Result<(), Fail> {
         (b"begin 0 add ", Cause::Number),
     ];
     for (line, cause) in rows {
-        let text = with_line(rt.alloc(), SCHEDULE_HEAD, line)?;
+        let text = with_line(rt.alloc(), NO_CALLS, line)?;
         let found = read_schedule(rt.alloc(), &text).err();
         assert_eq!(rt; found, Some(ScheduleFault { line: 5, cause }));
     }
@@ -46,7 +46,7 @@ fn hostile_event_lines(rt: HostRuntime) -> Result<(), Fail> {
 
 #[test]
 fn a_call_of_the_last_thread_of_all_is_read_and_not_replayed(rt: HostRuntime) -> Result<(), Fail> {
-    let text = with_line(rt.alloc(), SCHEDULE_HEAD, b"begin 4294967295 add 0")?;
+    let text = with_line(rt.alloc(), NO_CALLS, b"begin 4294967295 add 0")?;
     let schedule = read_schedule(rt.alloc(), &text)?;
     let lines = [Line::Begin(u32::MAX, Call::Add(Key(0)))];
     assert_eq!(rt; schedule.lines.as_slice(), lines.as_slice());

@@ -1,8 +1,12 @@
-//! The tests of running sets.
+//! The tests of running sets, of plain loops beside the interpreter, and of programs on threads.
 #![tactic(auto)]
 
 #[cfg(test)]
 mod calls;
+#[cfg(test)]
+mod compared;
+#[cfg(test)]
+mod full;
 #[cfg(test)]
 mod gathering;
 #[cfg(test)]
@@ -11,3 +15,9 @@ mod many;
 mod meeting;
 #[cfg(test)]
 mod opened;
+#[cfg(test)]
+mod pauses;
+#[cfg(test)]
+mod programs;
+#[cfg(test)]
+mod waiting;

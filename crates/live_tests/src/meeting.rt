@@ -1,6 +1,7 @@
 ghost use Rattle.std.specs.Prelude.{◌≡◌};
 
 use crate::opened::two_seats;
+use crate::waiting::{Meeting, comes};
 use lset_coarse::CoarseList;
 use lset_fine::FineList;
 use lset_lazy::LazyList;
@@ -12,66 +13,49 @@ use lset_words::{Call, Key, Reply};
 use std::alloc::Global;
 use std::process::Abort;
 use std::sync::Wait;
-use std::sync::atomic::{AtomicBool, Ordering};
+use std::sync::atomic::{AtomicBool, AtomicU64, Ordering};
 use std::test::Fail;
-use std::thread;
 use std::thread::{Threads, join};
-use std::time::{Clock, Duration};
+use std::time::Clock;
 
 /// Holds each of two threads at its first step until the other has made one too.
-#[derive(Drop)]
-struct Meeting<'a, R> {
-    rt: &'a R,
-    zero_came: AtomicBool,
-    one_came: AtomicBool,
-    missed: AtomicBool,
-}
-
 impl<'a, R: Clock> Pause for Meeting<'a, R> {
     fn moved(&self, thread: u32, _failed: bool) {
-        let (mine, other) = match thread {
-            0 => (&self.zero_came, &self.one_came),
-            _ => (&self.one_came, &self.zero_came),
-        };
-        if mine.swap(true, Ordering::SeqCst) {
-            return;
-        }
-        for _ in 0..10_000 {
-            if other.load(Ordering::SeqCst) {
-                return;
-            }
-            thread::sleep(self.rt, Duration::from_millis(1));
-        }
-        self.missed.store(true, Ordering::SeqCst);
+        let _has_met = self.come(thread);
     }
 }
 
-fn has_called<M: Running, R: Wait, P: Pause>(
+/// A seat adds a key once the flag is set.
+fn has_added<M: Running, R: Wait + Clock, P: Pause>(
     rt: &R,
     set: &LiveSet<M>,
     mut seat: Seat<M>,
-    call: Call,
+    key: u32,
     pause: &P,
+    start: &AtomicBool,
 ) -> Reply
     requires { seat.set ≡ set.now }
 {
-    set.call(rt, &mut seat, call, pause)
+    let _came = comes(rt, start);
+    set.call(rt, &mut seat, Call::Add(Key(key)), pause)
 }
 
-/// Two seats add a key each, in two threads.
-fn at_once<M: Running + Send + Sync, R: Threads + Wait + Sync, P: Pause + Sync>(
+/// Two seats add a key each, in two threads, the second once the flag is set.
+fn at_once<M: Running + Send + Sync, R: Threads + Wait + Clock + Sync, P: Pause + Sync>(
     rt: &R,
     set: &LiveSet<M>,
     zero: Seat<M>,
     one: Seat<M>,
     pause: &P,
+    start_of_one: &AtomicBool,
 ) -> (Reply, Reply)
     requires { (zero.set ≡ set.now) × (one.set ≡ set.now) }
 {
+    let start = AtomicBool::new(true);
     join(
         rt,
-        move || has_called(rt, set, zero, Call::Add(Key(1)), pause),
-        move || has_called(rt, set, one, Call::Add(Key(2)), pause),
+        move || has_added(rt, set, zero, 1, pause, &start),
+        move || has_added(rt, set, one, 2, pause, start_of_one),
     )
 }
 
@@ -80,14 +64,9 @@ fn calls_meet<M: Running + Send + Sync, R: Threads + Wait + Clock + Abort + Sync
     alloc: Global,
 ) -> Result<(), Fail> {
     let (set, zero, one) = two_seats::<M>(alloc)?;
-    let meeting = Meeting {
-        rt,
-        zero_came: AtomicBool::new(false),
-        one_came: AtomicBool::new(false),
-        missed: AtomicBool::new(false),
-    };
-    let replies = at_once(rt, &set, zero, one, &meeting);
-    assert!(rt; !meeting.missed.load(Ordering::SeqCst));
+    let meeting = Meeting::new(rt);
+    let replies = at_once(rt, &set, zero, one, &meeting, &AtomicBool::new(true));
+    assert!(rt; meeting.was_held());
     assert_eq!(rt; replies, (Reply::True, Reply::True));
     Ok(())
 }
@@ -99,4 +78,66 @@ fn two_calls_meet(rt: HostRuntime) -> Result<(), Fail> {
     calls_meet::<OptimisticList, HostRuntime>(&rt, rt.alloc())?;
     calls_meet::<LazyList, HostRuntime>(&rt, rt.alloc())?;
     calls_meet::<LockFreeList, HostRuntime>(&rt, rt.alloc())
+}
+
+/// Stops thread 0 after the step with a number, from 0, at which it has taken a lock, until thread 1 has failed to.
+#[derive(Drop)]
+struct Holder<'a, R> {
+    rt: &'a R,
+    locks_at: u64,
+    steps_of_zero: AtomicU64,
+    is_locked: AtomicBool,
+    one_failed: AtomicBool,
+    zero_failed: AtomicBool,
+    missed: AtomicBool,
+}
+
+impl<'a, R: Clock> Pause for Holder<'a, R> {
+    fn moved(&self, thread: u32, failed: bool) {
+        let has_failed = match thread {
+            0 => &self.zero_failed,
+            _ => &self.one_failed,
+        };
+        if failed {
+            has_failed.store(true, Ordering::SeqCst);
+        }
+        if thread == 0 && self.steps_of_zero.fetch_add(1, Ordering::SeqCst) == self.locks_at {
+            self.is_locked.store(true, Ordering::SeqCst);
+            let came = comes(self.rt, &self.one_failed);
+            self.missed.store(!came, Ordering::SeqCst);
+        }
+    }
+}
+
+fn is_told_of_a_lock<M: Running + Send + Sync, R: Threads + Wait + Clock + Abort + Sync>(
+    rt: &R,
+    alloc: Global,
+    locks_at: u64,
+) -> Result<(), Fail> {
+    let (set, zero, one) = two_seats::<M>(alloc)?;
+    let holder = Holder {
+        rt,
+        locks_at,
+        steps_of_zero: AtomicU64::new(0),
+        is_locked: AtomicBool::new(false),
+        one_failed: AtomicBool::new(false),
+        zero_failed: AtomicBool::new(false),
+        missed: AtomicBool::new(false),
+    };
+    let replies = at_once(rt, &set, zero, one, &holder, &holder.is_locked);
+    assert!(rt; holder.one_failed.load(Ordering::SeqCst));
+    assert!(rt; !holder.missed.load(Ordering::SeqCst));
+    assert!(rt; !holder.zero_failed.load(Ordering::SeqCst));
+    assert_eq!(rt; replies, (Reply::True, Reply::True));
+    Ok(())
+}
+
+/// Thread 0 has a lock that thread 1 tries: its first step takes the lock of the list or of the head, or its third one that
+/// of the head.
+#[test]
+fn a_pause_is_told_of_a_lock_that_another_seat_has(rt: HostRuntime) -> Result<(), Fail> {
+    is_told_of_a_lock::<CoarseList, HostRuntime>(&rt, rt.alloc(), 0)?;
+    is_told_of_a_lock::<FineList, HostRuntime>(&rt, rt.alloc(), 0)?;
+    is_told_of_a_lock::<OptimisticList, HostRuntime>(&rt, rt.alloc(), 2)?;
+    is_told_of_a_lock::<LazyList, HostRuntime>(&rt, rt.alloc(), 2)
 }

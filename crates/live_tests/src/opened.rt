@@ -5,7 +5,7 @@ use std::alloc::Global;
 use std::test::Fail;
 
 /// The last of the seats.
-fn last_seat<M: Running>(set: &LiveSet<M>, seats: &mut Vec<Seat<M>>) -> Result<Seat<M>, Fail>
+pub fn last_seat<M: Running>(set: &LiveSet<M>, seats: &mut Vec<Seat<M>>) -> Result<Seat<M>, Fail>
     requires { All (λ s. s.set ≡ set.now) seats.old.items }
     ensures seat { IfOk result (λ s. s.set ≡ set.now) }
     ensures rest { All (λ s. s.set ≡ set.now) seats.new.items }

@@ -1,16 +1,11 @@
-use lset_replay::ReportCause;
+use super::texts::{ONE_ADD, ONE_ADD_REPORT};
+use lset_report::ReportCause;
 use lset_schedule::Cause;
 use lset_tools::{
     Answer, LineCause, Moments, Trouble, ValueName, checked, line_of_trouble, read_moments,
     replayed,
 };
 use std::test::Fail;
-
-const ONE_ADD: &str =
-    "listset-schedule 1\nlist coarse\nthreads 1\nquota 4\nbegin 0 add 5\ngo 0 7\n";
-
-const ONE_ADD_REPORT: &str =
-    "listset-report 1\nlist coarse\nthreads 1\nquota 4\ncall 0 0 add 5 1 8 true\nplace 0 true\nkey 5\nend\n";
 
 /// The status and the text of an answer, or the trouble.
 fn told(made: &Result<Answer, Trouble>) -> Result<(u8, &str), Trouble> {

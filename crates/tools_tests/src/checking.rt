@@ -1,13 +1,12 @@
-use super::devices::{Reader, Writer, check_run};
+use super::devices::{Reader, Writer};
+use super::runs::check_run;
+use super::texts::ONE_ADD_REPORT;
 use lset_tools::tool_check;
 use std::test::Fail;
 
 /// Two calls, the second after the first has ended.
 const TWO_ADDS: &str =
     "listset-report 1\nlist coarse\nthreads 1\nquota 4\ncall 0 0 add 5 1 8 true\ncall 1 0 add 7 9 18 true\n";
-
-const EXPLAINED: &str =
-    "listset-report 1\nlist coarse\nthreads 1\nquota 4\ncall 0 0 add 5 1 8 true\nplace 0 true\nkey 5\nend\n";
 
 const LEFT_OUT: &str =
     "listset-report 1\nlist coarse\nthreads 1\nquota 4\ncall 0 0 add 5 1 8 true\nkey 5\nend\n";
@@ -102,8 +101,8 @@ fn a_text_that_is_no_report_gets_one_line(rt: HostRuntime) -> Result<(), Fail> {
 
 #[test]
 fn a_report_whose_reading_fails_is_not_judged(rt: HostRuntime) -> Result<(), Fail> {
-    for fails_at in [0, 1, 60, EXPLAINED.len() - 1, EXPLAINED.len()] {
-        let mut input = Reader::new(EXPLAINED, fails_at);
+    for fails_at in [0, 1, 60, ONE_ADD_REPORT.len() - 1, ONE_ADD_REPORT.len()] {
+        let mut input = Reader::new(ONE_ADD_REPORT, fails_at);
         let run = check_run(rt.alloc(), &mut input);
         assert_eq!(rt; input.calls, fails_at + 1);
         assert_eq!(rt; run.told()?, (1, "", "listset: cannot read\n"));
@@ -114,8 +113,8 @@ fn a_report_whose_reading_fails_is_not_judged(rt: HostRuntime) -> Result<(), Fai
 #[test]
 fn an_answer_that_is_not_written_is_a_trouble(rt: HostRuntime) -> Result<(), Fail> {
     let rows = [
-        (EXPLAINED, 0),
-        (EXPLAINED, 2),
+        (ONE_ADD_REPORT, 0),
+        (ONE_ADD_REPORT, 2),
         (LEFT_OUT, 0),
         (LEFT_OUT, 1),
         (LEFT_OUT, "refused Missing 0".len()),

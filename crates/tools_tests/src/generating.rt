@@ -1,8 +1,7 @@
-use super::devices::{Writer, check_run, gen_run, replay_run, texts};
+use super::devices::Writer;
+use super::runs::{KINDS, check_run, gen_run, replay_run, texts};
 use lset_tools::tool_gen;
 use std::test::Fail;
-
-const KINDS: [&str; 5] = ["coarse", "fine", "optimistic", "lazy", "lock-free"];
 
 /// Six right values, but for the one with the index, which is spelled as given.
 fn values_with<'a>(wrong: usize, spelling: &'a str) -> [&'a str; 6] {

@@ -1,4 +1,5 @@
-//! The tests of the program: its words, its tools, and which tool does what the words ask for.
+//! The tests of the program: its words, its tools, the examples, pictures and traces, and which tool does what the words
+//! ask for.
 #![tactic(auto)]
 
 #[cfg(test)]
@@ -10,8 +11,22 @@ mod commands;
 #[cfg(test)]
 mod devices;
 #[cfg(test)]
+mod examples;
+#[cfg(test)]
 mod generating;
+#[cfg(test)]
+mod pictures;
 #[cfg(test)]
 mod programs;
 #[cfg(test)]
 mod replaying;
+#[cfg(test)]
+mod running;
+#[cfg(test)]
+mod runs;
+#[cfg(test)]
+mod texts;
+#[cfg(test)]
+mod traces;
+#[cfg(test)]
+mod tracing;

@@ -1,17 +1,13 @@
-use super::devices::{Writer, words_run};
+use super::devices::Writer;
+use super::runs::words_run;
+use super::texts::{ONE_ADD, ONE_ADD_REPORT};
 use lset_dispatch::run_words;
 use std::fs;
 use std::test::Fail;
 
-const ONE_ADD: &str =
-    "listset-schedule 1\nlist coarse\nthreads 1\nquota 4\nbegin 0 add 5\ngo 0 7\n";
-
 /// The schedule of the example `full`.
 const FULL: &str =
     "listset-schedule 1\nlist coarse\nthreads 1\nquota 1\nbegin 0 add 5\ngo 0 7\nbegin 0 remove 5\ngo 0 6\nbegin 0 add 7\ngo 0 4\n";
-
-const ONE_ADD_REPORT: &str =
-    "listset-report 1\nlist coarse\nthreads 1\nquota 4\ncall 0 0 add 5 1 8 true\nplace 0 true\nkey 5\nend\n";
 
 #[test]
 fn each_command_is_done_on_the_standard_input(rt: HostRuntime) -> Result<(), Fail> {

@@ -1,17 +1,13 @@
-use super::devices::{Reader, Writer, Zeros, replay_run};
+use super::devices::{Reader, Writer, Zeros};
+use super::runs::replay_run;
+use super::texts::{ONE_ADD, ONE_ADD_REPORT};
 use lset_tools::{LONGEST, tool_replay};
 use std::test::Fail;
-
-const ONE_ADD: &str =
-    "listset-schedule 1\nlist coarse\nthreads 1\nquota 4\nbegin 0 add 5\ngo 0 7\n";
 
 #[test]
 fn a_schedule_is_reported(rt: HostRuntime) -> Result<(), Fail> {
     let rows = [
-        (
-            ONE_ADD,
-            "listset-report 1\nlist coarse\nthreads 1\nquota 4\ncall 0 0 add 5 1 8 true\nplace 0 true\nkey 5\nend\n",
-        ),
+        (ONE_ADD, ONE_ADD_REPORT),
         (
             "listset-schedule 1\nlist coarse\nthreads 2\nquota 4\nbegin 0 add 5\nbegin 1 add 5\ngo 0 1\ngo 1 3\ngo 0 6\ngo 1 4\n",
             "listset-report 1\nlist coarse\nthreads 2\nquota 4\ncall 0 0 add 5 1 12 true\ncall 1 1 add 5 2 16 false\nplace 0 true\nplace 1 false\nkey 5\nend\n",

@@ -1,0 +1,185 @@
+//! Each read and each write of each run of the tools, in turn.
+use crate::devices::{Failure, Plan, WHOLE};
+use crate::row_texts::{CANNOT_READ, CANNOT_WRITE};
+use crate::rows::{Row, Run, ran, rows};
+use std::alloc::Global;
+use std::process::Abort;
+use std::sync::Wait;
+use std::test::Fail;
+use std::thread::Threads;
+
+/// How a device fails, and how many bytes it moves at a call.
+type Way = (Failure, usize);
+
+const READS: [Way; 6] = [
+    (Failure::Interrupted, 1),
+    (Failure::Interrupted, 7),
+    (Failure::Interrupted, 4096),
+    (Failure::BrokenPipe, 1),
+    (Failure::BrokenPipe, 7),
+    (Failure::BrokenPipe, 4096),
+];
+
+const WRITES: [Way; 3] = [
+    (Failure::Interrupted, 1),
+    (Failure::BrokenPipe, 3),
+    (Failure::Nothing, 7),
+];
+
+/// More calls than a run makes on one of its devices.
+const MOST_CALLS: usize = 10_000;
+
+fn planned((failure, most): Way, fails_at: usize) -> Plan {
+    Plan {
+        most,
+        fails_at,
+        failure,
+    }
+}
+
+#[derive(Clone, Copy)]
+enum Device {
+    Input,
+    Output,
+    Faults,
+}
+
+impl Device {
+    /// The plans of a run in which this device alone fails.
+    fn plans(self, plan: Plan) -> [Plan; 3] {
+        match self {
+            Device::Input => [plan, WHOLE, WHOLE],
+            Device::Output => [WHOLE, plan, WHOLE],
+            Device::Faults => [WHOLE, WHOLE, plan],
+        }
+    }
+
+    /// How often it was called.
+    fn calls(self, run: &Run) -> usize {
+        match self {
+            Device::Input => run.input.calls,
+            Device::Output => run.output.calls,
+            Device::Faults => run.faults.calls,
+        }
+    }
+
+    /// Whether a run in which it failed did as it is to: nothing is written on the output after a failing read; after a
+    /// failing write a front of the text stands there; where the line about a trouble fails, the status stays.
+    fn is_met(self, row: Row, run: &Run) -> bool {
+        match self {
+            Device::Input => run.status == 1 && run.told(CANNOT_READ),
+            Device::Output => {
+                run.status == 1
+                    && run.output.stopped_within(row.output)
+                    && run.faults.taken.as_slice() == CANNOT_WRITE.as_bytes()
+            }
+            Device::Faults => {
+                run.status == row.status
+                    && run.faults.stopped_within(row.faults)
+                    && run.output.calls == 0
+            }
+        }
+    }
+}
+
+/// How many runs of a row there are in which the device fails, at each of its calls in turn, until a run ends without a
+/// failure.
+fn each_call_fails<R: Threads + Wait + Sync + Abort>(
+    rt: &R,
+    alloc: Global,
+    row: Row,
+    device: Device,
+    way: Way,
+) -> Result<usize, Fail> {
+    for fails_at in 0..MOST_CALLS {
+        let run = ran(rt, alloc, row, device.plans(planned(way, fails_at)))?;
+        if device.calls(&run) <= fails_at {
+            assert!(rt; run.is_unharmed(row));
+            return Ok(fails_at);
+        }
+        assert!(rt; device.is_met(row, &run));
+        assert_eq!(rt; device.calls(&run), fails_at + 1);
+    }
+    Err(Fail::new("no run ends without a failure"))
+}
+
+/// How many runs of all rows there are.
+fn each_row_fails<R: Threads + Wait + Sync + Abort>(
+    rt: &R,
+    alloc: Global,
+    device: Device,
+    way: Way,
+) -> Result<usize, Fail> {
+    let mut runs = 0usize;
+    for row in rows() {
+        runs = runs.saturating_add(each_call_fails(rt, alloc, row, device, way)?);
+    }
+    Ok(runs)
+}
+
+#[test]
+fn each_read_fails_in_turn(rt: HostRuntime) -> Result<(), Fail> {
+    let mut runs = 0usize;
+    for way in READS {
+        runs = runs.saturating_add(each_row_fails(&rt, rt.alloc(), Device::Input, way)?);
+    }
+    assert_eq!(rt; runs, 3_334);
+    Ok(())
+}
+
+#[test]
+fn each_write_on_the_output_fails_in_turn(rt: HostRuntime) -> Result<(), Fail> {
+    let mut runs = 0usize;
+    for way in WRITES {
+        runs = runs.saturating_add(each_row_fails(&rt, rt.alloc(), Device::Output, way)?);
+    }
+    assert_eq!(rt; runs, 5_071);
+    Ok(())
+}
+
+#[test]
+fn each_write_of_a_line_fails_in_turn(rt: HostRuntime) -> Result<(), Fail> {
+    let mut runs = 0usize;
+    for way in WRITES {
+        runs = runs.saturating_add(each_row_fails(&rt, rt.alloc(), Device::Faults, way)?);
+    }
+    assert_eq!(rt; runs, 252);
+    Ok(())
+}
+
+/// Each read of the first row, and beside it each write of the line about it.
+#[test]
+fn a_read_and_the_line_about_it_fail(rt: HostRuntime) -> Result<(), Fail> {
+    let [row, ..] = rows();
+    let way = (Failure::Interrupted, 1);
+    for read in 0..row.input.len().saturating_add(1) {
+        for write in 0..CANNOT_READ.len() {
+            let plans = [planned(way, read), WHOLE, planned(way, write)];
+            let run = ran(&rt, rt.alloc(), row, plans)?;
+            assert_eq!(rt; run.status, 1);
+            assert!(rt; run.faults.stopped_within(CANNOT_READ));
+            assert_eq!(rt;
+                (run.input.calls, run.output.calls),
+                (read.saturating_add(1), 0)
+            );
+        }
+    }
+    Ok(())
+}
+
+/// Each write on the output of the first row, and beside it each write of the line about it.
+#[test]
+fn a_write_and_the_line_about_it_fail(rt: HostRuntime) -> Result<(), Fail> {
+    let [row, ..] = rows();
+    let way = (Failure::Interrupted, 1);
+    for call in 0..row.output.len() {
+        for write in 0..CANNOT_WRITE.len() {
+            let plans = [WHOLE, planned(way, call), planned(way, write)];
+            let run = ran(&rt, rt.alloc(), row, plans)?;
+            assert_eq!(rt; run.status, 1);
+            assert!(rt; run.output.stopped_within(row.output));
+            assert!(rt; run.faults.stopped_within(CANNOT_WRITE));
+        }
+    }
+    Ok(())
+}

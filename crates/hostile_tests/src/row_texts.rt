@@ -1,0 +1,118 @@
+//! What goes into the tools of the rows, and what comes out.
+
+pub const SCHEDULE: &str =
+    "listset-schedule 1\nlist coarse\nthreads 1\nquota 4\nbegin 0 add 5\ngo 0 7\n";
+
+pub const REPORT: &str =
+    "listset-report 1\nlist coarse\nthreads 1\nquota 4\ncall 0 0 add 5 1 8 true\nplace 0 true\nkey 5\nend\n";
+
+/// A report whose order leaves out its call.
+pub const LEFT_OUT: &str =
+    "listset-report 1\nlist coarse\nthreads 1\nquota 4\ncall 0 0 add 5 1 8 true\nkey 5\nend\n";
+
+/// A schedule with a step of a thread that has no call open.
+pub const IDLE: &str =
+    "listset-schedule 1\nlist coarse\nthreads 1\nquota 4\nbegin 0 add 5\ngo 0 1\ngo 0 7\n";
+
+pub const NO_CALLS: &str = "listset-schedule 1\nlist coarse\nthreads 1\nquota 4\n";
+
+pub const NO_TITLE: &str = "listset: line 1: Header\n";
+
+pub const CANNOT_READ: &str = "listset: cannot read\n";
+
+pub const CANNOT_WRITE: &str = "listset: cannot write\n";
+
+/// The picture of the schedule.
+pub const PICTURE: &str = "\
+coarse list, 1 thread, quota 4: 1 call in 8 events
+
+moment    1      7   8
+thread 0  [add 5-*---true]
+set       {}     {5}
+
+order
+   1  at 7     thread 0  add 5 true
+keys  5
+
+* changes the set    o changes nothing, its reply fits there    > still open
+";
+
+/// The picture of the report whose order leaves out its call.
+pub const REFUSED_PICTURE: &str = "\
+coarse list, 1 thread, quota 4: 1 call
+
+moment    1      8
+thread 0  [add 5-true]
+
+order
+keys  5
+
+refused Missing 0: it ended at 8 with true and has no place
+";
+
+/// The trace of the schedule with the chains.
+pub const TRACE: &str = "\
+listset-trace 1
+list coarse
+threads 1
+quota 4
+event 1 line 5 thread 0 begin add 5 call 0 pc 1
+event 2 line 6 thread 0 exchange list.lock from free to t0 saw free pc 2
+event 3 line 6 thread 0 load head.link saw tail pc 3 curr tail
+event 4 line 6 thread 0 load tail.key saw +inf pc 5 ckey +inf
+event 5 line 6 thread 0 store n2.key 5 pc 6
+event 6 line 6 thread 0 store n2.link tail pc 7
+event 7 line 6 thread 0 store head.link n2 pc 10 used 1 reply true put 5
+chain 5
+event 8 line 6 thread 0 store list.lock free pc 0 answer true call 0 at 7
+end
+";
+
+/// The trace of the schedule with a step too much, without chains.
+pub const IDLE_TRACE: &str = "\
+listset-trace 1
+list coarse
+threads 1
+quota 4
+event 1 line 5 thread 0 begin add 5 call 0 pc 1
+event 2 line 6 thread 0 exchange list.lock from free to t0 saw free pc 2
+event 3 line 7 thread 0 load head.link saw tail pc 3 curr tail
+event 4 line 7 thread 0 load tail.key saw +inf pc 5 ckey +inf
+event 5 line 7 thread 0 store n2.key 5 pc 6
+event 6 line 7 thread 0 store n2.link tail pc 7
+event 7 line 7 thread 0 store head.link n2 pc 10 used 1 reply true put 5
+event 8 line 7 thread 0 store list.lock free pc 0 answer true call 0 at 7
+refused line 7 Idle
+";
+
+/// What is written of the two calls that a thread draws from seed 1, `add 6` and `remove 0`.
+pub const OUTCOME: &str = "calls 2\ntrue 1\nfalse 1\nfull 0\nkeys 1\nkey 6\n";
+
+/// The picture of the schedule as an SVG.
+pub const SHEET: &str = concat!(
+    r#"<svg xmlns="http://www.w3.org/2000/svg" font-family="monospace" font-size="12" width="752" height="246">
+<title>coarse list, 1 thread, quota 4: 1 call in 8 events</title>
+<rect width="100%" height="100%" fill="white"/>
+<text xml:space="preserve" x="8" y="20">coarse list, 1 thread, quota 4: 1 call in 8 events</text>
+<text xml:space="preserve" x="8" y="60">moment</text>
+<text xml:space="preserve" x="8" y="94">thread 0</text>
+<text xml:space="preserve" x="8" y="130">set</text>
+<text xml:space="preserve" x="88" y="60">1</text>
+<text xml:space="preserve" x="88" y="130">{}</text>
+<text xml:space="preserve" x="151" y="60">7</text>
+<text xml:space="preserve" x="151" y="130">{5}</text>
+<text xml:space="preserve" x="187" y="60">8</text>
+<line x1="151" y1="90" x2="151" y2="116" stroke="silver"/>
+<line x1="88" y1="90" x2="187" y2="90" stroke="black" stroke-width="2"/>
+<text xml:space="preserve" x="88" y="80">add 5</text>
+<text xml:space="preserve" x="197" y="94">true</text>
+<circle cx="151" cy="90" r="5" fill="black" stroke="black"/>
+<text xml:space="preserve" x="8" y="166">order</text>
+<text xml:space="preserve" x="8" y="182">   1  at 7     thread 0  add 5 true</text>
+<text xml:space="preserve" x="8" y="198">keys  5</text>
+<text xml:space="preserve" x="8" y="214"></text>
+<text xml:space="preserve" x="8" y="230">filled: changes the set    "#,
+    r#"open: changes nothing, its reply fits there    dashed: still open</text>
+</svg>
+"#,
+);

@@ -1,0 +1,169 @@
+//! Runs of the tools, on devices that fail as planned.
+use crate::devices::{Plan, Reader, Writer};
+use crate::row_texts::{
+    IDLE, IDLE_TRACE, LEFT_OUT, NO_CALLS, NO_TITLE, OUTCOME, PICTURE, REFUSED_PICTURE, REPORT,
+    SCHEDULE, SHEET, TRACE,
+};
+use lset_drawing::Window;
+use lset_examples::{Example, tool_example};
+use lset_run::tool_run;
+use lset_show::tool_show;
+use lset_tools::{tool_check, tool_gen, tool_replay};
+use lset_trace::tool_trace;
+use std::alloc::{AllocError, Global};
+use std::sync::Wait;
+use std::thread::Threads;
+
+/// Every moment.
+const ALL: Window = Window {
+    from: 1,
+    to: 4_294_967_295,
+};
+
+#[derive(Clone, Copy)]
+pub enum Tool {
+    Replay,
+    Check,
+    /// As text.
+    Show,
+    /// As an SVG.
+    Svg,
+    Trace,
+    /// With the chains.
+    TraceChains,
+    /// With this KIND, and with numbers that are right.
+    Gen(&'static str),
+    /// Of this name.
+    Example(&'static str),
+    /// The broken report of this name.
+    Broken(&'static str),
+    /// With this KIND, of one thread with two calls.
+    Run(&'static str),
+}
+
+/// A run of a tool whose devices do not fail.
+#[derive(Clone, Copy)]
+pub struct Row {
+    pub tool: Tool,
+    pub input: &'static str,
+    pub status: u8,
+    pub output: &'static str,
+    pub faults: &'static str,
+}
+
+/// A run that writes on the output.
+fn writes(tool: Tool, input: &'static str, status: u8, output: &'static str) -> Row {
+    Row {
+        tool,
+        input,
+        status,
+        output,
+        faults: "",
+    }
+}
+
+/// A run that tells a fault.
+fn tells(tool: Tool, input: &'static str, status: u8, faults: &'static str) -> Row {
+    Row {
+        tool,
+        input,
+        status,
+        output: "",
+        faults,
+    }
+}
+
+pub fn rows() -> [Row; 20] {
+    let broken = Example::StalePred.broken_report_text().unwrap_or("");
+    [
+        writes(Tool::Replay, SCHEDULE, 0, REPORT),
+        tells(Tool::Replay, REPORT, 1, NO_TITLE),
+        writes(Tool::Check, REPORT, 0, "ok\n"),
+        writes(Tool::Check, LEFT_OUT, 1, "refused Missing 0\n"),
+        tells(Tool::Check, SCHEDULE, 1, NO_TITLE),
+        writes(Tool::Show, SCHEDULE, 0, PICTURE),
+        writes(Tool::Show, LEFT_OUT, 1, REFUSED_PICTURE),
+        tells(Tool::Show, TRACE, 1, NO_TITLE),
+        writes(Tool::Svg, SCHEDULE, 0, SHEET),
+        writes(Tool::TraceChains, SCHEDULE, 0, TRACE),
+        writes(Tool::Trace, IDLE, 1, IDLE_TRACE),
+        tells(Tool::Trace, REPORT, 1, NO_TITLE),
+        writes(Tool::Gen("coarse"), "", 0, NO_CALLS),
+        tells(Tool::Gen("skip"), "", 2, "listset: bad KIND\n"),
+        writes(Tool::Example("full"), "", 0, Example::Full.schedule_text()),
+        tells(Tool::Example("snap"), "", 2, "listset: bad NAME\n"),
+        writes(Tool::Broken("stale-pred"), "", 0, broken),
+        tells(Tool::Broken("snip"), "", 2, "listset: bad NAME\n"),
+        writes(Tool::Run("coarse"), "", 0, OUTCOME),
+        tells(Tool::Run("skip"), "", 2, "listset: bad KIND\n"),
+    ]
+}
+
+/// What a tool did with its devices.
+#[derive(Drop)]
+pub struct Run {
+    pub status: u8,
+    pub input: Reader,
+    pub output: Writer,
+    pub faults: Writer,
+}
+
+impl Run {
+    /// Whether the tool did all that it does where no device fails.
+    pub fn is_unharmed(&self, row: Row) -> bool {
+        self.status == row.status
+            && self.output.taken.as_slice() == row.output.as_bytes()
+            && self.faults.taken.as_slice() == row.faults.as_bytes()
+    }
+
+    /// Whether the tool told nothing but one line about a trouble.
+    pub fn told(&self, line: &str) -> bool {
+        self.output.calls == 0 && self.faults.taken.as_slice() == line.as_bytes()
+    }
+}
+
+pub fn texts_of(alloc: Global, words: &[&str]) -> Result<Vec<String>, AllocError> {
+    let mut values = Vec::new(alloc);
+    for word in words {
+        values.push(String::from_str(alloc, word)?)?;
+    }
+    Ok(values)
+}
+
+/// Runs the tool of a row on devices of these plans: of its input, its output and `faults`.
+pub fn ran<R: Threads + Wait + Sync>(
+    rt: &R,
+    alloc: Global,
+    row: Row,
+    plans: [Plan; 3],
+) -> Result<Run, AllocError> {
+    let [input, output, faults] = plans;
+    let mut input = Reader::new(row.input, input);
+    let mut output = Writer::new(alloc, output);
+    let mut faults = Writer::new(alloc, faults);
+    let (from, to, also) = (&mut input, &mut output, &mut faults);
+    let status = match row.tool {
+        Tool::Replay => tool_replay(alloc, from, to, also),
+        Tool::Check => tool_check(alloc, from, to, also),
+        Tool::Show => tool_show(alloc, false, ALL, from, to, also),
+        Tool::Svg => tool_show(alloc, true, ALL, from, to, also),
+        Tool::Trace => tool_trace(alloc, false, from, to, also),
+        Tool::TraceChains => tool_trace(alloc, true, from, to, also),
+        Tool::Example(name) => tool_example(alloc, false, Some(name), to, also),
+        Tool::Broken(name) => tool_example(alloc, true, Some(name), to, also),
+        Tool::Gen(kind) => {
+            let values = texts_of(alloc, &[kind, "1", "4", "0", "8", "1"])?;
+            tool_gen(alloc, &values, to, also)
+        }
+        Tool::Run(kind) => {
+            let values = texts_of(alloc, &[kind, "1", "4", "2", "8", "1"])?;
+            tool_run(rt, alloc, &values, to, also)
+        }
+    };
+    Ok(Run {
+        status,
+        input,
+        output,
+        faults,
+    })
+}

@@ -1,0 +1,303 @@
+//! A server whose output fails. Its port is another in each run, so its first line is compared but for the port's digits.
+use crate::devices::{Failure, Plan, WHOLE, Writer};
+use crate::row_texts::CANNOT_WRITE;
+use crate::rows::texts_of;
+use lset_serve::tool_serve;
+use std::alloc::{AllocError, Global};
+use std::io::{self, Read, Write};
+use std::net::{Net, TcpListener, TcpStream};
+use std::process::Abort;
+use std::sync::Wait;
+use std::test::Fail;
+use std::thread::Threads;
+
+const LISTENING: &str = "listening 127.0.0.1:";
+
+/// What stands after the first line where no session was held.
+const NO_SESSION: &str = "sessions 0\ncalls 0\n";
+
+/// What stands after the first line where the client was served.
+const ONE_SESSION: &str = "sessions 1\ncalls 1\nkey 7\n";
+
+/// More calls than a run makes on its output.
+const MOST_CALLS: usize = 100;
+
+/// How the output fails, and how many bytes it takes at a call.
+const WAYS: [(Failure, usize); 3] = [
+    (Failure::Interrupted, 1),
+    (Failure::BrokenPipe, 3),
+    (Failure::Nothing, 7),
+];
+
+/// A client that asks for a call and takes its leave before the server accepts it, so that it needs no thread of its own.
+fn client<R: Net<Listener = TcpListener, Stream = TcpStream>>(
+    rt: &R,
+    port: u16,
+) -> io::Result<TcpStream> {
+    let mut stream = TcpStream::connect(rt, ("127.0.0.1", port))?;
+    stream.write_all(b"ADD 7\nQUIT\n")?;
+    Ok(stream)
+}
+
+/// The port that a whole first line names.
+fn port_in(text: &[u8]) -> Option<u16> {
+    let text = std::str::from_utf8(text).ok()?;
+    text.strip_prefix(LISTENING)?
+        .strip_suffix("\n")?
+        .parse()
+        .ok()
+}
+
+/// The output of a server. When the first line is flushed, a client connects.
+#[derive(Drop)]
+struct Door<'r, R> {
+    rt: &'r R,
+    writer: Writer,
+    client: Option<TcpStream>,
+    /// Whether the flush succeeded.
+    is_open: bool,
+}
+
+impl<'r, R> Door<'r, R> {
+    fn new(rt: &'r R, alloc: Global, plan: Plan) -> Door<'r, R> {
+        Door {
+            rt,
+            writer: Writer::new(alloc, plan),
+            client: None,
+            is_open: false,
+        }
+    }
+}
+
+impl<R: Net<Listener = TcpListener, Stream = TcpStream>> Write for Door<'_, R> {
+    fn write(&mut self, buf: &[u8]) -> io::Result<usize> {
+        self.writer.write(buf)
+    }
+
+    fn flush(&mut self) -> io::Result<()> {
+        if let Some(port) = port_in(&self.writer.taken) {
+            self.client = Some(client(self.rt, port)?);
+        }
+        self.writer.flush()?;
+        self.is_open = true;
+        Ok(())
+    }
+}
+
+/// Whether the client got its answers, and then the end.
+fn is_answered(client: Option<TcpStream>) -> bool {
+    let Some(mut stream) = client else {
+        return false;
+    };
+    let mut answers = [0u8; 9];
+    let mut more = [0u8; 1];
+    stream.read_exact(&mut answers).is_ok()
+        && answers.as_slice() == b"TRUE\nBYE\n".as_slice()
+        && matches!(stream.read(&mut more), Ok(0))
+}
+
+/// Whether the client, where there was one, got no byte.
+fn is_turned_away(client: Option<TcpStream>) -> bool {
+    let Some(mut stream) = client else {
+        return true;
+    };
+    let mut answers = [0u8; 9];
+    match stream.read(&mut answers) {
+        Ok(count) => count == 0,
+        Err(_) => true,
+    }
+}
+
+/// The rest of a text after its first digits, and how many those are.
+fn after_digits(text: &str) -> (&str, usize) {
+    let rest = text.trim_start_matches(|letter: char| letter.is_ascii_digit());
+    (rest, text.len().saturating_sub(rest.len()))
+}
+
+/// Whether the bytes are a front of the first line and of the text after it.
+fn is_front(bytes: &[u8], after: &str) -> Option<bool> {
+    let text = std::str::from_utf8(bytes).ok()?;
+    let Some(named) = text.strip_prefix(LISTENING) else {
+        return Some(LISTENING.starts_with(text));
+    };
+    let (rest, digits) = after_digits(named);
+    match rest.strip_prefix("\n") {
+        Some(rest) => Some(digits > 0 && after.starts_with(rest)),
+        None => Some(rest.is_empty()),
+    }
+}
+
+/// Whether the bytes are the first line and the text after it.
+fn is_whole(bytes: &[u8], after: &str) -> Option<bool> {
+    let ends = bytes.ends_with(after.as_bytes());
+    Some(ends && is_front(bytes, after)?)
+}
+
+/// What a server did with its devices.
+#[derive(Drop)]
+struct Run {
+    status: u8,
+    output: Writer,
+    faults: Writer,
+    client: Option<TcpStream>,
+    is_open: bool,
+}
+
+/// Runs the tool on the values of KIND, PORT and SESSIONS, on devices of these plans: of its output and of `faults`.
+fn ran<R: Net<Listener = TcpListener, Stream = TcpStream> + Threads + Wait + Sync>(
+    rt: &R,
+    alloc: Global,
+    [kind, port, sessions]: [&str; 3],
+    [output, faults]: [Plan; 2],
+) -> Result<Run, AllocError> {
+    let values = texts_of(alloc, &[kind, "1", "4", port, sessions])?;
+    let mut door = Door::new(rt, alloc, output);
+    let mut faults = Writer::new(alloc, faults);
+    let status = tool_serve(rt, alloc, &values, &mut door, &mut faults);
+    let Door {
+        rt: _,
+        writer,
+        client,
+        is_open,
+    } = door;
+    Ok(Run {
+        status,
+        output: writer,
+        faults,
+        client,
+        is_open,
+    })
+}
+
+/// A server of one session whose output fails as planned, and whether it did.
+fn output_fails<R: Net<Listener = TcpListener, Stream = TcpStream> + Threads + Wait + Sync + Abort>(
+    rt: &R,
+    alloc: Global,
+    plan: Plan,
+) -> Result<bool, Fail> {
+    let run = ran(rt, alloc, ["lazy", "0", "1"], [plan, WHOLE])?;
+    if run.status == 0 {
+        assert_eq!(rt; is_whole(&run.output.taken, ONE_SESSION), Some(true));
+        assert!(rt; run.faults.taken.is_empty());
+        assert!(rt; run.output.calls <= plan.fails_at);
+        assert!(rt; is_answered(run.client));
+        return Ok(false);
+    }
+    assert_eq!(rt; run.status, 1);
+    assert_eq!(rt; is_front(&run.output.taken, ONE_SESSION), Some(true));
+    assert_eq!(rt; run.faults.taken.as_slice(), CANNOT_WRITE.as_bytes());
+    assert_eq!(rt; run.output.calls, plan.fails_at.saturating_add(1));
+    if run.is_open {
+        assert!(rt; is_answered(run.client));
+    } else {
+        assert!(rt; is_turned_away(run.client));
+    }
+    Ok(true)
+}
+
+/// How many runs there are in which the output fails, at each of its calls in turn, until a run ends without a failure.
+fn each_call_fails<
+    R: Net<Listener = TcpListener, Stream = TcpStream> + Threads + Wait + Sync + Abort,
+>(rt: &R, alloc: Global, (failure, most): (Failure, usize)) -> Result<usize, Fail> {
+    for fails_at in 0..MOST_CALLS {
+        let plan = Plan {
+            most,
+            fails_at,
+            failure,
+        };
+        if !output_fails(rt, alloc, plan)? {
+            return Ok(fails_at);
+        }
+    }
+    Err(Fail::new("no run ends without a failure"))
+}
+
+/// Each write and the flush in turn, until a run ends without a failure. Where the first line is not out, whole and flushed,
+/// no client is accepted.
+#[test]
+fn each_call_on_the_output_fails_in_turn(rt: HostRuntime) -> Result<(), Fail> {
+    for way in WAYS {
+        let runs = each_call_fails(&rt, rt.alloc(), way)?;
+        assert!(rt; runs.saturating_mul(way.1) > LISTENING.len());
+    }
+    Ok(())
+}
+
+/// A server of no session whose output fails as planned, and beside it each write of the line about it; and whether the
+/// output did.
+fn both_fail<R: Net<Listener = TcpListener, Stream = TcpStream> + Threads + Wait + Sync + Abort>(
+    rt: &R,
+    alloc: Global,
+    plan: Plan,
+) -> Result<bool, Fail> {
+    for write in 0..CANNOT_WRITE.len() {
+        let faults = Plan {
+            fails_at: write,
+            ..plan
+        };
+        let run = ran(rt, alloc, ["lazy", "0", "0"], [plan, faults])?;
+        assert!(rt; is_turned_away(run.client));
+        if run.status == 0 {
+            assert_eq!(rt; is_whole(&run.output.taken, NO_SESSION), Some(true));
+            assert!(rt; run.output.calls <= plan.fails_at);
+            return Ok(false);
+        }
+        assert_eq!(rt; run.status, 1);
+        assert_eq!(rt; is_front(&run.output.taken, NO_SESSION), Some(true));
+        assert_eq!(rt; run.output.calls, plan.fails_at.saturating_add(1));
+        assert!(rt; run.faults.stopped_within(CANNOT_WRITE));
+    }
+    Ok(true)
+}
+
+/// Each call on the output, and beside it each write of the line about it.
+#[test]
+fn a_call_and_the_line_about_it_fail(rt: HostRuntime) -> Result<(), Fail> {
+    for fails_at in 0..MOST_CALLS {
+        let plan = Plan {
+            most: 1,
+            fails_at,
+            failure: Failure::Interrupted,
+        };
+        if !both_fail(&rt, rt.alloc(), plan)? {
+            assert!(rt; fails_at > LISTENING.len());
+            return Ok(());
+        }
+    }
+    Err(Fail::new("no run ends without a failure"))
+}
+
+/// A server that does not begin, where the write with a number of the line about it fails: the status stays.
+fn line_fails<R: Net<Listener = TcpListener, Stream = TcpStream> + Threads + Wait + Sync + Abort>(
+    rt: &R,
+    alloc: Global,
+    [kind, port]: [&str; 2],
+    (status, line): (u8, &str),
+) -> Result<(), Fail> {
+    for write in 0..=line.len() {
+        let faults = Plan {
+            most: 1,
+            fails_at: write,
+            failure: Failure::BrokenPipe,
+        };
+        let run = ran(rt, alloc, [kind, port, "1"], [WHOLE, faults])?;
+        assert_eq!(rt; run.status, status);
+        assert_eq!(rt; run.output.calls, 0);
+        if write < line.len() {
+            assert!(rt; run.faults.stopped_within(line));
+        } else {
+            assert_eq!(rt; run.faults.taken.as_slice(), line.as_bytes());
+        }
+    }
+    Ok(())
+}
+
+/// A wrong value, and a port that is taken.
+#[test]
+fn each_write_of_a_line_fails_in_turn(rt: HostRuntime) -> Result<(), Fail> {
+    let listener = TcpListener::bind(&rt, "127.0.0.1:0")?;
+    let port = listener.local_addr()?.port().to_string(rt.alloc())?;
+    let (bad, taken) = ((2, "listset: bad KIND\n"), (1, "listset: cannot listen\n"));
+    line_fails(&rt, rt.alloc(), ["skip", "0"], bad)?;
+    line_fails(&rt, rt.alloc(), ["lazy", port.as_str()], taken)
+}

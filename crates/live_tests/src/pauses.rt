@@ -1,0 +1,67 @@
+use crate::opened::two_seats;
+use lset_coarse::CoarseList;
+use lset_fine::FineList;
+use lset_lazy::LazyList;
+use lset_live::Running;
+use lset_lock_free::LockFreeList;
+use lset_optimistic::OptimisticList;
+use lset_rule::Pause;
+use lset_words::{Call, Key, Reply};
+use std::alloc::Global;
+use std::cell::Cell;
+use std::process::Abort;
+use std::sync::Wait;
+use std::test::Fail;
+use stepped_lists::{SteppedLazyList, SteppedLockFreeList};
+
+/// Counts the steps that do not answer, and those of them that are told of another thread or as failed.
+#[derive(Drop)]
+pub struct Count {
+    thread: u32,
+    pub steps: Cell<u64>,
+    pub wrong: Cell<u64>,
+}
+
+impl Count {
+    /// For the calls of a thread of whose exchanges none is to fail.
+    pub fn new(thread: u32) -> Count {
+        Count {
+            thread,
+            steps: Cell::new(0),
+            wrong: Cell::new(0),
+        }
+    }
+}
+
+impl Pause for Count {
+    fn moved(&self, thread: u32, failed: bool) {
+        self.steps.set(self.steps.get().wrapping_add(1));
+        if thread != self.thread || failed {
+            self.wrong.set(self.wrong.get().wrapping_add(1));
+        }
+    }
+}
+
+/// An add on the empty list, of seat 1, asks its pause so many times.
+fn asks<M: Running, R: Wait + Abort>(rt: &R, alloc: Global, pauses: u64) -> Result<(), Fail> {
+    let (set, _zero, mut one) = two_seats::<M>(alloc)?;
+    let count = Count::new(1);
+    assert_eq!(rt;
+        set.call(rt, &mut one, Call::Add(Key(5)), &count),
+        Reply::True
+    );
+    assert_eq!(rt; (count.steps.get(), count.wrong.get()), (pauses, 0));
+    Ok(())
+}
+
+/// The steps of `docs/TABLES.md`, less the one that answers.
+#[test]
+fn a_pause_is_asked_after_each_step_but_the_last(rt: HostRuntime) -> Result<(), Fail> {
+    asks::<CoarseList, HostRuntime>(&rt, rt.alloc(), 6)?;
+    asks::<FineList, HostRuntime>(&rt, rt.alloc(), 8)?;
+    asks::<OptimisticList, HostRuntime>(&rt, rt.alloc(), 9)?;
+    asks::<LazyList, HostRuntime>(&rt, rt.alloc(), 10)?;
+    asks::<LockFreeList, HostRuntime>(&rt, rt.alloc(), 5)?;
+    asks::<SteppedLazyList, HostRuntime>(&rt, rt.alloc(), 10)?;
+    asks::<SteppedLockFreeList, HostRuntime>(&rt, rt.alloc(), 5)
+}
