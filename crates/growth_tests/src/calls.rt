@@ -6,7 +6,7 @@ use lset_schedule::{GenFault, ScheduleFault};
 use lset_steps::StepFault;
 use lset_tools::{Answer, Trouble};
 use lset_words::LayoutFault;
-use std::alloc::AllocError;
+use std::alloc::{AllocError, Global};
 use std::io;
 use thiserror::Error;
 
@@ -80,5 +80,16 @@ impl Calls {
         }
         self.refused = Some(self.name);
         true
+    }
+
+    /// Takes a block of memory in the name of the call that comes next. A growth that is passed over behind that block, and
+    /// before one of another name, is this call's.
+    pub fn announce(&mut self, alloc: Global, name: &'static str) -> Result<(), AllocError> {
+        self.name = name;
+        if Box::new(alloc, 0).is_ok() || self.may_be_refused() {
+            Ok(())
+        } else {
+            Err(AllocError)
+        }
     }
 }

@@ -17,7 +17,7 @@ pub const ALL: Window = Window {
 };
 
 /// The picture of one add.
-pub const PICTURE: &str = "\
+const PICTURE: &str = "\
 coarse list, 1 thread, quota 4: 1 call in 8 events
 
 moment    1      7   8
@@ -31,18 +31,26 @@ keys  5
 * changes the set    o changes nothing, its reply fits there    > still open
 ";
 
-/// The picture of a report whose order leaves out its call.
-pub const LEFT_OUT_PICTURE: &str = "\
-coarse list, 1 thread, quota 4: 1 call
+/// A report without calls, and its picture.
+pub const NO_CALLS: &str = "listset-report 1\nlist coarse\nthreads 1\nquota 4\nend\n";
 
-moment    1      8
-thread 0  [add 5-true]
+pub const NO_CALLS_PICTURE: &str = "coarse list, 1 thread, quota 4: 0 calls\n\nno calls\nkeys\n";
 
-order
+/// A report without calls that has a key, and its picture.
+pub const WRONG_SET: &str = "listset-report 1\nlist coarse\nthreads 1\nquota 4\nkey 5\nend\n";
+
+pub const WRONG_SET_PICTURE: &str = "\
+coarse list, 1 thread, quota 4: 0 calls
+
+no calls
 keys  5
 
-refused Missing 0: it ended at 8 with true and has no place
+refused WrongSet: the order leaves {}, and the keys are {5}
 ";
+
+/// A report with an open add that has put its key in: the whole picture is one moment.
+const OPEN_ADD: &str =
+    "listset-report 1\nlist coarse\nthreads 1\nquota 4\ncall 0 0 add 5 1 open\nplace 0 true\nkey 5\nend\n";
 
 /// The call changes the set at the 7th event.
 fn of_replay(alloc: Global, calls: &mut Calls) -> Result<(), Wrong> {
@@ -108,11 +116,11 @@ fn of_reports(alloc: Global, calls: &mut Calls) -> Result<(), Wrong> {
     check(explained.refusal.is_none() && explained.points.as_slice() == points.as_slice())
 }
 
-/// Pictures as text, also of a report with its first points, and one as an SVG.
+/// Pictures as text, of a schedule and of a report that is refused, and one as an SVG.
 pub fn pictures(alloc: Global, calls: &mut Calls) -> Result<(), Wrong> {
     of_replay(alloc, calls)?;
     of_reports(alloc, calls)?;
-    for (text, picture, status) in [(ONE_ADD, PICTURE, 0), (LEFT_OUT, LEFT_OUT_PICTURE, 1)] {
+    for (text, picture, status) in [(ONE_ADD, PICTURE, 0), (WRONG_SET, WRONG_SET_PICTURE, 1)] {
         let answer = answer!(
             calls,
             "shown",
@@ -125,7 +133,7 @@ pub fn pictures(alloc: Global, calls: &mut Calls) -> Result<(), Wrong> {
         calls,
         "shown (SVG)",
         Trouble::Memory,
-        shown(alloc, ONE_ADD_REPORT.as_bytes(), true, ALL)
+        shown(alloc, OPEN_ADD.as_bytes(), true, ALL)
     );
     let sheet = text_of(sheet, 0)?;
     check(sheet.starts_with(b"<svg ") && sheet.ends_with(b"</svg>\n"))

@@ -16,6 +16,7 @@ pub fn worlds(alloc: Global, calls: &mut Calls) -> Result<(), Wrong> {
         AllocError,
         World::new(alloc, sizes)
     )?;
+    calls.announce(alloc, "World::step")?;
     for key in 1..=5 {
         world.step(Event::Begin(0, Call::Add(Key(key))))?;
         // the add of the last key takes 15 steps; what comes after the end of a call is refused as `Idle`
@@ -42,6 +43,7 @@ fn fill(oracle: &mut Oracle, calls: &mut Calls) -> Result<(), Wrong>
 pub fn oracles(alloc: Global, calls: &mut Calls) -> Result<(), Wrong> {
     let mut oracle = answer!(calls, "Oracle::new", AllocError, Oracle::new(alloc, 1, 12))?;
     fill(&mut oracle, calls)?;
+    calls.announce(alloc, "Oracle::keys")?;
     let keys = answer!(calls, "Oracle::keys", AllocError, oracle.keys())?;
     check(keys.as_slice() == [1, 2, 3, 4, 5, 6, 7, 8, 9, 10, 11, 12].as_slice())
 }
@@ -68,6 +70,7 @@ pub fn histories(alloc: Global, calls: &mut Calls) -> Result<(), Wrong> {
             HistoryFault::Memory,
             history.begin(0, call, begun)
         )?;
+        calls.announce(alloc, "History::end")?;
         history.end(id, Reply::False, 2 * number + 2)?;
     }
     let looks = [look(0), look(1), look(2), look(3), look(4)];

@@ -31,13 +31,19 @@ fn are_short(programs: &[Vec<Call>]) -> bool
     )
 }
 
-/// Add 1, Contains 1; and Add 2, Remove 2.
+/// Add 1, Contains 1, Remove 1; and Add 2, Add 2.
 fn two_programs(alloc: Global) -> Result<Vec<Vec<Call>>, AllocError>
     ensures { IfOk result (λ ps. All (λ p. length p.items < 2 ^ 32) ps.items) }
 {
     let mut programs = Vec::new(alloc);
-    programs.push(vec![in alloc; Call::Add(Key(1)), Call::Contains(Key(1))]?)?;
-    programs.push(vec![in alloc; Call::Add(Key(2)), Call::Remove(Key(2))]?)?;
+    let first = [
+        Call::Add(Key(1)),
+        Call::Contains(Key(1)),
+        Call::Remove(Key(1)),
+    ];
+    let second = [Call::Add(Key(2)), Call::Add(Key(2))];
+    programs.push(Vec::from_slice(alloc, &first)?)?;
+    programs.push(Vec::from_slice(alloc, &second)?)?;
     if are_short(&programs) {
         Ok(programs)
     } else {
@@ -70,13 +76,10 @@ fn after_refusal(
 
 /// The replies of both programs, and the key that is left.
 fn is_as_wanted(outcome: &Outcome) -> bool {
-    let both = [Reply::True, Reply::True];
-    outcome.keys.as_slice() == [1].as_slice()
-        && outcome.replies.len() == 2
-        && outcome
-            .replies
-            .iter()
-            .all(|replies| replies.as_slice() == both.as_slice())
+    let first = [Reply::True, Reply::True, Reply::True];
+    let second = [Reply::True, Reply::False];
+    let replies = outcome.replies.iter().map(|replies| replies.as_slice());
+    outcome.keys.as_slice() == [2].as_slice() && replies.eq([first.as_slice(), second.as_slice()])
 }
 
 /// Two programs on two threads. Where they were refused they are run again.

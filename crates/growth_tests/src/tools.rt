@@ -1,6 +1,6 @@
 use crate::calls::{Calls, Wrong};
-use crate::pictures::{ALL, LEFT_OUT_PICTURE, PICTURE};
-use crate::texts::{DRAWN, LEFT_OUT, ONE_ADD, ONE_ADD_REPORT};
+use crate::pictures::{ALL, NO_CALLS, NO_CALLS_PICTURE, WRONG_SET, WRONG_SET_PICTURE};
+use crate::texts::{DRAWN, ONE_ADD, ONE_ADD_REPORT};
 use crate::traces::{EARLY, EARLY_TRACE, TRACE};
 use lset_examples::{Example, tool_example};
 use lset_show::tool_show;
@@ -232,8 +232,8 @@ fn tool_checks(alloc: Global, streams: &mut Streams, calls: &mut Calls) -> Resul
 
 fn tool_shows(alloc: Global, streams: &mut Streams, calls: &mut Calls) -> Result<(), Wrong> {
     let rows = [
-        (ONE_ADD, written(PICTURE, 0)),
-        (LEFT_OUT, written(LEFT_OUT_PICTURE, 1)),
+        (NO_CALLS, written(NO_CALLS_PICTURE, 0)),
+        (WRONG_SET, written(WRONG_SET_PICTURE, 1)),
         (IDLE, refused(1, "listset: line 5: Idle\n")),
     ];
     for (text, wanted) in rows {

@@ -1,4 +1,4 @@
--- [Tools]: which tool does the command that the words ask for, and how the program ends where the words are not taken.
+-- Which tool does the command that the words ask for, and how the program ends where the words are not taken.
 use Rattle.std.specs.Prelude.{◌≡◌, ◌≢◌, ℕ, ◌⊎◌, Bool, List, [], slice_get, Option, Some, None, IfSome, Result, Ok, Err}
 use Rattle.std.specs.Io.KnownBytes.{Keeps}
 use Rattle.clap.specs.Words.{Text, fault_of, kind_of, subcommand_of, HasKind}

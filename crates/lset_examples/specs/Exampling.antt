@@ -1,4 +1,4 @@
--- [Tools]: what `example` makes of its words.
+-- What `example` makes of its words.
 use Rattle.std.specs.Prelude.{◌≡◌, ℕ, ◌-◌, ◌⊎◌, List, ◌++◌, map, length, replicate, Bool, true, false, Option, Some, None, Ok, Err}
 use Rattle.lset_text.specs.Parts.{text_of}
 use Rattle.lset_text.specs.Spellings.{kind_text}

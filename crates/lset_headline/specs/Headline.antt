@@ -1,4 +1,4 @@
--- [Headline]: one order of calls explains a run, whatever its length.
+-- [Headline, as a law]: one order of calls explains a run, whatever its length.
 use Rattle.std.specs.Prelude.{◌≡◌, ℕ, List, map}
 use Rattle.lset_words.specs.declared.history.CallRecord.{CallRecord}
 use Rattle.lset_words.specs.declared.history.Placed.{Placed}

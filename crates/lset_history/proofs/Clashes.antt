@@ -1,4 +1,4 @@
--- The calls that clash in a refused order: at which places they are found.
+-- The calls that a refusal of an order names: at which places they are found.
 use Rattle.std.proofs.Common.{◌≡◌, ◌≢◌, ◌⊎◌, ℕ, ◌<◌, ◌≤◌, ◌+◌, List, [], length, take, get_or, Option, Some, None, refl, sym, ap, ◌∙◌, subst, ⊎_elim, arith}
 use Rattle.std.specs.List.{All}
 use Rattle.std.specs.Option.{IfSome, IsSomeAnd}
@@ -129,6 +129,7 @@ answered_otherwise h order calls call index d keys answer e known inside stands 
           (λ (w : reply_to h.quota before (call_numbered h.calls call).thread (call_numbered h.calls call).call ≢ says).
           λ same. w (sym is ∙ same))
           (subst W stands wrong);
+      recorded = subst R read recorded;
     }
 
 -- the thread of a known call is one of the set

@@ -1,4 +1,4 @@
--- Why an order is refused: its first fault, told with the calls that clash.
+-- Why an order is refused: its first fault, told with what is so of it.
 use Rattle.std.specs.Prelude.{◌≡◌, ◌≢◌, ℕ, ◌<◌, ◌≤◌, ◌+◌, List, take, length, Option, Some, None, IfSome}
 use Rattle.lset_words.specs.declared.Reply.{Reply}
 use Rattle.lset_words.specs.declared.history.CallRecord.{CallRecord}
@@ -50,7 +50,7 @@ pub record EndedOtherwise (h : HistoryValue) (order : List Placed) (call place :
   pub ended_is : (call_numbered h.calls call).ended ≡ Some (end, ended)
   pub differ : ended ≢ says
 
--- The call's place says one reply, and the set that the places before it leave answers another.
+-- The call's place says one reply, the history no other, and the set that the places before it leave answers another.
 pub record AnsweredOtherwise (h : HistoryValue) (order : List Placed) (call place : ℕ) (says : Reply) (keys : List ℕ)
     (answer : Reply) : Type 0 where
   pub index : ℕ
@@ -59,6 +59,7 @@ pub record AnsweredOtherwise (h : HistoryValue) (order : List Placed) (call plac
   pub keys_are : keys ≡ (set_before h order index).keys
   pub answer_is : answer ≡ reply_to h.quota (set_before h order index) (call_numbered h.calls call).thread (call_numbered h.calls call).call
   pub differ : answer ≢ says
+  pub recorded : IfSome (call_numbered h.calls call).ended (λ (end : ℕ × Reply). end.1 ≡ says)
 
 -- The call stands before another, the first at a later place that precedes it: the other ended before it began.
 pub record StandsBefore (h : HistoryValue) (order : List Placed) (call begun other ended : ℕ) : Type 0 where
@@ -84,7 +85,7 @@ IsTold h order (SetReply call place says keys answer) = AnsweredOtherwise h orde
 IsTold h order (TooEarly call begun other ended) = StandsBefore h order call begun other ended
 IsTold h order (WrongSet left) = left.items ≡ (set_left_by (empty_set h.threads) h.calls order).keys
 
--- THE REFUSAL of an order that does not explain the history and the keys: its first fault, told with the calls that clash
+-- THE REFUSAL of an order that does not explain the history and the keys: its first fault, told with what is so of it
 pub record IsRefusalOf (h : HistoryValue) (order : List Placed) (keys : List ℕ) (refusal : Refusal) : Type 0 where
   pub first_fault : IsFault h order keys (fault_of refusal)
   pub told : IsTold h order refusal

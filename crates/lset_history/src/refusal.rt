@@ -13,7 +13,7 @@ use crate::{History, Oracle, OrderFault, check_order};
 use lset_words::{CallRecord, Placed, Reply};
 use std::alloc::{AllocError, Global};
 
-/// What is wrong with an order first, told with the calls that clash. Calls are told by their numbers, places are counted
+/// What is wrong with an order first, told with what is so of it. Calls are told by their numbers, places are counted
 /// from 1.
 #[derive(Debug, Drop)]
 pub enum Refusal {
@@ -41,8 +41,8 @@ pub enum Refusal {
         says: Reply,
         ended: Reply,
     },
-    /// The call's place says one reply, and the sequential set, which has these keys after the places before,
-    /// answers another.
+    /// The call's place says one reply, which is also that of the history where the call has ended, and the sequential set,
+    /// which has these keys after the places before, answers another.
     SetReply {
         call: u32,
         place: u64,
@@ -215,7 +215,7 @@ fn told_too_early(history: &History, order: &[Placed], call: u32) -> Refusal
 }
 
 /// Why the order does not explain the history and the keys, where it does not: the fault that `check_order` gives, told
-/// with the calls that clash. `None` where it explains them. An error is want of memory. The time is that of
+/// with what is so of it (`Refusal`). `None` where it explains them. An error is want of memory. The time is that of
 /// `check_order`. (This project's own: Herlihy and Wing's conditions, each with what breaks it.)
 pub fn why_refused(
     alloc: Global,

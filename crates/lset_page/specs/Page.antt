@@ -1,4 +1,4 @@
--- [Tools]: how what a tool makes of a text is handed to a caller outside, who gives room for it.
+-- How what a tool makes of a text is handed to a caller outside, who gives room for it.
 use Rattle.std.specs.Prelude.{◌≡◌, ◌≢◌, ℕ, ◌≤◌, ◌<◌, ◌⊎◌, List, ◌++◌, length, drop, Ok, Err}
 use Rattle.lset_tools.specs.declared.trouble.Trouble.TheVariants.{CannotRead}
 use Rattle.lset_tools.specs.Tools.{Made}

@@ -70,7 +70,7 @@ abbrev pub Replays : Table → Plan → Result Report ReplayFault → Type 0
 Replays T p (Ok r) = IsReplay T p (view r)
 Replays T p (Err refusal) = IsRefusal T p.threads p.quota (events_of p) refusal
 
--- [Headline]: one order explains the history, and leaves the keys.
+-- [Headline, of a report]: one order explains the history, and leaves the keys.
 pub record IsExplained (r : ReportValue) : Type 0 where
   pub linearizes : Linearizes r.history.quota (empty_set r.history.threads) r.history.calls r.order
   pub leaves : keys_left r.history.threads r.history.calls r.order ≡ r.keys

@@ -1,4 +1,4 @@
--- [Tools]: what `run` makes of its values.
+-- What `run` makes of its values.
 use Rattle.std.specs.Prelude.{◌≡◌, ℕ, Bool, true, false, List, [], ◌∷◌, codes, count_by, flat_map, length, map, Result, Ok, Err}
 use Rattle.std.specs.Fmt.{decimal}
 use Rattle.std.specs.List.{range_with_len}

@@ -28,13 +28,14 @@ fn trouble_of(cause: WorkCause) -> Trouble
     }
 }
 
-/// Runs the programs that the request stands for on a new set of the list `M`.
+/// Runs the programs that the request stands for on a new set of the list `M`, which is that of the request.
 fn run_on<M: Running + Send + Sync, R: Threads + Wait + Sync>(
     rt: &R,
     alloc: Global,
     request: Request,
 ) -> Result<Outcome, Trouble>
-    requires { IsAccepted request.threads request.quota request.keys }
+    requires kind { M.KIND ≡ request.kind }
+    requires sizes { IsAccepted request.threads request.quota request.keys }
     ensures { MatchResult result (λ o. IsOutcome request (map (λ v. v.items) o.replies.items) o.keys.items) IsRunTrouble }
 {
     // the sizes are within their limits, so memory alone is wanting where one of these fails

@@ -49,13 +49,14 @@ fn announce<W: Write>(alloc: Global, output: &mut W, port: u16) -> Result<(), Tr
     }
 }
 
-/// Opens a set of the list `M`, listens, says so, and serves.
+/// Opens a set of the list `M`, which is that of the request, listens, says so, and serves.
 fn serve_list<
     M: Running + Send + Sync,
     R: Net<Listener = TcpListener, Stream = TcpStream> + Threads + Wait + Sync,
     W: Write,
 >(rt: &R, alloc: Global, request: ServeRequest, output: &mut W) -> Result<Answer, Trouble>
-    requires { (request.seats ≤ MOST_THREADS) × (request.port ≤ MOST_PORT) }
+    requires kind { M.KIND ≡ request.kind }
+    requires sizes { (request.seats ≤ MOST_THREADS) × (request.port ≤ MOST_PORT) }
     ensures first { Announces (tools.view result) (W.contents output.old) (W.contents output.new) }
     ensures made { IfOk (tools.view result) (Answers request) }
 {
@@ -78,8 +79,8 @@ fn serve_list<
     }
 }
 
-/// Serves as the values ask, and gives the text of what was served. The output is written before the server has ended, so
-/// it goes to the list by a `match`: a task of `on_running_list` holds no output.
+/// Serves as the values ask, and gives the text of what was served. The list is chosen by a `match` of its own, since the
+/// tasks of `lset_lists::on_list` are for machines, and not for running sets.
 fn serve_values<
     R: Net<Listener = TcpListener, Stream = TcpStream> + Threads + Wait + Sync,
     W: Write,

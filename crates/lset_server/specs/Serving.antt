@@ -1,4 +1,4 @@
--- [Serve]: what a server did.
+-- [Served]: what a server did.
 use Rattle.std.specs.Prelude.{◌≡◌, ℕ, List, [], ◌∷◌, length, sum_by, Option, None}
 use Rattle.lset_live.specs.Records.{Record, CallMade, with_calls}
 use Rattle.lset_live.specs.Explained.{Explains}

@@ -200,9 +200,9 @@ pub fn serve<R: Threads + Wait + Sync, M: Running + Send + Sync>(
     sessions: u32,
 ) -> Result<Served, ServeFault<M>>
     requires { All (λ s. s.set ≡ set) seats.items }
-    // [Serve]: each connection was received once.
+    // [Received once]: each connection was received once.
     ensures received { IfOk result (λ s. (s.sessions ≡ sessions) × ReceivedOnce sessions (tally_of s)) }
-    // [Serve]: one legal order of the seats' earlier calls and so many further ones leaves the keys.
+    // [Served]: one legal order of the seats' earlier calls and so many further ones leaves the keys.
     ensures served { IfOk result (λ s. IsServed set.shape (map (λ t. t.past) seats.items) s.calls s.keys.items) }
     ensures all { IsOk result → sum_by (λ s. s.held) seats.items ≡ set.shape.threads }
     ensures refused { IfErr result (λ f. f.cause ≡ ServeCause.Seats ↔ (sum_by (λ s. s.held) seats.items ≢ set.shape.threads)) }

@@ -39,7 +39,7 @@ drawn_points (Some refusal) calls order = []
 abbrev pub report_in : PictureValue → ReportValue
 report_in v = record { kind = v.kind; history = v.history; order = v.order; keys = v.keys }
 
--- no refusal where the order explains the history and leaves just the keys, and else its first fault, with the calls that clash
+-- no refusal where the order explains the history and leaves just the keys, and else its first fault, with what is so of it
 abbrev pub IsJudgement : ReportValue → Option Refusal → Type 0
 IsJudgement r None = Explains r.history r.order r.keys
 IsJudgement r (Some refusal) = IsRefusalOf r.history r.order r.keys refusal

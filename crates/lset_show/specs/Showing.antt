@@ -1,4 +1,4 @@
--- [Tools]: what `show` makes of an input.
+-- What `show` makes of an input.
 use Rattle.std.specs.Prelude.{◌≡◌, ◌⊎◌, ◌==◌, ℕ, Bool, true, false, List, codes, Option, Some, None, Ok, Err, if◌then◌else◌}
 use Rattle.std.specs.List.{starts_with}
 use Rattle.lset_schedule.specs.Plan.{Plan, IsSchedule, schedule_text}

@@ -1,4 +1,4 @@
--- [Tools]: what `check` makes of an input.
+-- What `check` makes of an input.
 use Rattle.std.specs.Prelude.{◌≡◌, ◌≢◌, ℕ, ◌⊎◌, List, [], ◌++◌, codes, Option, Some, None, Result, Ok, Err}
 use Rattle.std.specs.Fmt.{decimal}
 use Rattle.lset_history.specs.declared.fault.OrderFault.{OrderFault}

@@ -1,4 +1,4 @@
--- [Tools]: what `gen` makes of its values.
+-- What `gen` makes of its values.
 use Rattle.std.specs.Prelude.{◌≡◌, ◌≢◌, ℕ, ◌<◌, List, length, slice_index, Option, option_and_then, slice_get, Result, Ok, Err}
 use Rattle.lset_words.specs.declared.Kind.{Kind}
 use Rattle.lset_words.specs.declared.TheConstants.{MOST_THREADS, MOST_QUOTA}

@@ -1,4 +1,4 @@
--- [Tools]: what `replay` makes of an input.
+-- What `replay` makes of an input.
 use Rattle.std.specs.Prelude.{◌≡◌, ℕ, ◌⊎◌, List, Result, Ok, Err}
 use Rattle.lset_lists.specs.Tables.{table_of}
 use Rattle.lset_schedule.specs.declared.fault.ScheduleFault.{ScheduleFault}

@@ -1,4 +1,4 @@
--- [Tools]: how a tool ends, whatever it makes of its input.
+-- How a tool ends, whatever it makes of its input.
 use Rattle.std.specs.Prelude.{◌≡◌, ℕ, ◌<◌, ◌≤◌, List, [], ◌++◌, length, Option, Result, Ok, Err}
 use Rattle.std.specs.Io.KnownBytes.{Appends, Keeps}
 use Rattle.lset_tools.specs.declared.answer.Answer.{Answer}

@@ -1,4 +1,4 @@
--- [Tools]: what `trace` makes of an input.
+-- What `trace` makes of an input.
 use Rattle.std.specs.Prelude.{◌≡◌, ℕ, ◌⊎◌, Bool, List, Option, Some, None, Result, Ok, Err}
 use Rattle.lset_lists.specs.Tables.{table_of}
 use Rattle.lset_steps.specs.declared.world.StepFault.{StepFault}

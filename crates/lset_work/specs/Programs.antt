@@ -1,4 +1,4 @@
--- [Work]: programs of calls, and what threads make of them.
+-- Programs of calls, and what threads make of them.
 use Rattle.std.specs.Prelude.{◌≡◌, ℕ, Bool, true, List, [], ◌∷◌, length, map, sum_by, Option, Some, None, IfSome}
 use Rattle.std.specs.Option.{option_map}
 use Rattle.lset_words.specs.declared.Call.{Call}
