@@ -22,6 +22,7 @@ use std::io::Write;
 use std::net::{Ipv4Addr, Net, TcpListener, TcpStream};
 use std::sync::Wait;
 use std::thread::Threads;
+use std::time::Clock;
 
 fn trouble_of(cause: ServeCause) -> Trouble
     ensures { result ≡ of_server cause }
@@ -52,7 +53,7 @@ fn announce<W: Write>(alloc: Global, output: &mut W, port: u16) -> Result<(), Tr
 /// Opens a set of the list `M`, listens, says so, and serves.
 fn serve_list<
     M: Running + Send + Sync,
-    R: Net<Listener = TcpListener, Stream = TcpStream> + Threads + Wait + Sync,
+    R: Net<Listener = TcpListener, Stream = TcpStream> + Threads + Wait + Clock + Sync,
     W: Write,
 >(rt: &R, alloc: Global, request: ServeRequest, output: &mut W) -> Result<Answer, Trouble>
     requires { (request.seats ≤ MOST_THREADS) × (request.port ≤ MOST_PORT) }
@@ -81,7 +82,7 @@ fn serve_list<
 /// Serves as the values ask, and gives the text of what was served. The output is written before the server has ended, so
 /// it goes to the list by a `match`: a task of `on_running_list` holds no output.
 fn serve_values<
-    R: Net<Listener = TcpListener, Stream = TcpStream> + Threads + Wait + Sync,
+    R: Net<Listener = TcpListener, Stream = TcpStream> + Threads + Wait + Clock + Sync,
     W: Write,
 >(rt: &R, alloc: Global, values: &[String], output: &mut W) -> Result<Answer, Trouble>
     ensures { Serves (request_of (map string_bytes values.now))
@@ -107,7 +108,7 @@ fn serve_values<
 /// 0 to 10,000. A value that is missing is a wrong one, and values past the last are not looked at. A failing write on
 /// `faults` leaves the status as it is. It waits for its connections.
 pub fn tool_serve<
-    R: Net<Listener = TcpListener, Stream = TcpStream> + Threads + Wait + Sync,
+    R: Net<Listener = TcpListener, Stream = TcpStream> + Threads + Wait + Clock + Sync,
     W: Write,
     F: Write,
 >(rt: &R, alloc: Global, values: &[String], output: &mut W, faults: &mut F) -> u8
