@@ -36,6 +36,7 @@ use std::net::{Net, TcpListener, TcpStream};
 use std::process::ExitCode;
 use std::sync::Wait;
 use std::thread::Threads;
+use std::time::Clock;
 
 /// The number on the input, 0 where there is none.
 fn number_on(input: &mut impl Read) -> io::Result<u32> {
@@ -53,7 +54,7 @@ fn take_blocks(alloc: Global, count: u32) -> Result<(), AllocError> {
     Ok(())
 }
 
-fn make_calls<R: Net<Listener = TcpListener, Stream = TcpStream> + Threads + Wait + Sync>(
+fn make_calls<R: Net<Listener = TcpListener, Stream = TcpStream> + Threads + Wait + Clock + Sync>(
     rt: &R,
     alloc: Global,
     calls: &mut Calls,

@@ -10,9 +10,10 @@ use lset_words::{Call, Key, Reply};
 use lset_work::{Always, Outcome, WorkCause, WorkFault, work};
 use std::alloc::{AllocError, Global};
 use std::io::{self, Read, Write};
-use std::net::{Net, TcpListener, TcpStream};
+use std::net::{Net, Shutdown, TcpListener, TcpStream};
 use std::sync::Wait;
 use std::thread::Threads;
+use std::time::Clock;
 
 /// A set that was just opened, and its seats.
 fn opened(alloc: Global, seats: u32) -> Result<(LiveSet<LazyList>, Vec<Seat<LazyList>>), OpenFault>
@@ -112,6 +113,7 @@ fn client<R: Net<Listener = TcpListener, Stream = TcpStream>>(
     let port = listener.local_addr()?.port();
     let mut stream = TcpStream::connect(rt, ("127.0.0.1", port))?;
     stream.write_all(b"ADD 7\nCONTAINS 7\nADD 3\nQUIT\n")?;
+    stream.shutdown(Shutdown::Write)?;
     Ok((listener, stream))
 }
 
@@ -135,11 +137,9 @@ fn note_refusal(calls: &mut Calls, cause: ServeCause) -> Result<(), Wrong> {
 }
 
 /// A session with one client. Where it was refused, another server has another client.
-pub fn a_session<R: Net<Listener = TcpListener, Stream = TcpStream> + Threads + Wait + Sync>(
-    rt: &R,
-    alloc: Global,
-    calls: &mut Calls,
-) -> Result<(), Wrong> {
+pub fn a_session<
+    R: Net<Listener = TcpListener, Stream = TcpStream> + Threads + Wait + Clock + Sync,
+>(rt: &R, alloc: Global, calls: &mut Calls) -> Result<(), Wrong> {
     let (set, seats) = answer!(calls, "open", OpenFault::Memory, opened(alloc, 1))?;
     calls.name = "client";
     let (listener, mut stream) = client(rt)?;

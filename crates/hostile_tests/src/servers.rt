@@ -5,11 +5,12 @@ use crate::rows::texts_of;
 use lset_serve::tool_serve;
 use std::alloc::{AllocError, Global};
 use std::io::{self, Read, Write};
-use std::net::{Net, TcpListener, TcpStream};
+use std::net::{Net, Shutdown, TcpListener, TcpStream};
 use std::process::Abort;
 use std::sync::Wait;
 use std::test::Fail;
 use std::thread::Threads;
+use std::time::Clock;
 
 const LISTENING: &str = "listening 127.0.0.1:";
 
@@ -36,6 +37,7 @@ fn client<R: Net<Listener = TcpListener, Stream = TcpStream>>(
 ) -> io::Result<TcpStream> {
     let mut stream = TcpStream::connect(rt, ("127.0.0.1", port))?;
     stream.write_all(b"ADD 7\nQUIT\n")?;
+    stream.shutdown(Shutdown::Write)?;
     Ok(stream)
 }
 
@@ -144,7 +146,7 @@ struct Run {
 }
 
 /// Runs the tool on the values of KIND, PORT and SESSIONS, on devices of these plans: of its output and of `faults`.
-fn ran<R: Net<Listener = TcpListener, Stream = TcpStream> + Threads + Wait + Sync>(
+fn ran<R: Net<Listener = TcpListener, Stream = TcpStream> + Threads + Wait + Clock + Sync>(
     rt: &R,
     alloc: Global,
     [kind, port, sessions]: [&str; 3],
@@ -170,11 +172,9 @@ fn ran<R: Net<Listener = TcpListener, Stream = TcpStream> + Threads + Wait + Syn
 }
 
 /// A server of one session whose output fails as planned, and whether it did.
-fn output_fails<R: Net<Listener = TcpListener, Stream = TcpStream> + Threads + Wait + Sync + Abort>(
-    rt: &R,
-    alloc: Global,
-    plan: Plan,
-) -> Result<bool, Fail> {
+fn output_fails<
+    R: Net<Listener = TcpListener, Stream = TcpStream> + Threads + Wait + Clock + Sync + Abort,
+>(rt: &R, alloc: Global, plan: Plan) -> Result<bool, Fail> {
     let run = ran(rt, alloc, ["lazy", "0", "1"], [plan, WHOLE])?;
     if run.status == 0 {
         assert_eq!(rt; is_whole(&run.output.taken, ONE_SESSION), Some(true));
@@ -197,7 +197,7 @@ fn output_fails<R: Net<Listener = TcpListener, Stream = TcpStream> + Threads + W
 
 /// How many runs there are in which the output fails, at each of its calls in turn, until a run ends without a failure.
 fn each_call_fails<
-    R: Net<Listener = TcpListener, Stream = TcpStream> + Threads + Wait + Sync + Abort,
+    R: Net<Listener = TcpListener, Stream = TcpStream> + Threads + Wait + Clock + Sync + Abort,
 >(rt: &R, alloc: Global, (failure, most): (Failure, usize)) -> Result<usize, Fail> {
     for fails_at in 0..MOST_CALLS {
         let plan = Plan {
@@ -225,11 +225,9 @@ fn each_call_on_the_output_fails_in_turn(rt: HostRuntime) -> Result<(), Fail> {
 
 /// A server of no session whose output fails as planned, and beside it each write of the line about it; and whether the
 /// output did.
-fn both_fail<R: Net<Listener = TcpListener, Stream = TcpStream> + Threads + Wait + Sync + Abort>(
-    rt: &R,
-    alloc: Global,
-    plan: Plan,
-) -> Result<bool, Fail> {
+fn both_fail<
+    R: Net<Listener = TcpListener, Stream = TcpStream> + Threads + Wait + Clock + Sync + Abort,
+>(rt: &R, alloc: Global, plan: Plan) -> Result<bool, Fail> {
     for write in 0..CANNOT_WRITE.len() {
         let faults = Plan {
             fails_at: write,
@@ -268,12 +266,9 @@ fn a_call_and_the_line_about_it_fail(rt: HostRuntime) -> Result<(), Fail> {
 }
 
 /// A server that does not begin, where the write with a number of the line about it fails: the status stays.
-fn line_fails<R: Net<Listener = TcpListener, Stream = TcpStream> + Threads + Wait + Sync + Abort>(
-    rt: &R,
-    alloc: Global,
-    [kind, port]: [&str; 2],
-    (status, line): (u8, &str),
-) -> Result<(), Fail> {
+fn line_fails<
+    R: Net<Listener = TcpListener, Stream = TcpStream> + Threads + Wait + Clock + Sync + Abort,
+>(rt: &R, alloc: Global, [kind, port]: [&str; 2], (status, line): (u8, &str)) -> Result<(), Fail> {
     for write in 0..=line.len() {
         let faults = Plan {
             most: 1,

@@ -17,6 +17,7 @@ use std::io::{Read, Write};
 use std::net::{Net, TcpListener, TcpStream};
 use std::sync::Wait;
 use std::thread::Threads;
+use std::time::Clock;
 
 fn text_of(option: &Option<String>) -> Option<&str>
     ensures { option_copied result ≡ option_map string_bytes option.now }
@@ -51,7 +52,7 @@ fn show<R: Read, W: Write, F: Write>(
 /// values, and gives the tool's exit status. `run` and `serve` start threads on `rt`, and wait for them; `serve` listens
 /// there.
 pub fn run_command<
-    H: Net<Listener = TcpListener, Stream = TcpStream> + Threads + Wait + Sync,
+    H: Net<Listener = TcpListener, Stream = TcpStream> + Threads + Wait + Clock + Sync,
     R: Read,
     W: Write,
     F: Write,

@@ -15,6 +15,7 @@ use std::net::{Net, TcpListener, TcpStream};
 use std::rt::Files;
 use std::sync::Wait;
 use std::thread::Threads;
+use std::time::Clock;
 
 /// Ends a run whose words are not taken: writes the help that was asked for on `output`, status 0, or what is wrong with
 /// the words on `faults`, status 2. Where memory was refused, before or now, it writes the line about that on `faults`,
@@ -45,7 +46,7 @@ pub fn decline<W: Write, F: Write>(
 
 /// Does the command of the words on the file that they name, or on the input where they name none.
 fn run_taken<
-    H: Files + Net<Listener = TcpListener, Stream = TcpStream> + Threads + Wait + Sync,
+    H: Files + Net<Listener = TcpListener, Stream = TcpStream> + Threads + Wait + Clock + Sync,
     R: Read,
     W: Write,
     F: Write,
@@ -66,7 +67,7 @@ fn run_taken<
 /// name among the files of `rt`, on `input` where they name none, or on their values, or ends as `decline` does. Gives the
 /// exit status. `run` and `serve` start threads on `rt` and wait for them, and `serve` listens there.
 pub fn run_words<
-    H: Files + Net<Listener = TcpListener, Stream = TcpStream> + Threads + Wait + Sync,
+    H: Files + Net<Listener = TcpListener, Stream = TcpStream> + Threads + Wait + Clock + Sync,
     R: Read,
     W: Write,
     F: Write,

@@ -22,6 +22,7 @@ use std::io::Write;
 use std::net::{Ipv4Addr, Net, TcpListener, TcpStream};
 use std::sync::Wait;
 use std::thread::Threads;
+use std::time::Clock;
 
 fn trouble_of(cause: ServeCause) -> Trouble
     ensures { result ≡ of_server cause }
@@ -52,7 +53,7 @@ fn announce<W: Write>(alloc: Global, output: &mut W, port: u16) -> Result<(), Tr
 /// Opens a set of the list `M`, which is that of the request, listens, says so, and serves.
 fn serve_list<
     M: Running + Send + Sync,
-    R: Net<Listener = TcpListener, Stream = TcpStream> + Threads + Wait + Sync,
+    R: Net<Listener = TcpListener, Stream = TcpStream> + Threads + Wait + Clock + Sync,
     W: Write,
 >(rt: &R, alloc: Global, request: ServeRequest, output: &mut W) -> Result<Answer, Trouble>
     requires kind { M.KIND ≡ request.kind }
@@ -82,7 +83,7 @@ fn serve_list<
 /// Serves as the values ask, and gives the text of what was served. The list is chosen by a `match` of its own, since the
 /// tasks of `lset_lists::on_list` are for machines, and not for running sets.
 fn serve_values<
-    R: Net<Listener = TcpListener, Stream = TcpStream> + Threads + Wait + Sync,
+    R: Net<Listener = TcpListener, Stream = TcpStream> + Threads + Wait + Clock + Sync,
     W: Write,
 >(rt: &R, alloc: Global, values: &[String], output: &mut W) -> Result<Answer, Trouble>
     ensures { Serves (request_of (map string_bytes values.now))
@@ -108,7 +109,7 @@ fn serve_values<
 /// 0 to 10,000. A value that is missing is a wrong one, and values past the last are not looked at. A failing write on
 /// `faults` leaves the status as it is. It waits for its connections.
 pub fn tool_serve<
-    R: Net<Listener = TcpListener, Stream = TcpStream> + Threads + Wait + Sync,
+    R: Net<Listener = TcpListener, Stream = TcpStream> + Threads + Wait + Clock + Sync,
     W: Write,
     F: Write,
 >(rt: &R, alloc: Global, values: &[String], output: &mut W, faults: &mut F) -> u8

@@ -2,6 +2,7 @@
 #![tactic(auto)]
 
 mod channel;
+mod lingering;
 mod serving;
 mod workers;
 

@@ -22,6 +22,7 @@ use std::net::{TcpListener, TcpStream};
 use std::sync::Wait;
 use std::thread;
 use std::thread::{Scope, Threads};
+use std::time::Clock;
 use thiserror::Error;
 
 /// Why connections were not served.
@@ -112,7 +113,7 @@ fn close_all<R: Wait>(
 }
 
 /// Starts the workers, accepts the connections and joins the workers. Gives the pass with all parts, and the gathered seat.
-fn serve_in<'s, E, R: Threads + Wait + Sync, M: Running + Send + Sync>(
+fn serve_in<'s, E, R: Threads + Wait + Clock + Sync, M: Running + Send + Sync>(
     scope: &Scope<'s, E>,
     rt: &'s R,
     alloc: Global,
@@ -145,7 +146,7 @@ fn serve_in<'s, E, R: Threads + Wait + Sync, M: Running + Send + Sync>(
 }
 
 /// Makes the channel and serves through it. After a fault the channel is dropped, and the workers end.
-fn serve_all<R: Threads + Wait + Sync, M: Running + Send + Sync>(
+fn serve_all<R: Threads + Wait + Clock + Sync, M: Running + Send + Sync>(
     rt: &R,
     alloc: Global,
     listener: &TcpListener,
@@ -191,7 +192,7 @@ fn serve_all<R: Threads + Wait + Sync, M: Running + Send + Sync>(
 /// `Memory` where memory was refused, `Left` where the workers received fewer connections than were accepted. After these
 /// the workers that were started end, and the set is dropped. It waits for connections and for its workers, and each worker
 /// waits for its client.
-pub fn serve<R: Threads + Wait + Sync, M: Running + Send + Sync>(
+pub fn serve<R: Threads + Wait + Clock + Sync, M: Running + Send + Sync>(
     rt: &R,
     alloc: Global,
     listener: TcpListener,

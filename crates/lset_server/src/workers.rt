@@ -11,6 +11,7 @@ ghost use Rattle.lset_server.specs.Workers.{HasWorked, HaveWorked};
 ghost use Rattle.lset_server.specs.declared.serving.ServeCause.TheVariants as cause;
 
 use crate::channel::{Connection, Message, Receiver, Sender, Token, cut_part, receive, take_back};
+use crate::lingering::take_leave;
 use crate::serving::ServeCause;
 use lset_live::{LiveSet, Running, Seat};
 use lset_session::{Device, session};
@@ -19,6 +20,7 @@ use std::net::TcpStream;
 use std::snapshot::Snapshot;
 use std::sync::Wait;
 use std::thread::{Promise, PromisedHandle, Scope, Threads};
+use std::time::Clock;
 
 /// What a worker gives back: its pass, its seat, and how many sessions it held and calls it made.
 #[derive(Drop)]
@@ -49,7 +51,7 @@ pub type Worker<M> = PromisedHandle<Back<M>, Owed<M>>;
 
 /// Serves connections on the seat, until no more come or `most` were received. A session that ends with a fault ends no
 /// more than itself.
-fn work<R: Wait, M: Running>(
+fn work<R: Wait + Clock, M: Running>(
     rt: &R,
     from: &Receiver<TcpStream>,
     mut pass: Token<TcpStream>,
@@ -80,6 +82,7 @@ fn work<R: Wait, M: Running>(
             set,
             &mut seat,
         );
+        take_leave(rt, &stream, ended.why);
         sessions += 1;
         calls += ended.calls;
     }
@@ -92,7 +95,7 @@ fn work<R: Wait, M: Running>(
 }
 
 /// Starts a worker on the seat. `None` where the system refuses the thread.
-fn start<'s, E, R: Wait + Sync, M: Running + Send + Sync>(
+fn start<'s, E, R: Wait + Clock + Sync, M: Running + Send + Sync>(
     scope: &Scope<'s, E>,
     rt: &'s R,
     from: &'s Receiver<TcpStream>,
@@ -120,7 +123,7 @@ fn start<'s, E, R: Wait + Sync, M: Running + Send + Sync>(
 
 /// Starts a worker on each seat, with a part of the sender's pass. All memory for the handles is taken before the first
 /// one is started.
-pub fn start_all<'s, E, R: Wait + Sync, M: Running + Send + Sync>(
+pub fn start_all<'s, E, R: Wait + Clock + Sync, M: Running + Send + Sync>(
     alloc: Global,
     scope: &Scope<'s, E>,
     rt: &'s R,

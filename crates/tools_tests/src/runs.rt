@@ -11,6 +11,7 @@ use std::rt::Files;
 use std::sync::Wait;
 use std::test::Fail;
 use std::thread::Threads;
+use std::time::Clock;
 
 pub const KINDS: [&str; 5] = ["coarse", "fine", "optimistic", "lazy", "lock-free"];
 
@@ -105,7 +106,7 @@ pub fn threads_run<R: Threads + Wait + Sync>(
 
 /// The program on these words, with this standard input.
 pub fn words_run<
-    H: Files + Net<Listener = TcpListener, Stream = TcpStream> + Threads + Wait + Sync,
+    H: Files + Net<Listener = TcpListener, Stream = TcpStream> + Threads + Wait + Clock + Sync,
 >(rt: &H, alloc: Global, words: &[&str], input: &str) -> Run {
     let mut run = Run::new(alloc);
     let mut input = input.as_bytes();
