@@ -17,7 +17,10 @@ use Rattle.lset_history.proofs.Keys.{has_true, has_from, has_false, has_none, wi
 
 abbrev key_told : Reply → ℕ
 key_told (reply.At x) = x.0
-key_told _ = 0
+key_told True = 0
+key_told False = 0
+key_told Full = 0
+key_told reply.Nothing = 0
 
 -- a content and a list have the same keys
 abbrev pub SameKeys : Content → List ℕ → Type 0

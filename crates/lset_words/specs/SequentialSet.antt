@@ -48,8 +48,17 @@ after_call s thread (Add k) True = record {
   keys = with_key k.0 s.keys;
   counts = slice_set s.counts thread (count_of s thread + 1);
 }
+after_call s thread (Add k) False = s
+after_call s thread (Add k) Full = s
+after_call s thread (Add k) (At x) = s
+after_call s thread (Add k) Nothing = s
 after_call s thread (Remove k) True = record { keys = without_key k.0 s.keys; counts = s.counts }
-after_call s thread _ _ = s
+after_call s thread (Remove k) False = s
+after_call s thread (Remove k) Full = s
+after_call s thread (Remove k) (At x) = s
+after_call s thread (Remove k) Nothing = s
+after_call s thread (Contains k) reply = s
+after_call s thread (Ceiling k) reply = s
 
 -- a call of a thread, with a reply
 pub record Answered : Type 0 where
