@@ -19,7 +19,7 @@ ghost use Rattle.lset_replay.specs.Trace.{
   MayFollow,
 };
 
-use crate::places::{OpenCall, Place, needs_key};
+use crate::places::{OpenCall, Place, found_in, needs_key};
 use lset_history::{Changes, History, HistoryFault};
 use lset_steps::{Event, Told};
 use lset_words::{Call, Key, Reply};
@@ -65,6 +65,11 @@ impl Recorder {
         requires { made.begun ≤ last }
         ensures { result ≡ fit (moments_of self.now.changes) made reply last }
     {
+        if let Call::Ceiling(key) = made.call {
+            return self
+                .changes
+                .first_ceiling(key.0, found_in(reply), made.begun, last);
+        }
         let (first, _looked) = self.changes.first(
             made.call.key().0,
             needs_key(made.call, reply),
