@@ -1,6 +1,7 @@
 use lset_history::{HistoryFault, OrderFault};
 use lset_live::OpenFault;
-use lset_replay::{ReplayFault, ReportFault};
+use lset_replay::ReplayFault;
+use lset_report::ReportFault;
 use lset_schedule::{GenFault, ScheduleFault};
 use lset_steps::StepFault;
 use lset_tools::{Answer, Trouble};

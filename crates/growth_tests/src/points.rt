@@ -1,7 +1,7 @@
 //! Points of an order, and why an order is refused.
 use crate::calls::{Calls, Wrong, check};
 use lset_history::{Refusal, first_points, why_refused};
-use lset_replay::{Report, ReportCause, ReportFault, read_report};
+use lset_report::{Report, ReportCause, ReportFault, read_report};
 use lset_words::Reply;
 use std::alloc::{AllocError, Global};
 

@@ -4,7 +4,8 @@ ghost use Rattle.lset_schedule.specs.Plan.{IsSchedule, view};
 use crate::calls::{Calls, Wrong, check};
 use lset_coarse::CoarseList;
 use lset_history::{OrderFault, check_order};
-use lset_replay::{ReplayFault, ReportCause, ReportFault, read_report, replay, write_report};
+use lset_replay::{ReplayFault, replay};
+use lset_report::{ReportCause, ReportFault, read_report, write_report};
 use lset_schedule::{
     Cause, GenFault, Schedule, ScheduleFault, generate, programs, read_schedule, write_schedule,
 };

@@ -1,4 +1,4 @@
-use lset_replay::{MOST_KEYS, ReportCause, ReportFault, read_report};
+use lset_report::{MOST_KEYS, ReportCause, ReportFault, read_report};
 use lset_tools::{LONGEST, tool_check, tool_replay};
 use std::alloc::Global;
 use std::io::{self, Read};

@@ -1,7 +1,8 @@
 ghost use Rattle.std.specs.Prelude.{◌≡◌, ◌<◌, IfOk};
 
 use lset_history::Oracle;
-use lset_replay::{Report, replay};
+use lset_replay::replay;
+use lset_report::Report;
 use lset_schedule::read_schedule;
 use lset_tools::tool_gen;
 use lset_words::{Call, CallRecord, Key, Reply};

@@ -1,4 +1,5 @@
-use lset_replay::{ReplayFault, ReportCause, ReportFault, read_report, replay};
+use lset_replay::{ReplayFault, replay};
+use lset_report::{ReportCause, ReportFault, read_report};
 use lset_schedule::{Cause, Line, ScheduleFault, read_schedule};
 use lset_words::{Call, Key};
 use std::alloc::{AllocError, Global};

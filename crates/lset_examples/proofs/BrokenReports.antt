@@ -22,9 +22,9 @@ use Rattle.lset_text.specs.Spellings.{call_word_of, reply_of}
 use Rattle.lset_text.specs.Spellings.{kind_of as kind_of_word}
 use Rattle.lset_history.proofs.Keys.{has_from, with_keeps, with_from, without_keeps, without_from}
 use Rattle.lset_history.proofs.Pairs.{pairs_head, pairs_tail}
-use Rattle.lset_replay.specs.Reports.{ReportValue}
-use Rattle.lset_replay.specs.ReportReading.{reading, report_of, report_from, begun_of, ended_of, place_of, key_of_line}
-use Rattle.lset_replay.specs.ReportReading.{ReportsReadBack}
+use Rattle.lset_report.specs.Report.{ReportValue}
+use Rattle.lset_report.specs.ReportReading.{reading, report_of, report_from, begun_of, ended_of, place_of, key_of_line}
+use Rattle.lset_report.specs.ReportReading.{ReportsReadBack}
 use Rattle.lset_examples.specs.declared.example.Example.{Example}
 use Rattle.lset_examples.specs.declared.example.Example.TheVariants.{FailedTries, Full as FullExample, HandOverHand, SameGap}
 use Rattle.lset_examples.specs.declared.example.Example.TheVariants.{StalePred, MarkedInChain, MarkedPred, ReadInAnothersStep}

@@ -5,9 +5,9 @@ use Rattle.lset_words.specs.declared.Kind.TheVariants.{Coarse, Fine, Optimistic,
 use Rattle.lset_words.specs.declared.history.Placed.{Placed}
 use Rattle.lset_history.specs.Faults.{Explains}
 use Rattle.lset_schedule.specs.Plan.{Plan, IsSchedule, schedule_text}
-use Rattle.lset_replay.specs.Reports.{ReportValue}
-use Rattle.lset_replay.specs.ReportReading.{IsReport}
-use Rattle.lset_replay.specs.Texts.{report_text}
+use Rattle.lset_report.specs.Report.{ReportValue}
+use Rattle.lset_report.specs.ReportReading.{IsReport}
+use Rattle.lset_report.specs.Texts.{report_text}
 use Rattle.lset_examples.specs.declared.example.Example.{Example}
 use Rattle.lset_examples.specs.declared.example.Example.TheVariants.{FailedTries, Full, HandOverHand, SameGap}
 use Rattle.lset_examples.specs.declared.example.Example.TheVariants.{StalePred, MarkedInChain, MarkedPred, ReadInAnothersStep}

@@ -13,7 +13,7 @@ ghost use Rattle.lset_examples.specs.Examples.{
 };
 
 use crate::texts;
-use lset_replay::reports_read_back;
+use lset_report::reports_read_back;
 use lset_words::Kind;
 
 /// A classic interleaving of calls on one of the five lists (most of them from Herlihy and Shavit's chapter on linked lists, and

@@ -15,8 +15,3 @@ pub mod Ordered
 pub mod EventSteps
 pub mod Reported
 pub mod Recorded
-pub mod ReportHistories
-pub mod ReportLoops
-pub mod ReportLines
-pub mod ReportTexts
-pub mod ReportAgain

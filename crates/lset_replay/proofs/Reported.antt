@@ -17,7 +17,8 @@ use Rattle.lset_headline.specs.Headline.{history_of, keys_left, ExplainsRun, Run
 use Rattle.lset_replay.specs.declared.events.LineEvent.{LineEvent}
 use Rattle.lset_replay.specs.declared.recorder.Recorder.{Recorder}
 use Rattle.lset_replay.specs.Events.{only_events, events_of}
-use Rattle.lset_replay.specs.Reports.{IsReportOf, IsReplay, IsExplained, ReportValue}
+use Rattle.lset_report.specs.Report.{ReportValue}
+use Rattle.lset_replay.specs.Reports.{IsReportOf, IsReplay, IsExplained}
 use Rattle.lset_replay.specs.Trace.{Trace}
 use Rattle.lset_replay.specs.Follows.{HasFollowed}
 use Rattle.lset_replay.proofs.Followed.{shown, account_then, kept_then}

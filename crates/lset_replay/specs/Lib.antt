@@ -1,13 +1,9 @@
 pub mod Events
 pub mod Reports
 pub mod PlacedReports
-pub mod Texts
 pub mod Trace
 pub mod Blocks
 pub mod Follows
 pub mod Tracing
 pub mod Tracer
 pub mod TracedReports
-pub mod ReportReading
-pub mod ReportCalls
-pub mod ReportReader

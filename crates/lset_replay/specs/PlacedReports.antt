@@ -11,9 +11,10 @@ use Rattle.lset_steps.specs.Chain.{contents_of, counts_of}
 use Rattle.lset_steps.specs.Laws.{views}
 use Rattle.lset_schedule.specs.Plan.{Plan}
 use Rattle.lset_replay.specs.declared.fault.ReplayFault.{ReplayFault}
-use Rattle.lset_replay.specs.declared.report.PlacedReport.{PlacedReport}
+use Rattle.lset_replay.specs.declared.placed_report.PlacedReport.{PlacedReport}
 use Rattle.lset_replay.specs.Events.{events_of, only_events}
-use Rattle.lset_replay.specs.Reports.{IsReplay, IsRefusal, view}
+use Rattle.lset_report.specs.Report.{view}
+use Rattle.lset_replay.specs.Reports.{IsReplay, IsRefusal}
 
 -- The points of an order of the calls of these events: they lie in the bars of the history, and stand where the calls of the
 -- run do, by the contents of its worlds.

@@ -1,7 +1,6 @@
 -- [Replay]: what a report tells of a schedule, and which event of a schedule is refused.
 use Rattle.std.specs.Prelude.{◌≡◌, ℕ, ◌<◌, List, length, Result, Ok, Err}
 use Rattle.std.specs.List.Sorted.{IsStrictlyIncreasing}
-use Rattle.lset_words.specs.declared.Kind.{Kind}
 use Rattle.lset_words.specs.declared.history.CallRecord.{CallRecord}
 use Rattle.lset_words.specs.declared.history.Placed.{Placed}
 use Rattle.lset_words.specs.History.{Linearizes}
@@ -13,23 +12,13 @@ use Rattle.lset_steps.specs.Steps.{Table, Run, event_at, state_at}
 use Rattle.lset_steps.specs.Laws.{views}
 use Rattle.lset_steps.specs.Worlds.{WorldState, Refused, IsContent}
 use Rattle.lset_headline.specs.Headline.{history_of, IsPlacedBy, keys_left}
-use Rattle.lset_history.specs.History.{HistoryValue}
 use Rattle.lset_schedule.specs.Plan.{Plan}
+use Rattle.lset_report.specs.Report.{ReportValue, view}
 use Rattle.lset_replay.specs.declared.events.LineEvent.{LineEvent}
 use Rattle.lset_replay.specs.declared.fault.ReplayFault.{ReplayFault}
 use Rattle.lset_replay.specs.declared.fault.ReplayFault.TheVariants as fault
-use Rattle.lset_replay.specs.declared.report.Report.{Report}
+use Rattle.lset_report.specs.declared.report.Report.{Report}
 use Rattle.lset_replay.specs.Events.{events_of, only_events, line_at}
-
--- a report without where its lists lie in memory
-pub record ReportValue : Type 0 where
-  pub kind : Kind
-  pub history : HistoryValue
-  pub order : List Placed
-  pub keys : List ℕ
-
-abbrev pub view : Report → ReportValue
-view r = record { kind = r.kind; history = r.history; order = r.order.items; keys = r.keys.items }
 
 -- The run of these events, and what is told of it:
 pub record IsReportOf (T : Table) (threads quota : ℕ) (events : List Event)

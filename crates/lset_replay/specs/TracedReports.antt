@@ -10,7 +10,8 @@ use Rattle.lset_schedule.specs.Plan.{Plan}
 use Rattle.lset_replay.specs.declared.traced.CallEnd.{CallEnd}
 use Rattle.lset_replay.specs.declared.traced.TracedEvent.{TracedEvent}
 use Rattle.lset_replay.specs.Events.{events_of, only_events}
-use Rattle.lset_replay.specs.Reports.{ReportValue, IsReplay}
+use Rattle.lset_report.specs.Report.{ReportValue}
+use Rattle.lset_replay.specs.Reports.{IsReplay}
 use Rattle.lset_replay.specs.PlacedReports.{ArePointsOf}
 use Rattle.lset_replay.specs.Tracing.{TellsEvents}
 

@@ -6,15 +6,16 @@ ghost use Rattle.lset_replay.specs.Events.{events_from, first_event_line};
 ghost use Rattle.lset_replay.specs.Follows.{HasFollowed, FollowsAll};
 ghost use Rattle.lset_lists.specs.Tables.{table_of};
 ghost use Rattle.lset_replay.specs.Reports.{Replays, IsExplained, fault_at};
-ghost use Rattle.lset_replay.specs.Reports as report;
+ghost use Rattle.lset_report.specs.Report as report;
 ghost use Rattle.lset_replay.specs.PlacedReports.{ReplaysWithPoints};
 
 use crate::events::{FIRST_EVENT_LINE, event_of};
 use crate::order::in_order;
 use crate::recorder::Recorder;
-use crate::{PlacedReport, ReplayFault, Report};
+use crate::{PlacedReport, ReplayFault};
 use lset_headline::runs_are_linearizable;
 use lset_lists::{List, Task, on_list};
+use lset_report::Report;
 use lset_schedule::{Line, Schedule};
 use lset_steps::laws::has_account;
 use lset_steps::{Machine, StepFault, World};

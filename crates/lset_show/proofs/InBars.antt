@@ -17,7 +17,7 @@ use Rattle.lset_history.specs.Refusals.{IsRefusalOf}
 use Rattle.lset_history.proofs.Histories.{Follows, pairs_of}
 use Rattle.lset_history.proofs.Lists.{get_or_mapped}
 use Rattle.lset_show.specs.Bars.{BarsAreApart}
-use Rattle.lset_replay.specs.Reports.{ReportValue}
+use Rattle.lset_report.specs.Report.{ReportValue}
 use Rattle.lset_show.specs.ReportPictures.{point_at, first_marked, drawn_points, IsJudgement, IsPictureOfReport}
 use Rattle.lset_drawing.specs.Pictures.{PictureValue}
 

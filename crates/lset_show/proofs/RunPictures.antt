@@ -7,7 +7,8 @@ use Rattle.lset_lists.specs.Tables.{table_of}
 use Rattle.lset_schedule.specs.Plan.{Plan, event_count}
 use Rattle.lset_replay.specs.Events.{events_of, only_events}
 use Rattle.lset_replay.specs.PlacedReports.{ArePointsOf}
-use Rattle.lset_replay.specs.Reports.{ReportValue, IsReplay, IsExplained}
+use Rattle.lset_report.specs.Report.{ReportValue}
+use Rattle.lset_replay.specs.Reports.{IsReplay, IsExplained}
 use Rattle.lset_drawing.specs.declared.picture.Window.{Window}
 use Rattle.lset_drawing.specs.Pictures.{PictureValue}
 use Rattle.lset_tools.specs.Tools.{Made}

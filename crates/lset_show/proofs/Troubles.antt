@@ -6,13 +6,13 @@ use Rattle.lset_schedule.specs.declared.fault.Cause.{Cause}
 use Rattle.lset_schedule.specs.declared.fault.Cause.TheVariants as schedule
 use Rattle.lset_schedule.specs.declared.fault.ScheduleFault.{ScheduleFault}
 use Rattle.lset_schedule.specs.ScheduleReading as schedules
-use Rattle.lset_replay.specs.Reports.{ReportValue}
+use Rattle.lset_report.specs.Report.{ReportValue}
 use Rattle.lset_replay.specs.declared.fault.ReplayFault.{ReplayFault}
 use Rattle.lset_replay.specs.declared.fault.ReplayFault.TheVariants as replay
-use Rattle.lset_replay.specs.declared.report_fault.ReportCause.{ReportCause}
-use Rattle.lset_replay.specs.declared.report_fault.ReportCause.TheVariants as report
-use Rattle.lset_replay.specs.declared.report_fault.ReportFault.{ReportFault}
-use Rattle.lset_replay.specs.ReportReading as reports
+use Rattle.lset_report.specs.declared.report_fault.ReportCause.{ReportCause}
+use Rattle.lset_report.specs.declared.report_fault.ReportCause.TheVariants as report
+use Rattle.lset_report.specs.declared.report_fault.ReportFault.{ReportFault}
+use Rattle.lset_report.specs.ReportReading as reports
 use Rattle.lset_tools.specs.declared.answer.Answer.{Answer}
 use Rattle.lset_tools.specs.declared.trouble.Trouble.{Trouble}
 use Rattle.lset_tools.specs.declared.trouble.Trouble.TheVariants.{CannotRead, TooLong, CannotWrite, Memory, Line, Bad, CannotListen, Work, Serve}

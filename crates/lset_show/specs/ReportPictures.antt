@@ -12,7 +12,7 @@ use Rattle.lset_history.specs.declared.refusal.Refusal.{Refusal}
 use Rattle.lset_history.specs.Faults.{Explains}
 use Rattle.lset_history.specs.Points.{first_points}
 use Rattle.lset_history.specs.Refusals.{IsRefusalOf}
-use Rattle.lset_replay.specs.Reports.{ReportValue}
+use Rattle.lset_report.specs.Report.{ReportValue}
 use Rattle.lset_drawing.specs.Pictures.{PictureValue}
 use Rattle.lset_show.specs.Bars.{IsInBars}
 

@@ -4,10 +4,10 @@ use Rattle.std.specs.List.{starts_with}
 use Rattle.lset_schedule.specs.Plan.{Plan, IsSchedule, schedule_text}
 use Rattle.lset_schedule.specs.ScheduleReading as schedule
 use Rattle.lset_history.specs.declared.refusal.Refusal.{Refusal}
-use Rattle.lset_replay.specs.Reports.{ReportValue}
-use Rattle.lset_replay.specs.ReportReading.{IsReport}
-use Rattle.lset_replay.specs.ReportReading as report
-use Rattle.lset_replay.specs.Texts.{report_text}
+use Rattle.lset_report.specs.Report.{ReportValue}
+use Rattle.lset_report.specs.ReportReading.{IsReport}
+use Rattle.lset_report.specs.ReportReading as report
+use Rattle.lset_report.specs.Texts.{report_text}
 use Rattle.lset_drawing.specs.declared.picture.Window.{Window}
 use Rattle.lset_drawing.specs.Pictures.{PictureValue}
 use Rattle.lset_picture.specs.PictureTexts.{picture_text}

@@ -10,7 +10,8 @@ ghost use Rattle.lset_show.specs.SchedulePictures.{IsPictureOfSchedule};
 
 use crate::bars::bars_are_apart;
 use lset_drawing::Picture;
-use lset_replay::{PlacedReport, ReplayFault, Report, replay_with_points};
+use lset_replay::{PlacedReport, ReplayFault, replay_with_points};
+use lset_report::Report;
 use lset_schedule::{Line, Schedule};
 use std::alloc::Global;
 

@@ -1,6 +1,6 @@
 ghost use Rattle.std.specs.Prelude.{◌≡◌, ◌≢◌, ◌⊎◌, IfOk, IfErr, IfSome, IsTrue};
 ghost use Rattle.lset_schedule.specs.ScheduleReading as schedules;
-ghost use Rattle.lset_replay.specs.ReportReading as reports;
+ghost use Rattle.lset_report.specs.ReportReading as reports;
 ghost use Rattle.lset_drawing.specs.Pictures.{view};
 ghost use Rattle.lset_tools.specs.Tools.{Ends, IsTaken};
 ghost use Rattle.lset_tools.specs.Tools as tools;
@@ -12,7 +12,7 @@ ghost use Rattle.lset_show.specs.Showing.{ShowsSchedule, ShowsReport, Shows, IsF
 use crate::{picture_of_replay, picture_of_report};
 use lset_drawing::{Picture, Window};
 use lset_picture::write_picture;
-use lset_replay::read_report;
+use lset_report::read_report;
 use lset_schedule::read_schedule;
 use lset_svg::write_svg;
 use lset_tools::{Answer, LONGEST, Trouble, deliver, input_of};

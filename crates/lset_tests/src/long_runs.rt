@@ -1,5 +1,6 @@
 use lset_history::check_order;
-use lset_replay::{ReplayFault, ReportCause, ReportFault, read_report, replay, write_report};
+use lset_replay::{ReplayFault, replay};
+use lset_report::{ReportCause, ReportFault, read_report, write_report};
 use lset_schedule::{Cause, ScheduleFault, read_schedule, write_schedule};
 use std::alloc::{AllocError, Global};
 use std::test::Fail;

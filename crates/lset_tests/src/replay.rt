@@ -1,5 +1,6 @@
 use lset_history::check_order;
 use lset_replay::*;
+use lset_report::*;
 use lset_schedule::{read_schedule, write_schedule};
 use std::test::Fail;
 

@@ -4,10 +4,10 @@ use Rattle.std.specs.Fmt.{decimal}
 use Rattle.lset_history.specs.declared.fault.OrderFault.{OrderFault}
 use Rattle.lset_history.specs.declared.fault.OrderFault.TheVariants.{Unknown, Twice, Missing, WrongReply, TooEarly, WrongSet, Memory}
 use Rattle.lset_history.specs.Faults.{Explains, IsFault}
-use Rattle.lset_replay.specs.declared.report_fault.ReportFault.{ReportFault}
-use Rattle.lset_replay.specs.Reports.{ReportValue}
-use Rattle.lset_replay.specs.Texts.{report_text}
-use Rattle.lset_replay.specs.ReportReading.{IsReport, reading}
+use Rattle.lset_report.specs.declared.report_fault.ReportFault.{ReportFault}
+use Rattle.lset_report.specs.Report.{ReportValue}
+use Rattle.lset_report.specs.Texts.{report_text}
+use Rattle.lset_report.specs.ReportReading.{IsReport, reading}
 use Rattle.lset_tools.specs.declared.trouble.Trouble.{Trouble}
 use Rattle.lset_tools.specs.Trouble.{of_report}
 use Rattle.lset_tools.specs.Tools.{AnswerValue, Made, IsTaken, IsInputTrouble}

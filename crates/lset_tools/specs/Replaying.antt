@@ -6,8 +6,9 @@ use Rattle.lset_schedule.specs.Plan.{Plan, IsSchedule, schedule_text}
 use Rattle.lset_schedule.specs.ScheduleReading.{reading}
 use Rattle.lset_replay.specs.declared.fault.ReplayFault.{ReplayFault}
 use Rattle.lset_replay.specs.Events.{events_of}
-use Rattle.lset_replay.specs.Reports.{ReportValue, IsReplay, IsRefusal, IsExplained}
-use Rattle.lset_replay.specs.Texts.{report_text}
+use Rattle.lset_report.specs.Report.{ReportValue}
+use Rattle.lset_replay.specs.Reports.{IsReplay, IsRefusal, IsExplained}
+use Rattle.lset_report.specs.Texts.{report_text}
 use Rattle.lset_tools.specs.declared.trouble.Trouble.{Trouble}
 use Rattle.lset_tools.specs.Trouble.{of_schedule, of_replay}
 use Rattle.lset_tools.specs.Tools.{Made, IsTaken, IsInputTrouble}

@@ -6,9 +6,9 @@ use Rattle.lset_schedule.specs.declared.fault.Cause.TheVariants as schedule
 use Rattle.lset_schedule.specs.declared.fault.ScheduleFault.{ScheduleFault}
 use Rattle.lset_replay.specs.declared.fault.ReplayFault.{ReplayFault}
 use Rattle.lset_replay.specs.declared.fault.ReplayFault.TheVariants as replay
-use Rattle.lset_replay.specs.declared.report_fault.ReportCause.{ReportCause}
-use Rattle.lset_replay.specs.declared.report_fault.ReportCause.TheVariants as report
-use Rattle.lset_replay.specs.declared.report_fault.ReportFault.{ReportFault}
+use Rattle.lset_report.specs.declared.report_fault.ReportCause.{ReportCause}
+use Rattle.lset_report.specs.declared.report_fault.ReportCause.TheVariants as report
+use Rattle.lset_report.specs.declared.report_fault.ReportFault.{ReportFault}
 use Rattle.lset_tools.specs.declared.streams.InputFault.{InputFault}
 use Rattle.lset_tools.specs.declared.streams.InputFault.TheVariants as input
 use Rattle.lset_tools.specs.declared.trouble.LineCause.{LineCause}

@@ -1,7 +1,7 @@
 ghost use Rattle.std.specs.Prelude.{◌≡◌, ◌≢◌, ◌⊎◌, OnOk, IfOk, IfErr, IfSome};
 ghost use Rattle.lset_history.specs.declared.fault.OrderFault.TheVariants as order;
-ghost use Rattle.lset_replay.specs.Reports as reports;
-ghost use Rattle.lset_replay.specs.ReportReading.{reading};
+ghost use Rattle.lset_report.specs.Report as reports;
+ghost use Rattle.lset_report.specs.ReportReading.{reading};
 ghost use Rattle.lset_tools.specs.Tools.{Ends, IsTaken, view};
 ghost use Rattle.lset_tools.specs.Checking.{refusal_text, IsAnswerOn, IsFirstFault, Checks};
 ghost use Rattle.lset_tools.specs.declared.trouble.Trouble.TheVariants.{CannotRead, Memory};
@@ -10,7 +10,7 @@ use crate::answer::{Answer, deliver};
 use crate::streams::{LONGEST, input_of};
 use crate::trouble::Trouble;
 use lset_history::{OrderFault, check_order};
-use lset_replay::{Report, read_report};
+use lset_report::{Report, read_report};
 use std::alloc::Global;
 use std::io::{Read, Write};
 

@@ -7,7 +7,8 @@ ghost use Rattle.lset_tools.specs.declared.trouble.Trouble.TheVariants.{CannotRe
 use crate::answer::{Answer, deliver};
 use crate::streams::{LONGEST, input_of};
 use crate::trouble::Trouble;
-use lset_replay::{replay, write_report};
+use lset_replay::replay;
+use lset_report::write_report;
 use lset_schedule::read_schedule;
 use std::alloc::Global;
 use std::io::{Read, Write};

@@ -3,7 +3,8 @@ ghost use Rattle.lset_tools.specs.Trouble.{of_input, of_schedule, of_replay, of_
 ghost use Rattle.lset_tools.specs.declared.trouble.Trouble.TheVariants.{Memory};
 
 use crate::streams::InputFault;
-use lset_replay::{ReplayFault, ReportCause, ReportFault};
+use lset_replay::ReplayFault;
+use lset_report::{ReportCause, ReportFault};
 use lset_schedule::{Cause, ScheduleFault};
 use std::alloc::AllocError;
 

@@ -6,12 +6,14 @@
 ghost use Rattle.std.specs.Prelude.{◌≡◌, length, IfOk};
 ghost use Rattle.lset_history.specs.Faults.{Explains};
 ghost use Rattle.lset_schedule.specs.Plan.{Plan, IsSchedule, schedule_text};
-ghost use Rattle.lset_replay.specs.Reports.{ReportValue, IsExplained};
-ghost use Rattle.lset_replay.specs.Texts.{report_text};
+ghost use Rattle.lset_report.specs.Report.{ReportValue};
+ghost use Rattle.lset_replay.specs.Reports.{IsExplained};
+ghost use Rattle.lset_report.specs.Texts.{report_text};
 
 use lset_examples::{ALL, Example};
 use lset_history::{OrderFault, check_order};
-use lset_replay::{ReplayFault, ReportFault, read_report, replay, write_report};
+use lset_replay::{ReplayFault, replay};
+use lset_report::{ReportFault, read_report, write_report};
 use lset_schedule::{ScheduleFault, read_schedule};
 use std::alloc::{AllocError, Global};
 use std::{fs, io};

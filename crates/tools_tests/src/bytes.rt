@@ -1,4 +1,4 @@
-use lset_replay::ReportCause;
+use lset_report::ReportCause;
 use lset_schedule::Cause;
 use lset_tools::{
     Answer, LineCause, Moments, Trouble, ValueName, checked, line_of_trouble, read_moments,

@@ -1,5 +1,5 @@
 use Rattle.std.proofs.Common.{◌∙◌, ap, length, sym}
-use Rattle.lset_replay.specs.Reports.{view}
+use Rattle.lset_report.specs.Report.{view}
 use Rattle.run_examples.proofs.placed_in.Goals as goal
 
 -- what `check_order` said of the parts of the report, as its value has them

@@ -1,4 +1,4 @@
-use Rattle.lset_replay.specs.Reports.{view}
+use Rattle.lset_report.specs.Report.{view}
 use Rattle.lset_show.proofs.InBars.{report_picture}
 use Rattle.lset_show.proofs.reports.picture_of_report.Goals as goal
 

@@ -1,5 +1,5 @@
 use Rattle.lset_schedule.specs.Plan as plan
-use Rattle.lset_replay.specs.Reports.{view}
+use Rattle.lset_report.specs.Report.{view}
 use Rattle.lset_show.proofs.RunPictures.{schedule_picture}
 use Rattle.lset_show.proofs.schedules.picture_of_replay.Goals as goal
 

@@ -1,6 +1,0 @@
-use Rattle.lset_replay.proofs.ReportTexts.{is_found}
-use Rattle.lset_replay.proofs.ReportAgain.{reads_text}
-use Rattle.lset_replay.proofs.reading.reports_read_back.Goals as goal
-
-pub returns : goal.returns
-returns c = λ r bytes. (reads_text r, is_found bytes r)

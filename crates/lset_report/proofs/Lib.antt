@@ -1,0 +1,5 @@
+pub mod ReportHistories
+pub mod ReportLoops
+pub mod ReportLines
+pub mod ReportTexts
+pub mod ReportAgain

@@ -1,0 +1,286 @@
+-- The test of a call line is the law of histories, and what the reader keeps decides it.
+use Rattle.std.proofs.Common.{◌≡◌, ◌≢◌, ℕ, ◌<◌, ◌&&◌, ◌||◌, not, ltb, eqb, Bool, true, false}
+use Rattle.std.proofs.Common.{List, [], ◌∷◌, ◌++◌, length, get_or, Option, Some, None, refl, sym, ap, ◌∙◌, subst, arith}
+use Rattle.std.proofs.Common.{⊎_elim, append_assoc}
+use Rattle.std.proofs.Math.ListN.{set}
+use Rattle.std.proofs.Math.Bool.{or-false}
+use Rattle.std.specs.List.{All, list_any, list_all}
+use Rattle.std.specs.Option.{IfSome, IsSomeAnd}
+use Rattle.std.specs.Ordering.{nat_cmp}
+use Rattle.std.specs.BTreeSet.{contains}
+use Rattle.std.proofs.lemmas.List.{get_or-set_other, get_or-set_same, append-nil, length-set}
+use Rattle.std.proofs.lemmas.List.Elements.{All-cons, All-nil, All-head, All-tail}
+use Rattle.std.proofs.lemmas.List.Folds.{list_any-append, list_all-append}
+use Rattle.std.proofs.lemmas.Bool.{cases_eq, cases_Bool, and_parts, and_from, and_right, or_parts, or_from}
+use Rattle.std.proofs.lemmas.Bool.{or_cases, or_left, or_right, not-true, not_from_false, ltb-true, lt-ltb}
+use Rattle.std.proofs.lemmas.Bool.{eqb-false, eq-eqb, ne_eqb, true≢false}
+use Rattle.lset_words.specs.declared.Reply.{Reply}
+use Rattle.lset_words.specs.declared.history.CallRecord.{CallRecord}
+use Rattle.lset_words.specs.History.{MayFollow, ContinuesHistory, IsHistory}
+use Rattle.lset_report.specs.declared.reading.calls.CallsSoFar.{CallsSoFar}
+use Rattle.lset_report.specs.ReportReading.{ends_at, is_entry, is_taken, begins_later, ended_before, is_idle, ends_later}
+use Rattle.lset_report.specs.ReportReading.{may_follow}
+use Rattle.lset_report.specs.ReportCalls.{threads_of, is_before, end_moment, Tracks}
+
+-- ---- tests of every call
+
+all_tests : {X : Type 0} (p : X → Bool) (P : X → Type 0) → ((x : X) → p x ≡ true → P x) → (xs : List X) → list_all p xs ≡ true
+    → All P xs
+all_tests p P each [] h = All-nil P
+all_tests p P each (x ∷ xs) h =
+    let parts = and_parts (p x) (list_all p xs) h in
+    All-cons P x xs (each x parts.0) (all_tests p P each xs parts.1)
+
+tests_all : {X : Type 0} (p : X → Bool) (P : X → Type 0) → ((x : X) → P x → p x ≡ true) → (xs : List X) → All P xs
+    → list_all p xs ≡ true
+tests_all p P each [] h = refl
+tests_all p P each (x ∷ xs) h =
+    and_from (p x) (list_all p xs) (each x (All-head P x xs h)) (tests_all p P each xs (All-tail P x xs h))
+
+none_tests : {X : Type 0} (p : X → Bool) (P : X → Type 0) → ((x : X) → p x ≡ false → P x) → (xs : List X)
+    → list_any p xs ≡ false → All P xs
+none_tests p P each [] h = All-nil P
+none_tests p P each (x ∷ xs) h =
+    let parts = or_parts (p x) (list_any p xs) h in
+    All-cons P x xs (each x parts.0) (none_tests p P each xs parts.1)
+
+tests_none : {X : Type 0} (p : X → Bool) (P : X → Type 0) → ((x : X) → P x → p x ≡ false) → (xs : List X) → All P xs
+    → list_any p xs ≡ false
+tests_none p P each [] h = refl
+tests_none p P each (x ∷ xs) h =
+    or_from (p x) (list_any p xs) (each x (All-head P x xs h)) (tests_none p P each xs (All-tail P x xs h))
+
+-- ---- one end, and a moment
+
+not_at : (m : ℕ) (o : Option (ℕ × Reply)) → ends_at m o ≡ false → IfSome o (λ (e : ℕ × Reply). e.0 ≢ m)
+not_at m None h = tt
+not_at m (Some e) h = eqb-false e.0 m h
+
+at_none : (m : ℕ) (o : Option (ℕ × Reply)) → IfSome o (λ (e : ℕ × Reply). e.0 ≢ m) → ends_at m o ≡ false
+at_none m None h = refl
+at_none m (Some e) h = ne_eqb e.0 m h
+
+turned : (m : ℕ) (o : Option (ℕ × Reply)) → IfSome o (λ (e : ℕ × Reply). e.0 ≢ m) → IfSome o (λ (e : ℕ × Reply). m ≢ e.0)
+turned m None h = tt
+turned m (Some e) h = λ same. h (sym same)
+
+turned_back : (m : ℕ) (o : Option (ℕ × Reply)) → IfSome o (λ (e : ℕ × Reply). m ≢ e.0) → IfSome o (λ (e : ℕ × Reply). e.0 ≢ m)
+turned_back m None h = tt
+turned_back m (Some e) h = λ same. h (sym same)
+
+has_ended : (m : ℕ) (o : Option (ℕ × Reply)) → ended_before m o ≡ true → IsSomeAnd o (λ (e : ℕ × Reply). e.0 < m)
+has_ended m None h = absurd cc
+has_ended m (Some e) h = ltb-true e.0 m h
+
+ended_again : (m : ℕ) (o : Option (ℕ × Reply)) → IsSomeAnd o (λ (e : ℕ × Reply). e.0 < m) → ended_before m o ≡ true
+ended_again m None h = absurd h
+ended_again m (Some e) h = lt-ltb e.0 m h
+
+-- ---- the test is the law
+
+-- the parts of the test
+record May (threads : ℕ) (calls : List CallRecord) (x : CallRecord) : Type 0 where
+  low : x.thread < threads
+  begins : begins_later calls x.begun ≡ true
+  ends : ends_later calls x.begun x.ended ≡ true
+  apart : is_taken calls x.begun ≡ false
+  idle : is_idle calls x.thread x.begun ≡ true
+
+may_parts : (threads : ℕ) (calls : List CallRecord) (x : CallRecord) → may_follow threads calls x ≡ true → May threads calls x
+may_parts threads calls x h =
+    let a = and_parts (ltb x.thread threads) _ h in
+    let b = and_parts (begins_later calls x.begun) _ a.1 in
+    let c = and_parts (ends_later calls x.begun x.ended) _ b.1 in
+    let d = and_parts (not (is_taken calls x.begun)) _ c.1 in
+    record { low = ltb-true _ _ a.0; begins = b.0; ends = c.0; apart = not-true _ d.0; idle = d.1 }
+
+abbrev Apart : ℕ → CallRecord → Type 0
+Apart m y = (m ≢ y.begun) × IfSome y.ended (λ (d : ℕ × Reply). m ≢ d.0)
+
+apart_of : (m : ℕ) (y : CallRecord) → is_entry m y ≡ false → Apart m y
+apart_of m y h =
+    let parts = or_parts (eqb y.begun m) (ends_at m y.ended) h in
+    (λ same. eqb-false y.begun m parts.0 (sym same), turned m y.ended (not_at m y.ended parts.1))
+
+apart_test : (m : ℕ) (y : CallRecord) → Apart m y → is_entry m y ≡ false
+apart_test m y h = or_from _ _ (ne_eqb y.begun m (λ same. h.0 (sym same))) (at_none m y.ended (turned_back m y.ended h.1))
+
+later_of : (calls : List CallRecord) (b : ℕ) (o : Option (ℕ × Reply)) → ends_later calls b o ≡ true
+    → IfSome o (λ (e : ℕ × Reply). b < e.0)
+later_of calls b None h = tt
+later_of calls b (Some e) h = let parts = and_parts (ltb b e.0) _ h in ltb-true b e.0 parts.0
+
+alone_of : (calls : List CallRecord) (b : ℕ) (o : Option (ℕ × Reply)) → ends_later calls b o ≡ true
+    → IfSome o (λ (e : ℕ × Reply). All (Apart e.0) calls)
+alone_of calls b None h = tt
+alone_of calls b (Some e) h =
+    let parts = and_parts (ltb b e.0) _ h in
+    none_tests (is_entry e.0) (Apart e.0) (apart_of e.0) calls (not-true _ parts.1)
+
+later_test : (calls : List CallRecord) (b : ℕ) (o : Option (ℕ × Reply)) → IfSome o (λ (e : ℕ × Reply). b < e.0)
+    → IfSome o (λ (e : ℕ × Reply). All (Apart e.0) calls) → ends_later calls b o ≡ true
+later_test calls b None h k = refl
+later_test calls b (Some e) h k =
+    and_from _ _ (lt-ltb b e.0 h) (not_from_false _ (tests_none (is_entry e.0) (Apart e.0) (apart_test e.0) calls k))
+
+idle_of : (t m : ℕ) (y : CallRecord) → (not (eqb y.thread t) || ended_before m y.ended) ≡ true → y.thread ≡ t
+    → IsSomeAnd y.ended (λ (e : ℕ × Reply). e.0 < m)
+idle_of t m y h same =
+    has_ended m y.ended (⊎_elim
+    (λ other. absurd (true≢false (sym (eq-eqb y.thread t same) ∙ not-true _ other)))
+    (λ ended. ended)
+    (or_cases (not (eqb y.thread t)) (ended_before m y.ended) h))
+
+idle_test : (t m : ℕ) (y : CallRecord) → (y.thread ≡ t → IsSomeAnd y.ended (λ (e : ℕ × Reply). e.0 < m))
+    → (not (eqb y.thread t) || ended_before m y.ended) ≡ true
+idle_test t m y h = ⊎_elim
+    (λ (same : y.thread ≡ t). or_right (not (eqb y.thread t)) _ (ended_again m y.ended (h same)))
+    (λ (other : y.thread ≢ t). or_left (not (eqb y.thread t)) _ (not_from_false _ (ne_eqb y.thread t other)))
+    (cases_eq y.thread t)
+
+pub may_ok : (threads : ℕ) (calls : List CallRecord) (x : CallRecord) → may_follow threads calls x ≡ true
+    → MayFollow threads calls x
+may_ok threads calls x h =
+    let may = may_parts threads calls x h in
+    let begins = and_parts (ltb 0 x.begun) (list_all (λ y. ltb y.begun x.begun) calls) may.begins in
+    record {
+      of_a_thread = may.low;
+      counted = ltb-true _ _ begins.0;
+      rising = all_tests (λ y. ltb y.begun x.begun) (λ y. y.begun < x.begun) (λ y e. ltb-true _ _ e) calls begins.1;
+      ends_later = later_of calls x.begun x.ended may.ends;
+      begins_alone = none_tests (is_entry x.begun) (λ y. IfSome y.ended (λ (e : ℕ × Reply). e.0 ≢ x.begun))
+          (λ y e. not_at x.begun y.ended (or_parts (eqb y.begun x.begun) (ends_at x.begun y.ended) e).1) calls may.apart;
+      ends_alone = alone_of calls x.begun x.ended may.ends;
+      none_open = all_tests (λ y. not (eqb y.thread x.thread) || ended_before x.begun y.ended)
+          (λ y. y.thread ≡ x.thread → IsSomeAnd y.ended (λ (e : ℕ × Reply). e.0 < x.begun))
+          (λ y e. idle_of x.thread x.begun y e) calls may.idle;
+    }
+
+abbrev BothBefore : ℕ → CallRecord → Type 0
+BothBefore m y = (y.begun < m) × IfSome y.ended (λ (e : ℕ × Reply). e.0 ≢ m)
+
+pub may_again : (threads : ℕ) (calls : List CallRecord) (x : CallRecord) → MayFollow threads calls x
+    → may_follow threads calls x ≡ true
+may_again threads calls x may =
+    let begins = and_from (ltb 0 x.begun) (list_all (λ y. ltb y.begun x.begun) calls) (lt-ltb 0 x.begun may.counted)
+    (tests_all (λ y. ltb y.begun x.begun) (λ y. y.begun < x.begun) (λ y e. lt-ltb _ _ e) calls may.rising) in
+    let apart = tests_none (is_entry x.begun) (BothBefore x.begun)
+    (λ y e. or_from _ _ (ne_eqb y.begun x.begun (λ same. absurd (omega (arith, e.0, same)))) (at_none x.begun y.ended e.1))
+    calls (λ k d b. (may.rising k d b, may.begins_alone k d b)) in
+    let idle = tests_all (λ y. not (eqb y.thread x.thread) || ended_before x.begun y.ended)
+    (λ y. y.thread ≡ x.thread → IsSomeAnd y.ended (λ (e : ℕ × Reply). e.0 < x.begun))
+    (λ y e. idle_test x.thread x.begun y e) calls may.none_open in
+    and_from (ltb x.thread threads) _ (lt-ltb _ _ may.of_a_thread)
+    (and_from (begins_later calls x.begun) _ begins
+    (and_from (ends_later calls x.begun x.ended) _ (later_test calls x.begun x.ended may.ends_later may.ends_alone)
+    (and_from (not (is_taken calls x.begun)) _ (not_from_false _ apart) idle)))
+
+continues_more : (threads : ℕ) (earlier xs : List CallRecord) (x : CallRecord) → ContinuesHistory threads earlier xs
+    → MayFollow threads (earlier ++ xs) x → ContinuesHistory threads earlier (xs ++ x ∷ [])
+continues_more threads earlier [] x h may =
+    (subst (λ (ys : List CallRecord). MayFollow threads ys x) (append-nil earlier) may, tt)
+continues_more threads earlier (y ∷ ys) x h may =
+    let regrouped : earlier ++ y ∷ ys ≡ (earlier ++ y ∷ []) ++ ys = simp append_assoc in (
+      h.0,
+      continues_more threads (earlier ++ y ∷ []) ys x h.1 (subst
+          (λ (zs : List CallRecord). MayFollow threads zs x) regrouped may),
+    )
+
+-- a history goes on by a call that passes the test
+pub history_more : (threads : ℕ) (calls : List CallRecord) (x : CallRecord) → IsHistory threads calls
+    → may_follow threads calls x ≡ true → IsHistory threads (calls ++ x ∷ [])
+history_more threads calls x h may = continues_more threads [] calls x h (may_ok threads calls x may)
+
+-- ---- what is kept after one more call
+
+and-true : (b : Bool) → (b && true) ≡ b
+and-true true = refl
+and-true false = refl
+
+begins_pushed : (calls : List CallRecord) (x : CallRecord) (last : ℕ) → ((m : ℕ) → begins_later calls m ≡ ltb last m)
+    → begins_later calls x.begun ≡ true → (m : ℕ) → begins_later (calls ++ x ∷ []) m ≡ ltb x.begun m
+begins_pushed calls x last old may m =
+    let pushed : list_all (λ y. ltb y.begun m) (calls ++ x ∷ []) ≡ (list_all (λ y. ltb y.begun m) calls && ltb x.begun m) =
+    list_all-append (λ y. ltb y.begun m) calls (x ∷ []) ∙ ap (λ b. list_all
+    (λ y. ltb y.begun m) calls && b) (and-true (ltb x.begun m)) in
+    ap (λ b. ltb 0 m && b) pushed ∙ ⊎_elim
+    (λ (yes : ltb x.begun m ≡ true).
+    let above : last < x.begun = ltb-true _ _ (sym (old x.begun) ∙ may) in
+    let below : x.begun < m = ltb-true _ _ yes in
+    let parts = and_parts (ltb 0 m) (list_all (λ y. ltb y.begun m) calls) (old m ∙ lt-ltb last m (omega arith)) in
+    and_from _ _ parts.0 (and_from _ _ parts.1 yes) ∙ sym yes)
+    (λ (no_ : ltb x.begun m ≡ false). and_right (ltb 0 m) _ (and_right (list_all (λ y. ltb y.begun m) calls) _ no_) ∙ sym no_)
+    (cases_Bool (ltb x.begun m))
+
+taken_pushed : (calls : List CallRecord) (x : CallRecord) (b : Bool) (m : ℕ) → is_taken calls m ≡ b
+    → is_taken (calls ++ x ∷ []) m ≡ (b || is_entry m x)
+taken_pushed calls x b m is =
+    list_any-append (is_entry m) calls (x ∷ []) ∙ ap (λ c. is_taken calls m || c) (or-false (is_entry m x))
+    ∙ ap (λ c. c || is_entry m x) is
+
+before_later : (a m : ℕ) (o : Option ℕ) → is_before a o ≡ true → a < m → is_before m o ≡ true
+before_later a m None h lt = absurd cc
+before_later a m (Some v) h lt = let below = ltb-true v a h in lt-ltb v m (omega arith)
+
+abbrev idle_at : ℕ → ℕ → CallRecord → Bool
+idle_at t m y = not (eqb y.thread t) || ended_before m y.ended
+
+idle_step : (calls : List CallRecord) (x : CallRecord) (t m : ℕ)
+    → is_idle (calls ++ x ∷ []) t m ≡ (is_idle calls t m && idle_at t m x)
+idle_step calls x t m =
+    list_all-append (idle_at t m) calls (x ∷ []) ∙ ap (λ b. is_idle calls t m && b) (and-true (idle_at t m x))
+
+idle_ended : (before : Bool) (b m : ℕ) (o : Option (ℕ × Reply)) (calls : List CallRecord) → ends_later calls b o ≡ true
+    → (b < m → before ≡ true) → (before && ended_before m o) ≡ is_before m (end_moment o)
+idle_ended before b m None calls ends h = and_right before false refl
+idle_ended before b m (Some e) calls ends h = ⊎_elim
+    (λ (yes : ltb e.0 m ≡ true).
+    let later : b < e.0 = later_of calls b (Some e) ends in
+    let below : e.0 < m = ltb-true _ _ yes in
+    and_from _ _ (h (omega arith)) yes ∙ sym yes)
+    (λ (no_ : ltb e.0 m ≡ false). and_right before _ no_ ∙ sym no_)
+    (cases_Bool (ltb e.0 m))
+
+idle_own : (calls : List CallRecord) (x : CallRecord) (m : ℕ) (o : Option ℕ) → ends_later calls x.begun x.ended ≡ true
+    → is_idle calls x.thread x.begun ≡ is_before x.begun o → is_idle calls x.thread m ≡ is_before m o
+    → is_idle calls x.thread x.begun ≡ true
+    → is_idle (calls ++ x ∷ []) x.thread m ≡ is_before m (end_moment x.ended)
+idle_own calls x m o ends old_then old may =
+    let own : idle_at x.thread m x ≡ ended_before m x.ended =
+    ap (λ b. not b || ended_before m x.ended) (eq-eqb x.thread x.thread refl) in
+    idle_step calls x x.thread m ∙ ap (λ b. is_idle calls x.thread m && b) own
+    ∙ idle_ended (is_idle calls x.thread m) x.begun m x.ended calls ends
+    (λ lt. old ∙ before_later x.begun m o (sym old_then ∙ may) lt)
+
+idle_other : (calls : List CallRecord) (x : CallRecord) (t m : ℕ) → t ≢ x.thread
+    → is_idle (calls ++ x ∷ []) t m ≡ is_idle calls t m
+idle_other calls x t m other =
+    let apart : idle_at t m x ≡ true = or_left _ _ (not_from_false _ (ne_eqb x.thread t (λ same. other (sym same)))) in
+    idle_step calls x t m ∙ ap (λ b. is_idle calls t m && b) apart ∙ and-true (is_idle calls t m)
+
+pub tracks_more : (s t : CallsSoFar) (x : CallRecord) → Tracks s → may_follow (threads_of s) s.calls.items x ≡ true
+    → t.calls.items ≡ s.calls.items ++ x ∷ [] → t.last_begun ≡ x.begun
+    → ((m : ℕ) → contains nat_cmp t.moments m ≡ (contains nat_cmp s.moments m || is_entry m x))
+    → t.idle_since.items ≡ set s.idle_since.items x.thread (end_moment x.ended) → Tracks t
+tracks_more s t x old may calls_are last_is moments idle_is =
+    let parts = may_parts (threads_of s) s.calls.items x may in
+    let calls : List CallRecord = s.calls.items in
+    let idle : List (Option ℕ) = s.idle_since.items in
+    let seats : threads_of t ≡ threads_of s = ap length idle_is ∙ length-set idle x.thread (end_moment x.ended) in
+    let low : x.thread < length idle = parts.low in
+    record {
+      history = rw (seats, calls_are) (history_more (threads_of s) calls x old.history may);
+      begins = λ m. rw (calls_are, last_is) (begins_pushed calls x s.last_begun old.begins parts.begins m);
+      taken = λ m. rw calls_are (taken_pushed calls x (contains nat_cmp s.moments m) m (old.taken m)) ∙ sym (moments m);
+      idle = λ u m seat some. rw (calls_are, idle_is) (⊎_elim
+          (λ (same : u ≡ x.thread).
+          let counted : 0 < x.begun = (may_ok (threads_of s) calls x may).counted in
+          subst (λ v. is_idle (calls ++ x ∷ []) v m ≡ is_before m (get_or (set idle x.thread (end_moment x.ended)) v None))
+          (sym same)
+          (idle_own calls x m (get_or idle x.thread None) parts.ends (old.idle x.thread x.begun low counted)
+          (old.idle x.thread m low some) parts.idle
+          ∙ sym (ap (is_before m) (get_or-set_same idle x.thread (end_moment x.ended) None low))))
+          (λ (other : u ≢ x.thread). idle_other calls x u m other ∙ old.idle u m (omega arith) some
+          ∙ sym (ap (is_before m) (get_or-set_other idle x.thread u (end_moment x.ended) None other)))
+          (cases_eq u x.thread));
+    }

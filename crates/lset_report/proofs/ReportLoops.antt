@@ -1,0 +1,210 @@
+-- Reading the lines of a report one after the other, as a loop does.
+use Rattle.std.proofs.Common.{◌≤◌, ◌≡◌, ℕ, ◌+◌, ◌<◌, ◌&&◌, ◌⊎◌, inl, inr, Bool, true, false, cond, ltb, eqb, List, [], ◌∷◌, ◌++◌}
+use Rattle.std.proofs.Common.{length, Result, Ok, Err, refl, sym, ap, subst, ◌∙◌, arith}
+use Rattle.std.proofs.lemmas.Bool.{ne_eqb, ltb-true, eqb-true, and_parts}
+use Rattle.std.proofs.lemmas.List.{nil_from_length}
+use Rattle.lset_text.specs.Parts.{cut_at}
+use Rattle.lset_text.proofs.PartLaws.{some_part}
+use Rattle.lset_text.proofs.ReadingLaws.{bind_ok}
+use Rattle.lset_text.proofs.HeaderLaws.{header_ok}
+use Rattle.lset_text.specs.Results.{◌>>=◌, map_fault}
+use Rattle.lset_report.specs.declared.report.TheConstants.{MOST_CALLS, MOST_PLACES, MOST_KEYS}
+use Rattle.lset_report.specs.declared.reading.Reader.{Reader}
+use Rattle.lset_report.specs.declared.reading.lines.Line.{Line}
+use Rattle.lset_report.specs.declared.reading.lines.Line.TheVariants.{Call, Place, Key, End}
+use Rattle.lset_report.specs.declared.reading.lines.Section.{Section}
+use Rattle.lset_report.specs.declared.report_fault.ReportCause.{ReportCause}
+use Rattle.lset_report.specs.declared.report_fault.ReportCause.TheVariants as wrong
+use Rattle.lset_report.specs.declared.report_fault.ReportFault.{ReportFault}
+use Rattle.lset_report.specs.Report.{ReportValue}
+use Rattle.lset_report.specs.ReportReading.{fault, line_in, may_follow, judged, counted, following, line_after, section_after}
+use Rattle.lset_report.specs.ReportReading.{with_line}
+use Rattle.lset_report.specs.ReportReading.{ended_in, report_from, report_of, reading, no_lines, IsGoodUpTo, RunsOut}
+use Rattle.lset_report.specs.Texts.{title}
+use Rattle.lset_report.specs.declared.reading.lines.Section.TheVariants as section
+use Rattle.lset_text.specs.declared.headers.Header.{Header}
+use Rattle.lset_text.specs.Headers.{header_of, header_lines}
+use Rattle.lset_report.specs.ReportReader.{so_far}
+
+-- ---- the judgement of a line
+
+kept_if : (b : Bool) (d : ReportCause) (l k : Line) → cond b (Ok l) (Err d) ≡ Ok k → (b ≡ true) × (l ≡ k)
+kept_if true d l k e = (refl, cc)
+kept_if false d l k e = absurd cc
+
+counted_ok : (most count : ℕ) (l k : Line) → counted most count l ≡ Ok k → (count < most) × (l ≡ k)
+counted_ok most count l k e =
+    let kept = kept_if (ltb count most) wrong.TooMany l k e in
+    (ltb-true count most kept.0, kept.1)
+
+-- a good line: there is room for it, and a call follows
+abbrev pub IsGood : ReportValue → Line → Type 0
+IsGood r (Call number x) =
+    (length r.history.calls < MOST_CALLS) × (number ≡ length r.history.calls)
+    × (may_follow r.history.threads r.history.calls x ≡ true)
+IsGood r (Place p) = length r.order < MOST_PLACES
+IsGood r (Key k) = length r.keys < MOST_KEYS
+IsGood r End = Unit {0}
+
+pub judged_ok : (r : ReportValue) (l k : Line) → judged r l ≡ Ok k → (l ≡ k) × IsGood r l
+judged_ok r (Call number x) k e =
+    let one = bind_ok (counted MOST_CALLS (length r.history.calls) (Call number x)) (following r number x) k e in
+    let room = counted_ok MOST_CALLS (length r.history.calls) (Call number x) one.0 one.1 in
+    let test = kept_if (eqb number (length r.history.calls) && may_follow r.history.threads r.history.calls x) wrong.History
+    one.0 k one.2 in
+    let parts = and_parts (eqb number (length r.history.calls)) _ test.0 in
+    (room.1 ∙ test.1, (room.0, eqb-true _ _ parts.0, parts.1))
+judged_ok r (Place p) k e = let room = counted_ok MOST_PLACES (length r.order) (Place p) k e in (room.1, room.0)
+judged_ok r (Key n) k e = let room = counted_ok MOST_KEYS (length r.keys) (Key n) k e in (room.1, room.0)
+judged_ok r End k e = (cc, tt)
+
+-- what was judged good is so again
+pub judged_again : (s : Section) (r : ReportValue) (x : List ℕ) (l : Line) → line_after s r x ≡ Ok l → judged r l ≡ Ok l
+judged_again s r x l e =
+    let told = bind_ok (line_in s x) (judged r) l e in
+    let same = judged_ok r told.0 l told.2 in
+    subst (λ (k : Line). judged r k ≡ Ok l) same.0 told.2
+
+-- ---- a line and those after it
+
+pub report_goes : (line : ℕ) (s : Section) (r : ReportValue) (x : List ℕ) (parts : List (List ℕ)) (l : Line) → 0 < length parts
+    → line_after s r x ≡ Ok l → report_from line s r (x ∷ parts) ≡ report_from (line + 1) (section_after l) (with_line r l) parts
+unfolding report_from
+report_goes line s r x [] l some is = absurd (omega arith)
+report_goes line s r x (y ∷ more) l some is = rw is refl
+
+report_fails : (line : ℕ) (s : Section) (r : ReportValue) (x : List ℕ) (parts : List (List ℕ)) (cause : ReportCause)
+    → 0 < length parts
+    → line_after s r x ≡ Err cause → report_from line s r (x ∷ parts) ≡ Err (fault line cause)
+unfolding report_from
+report_fails line s r x [] cause some is = absurd (omega arith)
+report_fails line s r x (y ∷ more) cause some is = rw is refl
+
+pub goes_on : (s t : Reader) (line : ℕ) (rest first after : List ℕ) (l : Line) (whole : Result ReportValue ReportFault)
+    → cut_at 10 rest ≡ first ∷ cut_at 10 after
+    → line_after s.section (so_far s) first ≡ Ok l → t.section ≡ section_after l → so_far t ≡ with_line (so_far s) l
+    → report_from line s.section (so_far s) (cut_at 10 rest) ≡ whole
+    → report_from (line + 1) t.section (so_far t) (cut_at 10 after) ≡ whole
+goes_on s t line rest first after l whole parts read section_is told_is so_far_is =
+    let step = report_goes line s.section (so_far s) first (cut_at 10 after) l (some_part 10 after) read in
+    let one : report_from line s.section (so_far s) (cut_at 10 rest) ≡ report_from (line + 1) t.section (so_far t)
+    (cut_at 10 after) =
+    rw (parts, section_is, told_is) step in
+    sym one ∙ so_far_is
+
+-- ---- where memory ran out: every fault of the lines that are left has a later line
+
+good_if : (line : ℕ) (b : Bool) (r q : Result ReportValue ReportFault) → IsGoodUpTo line r → IsGoodUpTo line q
+    → IsGoodUpTo line (cond b r q)
+good_if line true r q first second = first
+good_if line false r q first second = second
+
+good_bind : (upto line : ℕ) (read : Result Line ReportCause) (rest : Line → Result ReportValue ReportFault) → upto < line
+    → ((l : Line) → IsGoodUpTo upto (rest l)) → IsGoodUpTo upto (map_fault (fault line) read >>= rest)
+good_bind upto line (Ok l) rest later good = good l
+good_bind upto line (Err cause) rest later good = later
+
+good_end : (upto line : ℕ) (s : Section) (r : ReportValue) → upto < line → IsGoodUpTo upto (ended_in line s r)
+good_end upto line section.Calls r later = later
+good_end upto line section.Order r later = later
+good_end upto line section.Keys r later = later
+good_end upto line section.Done r later = tt
+
+pub good_from : (upto line : ℕ) (s : Section) (r : ReportValue) (parts : List (List ℕ)) → upto < line
+    → IsGoodUpTo upto (report_from line s r parts)
+unfolding report_from
+good_from upto line s r [] later = good_end upto line s r later
+good_from upto line s r (rest ∷ []) later =
+    good_if upto (eqb (length rest) 0) (ended_in line s r) (Err (fault line wrong.NotEnded)) (good_end upto line s r later) later
+good_from upto line s r (x ∷ y ∷ more) later =
+    good_bind upto line (line_after s r x) (λ l. report_from (line + 1) (section_after l) (with_line r l) (y ∷ more)) later
+    (λ l. good_from upto (line + 1) (section_after l) (with_line r l) (y ∷ more) (omega (arith, later)))
+
+-- a line with a fault, or for which memory ran out
+pub stops : (line count : ℕ) (s : Section) (r : ReportValue) (rest first after : List ℕ) (e : ReportFault)
+    (whole : Result ReportValue ReportFault)
+    → cut_at 10 rest ≡ first ∷ cut_at 10 after
+    → ((cause : ReportCause) × (line_after s r first ≡ Err cause) × (e ≡ fault line cause))
+    ⊎ ((l : Line) × (line_after s r first ≡ Ok l) × (e ≡ fault line wrong.Memory))
+    → report_from line s r (cut_at 10 rest) ≡ whole → line + length (cut_at 10 rest) ≡ 5 + count → 4 ≤ line
+    → (whole ≡ Err e) ⊎ RunsOut (4 + count) whole e
+stops line count s r rest first after e whole parts (inl bad) so_far_is lines above =
+    let step = report_fails line s r first (cut_at 10 after) bad.0 (some_part 10 after) bad.1 in
+    inl (sym so_far_is ∙ ap (report_from line s r) parts ∙ step ∙ ap (λ (f : ReportFault). Err f) (sym bad.2))
+stops line count s r rest first after e whole parts (inr full) so_far_is lines above =
+    let step = report_goes line s r first (cut_at 10 after) full.0 (some_part 10 after) full.1 in
+    let left : whole ≡ report_from (line + 1) (section_after full.0) (with_line r full.0) (cut_at 10 after) =
+    sym so_far_is ∙ ap (report_from line s r) parts ∙ step in
+    let good = good_from line (line + 1) (section_after full.0) (with_line r full.0) (cut_at 10 after) (omega arith) in
+    let one_less : length (cut_at 10 rest) ≡ length (first ∷ cut_at 10 after) = ap length parts in
+    let here : line < 4 + count = omega (arith, lines, one_less, some_part 10 after) in
+    let out : RunsOut (4 + count) whole (fault line wrong.Memory) =
+    record { cause = refl; after_header = above; whole = here; good = subst (IsGoodUpTo line) (sym left) good } in
+    inr (subst (RunsOut (4 + count) whole) (sym full.2) out)
+
+pub not_ended : (line : ℕ) (s : Section) (r : ReportValue) (rest : List ℕ) (whole : Result ReportValue ReportFault)
+    → cut_at 10 rest ≡ rest ∷ [] → (length rest ≡ 0 → ⊥)
+    → report_from line s r (cut_at 10 rest) ≡ whole → whole ≡ Err (fault line wrong.NotEnded)
+unfolding report_from
+not_ended line s r rest whole parts some so_far_is =
+    let one : report_from line s r (cut_at 10 rest) ≡ Err (fault line wrong.NotEnded) =
+    rw (parts, ne_eqb (length rest) 0 some) refl in
+    sym so_far_is ∙ one
+
+pub at_end : (line : ℕ) (s : Section) (r : ReportValue) (rest : List ℕ) (whole : Result ReportValue ReportFault)
+    → length rest ≡ 0 → report_from line s r (cut_at 10 rest) ≡ whole → whole ≡ ended_in line s r
+unfolding report_from
+at_end line s r rest whole none so_far_is =
+    let empty : rest ≡ [] = nil_from_length rest none in
+    let one : report_from line s r (cut_at 10 rest) ≡ ended_in line s r = rw empty refl in
+    sym so_far_is ∙ one
+
+-- a text whose header was read, and the parts of the text
+pub after_header : (bytes rest word : List ℕ) (h : Header) → word ≡ title
+    → header_of word (cut_at 10 bytes) ≡ Ok (h, cut_at 10 rest)
+    → (reading bytes ≡ report_from 5 section.Calls (no_lines h) (cut_at 10 rest))
+    × (length (cut_at 10 bytes) ≡ 4 + length (cut_at 10 rest))
+unfolding report_of
+after_header bytes rest word h word_is header_is =
+    let head : header_of title (cut_at 10 bytes) ≡ Ok (h, cut_at 10 rest) =
+    ap (λ (w : List ℕ). header_of w (cut_at 10 bytes)) (sym word_is) ∙ header_is in
+    let begins = header_ok title (cut_at 10 bytes) (h, cut_at 10 rest) head in
+    let long : length (cut_at 10 bytes) ≡ length (header_lines title h ++ cut_at 10 rest) = ap length begins.0 in
+    (rw head refl, omega (arith, long))
+
+-- where memory ran out after the header
+pub runs_out_after_header : (bytes rest word : List ℕ) (h : Header) → word ≡ title
+    → header_of word (cut_at 10 bytes) ≡ Ok (h, cut_at 10 rest)
+    → RunsOut (length (cut_at 10 bytes)) (reading bytes) (fault 4 wrong.Memory)
+runs_out_after_header bytes rest word h word_is header_is =
+    let after = after_header bytes rest word h word_is header_is in
+    let good = good_from 4 5 section.Calls (no_lines h) (cut_at 10 rest) (omega arith) in
+    record {
+      cause = refl;
+      after_header = omega arith;
+      whole = omega (arith, after.1, some_part 10 rest);
+      good = subst (IsGoodUpTo 4) (sym after.0) good;
+    }
+
+-- the lines after a header that was read
+pub report_is : (bytes rest word : List ℕ) (h : Header) (s : Reader) → word ≡ title
+    → header_of word (cut_at 10 bytes) ≡ Ok (h, cut_at 10 rest)
+    → s.section ≡ section.Calls → so_far s ≡ no_lines h
+    → (reading bytes ≡ report_from 5 s.section (so_far s) (cut_at 10 rest))
+    × (length (cut_at 10 bytes) ≡ 4 + length (cut_at 10 rest))
+report_is bytes rest word h s word_is header_is section_is so_far_is =
+    let after = after_header bytes rest word h word_is header_is in
+    (rw (section_is, so_far_is) after.0, after.1)
+
+-- what reading the lines after the header gives, as what reading the whole text gives
+pub whole_text : (bytes : List ℕ) (parts : ℕ) (e : ReportFault) (read : Result ReportValue ReportFault)
+    → reading bytes ≡ read → length (cut_at 10 bytes) ≡ parts
+    → (read ≡ Err e) ⊎ RunsOut parts read e → (reading bytes ≡ Err e) ⊎ RunsOut (length (cut_at 10 bytes)) (reading bytes) e
+whole_text bytes parts e read read_is parts_are told = rw (read_is, parts_are) told
+
+pub not_done : (line : ℕ) (s : Section) (r : ReportValue) → (s ≡ section.Done → ⊥)
+    → ended_in line s r ≡ Err (fault line wrong.NotEnded)
+not_done line section.Calls r h = refl
+not_done line section.Order r h = refl
+not_done line section.Keys r h = refl
+not_done line section.Done r h = absurd (h refl)

@@ -1,0 +1,267 @@
+-- The two laws: what is read is the text of the report, and the text of a report is read.
+use Rattle.std.proofs.Common.{◌≡◌, ℕ, ◌+◌, ◌<◌, ◌^◌, Bool, true, false, cond, eqb, List, [], ◌∷◌}
+use Rattle.std.proofs.Common.{◌++◌, map, length, Option, Some, None, Result, Ok, Err, refl, sym, ap, subst, ◌∙◌, arith}
+use Rattle.std.proofs.Common.{append_assoc, length-append}
+use Rattle.std.specs.Prelude.{IfOk}
+use Rattle.std.specs.List.{AllByRecursion}
+use Rattle.std.proofs.lemmas.Bool.{eqb-true}
+use Rattle.std.proofs.lemmas.List.{append-nil, nil_from_length, map_push}
+use Rattle.lset_words.specs.declared.Reply.{Reply}
+use Rattle.lset_words.specs.declared.history.CallRecord.{CallRecord}
+use Rattle.lset_words.specs.declared.history.Placed.{Placed}
+use Rattle.lset_text.specs.declared.headers.Header.{Header}
+use Rattle.lset_text.specs.Parts.{cut_at}
+use Rattle.lset_text.specs.Results.{map_fault}
+use Rattle.lset_text.specs.Headers.{IsHeader, header_lines, header_of}
+use Rattle.lset_text.proofs.PartLaws.{text_from_lines}
+use Rattle.lset_text.proofs.ReadingLaws.{bind_ok, map_fault_ok, ok_is}
+use Rattle.lset_text.proofs.HeaderLaws.{header_ok}
+use Rattle.lset_text.specs.Spellings.{HasReply}
+use Rattle.lset_text.specs.declared.words.Version.TheVariants.{One}
+use Rattle.lset_report.specs.declared.reading.lines.Line.{Line}
+use Rattle.lset_report.specs.declared.reading.lines.Line.TheVariants as told
+use Rattle.lset_report.specs.declared.reading.lines.Section.{Section}
+use Rattle.lset_report.specs.declared.reading.lines.Section.TheVariants as section
+use Rattle.lset_report.specs.declared.report.Report.{Report}
+use Rattle.lset_report.specs.declared.report_fault.ReportCause.TheVariants as wrong
+use Rattle.lset_report.specs.declared.report_fault.ReportFault.{ReportFault}
+use Rattle.lset_report.specs.Report.{ReportValue, view}
+use Rattle.lset_report.specs.Texts.{title, header_in, call_line, call_lines, place_line, key_line, last_line}
+use Rattle.lset_report.specs.Texts.{report_lines, report_text}
+use Rattle.lset_report.specs.ReportReading.{IsEnd, IsCall, IsReport, fault, in_report, takes_calls, takes_places, takes_keys}
+use Rattle.lset_report.specs.ReportReading.{line_in}
+use Rattle.lset_report.specs.ReportReading.{judged, line_after, section_after, with_line, ended_in}
+use Rattle.lset_report.specs.ReportReading.{report_from, no_lines}
+use Rattle.lset_report.specs.ReportReading.{report_of, reading, Gives}
+use Rattle.lset_report.proofs.ReportHistories.{history_more}
+use Rattle.lset_report.proofs.ReportLines.{line_text, IsEndLine, IsLine, takes, line_ok}
+use Rattle.lset_report.proofs.ReportLoops.{IsGood, judged_ok}
+
+-- ---- lists
+
+pub all_join : {X : Type 0} (P : X → Type 0) (xs ys : List X) → AllByRecursion P xs → AllByRecursion P ys
+    → AllByRecursion P (xs ++ ys)
+all_join P [] ys h k = k
+all_join P (x ∷ xs) ys h k = (h.0, all_join P xs ys h.1 k)
+
+calls_pushed : (n : ℕ) (xs : List CallRecord) (x : CallRecord)
+    → call_lines n (xs ++ x ∷ []) ≡ call_lines n xs ++ call_line (n + length xs) x ∷ []
+calls_pushed n [] x = ap (λ m. call_line m x ∷ []) (omega arith)
+calls_pushed n (y ∷ ys) x =
+    let same : n + 1 + length ys ≡ n + length (y ∷ ys) = omega arith in
+    ap (λ (ls : List (List ℕ)). call_line n y ∷ ls)
+    (calls_pushed (n + 1) ys x ∙ ap (λ m. call_lines (n + 1) ys ++ call_line m x ∷ []) same)
+
+-- ---- the lines of the report so far
+
+abbrev so_far : ReportValue → List (List ℕ)
+so_far r = header_lines title (header_in r) ++ call_lines 0 r.history.calls ++ map place_line r.order ++ map key_line r.keys
+
+abbrev lines_at : Section → ReportValue → List (List ℕ)
+lines_at section.Calls r = so_far r
+lines_at section.Order r = so_far r
+lines_at section.Keys r = so_far r
+lines_at section.Done r = so_far r ++ last_line ∷ []
+
+-- no line of a later section
+abbrev Reaches : Section → ReportValue → Type 0
+Reaches section.Calls r = (r.order ≡ []) × (r.keys ≡ [])
+Reaches section.Order r = r.keys ≡ []
+Reaches section.Keys r = Unit {0}
+Reaches section.Done r = Unit {0}
+
+no_keys : (s : Section) (r : ReportValue) → takes_places s ≡ true → Reaches s r → r.keys ≡ []
+no_keys section.Calls r may h = h.1
+no_keys section.Order r may h = h
+no_keys section.Keys r may h = absurd cc
+no_keys section.Done r may h = absurd cc
+
+no_order : (s : Section) (r : ReportValue) → takes_calls s ≡ true → Reaches s r → r.order ≡ []
+no_order section.Calls r may h = h.0
+no_order section.Order r may h = absurd cc
+no_order section.Keys r may h = absurd cc
+no_order section.Done r may h = absurd cc
+
+takes_more : (s : Section) → takes_calls s ≡ true → takes_places s ≡ true
+takes_more section.Calls may = refl
+takes_more section.Order may = absurd cc
+takes_more section.Keys may = absurd cc
+takes_more section.Done may = absurd cc
+
+pub takes_most : (s : Section) → takes_places s ≡ true → takes_keys s ≡ true
+takes_most section.Calls may = refl
+takes_most section.Order may = refl
+takes_most section.Keys may = absurd cc
+takes_most section.Done may = absurd cc
+
+lines_open : (s : Section) (r : ReportValue) → takes_keys s ≡ true → lines_at s r ≡ so_far r
+lines_open section.Calls r may = refl
+lines_open section.Order r may = refl
+lines_open section.Keys r may = refl
+lines_open section.Done r may = absurd cc
+
+with_nothing : (hs : List (List ℕ)) (ps : List Placed) (ks : List ℕ) → ps ≡ [] → ks ≡ []
+    → hs ++ map place_line ps ++ map key_line ks ≡ hs
+with_nothing hs ps ks p k = rw (p, k) (append-nil (hs ++ []) ∙ append-nil hs)
+
+-- ONE MORE LINE stands after those so far
+more_lines : (s : Section) (r : ReportValue) (l : Line) → Reaches s r → takes s l ≡ true → IsGood r l
+    → lines_at s r ++ line_text l ∷ [] ≡ lines_at (section_after l) (with_line r l)
+more_lines s r (told.Call n x) h may good =
+    let none = no_order s r may h in
+    let nothing = no_keys s r (takes_more s may) h in
+    let front = header_lines title (header_in r) in
+    let cs = r.history.calls in
+    let number : n ≡ 0 + length cs = omega (arith, good.1) in
+    ap (λ (ls : List (List ℕ)). ls ++ call_line n x ∷ []) (lines_open s r (takes_most s (takes_more s may))
+    ∙ with_nothing (front ++ call_lines 0 cs) r.order r.keys none nothing)
+    ∙ append_assoc front (call_lines 0 cs) (call_line n x ∷ [])
+    ∙ ap (λ m. front ++ (call_lines 0 cs ++ call_line m x ∷ [])) number
+    ∙ ap (λ (ls : List (List ℕ)). front ++ ls) (sym (calls_pushed 0 cs x))
+    ∙ sym (with_nothing (front ++ call_lines 0 (cs ++ x ∷ [])) r.order r.keys none nothing)
+more_lines s r (told.Place p) h may good =
+    let nothing = no_keys s r may h in
+    let front = header_lines title (header_in r) ++ call_lines 0 r.history.calls in
+    ap (λ (ls : List (List ℕ)). ls ++ place_line p ∷ []) (lines_open s r (takes_most s may)
+    ∙ ap (λ (ks : List ℕ). front ++ map place_line r.order ++ map key_line ks) nothing
+    ∙ append-nil (front ++ map place_line r.order))
+    ∙ append_assoc front (map place_line r.order) (place_line p ∷ [])
+    ∙ ap (λ (ls : List (List ℕ)). front ++ ls) (sym (map_push place_line r.order p))
+    ∙ sym (ap (λ (ks : List ℕ). front ++ map place_line (r.order ++ p ∷ []) ++ map key_line ks) nothing
+    ∙ append-nil (front ++ map place_line (r.order ++ p ∷ [])))
+more_lines s r (told.Key k) h may good =
+    let front = header_lines title (header_in r) ++ call_lines 0 r.history.calls ++ map place_line r.order in
+    ap (λ (ls : List (List ℕ)). ls ++ key_line k ∷ []) (lines_open s r may)
+    ∙ append_assoc front (map key_line r.keys) (key_line k ∷ [])
+    ∙ ap (λ (ls : List (List ℕ)). front ++ ls) (sym (map_push key_line r.keys k))
+more_lines s r told.End h may good = ap (λ (ls : List (List ℕ)). ls ++ last_line ∷ []) (lines_open s r may)
+
+reaches_more : (s : Section) (r : ReportValue) (l : Line) → Reaches s r → takes s l ≡ true
+    → Reaches (section_after l) (with_line r l)
+reaches_more s r (told.Call n x) h may = (no_order s r may h, no_keys s r (takes_more s may) h)
+reaches_more s r (told.Place p) h may = no_keys s r may h
+reaches_more s r (told.Key k) h may = tt
+reaches_more s r told.End h may = tt
+
+-- and the report keeps its limits
+is_end : (o : Option (ℕ × Reply)) → IsEndLine o → IsEnd o
+is_end None h = tt
+is_end (Some e) h = (h.1, h.2)
+
+length-one : {X : Type 0} (xs : List X) (x : X) → length (xs ++ x ∷ []) ≡ length xs + 1
+length-one xs x = length-append xs (x ∷ [])
+
+report_more : (r : ReportValue) (l : Line) → IsReport r → IsLine l → IsGood r l → IsReport (with_line r l)
+report_more r (told.Call n x) is line good = record {
+  header = is.header;
+  history = history_more r.history.threads r.history.calls x is.history good.2;
+  calls = all_join IsCall r.history.calls (x ∷ []) is.calls ((line.4, line.2, is_end x.ended line.5, line.6), tt);
+  places = is.places;
+  keys = is.keys;
+  few_calls = let long = length-one r.history.calls x in omega (arith, long, good.0);
+  few_places = is.few_places;
+  few_keys = is.few_keys;
+}
+report_more r (told.Place p) is line good = record {
+  header = is.header;
+  history = is.history;
+  calls = is.calls;
+  places = all_join (λ (q : Placed). (q.call < 2 ^ 32) × HasReply One q.reply) r.order (p ∷ []) is.places (line, tt);
+  keys = is.keys;
+  few_calls = is.few_calls;
+  few_places = let long = length-one r.order p in omega (arith, long, good);
+  few_keys = is.few_keys;
+}
+report_more r (told.Key k) is line good = record {
+  header = is.header;
+  history = is.history;
+  calls = is.calls;
+  places = is.places;
+  keys = all_join (λ j. j < 2 ^ 32) r.keys (k ∷ []) is.keys (line, tt);
+  few_calls = is.few_calls;
+  few_places = is.few_places;
+  few_keys = let long = length-one r.keys k in omega (arith, long, good);
+}
+report_more r told.End is line good = is
+
+-- ---- what is read is the text of a report
+
+abbrev IsFound : List (List ℕ) → ReportValue → Type 0
+IsFound parts r = (parts ≡ report_lines r ++ [] ∷ []) × IsReport r
+
+test_ok : {A E : Type 0} (b : Bool) (d : E) (r : Result A E) (y : A) → cond b r (Err d) ≡ Ok y → (b ≡ true) × (r ≡ Ok y)
+test_ok true d r y e = (refl, e)
+test_ok false d r y e = absurd cc
+
+ended_ok : (line : ℕ) (s : Section) (r q : ReportValue) → ended_in line s r ≡ Ok q → IsReport r
+    → IsFound (lines_at s r ++ [] ∷ []) q
+ended_ok line section.Calls r q e is = absurd cc
+ended_ok line section.Order r q e is = absurd cc
+ended_ok line section.Keys r q e is = absurd cc
+ended_ok line section.Done r q e is = subst (IsFound (so_far r ++ last_line ∷ [] ++ [] ∷ [])) (ok_is r q e) (refl, is)
+
+-- the line that was read
+told_line : (line : ℕ) (s : Section) (r : ReportValue) (x : List ℕ) (l : Line) → map_fault (fault line) (line_after s r x) ≡ Ok l
+    → (x ≡ line_text l) × IsLine l × (takes s l ≡ true) × IsGood r l
+told_line line s r x l is =
+    let two = bind_ok (line_in s x) (judged r) l (map_fault_ok (fault line) (line_after s r x) l is) in
+    let judged_is = judged_ok r two.0 l two.2 in
+    let text = line_ok s x two.0 two.1 in
+    subst (λ (k : Line). (x ≡ line_text k) × IsLine k × (takes s k ≡ true) × IsGood r k) judged_is.0
+    (text.0, text.1, text.2, judged_is.1)
+
+lines_found : (line : ℕ) (s : Section) (r q : ReportValue) (x : List ℕ) (parts : List (List ℕ)) → IsReport r → Reaches s r
+    → report_from line s r (x ∷ parts) ≡ Ok q → IsFound (lines_at s r ++ x ∷ parts) q
+unfolding report_from
+lines_found line s r q x [] is reached e =
+    let last = test_ok (eqb (length x) 0) (fault line wrong.NotEnded) (ended_in line s r) q e in
+    let none : x ≡ [] = nil_from_length x (eqb-true _ _ last.0) in
+    subst (λ (t : List ℕ). IsFound (lines_at s r ++ t ∷ []) q) (sym none) (ended_ok line s r q last.1 is)
+lines_found line s r q x (y ∷ more) is reached e =
+    let l = bind_ok (map_fault (fault line) (line_after s r x))
+    (λ l. report_from (line + 1) (section_after l) (with_line r l) (y ∷ more)) q e in
+    let one = told_line line s r x l.0 l.1 in
+    let rest = lines_found (line + 1) (section_after l.0) (with_line r l.0) q y more (report_more r l.0 is one.1 one.3)
+    (reaches_more s r l.0 reached one.2) l.2 in
+    let regrouped : lines_at s r ++ x ∷ y ∷ more ≡ lines_at (section_after l.0) (with_line r l.0) ++ y ∷ more =
+    ap (λ (t : List ℕ). lines_at s r ++ t ∷ y ∷ more) one.0
+    ∙ sym (append_assoc (lines_at s r) (line_text l.0 ∷ []) (y ∷ more))
+    ∙ ap (λ (ls : List (List ℕ)). ls ++ y ∷ more) (more_lines s r l.0 reached one.2 one.3) in
+    subst (λ (ls : List (List ℕ)). IsFound ls q) (sym regrouped) rest
+
+empty_report : (h : Header) → IsHeader h → IsReport (no_lines h)
+empty_report h is = record {
+  header = is;
+  history = tt;
+  calls = tt;
+  places = tt;
+  keys = tt;
+  few_calls = omega arith;
+  few_places = omega arith;
+  few_keys = omega arith;
+}
+
+after_header : (h : Header) (q : ReportValue) (parts : List (List ℕ)) → 0 < length parts → IsHeader h
+    → report_from 5 section.Calls (no_lines h) parts ≡ Ok q → IsFound (header_lines title h ++ parts) q
+after_header h q [] some is e = absurd (omega arith)
+after_header h q (x ∷ parts) some is e = lines_found 5 section.Calls (no_lines h) q x parts (empty_report h is) (refl, refl) e
+
+report_ok : (parts : List (List ℕ)) (r : ReportValue) → report_of parts ≡ Ok r → IsFound parts r
+unfolding report_of
+report_ok parts r is =
+    let head = bind_ok (map_fault in_report (header_of title parts))
+    (λ head. report_from 5 section.Calls (no_lines head.0) head.1) r is in
+    let header = header_ok title parts head.0 (map_fault_ok in_report (header_of title parts) head.0 head.1) in
+    subst (λ (ps : List (List ℕ)). IsFound ps r) (sym header.0) (after_header head.0.0 r head.0.1 header.2 header.1 head.2)
+
+pub is_found : (bytes : List ℕ) (r : ReportValue) → reading bytes ≡ Ok r → IsReport r × (bytes ≡ report_text r)
+is_found bytes r is =
+    let found = report_ok (cut_at 10 bytes) r is in
+    (found.1, text_from_lines bytes (report_lines r) found.0)
+
+-- ---- as a reader's clauses
+
+pub found_in : (bytes : List ℕ) (r : Result Report ReportFault) → Gives view r bytes
+    → IfOk r (λ s. IsReport (view s) × (bytes ≡ report_text (view s)))
+found_in bytes (Ok s) gives = is_found bytes (view s) gives
+found_in bytes (Err e) gives = tt

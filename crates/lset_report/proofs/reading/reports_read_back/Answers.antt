@@ -1,0 +1,6 @@
+use Rattle.lset_report.proofs.ReportTexts.{is_found}
+use Rattle.lset_report.proofs.ReportAgain.{reads_text}
+use Rattle.lset_report.proofs.reading.reports_read_back.Goals as goal
+
+pub returns : goal.returns
+returns c = λ r bytes. (reads_text r, is_found bytes r)

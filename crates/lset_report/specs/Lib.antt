@@ -1,0 +1,5 @@
+pub mod Report
+pub mod Texts
+pub mod ReportReading
+pub mod ReportCalls
+pub mod ReportReader

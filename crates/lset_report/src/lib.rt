@@ -1,0 +1,16 @@
+//! Reports of runs and their one text, both ways: a history of calls, an order of them, and the keys that are left.
+//! Nothing here knows how a list is run.
+#![tactic(auto)]
+
+mod reading;
+mod report;
+mod report_fault;
+mod writing;
+
+pub use reading::{read_report, reports_read_back};
+pub use report::{MOST_CALLS, MOST_KEYS, MOST_PLACES, Report};
+pub use report_fault::{ReportCause, ReportFault};
+pub use writing::write_report;
+
+/// The first line of a report's text.
+const TITLE: &str = "listset-report 1";

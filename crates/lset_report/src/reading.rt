@@ -1,0 +1,199 @@
+ghost use Rattle.std.specs.Prelude.{◌≡◌, ◌+◌, ℕ, length, IfOk, OnOk, MatchResult, Ok};
+ghost use Rattle.lset_text.specs.Parts.{cut_at};
+ghost use Rattle.lset_text.specs.Headers.{IsHeader};
+ghost use Rattle.lset_report.specs.Report.{ReportValue, view};
+ghost use Rattle.lset_report.specs.Texts.{report_text};
+ghost use Rattle.lset_report.specs.ReportReading.{
+  IsReport,
+  Gives,
+  section_after,
+  judged,
+  line_after,
+  with_line,
+  no_lines,
+  report_from,
+  ReportsReadBack,
+};
+ghost use Rattle.lset_report.specs.ReportReader.{Holds, GoesOn, ReadsLine, so_far};
+
+mod calls;
+mod lines;
+
+use crate::report_fault::{ReportCause, ReportFault};
+use crate::{MOST_CALLS, MOST_KEYS, MOST_PLACES, Report, TITLE};
+use calls::CallsSoFar;
+use lines::{Line, Section, line_of_report};
+use lset_history::History;
+use lset_text::{Header, cut, read_header};
+use lset_words::{CallRecord, Placed};
+use std::alloc::{AllocError, Global};
+
+/// The last line of the header.
+const LAST_OF_HEADER: u64 = 4;
+
+/// The first line after the header.
+const FIRST_LINE: u64 = 5;
+
+/// What a text has told up to some line.
+#[derive(Drop)]
+pub struct Reader {
+    pub header: Header,
+    pub section: Section,
+    pub calls: CallsSoFar,
+    pub order: Vec<Placed>,
+    pub keys: Vec<u32>,
+}
+
+impl Reader {
+    fn new(alloc: Global, header: Header) -> Result<Reader, AllocError>
+        ensures holds { IfOk result (λ s. Holds s) }
+        ensures section { IfOk result (λ s. s.section ≡ Section.Calls) }
+        ensures nothing { IfOk result (λ s. so_far s ≡ no_lines header) }
+    {
+        Ok(Reader {
+            header,
+            section: Section::Calls,
+            calls: CallsSoFar::new(alloc, header.threads)?,
+            order: Vec::new(alloc),
+            keys: Vec::new(alloc),
+        })
+    }
+
+    /// The line, if there is room for it after those that were read, and a call goes on with their history.
+    fn judged(&self, line: Line) -> Result<Line, ReportCause>
+        requires { Holds self.now }
+        ensures { result ≡ judged (so_far self.now) line }
+    {
+        let (count, most) = match line {
+            Line::Call(_, _) => (self.calls.calls.len(), MOST_CALLS),
+            Line::Place(_) => (self.order.len(), MOST_PLACES),
+            Line::Key(_) => (self.keys.len(), MOST_KEYS),
+            Line::End => return Ok(line),
+        };
+        if count >= most {
+            return Err(ReportCause::TooMany);
+        }
+        if let Line::Call(number, made) = line
+            && (number as usize != count || !self.calls.may_follow(made))
+        {
+            return Err(ReportCause::History);
+        }
+        Ok(line)
+    }
+
+    fn line_after(&self, line: &[u8]) -> Result<Line, ReportCause>
+        requires { Holds self.now }
+        ensures { result ≡ line_after self.now.section (so_far self.now) line.now }
+    {
+        self.judged(line_of_report(self.section, line)?)
+    }
+
+    fn put(&mut self, line: Line) -> Result<(), AllocError>
+        requires holds { Holds self.old }
+        requires good { judged (so_far self.old) line ≡ Ok line }
+        ensures holds { OnOk result (Holds self.new) }
+        ensures header { OnOk result (self.new.header ≡ self.old.header) }
+        ensures section { OnOk result (self.new.section ≡ section_after line) }
+        ensures told { OnOk result (so_far self.new ≡ with_line (so_far self.old) line) }
+    {
+        match line {
+            Line::Call(_, made) => self.calls.push(made)?,
+            Line::Place(placed) => self.order.push(placed)?,
+            Line::Key(key) => self.keys.push(key)?,
+            Line::End => {}
+        }
+        self.section = line.section();
+        Ok(())
+    }
+
+    fn read_line(&mut self, number: u64, text: &[u8]) -> Result<(), ReportFault>
+        requires { Holds self.old }
+        ensures holds { OnOk result (Holds self.new) }
+        ensures header { OnOk result (self.new.header ≡ self.old.header) }
+        ensures told { ReadsLine self.old self.new number text.now result }
+    {
+        let line = match self.line_after(text) {
+            Ok(line) => line,
+            Err(cause) => return Err(ReportFault::at(number, cause)),
+        };
+        if self.put(line).is_err() {
+            return Err(ReportFault::at(number, ReportCause::Memory));
+        }
+        Ok(())
+    }
+
+    /// The lines after the header.
+    fn read_lines(&mut self, text: &[u8]) -> Result<(), ReportFault>
+        requires { Holds self.old }
+        ensures holds { OnOk result (Holds self.new) }
+        ensures header { OnOk result (self.new.header ≡ self.old.header) }
+        ensures told { GoesOn (so_far self.new) result (4 + length (cut_at 10 text.now))
+            (report_from 5 self.old.section (so_far self.old) (cut_at 10 text.now)) }
+    {
+        let mut number = FIRST_LINE;
+        let mut rest = text;
+        while !rest.is_empty() {
+            let Some((first, after)) = cut(rest, b'\n') else {
+                return Err(ReportFault::at(number, ReportCause::NotEnded));
+            };
+            self.read_line(number, first)?;
+            number += 1;
+            rest = after;
+        }
+        match self.section {
+            Section::Done => Ok(()),
+            _ => Err(ReportFault::at(number, ReportCause::NotEnded)),
+        }
+    }
+
+    fn into_report(self) -> Report
+        requires holds { Holds self }
+        requires header { IsHeader self.header }
+        ensures { view result ≡ so_far self }
+    {
+        let calls = self.calls;
+        Report {
+            kind: self.header.kind,
+            history: History::from_calls(self.header.threads, self.header.quota, calls.calls),
+            order: self.order,
+            keys: self.keys,
+        }
+    }
+}
+
+#[tactic(auto, unfolding(crate::specs::ReportReading::report_of))]
+fn report(alloc: Global, bytes: &[u8]) -> Result<Report, ReportFault>
+    ensures { Gives view result bytes.now }
+{
+    let (header, rest) = read_header(TITLE.as_bytes(), bytes)?;
+    let Ok(mut reader) = Reader::new(alloc, header) else {
+        return Err(ReportFault::at(LAST_OF_HEADER, ReportCause::Memory));
+    };
+    reader.read_lines(rest)?;
+    Ok(reader.into_report())
+}
+
+/// The report that the bytes are the text of, or the first fault of the bytes: its line, and the first check
+/// of that line that fails, in the order of `ReportCause` but for `NotEnded`, which comes before all others.
+/// A header line that is due where no byte is left has the fault of that header line. `Memory` stands in place
+/// of any other answer, where a growth was refused: its line is the last one that was read, which has no other
+/// fault, and neither has a line above it.
+///
+/// The order and the keys are not judged: whether they explain the history is for `check_order`. With n bytes
+/// it takes about `n log n` steps, whatever the numbers are. (This project's own format.)
+pub fn read_report(alloc: Global, bytes: &[u8]) -> Result<Report, ReportFault>
+    // What is read is a report with a history, and the bytes are its text.
+    ensures found { IfOk result (λ r. IsReport (view r) × (bytes.now ≡ report_text (view r))) }
+    // The text of such a report is read, unless memory runs out.
+    ensures only { (r : ReportValue) → IsReport r → bytes.now ≡ report_text r
+        → MatchResult result (λ s. view s ≡ r) (λ e. e.cause ≡ ReportCause.Memory) }
+    // Which fault it is, and for which lines `Memory` may be answered.
+    ensures exact { Gives view result bytes.now }
+{
+    report(alloc, bytes)
+}
+
+/// A text is read as the one report that it is the text of, and the text of every report is read.
+pub fn reports_read_back()
+    ensures { ReportsReadBack }
+{}

@@ -1,0 +1,105 @@
+ghost use Rattle.std.specs.Prelude.{◌≡◌, ℕ, ◌++◌, ◌∷◌, [], ◌||◌, true, IfOk, OnOk};
+ghost use Rattle.std.specs.Ordering.{nat_cmp};
+ghost use Rattle.std.specs.BTreeSet.{contains};
+ghost use Rattle.lset_report.specs.ReportReading.{is_entry, may_follow};
+ghost use Rattle.lset_report.specs.ReportCalls.{Tracks, threads_of, is_before, end_moment, ends_well_by};
+
+use lset_words::CallRecord;
+use std::alloc::{AllocError, Global};
+use std::collections::BTreeSet;
+
+/// The calls of a report so far, and what tells whether a call may follow them.
+#[derive(Drop)]
+pub struct CallsSoFar {
+    pub calls: Vec<CallRecord>,
+    /// When the last call began; 0 before the first one.
+    pub last_begun: u32,
+    /// When the calls began and ended.
+    pub moments: BTreeSet<u32>,
+    /// For each thread, when its last call ended; 0 before its first one, and none while a call is open.
+    pub idle_since: Vec<Option<u32>>,
+}
+
+fn is_before(end: Option<u32>, moment: u32) -> bool
+    ensures { result ≡ is_before moment end }
+{
+    match end {
+        Some(end) => end < moment,
+        None => false,
+    }
+}
+
+fn end_moment(made: CallRecord) -> Option<u32>
+    ensures { result ≡ end_moment made.ended }
+{
+    match made.ended {
+        Some((end, _)) => Some(end),
+        None => None,
+    }
+}
+
+/// Adds the moments of a call.
+fn note(moments: &mut BTreeSet<u32>, made: CallRecord) -> Result<(), AllocError>
+    ensures { OnOk result ((m : ℕ) → contains nat_cmp moments.new m ≡ (contains nat_cmp moments.old m || is_entry m made)) }
+{
+    moments.insert(made.begun)?;
+    if let Some((end, _)) = made.ended {
+        moments.insert(end)?;
+    }
+    Ok(())
+}
+
+impl CallsSoFar {
+    /// No calls of `threads` threads.
+    pub fn new(alloc: Global, threads: u32) -> Result<CallsSoFar, AllocError>
+        ensures tracks { IfOk result (λ s. Tracks s) }
+        ensures threads { IfOk result (λ s. threads_of s ≡ threads) }
+        ensures none { IfOk result (λ s. s.calls.items ≡ []) }
+    {
+        Ok(CallsSoFar {
+            calls: Vec::new(alloc),
+            last_begun: 0,
+            moments: BTreeSet::new(alloc),
+            idle_since: vec![in alloc; Some(0); threads as usize]?,
+        })
+    }
+
+    fn ends_well(&self, made: CallRecord) -> bool
+        ensures { result ≡ ends_well_by self.now.moments made }
+    {
+        match made.ended {
+            Some((end, _)) => made.begun < end && !self.moments.contains(&end),
+            None => true,
+        }
+    }
+
+    /// Whether a call of such threads may follow the calls.
+    pub fn may_follow(&self, made: CallRecord) -> bool
+        requires { Tracks self.now }
+        ensures { result ≡ may_follow (threads_of self.now) self.now.calls.items made }
+    {
+        let thread = made.thread as usize;
+        if thread >= self.idle_since.len() {
+            return false;
+        }
+        self.last_begun < made.begun
+            && self.ends_well(made)
+            && !self.moments.contains(&made.begun)
+            && is_before(self.idle_since[thread], made.begun)
+    }
+
+    /// Adds a call that may follow.
+    pub fn push(&mut self, made: CallRecord) -> Result<(), AllocError>
+        requires tracks { Tracks self.old }
+        requires may { may_follow (threads_of self.old) self.old.calls.items made ≡ true }
+        ensures tracks { OnOk result (Tracks self.new) }
+        ensures threads { OnOk result (threads_of self.new ≡ threads_of self.old) }
+        ensures pushed { OnOk result (self.new.calls.items ≡ self.old.calls.items ++ made ∷ []) }
+    {
+        self.calls.push(made)?;
+        note(&mut self.moments, made)?;
+        self.last_begun = made.begun;
+        self.idle_since[made.thread as usize] = end_moment(made);
+        Ok(())
+    }
+}

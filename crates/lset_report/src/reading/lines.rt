@@ -1,0 +1,211 @@
+ghost use Rattle.std.specs.Prelude.{◌≡◌};
+ghost use Rattle.lset_report.specs.ReportReading.{
+  takes_calls,
+  takes_places,
+  takes_keys,
+  section_after,
+  begun_of,
+  open_of,
+  ended_of,
+  call_of,
+  place_of,
+  key_of_line,
+  end_of,
+  line_in,
+};
+ghost use Rattle.lset_text.specs.Parts.{cut_at};
+
+use crate::report_fault::ReportCause;
+use lset_text::{CallWord, Version, cut, number, read_call, read_reply};
+use lset_words::{CallRecord, Key, Placed};
+
+/// Which part of a report a text has come to.
+#[derive(Clone, Copy, Debug, PartialEq, Eq)]
+pub enum Section {
+    Calls,
+    Order,
+    Keys,
+    Done,
+}
+
+/// A line after the header: a call with its number, a place in the order, a key, or the end.
+#[derive(Clone, Copy, Debug, PartialEq, Eq)]
+pub enum Line {
+    Call(u32, CallRecord),
+    Place(Placed),
+    Key(u32),
+    End,
+}
+
+impl Section {
+    fn takes_calls(self) -> bool
+        ensures { result ≡ takes_calls self }
+    {
+        matches!(self, Section::Calls)
+    }
+
+    fn takes_places(self) -> bool
+        ensures { result ≡ takes_places self }
+    {
+        matches!(self, Section::Calls | Section::Order)
+    }
+
+    fn takes_keys(self) -> bool
+        ensures { result ≡ takes_keys self }
+    {
+        !matches!(self, Section::Done)
+    }
+}
+
+impl Line {
+    /// The section of the line.
+    pub fn section(self) -> Section
+        ensures { result ≡ section_after self }
+    {
+        match self {
+            Line::Call(_, _) => Section::Calls,
+            Line::Place(_) => Section::Order,
+            Line::Key(_) => Section::Keys,
+            Line::End => Section::Done,
+        }
+    }
+}
+
+/// The number and the beginning of a call.
+#[tactic(auto, unfolding(crate::specs::ReportReading::begun_of))]
+fn begun_call(
+    word: CallWord,
+    id: &[u8],
+    thread: &[u8],
+    key: &[u8],
+    begun: &[u8],
+) -> Result<(u32, CallRecord), ReportCause>
+    ensures { result ≡ begun_of word id.now thread.now key.now begun.now }
+{
+    let id = number(id, 0, u32::MAX).ok_or(ReportCause::Number)?;
+    let thread = number(thread, 0, u32::MAX).ok_or(ReportCause::Number)?;
+    let key = number(key, 0, u32::MAX).ok_or(ReportCause::Number)?;
+    let begun = number(begun, 1, u32::MAX).ok_or(ReportCause::Number)?;
+    let made = CallRecord {
+        thread,
+        call: word.with_key(Key(key)),
+        begun,
+        ended: None,
+    };
+    Ok((id, made))
+}
+
+#[tactic(auto, unfolding(crate::specs::ReportReading::open_of))]
+fn open_call(
+    id: &[u8],
+    thread: &[u8],
+    call: &[u8],
+    key: &[u8],
+    begun: &[u8],
+    word: &[u8],
+) -> Result<Line, ReportCause>
+    ensures { result ≡ open_of id.now thread.now call.now key.now begun.now word.now }
+{
+    let call = read_call(Version::One, call).ok_or(ReportCause::Line)?;
+    if word != b"open".as_slice() {
+        return Err(ReportCause::Line);
+    }
+    let (id, made) = begun_call(call, id, thread, key, begun)?;
+    Ok(Line::Call(id, made))
+}
+
+#[tactic(auto, unfolding(crate::specs::ReportReading::ended_of))]
+fn ended_call(
+    id: &[u8],
+    thread: &[u8],
+    call: &[u8],
+    key: &[u8],
+    begun: &[u8],
+    end: &[u8],
+    reply: &[u8],
+) -> Result<Line, ReportCause>
+    ensures { result ≡ ended_of id.now thread.now call.now key.now begun.now end.now reply.now }
+{
+    let call = read_call(Version::One, call).ok_or(ReportCause::Line)?;
+    let reply = read_reply(Version::One, reply).ok_or(ReportCause::Line)?;
+    let (id, made) = begun_call(call, id, thread, key, begun)?;
+    let end = number(end, 1, u32::MAX).ok_or(ReportCause::Number)?;
+    let ended = CallRecord {
+        ended: Some((end, reply)),
+        ..made
+    };
+    Ok(Line::Call(id, ended))
+}
+
+/// A call, of what comes after its thread.
+fn call(id: &[u8], thread: &[u8], rest: &[u8]) -> Result<Line, ReportCause>
+    ensures { result ≡ call_of id.now thread.now (cut_at 32 rest.now) }
+{
+    let Some((call, rest)) = cut(rest, b' ') else {
+        return Err(ReportCause::Line);
+    };
+    let Some((key, rest)) = cut(rest, b' ') else {
+        return Err(ReportCause::Line);
+    };
+    let Some((begun, rest)) = cut(rest, b' ') else {
+        return Err(ReportCause::Line);
+    };
+    let Some((end, reply)) = cut(rest, b' ') else {
+        return open_call(id, thread, call, key, begun, rest);
+    };
+    if let Some((_, _more)) = cut(reply, b' ') {
+        return Err(ReportCause::Line);
+    }
+    ended_call(id, thread, call, key, begun, end, reply)
+}
+
+#[tactic(auto, unfolding(crate::specs::ReportReading::place_of))]
+fn place(section: Section, word: &[u8], id: &[u8], reply: &[u8]) -> Result<Line, ReportCause>
+    ensures { result ≡ place_of section word.now id.now reply.now }
+{
+    if !section.takes_places() || word != b"place".as_slice() {
+        return Err(ReportCause::Line);
+    }
+    let reply = read_reply(Version::One, reply).ok_or(ReportCause::Line)?;
+    let call = number(id, 0, u32::MAX).ok_or(ReportCause::Number)?;
+    Ok(Line::Place(Placed { call, reply }))
+}
+
+#[tactic(auto, unfolding(crate::specs::ReportReading::key_of_line))]
+fn key(section: Section, word: &[u8], key: &[u8]) -> Result<Line, ReportCause>
+    ensures { result ≡ key_of_line section word.now key.now }
+{
+    if !section.takes_keys() || word != b"key".as_slice() {
+        return Err(ReportCause::Line);
+    }
+    let key = number(key, 0, u32::MAX).ok_or(ReportCause::Number)?;
+    Ok(Line::Key(key))
+}
+
+fn end(section: Section, word: &[u8]) -> Result<Line, ReportCause>
+    ensures { result ≡ end_of section word.now }
+{
+    if !section.takes_keys() || word != b"end".as_slice() {
+        return Err(ReportCause::Line);
+    }
+    Ok(Line::End)
+}
+
+/// What a line tells in a text that has come to a section.
+pub fn line_of_report(section: Section, line: &[u8]) -> Result<Line, ReportCause>
+    ensures { result ≡ line_in section line.now }
+{
+    let Some((word, rest)) = cut(line, b' ') else {
+        return end(section, line);
+    };
+    let Some((second, rest)) = cut(rest, b' ') else {
+        return key(section, word, rest);
+    };
+    let Some((third, rest)) = cut(rest, b' ') else {
+        return place(section, word, second, rest);
+    };
+    if !section.takes_calls() || word != b"call".as_slice() {
+        return Err(ReportCause::Line);
+    }
+    call(second, third, rest)
+}

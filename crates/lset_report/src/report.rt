@@ -1,0 +1,22 @@
+use lset_history::History;
+use lset_words::{Kind, Placed};
+
+/// The most calls of a report that has a text.
+pub const MOST_CALLS: usize = 1_000_000;
+
+/// The most places of such a report's order.
+pub const MOST_PLACES: usize = 1_000_000;
+
+/// The most keys of such a report.
+pub const MOST_KEYS: usize = 1_048_576;
+
+/// What a replay tells: the kind of list, the history of the run with its threads and quota, an order of
+/// the calls that linearizes the history, and the keys that are left, rising. The order and the keys of a report
+/// that was read from a text may be any.
+#[derive(Drop)]
+pub struct Report {
+    pub kind: Kind,
+    pub history: History,
+    pub order: Vec<Placed>,
+    pub keys: Vec<u32>,
+}
