@@ -82,3 +82,21 @@ fn first_ceilings_are_those_of_a_search(rt: HostRuntime) -> Result<(), Fail> {
     }
     Ok(())
 }
+
+/// Of the runs in `ceilings`: one key that comes at 7 and goes at 16, and two that come at 7 and at 16.
+#[test]
+fn first_ceilings_of_two_runs(rt: HostRuntime) -> Result<(), Fail> {
+    let mut marked = Changes::new(rt.alloc());
+    turn(&mut marked, 5, 0, 7)?;
+    turn(&mut marked, 5, 7, 16)?;
+    assert_eq!(rt; marked.first_ceiling(3, None, 8, 20), Some(16));
+    assert_eq!(rt; marked.first_ceiling(3, Some(5), 8, 20), Some(8));
+    assert_eq!(rt; marked.first_ceiling(3, Some(5), 16, 20), None);
+    let mut between = Changes::new(rt.alloc());
+    turn(&mut between, 9, 0, 7)?;
+    turn(&mut between, 5, 7, 16)?;
+    assert_eq!(rt; between.first_ceiling(3, Some(9), 8, 18), Some(8));
+    assert_eq!(rt; between.first_ceiling(3, Some(5), 8, 18), Some(16));
+    assert_eq!(rt; between.first_ceiling(u32::MAX, None, 8, 18), Some(8));
+    Ok(())
+}
