@@ -243,5 +243,5 @@ impl<M: RunningReads> LiveSet<M> {
 fn is_true(reply: Reply) -> bool
     ensures { result ≡ is_true reply }
 {
-    matches!(reply, Reply::True)
+    reply == Reply::True
 }
