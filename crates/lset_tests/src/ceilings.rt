@@ -7,8 +7,10 @@ use lset_history::Oracle;
 use lset_lazy::LazyList;
 use lset_lock_free::LockFreeList;
 use lset_optimistic::OptimisticList;
+use lset_replay::replay;
+use lset_schedule::{Line, Schedule};
 use lset_steps::{Event, Machine, World};
-use lset_words::{Call, Key, Reply, layout};
+use lset_words::{Call, CallRecord, Key, Kind, Placed, Reply, layout};
 use std::alloc::{AllocError, Global};
 use std::process::Abort;
 use std::test::Fail;
@@ -63,9 +65,96 @@ fn keys_at_the_ends(rt: HostRuntime) -> Result<(), Fail> {
     finds_keys_at_the_ends::<LockFreeList, HostRuntime>(&rt, rt.alloc())
 }
 
-/// The node at which the ceiling stops is marked by then, and it starts again.
+fn record(thread: u32, call: Call, begun: u32, ended: u32, reply: Reply) -> CallRecord {
+    CallRecord {
+        thread,
+        call,
+        begun,
+        ended: Some((ended, reply)),
+    }
+}
+
+fn placed(call: u32, reply: Reply) -> Placed {
+    Placed { call, reply }
+}
+
+/// The node at which the ceiling stops is marked by then. It starts again, and stands at the moment of the mark.
 #[test]
 fn a_ceiling_starts_again_at_a_mark(rt: HostRuntime) -> Result<(), Fail> {
+    let (add, remove, ceiling) = (
+        Call::Add(Key(5)),
+        Call::Remove(Key(5)),
+        Call::Ceiling(Key(3)),
+    );
+    let schedule = Schedule {
+        kind: Kind::LockFree,
+        threads: 2,
+        quota: 4,
+        lines: vec![in rt.alloc();
+            Line::Begin(1, add),
+            Line::Go(1, 6),
+            Line::Begin(0, ceiling),
+            Line::Go(0, 2),
+            Line::Begin(1, remove),
+            Line::Go(1, 6),
+            Line::Go(0, 3),
+        ]?,
+    };
+    let calls = [
+        record(1, add, 1, 7, Reply::True),
+        record(0, ceiling, 8, 20, Reply::Nothing),
+        record(1, remove, 11, 17, Reply::True),
+    ];
+    let order = [
+        placed(0, Reply::True),
+        placed(2, Reply::True),
+        placed(1, Reply::Nothing),
+    ];
+    let report = replay(rt.alloc(), &schedule)?;
+    assert_eq!(rt; report.history.calls(), calls.as_slice());
+    assert_eq!(rt; report.order.as_slice(), order.as_slice());
+    assert_eq!(rt; report.keys.len(), 0);
+    Ok(())
+}
+
+/// It answers 9, though 5 was put in before it ended, and stands before that.
+#[test]
+fn a_ceiling_before_which_a_key_comes(rt: HostRuntime) -> Result<(), Fail> {
+    let (nine, five, ceiling) = (Call::Add(Key(9)), Call::Add(Key(5)), Call::Ceiling(Key(3)));
+    let schedule = Schedule {
+        kind: Kind::LockFree,
+        threads: 2,
+        quota: 4,
+        lines: vec![in rt.alloc();
+            Line::Begin(1, nine),
+            Line::Go(1, 6),
+            Line::Begin(0, ceiling),
+            Line::Go(0, 1),
+            Line::Begin(1, five),
+            Line::Go(1, 6),
+            Line::Go(0, 2),
+        ]?,
+    };
+    let calls = [
+        record(1, nine, 1, 7, Reply::True),
+        record(0, ceiling, 8, 18, Reply::At(Key(9))),
+        record(1, five, 10, 16, Reply::True),
+    ];
+    let order = [
+        placed(0, Reply::True),
+        placed(1, Reply::At(Key(9))),
+        placed(2, Reply::True),
+    ];
+    let report = replay(rt.alloc(), &schedule)?;
+    assert_eq!(rt; report.history.calls(), calls.as_slice());
+    assert_eq!(rt; report.order.as_slice(), order.as_slice());
+    assert_eq!(rt; report.keys.as_slice(), [5, 9].as_slice());
+    Ok(())
+}
+
+/// The steps of the first of these runs, on a world: it answers at the fifth.
+#[test]
+fn the_steps_of_a_ceiling_that_starts_again(rt: HostRuntime) -> Result<(), Fail> {
     let lines = [
         (Event::Begin(1, Call::Add(Key(5))), 1, None),
         (Event::Go(1), 6, Some(Reply::True)),
@@ -75,25 +164,6 @@ fn a_ceiling_starts_again_at_a_mark(rt: HostRuntime) -> Result<(), Fail> {
         (Event::Go(1), 6, Some(Reply::True)),
         (Event::Go(0), 2, None),
         (Event::Go(0), 1, Some(Reply::Nothing)),
-    ];
-    let mut world = World::<LockFreeList>::new(rt.alloc(), layout(2, 4)?)?;
-    for (event, times, answer) in lines {
-        assert_eq!(rt; make(&mut world, event, times)?, answer, "{event:?}");
-    }
-    Ok(())
-}
-
-/// It answers 9, though 5 was put in before it ended.
-#[test]
-fn a_ceiling_behind_which_a_key_comes(rt: HostRuntime) -> Result<(), Fail> {
-    let lines = [
-        (Event::Begin(1, Call::Add(Key(9))), 1, None),
-        (Event::Go(1), 6, Some(Reply::True)),
-        (Event::Begin(0, Call::Ceiling(Key(3))), 1, None),
-        (Event::Go(0), 1, None),
-        (Event::Begin(1, Call::Add(Key(5))), 1, None),
-        (Event::Go(1), 6, Some(Reply::True)),
-        (Event::Go(0), 2, Some(Reply::At(Key(9)))),
     ];
     let mut world = World::<LockFreeList>::new(rt.alloc(), layout(2, 4)?)?;
     for (event, times, answer) in lines {
