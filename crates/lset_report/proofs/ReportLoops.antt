@@ -1,8 +1,9 @@
 -- Reading the lines of a report one after the other, as a loop does.
-use Rattle.std.proofs.Common.{◌≤◌, ◌≡◌, ℕ, ◌+◌, ◌<◌, ◌&&◌, ◌⊎◌, inl, inr, Bool, true, false, cond, ltb, eqb, List, [], ◌∷◌, ◌++◌}
-use Rattle.std.proofs.Common.{length, Result, Ok, Err, refl, sym, ap, subst, ◌∙◌, arith}
+use Rattle.std.proofs.Common.{◌≡◌, ℕ, ◌+◌, ◌<◌, ◌&&◌, ◌⊎◌, inl, inr, Bool, true, false, cond, ltb, eqb, List, [], ◌∷◌, ◌++◌}
+use Rattle.std.proofs.Common.{length, get_or, codes, Result, Ok, Err, refl, sym, ap, subst, ◌∙◌, ◌≢◌, append_assoc, arith}
 use Rattle.std.proofs.lemmas.Bool.{ne_eqb, ltb-true, eqb-true, and_parts}
-use Rattle.std.proofs.lemmas.List.{nil_from_length}
+use Rattle.std.proofs.Math.Seq.{get_or-append_seam}
+use Rattle.std.proofs.lemmas.List.{nil_from_length, length-append, get_or-append-add}
 use Rattle.lset_text.specs.Parts.{cut_at}
 use Rattle.lset_text.proofs.PartLaws.{some_part}
 use Rattle.lset_text.proofs.ReadingLaws.{bind_ok}
@@ -19,11 +20,12 @@ use Rattle.lset_report.specs.declared.report_fault.ReportFault.{ReportFault}
 use Rattle.lset_report.specs.Report.{ReportValue}
 use Rattle.lset_report.specs.ReportReading.{fault, line_in, may_follow, judged, counted, following, line_after, section_after}
 use Rattle.lset_report.specs.ReportReading.{with_line}
-use Rattle.lset_report.specs.ReportReading.{ended_in, report_from, report_of, reading, no_lines, IsGoodUpTo, RunsOut}
-use Rattle.lset_report.specs.Texts.{title}
+use Rattle.lset_report.specs.ReportReading.{ended_in, report_from, report_of, in_report, reading, no_lines, IsGoodUpTo, RunsOut}
+use Rattle.lset_report.specs.Texts.{title, last_line}
 use Rattle.lset_report.specs.declared.reading.lines.Section.TheVariants as section
 use Rattle.lset_text.specs.declared.headers.Header.{Header}
-use Rattle.lset_text.specs.Headers.{header_of, header_lines}
+use Rattle.lset_text.specs.declared.headers.HeaderFault.{HeaderFault}
+use Rattle.lset_text.specs.Headers.{header_of, header_lines, number_line}
 use Rattle.lset_report.specs.ReportReader.{so_far}
 
 -- ---- the judgement of a line
@@ -92,6 +94,15 @@ goes_on s t line rest first after l whole parts read section_is told_is so_far_i
     rw (parts, section_is, told_is) step in
     sym one ∙ so_far_is
 
+-- the parts before those that are left, after one more
+pub one_more : (line : ℕ) (before : List (List ℕ)) (text rest first after : List ℕ) → cut_at 10 rest ≡ first ∷ cut_at 10 after
+    → cut_at 10 text ≡ before ++ cut_at 10 rest → line ≡ 5 + length before
+    → (more : List (List ℕ)) × (cut_at 10 text ≡ more ++ cut_at 10 after) × (line + 1 ≡ 5 + length more)
+one_more line before text rest first after parts all lines =
+    let split : cut_at 10 text ≡ before ++ first ∷ cut_at 10 after = all ∙ ap (λ (ps : List (List ℕ)). before ++ ps) parts in
+    let long : length (before ++ first ∷ []) ≡ length before + 1 = length-append before (first ∷ []) in
+    (before ++ first ∷ [], split ∙ sym (append_assoc before (first ∷ []) (cut_at 10 after)), omega (arith, lines, long))
+
 -- ---- where memory ran out: every fault of the lines that are left has a later line
 
 good_if : (line : ℕ) (b : Bool) (r q : Result ReportValue ReportFault) → IsGoodUpTo line r → IsGoodUpTo line q
@@ -120,27 +131,44 @@ good_from upto line s r (x ∷ y ∷ more) later =
     good_bind upto line (line_after s r x) (λ l. report_from (line + 1) (section_after l) (with_line r l) (y ∷ more)) later
     (λ l. good_from upto (line + 1) (section_after l) (with_line r l) (y ∷ more) (omega (arith, later)))
 
+-- the line `end` tells the end
+end_told : (s : Section) (r : ReportValue) (x : List ℕ) (l : Line) → line_after s r x ≡ Ok l → x ≡ last_line → l ≡ End
+end_told section.Calls r x l read is = let e = subst (λ (y : List ℕ). line_after section.Calls r y ≡ Ok l) is read in cc
+end_told section.Order r x l read is = let e = subst (λ (y : List ℕ). line_after section.Order r y ≡ Ok l) is read in cc
+end_told section.Keys r x l read is = let e = subst (λ (y : List ℕ). line_after section.Keys r y ≡ Ok l) is read in cc
+end_told section.Done r x l read is = absurd (let e = subst (λ (y : List ℕ). line_after section.Done r y ≡ Ok l) is read in cc)
+
 -- a line with a fault, or for which memory ran out
-pub stops : (line count : ℕ) (s : Section) (r : ReportValue) (rest first after : List ℕ) (e : ReportFault)
+pub stops : (line : ℕ) (s : Section) (r : ReportValue) (before : List (List ℕ)) (text rest first after : List ℕ) (e : ReportFault)
     (whole : Result ReportValue ReportFault)
     → cut_at 10 rest ≡ first ∷ cut_at 10 after
     → ((cause : ReportCause) × (line_after s r first ≡ Err cause) × (e ≡ fault line cause))
-    ⊎ ((l : Line) × (line_after s r first ≡ Ok l) × (e ≡ fault line wrong.Memory))
-    → report_from line s r (cut_at 10 rest) ≡ whole → line + length (cut_at 10 rest) ≡ 5 + count → 4 ≤ line
-    → (whole ≡ Err e) ⊎ RunsOut (4 + count) whole e
-stops line count s r rest first after e whole parts (inl bad) so_far_is lines above =
+    ⊎ ((l : Line) × (line_after s r first ≡ Ok l) × (l ≢ End) × (e ≡ fault line wrong.Memory))
+    → report_from line s r (cut_at 10 rest) ≡ whole → cut_at 10 text ≡ before ++ cut_at 10 rest → line ≡ 5 + length before
+    → (whole ≡ Err e) ⊎ RunsOut 5 (cut_at 10 text) whole e
+stops line s r before text rest first after e whole parts (inl bad) so_far_is all lines =
     let step = report_fails line s r first (cut_at 10 after) bad.0 (some_part 10 after) bad.1 in
     inl (sym so_far_is ∙ ap (report_from line s r) parts ∙ step ∙ ap (λ (f : ReportFault). Err f) (sym bad.2))
-stops line count s r rest first after e whole parts (inr full) so_far_is lines above =
+stops line s r before text rest first after e whole parts (inr full) so_far_is all lines =
     let step = report_goes line s r first (cut_at 10 after) full.0 (some_part 10 after) full.1 in
     let left : whole ≡ report_from (line + 1) (section_after full.0) (with_line r full.0) (cut_at 10 after) =
     sym so_far_is ∙ ap (report_from line s r) parts ∙ step in
     let good = good_from line (line + 1) (section_after full.0) (with_line r full.0) (cut_at 10 after) (omega arith) in
-    let one_less : length (cut_at 10 rest) ≡ length (first ∷ cut_at 10 after) = ap length parts in
-    let here : line < 4 + count = omega (arith, lines, one_less, some_part 10 after) in
-    let out : RunsOut (4 + count) whole (fault line wrong.Memory) =
-    record { cause = refl; after_header = above; whole = here; good = subst (IsGoodUpTo line) (sym left) good } in
-    inr (subst (RunsOut (4 + count) whole) (sym full.2) out)
+    let split : cut_at 10 text ≡ before ++ first ∷ cut_at 10 after = all ∙ ap (λ (ps : List (List ℕ)). before ++ ps) parts in
+    let long : length (cut_at 10 text) ≡ length before + length (first ∷ cut_at 10 after) =
+    ap length split ∙ length-append before (first ∷ cut_at 10 after) in
+    let here : get_or (cut_at 10 text) (length before) [] ≡ first =
+    ap (λ (ps : List (List ℕ)). get_or ps (length before) []) split ∙ get_or-append_seam before first (cut_at 10 after) [] in
+    let out : RunsOut 5 (cut_at 10 text) whole (fault line wrong.Memory) = record {
+      cause = refl;
+      after_header = omega (arith, lines);
+      index = length before;
+      line_is = lines;
+      whole = omega (arith, long, some_part 10 after);
+      asks = λ is_end. full.2 (end_told s r first full.0 full.1 (sym here ∙ is_end));
+      good = subst (IsGoodUpTo line) (sym left) good;
+    } in
+    inr (subst (RunsOut 5 (cut_at 10 text) whole) (sym full.3) out)
 
 pub not_ended : (line : ℕ) (s : Section) (r : ReportValue) (rest : List ℕ) (whole : Result ReportValue ReportFault)
     → cut_at 10 rest ≡ rest ∷ [] → (length rest ≡ 0 → ⊥)
@@ -159,30 +187,43 @@ at_end line s r rest whole none so_far_is =
     let one : report_from line s r (cut_at 10 rest) ≡ ended_in line s r = rw empty refl in
     sym so_far_is ∙ one
 
+-- a text whose header has a fault
+pub header_fault : (bytes word : List ℕ) (e : HeaderFault) → word ≡ title → header_of word (cut_at 10 bytes) ≡ Err e
+    → reading bytes ≡ Err (in_report e)
+unfolding report_of
+header_fault bytes word e word_is header_is =
+    let head : header_of title (cut_at 10 bytes) ≡ Err e =
+    ap (λ (w : List ℕ). header_of w (cut_at 10 bytes)) (sym word_is) ∙ header_is in
+    rw head refl
+
 -- a text whose header was read, and the parts of the text
 pub after_header : (bytes rest word : List ℕ) (h : Header) → word ≡ title
     → header_of word (cut_at 10 bytes) ≡ Ok (h, cut_at 10 rest)
     → (reading bytes ≡ report_from 5 section.Calls (no_lines h) (cut_at 10 rest))
-    × (length (cut_at 10 bytes) ≡ 4 + length (cut_at 10 rest))
+    × (cut_at 10 bytes ≡ header_lines title h ++ cut_at 10 rest)
 unfolding report_of
 after_header bytes rest word h word_is header_is =
     let head : header_of title (cut_at 10 bytes) ≡ Ok (h, cut_at 10 rest) =
     ap (λ (w : List ℕ). header_of w (cut_at 10 bytes)) (sym word_is) ∙ header_is in
     let begins = header_ok title (cut_at 10 bytes) (h, cut_at 10 rest) head in
-    let long : length (cut_at 10 bytes) ≡ length (header_lines title h ++ cut_at 10 rest) = ap length begins.0 in
-    (rw head refl, omega (arith, long))
+    (rw head refl, begins.0)
 
 -- where memory ran out after the header
 pub runs_out_after_header : (bytes rest word : List ℕ) (h : Header) → word ≡ title
     → header_of word (cut_at 10 bytes) ≡ Ok (h, cut_at 10 rest)
-    → RunsOut (length (cut_at 10 bytes)) (reading bytes) (fault 4 wrong.Memory)
+    → RunsOut 1 (cut_at 10 bytes) (reading bytes) (fault 4 wrong.Memory)
 runs_out_after_header bytes rest word h word_is header_is =
     let after = after_header bytes rest word h word_is header_is in
     let good = good_from 4 5 section.Calls (no_lines h) (cut_at 10 rest) (omega arith) in
+    let long : length (cut_at 10 bytes) ≡ length (header_lines title h ++ cut_at 10 rest) = ap length after.1 in
+    let here : get_or (cut_at 10 bytes) 3 [] ≡ number_line (codes "quota") h.quota = ap (λ (ps : List (List ℕ)). get_or ps 3 []) after.1 in
     record {
       cause = refl;
       after_header = omega arith;
-      whole = omega (arith, after.1, some_part 10 rest);
+      index = 3;
+      line_is = refl;
+      whole = omega (arith, long, some_part 10 rest);
+      asks = λ is_end. (let same = sym here ∙ is_end in cc);
       good = subst (IsGoodUpTo 4) (sym after.0) good;
     }
 
@@ -191,16 +232,31 @@ pub report_is : (bytes rest word : List ℕ) (h : Header) (s : Reader) → word 
     → header_of word (cut_at 10 bytes) ≡ Ok (h, cut_at 10 rest)
     → s.section ≡ section.Calls → so_far s ≡ no_lines h
     → (reading bytes ≡ report_from 5 s.section (so_far s) (cut_at 10 rest))
-    × (length (cut_at 10 bytes) ≡ 4 + length (cut_at 10 rest))
+    × (cut_at 10 bytes ≡ header_lines title h ++ cut_at 10 rest)
 report_is bytes rest word h s word_is header_is section_is so_far_is =
     let after = after_header bytes rest word h word_is header_is in
     (rw (section_is, so_far_is) after.0, after.1)
 
 -- what reading the lines after the header gives, as what reading the whole text gives
-pub whole_text : (bytes : List ℕ) (parts : ℕ) (e : ReportFault) (read : Result ReportValue ReportFault)
-    → reading bytes ≡ read → length (cut_at 10 bytes) ≡ parts
-    → (read ≡ Err e) ⊎ RunsOut parts read e → (reading bytes ≡ Err e) ⊎ RunsOut (length (cut_at 10 bytes)) (reading bytes) e
-whole_text bytes parts e read read_is parts_are told = rw (read_is, parts_are) told
+pub whole_text : (bytes rest : List ℕ) (h : Header) (e : ReportFault) (read : Result ReportValue ReportFault)
+    → reading bytes ≡ read → cut_at 10 bytes ≡ header_lines title h ++ cut_at 10 rest
+    → (read ≡ Err e) ⊎ RunsOut 5 (cut_at 10 rest) read e → (reading bytes ≡ Err e) ⊎ RunsOut 1 (cut_at 10 bytes) (reading bytes) e
+whole_text bytes rest h e read read_is parts_are (inl bad) = inl (read_is ∙ bad)
+whole_text bytes rest h e read read_is parts_are (inr out) =
+    let long : length (cut_at 10 bytes) ≡ length (header_lines title h ++ cut_at 10 rest) = ap length parts_are in
+    let here : get_or (cut_at 10 bytes) (4 + out.index) [] ≡ get_or (cut_at 10 rest) out.index [] =
+    ap (λ (ps : List (List ℕ)). get_or ps (4 + out.index) []) parts_are
+    ∙ get_or-append-add (header_lines title h) (cut_at 10 rest) out.index [] in
+    inr
+    (record {
+      cause = out.cause;
+      after_header = out.after_header;
+      index = 4 + out.index;
+      line_is = omega (arith, out.line_is);
+      whole = omega (arith, long, out.whole);
+      asks = λ is_end. out.asks (sym here ∙ is_end);
+      good = subst (IsGoodUpTo e.line) (sym read_is) out.good;
+    })
 
 pub not_done : (line : ℕ) (s : Section) (r : ReportValue) → (s ≡ section.Done → ⊥)
     → ended_in line s r ≡ Err (fault line wrong.NotEnded)

@@ -1,11 +1,12 @@
 -- What a reader of reports holds after some lines.
-use Rattle.std.specs.Prelude.{◌≡◌, ◌⊎◌, ℕ, List, Result, Ok, Err}
+use Rattle.std.specs.Prelude.{◌≡◌, ◌≢◌, ◌⊎◌, ℕ, List, Result, Ok, Err}
 use Rattle.lset_report.specs.declared.reading.Reader.{Reader}
 use Rattle.lset_report.specs.declared.report_fault.ReportCause.{ReportCause}
 use Rattle.lset_report.specs.declared.report_fault.ReportCause.TheVariants.{Memory}
 use Rattle.lset_report.specs.declared.report_fault.ReportFault.{ReportFault}
 use Rattle.lset_report.specs.Report.{ReportValue}
 use Rattle.lset_report.specs.declared.reading.lines.Line.{Line}
+use Rattle.lset_report.specs.declared.reading.lines.Line.TheVariants.{End}
 use Rattle.lset_report.specs.ReportReading.{fault, line_after, section_after, with_line, RunsOut}
 use Rattle.lset_report.specs.ReportCalls.{Tracks, threads_of}
 
@@ -22,10 +23,10 @@ pub record Holds (s : Reader) : Type 0 where
   pub tracks : Tracks s.calls
   pub threads : threads_of s.calls ≡ s.header.threads
 
--- the reader of a text with so many parts went on to this report, or this is the first fault, or memory ran out
-abbrev pub GoesOn : {X : Type 0} → ReportValue → Result X ReportFault → ℕ → Result ReportValue ReportFault → Type 0
+-- the reader of the parts after a header went on to this report, or this is the first fault, or memory ran out
+abbrev pub GoesOn : {X : Type 0} → ReportValue → Result X ReportFault → List (List ℕ) → Result ReportValue ReportFault → Type 0
 GoesOn r (Ok x) parts read = read ≡ Ok r
-GoesOn r (Err e) parts read = (read ≡ Err e) ⊎ RunsOut parts read e
+GoesOn r (Err e) parts read = (read ≡ Err e) ⊎ RunsOut 5 parts read e
 
 -- the reader read a line with that number
 abbrev pub ReadsLine : {X : Type 0} → Reader → Reader → ℕ → List ℕ → Result X ReportFault → Type 0
@@ -33,4 +34,4 @@ ReadsLine s t number line (Ok x) = (l : Line)
     × (line_after s.section (so_far s) line ≡ Ok l) × (t.section ≡ section_after l) × (so_far t ≡ with_line (so_far s) l)
 ReadsLine s t number line (Err e) = ((cause : ReportCause)
     × (line_after s.section (so_far s) line ≡ Err cause) × (e ≡ fault number cause))
-    ⊎ ((l : Line) × (line_after s.section (so_far s) line ≡ Ok l) × (e ≡ fault number Memory))
+    ⊎ ((l : Line) × (line_after s.section (so_far s) line ≡ Ok l) × (l ≢ End) × (e ≡ fault number Memory))

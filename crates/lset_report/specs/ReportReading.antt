@@ -1,6 +1,6 @@
 -- The report of a text, or its first fault: line by line, and in each line in the order of the checks.
-use Rattle.std.specs.Prelude.{◌≡◌, ◌⊎◌, ℕ, ◌+◌, ◌<◌, ◌≤◌, ◌^◌, ◌==◌, ◌&&◌, ◌||◌, not, nat_lt, Bool, true, false, List, []}
-use Rattle.std.specs.Prelude.{◌∷◌, ◌++◌, length, codes, Option, Some, None, Result, Ok, Err, if◌then◌else◌}
+use Rattle.std.specs.Prelude.{◌≡◌, ◌≢◌, ◌⊎◌, ℕ, ◌+◌, ◌<◌, ◌≤◌, ◌^◌, ◌==◌, ◌&&◌, ◌||◌, not, nat_lt, Bool, true, false, List, []}
+use Rattle.std.specs.Prelude.{◌∷◌, ◌++◌, length, codes, Option, Some, None, Result, Ok, Err, if◌then◌else◌, slice_index_or}
 use Rattle.std.specs.List.{list_any, list_all, AllByRecursion}
 use Rattle.std.specs.Str.{bytes_eq}
 use Rattle.lset_words.specs.declared.Reply.{Reply}
@@ -29,7 +29,7 @@ use Rattle.lset_report.specs.declared.report_fault.ReportCause.{ReportCause}
 use Rattle.lset_report.specs.declared.report_fault.ReportCause.TheVariants as wrong
 use Rattle.lset_report.specs.declared.report_fault.ReportFault.{ReportFault}
 use Rattle.lset_report.specs.Report.{ReportValue}
-use Rattle.lset_report.specs.Texts.{title, header_in, report_text}
+use Rattle.lset_report.specs.Texts.{title, header_in, last_line, report_text}
 
 -- ---- reports that have a text which is read
 
@@ -274,18 +274,22 @@ abbrev pub IsGoodUpTo : ℕ → Result ReportValue ReportFault → Type 0
 IsGoodUpTo line (Ok r) = Unit {0}
 IsGoodUpTo line (Err e) = line < e.line
 
--- Memory is answered for a line after its other checks. The text has so many parts, of which the last comes after the last
--- newline, and reading it gives `read` where memory is ample.
-pub record RunsOut (parts : ℕ) (read : Result ReportValue ReportFault) (e : ReportFault) : Type 0 where
+-- Memory is answered for a line after its other checks. The parts are those of a text from the line `first` on, of which the last
+-- comes after the last newline, and reading the text gives `read` where memory is ample.
+pub record RunsOut (first : ℕ) (parts : List (List ℕ)) (read : Result ReportValue ReportFault) (e : ReportFault) : Type 0 where
   pub cause : e.cause ≡ wrong.Memory
   -- the line is the last of the header, whose lines take no memory, or one after it,
   pub after_header : 4 ≤ e.line
   -- it is a whole line of the text,
-  pub whole : e.line < parts
+  pub index : ℕ
+  pub line_is : e.line ≡ first + index
+  pub whole : index + 1 < length parts
+  -- but not `end`, for which nothing is asked,
+  pub asks : slice_index_or parts index [] ≢ last_line
   -- and neither it nor a line above it has a fault
   pub good : IsGoodUpTo e.line read
 
 -- what a function returned, seen by `view`, is what reading the bytes gives, or want of memory
 abbrev pub Gives : {X : Type 0} → (X → ReportValue) → Result X ReportFault → List ℕ → Type 0
 Gives view (Ok x) bytes = reading bytes ≡ Ok (view x)
-Gives view (Err e) bytes = (reading bytes ≡ Err e) ⊎ RunsOut (length (cut_at 10 bytes)) (reading bytes) e
+Gives view (Err e) bytes = (reading bytes ≡ Err e) ⊎ RunsOut 1 (cut_at 10 bytes) (reading bytes) e

@@ -1,4 +1,4 @@
-ghost use Rattle.std.specs.Prelude.{◌≡◌, ◌+◌, ℕ, length, IfOk, OnOk, MatchResult, Ok};
+ghost use Rattle.std.specs.Prelude.{◌≡◌, ◌≢◌, IfOk, OnOk, OnErr, MatchResult, Ok};
 ghost use Rattle.lset_text.specs.Parts.{cut_at};
 ghost use Rattle.lset_text.specs.Headers.{IsHeader};
 ghost use Rattle.lset_report.specs.Report.{ReportValue, view};
@@ -95,6 +95,7 @@ impl Reader {
         ensures header { OnOk result (self.new.header ≡ self.old.header) }
         ensures section { OnOk result (self.new.section ≡ section_after line) }
         ensures told { OnOk result (so_far self.new ≡ with_line (so_far self.old) line) }
+        ensures asked { OnErr result (line ≢ Line.End) }
     {
         match line {
             Line::Call(_, made) => self.calls.push(made)?,
@@ -127,7 +128,7 @@ impl Reader {
         requires { Holds self.old }
         ensures holds { OnOk result (Holds self.new) }
         ensures header { OnOk result (self.new.header ≡ self.old.header) }
-        ensures told { GoesOn (so_far self.new) result (4 + length (cut_at 10 text.now))
+        ensures told { GoesOn (so_far self.new) result (cut_at 10 text.now)
             (report_from 5 self.old.section (so_far self.old) (cut_at 10 text.now)) }
     {
         let mut number = FIRST_LINE;
@@ -176,8 +177,8 @@ fn report(alloc: Global, bytes: &[u8]) -> Result<Report, ReportFault>
 /// The report that the bytes are the text of, or the first fault of the bytes: its line, and the first check
 /// of that line that fails, in the order of `ReportCause` but for `NotEnded`, which comes before all others.
 /// A header line that is due where no byte is left has the fault of that header line. `Memory` stands in place
-/// of any other answer, where a growth was refused: its line is the last one that was read, which has no other
-/// fault, and neither has a line above it.
+/// of any other answer, where a growth was refused: its line is the last one that was read, which is not `end`
+/// and has no other fault, and neither has a line above it.
 ///
 /// The order and the keys are not judged: whether they explain the history is for `check_order`. With n bytes
 /// it takes about `n log n` steps, whatever the numbers are. (This project's own format.)

@@ -1,4 +1,4 @@
-use Rattle.std.proofs.Common.{◌≡◌, ◌≤◌, ◌+◌, length}
+use Rattle.std.proofs.Common.{◌≡◌, ℕ, ◌≤◌, ◌+◌, List, ◌++◌, length}
 use Rattle.lset_text.specs.Parts.{cut_at}
 use Rattle.lset_report.specs.ReportReading.{report_from}
 use Rattle.lset_report.specs.ReportReader.{Holds, so_far}
@@ -10,9 +10,8 @@ invariant-loop-rest l = record {
       ≡ report_from 5 l.initial.self.section (so_far l.initial.self) (cut_at 10 l.text);
   holds : Holds l.self;
   header : l.self.header ≡ l.initial.self.header;
-  counted : 5 ≤ l.number;
   lines_left : l.number + length l.rest ≤ 5 + length l.text;
-  parts_left : l.number + length (cut_at 10 l.rest) ≡ 5 + length (cut_at 10 l.text);
+  read : (before : List (List ℕ)) × (cut_at 10 l.text ≡ before ++ cut_at 10 l.rest) × (l.number ≡ 5 + length before);
 }
 
 abbrev pub decreases-loop-rest : goal.decreases-loop-rest
