@@ -17,7 +17,8 @@ fn turn(changes: &mut Changes, key: u32, last: u32, at: u32) -> Result<(), Alloc
     ensures upto { OnOk result ((k : ℕ) → All (λ m. m ≤ at) (moments_of changes.new k)) }
 {
     let present = changes.first(key, true, at, at).0.is_some();
-    changes.note(key, !present, at)
+    changes.note(key, !present, at)?;
+    Ok(())
 }
 
 /// The next of a row of numbers (Knuth's linear congruence).
