@@ -31,11 +31,13 @@ def rows_text(tables):
     """The text of rows.js for the text of docs/TABLES.md."""
     sections = {part.split("\n", 1)[0].strip(): part for part in tables.split("\n## ")}
     reads, _ = rows_of(sections["`contains` of LazyList and LockFreeList"])
+    ceilings, _ = rows_of(sections["`ceiling` of LazyList and LockFreeList"])
     lists = {}
     for name, kind in TITLES.items():
         rows, registers = rows_of(sections[name])
         if kind in ("lazy", "lock-free"):
             rows.update(reads)
+            rows.update(ceilings)
         lists[kind] = {"name": name, "registers": registers, "rows": rows}
     return ("// The rows of the step tables, from docs/TABLES.md by page/build: for show alone, no state is computed from them.\n"
             f'"use strict";\n\nconst LISTS = {json.dumps(lists, indent=2, ensure_ascii=False)};\n')

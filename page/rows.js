@@ -265,6 +265,18 @@ const LISTS = {
       "22": {
         "step": "load link of curr",
         "book": "is the node that has the key marked"
+      },
+      "23": {
+        "step": "load link of curr (at first the head)",
+        "book": "one node further, marked or not"
+      },
+      "24": {
+        "step": "load key of curr",
+        "book": "not in the book: the walk of its contains, up to the first key that is not below K"
+      },
+      "25": {
+        "step": "load link of curr",
+        "book": "not in the book: is the node at which the walk stops marked; if so, start again"
       }
     }
   },
@@ -327,6 +339,18 @@ const LISTS = {
       "22": {
         "step": "load link of curr",
         "book": "is the node that has the key marked"
+      },
+      "23": {
+        "step": "load link of curr (at first the head)",
+        "book": "one node further, marked or not"
+      },
+      "24": {
+        "step": "load key of curr",
+        "book": "not in the book: the walk of its contains, up to the first key that is not below K"
+      },
+      "25": {
+        "step": "load link of curr",
+        "book": "not in the book: is the node at which the walk stops marked; if so, start again"
       }
     }
   }

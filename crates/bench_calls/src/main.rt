@@ -133,6 +133,8 @@ fn make_calls<M: Running, R: Wait + Clock>(
             Call::Add(_) => add = add.more(passed),
             Call::Remove(_) => remove = remove.more(passed),
             Call::Contains(_) => contains = contains.more(passed),
+            // no program that is drawn has one
+            Call::Ceiling(_) => {}
         }
         before = now;
     }

@@ -4,6 +4,8 @@
 #[cfg(test)]
 mod calls;
 #[cfg(test)]
+mod ceilings;
+#[cfg(test)]
 mod compared;
 #[cfg(test)]
 mod full;

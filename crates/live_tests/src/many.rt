@@ -31,10 +31,11 @@ fn next_number(number: u64) -> u64 {
 
 fn drawn_call(number: u64) -> Call {
     let key = Key((number >> 40) as u32 % KEYS as u32);
-    match (number >> 33) % 3 {
+    match (number >> 33) % 4 {
         0 => Call::Add(key),
         1 => Call::Remove(key),
-        _ => Call::Contains(key),
+        2 => Call::Contains(key),
+        _ => Call::Ceiling(key),
     }
 }
 
@@ -54,7 +55,7 @@ fn note(counts: &[AtomicU64], call: Call, reply: Reply) {
                 count.fetch_sub(1, Ordering::SeqCst);
             }
         }
-        Call::Contains(_) => {}
+        Call::Contains(_) | Call::Ceiling(_) => {}
     }
 }
 

@@ -27,8 +27,8 @@ twice_text call first second =
 
 abbrev pub missing_text : ℕ → ℕ → Reply → List ℕ
 missing_text call moment reply =
-    (codes "Missing " ++ (decimal call ++ (codes ": it ended at " ++ (decimal moment ++ codes " with "))))
-    ++ reply_text reply ++ codes " and has no place"
+    codes "Missing " ++ (decimal call ++ (codes ": it ended at " ++ (decimal moment ++ (codes " with "
+    ++ (reply_text reply ++ codes " and has no place")))))
 
 -- which reply a place gives to a call, and what the history and the set say of it
 unfoldable pub says_words : ℕ → ℕ → List ℕ → List ℕ

@@ -7,7 +7,7 @@ use Rattle.std.specs.BTreeMap.{is_at}
 use Rattle.std.specs.BTreeSet.{insert_key}
 use Rattle.std.specs.Set.{remove_key}
 use Rattle.lset_words.specs.declared.Call.{Call}
-use Rattle.lset_words.specs.declared.Call.TheVariants.{Add, Remove, Contains}
+use Rattle.lset_words.specs.declared.Call.TheVariants.{Add, Remove, Contains, Ceiling}
 use Rattle.lset_words.specs.declared.history.CallRecord.{CallRecord}
 use Rattle.lset_words.specs.declared.history.Point.{Point}
 use Rattle.lset_drawing.specs.declared.TheConstants.{MOST_KEYS_SHOWN}
@@ -18,6 +18,7 @@ abbrev pub changed : List ℕ → Call → List ℕ
 changed keys (Add k) = insert_key nat_cmp keys k.0
 changed keys (Remove k) = remove_key (is_at (nat_cmp k.0)) keys
 changed keys (Contains k) = keys
+changed keys (Ceiling k) = keys
 
 abbrev pub call_upto : ℕ → Option CallRecord → Option Point → Option Call
 call_upto m None q = None

@@ -71,38 +71,31 @@ fn put_twice(out: &mut String, call: u32, first: u64, second: u64) -> Result<(),
 fn put_missing(out: &mut String, call: u32, moment: u32, reply: Reply) -> Result<(), AllocError>
     ensures { OnOk result (string_bytes out.new ≡ string_bytes out.old ++ missing_text call moment reply) }
 {
-    write!(out, "Missing {call}: it ended at {moment} with ")?;
-    out.push_str(reply_word(reply))?;
-    out.push_str(" and has no place")
-}
-
-#[tactic(auto, unfolding(crate::specs::Refusals::says_words))]
-fn put_says_words(out: &mut String, call: u32, place: u64, word: &str) -> Result<(), AllocError>
-    ensures { OnOk result (string_bytes out.new ≡ string_bytes out.old ++ says_words call place word.now) }
-{
-    write!(out, "WrongReply {call}: place {place} says {word}, and ")?;
+    let word = reply_word(reply);
+    write!(
+        out,
+        "Missing {call}: it ended at {moment} with {word} and has no place"
+    )?;
     Ok(())
 }
 
 /// Writes which reply a place gives to a call.
+#[tactic(auto, unfolding(crate::specs::Refusals::says_words))]
 fn put_says(out: &mut String, call: u32, place: u64, says: Reply) -> Result<(), AllocError>
     ensures { OnOk result (string_bytes out.new ≡ string_bytes out.old ++ says_words call place (reply_text says)) }
 {
-    put_says_words(out, call, place, reply_word(says))
-}
-
-#[tactic(auto, unfolding(crate::specs::Refusals::history_says))]
-fn put_history_words(out: &mut String, word: &str) -> Result<(), AllocError>
-    ensures { OnOk result (string_bytes out.new ≡ string_bytes out.old ++ history_says word.now) }
-{
-    write!(out, "the history says {word}")?;
+    let word = reply_word(says);
+    write!(out, "WrongReply {call}: place {place} says {word}, and ")?;
     Ok(())
 }
 
+#[tactic(auto, unfolding(crate::specs::Refusals::history_says))]
 fn put_history_says(out: &mut String, ended: Reply) -> Result<(), AllocError>
     ensures { OnOk result (string_bytes out.new ≡ string_bytes out.old ++ history_says (reply_text ended)) }
 {
-    put_history_words(out, reply_word(ended))
+    let word = reply_word(ended);
+    write!(out, "the history says {word}")?;
+    Ok(())
 }
 
 fn put_set_answers(
@@ -118,8 +111,9 @@ fn put_set_answers(
     put_places_before(out, place)?;
     out.push_str(" the set is ")?;
     out.push_str(&set)?;
-    out.push_str(" and answers ")?;
-    out.push_str(reply_word(answer))
+    let word = reply_word(answer);
+    write!(out, " and answers {word}")?;
+    Ok(())
 }
 
 fn put_too_early(

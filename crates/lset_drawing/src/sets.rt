@@ -27,7 +27,7 @@ fn change_set(keys: &mut BTreeSet<u32>, call: Call) -> Result<(), AllocError>
         Call::Remove(key) => {
             let _old = keys.remove(&key.0);
         }
-        Call::Contains(_) => {}
+        Call::Contains(_) | Call::Ceiling(_) => {}
     }
     Ok(())
 }

@@ -29,8 +29,9 @@ fn put_sign(out: &mut String, sign: Sign) -> Result<(), AllocError>
         Sign::Change => out.push_str("*-"),
         Sign::Fit => out.push_str("o-"),
         Sign::End(reply) => {
-            out.push_str(reply_word(reply))?;
-            out.push_str("] ")
+            let word = reply_word(reply);
+            write!(out, "{word}] ")?;
+            Ok(())
         }
     }
 }

@@ -14,6 +14,7 @@ use Rattle.lset_words.specs.Account.{Content, Changes, MayChange, Enters}
 use Rattle.lset_words.specs.Placement.{Standing, makes_change, reply_by, at_moment}
 use Rattle.lset_words.proofs.Numbers.{equal_test}
 use Rattle.std.proofs.lemmas.Bool.{cases_Bool}
+use Rattle.lset_words.proofs.RisingLists.{RisesFrom}
 use Rattle.lset_history.proofs.Lists.{Pairs, SomeOf, all_imply, all_both, all_filter, pairs_filter, pairs_imply, one_left, filter_none, some_imply, some_filter}
 use Rattle.lset_history.proofs.Keys.{has_true, has_false}
 use Rattle.lset_history.proofs.Calls.{Run}
@@ -51,12 +52,13 @@ change_replies threads quota content after counts s t call (key, false) w l c m 
 
 -- AND ONE THAT READS
 pub reading_stays : (r : Run) (s : Standing) (state : SetState) → Reading r s → SameKeys (r.contents s.moment) state.keys
+    → RisesFrom 0 state.keys
     → count_of state s.traced.thread ≡ r.counts s.moment s.traced.thread → Stays r.quota answered_of state s
-reading_stays r s state h same n =
+reading_stays r s state h same rising n =
     let e : reply_by s.traced.changed s.traced.ended ≡ h.end.1 = replied s.traced.changed s.traced.ended h.no_change h.ended in
     let p : (reply_to r.quota state s.traced.thread s.traced.call ≡ h.end.1)
     × (after_call state s.traced.thread s.traced.call h.end.1 ≡ state) =
-    replies_from_fits r.quota (r.contents s.moment) state same s.traced.thread
+    replies_from_fits r.quota (r.contents s.moment) state same rising s.traced.thread
     (r.counts s.moment s.traced.thread) s.traced.call h.end.1 n h.fit.fits in
     (p.0 ∙ sym e, ap (after_call state s.traced.thread s.traced.call) e ∙ p.1)
   where

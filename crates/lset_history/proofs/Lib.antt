@@ -1,4 +1,5 @@
 pub mod CallSteps
+pub mod Ceilings
 pub mod Calls
 pub mod Firsts
 pub mod SetFitting
@@ -25,3 +26,5 @@ pub mod Counting
 pub mod Noting
 pub mod FirstPoints
 pub mod Clashes
+pub mod Raises
+pub mod CeilingTests

@@ -98,7 +98,7 @@ module _ (threads quota last : ℕ) (log : Log) (contents : Contents) (counts : 
       each x h f =
           let d : During last x.traced.begun x.moment x.traced.ended = during r last calls places x h in
           let w : Shows threads (contents x.moment) (counts x.moment) (set_at threads log x.moment) = shown x.moment d.upto in
-          reading_stays r x (set_at threads log x.moment) (reading r last calls places x h f) w.keys
+          reading_stays r x (set_at threads log x.moment) (reading r last calls places x h f) w.keys w.rising
           (w.numbers x.traced.thread h.trace.of_a_thread)
 
   at_first : Leads quota answered_of (empty_set threads) (set_at threads log 0) (filter makes_change (at_moment 0 ss))

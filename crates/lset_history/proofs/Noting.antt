@@ -1,5 +1,5 @@
 -- What the map of changes holds after one more change.
-use Rattle.std.proofs.Common.{◌≡◌, ℕ, ◌+◌, ◌<◌, ◌⊎◌, inl, inr, Bool, true, false, List, [], ◌∷◌, ◌++◌, length, get_or, map, sym, refl, subst, ap, ◌∙◌, arith}
+use Rattle.std.proofs.Common.{◌≡◌, ℕ, ◌+◌, ◌<◌, ◌≤◌, ◌^◌, ◌⊎◌, inl, inr, Bool, true, false, List, [], ◌∷◌, ◌++◌, length, get_or, map, sym, refl, subst, ap, ◌∙◌, arith}
 use Rattle.std.specs.Prelude.{All, ◌==◌, Option, Some, None, Vec, if◌then◌else◌}
 use Rattle.std.specs.declared.alloc.Global.{Global}
 use Rattle.std.specs.Ordering.{nat_cmp, is_eq}
@@ -11,8 +11,8 @@ use Rattle.std.proofs.lemmas.Map.Made.{lookup-map_values}
 use Rattle.std.proofs.lemmas.List.{get_or_push, get_or_append_left, length_push}
 use Rattle.std.proofs.lemmas.List.Elements.{All-get_or}
 use mathlib.Core.Bool.{cond}
-use Rattle.lset_words.proofs.Numbers.{same_number}
-use Rattle.lset_history.specs.Changes.{ChangesValue, changes_in, moments_in, moments_of, with_change, IsLaterThanAll, Rise}
+use Rattle.lset_words.proofs.Numbers.{same_number, if_other}
+use Rattle.lset_history.specs.Changes.{ChangesValue, changes_in, moments_in, moments_of, with_change, IsLaterThanAll, Rise, IsBounded, AreKept}
 use Rattle.lset_history.proofs.KeySets.{same_test}
 
 abbrev pub Kept : Type 0
@@ -68,6 +68,16 @@ rise_noted c d key at rise later is k = subst (λ z. IsStrictlyIncreasing z) (sy
     by_test : (b : Bool) → IsStrictlyIncreasing (if b then moments_of c k ++ at ∷ [] else moments_of c k)
     by_test true = rises_more (moments_of c k) at (rise k) (later.1 k)
     by_test false = rise k
+
+-- and no key from 2^32 on has changes
+bounded_noted : (c d : ChangesValue) (key at : ℕ) → key < 2 ^ 32 → IsBounded (moments_of c)
+    → ((k : ℕ) → moments_of d k ≡ with_change (moments_of c) key at k) → IsBounded (moments_of d)
+bounded_noted c d key at low bounded is k high =
+    is k ∙ if_other k key (λ e. omega arith) (moments_of c k ++ at ∷ []) (moments_of c k) ∙ bounded k high
+
+pub kept_noted : (c d : ChangesValue) (key at : ℕ) → key < 2 ^ 32 → AreKept c → IsLaterThanAll (moments_of c) at
+    → ((k : ℕ) → moments_of d k ≡ with_change (moments_of c) key at k) → AreKept d
+kept_noted c d key at low kept later is = (rise_noted c d key at kept.0 later is, bounded_noted c d key at low kept.1 is)
 
 -- a value written back with the same items
 abbrev pub shown : List (ℕ × Vec ℕ Global) → List (ℕ × List ℕ)

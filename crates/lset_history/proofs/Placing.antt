@@ -107,7 +107,7 @@ has_placement threads quota last log contents counts a =
     each x t = place_of (run_of threads quota log contents counts) last x x.changed x.ended
         (λ m l reply. let w : Shows threads (contents m) (counts m) (set_at threads log m) = shows_at threads quota last log
         contents counts a m l in
-        fits_or_not quota (contents m) (set_at threads log m) w.keys (counts m x.thread) x.call reply) t.ends
+        fits_or_not quota (contents m) (set_at threads log m) w.keys w.rising (counts m x.thread) x.call reply) t.ends
 
 -- ONE PLACE FOR EACH
 least_once : (quota : ℕ) (contents : Contents) (counts : Counts) (x : TracedCall) (end : ℕ) (reply : Reply) (m n : ℕ)

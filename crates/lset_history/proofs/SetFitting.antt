@@ -1,16 +1,26 @@
 -- [Fits] is the sequential set's answer where it changes nothing.
-use Rattle.std.proofs.Common.{◌≡◌, ℕ, ◌⊎◌, true, false, inl, inr, List, sym, refl, ap, subst, ◌∙◌, arith}
+use Rattle.std.proofs.Common.{◌≡◌, ℕ, ◌≤◌, ◌<◌, ◌⊎◌, true, false, inl, inr, List, sym, refl, ap, subst, ◌∙◌, arith}
 use Rattle.std.specs.Prelude.{Contains, ◌==◌}
 use Rattle.std.proofs.lemmas.Bool.Decides.{nat_tests}
 use Rattle.lset_words.specs.declared.Call.{Call}
 use Rattle.lset_words.specs.declared.Call.TheVariants as call
 use Rattle.lset_words.specs.declared.Reply.{Reply}
 use Rattle.lset_words.specs.declared.Reply.TheVariants.{True, False, Full}
+use Rattle.lset_words.specs.declared.Reply.TheVariants as reply
 use Rattle.lset_words.specs.SequentialSet.{SetState, has_key, with_key, without_key, count_of, reply_to, after_call}
 use Rattle.lset_words.specs.Account.{Content, Fits}
 use Rattle.lset_words.proofs.Numbers.{same_or_not}
 use Rattle.std.proofs.lemmas.Bool.{cases_Bool}
+use Rattle.lset_words.proofs.RisingLists.{RisesFrom}
+use Rattle.lset_history.proofs.Ceilings.{ceiling_found, found_ceiling, ceiling_none, none_ceiling, ceiling_cases, ceiling_not}
 use Rattle.lset_history.proofs.Keys.{has_true, has_from, has_false, has_none, with_keeps, without_from, member_or_not}
+
+abbrev key_told : Reply → ℕ
+key_told (reply.At x) = x.0
+key_told True = 0
+key_told False = 0
+key_told Full = 0
+key_told reply.Nothing = 0
 
 -- a content and a list have the same keys
 abbrev pub SameKeys : Content → List ℕ → Type 0
@@ -20,7 +30,7 @@ SameKeys content keys = (j : ℕ) → (content j → Contains keys j) × (Contai
 abbrev pub Replies : ℕ → SetState → ℕ → Call → Reply → Type 0
 Replies quota s thread call reply = (reply_to quota s thread call ≡ reply) × (after_call s thread call reply ≡ s)
 
-module _ (quota : ℕ) (content : Content) (s : SetState) (same : SameKeys content s.keys) where
+module _ (quota : ℕ) (content : Content) (s : SetState) (same : SameKeys content s.keys) (rising : RisesFrom 0 s.keys) where
   member : (k : ℕ) → content k → has_key k s.keys ≡ true
   member k h = has_true k s.keys ((same k).0 h)
 
@@ -43,12 +53,24 @@ module _ (quota : ℕ) (content : Content) (s : SetState) (same : SameKeys conte
       let m : n ≡ quota = f.1 in
       let b : (count_of s t == quota) ≡ true = grind (arith, nat_tests) in
       (rw (a, b) refl, refl)
+  replies_from_fits t n (call.Add k) (reply.At x) e f = absurd f
+  replies_from_fits t n (call.Add k) reply.Nothing e f = absurd f
   replies_from_fits t n (call.Remove k) True e f = absurd f
   replies_from_fits t n (call.Remove k) False e f = let a : has_key k.0 s.keys ≡ false = no_member k.0 f in (rw a refl, refl)
   replies_from_fits t n (call.Remove k) Full e f = absurd f
+  replies_from_fits t n (call.Remove k) (reply.At x) e f = absurd f
+  replies_from_fits t n (call.Remove k) reply.Nothing e f = absurd f
   replies_from_fits t n (call.Contains k) True e f = let a : has_key k.0 s.keys ≡ true = member k.0 f in (rw a refl, refl)
   replies_from_fits t n (call.Contains k) False e f = let a : has_key k.0 s.keys ≡ false = no_member k.0 f in (rw a refl, refl)
   replies_from_fits t n (call.Contains k) Full e f = absurd f
+  replies_from_fits t n (call.Contains k) (reply.At x) e f = absurd f
+  replies_from_fits t n (call.Contains k) reply.Nothing e f = absurd f
+  replies_from_fits t n (call.Ceiling k) True e f = absurd f
+  replies_from_fits t n (call.Ceiling k) False e f = absurd f
+  replies_from_fits t n (call.Ceiling k) Full e f = absurd f
+  replies_from_fits t n (call.Ceiling k) (reply.At x) e f =
+      (ceiling_found k.0 0 x s.keys rising (f.0, (same x.0).0 f.1, λ j lo hi m. f.2 j lo hi ((same j).1 m)), refl)
+  replies_from_fits t n (call.Ceiling k) reply.Nothing e f = (ceiling_none k.0 s.keys (λ j lo m. f j lo ((same j).1 m)), refl)
 
   -- and the set's reply fits, where the set stays as it is
   pub fits_from_replies : (thread count : ℕ) (call : Call) (reply : Reply) → count_of s thread ≡ count
@@ -72,6 +94,20 @@ module _ (quota : ℕ) (content : Content) (s : SetState) (same : SameKeys conte
       | inr b ↦ absurd (let g : True ≡ Full = rw (a, b) at f.0 in cc)
     ]
   ]
+  fits_from_replies t n (call.Add k) (reply.At x) e f = elim (cases_Bool (has_key k.0 s.keys)) [
+    | inl a ↦ absurd (let g : False ≡ reply.At x = rw a at f.0 in cc)
+    | inr a ↦ elim (cases_Bool (count_of s t == quota)) [
+      | inl b ↦ absurd (let g : Full ≡ reply.At x = rw (a, b) at f.0 in cc)
+      | inr b ↦ absurd (let g : True ≡ reply.At x = rw (a, b) at f.0 in cc)
+    ]
+  ]
+  fits_from_replies t n (call.Add k) reply.Nothing e f = elim (cases_Bool (has_key k.0 s.keys)) [
+    | inl a ↦ absurd (let g : False ≡ reply.Nothing = rw a at f.0 in cc)
+    | inr a ↦ elim (cases_Bool (count_of s t == quota)) [
+      | inl b ↦ absurd (let g : Full ≡ reply.Nothing = rw (a, b) at f.0 in cc)
+      | inr b ↦ absurd (let g : True ≡ reply.Nothing = rw (a, b) at f.0 in cc)
+    ]
+  ]
   fits_from_replies t n (call.Remove k) True e f = elim (cases_Bool (has_key k.0 s.keys)) [
     | inl a ↦ (let g : without_key k.0 s.keys ≡ s.keys = ap (λ z. z.keys) f.1 in
         (without_from k.0 k.0 s.keys (subst (λ z. Contains z k.0) (sym g) (has_from k.0 s.keys a))).1 refl)
@@ -85,6 +121,14 @@ module _ (quota : ℕ) (content : Content) (s : SetState) (same : SameKeys conte
     | inl a ↦ absurd (let g : True ≡ Full = rw a at f.0 in cc)
     | inr a ↦ absurd (let g : False ≡ Full = rw a at f.0 in cc)
   ]
+  fits_from_replies t n (call.Remove k) (reply.At x) e f = elim (cases_Bool (has_key k.0 s.keys)) [
+    | inl a ↦ absurd (let g : True ≡ reply.At x = rw a at f.0 in cc)
+    | inr a ↦ absurd (let g : False ≡ reply.At x = rw a at f.0 in cc)
+  ]
+  fits_from_replies t n (call.Remove k) reply.Nothing e f = elim (cases_Bool (has_key k.0 s.keys)) [
+    | inl a ↦ absurd (let g : True ≡ reply.Nothing = rw a at f.0 in cc)
+    | inr a ↦ absurd (let g : False ≡ reply.Nothing = rw a at f.0 in cc)
+  ]
   fits_from_replies t n (call.Contains k) True e f = elim (cases_Bool (has_key k.0 s.keys)) [
     | inl a ↦ is_member k.0 a
     | inr a ↦ absurd (let g : False ≡ True = rw a at f.0 in cc)
@@ -97,6 +141,20 @@ module _ (quota : ℕ) (content : Content) (s : SetState) (same : SameKeys conte
     | inl a ↦ absurd (let g : True ≡ Full = rw a at f.0 in cc)
     | inr a ↦ absurd (let g : False ≡ Full = rw a at f.0 in cc)
   ]
+  fits_from_replies t n (call.Contains k) (reply.At x) e f = elim (cases_Bool (has_key k.0 s.keys)) [
+    | inl a ↦ absurd (let g : True ≡ reply.At x = rw a at f.0 in cc)
+    | inr a ↦ absurd (let g : False ≡ reply.At x = rw a at f.0 in cc)
+  ]
+  fits_from_replies t n (call.Contains k) reply.Nothing e f = elim (cases_Bool (has_key k.0 s.keys)) [
+    | inl a ↦ absurd (let g : True ≡ reply.Nothing = rw a at f.0 in cc)
+    | inr a ↦ absurd (let g : False ≡ reply.Nothing = rw a at f.0 in cc)
+  ]
+  fits_from_replies t n (call.Ceiling k) True e f = ceiling_not k.0 s.keys True f.0 (λ x g. cc) (λ g. cc)
+  fits_from_replies t n (call.Ceiling k) False e f = ceiling_not k.0 s.keys False f.0 (λ x g. cc) (λ g. cc)
+  fits_from_replies t n (call.Ceiling k) Full e f = ceiling_not k.0 s.keys Full f.0 (λ x g. cc) (λ g. cc)
+  fits_from_replies t n (call.Ceiling k) (reply.At x) e f =
+      let c = found_ceiling k.0 0 x s.keys rising f.0 in (c.0, (same x.0).1 c.1, λ j lo hi m. c.2 j lo hi ((same j).0 m))
+  fits_from_replies t n (call.Ceiling k) reply.Nothing e f = λ j lo m. none_ceiling k.0 s.keys f.0 j lo ((same j).0 m)
 
   -- a content with a list of its keys tells of each reply whether it fits
   present : (k : ℕ) → content k ⊎ (content k → ⊥)
@@ -113,9 +171,30 @@ module _ (quota : ℕ) (content : Content) (s : SetState) (same : SameKeys conte
     | inl h ↦ inr (λ f. f.0 h)
     | inr h ↦ elim (same_or_not n quota) [ inl e ↦ inl (h, e) | inr e ↦ inr (λ f. e f.1) ]
   ]
+  fits_or_not n (call.Add k) (reply.At x) = inr (λ f. f)
+  fits_or_not n (call.Add k) reply.Nothing = inr (λ f. f)
   fits_or_not n (call.Remove k) True = inr (λ f. f)
   fits_or_not n (call.Remove k) False = absent k.0
   fits_or_not n (call.Remove k) Full = inr (λ f. f)
+  fits_or_not n (call.Remove k) (reply.At x) = inr (λ f. f)
+  fits_or_not n (call.Remove k) reply.Nothing = inr (λ f. f)
   fits_or_not n (call.Contains k) True = present k.0
   fits_or_not n (call.Contains k) False = absent k.0
   fits_or_not n (call.Contains k) Full = inr (λ f. f)
+  fits_or_not n (call.Contains k) (reply.At x) = inr (λ f. f)
+  fits_or_not n (call.Contains k) reply.Nothing = inr (λ f. f)
+  fits_or_not n (call.Ceiling k) True = inr (λ f. f)
+  fits_or_not n (call.Ceiling k) False = inr (λ f. f)
+  fits_or_not n (call.Ceiling k) Full = inr (λ f. f)
+  fits_or_not n (call.Ceiling k) (reply.At x) = elim (ceiling_cases k.0 s.keys) [
+    | inl e ↦ inr (λ f. let g : reply.Nothing ≡ reply.At x = sym e ∙ (replies_from_fits 0 (count_of s 0) (call.Ceiling k) (reply.At x) refl f).0 in absurd (cc))
+    | inr p ↦ elim (same_or_not p.0.0 x.0) [
+      | inl y ↦ inl (fits_from_replies 0 (count_of s 0) (call.Ceiling k) (reply.At x) refl
+          (p.1 ∙ ap (λ z. reply.At (record { 0 = z })) y, refl))
+      | inr y ↦ inr (λ f. y (ap key_told (sym p.1 ∙ (replies_from_fits 0 (count_of s 0) (call.Ceiling k) (reply.At x) refl f).0)))
+    ]
+  ]
+  fits_or_not n (call.Ceiling k) reply.Nothing = elim (ceiling_cases k.0 s.keys) [
+    | inl e ↦ inl (fits_from_replies 0 (count_of s 0) (call.Ceiling k) reply.Nothing refl (e, refl))
+    | inr p ↦ inr (λ f. let g : reply.At p.0 ≡ reply.Nothing = sym p.1 ∙ (replies_from_fits 0 (count_of s 0) (call.Ceiling k) reply.Nothing refl f).0 in absurd (cc))
+  ]

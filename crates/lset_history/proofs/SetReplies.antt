@@ -1,5 +1,12 @@
 -- What the sequential set answers, from what its tree of keys and its counts tell.
-use Rattle.std.proofs.Common.{◌≡◌, ℕ, ◌≤◌, ◌≢◌, ◌==◌, ◌+◌, Bool, true, false, cond, List, get_or, refl, sym, ◌∙◌, arith}
+use Rattle.std.proofs.Common.{◌≡◌, ℕ, ◌≤◌, ◌<◌, ◌≢◌, ◌==◌, ◌+◌, Bool, true, false, cond, List, [], ◌∷◌, get_or, refl, sym, ap, inl, inr, ◌∙◌, arith}
+use Rattle.std.specs.Prelude.{filter}
+use Rattle.std.specs.BTreeMap.Range.{range_contains}
+use Rattle.std.specs.declared.ops.Bound.TheVariants.{Included, Unbounded}
+use Rattle.std.specs.declared.cmp.Ordering.TheVariants.{Less, Equal, Greater}
+use Rattle.std.specs.Cmp.{nat_cmp_is}
+use Rattle.lset_words.proofs.Numbers.{below_or_not}
+use Rattle.lset_words.specs.declared.Reply.{Reply}
 use Rattle.std.specs.List.{list_any}
 use Rattle.std.specs.List.Sorted.{IsStrictlyIncreasing, IsStrictlySortedBy}
 use Rattle.std.specs.Ordering.{nat_cmp}
@@ -10,11 +17,11 @@ use Rattle.std.proofs.Math.ListN.{set}
 use Rattle.std.proofs.lemmas.List.{length-set}
 use Rattle.std.proofs.lemmas.List.Elements.{All-set}
 use Rattle.std.proofs.lemmas.Map.Keys.{sorted_from_strictly_increasing, IsStrictlyIncreasing-from_sorted}
-use Rattle.std.proofs.lemmas.Bool.{cond-true, cond-false, eq-eqb, ne_eqb}
+use Rattle.std.proofs.lemmas.Bool.{cond-true, cond-false, eq-eqb, ne_eqb, lt-ltb, le-ltb, cases_order}
 use Rattle.lset_words.specs.declared.Key.{Key}
-use Rattle.lset_words.specs.declared.Call.TheVariants.{Add, Remove, Contains}
-use Rattle.lset_words.specs.declared.Reply.TheVariants.{True, False, Full}
-use Rattle.lset_words.specs.SequentialSet.{SetState, has_key}
+use Rattle.lset_words.specs.declared.Call.TheVariants.{Add, Remove, Contains, Ceiling}
+use Rattle.lset_words.specs.declared.Reply.TheVariants.{True, False, Full, At, Nothing}
+use Rattle.lset_words.specs.SequentialSet.{SetState, has_key, ceiling_in}
 use Rattle.lset_history.specs.Oracle.{OracleValue, set_of, Answers, PutsIn, KeepsCounts}
 use Rattle.lset_history.proofs.KeySets.{has_key_tree, with_key_tree, without_key_tree, without_absent}
 
@@ -80,6 +87,44 @@ contained o t k true e = record {
 }
 contained o t k false e = record {
   reply_is = sym (cond-false (has_key k.0 o.state.keys) True False (has_key_tree k.0 o.state.keys ∙ sym e));
+  state_is = refl;
+}
+
+-- the first key of a range of the tree is the least one
+abbrev from_on : ℕ → List ℕ → List ℕ
+from_on k keys = filter (range_contains nat_cmp (Included k) Unbounded) keys
+
+abbrev first_reply : List ℕ → Reply
+first_reply [] = Nothing
+first_reply (x ∷ xs) = At (record { 0 = x })
+
+at_or_above : (k x : ℕ) → k ≤ x → range_contains nat_cmp (Included k) Unbounded x ≡ true
+at_or_above k x h = elim (cases_order k x) [
+  | inl e ↦ rw (sym (nat_cmp_is k x Equal e)) refl
+  | inr n ↦ elim n [ inl l ↦ rw (sym (nat_cmp_is k x Less l)) refl | inr l ↦ absurd (omega arith) ]
+]
+
+not_above : (k x : ℕ) → x < k → range_contains nat_cmp (Included k) Unbounded x ≡ false
+not_above k x h = rw (sym (nat_cmp_is k x Greater h)) refl
+
+ceiling_range : (k : ℕ) (keys : List ℕ) → ceiling_in k keys ≡ first_reply (from_on k keys)
+ceiling_range k [] = refl
+ceiling_range k (x ∷ xs) = elim (below_or_not x k) [
+  | inl l ↦ rw (lt-ltb x k l, not_above k x l) (ceiling_range k xs)
+  | inr g ↦ rw (le-ltb x k g, at_or_above k x g) refl
+]
+
+pub ceiling_first : (o : OracleValue) (t : ℕ) (k : Key) (x : ℕ) (rest found : List ℕ) → found ≡ from_on k.0 o.state.keys
+    → found ≡ x ∷ rest → Answers o o t (Ceiling k) (At (record { 0 = x }))
+ceiling_first o t k x rest found is first = record {
+  reply_is = sym (ceiling_range k.0 o.state.keys ∙ ap first_reply (sym is ∙ first));
+  state_is = refl;
+}
+
+pub ceiling_nowhere : (o : OracleValue) (t : ℕ) (k : Key) (found : List ℕ) → found ≡ from_on k.0 o.state.keys
+    → found ≡ [] → Answers o o t (Ceiling k) Nothing
+ceiling_nowhere o t k found is none = record {
+  reply_is = sym (ceiling_range k.0 o.state.keys ∙ ap first_reply (sym is ∙ none));
   state_is = refl;
 }
 

@@ -1,5 +1,5 @@
 -- When keys were put in and taken out, and the first moment at which a key is there, or is not.
-use Rattle.std.specs.Prelude.{ℕ, ◌<◌, ◌≤◌, ◌==◌, length, map, slice_index, nat_lt, Bool, false, not, if◌then◌else◌, List, [], ◌∷◌, ◌++◌, All, Option, Some, None, Vec}
+use Rattle.std.specs.Prelude.{◌≡◌, ◌^◌, ℕ, ◌<◌, ◌≤◌, ◌==◌, length, map, slice_index, nat_lt, Bool, false, not, if◌then◌else◌, List, [], ◌∷◌, ◌++◌, All, Option, Some, None, Vec}
 use Rattle.std.specs.declared.alloc.Global.{Global}
 use Rattle.std.specs.List.Sorted.{IsStrictlyIncreasing}
 use Rattle.std.specs.Ordering.{nat_cmp}
@@ -56,6 +56,13 @@ changes_in kept = record { entries = map (λ (e : ℕ × Vec ℕ Global). (e.0, 
 
 abbrev pub Rise : ChangesValue → Type 0
 Rise c = (key : ℕ) → IsStrictlyIncreasing (moments_of c key)
+
+-- no key from 2^32 on has changes
+abbrev pub IsBounded : (ℕ → List ℕ) → Type 0
+IsBounded changes = (key : ℕ) → 2 ^ 32 ≤ key → changes key ≡ []
+
+abbrev pub AreKept : ChangesValue → Type 0
+AreKept c = Rise c × IsBounded (moments_of c)
 
 -- how many of these moments are not above one, where they rise
 pub record IsCountUpTo (ms : List ℕ) (moment count : ℕ) : Type 0 where

@@ -48,7 +48,7 @@ LogsTellHistories = (threads quota last : ℕ) (log : Log) (lists : ℕ → List
 -- A reply fits just where the sequential set gives it and stays as it is.
 abbrev pub FitsAreReplies : Type 0
 FitsAreReplies = (quota thread count : ℕ) (keys : List ℕ) (s : SetState) (call : Call) (reply : Reply)
-    → ((j : ℕ) → Contains keys j ↔ Contains s.keys j) → count_of s thread ≡ count
+    → ((j : ℕ) → Contains keys j ↔ Contains s.keys j) → IsStrictlyIncreasing s.keys → count_of s thread ≡ count
     → Fits quota (content_of keys) count call reply
     ↔ ((reply_to quota s thread call ≡ reply) × (after_call s thread call reply ≡ s))
 

@@ -6,3 +6,4 @@ pub mod Laws
 pub mod Changes
 pub mod Points
 pub mod Refusals
+pub mod Raising

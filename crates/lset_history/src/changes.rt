@@ -1,4 +1,4 @@
-ghost use Rattle.std.specs.Prelude.{◌≡◌, ◌≤◌, ◌<◌, ◌^◌, ℕ, length, not, OnOk, OnErr, IfOk};
+ghost use Rattle.std.specs.Prelude.{◌≡◌, ◌≤◌, ◌<◌, ◌^◌, ◌↔◌, ℕ, length, not, true, IsTrue, OnOk, OnErr, IfOk};
 ghost use Rattle.std.specs.List.Sorted.{IsStrictlyIncreasing};
 ghost use Rattle.lset_history.specs.Changes.{
   IsFirst,
@@ -9,11 +9,15 @@ ghost use Rattle.lset_history.specs.Changes.{
   IsLaterThanAll,
   with_change,
   IsCountUpTo,
+  IsBounded,
 };
+ghost use Rattle.lset_history.specs.Raising.{Raises, AreAbsent, IsNextAfter, IsBelow};
+ghost use Rattle.lset_words.specs.Account.{IsCeiling};
 
 use std::alloc::{AllocError, Global};
 use std::collections::BTreeMap;
 use std::marker::Model;
+use std::ops::Bound;
 
 /// When keys were put into a set and taken out of it. At first every key is absent.
 #[derive(Drop)]
@@ -24,13 +28,13 @@ pub struct Changes {
 }
 
 impl Model for Changes {
-    ghost use Rattle.lset_history.specs.Changes.{ChangesValue, changes_in, Rise};
+    ghost use Rattle.lset_history.specs.Changes.{ChangesValue, changes_in, AreKept};
 
     ghost Value = { ChangesValue };
 
     ghost view = { λ c. changes_in c.moments };
 
-    ghost invariant = { λ c. Rise (changes_in c.moments) };
+    ghost invariant = { λ c. AreKept (changes_in c.moments) };
 }
 
 /// How many of the rising moments are not above `at`, and how many of them were looked at for that.
@@ -52,6 +56,16 @@ fn count_upto(moments: &[u32], at: u32) -> (usize, u32)
         looked += 1;
     }
     (low, looked)
+}
+
+/// Whether a key is not below the end of a range.
+fn is_past(end: Option<u32>, key: u32) -> bool
+    ensures { IsTrue result ↔ (IsBelow key end → ⊥) }
+{
+    match end {
+        Some(end) => end <= key,
+        None => false,
+    }
 }
 
 impl Changes {
@@ -104,5 +118,64 @@ impl Changes {
         let next = moments[before];
         let found = if next <= to { Some(next) } else { None };
         (found, looked + 1)
+    }
+    /// The least key above this one that was ever put in.
+    fn next_after(&self, key: u32) -> Option<u32>
+        ensures { IsNextAfter (moments_of self.now) key result }
+    {
+        let above = (Bound::Excluded(key), Bound::Unbounded);
+        match self.moments.range(above).next() {
+            Some((next, _moments)) => Some(*next),
+            None => None,
+        }
+    }
+
+    /// From a moment on, up to `to`: a moment before which some key from `key` on, below `end`, is in the set; the
+    /// moment itself where none is.
+    fn without_keys(&self, key: u32, end: Option<u32>, from: u32, to: u32) -> Option<u32>
+        requires { from ≤ to }
+        ensures { Raises (AreAbsent (moments_of self.now) key end) from to result }
+    {
+        let mut moment = from;
+        let mut next = Some(key);
+        while let Some(reached) = next {
+            if is_past(end, reached) {
+                break;
+            }
+            moment = self.first(reached, false, moment, to).0?;
+            next = self.next_after(reached);
+        }
+        Some(moment)
+    }
+
+    /// The same of the moments at which `found` is the least key at or above `key`, or none is there.
+    fn raised(&self, key: u32, found: Option<u32>, from: u32, to: u32) -> Option<u32>
+        requires { from ≤ to }
+        ensures { Raises (λ m. IsCeiling (λ j. is_present (moments_of self.now) j m ≡ true) key found) from to result }
+    {
+        let moment = match found {
+            Some(found) if found < key => return None,
+            Some(found) => self.first(found, true, from, to).0?,
+            None => from,
+        };
+        self.without_keys(key, found, moment, to)
+    }
+
+    /// The least moment from `from` to `to` at which the least key of the set at or above `key` is `found`, or at which
+    /// there is none, if there is such a moment. It takes no memory.
+    pub fn first_ceiling(&self, key: u32, found: Option<u32>, from: u32, to: u32) -> Option<u32>
+        requires { from ≤ to }
+        ensures first { IsFirst (λ m. IsCeiling (λ j. is_present (moments_of self.now) j m ≡ true) key found) from to result }
+        ensures bounded { IsBounded (moments_of self.now) }
+    {
+        let _changes = &self.moments;
+        let mut moment = from;
+        loop {
+            let next = self.raised(key, found, moment, to)?;
+            if next == moment {
+                return Some(moment);
+            }
+            moment = next;
+        }
     }
 }

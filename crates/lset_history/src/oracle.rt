@@ -53,7 +53,8 @@ impl Oracle {
 
     /// Makes a call of the thread `thread`, below the threads, and gives its reply: `Add` of a present key is
     /// `False`, of an absent key `Full` where the thread's count is at the quota, and else `True`; `Remove` and
-    /// `Contains` are `True` where the key is present, and else `False`. Nothing changes but by an `Add` or a
+    /// `Contains` are `True` where the key is present, and else `False`; `Ceiling` is `At` of the least key at or above its
+    /// own, or `Nothing` where there is none. Nothing changes but by an `Add` or a
     /// `Remove` that is `True`. An error is want of memory: it comes only to an `Add` that would be `True`, and
     /// changes nothing.
     pub fn apply(&mut self, thread: u32, call: Call) -> Result<Reply, AllocError>
@@ -66,6 +67,7 @@ impl Oracle {
             Call::Add(key) => self.add(thread, key),
             Call::Remove(key) => Ok(self.remove(key)),
             Call::Contains(key) => Ok(self.contains(key)),
+            Call::Ceiling(key) => Ok(self.ceiling(key)),
         }
     }
 
@@ -97,6 +99,15 @@ impl Oracle {
         ensures { (thread : ℕ) → Answers self.now self.now thread (Call.Contains key) result }
     {
         reply_of(self.keys.contains(&key.0))
+    }
+
+    fn ceiling(&self, key: Key) -> Reply
+        ensures { (thread : ℕ) → Answers self.now self.now thread (Call.Ceiling key) result }
+    {
+        match self.keys.range(key.0..).next() {
+            Some(found) => Reply::At(Key(*found)),
+            None => Reply::Nothing,
+        }
     }
 
     /// The keys, rising. An error is want of memory.

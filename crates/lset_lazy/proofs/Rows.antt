@@ -2,7 +2,7 @@
 use Rattle.std.proofs.Common.{◌≡◌, ℕ, ◌*◌, ◌/◌, ◌%◌, Bool, true, false, if◌then◌else◌, Option, Some, None, ◌==◌, refl, ◌∙◌}
 use Rattle.std.specs.Prelude.{nat_lt}
 use Rattle.lset_words.specs.declared.Call.{Call}
-use Rattle.lset_words.specs.declared.Call.TheVariants.{Add, Remove, Contains}
+use Rattle.lset_words.specs.declared.Call.TheVariants.{Add, Remove, Contains, Ceiling}
 use Rattle.lset_words.specs.declared.Reply.{Reply}
 use Rattle.lset_words.specs.Words.{target}
 use Rattle.lset_steps.specs.declared.Local.{Local}
@@ -19,7 +19,7 @@ choice false x y = refl
 
 -- the decision of a call, by what it finds
 decides_by : (c : Call) (l : Local) (found room : Bool) → (l.ckey == target c) ≡ found → nat_lt l.used l.quota ≡ room
-    → continued (decided 8 11 13 c (l.ckey == target c) (nat_lt l.used l.quota) l) ≡ decides c l
+    → continued (decided 8 11 13 c (l.ckey == target c) (nat_lt l.used l.quota) l.ckey l) ≡ decides c l
 decides_by (Add k) l true room e f = rw e refl
 decides_by (Add k) l false true e f = rw (e, f) refl
 decides_by (Add k) l false false e f = rw (e, f) refl
@@ -27,6 +27,7 @@ decides_by (Remove k) l true room e f = rw e refl
 decides_by (Remove k) l false room e f = rw e refl
 decides_by (Contains k) l true room e f = rw e refl
 decides_by (Contains k) l false room e f = rw e refl
+decides_by (Ceiling k) l found room e f = refl
 
 decides_or_leaves : (l : Local) (seen : ℕ) → continued (at_curr seen l) ≡ (if seen % 2 == 0 then decides l.call (record l { succ = seen / 2 }) else leaves None l)
 decides_or_leaves l seen = by_mark (seen % 2 == 0) refl
@@ -51,6 +52,9 @@ reads = record {
   row_20 = λ l e. (rw e refl, λ seen. (rw e refl, rw e refl));
   row_21 = λ l e. (rw e refl, λ seen. (rw e refl, rw e refl));
   row_22 = λ l e. (rw e refl, λ seen. (rw e refl, rw e refl));
+  row_23 = λ l e. (rw e refl, λ seen. (rw e refl, rw e refl));
+  row_24 = λ l e. (rw e refl, λ seen. (rw e refl, rw e refl));
+  row_25 = λ l e. (rw e refl, λ seen. (rw e refl, rw e refl));
 }
 
 pub lazy_rows : LazyRows lazy

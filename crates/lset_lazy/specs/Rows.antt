@@ -1,7 +1,7 @@
 -- The table of LazyList row by row, in words that all lists share.
 use Rattle.std.specs.Prelude.{ℕ, ◌+◌, ◌*◌, ◌/◌, ◌%◌, true, false, if◌then◌else◌, Option, Some, None, ◌==◌, nat_lt}
 use Rattle.lset_words.specs.declared.Call.{Call}
-use Rattle.lset_words.specs.declared.Call.TheVariants.{Add, Remove, Contains}
+use Rattle.lset_words.specs.declared.Call.TheVariants.{Add, Remove, Contains, Ceiling}
 use Rattle.lset_words.specs.declared.Reply.{Reply}
 use Rattle.lset_words.specs.declared.Reply.TheVariants.{True, False, Full}
 use Rattle.lset_words.specs.Words.{key_index, link_index, lock_index, key_of, target}
@@ -9,7 +9,7 @@ use Rattle.lset_steps.specs.declared.Local.{Local}
 use Rattle.lset_steps.specs.declared.Action.TheVariants.{Load, Store, Exchange}
 use Rattle.lset_steps.specs.declared.Fed.{Fed}
 use Rattle.lset_steps.specs.Steps.{Table}
-use Rattle.lset_steps.specs.Rows.{own_slot, goes_to}
+use Rattle.lset_steps.specs.Rows.{own_slot, goes_to, ceiling_at}
 use Rattle.lset_steps.specs.ReadRows.{continued, leaves_with}
 use Rattle.lset_steps.specs.RowLaws.{Does, HasReading, nothing}
 
@@ -30,6 +30,7 @@ decides (Add k) l =
     else leaves (Some Full) l
 decides (Remove k) l = if l.ckey == target (Remove k) then continued (goes_to 11 None l) else leaves (Some False) l
 decides (Contains k) l = if l.ckey == target (Contains k) then leaves (Some True) l else leaves (Some False) l
+decides (Ceiling k) l = leaves (Some (ceiling_at l.ckey)) l
 
 -- at the end of an attempt the call answers, or walks again
 abbrev pub answers_or_walks : Option Reply → Local → Fed

@@ -10,6 +10,7 @@ use Rattle.lset_words.specs.declared.Call.{Call}
 use Rattle.lset_words.specs.declared.Call.TheVariants.{Contains}
 use Rattle.lset_words.specs.declared.Reply.{Reply}
 use Rattle.lset_words.specs.declared.Reply.TheVariants.{True, False, Full}
+use Rattle.lset_words.specs.declared.Reply.TheVariants as reply
 use Rattle.lset_words.specs.declared.history.CallRecord.{CallRecord}
 use Rattle.lset_words.specs.declared.history.Placed.{Placed}
 use Rattle.lset_words.specs.History.{Precedes, answered, call_numbered, no_call}
@@ -147,32 +148,37 @@ module _ (T : Table) (law : Lawful T) (c : Call) (v : View) (r : Reply) (w : Vie
     call = entry.1 ∙ ap (λ l. some (record { thread = w.thread; call = c; begun = length l + 1; ended = Some (length w.seen, r) })) m.before.1;
   }
 
--- A `contains` never answers Full.
-abbrev NotFull : Reply → Type 0
-NotFull Full = ⊥
-NotFull True = Unit {0}
-NotFull False = Unit {0}
+-- A `contains` answers True or False.
+abbrev IsTruth : Reply → Type 0
+IsTruth True = Unit {0}
+IsTruth False = Unit {0}
+IsTruth Full = ⊥
+IsTruth (reply.At k) = ⊥
+IsTruth reply.Nothing = ⊥
 
 legal_at : (q : ℕ) (s : SetState) (xs : List Answered) (a : Answered) (ys : List Answered) → IsLegal q s (xs ++ a ∷ ys) → (z : SetState) × (reply_to q z a.thread a.call ≡ a.reply)
 legal_at q s [] a ys l = (s, l.0)
 legal_at q s (x ∷ xs) a ys l = legal_at q (after_call s x.thread x.call x.reply) xs a ys l.1
 
-not_full : (b : Bool) → (if b then True else False) ≡ Full → ⊥
-not_full true e = subst (λ r. NotFull r) e tt
-not_full false e = subst (λ r. NotFull r) e tt
+is_truth : (b : Bool) (r : Reply) → (if b then True else False) ≡ r → IsTruth r
+is_truth true r e = subst (λ r. IsTruth r) e tt
+is_truth false r e = subst (λ r. IsTruth r) e tt
 
-read_not_full : (T : Table) (law : Lawful T) → RunsAreLinearizable T → (key : Key) (v w : View) → Makes T (Contains key) v Full w → ⊥
-read_not_full T law linear key v w m =
-    let call : OwnCall = record { call = Contains key; reply = Full; begun = length m.log + 1; ended = length w.seen } in
+read_is_truth : (T : Table) (law : Lawful T) → RunsAreLinearizable T → (key : Key) (v : View) (r : Reply) (w : View)
+    → Makes T (Contains key) v r w → IsTruth r
+read_is_truth T law linear key v r w m =
+    let call : OwnCall = record { call = Contains key; reply = r; begun = length m.log + 1; ended = length w.seen } in
     let ex : IsExplained T w.shape w.seen (called (record_of v.past) (call_of call)) =
-    subst (λ p. IsExplained T w.shape w.seen p) (ap record_of m.past) (made_explained T law linear (Contains key) v Full w m) in
+    subst (λ p. IsExplained T w.shape w.seen p) (ap record_of m.past) (made_explained T law linear (Contains key) v r w m) in
     let at = ex.keeps.1.1 in
     let l = legal_at w.shape.quota (empty_set w.shape.threads) at.before (said_by (thread_of (record_of v.past)) call) at.after
     (subst (λ o. IsLegal w.shape.quota (empty_set w.shape.threads) o) at.is ex.linearizes.legal) in
-    not_full (has_key key.0 l.0.keys) l.1
+    is_truth (has_key key.0 l.0.keys) r l.1
 
 pub as_bool : (T : Table) (law : Lawful T) → RunsAreLinearizable T → (key : Key) (v : View) (r : Reply) (w : View) → Makes T (Contains key) v r w
     → (b : Bool) → b ≡ is_true r → Makes T (Contains key) v (reply_of b) w
 as_bool T law linear key v True w m b e = subst (λ z. Makes T (Contains key) v (reply_of z) w) (sym e) m
 as_bool T law linear key v False w m b e = subst (λ z. Makes T (Contains key) v (reply_of z) w) (sym e) m
-as_bool T law linear key v Full w m b e = absurd (read_not_full T law linear key v w m)
+as_bool T law linear key v Full w m b e = absurd (read_is_truth T law linear key v Full w m)
+as_bool T law linear key v (reply.At k) w m b e = absurd (read_is_truth T law linear key v (reply.At k) w m)
+as_bool T law linear key v reply.Nothing w m b e = absurd (read_is_truth T law linear key v reply.Nothing w m)

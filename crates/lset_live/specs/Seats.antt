@@ -4,6 +4,7 @@ use Rattle.std.specs.List.{range_with_len}
 use Rattle.atomic_table.specs.Seated.{TableId}
 use Rattle.lset_words.specs.declared.Reply.{Reply}
 use Rattle.lset_words.specs.declared.Reply.TheVariants.{True, False, Full}
+use Rattle.lset_words.specs.declared.Reply.TheVariants as reply
 use Rattle.lset_words.specs.declared.fault.LayoutFault.TheVariants as layout
 use Rattle.lset_words.specs.Words.{Sizes, IsWithin, RefusesSizes}
 use Rattle.lset_steps.specs.declared.Event.{Event}
@@ -49,6 +50,8 @@ abbrev pub is_true : Reply → Bool
 is_true True = true
 is_true False = false
 is_true Full = false
+is_true (reply.At k) = false
+is_true reply.Nothing = false
 
 -- the records of some seats, gathered one after the other into the first
 abbrev pub gather_onto : Option Record → List Record → Option Record

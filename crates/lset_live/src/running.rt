@@ -1,5 +1,5 @@
 //! One function for each call, over table, seat and pause. The default bodies are the interpreter.
-ghost use Rattle.lset_words.specs.declared.Call.TheVariants.{Add, Remove, Contains};
+ghost use Rattle.lset_words.specs.declared.Call.TheVariants.{Add, Remove, Contains, Ceiling};
 ghost use Rattle.lset_rule.specs.Seats.{HasCalled, MayCall};
 
 use lset_coarse::CoarseList;
@@ -69,6 +69,21 @@ pub trait Running: Machine {
     {
         walk::<Self, R, P>(rt, table, place, slots, Call::Contains(key), pause)
     }
+
+    /// Makes a `ceiling`: the least key at or above this one, or that there is none.
+    fn ceiling_on<R: Wait, P: Pause>(
+        rt: &R,
+        table: &Words<Self>,
+        place: &mut Place,
+        slots: Slots,
+        key: Key,
+        pause: &P,
+    ) -> (Slots, Reply)
+        requires { MayCall Self.table table.now.table_id table.now.key slots place.old }
+        ensures { HasCalled Self.table (Ceiling key) place.old result place.new }
+    {
+        walk::<Self, R, P>(rt, table, place, slots, Call::Ceiling(key), pause)
+    }
 }
 
 /// Makes a call of any kind, by the function of its kind.
@@ -87,6 +102,7 @@ pub(crate) fn call_on<M: Running, R: Wait, P: Pause>(
         Call::Add(key) => M::add_on::<R, P>(rt, table, place, slots, key, pause),
         Call::Remove(key) => M::remove_on::<R, P>(rt, table, place, slots, key, pause),
         Call::Contains(key) => M::contains_on::<R, P>(rt, table, place, slots, key, pause),
+        Call::Ceiling(key) => M::ceiling_on::<R, P>(rt, table, place, slots, key, pause),
     }
 }
 

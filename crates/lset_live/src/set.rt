@@ -1,7 +1,7 @@
 //! A running set and its calls.
 ghost use Rattle.std.specs.Prelude.{◌≡◌, ◌≢◌, ◌+◌, ◌<◌, ◌≤◌, ℕ, List, [], ◌∷◌, length, IfOk, IfErr};
 ghost use Rattle.lset_words.specs.Words.{word_count};
-ghost use Rattle.lset_words.specs.declared.Call.TheVariants.{Add, Remove, Contains};
+ghost use Rattle.lset_words.specs.declared.Call.TheVariants.{Add, Remove, Contains, Ceiling};
 ghost use Rattle.lset_words.specs.declared.TheConstants.{MOST_QUOTA, MOST_THREADS};
 ghost use Rattle.lset_rule.specs.declared.view.Past.{Fresh};
 ghost use Rattle.lset_rule.specs.Views.{IsIdle};
@@ -138,6 +138,18 @@ impl<M: Running> LiveSet<M> {
         self.call(rt, seat, Call::Contains(key), &Spin::new())
     }
 
+    /// Answers the least key at or above this one, or that there is none. As `call` with `Spin`.
+    pub fn ceiling<R: Wait>(&self, rt: &R, seat: &mut Seat<M>, key: Key) -> Reply
+        requires { seat.old.set ≡ self.now }
+        ensures seat { (seat.new.set ≡ self.now) × (seat.new.held ≡ seat.old.held) }
+        ensures record { seat.new.past ≡ called seat.old.past (record { call = Ceiling key; reply = result }) }
+        ensures answered { IsAnswered M.table self.now.shape (thread_of seat.old.past) (Ceiling key) result
+            seat.old.events seat.new.events }
+        ensures explained { IsExplained M.table self.now.shape seat.new.events seat.new.past }
+    {
+        self.call(rt, seat, Call::Ceiling(key), &Spin::new())
+    }
+
     /// `into` takes `from` in: its record, the seats that it holds, and what it has seen. A call that follows is explained
     /// with all gathered calls before it.
     pub fn gather(&self, into: &mut Seat<M>, from: Seat<M>)
@@ -231,5 +243,5 @@ impl<M: RunningReads> LiveSet<M> {
 fn is_true(reply: Reply) -> bool
     ensures { result ≡ is_true reply }
 {
-    matches!(reply, Reply::True)
+    reply == Reply::True
 }

@@ -1,6 +1,6 @@
 //! What sessions ask of a running set.
 ghost use Rattle.std.specs.Prelude.{◌≡◌, ℕ};
-ghost use Rattle.lset_words.specs.declared.Call.TheVariants.{Add, Remove, Contains};
+ghost use Rattle.lset_words.specs.declared.Call.TheVariants.{Add, Remove, Contains, Ceiling};
 ghost use Rattle.lset_live.specs.Records.{Record, called};
 
 use crate::running::Running;
@@ -40,6 +40,12 @@ pub trait SetCalls {
         requires { is_of self.now seat.old }
         ensures record { record_of seat.new ≡ called (record_of seat.old) (record { call = Contains key; reply = result }) }
         ensures seat { is_of self.now seat.new × (held_by seat.new ≡ held_by seat.old) };
+
+    /// Answers the least key at or above this one, or that there is none.
+    fn ceiling<R: Wait>(&self, rt: &R, seat: &mut Self::Seat, key: Key) -> Reply
+        requires { is_of self.now seat.old }
+        ensures record { record_of seat.new ≡ called (record_of seat.old) (record { call = Ceiling key; reply = result }) }
+        ensures seat { is_of self.now seat.new × (held_by seat.new ≡ held_by seat.old) };
 }
 
 impl<M: Running> SetCalls for LiveSet<M> {
@@ -61,5 +67,9 @@ impl<M: Running> SetCalls for LiveSet<M> {
 
     fn contains<R: Wait>(&self, rt: &R, seat: &mut Seat<M>, key: Key) -> Reply {
         self.contains(rt, seat, key)
+    }
+
+    fn ceiling<R: Wait>(&self, rt: &R, seat: &mut Seat<M>, key: Key) -> Reply {
+        self.ceiling(rt, seat, key)
     }
 }

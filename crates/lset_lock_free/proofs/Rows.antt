@@ -2,7 +2,7 @@
 use Rattle.std.proofs.Common.{◌≡◌, ℕ, Bool, true, false, if◌then◌else◌, ◌==◌, refl, ap, ◌∙◌}
 use Rattle.std.specs.Prelude.{nat_lt}
 use Rattle.lset_words.specs.declared.Call.{Call}
-use Rattle.lset_words.specs.declared.Call.TheVariants.{Add, Remove, Contains}
+use Rattle.lset_words.specs.declared.Call.TheVariants.{Add, Remove, Contains, Ceiling}
 use Rattle.lset_words.specs.Words.{target}
 use Rattle.lset_steps.specs.declared.Local.{Local}
 use Rattle.lset_steps.specs.Rows.{decided}
@@ -13,7 +13,7 @@ use Rattle.lset_lock_free.specs.Rows.{LockFreeRows, decides}
 
 -- the decision of a call, by what it finds
 decides_by : (c : Call) (l : Local) (found room : Bool) (seen : ℕ) → (seen == target c) ≡ found → nat_lt l.used l.quota ≡ room
-    → decision_of (decided 5 8 0 c (seen == target c) (nat_lt l.used l.quota) l) ≡ decides c l seen
+    → decision_of (decided 5 8 0 c (seen == target c) (nat_lt l.used l.quota) seen l) ≡ decides c l seen
 decides_by (Add k) l true room seen e f = rw e refl
 decides_by (Add k) l false true seen e f = rw (e, f) refl
 decides_by (Add k) l false false seen e f = rw (e, f) refl
@@ -21,6 +21,7 @@ decides_by (Remove k) l true room seen e f = rw e refl
 decides_by (Remove k) l false room seen e f = rw e refl
 decides_by (Contains k) l true room seen e f = rw e refl
 decides_by (Contains k) l false room seen e f = rw e refl
+decides_by (Ceiling k) l found room seen e f = refl
 
 walks_or_decides : (l : Local) (seen : ℕ) → at_key seen l
     ≡ (if nat_lt seen (target l.call) then continued (record l { pc = 2; pred = l.curr; curr = l.succ }) else decides l.call l seen)
@@ -36,6 +37,9 @@ reads = record {
   row_20 = λ l e. (rw e refl, λ seen. (rw e refl, rw e refl));
   row_21 = λ l e. (rw e refl, λ seen. (rw e refl, rw e refl));
   row_22 = λ l e. (rw e refl, λ seen. (rw e refl, rw e refl));
+  row_23 = λ l e. (rw e refl, λ seen. (rw e refl, rw e refl));
+  row_24 = λ l e. (rw e refl, λ seen. (rw e refl, rw e refl));
+  row_25 = λ l e. (rw e refl, λ seen. (rw e refl, rw e refl));
 }
 
 pub lock_free_rows : LockFreeRows lock_free

@@ -2,7 +2,7 @@
 use Rattle.std.specs.Prelude.{ℕ, ◌+◌, ◌*◌, ◌/◌, ◌%◌, Bool, true, false, if◌then◌else◌, Option, Some, None, ◌==◌, nat_lt}
 use Rattle.lset_words.specs.declared.Key.{Key}
 use Rattle.lset_words.specs.declared.Call.{Call}
-use Rattle.lset_words.specs.declared.Call.TheVariants.{Add, Remove, Contains}
+use Rattle.lset_words.specs.declared.Call.TheVariants.{Add, Remove, Contains, Ceiling}
 use Rattle.lset_words.specs.declared.Reply.{Reply}
 use Rattle.lset_words.specs.declared.Reply.TheVariants.{True, False, Full}
 use Rattle.lset_words.specs.Words.{key_index, link_index, key_of, target}
@@ -10,7 +10,7 @@ use Rattle.lset_steps.specs.declared.Local.{Local}
 use Rattle.lset_steps.specs.declared.Action.TheVariants.{Load, Store, Exchange}
 use Rattle.lset_steps.specs.declared.Fed.{Fed}
 use Rattle.lset_steps.specs.Steps.{Table}
-use Rattle.lset_steps.specs.Rows.{own_slot, goes_to}
+use Rattle.lset_steps.specs.Rows.{own_slot, goes_to, ceiling_at}
 use Rattle.lset_steps.specs.ReadRows.{continued, leaves_with}
 use Rattle.lset_steps.specs.RowLaws.{Does, HasReading, nothing}
 
@@ -30,6 +30,7 @@ decides (Add k) l seen =
     else answers Full l
 decides (Remove k) l seen = if seen == target (Remove k) then continued (goes_to 8 None l) else answers False l
 decides (Contains k) l seen = if seen == target (Contains k) then answers True l else answers False l
+decides (Ceiling k) l seen = answers (ceiling_at seen) l
 
 -- the change that an exchange of `old` tells where it succeeds: the key of the call is put in, or taken out
 abbrev pub tells_where : ℕ → Bool → Local → ℕ → Option (Key × Bool)

@@ -15,7 +15,7 @@ use Rattle.lset_history.proofs.OpenCalls.{last_number, number_after, length_bega
 use Rattle.lset_replay.specs.declared.places.OpenCall.{OpenCall}
 use Rattle.lset_replay.specs.declared.places.Place.{Place}
 use Rattle.lset_replay.specs.Trace.{Trace, open_call_at, place_at, number_of, fit, changed_at, settled, begun_on, changed_on, ended_on}
-use Rattle.lset_history.specs.Changes.{is_present}
+use Rattle.lset_history.specs.Changes.{is_present, IsBounded}
 use Rattle.lset_history.proofs.ChangeLaws.{all_upto_later}
 use Rattle.lset_replay.proofs.KeyChanges.{Tells, changes_by, quiet_keys}
 
@@ -45,6 +45,7 @@ pub record Follows (n q : ℕ) (log : Log) (contents : Contents) (counts : Count
   pub numbered : length s.places ≡ length (calls_at log k)
   pub upto : (j : ℕ) → All (λ x. x ≤ k) (s.changes j)
   pub keys : (j m : ℕ) → m ≤ k → Tells (is_present s.changes j m) (contents m j)
+  pub bounded : IsBounded s.changes
   pub idle : (t : ℕ) → t < n → is_open log t k ≡ false → open_call_at s.under_way t ≡ None
   pub busy : (t : ℕ) → t < n → is_open log t k ≡ true
       → (o : OpenCall) × (open_call_at s.under_way t ≡ Some o) × IsWatched log contents counts k t o
@@ -260,6 +261,7 @@ module _ (n q : ℕ) (log : Log) (contents : Contents) (counts : Counts) (k t : 
     numbered = begun_numbered;
     upto = λ j. all_upto_later (s.changes j) k (suc k) (omega arith) (f.upto j);
     keys = begun_keys;
+    bounded = f.bounded;
     idle = begun_idle;
     busy = begun_busy;
     placed = begun_placed;

@@ -1,11 +1,11 @@
 -- The noted changes tell at each moment which keys are in the set, from moment to moment.
-use Rattle.std.proofs.Common.{◌≡◌, ◌≢◌, ℕ, suc, ◌≤◌, ◌⊎◌, inl, inr, Bool, true, false, not, List, sym, refl, subst, ap, ◌∙◌, arith}
+use Rattle.std.proofs.Common.{◌≡◌, ◌≢◌, ℕ, suc, ◌<◌, ◌≤◌, ◌^◌, [], ◌∷◌, ◌++◌, ◌⊎◌, inl, inr, Bool, true, false, not, List, sym, refl, subst, ap, ◌∙◌, arith}
 use Rattle.std.specs.Prelude.{All, Option, Some, None}
 use Rattle.lset_words.specs.declared.Key.{Key}
 use Rattle.lset_words.specs.Log.{Change}
 use Rattle.lset_words.specs.Account.{Contents, Changes}
-use Rattle.lset_words.proofs.Numbers.{same_or_not}
-use Rattle.lset_history.specs.Changes.{is_present, is_present_now, with_change}
+use Rattle.lset_words.proofs.Numbers.{same_or_not, if_other}
+use Rattle.lset_history.specs.Changes.{is_present, is_present_now, with_change, IsBounded}
 use Rattle.lset_history.proofs.ChangeLaws.{others_stay, earlier_stays, turns_there, present_past, all_below, all_upto_later, all_upto_change}
 use Rattle.lset_replay.specs.Trace.{MayChange}
 
@@ -86,6 +86,16 @@ module _ (contents : Contents) (k : ℕ) (changes : ℕ → List ℕ) (upto : (j
   pub changed_upto : (ch : Option Change) (j : ℕ) → All (λ x. x ≤ suc k) (changes_by ch (suc k) changes j)
   changed_upto None j = all_upto_later (changes j) k (suc k) (omega arith) (upto j)
   changed_upto (Some (x, present)) j = all_upto_change changes x.0 k (suc k) j (upto j) (omega arith)
+
+  pub changed_bounded : (ch : Option Change) → Changes ch (contents k) (contents (suc k)) → ((j m : ℕ) → m ≤ suc k → contents m j → j < 2 ^ 32)
+      → IsBounded changes → IsBounded (changes_by ch (suc k) changes)
+  changed_bounded None c low b = b
+  changed_bounded (Some (x, true)) c low b = λ j high.
+      let l : x.0 < 2 ^ 32 = low x.0 (suc k) (omega arith) c.1 in
+      if_other j x.0 (λ e. omega arith) (changes j ++ suc k ∷ []) (changes j) ∙ b j high
+  changed_bounded (Some (x, false)) c low b = λ j high.
+      let l : x.0 < 2 ^ 32 = low x.0 k (omega arith) c.0 in
+      if_other j x.0 (λ e. omega arith) (changes j ++ suc k ∷ []) (changes j) ∙ b j high
 
   pub may_change : (ch : Option Change) → Changes ch (contents k) (contents (suc k)) → MayChange changes (suc k) ch
   may_change None c = tt

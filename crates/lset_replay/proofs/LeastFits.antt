@@ -1,5 +1,5 @@
 -- The least moment that the reply of a call without a change fits is the first at which its key is there, or is not.
-use Rattle.std.proofs.Common.{◌≡◌, ℕ, List, true, false, ◌<◌, ◌≤◌, sym, refl, subst, ◌∙◌, arith}
+use Rattle.std.proofs.Common.{◌≡◌, ℕ, List, true, false, ◌+◌, ◌<◌, ◌≤◌, sym, refl, subst, ◌∙◌, arith}
 use Rattle.std.specs.Prelude.{Option, Some, None}
 use Rattle.lset_words.specs.declared.Call.{Call}
 use Rattle.lset_words.specs.declared.Call.TheVariants as call
@@ -7,10 +7,13 @@ use Rattle.lset_words.specs.declared.Reply.{Reply}
 use Rattle.lset_words.specs.declared.Reply.TheVariants as reply
 use Rattle.lset_words.specs.Words.{key_of}
 use Rattle.lset_words.specs.Log.{TracedCall}
-use Rattle.lset_words.specs.Account.{Contents, Counts, Fits, FitsSometime}
+use Rattle.lset_words.specs.Account.{Contents, Counts, Fits, FitsSometime, IsCeiling}
 use Rattle.lset_words.specs.Placement.{IsLeastFit}
-use Rattle.lset_history.specs.Changes.{IsFirst, is_present}
-use Rattle.lset_replay.specs.Trace.{needs_key}
+use Rattle.lset_history.specs.Changes.{IsFirst, is_present, IsBounded}
+use Rattle.lset_history.proofs.Firsts.{first_passing, first_passing_is}
+use Rattle.lset_history.proofs.CeilingTests.{has_ceiling, tested, passes_test, ceiling_by}
+use Rattle.lset_words.specs.declared.Key.{Key}
+use Rattle.lset_replay.specs.Trace.{needs_key, found_in, fit_by}
 use Rattle.lset_replay.proofs.KeyChanges.{Tells, told_yes, told_no}
 
 -- the first moment of a call from `first` to `last` at which F holds
@@ -19,6 +22,14 @@ pub record LeastAt (F : ℕ → Type 0) (first last moment : ℕ) : Type 0 where
   pub upto : moment ≤ last
   pub holds : F moment
   pub least : (m : ℕ) → first ≤ m → m < moment → F m → ⊥
+
+-- of every call but a ceiling, by its key alone
+pub plain_fit : (changes : ℕ → List ℕ) (c : Call) (r : Reply) (first more : ℕ) → ((k : Key) → c ≡ call.Ceiling k → ⊥)
+    → fit_by changes c r first more ≡ first_passing (needs_key c r) (λ m. is_present changes (key_of c).0 m) first more
+plain_fit changes (call.Add k) r first more n = refl
+plain_fit changes (call.Remove k) r first more n = refl
+plain_fit changes (call.Contains k) r first more n = refl
+plain_fit changes (call.Ceiling k) r first more n = absurd (n k refl)
 
 module _ (P F : ℕ → Type 0) (first last : ℕ) (to : (m : ℕ) → first ≤ m → m ≤ last → F m → P m) (back :
     (m : ℕ) → first ≤ m → m ≤ last → P m → F m) where
@@ -40,35 +51,80 @@ module _ (q : ℕ) (contents : Contents) (counts : Counts) (first last t : ℕ) 
   abbrev pub FitsAt : Call → Reply → ℕ → Type 0
   FitsAt c r m = Fits q (contents m) (counts m t) c r
 
-  pub fit_least : (changes : ℕ → List ℕ) (c : Call) (r : Reply) (o : Option ℕ)
-      → ((m : ℕ) → m ≤ last → Tells (is_present changes (key_of c).0 m) (contents m (key_of c).0))
-      → IsFirst (λ m. is_present changes (key_of c).0 m ≡ needs_key c r) first last o
+  -- what a moment has to show for a reply of a call that changes nothing
+  abbrev pub Passes : (ℕ → List ℕ) → Call → Reply → ℕ → Type 0
+  Passes changes (call.Add k) r m = is_present changes k.0 m ≡ needs_key (call.Add k) r
+  Passes changes (call.Remove k) r m = is_present changes k.0 m ≡ needs_key (call.Remove k) r
+  Passes changes (call.Contains k) r m = is_present changes k.0 m ≡ needs_key (call.Contains k) r
+  Passes changes (call.Ceiling k) r m = has_ceiling changes k.0 (found_in r) m ≡ true
+
+  -- what the function finds is the first such moment
+  pub fit_is_first : (changes : ℕ → List ℕ) (c : Call) (r : Reply) (more : ℕ) → last ≡ first + more
+      → IsFirst (λ m. Passes changes c r m) first last (fit_by changes c r first more)
+  fit_is_first changes (call.Add k) r more e = first_passing_is (needs_key (call.Add k) r) (λ m. is_present changes k.0 m) first more last e
+  fit_is_first changes (call.Remove k) r more e = first_passing_is (needs_key (call.Remove k) r) (λ m. is_present changes k.0 m) first more last e
+  fit_is_first changes (call.Contains k) r more e =
+      first_passing_is (needs_key (call.Contains k) r) (λ m. is_present changes k.0 m) first more last e
+  fit_is_first changes (call.Ceiling k) r more e = first_passing_is true (has_ceiling changes k.0 (found_in r)) first more last e
+
+  -- a ceiling, by all keys at once
+  ceiling_least : (changes : ℕ → List ℕ) (k : Key) (found : Option ℕ) (r : Reply) (o : Option ℕ)
+      → ((m : ℕ) → FitsAt (call.Ceiling k) r m → IsCeiling (contents m) k.0 found)
+      → ((m : ℕ) → IsCeiling (contents m) k.0 found → FitsAt (call.Ceiling k) r m) → IsBounded changes
+      → ((j m : ℕ) → m ≤ last → Tells (is_present changes j m) (contents m j))
+      → IsFirst (λ m. has_ceiling changes k.0 found m ≡ true) first last o
+      → (m : ℕ) → first ≤ m → m ≤ last → FitsAt (call.Ceiling k) r m
+      → (i : ℕ) × (o ≡ Some i) × LeastAt (FitsAt (call.Ceiling k) r) first last i
+  ceiling_least changes k found r o to back bounded keys h =
+      least_first (λ m. has_ceiling changes k.0 found m ≡ true) (FitsAt (call.Ceiling k) r) first last
+      (λ m x y g. passes_test changes bounded k.0 found m (ceiling_by (contents m) (λ j. is_present changes j m ≡ true) k.0 found
+      (λ j c. told_yes (is_present changes j m) (keys j m y) c) (λ j p. (keys j m y).0 p) (to m g)))
+      (λ m x y g. back m (ceiling_by (λ j. is_present changes j m ≡ true) (contents m) k.0 found
+      (λ j p. (keys j m y).0 p) (λ j c. told_yes (is_present changes j m) (keys j m y) c) (tested changes bounded k.0 found m g)))
+      o h
+
+  pub fit_least : (changes : ℕ → List ℕ) (c : Call) (r : Reply) (o : Option ℕ) → IsBounded changes
+      → ((j m : ℕ) → m ≤ last → Tells (is_present changes j m) (contents m j))
+      → IsFirst (λ m. Passes changes c r m) first last o
       → ((m : ℕ) → first ≤ m → m ≤ last → counts m t ≡ counts last t)
       → FitsSometime q contents counts first last t c r → (k : ℕ) × (o ≡ Some k) × LeastAt (FitsAt c r) first last k
-  fit_least changes (call.Add k) reply.True o keys h steady f = absurd (f.fits)
-  fit_least changes (call.Add k) reply.False o keys h steady f =
+  fit_least changes (call.Add k) reply.True o bounded keys h steady f = absurd (f.fits)
+  fit_least changes (call.Add k) reply.False o bounded keys h steady f =
       least_first (λ m. is_present changes k.0 m ≡ true) (FitsAt (call.Add k) reply.False) first last
-      (λ m x y g. told_yes (is_present changes k.0 m) (keys m y) g)
-      (λ m x y g. (keys m y).0 g) o h f.moment f.from f.upto f.fits
-  fit_least changes (call.Add k) reply.Full o keys h steady f =
+      (λ m x y g. told_yes (is_present changes k.0 m) (keys k.0 m y) g)
+      (λ m x y g. (keys k.0 m y).0 g) o h f.moment f.from f.upto f.fits
+  fit_least changes (call.Add k) reply.Full o bounded keys h steady f =
       least_first (λ m. is_present changes k.0 m ≡ false) (FitsAt (call.Add k) reply.Full) first last
-      (λ m x y g. told_no (is_present changes k.0 m) (keys m y) g.0)
-      (λ m x y g. ((keys m y).1 g, steady m x y ∙ sym (steady f.moment f.from f.upto) ∙ f.fits.1)) o h f.moment f.from f.upto f.fits
-  fit_least changes (call.Remove k) reply.True o keys h steady f = absurd (f.fits)
-  fit_least changes (call.Remove k) reply.False o keys h steady f =
+      (λ m x y g. told_no (is_present changes k.0 m) (keys k.0 m y) g.0)
+      (λ m x y g. ((keys k.0 m y).1 g, steady m x y ∙ sym (steady f.moment f.from f.upto) ∙ f.fits.1)) o h f.moment f.from f.upto f.fits
+  fit_least changes (call.Remove k) reply.True o bounded keys h steady f = absurd (f.fits)
+  fit_least changes (call.Remove k) reply.False o bounded keys h steady f =
       least_first (λ m. is_present changes k.0 m ≡ false) (FitsAt (call.Remove k) reply.False) first last
-      (λ m x y g. told_no (is_present changes k.0 m) (keys m y) g)
-      (λ m x y g. (keys m y).1 g) o h f.moment f.from f.upto f.fits
-  fit_least changes (call.Remove k) reply.Full o keys h steady f = absurd (f.fits)
-  fit_least changes (call.Contains k) reply.True o keys h steady f =
+      (λ m x y g. told_no (is_present changes k.0 m) (keys k.0 m y) g)
+      (λ m x y g. (keys k.0 m y).1 g) o h f.moment f.from f.upto f.fits
+  fit_least changes (call.Remove k) reply.Full o bounded keys h steady f = absurd (f.fits)
+  fit_least changes (call.Contains k) reply.True o bounded keys h steady f =
       least_first (λ m. is_present changes k.0 m ≡ true) (FitsAt (call.Contains k) reply.True) first last
-      (λ m x y g. told_yes (is_present changes k.0 m) (keys m y) g)
-      (λ m x y g. (keys m y).0 g) o h f.moment f.from f.upto f.fits
-  fit_least changes (call.Contains k) reply.False o keys h steady f =
+      (λ m x y g. told_yes (is_present changes k.0 m) (keys k.0 m y) g)
+      (λ m x y g. (keys k.0 m y).0 g) o h f.moment f.from f.upto f.fits
+  fit_least changes (call.Contains k) reply.False o bounded keys h steady f =
       least_first (λ m. is_present changes k.0 m ≡ false) (FitsAt (call.Contains k) reply.False) first last
-      (λ m x y g. told_no (is_present changes k.0 m) (keys m y) g)
-      (λ m x y g. (keys m y).1 g) o h f.moment f.from f.upto f.fits
-  fit_least changes (call.Contains k) reply.Full o keys h steady f = absurd (f.fits)
+      (λ m x y g. told_no (is_present changes k.0 m) (keys k.0 m y) g)
+      (λ m x y g. (keys k.0 m y).1 g) o h f.moment f.from f.upto f.fits
+  fit_least changes (call.Contains k) reply.Full o bounded keys h steady f = absurd (f.fits)
+  fit_least changes (call.Add k) (reply.At x) o bounded keys h steady f = absurd (f.fits)
+  fit_least changes (call.Add k) reply.Nothing o bounded keys h steady f = absurd (f.fits)
+  fit_least changes (call.Remove k) (reply.At x) o bounded keys h steady f = absurd (f.fits)
+  fit_least changes (call.Remove k) reply.Nothing o bounded keys h steady f = absurd (f.fits)
+  fit_least changes (call.Contains k) (reply.At x) o bounded keys h steady f = absurd (f.fits)
+  fit_least changes (call.Contains k) reply.Nothing o bounded keys h steady f = absurd (f.fits)
+  fit_least changes (call.Ceiling k) reply.True o bounded keys h steady f = absurd (f.fits)
+  fit_least changes (call.Ceiling k) reply.False o bounded keys h steady f = absurd (f.fits)
+  fit_least changes (call.Ceiling k) reply.Full o bounded keys h steady f = absurd (f.fits)
+  fit_least changes (call.Ceiling k) (reply.At x) o bounded keys h steady f = ceiling_least changes k (Some x.0) (reply.At x) o
+      (λ m e. e) (λ m e. e) bounded keys h f.moment f.from f.upto f.fits
+  fit_least changes (call.Ceiling k) reply.Nothing o bounded keys h steady f = ceiling_least changes k None reply.Nothing o
+      (λ m e. e) (λ m e. e) bounded keys h f.moment f.from f.upto f.fits
 
 -- as the place of a traced call
 pub least_of : (q : ℕ) (contents : Contents) (counts : Counts) (x : TracedCall) (first last t : ℕ) (c : Call) (r : Reply) (k : ℕ)

@@ -37,7 +37,7 @@ module _ (n q last : ℕ) (log : Log) (contents : Contents) (counts : Counts) (a
       → Follows n q log contents counts (suc k) (trace_after (suc k) e s)
   entered k l s (began t call) at en f = follows_beginning n q log contents counts k t call s at en f
   entered k l s (stepped t change reply) at en f = follows_step n q last log contents counts account k
-      (omega arith) t change reply s at en f
+      (omega arith) l t change reply s at en f
 
   pub follows : (k : ℕ) → k ≤ last → Follows n q log contents counts k (trace_at n log k)
   follows zero l = record {
@@ -46,6 +46,7 @@ module _ (n q last : ℕ) (log : Log) (contents : Contents) (counts : Counts) (a
     numbered = refl;
     upto = λ j. All-from_get_or (λ x. x ≤ 0) [] 0 (λ i below. absurd (omega arith));
     keys = λ j m b. ((λ e. absurd (cc)), (λ e c. account.empty j (let z : m ≡ 0 = omega arith in subst (λ y. contents y j) z c)));
+    bounded = λ j l. refl;
     idle = λ t m e. get_or-replicate n t None None m;
     busy = λ t m e. absurd (cc);
     placed = λ i m. absurd (omega arith);

@@ -16,12 +16,12 @@ use Rattle.lset_history.proofs.CallSteps.{run_of, calls_of}
 use Rattle.lset_history.proofs.OpenCalls.{OpenNumber, open_number, last_number, length_stepped, step_sets}
 use Rattle.lset_replay.specs.declared.places.OpenCall.{OpenCall}
 use Rattle.lset_replay.specs.declared.places.Place.{Place}
-use Rattle.lset_replay.specs.Trace.{Trace, open_call_at, place_at, number_of, fit, needs_key, changed_at, read_at, settled, changed_on, ended_on}
+use Rattle.lset_replay.specs.Trace.{Trace, open_call_at, place_at, number_of, fit, fit_by, changed_at, read_at, settled, changed_on, ended_on}
 use Rattle.lset_words.specs.Words.{key_of}
-use Rattle.lset_history.specs.Changes.{IsFirst, is_present}
+use Rattle.lset_history.specs.Changes.{IsFirst, is_present, IsBounded}
 use Rattle.lset_history.proofs.Firsts.{first_passing, first_passing_is}
-use Rattle.lset_replay.proofs.KeyChanges.{Tells, changes_by, changed_keys, changed_upto}
-use Rattle.lset_replay.proofs.LeastFits.{fit_least, least_of}
+use Rattle.lset_replay.proofs.KeyChanges.{Tells, changes_by, changed_keys, changed_upto, changed_bounded}
+use Rattle.lset_replay.proofs.LeastFits.{fit_least, least_of, Passes, fit_is_first}
 use Rattle.lset_replay.proofs.Following.{IsWatched, Follows, PlaceBy, PlaceOf, change_place, end_place, changed_calls, changed_seats, changed_open, changed_changes, changed_count, changed_other, changed_here, ended_seats, ended_others, ended_seat, ended_count, ended_other, ended_here, ended_changes, last_number_is, calls_are, pick, pick_not, watched_next}
 
 -- the place of the call that steps
@@ -83,7 +83,7 @@ or_nothing : (b : Bool) → b ≡ false → (b || false) ≡ false
 or_nothing b e = rw e refl
 
 module _ (n q last : ℕ) (log : Log) (contents : Contents) (counts : Counts) (account : Account n q last log contents counts)
-    (k : ℕ) (below : k ≤ last)
+    (k : ℕ) (below : k ≤ last) (next : suc k ≤ last)
     (t : ℕ) (ch : Option Change) (r : Option Reply) (s : Trace)
     (at : log k ≡ stepped t ch r) (en : Enters n q log contents counts k (stepped t ch r))
     (f : Follows n q log contents counts k s) where
@@ -158,6 +158,10 @@ module _ (n q last : ℕ) (log : Log) (contents : Contents) (counts : Counts) (a
   step_upto j = subst (λ c. All (λ x. x ≤ suc k) (c j)) (sym kept_changes)
       (changed_upto contents k s.changes f.upto f.keys ch j)
 
+  step_bounded : IsBounded kept.changes
+  step_bounded = subst IsBounded (sym kept_changes) (changed_bounded contents k s.changes f.upto f.keys ch en.content
+      (λ j m l c. account.low m j (omega arith) c) f.bounded)
+
   in_seats : (u : ℕ) → u < n → u < length s.under_way
   in_seats u l = let b : length s.under_way ≡ n = f.seats in omega arith
 
@@ -228,12 +232,11 @@ module _ (n q last : ℕ) (log : Log) (contents : Contents) (counts : Counts) (a
       (subst (λ z. FitsSometime q contents counts (begun_at log t k) (suc k) t z a) (sym oc) sometime) in
       let since : begun_at log t (suc k) ≤ suc k = watched_here.since in
       let w = fit_least q contents counts (begun_at log t (suc k)) (suc k) t kept.changes watching.call a
-      (fit kept.changes watching a (suc k)) (λ m l. step_keys (key_of watching.call).0 m l)
-      (subst (λ z. IsFirst (λ m. is_present kept.changes (key_of watching.call).0 m ≡ needs_key watching.call a) z (suc k)
-      (first_passing (needs_key watching.call a) (λ m. is_present kept.changes (key_of watching.call).0 m) watching.begun
-      (suc k - watching.begun))) watched_here.begun_is
-      (first_passing_is (needs_key watching.call a) (λ m. is_present kept.changes (key_of watching.call).0 m) watching.begun
-      (suc k - watching.begun) (suc k) (let e : watching.begun ≡ begun_at log t (suc k) = watched_here.begun_is in omega arith)))
+      (fit kept.changes watching a (suc k)) step_bounded step_keys
+      (subst (λ z. IsFirst (λ m. Passes q contents counts z (suc k) t kept.changes watching.call a m) z (suc k)
+      (fit_by kept.changes watching.call a watching.begun (suc k - watching.begun))) watched_here.begun_is
+      (fit_is_first q contents counts watching.begun (suc k) t kept.changes watching.call a (suc k - watching.begun)
+      (let e : watching.begun ≡ begun_at log t (suc k) = watched_here.begun_is in omega arith)))
       (watched_here.steady still) sometime' in (
         w.0,
         w.1,
@@ -287,6 +290,7 @@ module _ (n q last : ℕ) (log : Log) (contents : Contents) (counts : Counts) (a
     numbered = ended_count (suc k) t r changed ∙ changed_count (suc k) t ch s ∙ f.numbered ∙ sym (length_stepped log k t ch r at);
     upto = step_upto;
     keys = step_keys;
+    bounded = step_bounded;
     idle = λ u l e. idle_by r u l (sym (open_is log k (stepped t ch r) at u) ∙ e);
     busy = step_busy;
     placed = step_placed;

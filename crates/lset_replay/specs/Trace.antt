@@ -12,6 +12,7 @@ use Rattle.lset_words.specs.Log.Entry.{began, stepped}
 use Rattle.lset_history.specs.History.{HistoryValue, MayBegin, MayEnd, ended_with}
 use Rattle.lset_history.specs.Changes.{moments_of, is_present, is_present_now, with_change, IsLaterThanAll}
 use Rattle.lset_history.proofs.Firsts.{first_passing}
+use Rattle.lset_history.proofs.CeilingTests.{has_ceiling}
 use Rattle.lset_steps.specs.declared.Event.{Event}
 use Rattle.lset_steps.specs.declared.Event.TheVariants as event
 use Rattle.lset_steps.specs.declared.Told.{Told}
@@ -23,14 +24,38 @@ use Rattle.lset_replay.specs.declared.recorder.Recorder.{Recorder}
 
 -- Whether a reply of a call that changes nothing fits where the call's key is in the set, or else where it is not
 abbrev pub needs_key : Call → Reply → Bool
+needs_key (call.Add k) reply.True = false
 needs_key (call.Add k) reply.False = true
+needs_key (call.Add k) reply.Full = false
+needs_key (call.Add k) (reply.At x) = false
+needs_key (call.Add k) reply.Nothing = false
+needs_key (call.Remove k) r = false
 needs_key (call.Contains k) reply.True = true
-needs_key _ _ = false
+needs_key (call.Contains k) reply.False = false
+needs_key (call.Contains k) reply.Full = false
+needs_key (call.Contains k) (reply.At x) = false
+needs_key (call.Contains k) reply.Nothing = false
+needs_key (call.Ceiling k) r = false
+
+-- the key that a ceiling answers, or none
+abbrev pub found_in : Reply → Option ℕ
+found_in (reply.At k) = Some k.0
+found_in reply.Nothing = None
+found_in reply.True = None
+found_in reply.False = None
+found_in reply.Full = None
+
+-- the first moment from one on, among itself and so many after it, at which a call with that reply finds the set as it has to be
+abbrev pub fit_by : (ℕ → List ℕ) → Call → Reply → ℕ → ℕ → Option ℕ
+fit_by changes (call.Add k) r first more = first_passing (needs_key (call.Add k) r) (λ m. is_present changes k.0 m) first more
+fit_by changes (call.Remove k) r first more = first_passing (needs_key (call.Remove k) r) (λ m. is_present changes k.0 m) first more
+fit_by changes (call.Contains k) r first more =
+    first_passing (needs_key (call.Contains k) r) (λ m. is_present changes k.0 m) first more
+fit_by changes (call.Ceiling k) r first more = first_passing true (has_ceiling changes k.0 (found_in r)) first more
 
 -- the first moment of the call, up to a last one, that its reply fits, where the call changes nothing
 abbrev pub fit : (ℕ → List ℕ) → OpenCall → Reply → ℕ → Option ℕ
-fit changes o reply last =
-    first_passing (needs_key o.call reply) (λ m. is_present changes (key_of o.call).0 m) o.begun (last - o.begun)
+fit changes o reply last = fit_by changes o.call reply o.begun (last - o.begun)
 
 -- ---- places
 

@@ -1,5 +1,5 @@
 ghost use Rattle.std.specs.Prelude.{◌≡◌};
-ghost use Rattle.lset_replay.specs.Trace.{needs_key, changed_at, read_at};
+ghost use Rattle.lset_replay.specs.Trace.{needs_key, found_in, changed_at, read_at};
 
 use lset_words::{Call, Reply};
 
@@ -16,10 +16,21 @@ pub struct OpenCall {
 pub fn needs_key(call: Call, reply: Reply) -> bool
     ensures { result ≡ needs_key call reply }
 {
-    matches!(
-        (call, reply),
-        (Call::Add(_), Reply::False) | (Call::Contains(_), Reply::True)
-    )
+    match call {
+        Call::Add(_) => reply == Reply::False,
+        Call::Contains(_) => reply == Reply::True,
+        Call::Remove(_) | Call::Ceiling(_) => false,
+    }
+}
+
+/// The key that a `ceiling` answers, or that there is none.
+pub fn found_in(reply: Reply) -> Option<u32>
+    ensures { result ≡ found_in reply }
+{
+    match reply {
+        Reply::At(key) => Some(key.0),
+        Reply::Nothing | Reply::True | Reply::False | Reply::Full => None,
+    }
 }
 
 /// Where a call stands in the order: its moment, its reply there, and whether it changes the set there.

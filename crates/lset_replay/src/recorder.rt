@@ -19,7 +19,7 @@ ghost use Rattle.lset_replay.specs.Trace.{
   MayFollow,
 };
 
-use crate::places::{OpenCall, Place, needs_key};
+use crate::places::{OpenCall, Place, found_in, needs_key};
 use lset_history::{Changes, History, HistoryFault};
 use lset_steps::{Event, Told};
 use lset_words::{Call, Key, Reply};
@@ -65,13 +65,17 @@ impl Recorder {
         requires { made.begun ≤ last }
         ensures { result ≡ fit (moments_of self.now.changes) made reply last }
     {
-        let (first, _looked) = self.changes.first(
-            made.call.key().0,
-            needs_key(made.call, reply),
-            made.begun,
-            last,
-        );
-        first
+        match made.call {
+            Call::Add(key) | Call::Remove(key) | Call::Contains(key) => {
+                let needed = needs_key(made.call, reply);
+                let (first, _looked) = self.changes.first(key.0, needed, made.begun, last);
+                first
+            }
+            Call::Ceiling(key) => {
+                let found = found_in(reply);
+                self.changes.first_ceiling(key.0, found, made.begun, last)
+            }
+        }
     }
 
     fn begin(&mut self, thread: u32, call: Call, moment: u32) -> Result<(), AllocError>

@@ -1,8 +1,8 @@
 ghost use Rattle.std.specs.Prelude.{◌≡◌, ◌≤◌, IfOk};
 ghost use Rattle.lset_schedule.specs.declared.TheConstants.{MOST_EVENTS};
 ghost use Rattle.std.specs.List.{sum_by};
-ghost use Rattle.lset_schedule.specs.Plan.{IsSchedule, view, event_count};
-ghost use Rattle.lset_replay.specs.Events.{events_from, first_event_line};
+ghost use Rattle.lset_schedule.specs.Plan.{view, event_count};
+ghost use Rattle.lset_replay.specs.Events.{IsInLimits, events_from, first_event_line};
 ghost use Rattle.lset_replay.specs.Follows.{HasFollowed, FollowsAll};
 ghost use Rattle.lset_lists.specs.Tables.{table_of};
 ghost use Rattle.lset_replay.specs.Reports.{Replays, IsExplained, fault_at};
@@ -61,7 +61,7 @@ fn follow_all<M: Machine>(
 
 /// Replays a schedule on the list of the machine `M`.
 fn replay_on<M: Machine>(alloc: Global, schedule: &Schedule) -> Result<PlacedReport, ReplayFault>
-    requires { IsSchedule (view schedule.now) }
+    requires { IsInLimits (view schedule.now) }
     ensures replays { ReplaysWithPoints M.table (view schedule.now) result }
     ensures explained { IfOk result (λ r. IsExplained (report.view r.report)) }
 {
@@ -97,7 +97,7 @@ struct Replaying<'a> {
 impl Task for Replaying<'_> {
     type Out = Result<PlacedReport, ReplayFault>;
 
-    ghost may = { λ task kind. IsSchedule (view task.schedule.now) };
+    ghost may = { λ task kind. IsInLimits (view task.schedule.now) };
 
     ghost done = { λ task table result. ReplaysWithPoints table (view task.schedule.now) result
         × IfOk result (λ r. IsExplained (report.view r.report)) };
@@ -108,7 +108,8 @@ impl Task for Replaying<'_> {
 }
 
 /// Replays a schedule on the list of its kind, one event after another. The schedule is within its limits, as
-/// what `read_schedule` gives: 1 to 64 threads, a quota of 0 to 16,384, and at most 1,000,000 events.
+/// what `read_schedule` gives: 1 to 64 threads, a quota of 0 to 16,384, and at most 1,000,000 events. Its calls may be
+/// ceilings too, which no text of a schedule has.
 ///
 /// It is refused at the first event that is not enabled, with the number of its line: `NoThread` where there is no such
 /// thread, `Busy` where a thread begins a call and has one open, `Idle` where a thread makes a step and has no call open.
@@ -116,7 +117,7 @@ impl Task for Replaying<'_> {
 /// also while it is open, and each other ended call at its least moment that its reply fits. (Herlihy and
 /// Wing's linearizability; the schedules are this project's own.)
 pub fn replay(alloc: Global, schedule: &Schedule) -> Result<Report, ReplayFault>
-    requires { IsSchedule (view schedule.now) }
+    requires { IsInLimits (view schedule.now) }
     ensures replays { Replays (table_of schedule.now.kind) (view schedule.now) result }
     ensures explained { IfOk result (λ r. IsExplained (report.view r)) }
 {
@@ -129,7 +130,7 @@ pub fn replay(alloc: Global, schedule: &Schedule) -> Result<Report, ReplayFault>
 /// beginning to its end, or to the last moment of the run where it is open. The schedule is within its limits, as
 /// what `read_schedule` gives. (Herlihy and Wing's linearization points.)
 pub fn replay_with_points(alloc: Global, schedule: &Schedule) -> Result<PlacedReport, ReplayFault>
-    requires { IsSchedule (view schedule.now) }
+    requires { IsInLimits (view schedule.now) }
     ensures replays { ReplaysWithPoints (table_of schedule.now.kind) (view schedule.now) result }
     ensures explained { IfOk result (λ r. IsExplained (report.view r.report)) }
 {

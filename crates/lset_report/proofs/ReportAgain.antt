@@ -18,6 +18,8 @@ use Rattle.lset_text.specs.Headers.{header_lines, header_of}
 use Rattle.lset_text.proofs.PartLaws.{Lacks-from_test, cut_lines}
 use Rattle.lset_text.proofs.ReadingLaws.{ok_is}
 use Rattle.lset_text.proofs.HeaderLaws.{header_again, header_lacks}
+use Rattle.lset_text.specs.Spellings.{HasReply}
+use Rattle.lset_text.specs.declared.words.Version.TheVariants.{One}
 use Rattle.lset_report.specs.declared.report.TheConstants.{MOST_CALLS, MOST_PLACES, MOST_KEYS}
 use Rattle.lset_report.specs.declared.reading.lines.Line.{Line}
 use Rattle.lset_report.specs.declared.reading.lines.Line.TheVariants as told
@@ -71,14 +73,14 @@ value h cs ps ks = record {
 
 end_line : (o : Option (ℕ × Reply)) (b : ℕ) → IfSome o (λ (e : ℕ × Reply). b < e.0) → IsEnd o → IsEndLine o
 end_line None b later h = tt
-end_line (Some e) b later h = (omega arith, h)
+end_line (Some e) b later h = (omega arith, h.0, h.1)
 
 call_is_line : (h : Header) (cs : List CallRecord) (x : CallRecord) → h.threads ≤ 64 → length cs < MOST_CALLS
     → MayFollow h.threads cs x → IsCall x
     → IsLine (told.Call (length cs) x)
 call_is_line h cs x few long may is =
     let low = may.of_a_thread in
-    (omega arith, omega arith, is.1, may.counted, is.0, end_line x.ended x.begun may.ends_later is.2)
+    (omega arith, omega arith, is.1, may.counted, is.0, end_line x.ended x.begun may.ends_later is.2, is.3)
 
 some_after : {X : Type 0} (xs ys : List X) → 0 < length ys → 0 < length (xs ++ ys)
 some_after xs ys some = let long = length-append xs ys in omega arith
@@ -117,7 +119,7 @@ calls_again h q cs (x ∷ xs) tail line few some long history are rest =
 
 places_again : (h : Header) (q : ReportValue) (cs : List CallRecord) (ps xs : List Placed) (tail : List (List ℕ)) (line : ℕ)
     (s : Section)
-    → 0 < length tail → takes_places s ≡ true → length (ps ++ xs) ≤ MOST_PLACES → AllByRecursion (λ (p : Placed). p.call < 2 ^ 32) xs
+    → 0 < length tail → takes_places s ≡ true → length (ps ++ xs) ≤ MOST_PLACES → AllByRecursion (λ (p : Placed). (p.call < 2 ^ 32) × HasReply One p.reply) xs
     → ((t : Section) → takes_places t ≡ true → ReadsAs t (value h cs (ps ++ xs) []) tail q)
     → report_from line s (value h cs ps []) (map place_line xs ++ tail) ≡ Ok q
 places_again h q cs ps [] tail line s some may long are rest =
@@ -211,7 +213,7 @@ calls_lack h cs (x ∷ xs) few long history are =
       subst (λ n. AllByRecursion (Lacks 10) (call_lines n xs)) one_more more,
     )
 
-places_lack : (xs : List Placed) → AllByRecursion (λ (p : Placed). p.call < 2 ^ 32) xs
+places_lack : (xs : List Placed) → AllByRecursion (λ (p : Placed). (p.call < 2 ^ 32) × HasReply One p.reply) xs
     → AllByRecursion (Lacks 10) (map place_line xs)
 places_lack [] are = tt
 places_lack (x ∷ xs) are = (line_free (told.Place x) are.0, places_lack xs are.1)

@@ -14,11 +14,12 @@ use Rattle.lset_words.specs.Words.{key_of}
 use Rattle.lset_text.specs.declared.words.CallWord.{CallWord}
 use Rattle.lset_text.specs.Parts.{cut_at, line_of, Lacks}
 use Rattle.lset_text.specs.Numbers.{number_in, max_number}
-use Rattle.lset_text.specs.Spellings.{call_text, call_word_text, call_word_of, word_of, with_key, reply_text, reply_of}
+use Rattle.lset_text.specs.Spellings.{call_text, call_word_text, call_word_in, word_of, with_key, reply_text, reply_in, HasWord, HasCall, HasReply}
+use Rattle.lset_text.specs.declared.words.Version.TheVariants.{One}
 use Rattle.lset_text.specs.Results.{◌>>=◌, or_fail}
 use Rattle.lset_text.proofs.PartLaws.{Lacks-below, line_lacks, cut_line, line_from_cut}
 use Rattle.lset_text.proofs.NumberLaws.{number_ok, number_again, decimal_lacks}
-use Rattle.lset_text.proofs.WordLaws.{same_bytes, call_word_ok, call_word_again, call_lacks, with_key-word_of, word_of-with_key, key_of-with_key, reply_ok}
+use Rattle.lset_text.proofs.WordLaws.{same_bytes, call_in_ok, call_in_again, call_lacks, with_key-word_of, word_of-with_key, key_of-with_key, reply_ok}
 use Rattle.lset_text.proofs.WordLaws.{reply_again, reply_lacks}
 use Rattle.lset_text.proofs.ReadingLaws.{bind_ok, or_fail_ok, ok_is}
 use Rattle.lset_report.specs.declared.reading.lines.Line.{Line}
@@ -46,13 +47,13 @@ line_text l = line_of (pieces_of l)
 
 abbrev pub IsEndLine : Option (ℕ × Reply) → Type 0
 IsEndLine None = Unit {0}
-IsEndLine (Some end) = (0 < end.0) × (end.0 < 2 ^ 32)
+IsEndLine (Some end) = (0 < end.0) × (end.0 < 2 ^ 32) × HasReply One end.1
 
 -- the numbers of a line are in range
 abbrev pub IsLine : Line → Type 0
 IsLine (told.Call n x) =
-    (n < 2 ^ 32) × (x.thread < 2 ^ 32) × ((key_of x.call).0 < 2 ^ 32) × (0 < x.begun) × (x.begun < 2 ^ 32) × IsEndLine x.ended
-IsLine (told.Place p) = p.call < 2 ^ 32
+    (n < 2 ^ 32) × (x.thread < 2 ^ 32) × ((key_of x.call).0 < 2 ^ 32) × (0 < x.begun) × (x.begun < 2 ^ 32) × IsEndLine x.ended × HasCall One x.call
+IsLine (told.Place p) = (p.call < 2 ^ 32) × HasReply One p.reply
 IsLine (told.Key k) = k < 2 ^ 32
 IsLine told.End = Unit {0}
 
@@ -159,16 +160,16 @@ open_ok : (s : Section) (i t a k b o : List ℕ) (l : Line) → takes_calls s �
     → AreOf s (codes "call" ∷ i ∷ t ∷ a ∷ k ∷ b ∷ o ∷ []) l
 unfolding open_of
 open_ok s i t a k b o l may is =
-    let w = bind_ok (or_fail wrong.Line (call_word_of a)) (open_from i t k b o) l is in
+    let w = bind_ok (or_fail wrong.Line (call_word_in One a)) (open_from i t k b o) l is in
     let test = test_ok (bytes_eq o (codes "open")) wrong.Line (begun_of w.0 i t k b >>= λ x. Ok (told.Call x.0 x.1)) l w.2 in
     let x = bind_ok (begun_of w.0 i t k b) (λ x. Ok (told.Call x.0 x.1)) l test.1 in
-    let word = call_word_ok a w.0 (or_fail_ok wrong.Line (call_word_of a) w.0 w.1) in
+    let word = call_in_ok One a w.0 (or_fail_ok wrong.Line (call_word_in One a) w.0 w.1) in
     let begun = begun_ok w.0 i t k b x.0 x.1 in
     let ends : o ∷ [] ≡ end_pieces None = ap (λ (z : List ℕ). z ∷ []) (same_bytes o (codes "open") test.0) in
     let same : record x.0.1 { ended = None } ≡ x.0.1 = again x.0.1 begun.not_ended in
     let m = begun.small in
     let one : AreOf s (codes "call" ∷ i ∷ t ∷ a ∷ k ∷ b ∷ o ∷ []) (told.Call x.0.0 (record x.0.1 { ended = None })) =
-    (call_are w.0 i t a k b (o ∷ []) x.0 None begun word ends, (m.0, m.1, m.2, m.3, m.4, tt), may) in
+    (call_are w.0 i t a k b (o ∷ []) x.0 None begun word.1 ends, (m.0, m.1, m.2, m.3, m.4, tt, subst (HasWord One) (sym begun.word_is) word.0), may) in
     subst (AreOf s (codes "call" ∷ i ∷ t ∷ a ∷ k ∷ b ∷ o ∷ []))
     (ap (λ (y : CallRecord). told.Call x.0.0 y) same ∙ ok_is (told.Call x.0.0 x.0.1) l x.2) one
   where
@@ -185,25 +186,25 @@ abbrev from_reply : List ℕ → List ℕ → List ℕ → List ℕ → List ℕ
 from_reply i t k b e w r = begun_of w i t k b >>= from_begun e r
 
 abbrev from_word : List ℕ → List ℕ → List ℕ → List ℕ → List ℕ → List ℕ → CallWord → Result Line ReportCause
-from_word i t k b e a w = or_fail wrong.Line (reply_of a) >>= from_reply i t k b e w
+from_word i t k b e a w = or_fail wrong.Line (reply_in One a) >>= from_reply i t k b e w
 
 ended_ok : (s : Section) (i t a k b e c : List ℕ) (l : Line) → takes_calls s ≡ true → ended_of i t a k b e c ≡ Ok l
     → AreOf s (codes "call" ∷ i ∷ t ∷ a ∷ k ∷ b ∷ e ∷ c ∷ []) l
 unfolding ended_of
 ended_ok s i t a k b e c l may is =
-    let w = bind_ok (or_fail wrong.Line (call_word_of a)) (from_word i t k b e c) l is in
-    let r = bind_ok (or_fail wrong.Line (reply_of c)) (from_reply i t k b e w.0) l w.2 in
+    let w = bind_ok (or_fail wrong.Line (call_word_in One a)) (from_word i t k b e c) l is in
+    let r = bind_ok (or_fail wrong.Line (reply_in One c)) (from_reply i t k b e w.0) l w.2 in
     let x = bind_ok (begun_of w.0 i t k b) (from_begun e r.0) l r.2 in
     let m = bind_ok (moment e) (λ m. Ok (ended_with r.0 x.0 m)) l x.2 in
-    let word = call_word_ok a w.0 (or_fail_ok wrong.Line (call_word_of a) w.0 w.1) in
-    let reply = reply_ok c r.0 (or_fail_ok wrong.Line (reply_of c) r.0 r.1) in
+    let word = call_in_ok One a w.0 (or_fail_ok wrong.Line (call_word_in One a) w.0 w.1) in
+    let reply = reply_ok One c r.0 (or_fail_ok wrong.Line (reply_in One c) r.0 r.1) in
     let begun = begun_ok w.0 i t k b x.0 x.1 in
     let end = number_told 1 max_number e m.0 (omega arith) m.1 in
-    let ends : e ∷ c ∷ [] ≡ end_pieces (Some (m.0, r.0)) = two e c (decimal m.0) (reply_text r.0) end.0 reply in
+    let ends : e ∷ c ∷ [] ≡ end_pieces (Some (m.0, r.0)) = two e c (decimal m.0) (reply_text r.0) end.0 reply.1 in
     let n = begun.small in
     subst (AreOf s (codes "call" ∷ i ∷ t ∷ a ∷ k ∷ b ∷ e ∷ c ∷ [])) (ok_is (ended_with r.0 x.0 m.0) l m.2) (
-      call_are w.0 i t a k b (e ∷ c ∷ []) x.0 (Some (m.0, r.0)) begun word ends,
-      (n.0, n.1, n.2, n.3, n.4, (omega (arith, end.1), omega (arith, end.2))),
+      call_are w.0 i t a k b (e ∷ c ∷ []) x.0 (Some (m.0, r.0)) begun word.1 ends,
+      (n.0, n.1, n.2, n.3, n.4, (omega (arith, end.1), omega (arith, end.2), reply.0), subst (HasWord One) (sym begun.word_is) word.0),
       may,
     )
 
@@ -224,16 +225,16 @@ place_ok : (s : Section) (a i c : List ℕ) (l : Line) → place_of s a i c ≡ 
 unfolding place_of
 place_ok s a i c l is =
     let test = test_ok (takes_places s && bytes_eq a (codes "place")) wrong.Line (or_fail wrong.Line
-    (reply_of c) >>= from_place i) l is in
+    (reply_in One c) >>= from_place i) l is in
     let parts = and_parts (takes_places s) (bytes_eq a (codes "place")) test.0 in
-    let r = bind_ok (or_fail wrong.Line (reply_of c)) (from_place i) l test.1 in
+    let r = bind_ok (or_fail wrong.Line (reply_in One c)) (from_place i) l test.1 in
     let n = bind_ok (any_number i) (λ n. Ok (told.Place (record { call = n; reply = r.0 }))) l r.2 in
     let number = number_told 0 max_number i n.0 (omega arith) n.1 in
-    let reply = reply_ok c r.0 (or_fail_ok wrong.Line (reply_of c) r.0 r.1) in
+    let reply = reply_ok One c r.0 (or_fail_ok wrong.Line (reply_in One c) r.0 r.1) in
     let p : Placed = record { call = n.0; reply = r.0 } in
     subst (AreOf s (a ∷ i ∷ c ∷ [])) (ok_is (told.Place p) l n.2) (
-      three a i c (codes "place") (decimal n.0) (reply_text r.0) (same_bytes a (codes "place") parts.1) number.0 reply,
-      omega (arith, number.2),
+      three a i c (codes "place") (decimal n.0) (reply_text r.0) (same_bytes a (codes "place") parts.1) number.0 reply.1,
+      (omega (arith, number.2), reply.0),
       parts.0,
     )
 
@@ -290,13 +291,13 @@ call_again : (s : Section) (n t b : ℕ) (c : CallMade) (o : Option (ℕ × Repl
     ≡ Ok (told.Call n (record { thread = t; call = c; begun = b; ended = o }))
 unfolding open_of ended_of
 call_again s n t b c None may h =
-    rw (may, call_word_again (word_of c), begun_again (word_of c) n t ((key_of c).0) b h.0 h.1 h.2 h.3 h.4)
+    rw (may, call_in_again One (word_of c) h.6, begun_again (word_of c) n t ((key_of c).0) b h.0 h.1 h.2 h.3 h.4)
     (ap (λ (d : CallMade). Ok (told.Call n (record { thread = t; call = d; begun = b; ended = None }))) (with_key-word_of c))
 call_again s n t b c (Some e) may h =
     rw (
       may,
-      call_word_again (word_of c),
-      reply_again e.1,
+      call_in_again One (word_of c) h.6,
+      reply_again One e.1 h.5.2,
       begun_again (word_of c) n t ((key_of c).0) b h.0 h.1 h.2 h.3 h.4,
       moment_again e.0 h.5.0 h.5.1,
     )
@@ -305,13 +306,13 @@ call_again s n t b c (Some e) may h =
 pieces_again : (s : Section) (l : Line) → takes s l ≡ true → IsLine l → line_of_pieces s (pieces_of l) ≡ Ok l
 unfolding place_of key_of_line
 pieces_again s (told.Call n x) may h = call_again s n x.thread x.begun x.call x.ended may h
-pieces_again s (told.Place p) may h = rw (may, reply_again p.reply, any_again p.call h) refl
+pieces_again s (told.Place p) may h = rw (may, reply_again One p.reply h.1, any_again p.call h.0) refl
 pieces_again s (told.Key k) may h = rw (may, any_again k h) refl
 pieces_again s told.End may h = rw may refl
 
 ends_lack : (byte : ℕ) (o : Option (ℕ × Reply)) → byte < 45 → IsEndLine o → AllByRecursion (Lacks byte) (end_pieces o)
 ends_lack byte None low h = (Lacks-below 45 byte (codes "open") low refl, tt)
-ends_lack byte (Some e) low h = (decimal_lacks byte e.0 (omega arith) (omega (arith, h.1)), (reply_lacks byte e.1 low, tt))
+ends_lack byte (Some e) low h = (decimal_lacks byte e.0 (omega arith) (omega (arith, h.1)), (reply_lacks byte One e.1 h.2 low, tt))
 
 pieces_lack : (byte : ℕ) (l : Line) → byte < 45 → IsLine l → AllByRecursion (Lacks byte) (pieces_of l)
 pieces_lack byte (told.Call n x) low h =
@@ -323,7 +324,7 @@ pieces_lack byte (told.Call n x) low h =
     (word, (number, (thread, (call_lacks byte x.call low, (key, (begun, ends_lack byte x.ended low h.5))))))
 pieces_lack byte (told.Place p) low h =
     let word = Lacks-below 45 byte (codes "place") low refl in
-    (word, (decimal_lacks byte p.call (omega arith) (omega (arith, h)), (reply_lacks byte p.reply low, tt)))
+    (word, (decimal_lacks byte p.call (omega arith) (omega (arith, h.0)), (reply_lacks byte One p.reply h.1 low, tt)))
 pieces_lack byte (told.Key k) low h =
     (Lacks-below 45 byte (codes "key") low refl, (decimal_lacks byte k (omega arith) (omega (arith, h)), tt))
 pieces_lack byte told.End low h = (Lacks-below 45 byte (codes "end") low refl, tt)

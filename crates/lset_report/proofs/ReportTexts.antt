@@ -16,6 +16,8 @@ use Rattle.lset_text.specs.Headers.{IsHeader, header_lines, header_of}
 use Rattle.lset_text.proofs.PartLaws.{text_from_lines}
 use Rattle.lset_text.proofs.ReadingLaws.{bind_ok, map_fault_ok, ok_is}
 use Rattle.lset_text.proofs.HeaderLaws.{header_ok}
+use Rattle.lset_text.specs.Spellings.{HasReply}
+use Rattle.lset_text.specs.declared.words.Version.TheVariants.{One}
 use Rattle.lset_report.specs.declared.reading.lines.Line.{Line}
 use Rattle.lset_report.specs.declared.reading.lines.Line.TheVariants as told
 use Rattle.lset_report.specs.declared.reading.lines.Section.{Section}
@@ -144,7 +146,7 @@ reaches_more s r told.End h may = tt
 -- and the report keeps its limits
 is_end : (o : Option (ℕ × Reply)) → IsEndLine o → IsEnd o
 is_end None h = tt
-is_end (Some e) h = h.1
+is_end (Some e) h = (h.1, h.2)
 
 length-one : {X : Type 0} (xs : List X) (x : X) → length (xs ++ x ∷ []) ≡ length xs + 1
 length-one xs x = length-append xs (x ∷ [])
@@ -153,7 +155,7 @@ report_more : (r : ReportValue) (l : Line) → IsReport r → IsLine l → IsGoo
 report_more r (told.Call n x) is line good = record {
   header = is.header;
   history = history_more r.history.threads r.history.calls x is.history good.2;
-  calls = all_join IsCall r.history.calls (x ∷ []) is.calls ((line.4, line.2, is_end x.ended line.5), tt);
+  calls = all_join IsCall r.history.calls (x ∷ []) is.calls ((line.4, line.2, is_end x.ended line.5, line.6), tt);
   places = is.places;
   keys = is.keys;
   few_calls = let long = length-one r.history.calls x in omega (arith, long, good.0);
@@ -164,7 +166,7 @@ report_more r (told.Place p) is line good = record {
   header = is.header;
   history = is.history;
   calls = is.calls;
-  places = all_join (λ (q : Placed). q.call < 2 ^ 32) r.order (p ∷ []) is.places (line, tt);
+  places = all_join (λ (q : Placed). (q.call < 2 ^ 32) × HasReply One q.reply) r.order (p ∷ []) is.places (line, tt);
   keys = is.keys;
   few_calls = is.few_calls;
   few_places = let long = length-one r.order p in omega (arith, long, good);

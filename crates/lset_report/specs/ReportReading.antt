@@ -16,7 +16,8 @@ use Rattle.lset_text.specs.declared.headers.HeaderCause.TheVariants as head
 use Rattle.lset_text.specs.declared.headers.HeaderFault.{HeaderFault}
 use Rattle.lset_text.specs.Parts.{cut_at}
 use Rattle.lset_text.specs.Numbers.{number_in, max_number}
-use Rattle.lset_text.specs.Spellings.{call_word_of, reply_of, with_key}
+use Rattle.lset_text.specs.Spellings.{call_word_in, reply_in, with_key, HasCall, HasReply}
+use Rattle.lset_text.specs.declared.words.Version.TheVariants.{One}
 use Rattle.lset_text.specs.Results.{◌>>=◌, or_fail, map_fault}
 use Rattle.lset_text.specs.Headers.{IsHeader, header_of}
 use Rattle.lset_report.specs.declared.report.TheConstants.{MOST_CALLS, MOST_PLACES, MOST_KEYS}
@@ -35,17 +36,17 @@ use Rattle.lset_report.specs.Texts.{title, header_in, last_line, report_text}
 -- what its history leaves open of a call: its key and its moments are numbers up to 4294967295
 abbrev pub IsEnd : Option (ℕ × Reply) → Type 0
 IsEnd None = Unit {0}
-IsEnd (Some end) = end.0 < 2 ^ 32
+IsEnd (Some end) = (end.0 < 2 ^ 32) × HasReply One end.1
 
 abbrev pub IsCall : CallRecord → Type 0
-IsCall x = (x.begun < 2 ^ 32) × ((key_of x.call).0 < 2 ^ 32) × IsEnd x.ended
+IsCall x = (x.begun < 2 ^ 32) × ((key_of x.call).0 < 2 ^ 32) × IsEnd x.ended × HasCall One x.call
 
 -- What has a text that is read: its calls are a history, and nothing is too large or too many. The order and the keys are free.
 pub record IsReport (r : ReportValue) : Type 0 where
   pub header : IsHeader (header_in r)
   pub history : IsHistory r.history.threads r.history.calls
   pub calls : AllByRecursion IsCall r.history.calls
-  pub places : AllByRecursion (λ (p : Placed). p.call < 2 ^ 32) r.order
+  pub places : AllByRecursion (λ (p : Placed). (p.call < 2 ^ 32) × HasReply One p.reply) r.order
   pub keys : AllByRecursion (λ k. k < 2 ^ 32) r.keys
   pub few_calls : length r.history.calls ≤ MOST_CALLS
   pub few_places : length r.order ≤ MOST_PLACES
@@ -105,15 +106,15 @@ begun_of word id thread key begun = do
 
 unfoldable pub open_of : List ℕ → List ℕ → List ℕ → List ℕ → List ℕ → List ℕ → Result ReportLine ReportCause
 open_of id thread call key begun open_word = do
-  w ← or_fail wrong.Line (call_word_of call)
+  w ← or_fail wrong.Line (call_word_in One call)
   if bytes_eq open_word (codes "open") then (do
     x ← begun_of w id thread key begun
     Ok (told.Call x.0 x.1)) else Err wrong.Line
 
 unfoldable pub ended_of : List ℕ → List ℕ → List ℕ → List ℕ → List ℕ → List ℕ → List ℕ → Result ReportLine ReportCause
 ended_of id thread call key begun end reply = do
-  w ← or_fail wrong.Line (call_word_of call)
-  r ← or_fail wrong.Line (reply_of reply)
+  w ← or_fail wrong.Line (call_word_in One call)
+  r ← or_fail wrong.Line (reply_in One reply)
   x ← begun_of w id thread key begun
   e ← moment end
   Ok (told.Call x.0 (record x.1 { ended = Some (e, r) }))
@@ -130,7 +131,7 @@ call_of id thread (a ∷ b ∷ c ∷ d ∷ e ∷ f ∷ more) = Err wrong.Line
 
 unfoldable pub place_of : Section → List ℕ → List ℕ → List ℕ → Result ReportLine ReportCause
 place_of s word id reply = if takes_places s && bytes_eq word (codes "place") then (do
-  r ← or_fail wrong.Line (reply_of reply)
+  r ← or_fail wrong.Line (reply_in One reply)
   n ← any_number id
   Ok (told.Place (record { call = n; reply = r }))) else Err wrong.Line
 

@@ -10,7 +10,7 @@ use Rattle.lset_steps.specs.BoundedReads.{BoundedReads, steps_since, steps_after
 use Rattle.lset_steps.specs.declared.Fed.{Fed}
 use Rattle.lset_steps.specs.Steps.{Table, event_at, local_of, log_of}
 use Rattle.lset_steps.specs.Laws.{Lawful}
-use Rattle.lset_steps.specs.Promises.{IsRead}
+use Rattle.lset_steps.specs.Promises.{IsContains}
 use Rattle.lset_rule.specs.declared.view.Under.{Under}
 use Rattle.lset_rule.specs.declared.view.View.{View}
 use Rattle.lset_rule.specs.Runs.{Here, under_after, under_next, under_at, end_of, log_by}
@@ -64,7 +64,7 @@ not_yet m law ends key v w f sp come none =
     let mid = is_mid m (Contains key) v w f come none in
     let at = stands_at m law w mid.1 (mid_open (Contains key) v w sp mid.0) in
     let tied = subst (λ o. Tied o (local_of (end_of m w.shape w.seen) w.thread)) mid.0.under (own_tied m law w mid.1) in
-    let few = (ends w.shape.threads w.shape.quota (length w.seen) (length w.seen) w.thread (event_at w.seen) at.0.run (omega arith) at.0.thread at.0.open_call (subst (λ (c : Call). IsRead c) (sym tied.1) tt)).few in
+    let few = (ends w.shape.threads w.shape.quota (length w.seen) (length w.seen) w.thread (event_at w.seen) at.0.run (omega arith) at.0.thread at.0.open_call (subst (λ (c : Call). IsContains c) (sym tied.1) tt)).few in
     let is : mid.0.steps ≡ steps_since (event_at w.seen) w.thread (length w.seen) =
     counted_is (under_at (log_by m w.shape w.seen) w.thread (length w.seen)) _ (steps_since (event_at w.seen) w.thread (length w.seen)) (counted m w.shape (event_at w.seen) w.thread (length w.seen))
     (ap (λ (x : Here). x.under) mid.1.own ∙ mid.0.under) in

@@ -6,6 +6,7 @@ use Rattle.lset_words.specs.declared.Call.{Call}
 use Rattle.lset_words.specs.declared.Reply.{Reply}
 use Rattle.lset_words.specs.declared.Reply.TheVariants.{True, False, Full}
 use Rattle.lset_text.specs.Parts.{line_of, text_of}
+use Rattle.lset_text.specs.Spellings.{same_reply}
 use Rattle.lset_schedule.specs.Draws.{programs_of}
 use Rattle.lset_live.specs.Records.{fresh}
 use Rattle.lset_live.specs.Explained.{Explains}
@@ -23,17 +24,6 @@ use Rattle.lset_tools.specs.Tools.{Made}
 
 -- ---- the text of an outcome
 
-abbrev pub is_reply : Reply → Reply → Bool
-is_reply True True = true
-is_reply True False = false
-is_reply True Full = false
-is_reply False True = false
-is_reply False False = true
-is_reply False Full = false
-is_reply Full True = false
-is_reply Full False = false
-is_reply Full Full = true
-
 -- a name, and a number
 abbrev pub number_line : List ℕ → ℕ → List ℕ
 number_line name n = line_of (name ∷ decimal n ∷ [])
@@ -42,9 +32,9 @@ number_line name n = line_of (name ∷ decimal n ∷ [])
 abbrev pub outcome_text : List Reply → List ℕ → List ℕ
 outcome_text replies keys = text_of (
     number_line (codes "calls") (length replies)
-    ∷ number_line (codes "true") (count_by (is_reply True) replies)
-    ∷ number_line (codes "false") (count_by (is_reply False) replies)
-    ∷ number_line (codes "full") (count_by (is_reply Full) replies)
+    ∷ number_line (codes "true") (count_by (same_reply True) replies)
+    ∷ number_line (codes "false") (count_by (same_reply False) replies)
+    ∷ number_line (codes "full") (count_by (same_reply Full) replies)
     ∷ number_line (codes "keys") (length keys)
     ∷ map (number_line (codes "key")) keys)
 

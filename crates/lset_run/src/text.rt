@@ -1,29 +1,26 @@
 //! The text of an outcome.
 ghost use Rattle.std.specs.Prelude.{◌≡◌, ◌++◌, map, codes, length, IfOk, OnOk, count_by, flat_map, string_bytes};
 ghost use Rattle.lset_text.specs.Parts.{ended, text_of};
-ghost use Rattle.lset_run.specs.Running.{is_reply, number_line, outcome_text};
+ghost use Rattle.lset_text.specs.Spellings.{same_reply};
+ghost use Rattle.lset_run.specs.Running.{number_line, outcome_text};
 
 use lset_words::Reply;
 use lset_work::Outcome;
 use std::alloc::{AllocError, Global};
 
-fn is_reply(reply: Reply, other: Reply) -> bool
-    ensures { result ≡ is_reply reply other }
+fn is_same(reply: Reply, other: Reply) -> bool
+    ensures { result ≡ same_reply reply other }
 {
-    match reply {
-        Reply::True => matches!(other, Reply::True),
-        Reply::False => matches!(other, Reply::False),
-        Reply::Full => matches!(other, Reply::Full),
-    }
+    reply == other
 }
 
 /// How often a reply stands among the replies.
 fn count(reply: Reply, replies: &[Reply]) -> usize
-    ensures { result ≡ count_by (is_reply reply) replies.now }
+    ensures { result ≡ count_by (same_reply reply) replies.now }
 {
     let mut count = 0;
     for other in replies {
-        if is_reply(reply, *other) {
+        if is_same(reply, *other) {
             count += 1;
         }
     }

@@ -118,7 +118,7 @@ draft_idle T n q calls keys turns left t lines w d more lt h = record {
 
 line_made : (s : State) (n t left keys : ℕ) (e : Event) → t < n → IsNextEvent s t left keys e
     → IsGeneratedLine n keys (line_of_event e)
-line_made s n t left keys (event.Begin u call) lt h = (omega (arith, h.0), h.3)
+line_made s n t left keys (event.Begin u call) lt h = (omega (arith, h.0), h.3, h.4)
 line_made s n t left keys (event.Go u) lt h = (omega (arith, h.0), refl)
 
 begun_more : (s : State) (t left keys calls : ℕ) (lines : List Line) (e : Event) → IsNextEvent s t left keys e
@@ -240,7 +240,7 @@ lines_fit : (n keys : ℕ) (lines : List Line) → n ≤ MOST_THREADS → keys <
     → AllByRecursion (IsGeneratedLine n keys) lines → AllByRecursion IsLine lines
 lines_fit n keys [] few small each = tt
 lines_fit n keys (line.Begin t call ∷ ls) few small each =
-    ((omega (arith, each.0.0), omega (arith, each.0.1)), lines_fit n keys ls few small each.1)
+    ((omega (arith, each.0.0), omega (arith, each.0.1), each.0.2), lines_fit n keys ls few small each.1)
 lines_fit n keys (line.Go t steps ∷ ls) few small each = (
   (omega (arith, each.0.0), omega (arith, each.0.1), omega (arith, each.0.1)),
   lines_fit n keys ls few small each.1,

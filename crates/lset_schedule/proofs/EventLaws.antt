@@ -11,11 +11,12 @@ use Rattle.lset_words.specs.Words.{key_of}
 use Rattle.lset_text.specs.declared.words.CallWord.{CallWord}
 use Rattle.lset_text.specs.Parts.{cut_at, Lacks}
 use Rattle.lset_text.specs.Numbers.{number_in, max_number}
-use Rattle.lset_text.specs.Spellings.{call_text, call_word_text, call_word_of, word_of, with_key}
+use Rattle.lset_text.specs.Spellings.{call_text, call_word_text, call_word_in, word_of, with_key, HasWord}
+use Rattle.lset_text.specs.declared.words.Version.TheVariants.{One}
 use Rattle.lset_text.specs.Results.{◌>>=◌, or_fail}
 use Rattle.lset_text.proofs.PartLaws.{Lacks-below, line_lacks, cut_line, line_from_cut}
 use Rattle.lset_text.proofs.NumberLaws.{number_ok, number_again, decimal_lacks}
-use Rattle.lset_text.proofs.WordLaws.{same_bytes, call_word_ok, call_word_again, call_lacks, with_key-word_of, word_of-with_key, key_of-with_key}
+use Rattle.lset_text.proofs.WordLaws.{same_bytes, call_in_ok, call_in_again, call_lacks, with_key-word_of, word_of-with_key, key_of-with_key}
 use Rattle.lset_text.proofs.ReadingLaws.{bind_ok, or_fail_ok, ok_is}
 use Rattle.lset_schedule.specs.declared.value.Line.{Line}
 use Rattle.lset_schedule.specs.declared.value.Line.TheVariants.{Begin, Go}
@@ -63,16 +64,16 @@ abbrev begun : ℕ → CallWord → ℕ → Line
 begun t w k = Begin t (with_key w (record { 0 = k }))
 
 begun_is : (a b c d : List ℕ) (t : ℕ) (w : CallWord) (k : ℕ)
-    → a ≡ codes "begin" → b ≡ decimal t → c ≡ call_word_text w → d ≡ decimal k → t ≤ max_number → k ≤ max_number
+    → a ≡ codes "begin" → b ≡ decimal t → c ≡ call_word_text w → d ≡ decimal k → t ≤ max_number → k ≤ max_number → HasWord One w
     → AreOf (a ∷ b ∷ c ∷ d ∷ []) (begun t w k)
-begun_is a b c d t w k e f g h small few =
+begun_is a b c d t w k e f g h small few has =
     let key : Key = record { 0 = k } in
     let call = with_key w key in
     let same_key : (key_of call).0 ≡ k = ap (λ (x : Key). x.0) (key_of-with_key w key) in
     let word : c ≡ call_text call = g ∙ ap call_word_text (sym (word_of-with_key w key)) in
     let spelled : d ≡ decimal ((key_of call).0) = h ∙ ap decimal (sym same_key) in
     let pieces = four a b c d (codes "begin") (decimal t) (call_text call) (decimal ((key_of call).0)) e f word spelled in
-    (pieces, (omega (arith, small), omega (arith, same_key, few)))
+    (pieces, (omega (arith, small), omega (arith, same_key, few), subst (HasWord One) (sym (word_of-with_key w key)) has))
 
 -- what is left to read of a line after its thread, and after the word of its call
 abbrev begin_after_thread : List ℕ → CallWord → ℕ → Result Line Cause
@@ -84,15 +85,15 @@ begin_after_word thread key w = or_fail Number (number_in 0 max_number thread) >
 begin_ok : (a b c d : List ℕ) (e : Line) → begin_of a b c d ≡ Ok e → AreOf (a ∷ b ∷ c ∷ d ∷ []) e
 unfolding begin_of
 begin_ok a b c d e is =
-    let test = test_ok (bytes_eq a (codes "begin")) Event (or_fail Event (call_word_of c) >>= begin_after_word b d) e is in
-    let w = bind_ok (or_fail Event (call_word_of c)) (begin_after_word b d) e test.1 in
+    let test = test_ok (bytes_eq a (codes "begin")) Event (or_fail Event (call_word_in One c) >>= begin_after_word b d) e is in
+    let w = bind_ok (or_fail Event (call_word_in One c)) (begin_after_word b d) e test.1 in
     let t = bind_ok (or_fail Number (number_in 0 max_number b)) (begin_after_thread d w.0) e w.2 in
     let k = bind_ok (or_fail Number (number_in 0 max_number d)) (λ k. Ok (begun t.0 w.0 k)) e t.2 in
     let thread = number_told 0 max_number b t.0 (omega arith) t.1 in
     let key = number_told 0 max_number d k.0 (omega arith) k.1 in
-    let call = call_word_ok c w.0 (or_fail_ok Event (call_word_of c) w.0 w.1) in
+    let call = call_in_ok One c w.0 (or_fail_ok Event (call_word_in One c) w.0 w.1) in
     subst (AreOf (a ∷ b ∷ c ∷ d ∷ [])) (ok_is (begun t.0 w.0 k.0) e k.2)
-    (begun_is a b c d t.0 w.0 k.0 (same_bytes a (codes "begin") test.0) thread.0 call key.0 thread.2 key.2)
+    (begun_is a b c d t.0 w.0 k.0 (same_bytes a (codes "begin") test.0) thread.0 call.1 key.0 thread.2 key.2 call.0)
 
 event_of_pieces_ok : (ps : List (List ℕ)) (e : Line) → event_of_pieces ps ≡ Ok e → AreOf ps e
 event_of_pieces_ok [] e is = absurd cc
@@ -114,7 +115,7 @@ unfolding go_of begin_of
 pieces_again (Begin t c) line =
     let thread = number_again 0 max_number t (omega arith) (omega arith) (omega (arith, line.0)) in
     let key = number_again 0 max_number ((key_of c).0) (omega arith) (omega arith) (omega (arith, line.1)) in
-    rw (call_word_again (word_of c), thread, key) (ap (λ (x : Call). Ok (Begin t x)) (with_key-word_of c))
+    rw (call_in_again One (word_of c) line.2, thread, key) (ap (λ (x : Call). Ok (Begin t x)) (with_key-word_of c))
 pieces_again (Go t n) line =
     let thread = number_again 0 max_number t (omega arith) (omega arith) (omega (arith, line.0)) in
     rw (thread, number_again 1 MOST_STEPS n (omega arith) line.1 line.2) refl

@@ -9,7 +9,8 @@ use Rattle.lset_text.specs.declared.words.CallWord.{CallWord}
 use Rattle.lset_text.specs.declared.headers.Header.{Header}
 use Rattle.lset_text.specs.Parts.{cut_at}
 use Rattle.lset_text.specs.Numbers.{number_in, max_number}
-use Rattle.lset_text.specs.Spellings.{call_word_of, with_key}
+use Rattle.lset_text.specs.Spellings.{call_word_in, with_key}
+use Rattle.lset_text.specs.declared.words.Version.TheVariants.{One}
 use Rattle.lset_text.specs.Headers.{header_of}
 use Rattle.lset_text.specs.Results.{◌>>=◌, or_fail, map_fault}
 use Rattle.lset_text.proofs.PartLaws.{some_part}
@@ -111,7 +112,7 @@ pieces_fail (a ∷ []) is = cc
 pieces_fail (a ∷ b ∷ []) is = cc
 pieces_fail (a ∷ b ∷ c ∷ []) is = go_fails (bytes_eq a (codes "go")) (number_in 0 max_number b) (number_in 1 MOST_STEPS c) is
 pieces_fail (a ∷ b ∷ c ∷ d ∷ []) is =
-    begin_fails (bytes_eq a (codes "begin")) (call_word_of c) (number_in 0 max_number b) (number_in 0 max_number d) is
+    begin_fails (bytes_eq a (codes "begin")) (call_word_in One c) (number_in 0 max_number b) (number_in 0 max_number d) is
 pieces_fail (a ∷ b ∷ c ∷ d ∷ e ∷ more) is = cc
 
 room_fails : (b : Bool) (e : Line) → cond b (Err TooMany) (Ok e) ≡ Err Memory → ⊥

@@ -1,6 +1,8 @@
 -- What a generated schedule is, and what the generator refuses.
 use Rattle.std.specs.Prelude.{◌≡◌, ℕ, ◌<◌, ◌≤◌, ◌⊎◌, Bool, true, false, List, [], ◌∷◌, length, count_by, flat_map, replicate}
 use Rattle.std.specs.List.{AllByRecursion}
+use Rattle.lset_text.specs.Spellings.{HasCall}
+use Rattle.lset_text.specs.declared.words.Version.TheVariants.{One}
 use Rattle.lset_words.specs.declared.TheConstants.{MOST_THREADS, MOST_QUOTA}
 use Rattle.lset_schedule.specs.declared.TheConstants.{MOST_GENERATED}
 use Rattle.lset_words.specs.declared.fault.LayoutFault.{LayoutFault}
@@ -26,9 +28,9 @@ abbrev pub is_begin : Line → Bool
 is_begin (line.Begin t call) = true
 is_begin (line.Go t steps) = false
 
--- one event of one of the threads; keys are below `keys`
+-- one event of one of the threads; keys are below `keys`, and the calls are those of version 1
 abbrev pub IsGeneratedLine : ℕ → ℕ → Line → Type 0
-IsGeneratedLine threads keys (line.Begin t call) = (t < threads) × ((key_of call).0 < keys)
+IsGeneratedLine threads keys (line.Begin t call) = (t < threads) × ((key_of call).0 < keys) × HasCall One call
 IsGeneratedLine threads keys (line.Go t steps) = (t < threads) × (steps ≡ 1)
 
 abbrev pub StartsWithBegin : List Line → Type 0

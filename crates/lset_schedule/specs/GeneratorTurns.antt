@@ -1,6 +1,8 @@
 -- One turn of the generator: whose it is, and which event it makes.
 use Rattle.std.specs.Prelude.{◌≡◌, ◌≢◌, ℕ, ◌<◌}
 use Rattle.lset_words.specs.Words.{key_of}
+use Rattle.lset_text.specs.Spellings.{HasCall}
+use Rattle.lset_text.specs.declared.words.Version.TheVariants.{One}
 use Rattle.lset_steps.specs.declared.Event.{Event}
 use Rattle.lset_steps.specs.declared.Event.TheVariants as event
 use Rattle.lset_steps.specs.Steps.{State, local_of}
@@ -14,5 +16,5 @@ IsIdle s t left = ((local_of s t).pc ≡ 0) × (left ≡ 0)
 
 -- the event that the turn of thread t makes
 abbrev pub IsNextEvent : State → ℕ → ℕ → ℕ → Event → Type 0
-IsNextEvent s t left keys (event.Begin u call) = (u ≡ t) × ((local_of s t).pc ≡ 0) × (0 < left) × ((key_of call).0 < keys)
+IsNextEvent s t left keys (event.Begin u call) = (u ≡ t) × ((local_of s t).pc ≡ 0) × (0 < left) × ((key_of call).0 < keys) × HasCall One call
 IsNextEvent s t left keys (event.Go u) = (u ≡ t) × HasOpenCall s t

@@ -7,7 +7,8 @@ use Rattle.lset_words.specs.declared.Kind.{Kind}
 use Rattle.lset_words.specs.Words.{key_of}
 use Rattle.lset_text.specs.declared.headers.Header.{Header}
 use Rattle.lset_text.specs.Parts.{line_of, text_of}
-use Rattle.lset_text.specs.Spellings.{call_text}
+use Rattle.lset_text.specs.Spellings.{call_text, HasCall}
+use Rattle.lset_text.specs.declared.words.Version.TheVariants.{One}
 use Rattle.lset_text.specs.Headers.{IsHeader, header_lines}
 use Rattle.lset_schedule.specs.declared.value.Line.{Line}
 use Rattle.lset_schedule.specs.declared.value.Line.TheVariants.{Begin, Go}
@@ -52,7 +53,7 @@ event_count (Begin thread call) = 1
 event_count (Go thread steps) = steps
 
 abbrev pub IsLine : Line → Type 0
-IsLine (Begin thread call) = (thread < 2 ^ 32) × ((key_of call).0 < 2 ^ 32)
+IsLine (Begin thread call) = (thread < 2 ^ 32) × ((key_of call).0 < 2 ^ 32) × HasCall One call
 IsLine (Go thread steps) = (thread < 2 ^ 32) × (1 ≤ steps) × (steps ≤ MOST_STEPS)
 
 -- what has a text that is read

@@ -7,7 +7,8 @@ use Rattle.lset_text.specs.declared.headers.HeaderCause.TheVariants as head
 use Rattle.lset_text.specs.declared.headers.HeaderFault.{HeaderFault}
 use Rattle.lset_text.specs.Parts.{cut_at}
 use Rattle.lset_text.specs.Numbers.{number_in, max_number}
-use Rattle.lset_text.specs.Spellings.{call_word_of, with_key}
+use Rattle.lset_text.specs.Spellings.{call_word_in, with_key}
+use Rattle.lset_text.specs.declared.words.Version.TheVariants.{One}
 use Rattle.lset_text.specs.Results.{◌>>=◌, or_fail, map_fault}
 use Rattle.lset_text.specs.Headers.{header_of}
 use Rattle.lset_schedule.specs.declared.value.Line.{Line}
@@ -44,7 +45,7 @@ go_of word thread steps = if bytes_eq word (codes "go") then (do
 
 unfoldable pub begin_of : List ℕ → List ℕ → List ℕ → List ℕ → Result Line Cause
 begin_of word thread call key = if bytes_eq word (codes "begin") then (do
-  w ← or_fail Event (call_word_of call)
+  w ← or_fail Event (call_word_in One call)
   t ← or_fail Number (number_in 0 max_number thread)
   k ← or_fail Number (number_in 0 max_number key)
   Ok (Begin t (with_key w (record { 0 = k })))) else Err Event

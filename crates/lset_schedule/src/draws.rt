@@ -1,9 +1,11 @@
 ghost use Rattle.std.specs.Prelude.{◌≡◌, ◌<◌, map, IfOk, IfErr};
 ghost use Rattle.lset_words.specs.Words.{key_of};
+ghost use Rattle.lset_text.specs.Spellings.{HasCall};
 ghost use Rattle.lset_schedule.specs.Draws.{chosen, drawn_call, drawn_calls, program_of, programs_of};
 ghost use Rattle.lset_schedule.specs.Generating.{IsAccepted, Refuses};
 
 use crate::fault::GenFault;
+use lset_text::Version;
 use lset_words::{Call, Key, layout};
 use rand_core::{Rng, SeedableRng};
 use rand_pcg::Pcg32;
@@ -15,6 +17,7 @@ fn chosen(keys: u32, a: u32, b: u32) -> Call
     requires { 0 < keys }
     ensures value { result ≡ chosen keys a b }
     ensures below { (key_of result).0 < keys }
+    ensures first { HasCall Version.One result }
 {
     let key = Key(b % keys);
     match a % 3 {
@@ -30,6 +33,7 @@ pub(crate) fn draw_call<R: Rng>(keys: u32, rng: &mut R) -> Call
     requires { 0 < keys }
     ensures drawn { (result, R.stream rng.new) ≡ drawn_call keys (R.stream rng.old) }
     ensures below { (key_of result).0 < keys }
+    ensures first { HasCall Version.One result }
 {
     let a = rng.next_u32();
     let b = rng.next_u32();

@@ -17,7 +17,7 @@ ghost use Rattle.lset_schedule.specs.ScheduleReading.{
 use crate::fault::{Cause, ScheduleFault};
 use crate::value::{Line, Schedule};
 use crate::{MOST_EVENTS, MOST_STEPS, TITLE};
-use lset_text::{cut, number, read_call, read_header};
+use lset_text::{Version, cut, number, read_call, read_header};
 use lset_words::Key;
 use std::alloc::Global;
 
@@ -43,7 +43,7 @@ fn begin(word: &[u8], thread: &[u8], call: &[u8], key: &[u8]) -> Result<Line, Ca
     if word != b"begin".as_slice() {
         return Err(Cause::Event);
     }
-    let call = read_call(call).ok_or(Cause::Event)?;
+    let call = read_call(Version::One, call).ok_or(Cause::Event)?;
     let thread = number(thread, 0, u32::MAX).ok_or(Cause::Number)?;
     let key = number(key, 0, u32::MAX).ok_or(Cause::Number)?;
     Ok(Line::Begin(thread, call.with_key(Key(key))))

@@ -1,5 +1,6 @@
 -- [Session text]: what the lines of a session ask for, and what is answered. It speaks of all bytes of the input at once, cut at newlines.
-use Rattle.std.specs.Prelude.{ℕ, ◌-◌, ◌==◌, nat_lt, List, [], ◌∷◌, map, length, codes, Option, Some, None, if◌then◌else◌}
+use Rattle.std.specs.Prelude.{ℕ, ◌-◌, ◌==◌, nat_lt, List, [], ◌∷◌, ◌++◌, map, length, codes, Option, Some, None, if◌then◌else◌}
+use Rattle.std.specs.Fmt.{decimal}
 use Rattle.std.specs.List.{flat_map}
 use Rattle.std.specs.Str.{bytes_eq}
 use Rattle.lset_words.specs.declared.Key.{Key}
@@ -96,6 +97,8 @@ abbrev pub reply_word : Reply → List ℕ
 reply_word reply.True = codes "TRUE"
 reply_word reply.False = codes "FALSE"
 reply_word reply.Full = codes "FULL"
+reply_word (reply.At k) = codes "AT " ++ decimal k.0
+reply_word reply.Nothing = codes "NONE"
 
 -- the line that answers a turn
 abbrev pub answer_of : Exchange → List ℕ

@@ -10,6 +10,8 @@ ghost use Rattle.lset_text.specs.Parts.{ended};
 use crate::devices::{Sink, Source, write_all};
 use crate::requests::{Request, read_request};
 use crate::{LONGEST_LINE, MOST_LINES};
+use arrayvec::ArrayString;
+use itoa::Buffer;
 use lset_live::SetCalls;
 use lset_words::{Call, Reply};
 use std::sync::Wait;
@@ -48,14 +50,23 @@ struct Talk {
     calls: u64,
 }
 
-fn reply_line(reply: Reply) -> &'static [u8]
-    ensures { result.now ≡ ended (reply_word reply) }
+/// The line that answers a call; the longest is `AT 4294967295`.
+fn reply_line(reply: Reply) -> ArrayString<14>
+    ensures { result.bytes ≡ ended (reply_word reply) }
 {
+    let mut line = ArrayString::new();
     match reply {
-        Reply::True => b"TRUE\n",
-        Reply::False => b"FALSE\n",
-        Reply::Full => b"FULL\n",
+        Reply::True => line.push_str("TRUE\n"),
+        Reply::False => line.push_str("FALSE\n"),
+        Reply::Full => line.push_str("FULL\n"),
+        Reply::At(key) => {
+            line.push_str("AT ");
+            line.push_str(Buffer::new().format(key.0));
+            line.push_str("\n");
+        }
+        Reply::Nothing => line.push_str("NONE\n"),
     }
+    line
 }
 
 /// Makes the call on the seat.
@@ -68,6 +79,7 @@ fn make_call<R: Wait, S: SetCalls>(rt: &R, set: &S, seat: &mut S::Seat, call: Ca
         Call::Add(key) => set.add(rt, seat, key),
         Call::Remove(key) => set.remove(rt, seat, key),
         Call::Contains(key) => set.contains(rt, seat, key),
+        Call::Ceiling(key) => set.ceiling(rt, seat, key),
     }
 }
 
@@ -90,7 +102,7 @@ fn answer<R: Wait, W: Sink, S: SetCalls>(
     match request {
         Request::Call(made) => {
             let reply = make_call(rt, set, seat, made);
-            write_all(writer, reply_line(reply))
+            write_all(writer, reply_line(reply).as_str().as_bytes())
         }
         Request::Quit => write_all(writer, b"BYE\n"),
         Request::Bad => write_all(writer, b"BAD\n"),

@@ -16,7 +16,7 @@ fn changes_set(call: Call, reply: Reply) -> bool
 {
     match call {
         Call::Add(_) | Call::Remove(_) => reply == Reply::True,
-        Call::Contains(_) => false,
+        Call::Contains(_) | Call::Ceiling(_) => false,
     }
 }
 

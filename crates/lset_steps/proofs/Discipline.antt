@@ -14,7 +14,7 @@ use Rattle.lset_steps.specs.declared.Event.TheVariants.{Begin, Go}
 use Rattle.lset_steps.specs.Steps.{log_of, entry_of, Table, State, opening, opening_word, idle, local_of, after, left_by, seen_by, seen_next, Enabled, Limits, Run, state_at}
 use Rattle.lset_words.specs.Log.{is_change, begun_at, has_changed, begun_after, changed_after}
 use Rattle.lset_steps.specs.Chain.{View, view, Published, InChain, IsOrdered, UnmarkedInChain, Changed, UnlinkedStays, node_key, node_link, contents_of, counts_of}
-use Rattle.lset_steps.proofs.Moves.{Move, KeepsNodes, Course}
+use Rattle.lset_steps.proofs.Moves.{Move, KeepsNodes, KeepsMarked, Course}
 use Rattle.lset_words.specs.Account.{FitsSometime}
 use Rattle.lset_steps.specs.Laws.{Lawful, BeginLaws, StateLaws, Registers, StepLaws, StepAt, Answered, used_in, view_of, views}
 use Rattle.lset_words.specs.Account.{MayChange, count_after}
@@ -163,13 +163,19 @@ module _ (n q : ℕ) where
   }
 
 -- THE COURSE of a run goes on
-course_more : (vs : ℕ → View) (s : ℕ) → Course vs s → KeepsNodes (vs s) (vs (suc s)) → IsOrdered (vs (suc s)) → Course vs (suc s)
-course_more vs s r g ord = record {
+course_more : (vs : ℕ → View) (s : ℕ) → Course vs s → KeepsNodes (vs s) (vs (suc s)) → KeepsMarked (vs s) (vs (suc s))
+    → IsOrdered (vs (suc s)) → Course vs (suc s)
+course_more vs s r g m ord = record {
   ordered = λ t l. elim (upto t l) [ inl e ↦ subst (λ x. IsOrdered (vs x)) (sym e) ord | inr k ↦ r.ordered t k ];
   goes = λ t l. elim (below t l) [
     | inl e ↦ (let f : suc s ≡ s + 1 = omega arith in
         subst (λ x. KeepsNodes (vs x) (vs (x + 1))) (sym e) (subst (λ x. KeepsNodes (vs s) (vs x)) f g))
     | inr k ↦ r.goes t k
+  ];
+  marked = λ t l. elim (below t l) [
+    | inl e ↦ (let f : suc s ≡ s + 1 = omega arith in
+        subst (λ x. KeepsMarked (vs x) (vs (x + 1))) (sym e) (subst (λ x. KeepsMarked (vs s) (vs x)) f m))
+    | inr k ↦ r.marked t k
   ];
 }
   where
@@ -183,6 +189,7 @@ course_zero : (vs : ℕ → View) → IsOrdered (vs 0) → Course vs 0
 course_zero vs ord = record {
   ordered = λ t l. (let e : 0 ≡ t = omega arith in subst (λ x. IsOrdered (vs x)) e ord);
   goes = λ t l. absurd (omega arith);
+  marked = λ t l. absurd (omega arith);
 }
 
 goes_same : (v : View) → KeepsNodes v v
@@ -274,7 +281,7 @@ module _ (T : Table) (marks : Bool) (At : Outline) (d : Discipline T marks At) (
         memory = subst (λ f. Memory marks n q s.words f) (sym used_is) i.memory;
         locals = length-set s.locals t l' ∙ i.locals;
         course = course_more vs k i.course (subst (λ x. KeepsNodes (vs k) x) (sym now_is) (goes_same (vs k)))
-            (subst (λ x. IsOrdered x) (sym now_is) (i.course.ordered k (omega arith)));
+            (λ b p o. ap (λ x. x.link b) now_is) (subst (λ x. IsOrdered x) (sym now_is) (i.course.ordered k (omega arith)));
         present = e;
         threads = λ u h. elim (same_or_not u t) [
           | inl y ↦ (let x : Thread At n q t vs (first t) k s.words (used_in s) (done t) (local_of s t) = i.threads t th in
@@ -370,7 +377,10 @@ module _ (T : Table) (marks : Bool) (At : Outline) (d : Discipline T marks At) (
               (subst (λ f. Memory marks n q m.words' f) (sym used_is) memory');
           locals = length-set s.locals t (T.feed (local_of s t) (seen_next T s t)).local ∙ i.locals;
           course = course_more vs k i.course (subst (λ x. KeepsNodes x (vs (suc k))) (sym i.present)
-              (subst (λ x. KeepsNodes (view_of n q s) x) (sym now_is) g)) (subst (λ x. IsOrdered x) (sym now_is) memory'.ordered);
+              (subst (λ x. KeepsNodes (view_of n q s) x) (sym now_is) g))
+              (subst (λ x. KeepsMarked x (vs (suc k))) (sym i.present) (subst (λ x. KeepsMarked (view_of n q s) x) (sym now_is)
+              (marked_stays marks (view_of n q s) (view n q m.words' m.used') i.memory.ordered m.effect move')))
+              (subst (λ x. IsOrdered x) (sym now_is) memory'.ordered);
           present = e;
           threads = λ u h. elim (same_or_not u t) [
             | inl y ↦ (let x : Thread At n q t vs (first t) k s.words (used_in s) (done t) (local_of s t) = i.threads t th in

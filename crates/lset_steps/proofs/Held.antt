@@ -17,7 +17,7 @@ use Rattle.lset_steps.proofs.Memory.{WordStep, Memory, reads, fails, takes, give
 use Rattle.lset_steps.proofs.QuietMove.{in_chain_published, quiet_keeps, chain_before, chain_on}
 use Rattle.lset_steps.proofs.Rely.{Rely, Guarded}
 use Rattle.lset_steps.specs.Rows.{decided_on, goes_to}
-use Rattle.lset_steps.proofs.Replies.{Adding, Removing, decided_cases, absent_between}
+use Rattle.lset_steps.proofs.Replies.{Adding, Removing, decided_cases, absent_between, ceiling_fits}
 
 -- a node of the chain that thread t has locked
 pub record Held (v : View) (t a : ℕ) : Type 0 where
@@ -242,8 +242,10 @@ module _ {marks : Bool} {n q : ℕ} {ws : List ℕ} {used : ℕ → ℕ} (m : Me
       (rw half (omega arith))) in
       let full : nat_lt l.used l.quota ≡ false
       → used t ≡ q = λ y. (let z : l.quota ≤ l.used = not_lower_number l.used l.quota y in omega arith) in
+      let over = ceiling_fits q t (view n q ws used) pred c (key_of l.call) m.ordered m.head_key m.tail_key b.held.at b.inner b.below
+      (is ∙ ap (node_key ws) (sym half)) above (λ x. ap (λ a. node_link ws a % 2) half ∙ even) in
       elim (decided_cases rows.adds rows.removes rows.leaves q t (view n q ws used) l.call (c == k)
-      (nat_lt l.used l.quota) l hit miss full) [
+      (nat_lt l.used l.quota) c l hit miss full over) [
         | inl r ↦ inl r
         | inr z ↦ elim z [
           | inl r ↦ inr (inl (

@@ -1,6 +1,6 @@
 -- HINDSIGHT (after O'Hearn and others): a node that was in the chain at some moment of a call had there, at one of the call's
 -- moments, the link word that it has now. So what a walk finds at its end was so at a moment of the call.
-use Rattle.std.proofs.Common.{◌≡◌, ◌≢◌, ℕ, zero, suc, ◌+◌, ◌-◌, ◌/◌, ◌%◌, ◌<◌, ◌≤◌, inl, inr, [], sym, refl, ap, subst, ◌∙◌, arith}
+use Rattle.std.proofs.Common.{◌≡◌, ◌≢◌, ℕ, zero, suc, ◌+◌, ◌-◌, ◌/◌, ◌%◌, ◌<◌, ◌≤◌, ◌⊎◌, inl, inr, [], sym, refl, ap, subst, ◌∙◌, arith}
 use Rattle.lset_steps.specs.Chain.{View, InChain, IsOrdered, Seen}
 use Rattle.lset_steps.proofs.Moves.{KeepsNodes}
 use Rattle.lset_steps.proofs.Moves.{Course, InPast, Had, Lacked}
@@ -22,6 +22,26 @@ later_published vs n b (suc d) m t r e l mb =
 
 pub key_stays : (vs : ℕ → View) (n b m t : ℕ) → Course vs n → m ≤ t → t ≤ n → (vs m).published b → (vs t).key b ≡ (vs m).key b
 key_stays vs n b m t r l h mb = (later_published vs n b (t - m) m t r (omega arith) h mb).1
+
+-- a node without a mark had none before
+marked_by : (vs : ℕ → View) (n b d m t : ℕ) → Course vs n → t ≡ m + d → t ≤ n → (vs m).published b → (vs m).link b % 2 ≡ 1
+    → (vs t).link b ≡ (vs m).link b
+marked_by vs n b zero m t r e l p odd = let f : m ≡ t = omega arith in subst (λ x. (vs x).link b ≡ (vs m).link b) f refl
+marked_by vs n b (suc d) m t r e l p odd =
+    let i : (vs (m + d)).link b ≡ (vs m).link b = marked_by vs n b d m (m + d) r refl (omega arith) p odd in
+    let q : (vs (m + d)).published b = (later_published vs n b d m (m + d) r refl (omega arith) p).0 in
+    let f : m + d + 1 ≡ t = omega arith in
+    subst (λ x. (vs x).link b ≡ (vs m).link b) f (r.marked (m + d) (omega arith) b q (omega arith) ∙ i)
+
+pub unmarked_before : (vs : ℕ → View) (n b m t : ℕ) → Course vs n → m ≤ t → t ≤ n → (vs m).published b → (vs t).link b % 2 ≡ 0
+    → (vs m).link b % 2 ≡ 0
+unmarked_before vs n b m t r l h p even = elim (even_or_not ((vs m).link b)) [
+  | inl e ↦ e
+  | inr o ↦ absurd (let i : (vs t).link b ≡ (vs m).link b = marked_by vs n b (t - m) m t r (omega arith) h p o in omega arith)
+]
+  where
+    even_or_not : (x : ℕ) → (x % 2 ≡ 0) ⊎ (x % 2 ≡ 1)
+    even_or_not x = grind arith
 
 -- HINDSIGHT: what is read of a node that was in the chain, it had while it was in the chain
 hindsight-by : (vs : ℕ → View) (n b d m t : ℕ) → Course vs n → t ≡ m + d → t ≤ n → InChain (vs m) b

@@ -72,11 +72,16 @@ pub data Move (marks : Bool) (v w : View) : Option (Key × Bool) → Type 0 wher
   removes : (pred curr : ℕ) (k : Key) → marks ≡ false → Unlinks v w pred curr → v.link curr % 2 ≡ 0 → 1 < curr
       → v.key curr ≡ k.0 + 1 → Move marks v w (Some (k, false))
 
+-- a marked node keeps its link
+abbrev pub KeepsMarked : View → View → Type 0
+KeepsMarked v w = (b : ℕ) → v.published b → v.link b % 2 ≡ 1 → w.link b ≡ v.link b
+
 -- THE PAST
 -- The worlds of the moments 0 to n.
 pub record Course (vs : ℕ → View) (n : ℕ) : Type 0 where
   pub ordered : (t : ℕ) → t ≤ n → IsOrdered (vs t)
   pub goes : (t : ℕ) → t < n → KeepsNodes (vs t) (vs (t + 1))
+  pub marked : (t : ℕ) → t < n → KeepsMarked (vs t) (vs (t + 1))
 
 -- At some moment from first to now b was in the chain.
 pub record InPast (vs : ℕ → View) (first now b : ℕ) : Type 0 where
@@ -113,3 +118,10 @@ pub record At21 (vs : ℕ → View) (first now k curr : ℕ) : Type 0 where
 pub record At22 (vs : ℕ → View) (first now k curr : ℕ) : Type 0 where
   pub past : InPast vs first now curr
   pub found : (vs past.at).key curr ≡ k + 1
+
+-- What a ceiling of k knows at its last place, besides: the key word of curr, which the node before it led to.
+pub record At25 (vs : ℕ → View) (first now k curr ckey : ℕ) : Type 0 where
+  pub past : InPast vs first now curr
+  pub walk : At21 vs first now k curr
+  pub found : (vs walk.seen.at).key curr ≡ ckey
+  pub above : k + 1 ≤ ckey

@@ -21,7 +21,7 @@ use Rattle.lset_steps.proofs.ContentLists.{chain_is}
 use Rattle.lset_steps.proofs.RunContents.{ContentList, content_at}
 use Rattle.lset_steps.proofs.RunAccount.{account_of}
 use Rattle.lset_steps.proofs.LockWords.{lock_word}
-use Rattle.lset_steps.specs.Promises.{FrozenNodes, NoLinkIsMarked, InRange, ThreadInRange, SortedChain, ChainIsSorted, LockWords, LockUses, UnlinkedNodesStay, SeenInThePast, UnmarkedNodesInChain, ChangeIsNamed, NamedChange, RepliesFit, IsRead, TrueMeansChange, HasAccount, ContentIsListed, ListedContent}
+use Rattle.lset_steps.specs.Promises.{FrozenNodes, NoLinkIsMarked, InRange, ThreadInRange, SortedChain, ChainIsSorted, LockWords, LockUses, UnlinkedNodesStay, SeenInThePast, UnmarkedNodesInChain, ChangeIsNamed, NamedChange, RepliesFit, IsContains, TrueMeansChange, HasAccount, ContentIsListed, ListedContent}
 
 -- the run goes on with a step of a thread with an open call
 module _ (T : Table) (law : Lawful T) (n q last k t : ℕ) (es : ℕ → Event) (r : Run T n q es last) (l : k ≤ last)
@@ -135,11 +135,12 @@ replies_fit_of T law n q last k t es change reply r l e =
     ((account_is T law n q last es r).enters k l)).right
 
 true_or_read : (done : Bool) (q : ℕ) (contents : Contents) (counts : Counts) (first now t : ℕ) (called : Call)
-    → RightReply done q contents counts first now t called (Some True) → (done ≡ true) ⊎ IsRead called
+    → RightReply done q contents counts first now t called (Some True) → (done ≡ true) ⊎ IsContains called
 true_or_read true q contents counts first now t called h = inl refl
 true_or_read false q contents counts first now t (call.Add k) h = absurd h.fits
 true_or_read false q contents counts first now t (call.Remove k) h = absurd h.fits
 true_or_read false q contents counts first now t (call.Contains k) h = inr tt
+true_or_read false q contents counts first now t (call.Ceiling k) h = absurd h.fits
 
 pub true_means_change_of : (T : Table) → Lawful T → TrueMeansChange T
 true_means_change_of T law n q last k t es change r l e =

@@ -5,8 +5,8 @@ use Rattle.std.proofs.lemmas.List.FromFn.{get_or-map-range_with_len}
 use Rattle.lset_words.proofs.Numbers.{same_or_not, below_or_not, if_same, if_other, if_below, if_not_below}
 use Rattle.lset_words.specs.Words.{key_index, link_index, node_count, tail_word, target}
 use Rattle.lset_words.specs.declared.Call.{Call}
-use Rattle.lset_words.specs.declared.Call.TheVariants.{Add, Remove, Contains}
-use Rattle.lset_words.specs.declared.Reply.TheVariants.{True, False}
+use Rattle.lset_words.specs.declared.Call.TheVariants.{Add, Remove, Contains, Ceiling}
+use Rattle.lset_words.specs.declared.Reply.TheVariants.{True, False, Nothing}
 use Rattle.lset_steps.specs.declared.Local.{Local}
 use Rattle.lset_steps.specs.declared.Fed.{Fed}
 use Rattle.lset_steps.specs.declared.Action.TheVariants.{Load}
@@ -15,8 +15,9 @@ use Rattle.lset_steps.specs.declared.Event.TheVariants.{Begin, Go}
 use Rattle.lset_steps.specs.Steps.{Table, State, Run, Enabled, state_at, after, local_of, seen_by, seen_next, idle}
 use Rattle.lset_steps.specs.Chain.{View, node_key, node_link}
 use Rattle.lset_steps.specs.Laws.{Lawful, StateLaws, view_of, views}
-use Rattle.lset_steps.specs.Promises.{IsRead}
-use Rattle.lset_steps.specs.ReadRows.{read_key, read_mark, continued, leaves_with}
+use Rattle.lset_steps.specs.Promises.{IsContains, IsRead}
+use Rattle.lset_steps.specs.ReadRows.{read_key, read_mark, ceiling_key, ceiling_mark, continued, leaves_with}
+use Rattle.lset_steps.specs.Rows.{ceiling_at}
 use Rattle.lset_steps.proofs.ReadTables.{HasReadRows, IsReadRow}
 use Rattle.lset_steps.specs.BoundedReads.{BoundedReads, ReadsNext, steps_after, steps_since}
 
@@ -122,10 +123,15 @@ tally_on {v} {w} {size} {below} g a = record {
   amount_is = a.amount_is;
 }
 
--- WHERE A CONTAINS STANDS after so many steps
+-- the rows of a ceiling
+abbrev IsCeilingRow : ℕ → Type 0
+IsCeilingRow pc = (pc ≡ 23) ⊎ (pc ≡ 24) ⊎ (pc ≡ 25)
+
+-- WHERE A CONTAINS STANDS after so many steps, and a ceiling
 data Walked (v : View) (size steps : ℕ) (l : Local) : Type 0 where
   resting : l.pc ≡ 0 → Walked v size steps l
   writing : (IsRead l.call → ⊥) → Walked v size steps l
+  searching : (IsContains l.call → ⊥) → IsCeilingRow l.pc → Walked v size steps l
   before_link : l.pc ≡ 20 → v.published l.curr → v.key l.curr < target l.call → (met : ℕ)
       → Tally v size (v.key l.curr + 1) met → steps + 2 ≡ 2 * met → Walked v size steps l
   before_key : l.pc ≡ 21 → v.published l.curr → (met : ℕ)
@@ -136,6 +142,7 @@ data Walked (v : View) (size steps : ℕ) (l : Local) : Type 0 where
 walked_on : {v w : View} {size steps : ℕ} {l : Local} → Later v w → Walked v size steps l → Walked w size steps l
 walked_on g (resting e) = resting e
 walked_on g (writing c) = writing c
+walked_on g (searching c r) = searching c r
 walked_on {v} {w} {size} {steps} {l} g (before_link e p lt met a s) =
     let z : w.key l.curr ≡ v.key l.curr = (g l.curr p).1 in
     before_link e (g l.curr p).0 (omega arith) met (tally_below (w.key l.curr + 1) (omega arith) (tally_on g a)) s
@@ -145,6 +152,12 @@ walked_on {v} {w} {size} {steps} {l} g (before_key e p met a s) =
 walked_on {v} {w} {size} {steps} {l} g (before_mark e p f met a s) =
     let z : w.key l.curr ≡ v.key l.curr = (g l.curr p).1 in
     before_mark e (g l.curr p).0 (z ∙ f) met (tally_below (w.key l.curr) (omega arith) (tally_on g a)) s
+
+no_read : (c : Call) → (IsRead c → ⊥) → IsContains c → ⊥
+no_read (Add k) h r = r
+no_read (Remove k) h r = r
+no_read (Contains k) h r = h tt
+no_read (Ceiling k) h r = r
 
 module _ (T : Table) (law : Lawful T) (rows : HasReadRows T) (n q : ℕ) where
   abbrev size : ℕ
@@ -174,6 +187,36 @@ module _ (T : Table) (law : Lawful T) (rows : HasReadRows T) (n q : ℕ) where
     own_step : L.pc ≢ 0 → (T.feed L (seen_next T s t)).local.call ≡ L.call → Walked V size steps L → Next
     own_step busy same (resting e) = absurd (busy e)
     own_step busy same (writing c) = writing (λ r. c (subst IsRead same r))
+    own_step busy same (searching c (inl e)) =
+        let feeds : T.feed L (seen_next T s t) ≡ continued (record L { pc = 24; curr = seen_next T s t / 2 }) =
+        rows.feeds L (seen_next T s t) (inr (inr (inr (inl e)))) ∙ (rw e refl) in
+        goes_to (continued (record L { pc = 24; curr = seen_next T s t / 2 })) feeds (searching c (inr (inl refl)))
+    own_step busy same (searching c (inr (inl e))) =
+        let x : ℕ = seen_next T s t in let k : ℕ = target L.call in
+        let feeds : T.feed L (seen_next T s t) ≡ ceiling_key L (seen_next T s t) =
+        rows.feeds L (seen_next T s t) (inr (inr (inr (inr (inl e))))) ∙ (rw e refl) in
+        let on : Fed = continued (record L { pc = 23; ckey = x }) in
+        let none : Fed = leaves_with Nothing (record L { ckey = x }) in
+        let stop : Fed = continued (record L { pc = 25; ckey = x }) in
+        elim (below_or_not x k) [
+          | inl lt ↦ goes_to on (feeds ∙ if_below x k lt on (if x == tail_word then none else stop)) (searching c (inl refl))
+          | inr ge ↦
+              (let skip = feeds ∙ if_not_below x k ge on (if x == tail_word then none else stop) in
+              elim (same_or_not x tail_word) [
+                | inl y ↦ goes_to none (skip ∙ if_same x tail_word y none stop) (resting refl)
+                | inr y ↦ goes_to stop (skip ∙ if_other x tail_word y none stop) (searching c (inr (inr refl)))
+              ])
+        ]
+    own_step busy same (searching c (inr (inr e))) =
+        let x : ℕ = seen_next T s t in
+        let feeds : T.feed L (seen_next T s t) ≡ ceiling_mark L (seen_next T s t) =
+        rows.feeds L (seen_next T s t) (inr (inr (inr (inr (inr e))))) ∙ (rw e refl) in
+        let found : Fed = leaves_with (ceiling_at L.ckey) L in
+        let again : Fed = continued (record L { pc = 23; curr = 0 }) in
+        elim (same_or_not (x % 2) 0) [
+          | inl y ↦ goes_to found (feeds ∙ if_same (x % 2) 0 y found again) (resting refl)
+          | inr y ↦ goes_to again (feeds ∙ if_other (x % 2) 0 y found again) (searching c (inl refl))
+        ]
     own_step busy same (before_link e p lt met a m) =
         let acts : T.next L ≡ Load (link_index L.curr) = rows.acts L (inl e) ∙ (rw e refl) in
         let seen : seen_next T s t ≡ node_link s.words L.curr = ap (seen_by s.words) acts in
@@ -208,7 +251,7 @@ module _ (T : Table) (law : Lawful T) (rows : HasReadRows T) (n q : ℕ) where
         ]
     own_step busy same (before_mark e p f met a m) =
         let feeds : T.feed L (seen_next T s t) ≡ read_mark L (seen_next T s t) =
-        rows.feeds L (seen_next T s t) (inr (inr e)) ∙ (rw e refl) in
+        rows.feeds L (seen_next T s t) (inr (inr (inl e))) ∙ (rw e refl) in
         let x : ℕ = seen_next T s t in
         elim (same_or_not (x % 2) 0) [
           | inl y ↦ goes_to (leaves_with True L) (feeds ∙ if_same (x % 2) 0 y (leaves_with True L) (leaves_with False L)) (resting refl)
@@ -222,9 +265,11 @@ module _ (T : Table) (law : Lawful T) (rows : HasReadRows T) (n q : ℕ) where
   starts s o (Contains k) l =
       let v : View = view_of n q s in
       let head : (view_of n q s).key 0 ≡ 0 = o.head_key in
-      subst (λ (x : Local). Walked (view_of n q s) size 0 x) (sym (rows.begins k l))
+      subst (λ (x : Local). Walked (view_of n q s) size 0 x) (sym (rows.begins (Contains k) l))
       (before_link refl o.ordered.head_published (omega arith) 1
       (tally_more 0 o.ordered.head_published (omega arith) (tally_none (view_of n q s) size ((view_of n q s).key 0))) refl)
+  starts s o (Ceiling k) l =
+      subst (λ (x : Local). Walked (view_of n q s) size 0 x) (sym (rows.begins (Ceiling k) l)) (searching (λ r. r) (inl refl))
 
   module _ (es : ℕ → Event) (last : ℕ) (r : Run T n q es last) (t : ℕ) (th : t < n) where
     laws : (k : ℕ) → k ≤ last → StateLaws T.marks n q (state_at T n q es k)
@@ -286,10 +331,11 @@ module _ (T : Table) (law : Lawful T) (rows : HasReadRows T) (n q : ℕ) where
         walked_on (later k (omega arith)) (walked_after k (omega arith) (es k) refl (r.enabled k (omega arith)) (walked_at k (omega arith)))
 
     reads_next : (k : ℕ) (l : k ≤ last) → (local_of (state_at T n q es k) t).pc ≢ 0
-        → IsRead (local_of (state_at T n q es k) t).call
+        → IsContains (local_of (state_at T n q es k) t).call
         → Walked (views T n q es k) size (steps_since es t k) (local_of (state_at T n q es k) t) → ReadsNext T n q es k t
     reads_next k l busy reads (resting e) = absurd (busy e)
-    reads_next k l busy reads (writing c) = absurd (c reads)
+    reads_next k l busy reads (writing c) = absurd (no_read (local_of (state_at T n q es k) t).call c reads)
+    reads_next k l busy reads (searching c r) = absurd (c reads)
     reads_next k l busy reads (before_link e p lt met a m) =
         let o : StateLaws T.marks n q (state_at T n q es k) = laws k l in
         let low : target (local_of (state_at T n q es k) t).call < tail_word = (o.threads t th).low in
@@ -323,7 +369,7 @@ module _ (T : Table) (law : Lawful T) (rows : HasReadRows T) (n q : ℕ) where
         record {
           loads = (
             link_index (local_of (state_at T n q es k) t).curr,
-            rows.acts (local_of (state_at T n q es k) t) (inr (inr e)) ∙ (rw e refl),
+            rows.acts (local_of (state_at T n q es k) t) (inr (inr (inl e))) ∙ (rw e refl),
           );
           few = omega arith;
         }
@@ -332,13 +378,16 @@ pub bounded_reads : (T : Table) → Lawful T → HasReadRows T → BoundedReads 
 bounded_reads T law rows n q last k t es r l th busy reads =
     reads_next T law rows n q es last r t th k l busy reads (walked_at T law rows n q es last r t th k l)
 
--- an open contains stands at one of its rows
+-- an open contains or ceiling stands at one of its rows
 row_of : {v : View} {size steps : ℕ} {l : Local} → l.pc ≢ 0 → IsRead l.call → Walked v size steps l → IsReadRow l.pc
 row_of busy reads (resting e) = absurd (busy e)
 row_of busy reads (writing c) = absurd (c reads)
+row_of busy reads (searching c (inl e)) = inr (inr (inr (inl e)))
+row_of busy reads (searching c (inr (inl e))) = inr (inr (inr (inr (inl e))))
+row_of busy reads (searching c (inr (inr e))) = inr (inr (inr (inr (inr e))))
 row_of busy reads (before_link e p lt met a m) = inl e
 row_of busy reads (before_key e p met a m) = inr (inl e)
-row_of busy reads (before_mark e p f met a m) = inr (inr e)
+row_of busy reads (before_mark e p f met a m) = inr (inr (inl e))
 
 pub read_row : (T : Table) → Lawful T → HasReadRows T → (n q last k t : ℕ) (es : ℕ → Event) → Run T n q es last → k ≤ last → t < n
     → (local_of (state_at T n q es k) t).pc ≢ 0 → IsRead (local_of (state_at T n q es k) t).call

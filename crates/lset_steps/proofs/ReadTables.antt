@@ -1,16 +1,15 @@
--- A table whose contains has the rows of `ReadRows`.
+-- A table whose contains and ceiling have the rows of `ReadRows`.
 use Rattle.std.specs.Prelude.{◌≡◌, ◌⊎◌, ℕ, None}
-use Rattle.lset_words.specs.declared.Key.{Key}
-use Rattle.lset_words.specs.declared.Call.TheVariants.{Contains}
+use Rattle.lset_words.specs.declared.Call.{Call}
 use Rattle.lset_steps.specs.declared.Local.{Local}
 use Rattle.lset_steps.specs.Steps.{Table}
 use Rattle.lset_steps.specs.ReadRows.{begun_reading, read_action, read_fed}
 
 abbrev pub IsReadRow : ℕ → Type 0
-IsReadRow pc = (pc ≡ 20) ⊎ (pc ≡ 21) ⊎ (pc ≡ 22)
+IsReadRow pc = (pc ≡ 20) ⊎ (pc ≡ 21) ⊎ (pc ≡ 22) ⊎ (pc ≡ 23) ⊎ (pc ≡ 24) ⊎ (pc ≡ 25)
 
 pub record HasReadRows (T : Table) : Type 0 where
-  pub begins : (k : Key) (l : Local) → T.begin (Contains k) l ≡ begun_reading (Contains k) l
+  pub begins : (call : Call) (l : Local) → T.begin call l ≡ begun_reading call l
   pub acts : (l : Local) → IsReadRow l.pc → T.next l ≡ read_action l
   pub feeds : (l : Local) (seen : ℕ) → IsReadRow l.pc → T.feed l seen ≡ read_fed l seen
   pub tells : (l : Local) (seen : ℕ) → IsReadRow l.pc → T.effect l seen ≡ None

@@ -1,4 +1,4 @@
--- That a contains walks over nodes that were in the chain.
+-- That a contains, and a ceiling, walks over nodes that were in the chain.
 use Rattle.std.specs.Prelude.{◌≡◌, ◌≢◌, ℕ, zero, suc, ◌<◌, ◌≤◌, Bool, if◌then◌else◌, ◌==◌, refl}
 use Rattle.std.proofs.Common.{arith, inl, inr, sym, ◌∙◌, ap, subst}
 use Rattle.lset_words.proofs.Numbers.{same_or_not, if_same, if_other}
@@ -18,7 +18,7 @@ use Rattle.lset_steps.specs.BoundedReads.{WalkWasInChain}
 use Rattle.lset_steps.proofs.Moves.{Course, InPast}
 use Rattle.lset_steps.proofs.Hindsight.{hindsight}
 use Rattle.lset_steps.proofs.ReadOutline.{Reading}
-use Rattle.lset_steps.proofs.ReadOutline.Reading.{reads20, reads21, reads22}
+use Rattle.lset_steps.proofs.ReadOutline.Reading.{reads20, reads21, reads22, reads23, reads24, reads25}
 use Rattle.lset_steps.proofs.ReadBound.{read_row}
 use Rattle.lset_steps.proofs.RunAccount.{tied}
 use Rattle.lset_steps.proofs.Discipline.{Outline, Discipline, Inv, inv_at, lawful_of}
@@ -38,9 +38,17 @@ module _ (T : Table) (rows : HasReadRows T) (vs : ℕ → View) (first now : ℕ
       let acts : T.next l ≡ Load (key_index l.curr) = rows.acts l (inr (inl e)) ∙ (rw e refl) in
       let f : link_index a ≡ key_index l.curr = ap word_named (sym next ∙ acts) in
       absurd (omega arith)
-  seen_now (reads22 e d c x) = at_curr (inr (inr e)) (rows.acts l (inr (inr e)) ∙ (rw e refl)) x.past
+  seen_now (reads22 e d c x) = at_curr (inr (inr (inl e))) (rows.acts l (inr (inr (inl e))) ∙ (rw e refl)) x.past
+  seen_now (reads23 e d c x) =
+      at_curr (inr (inr (inr (inl e)))) (rows.acts l (inr (inr (inr (inl e)))) ∙ (rw e refl)) x.past
+  seen_now (reads24 e d c x) =
+      let acts : T.next l ≡ Load (key_index l.curr) = rows.acts l (inr (inr (inr (inr (inl e))))) ∙ (rw e refl) in
+      let f : link_index a ≡ key_index l.curr = ap word_named (sym next ∙ acts) in
+      absurd (omega arith)
+  seen_now (reads25 e d c x) =
+      at_curr (inr (inr (inr (inr (inr e))))) (rows.acts l (inr (inr (inr (inr (inr e))))) ∙ (rw e refl)) x.past
 
--- the outline says what is known at the rows of a contains
+-- the outline says what is known at the rows of a contains and of a ceiling
 abbrev pub ShowsReading : Outline → Type 1
 ShowsReading At = (q t : ℕ) (vs : ℕ → View) (first now : ℕ) (v : View) (done : Bool) (l : Local) → IsReadRow l.pc
     → At q t vs first now v done l → Reading vs first now done l
@@ -48,9 +56,12 @@ ShowsReading At = (q t : ℕ) (vs : ℕ → View) (first now : ℕ) (v : View) (
 pub low_row : {A : Type 0} (pc row : ℕ) → pc ≡ row → row < 20 → IsReadRow pc → A
 low_row pc row e h (inl f) = absurd (omega arith)
 low_row pc row e h (inr (inl f)) = absurd (omega arith)
-low_row pc row e h (inr (inr f)) = absurd (omega arith)
+low_row pc row e h (inr (inr (inl f))) = absurd (omega arith)
+low_row pc row e h (inr (inr (inr (inl f)))) = absurd (omega arith)
+low_row pc row e h (inr (inr (inr (inr (inl f))))) = absurd (omega arith)
+low_row pc row e h (inr (inr (inr (inr (inr f))))) = absurd (omega arith)
 
--- what a contains is about to load
+-- what a contains or a ceiling is about to load
 loads_seen : (T : Table) (At : Outline) → Discipline T T.marks At → HasReadRows T → ShowsReading At
     → (n q last k t a : ℕ) (es : ℕ → Event) → Run T n q es last → k ≤ last → t < n
     → (local_of (state_at T n q es k) t).pc ≢ 0 → IsRead (local_of (state_at T n q es k) t).call

@@ -2,7 +2,7 @@
 use Rattle.std.proofs.Common.{◌≡◌, ◌≢◌, ℕ, ◌+◌, ◌/◌, ◌%◌, ◌<◌, ◌≤◌, [], sym, refl, ap, subst, ◌∙◌, arith}
 use Rattle.lset_steps.specs.Chain.{View, IsOrdered, Seen}
 use Rattle.lset_steps.proofs.Moves.{Course, InPast, Had, Lacked}
-use Rattle.lset_steps.proofs.Moves.{At20, At21, At22}
+use Rattle.lset_steps.proofs.Moves.{At20, At21, At22, At25}
 use Rattle.lset_steps.proofs.QuietMove.{in_chain_published}
 use Rattle.lset_steps.proofs.Hindsight.{hindsight, next_in_past, key_stays, in_past_on, seen_on, lacked_between, had_at, lacked_at}
 
@@ -17,6 +17,16 @@ at21_on vs first now later k curr l a =
 pub at22_on : (vs : ℕ → View) (first now later k curr : ℕ) → now ≤ later → At22 vs first now k curr → At22 vs first later k curr
 at22_on vs first now later k curr l a = record { past = in_past_on vs first now later curr l a.past; found = a.found }
 
+pub at25_on : (vs : ℕ → View) (first now later k curr ckey : ℕ) → now ≤ later → At25 vs first now k curr ckey
+    → At25 vs first later k curr ckey
+unfolding at21_on
+at25_on vs first now later k curr ckey l a = record {
+  past = in_past_on vs first now later curr l a.past;
+  walk = at21_on vs first now later k curr l a.walk;
+  found = a.found;
+  above = a.above;
+}
+
 -- the begin
 pub at20_begins : (vs : ℕ → View) (n first k : ℕ) → Course vs n → first ≤ n → (vs first).key 0 ≡ 0 → At20 vs first first k 0
 at20_begins vs n first k r l e = record {
@@ -24,7 +34,7 @@ at20_begins vs n first k r l e = record {
   low = omega arith;
 }
 
-no_tail : (v : View) → IsOrdered v → (b k : ℕ) → k + 1 < v.key 1 → v.key b < k + 1 → b ≢ 1
+pub no_tail : (v : View) → IsOrdered v → (b k : ℕ) → k + 1 < v.key 1 → v.key b < k + 1 → b ≢ 1
 no_tail v ord b k t l e = let f : v.key b ≡ v.key 1 = ap v.key e in omega arith
 
 -- pc 20: a load of the link of curr
@@ -82,6 +92,27 @@ from21_more vs n first now k curr r l a top s =
     lacked_between vs n first now a.from a.word k r l
     (no_tail (vs a.seen.at) (r.ordered a.seen.at (omega arith)) a.from k (top a.seen.at (omega arith)) a.low) a.seen
     (omega arith) (subst (λ x. k + 1 < (vs now).key x) (sym a.next) s)
+
+-- pc 24: a load of the key of curr, which was published when the node before it led to it
+pub behind_published : (vs : ℕ → View) (n first now k curr : ℕ) → Course vs n → now ≤ n → (a : At21 vs first now k curr)
+    → ((t : ℕ) → t ≤ n → k + 1 < (vs t).key 1) → (vs a.seen.at).published curr
+behind_published vs n first now k curr r l a top =
+    let la : a.seen.at ≤ now = a.seen.upto in
+    let ord : IsOrdered (vs a.seen.at) = r.ordered a.seen.at (omega arith) in
+    let e : (vs a.seen.at).link a.from / 2 ≡ curr = ap (λ x. x / 2) a.seen.link ∙ a.next in
+    subst (λ x. (vs a.seen.at).published x) e (ord.next_published a.from
+    (in_chain_published (vs a.seen.at) ord a.from a.seen.in_chain)
+    (no_tail (vs a.seen.at) ord a.from k (top a.seen.at (omega arith)) a.low))
+
+pub from24_more : (vs : ℕ → View) (n first now k curr : ℕ) → Course vs n → now ≤ n → (a : At21 vs first now k curr)
+    → ((t : ℕ) → t ≤ n → k + 1 < (vs t).key 1) → k + 1 ≤ (vs now).key curr → At25 vs first now k curr ((vs now).key curr)
+from24_more vs n first now k curr r l a top above =
+    let la : a.seen.at ≤ now = a.seen.upto in record {
+      past = from21_on vs n first now k curr r l a top;
+      walk = a;
+      found = sym (key_stays vs n curr a.seen.at now r la l (behind_published vs n first now k curr r l a top));
+      above = above;
+    }
 
 -- pc 22: a load of the link of curr
 pub from22_true : (vs : ℕ → View) (n first now k curr : ℕ) → Course vs n → now ≤ n → At22 vs first now k curr

@@ -9,7 +9,7 @@ use Rattle.lset_words.specs.Log.{begun_at, last_call}
 use Rattle.lset_steps.specs.Steps.{Table, Run, state_at, local_of, seen_next, log_of}
 use Rattle.lset_steps.specs.Chain.{Seen}
 use Rattle.lset_steps.specs.Laws.{views}
-use Rattle.lset_steps.specs.Promises.{IsRead}
+use Rattle.lset_steps.specs.Promises.{IsContains, IsRead}
 
 -- the steps that thread t has made since it began its last call
 abbrev pub steps_after : Event → ℕ → ℕ → ℕ
@@ -33,7 +33,7 @@ pub record ReadsNext (T : Table) (n q : ℕ) (es : ℕ → Event) (k t : ℕ) : 
 
 abbrev pub BoundedReads : Table → Type 0
 BoundedReads T = (n q last k t : ℕ) (es : ℕ → Event) → Run T n q es last → k ≤ last → t < n
-    → (local_of (state_at T n q es k) t).pc ≢ 0 → IsRead (local_of (state_at T n q es k) t).call
+    → (local_of (state_at T n q es k) t).pc ≢ 0 → IsContains (local_of (state_at T n q es k) t).call
     → ReadsNext T n q es k t
 
 -- [Walk was in the chain]: the walk of thread t's last call, open or ended at the moment k, has passed node a with the link word
@@ -47,8 +47,8 @@ pub record HasPassed (T : Table) (n q : ℕ) (es : ℕ → Event) (k t a l : ℕ
   pub loads : T.next (local_of (state_at T n q es at) t) ≡ Load (link_index a)
   pub read : seen_next T (state_at T n q es at) t ≡ l
 
--- Each node that the walk of a contains has passed was in the chain with the link that was read, at some moment of the call, not
--- later than the load.
+-- Each node that the walk of a contains or a ceiling has passed was in the chain with the link that was read, at some moment of the
+-- call, not later than the load.
 abbrev pub WalkWasInChain : Table → Type 0
 WalkWasInChain T = (n q last k t a l : ℕ) (es : ℕ → Event) → Run T n q es last → k ≤ last
     → IsRead (last_call (log_of T n q es) t k) → (p : HasPassed T n q es k t a l)

@@ -121,17 +121,25 @@ RepliesFit T = (n q last k t : ℕ) (es : ℕ → Event) (change : Option Change
     → RightReply (has_changed (log_of T n q es) t (suc k)) q (contents_of (views T n q es)) (counts_of (views T n q es))
     (begun_at (log_of T n q es) t k) (suc k) t (last_call (log_of T n q es) t k) (Some reply)
 
+-- a contains
+abbrev pub IsContains : Call → Type 0
+IsContains (call.Add k) = ⊥
+IsContains (call.Remove k) = ⊥
+IsContains (call.Contains k) = Unit {0}
+IsContains (call.Ceiling k) = ⊥
+
 -- a call that only reads
 abbrev pub IsRead : Call → Type 0
 IsRead (call.Add k) = ⊥
 IsRead (call.Remove k) = ⊥
 IsRead (call.Contains k) = Unit {0}
+IsRead (call.Ceiling k) = Unit {0}
 
--- An Add or a Remove that ends without a change does not answer True.
+-- A call that ends without a change does not answer True, but for a Contains.
 abbrev pub TrueMeansChange : Table → Type 0
 TrueMeansChange T = (n q last k t : ℕ) (es : ℕ → Event) (change : Option Change) → Run T n q es last → k < last
     → log_of T n q es k ≡ stepped t change (Some True)
-    → (has_changed (log_of T n q es) t (suc k) ≡ true) ⊎ IsRead (last_call (log_of T n q es) t k)
+    → (has_changed (log_of T n q es) t (suc k) ≡ true) ⊎ IsContains (last_call (log_of T n q es) t k)
 
 -- All of it together, with no word of nodes or locks: every run has an account.
 abbrev pub HasAccount : Table → Type 0

@@ -1,28 +1,32 @@
--- The rows of a contains that takes no lock and writes nothing (Herlihy and Shavit's wait-free contains, in this project's own
--- rows): 20 loads a link, 21 the key behind it, and 22 the mark of the node that has the key.
+-- The rows of a contains and of a ceiling that take no lock and write nothing (Herlihy and Shavit's wait-free contains, in this
+-- project's own rows): 20 and 23 load a link, 21 and 24 the key behind it, and 22 and 25 the mark of the node at which it stops.
 use Rattle.std.specs.Prelude.{ℕ, ◌/◌, ◌%◌, if◌then◌else◌, Some, None, ◌==◌, nat_lt}
 use Rattle.lset_words.specs.declared.Call.{Call}
-use Rattle.lset_words.specs.declared.Call.TheVariants.{Add, Remove, Contains}
+use Rattle.lset_words.specs.declared.Call.TheVariants.{Add, Remove, Contains, Ceiling}
 use Rattle.lset_words.specs.declared.Reply.{Reply}
-use Rattle.lset_words.specs.declared.Reply.TheVariants.{True, False}
-use Rattle.lset_words.specs.Words.{key_index, link_index, target}
+use Rattle.lset_words.specs.declared.Reply.TheVariants.{True, False, Nothing}
+use Rattle.lset_words.specs.Words.{key_index, link_index, tail_word, target}
 use Rattle.lset_steps.specs.declared.Local.{Local}
 use Rattle.lset_steps.specs.declared.Action.{Action}
 use Rattle.lset_steps.specs.declared.Action.TheVariants.{Load}
 use Rattle.lset_steps.specs.declared.Fed.{Fed}
-use Rattle.lset_steps.specs.Rows.{begun}
+use Rattle.lset_steps.specs.Rows.{begun, ceiling_at}
 
--- a call begins at row 1, a contains at row 20
+-- a call begins at row 1, a contains at row 20, a ceiling at row 23
 abbrev pub first_row : Call → ℕ
 first_row (Add k) = 1
 first_row (Remove k) = 1
 first_row (Contains k) = 20
+first_row (Ceiling k) = 23
 
 abbrev pub begun_reading : Call → Local → Local
 begun_reading call l = begun (first_row call) call l
 
 abbrev pub read_action : Local → Action
-read_action l = if l.pc == 21 then Load (key_index l.curr) else Load (link_index l.curr)
+read_action l =
+    if l.pc == 21 then Load (key_index l.curr)
+    else if l.pc == 24 then Load (key_index l.curr)
+    else Load (link_index l.curr)
 
 abbrev pub continued : Local → Fed
 continued l = record { local = l; answer = None }
@@ -39,8 +43,22 @@ read_key l seen =
 abbrev pub read_mark : Local → ℕ → Fed
 read_mark l seen = if seen % 2 == 0 then leaves_with True l else leaves_with False l
 
+-- a ceiling goes on to the first key that is not below its own, which is the tail's where there is none
+abbrev pub ceiling_key : Local → ℕ → Fed
+ceiling_key l seen =
+    if nat_lt seen (target l.call) then continued (record l { pc = 23; ckey = seen })
+    else if seen == tail_word then leaves_with Nothing (record l { ckey = seen })
+    else continued (record l { pc = 25; ckey = seen })
+
+-- and answers it where its node has no mark; else it starts again from the head
+abbrev pub ceiling_mark : Local → ℕ → Fed
+ceiling_mark l seen = if seen % 2 == 0 then leaves_with (ceiling_at l.ckey) l else continued (record l { pc = 23; curr = 0 })
+
 abbrev pub read_fed : Local → ℕ → Fed
 read_fed l seen =
     if l.pc == 20 then continued (record l { pc = 21; curr = seen / 2 })
     else if l.pc == 21 then read_key l seen
+    else if l.pc == 23 then continued (record l { pc = 24; curr = seen / 2 })
+    else if l.pc == 24 then ceiling_key l seen
+    else if l.pc == 25 then ceiling_mark l seen
     else read_mark l seen

@@ -1,12 +1,12 @@
 -- What the rows of all tables share: the nodes and words that they name, and what a call does at the first key that is not below
 -- its own. (This project's own tables.)
-use Rattle.std.specs.Prelude.{ℕ, ◌<◌, ◌≤◌, Bool, if◌then◌else◌, Option, Some, None, ◌==◌, nat_lt}
+use Rattle.std.specs.Prelude.{ℕ, ◌-◌, ◌<◌, ◌≤◌, Bool, if◌then◌else◌, Option, Some, None, ◌==◌, nat_lt}
 use Rattle.lset_words.specs.declared.TheConstants.{MOST_THREADS, MOST_QUOTA, MOST_NODES}
 use Rattle.lset_words.specs.declared.Call.{Call}
-use Rattle.lset_words.specs.declared.Call.TheVariants.{Add, Remove, Contains}
+use Rattle.lset_words.specs.declared.Call.TheVariants.{Add, Remove, Contains, Ceiling}
 use Rattle.lset_words.specs.declared.Reply.{Reply}
-use Rattle.lset_words.specs.declared.Reply.TheVariants.{True, False, Full}
-use Rattle.lset_words.specs.Words.{slot_node, target}
+use Rattle.lset_words.specs.declared.Reply.TheVariants.{True, False, Full, At, Nothing}
+use Rattle.lset_words.specs.Words.{slot_node, tail_word, target}
 use Rattle.lset_steps.specs.declared.Local.{Local}
 use Rattle.lset_steps.specs.Steps.{idle}
 use Rattle.lset_steps.specs.declared.rows.Targets.{Targets}
@@ -23,18 +23,23 @@ begun pc call l = record (idle l.quota l.thread) { used = l.used; call = call; p
 abbrev pub goes_to : ℕ → Option Reply → Local → Local
 goes_to pc reply l = record l { pc = pc; reply = reply }
 
+-- the reply of a ceiling that stops at a key word: its key, or at that of the tail that there is none
+abbrev pub ceiling_at : ℕ → Reply
+ceiling_at word = if nat_lt word tail_word then At (record { 0 = word - 1 }) else Nothing
+
 -- on to the row that adds, to the one that removes, or with a reply to the one that leaves, where the key was found or not, and
--- there is room for another successful add or not
-abbrev pub decided : ℕ → ℕ → ℕ → Call → Bool → Bool → Local → Local
-decided adds removes leaves (Add k) found room l =
+-- there is room for another successful add or not; a ceiling leaves with what the key word stands for
+abbrev pub decided : ℕ → ℕ → ℕ → Call → Bool → Bool → ℕ → Local → Local
+decided adds removes leaves (Add k) found room key l =
     if found then goes_to leaves (Some False) l else if room then goes_to adds None l else goes_to leaves (Some Full) l
-decided adds removes leaves (Remove k) found room l = if found then goes_to removes None l else goes_to leaves (Some False) l
-decided adds removes leaves (Contains k) found room l = if found then goes_to leaves (Some True) l
+decided adds removes leaves (Remove k) found room key l = if found then goes_to removes None l else goes_to leaves (Some False) l
+decided adds removes leaves (Contains k) found room key l = if found then goes_to leaves (Some True) l
     else goes_to leaves (Some False) l
+decided adds removes leaves (Ceiling k) found room key l = goes_to leaves (Some (ceiling_at key)) l
 
 -- the decision on a key word
 abbrev pub decided_on : Targets → ℕ → Local → Local
-decided_on rows key l = decided rows.adds rows.removes rows.leaves l.call (key == target l.call) (nat_lt l.used l.quota) l
+decided_on rows key l = decided rows.adds rows.removes rows.leaves l.call (key == target l.call) (nat_lt l.used l.quota) key l
 
 -- every number is small enough to compute with
 pub record IsSmall (l : Local) : Type 0 where

@@ -1,19 +1,20 @@
 ghost use Rattle.std.specs.Prelude.{◌≡◌};
 ghost use Rattle.lset_steps.specs.Rows.{IsSmall};
-ghost use Rattle.lset_steps.specs.ReadRows.{begun_reading, continued, leaves_with, read_action, read_fed};
+ghost use Rattle.lset_steps.specs.ReadRows.{begun_reading, continued, leaves_with, ceiling_key, ceiling_mark, read_action, read_fed};
 
-use crate::rows::{begun, key_index, link_index};
+use crate::rows::{TAIL_WORD, begun, ceiling_at, key_index, link_index};
 use crate::{Action, Fed, Local};
 use lset_words::{Call, Reply};
 
-/// A thread that has begun a call, at the first row of its kind: a `contains` has rows of its own, which
-/// take no lock and write nothing (Herlihy and Shavit's wait-free `contains`).
+/// A thread that has begun a call, at the first row of its kind: a `contains` and a `ceiling` have rows of their own,
+/// which take no lock and write nothing (Herlihy and Shavit's wait-free `contains`; the `ceiling` is this project's own).
 pub fn begun_reading(call: Call, local: &Local) -> Local
     ensures { result ≡ begun_reading call local.now }
 {
     let pc = match call {
         Call::Add(_) | Call::Remove(_) => 1,
         Call::Contains(_) => 20,
+        Call::Ceiling(_) => 23,
     };
     begun(pc, call, local)
 }
@@ -38,20 +39,54 @@ pub fn leaves_with(reply: Reply, local: Local) -> Fed
     }
 }
 
-/// The next step of a `contains`.
+/// The next step of a `contains` or a `ceiling`.
 pub fn read_action(local: &Local) -> Action
     requires { IsSmall local.now }
     ensures { result ≡ read_action local.now }
 {
-    if local.pc == 21 {
+    if local.pc == 21 || local.pc == 24 {
         Action::Load(key_index(local.curr))
     } else {
         Action::Load(link_index(local.curr))
     }
 }
 
-/// What the thread holds after the next step of a `contains`: it goes on to the first key that is not
-/// below its own, and answers whether this is its own, in a node without a mark.
+/// A `ceiling` that has read a key word: it goes on to the first that is not below its own, and answers at the tail's that
+/// there is none.
+fn ceiling_key(local: &Local, seen: u64) -> Fed
+    ensures { result ≡ ceiling_key local.now seen }
+{
+    let local = Local {
+        ckey: seen,
+        ..*local
+    };
+    if seen < local.call.key().word() {
+        continued(Local { pc: 23, ..local })
+    } else if seen == TAIL_WORD {
+        leaves_with(Reply::Nothing, local)
+    } else {
+        continued(Local { pc: 25, ..local })
+    }
+}
+
+/// A `ceiling` that has read the link of the node at which it stops: it answers that node's key, or starts again from the
+/// head where the node has a mark.
+fn ceiling_mark(local: &Local, seen: u64) -> Fed
+    ensures { result ≡ ceiling_mark local.now seen }
+{
+    if seen % 2 == 0 {
+        leaves_with(ceiling_at(local.ckey), *local)
+    } else {
+        continued(Local {
+            pc: 23,
+            curr: 0,
+            ..*local
+        })
+    }
+}
+
+/// What the thread holds after the next step of a `contains` or a `ceiling`. A `contains` goes on to the first key that is
+/// not below its own, and answers whether this is its own, in a node without a mark.
 pub fn read_fed(local: &Local, seen: u64) -> Fed
     ensures { result ≡ read_fed local.now seen }
 {
@@ -65,6 +100,13 @@ pub fn read_fed(local: &Local, seen: u64) -> Fed
         21 if seen < key => continued(Local { pc: 20, ..*local }),
         21 if seen == key => continued(Local { pc: 22, ..*local }),
         21 => leaves_with(Reply::False, *local),
+        23 => continued(Local {
+            pc: 24,
+            curr: seen / 2,
+            ..*local
+        }),
+        24 => ceiling_key(local, seen),
+        25 => ceiling_mark(local, seen),
         _ if seen % 2 == 0 => leaves_with(Reply::True, *local),
         _ => leaves_with(Reply::False, *local),
     }

@@ -1,9 +1,9 @@
 ghost use Rattle.std.specs.Prelude.{◌≡◌, ◌+◌, ◌^◌, ◌<◌, ◌≤◌};
 ghost use Rattle.lset_words.specs.Words.{lock_index};
-ghost use Rattle.lset_steps.specs.Rows.{own_slot, begun, decided_on, IsSmall};
+ghost use Rattle.lset_steps.specs.Rows.{own_slot, begun, ceiling_at, decided_on, IsSmall};
 
 use crate::{Action, Local};
-use lset_words::{Call, MOST_NODES, Reply, slot_node};
+use lset_words::{Call, Key, MOST_NODES, Reply, slot_node};
 pub use lset_words::{key_index, link_index, lock_index};
 
 /// The slot that the thread's next successful add puts into the chain.
@@ -36,6 +36,21 @@ pub fn begun(pc: u8, call: Call, local: &Local) -> Local
     }
 }
 
+/// The key word of the tail. (This project's own table.)
+pub const TAIL_WORD: u64 = 4_294_967_297;
+
+/// What a `ceiling` answers that stops at this key word: its key, or, where it is the tail's, that there is none. (This
+/// project's own table.)
+pub fn ceiling_at(word: u64) -> Reply
+    ensures { result ≡ ceiling_at word }
+{
+    if word < TAIL_WORD {
+        Reply::At(Key(word.saturating_sub(1) as u32))
+    } else {
+        Reply::Nothing
+    }
+}
+
 /// The rows of a table to which a call goes on from its decision: to add, to remove, or to leave with a
 /// reply.
 #[derive(Clone, Copy, Debug, PartialEq, Eq)]
@@ -47,7 +62,7 @@ pub struct Targets {
 
 /// What a call does at the first key word that is not below its own (this project's own table): an `add`
 /// of a key that is there, and a `remove` or `contains` of one that is not, answer False, an `add` beyond
-/// the quota Full.
+/// the quota Full; a `ceiling` answers the key that the word stands for.
 pub fn decide(rows: Targets, key: u64, local: Local) -> Local
     ensures { result ≡ decided_on rows key local }
 {
@@ -60,6 +75,7 @@ pub fn decide(rows: Targets, key: u64, local: Local) -> Local
         Call::Remove(_) if found => (rows.removes, None),
         Call::Contains(_) if found => (rows.leaves, Some(Reply::True)),
         Call::Remove(_) | Call::Contains(_) => (rows.leaves, Some(Reply::False)),
+        Call::Ceiling(_) => (rows.leaves, Some(ceiling_at(key))),
     };
     Local { pc, reply, ..local }
 }

@@ -88,7 +88,9 @@ fn add_reply_text(
     };
     let x = x_of(columns, u64::from(end)) + 10;
     let y = lane_y(made.thread) + 4;
-    add_text_where(alloc, lines, end <= last, x, y, reply_word(reply))
+    let reply = reply_word(reply);
+    let text = format!(in alloc; "{reply}")?;
+    add_text_where(alloc, lines, end <= last, x, y, &text)
 }
 
 fn is_in_view(made: &CallRecord, from: u32, last: u32) -> bool

@@ -2,11 +2,15 @@
 #![tactic(auto)]
 
 #[cfg(test)]
+mod ceilings;
+#[cfg(test)]
 mod changes;
 #[cfg(test)]
 mod coarse;
 #[cfg(test)]
 mod fine;
+#[cfg(test)]
+mod first_ceilings;
 #[cfg(test)]
 mod generated;
 #[cfg(test)]

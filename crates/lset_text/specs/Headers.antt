@@ -6,6 +6,8 @@ use Rattle.std.specs.Str.{bytes_eq}
 use Rattle.lset_words.specs.declared.TheConstants.{MOST_THREADS, MOST_QUOTA}
 use Rattle.lset_words.specs.declared.Kind.{Kind}
 use Rattle.lset_words.specs.Words.{IsWithin}
+use Rattle.lset_text.specs.declared.words.Version.{Version}
+use Rattle.lset_text.specs.declared.words.Version.TheVariants.{One, Two}
 use Rattle.lset_text.specs.declared.headers.Header.{Header}
 use Rattle.lset_text.specs.declared.headers.HeaderCause.{HeaderCause}
 use Rattle.lset_text.specs.declared.headers.HeaderCause.TheVariants as wrong
@@ -31,6 +33,12 @@ header_lines title h =
 -- 1 to 64 threads, with a quota of 0 to 16,384
 abbrev pub IsHeader : Header → Type 0
 IsHeader h = IsWithin (record { threads = h.threads; quota = h.quota })
+
+-- ---- the version of a text, whose second version has this title
+
+abbrev pub version_in : List ℕ → List (List ℕ) → Version
+version_in title [] = One
+version_in title (first ∷ more) = if bytes_eq first title then Two else One
 
 -- ---- reading a header
 

@@ -9,6 +9,7 @@ ghost use Rattle.lset_text.specs.Headers.{
   threads_told,
   quota_told,
   header_of,
+  version_in,
   header_lines,
   IsHeader,
   HeadersReadBack,
@@ -16,7 +17,7 @@ ghost use Rattle.lset_text.specs.Headers.{
 
 use crate::numbers::number;
 use crate::parts::cut;
-use crate::words::{kind_word, read_kind};
+use crate::words::{Version, kind_word, read_kind};
 use lset_words::{Kind, MOST_QUOTA, MOST_THREADS};
 use std::alloc::AllocError;
 use thiserror::Error;
@@ -163,6 +164,22 @@ fn quota_due(text: &[u8]) -> Result<(u32, &[u8]), HeaderFault>
         });
     };
     Ok((quota, rest))
+}
+
+/// The version of a text whose second version has this title: the second where the text begins with a line that is
+/// the title, and else the first.
+pub fn version_of(text: &[u8], title: &[u8]) -> Version
+    ensures { result ≡ version_in title.now (cut_at 10 text.now) }
+{
+    let first = match cut(text, b'\n') {
+        Some((first, _)) => first,
+        None => text,
+    };
+    if first == title {
+        Version::Two
+    } else {
+        Version::One
+    }
 }
 
 /// The header at the head of a text with this title, and what comes after it, or the first fault of the

@@ -7,9 +7,12 @@ mod numbers;
 mod parts;
 mod words;
 
-pub use headers::{Header, HeaderCause, HeaderFault, headers_read_back, put_header, read_header};
+pub use headers::{
+    Header, HeaderCause, HeaderFault, headers_read_back, put_header, read_header, version_of,
+};
 pub use numbers::{number, numbers_read_back};
 pub use parts::cut;
 pub use words::{
-    CallWord, call_word, kind_word, read_call, read_kind, read_reply, reply_word, words_read_back,
+    CallWord, ReplyWord, Version, call_word, is_reply, kind_word, read_call, read_kind, read_reply,
+    reply_word, words_read_back,
 };

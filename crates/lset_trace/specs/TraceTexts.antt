@@ -7,11 +7,10 @@ use Rattle.std.specs.Fmt.{decimal}
 use Rattle.lset_words.specs.declared.Key.{Key}
 use Rattle.lset_words.specs.declared.Call.{Call}
 use Rattle.lset_words.specs.declared.Reply.{Reply}
-use Rattle.lset_words.specs.declared.Reply.TheVariants as reply
 use Rattle.lset_words.specs.Words.{key_of}
 use Rattle.lset_text.specs.declared.headers.Header.{Header}
 use Rattle.lset_text.specs.Parts.{text_of}
-use Rattle.lset_text.specs.Spellings.{call_text, reply_text}
+use Rattle.lset_text.specs.Spellings.{call_text, reply_text, same_reply}
 use Rattle.lset_text.specs.Headers.{header_lines}
 use Rattle.lset_steps.specs.declared.Action.{Action}
 use Rattle.lset_steps.specs.declared.Action.TheVariants.{Load, Store, Exchange}
@@ -54,15 +53,14 @@ abbrev pub option_reply_text : Option Reply → List ℕ
 option_reply_text (Some r) = reply_text r
 option_reply_text None = codes "none"
 
-abbrev pub same_reply : Option Reply → Option Reply → Bool
-same_reply None None = true
-same_reply (Some reply.True) (Some reply.True) = true
-same_reply (Some reply.False) (Some reply.False) = true
-same_reply (Some reply.Full) (Some reply.Full) = true
-same_reply _ _ = false
+abbrev pub same_register : Option Reply → Option Reply → Bool
+same_register None None = true
+same_register None (Some r) = false
+same_register (Some r) None = false
+same_register (Some r) (Some other) = same_reply r other
 
 abbrev pub changed_reply : Option Reply → Option Reply → List ℕ
-changed_reply before after = if same_reply before after then [] else codes " reply " ++ option_reply_text after
+changed_reply before after = if same_register before after then [] else codes " reply " ++ option_reply_text after
 
 -- of what a thread holds, but for its row, whatever is new
 abbrev pub changes_text : Local → Local → List ℕ

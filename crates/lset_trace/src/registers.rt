@@ -40,12 +40,16 @@ fn put_used_change(out: &mut String, before: u32, after: u32) -> Result<(), Allo
     Ok(())
 }
 
-fn option_reply_word(reply: Option<Reply>) -> &'static str
-    ensures { result.now ≡ option_reply_text reply }
+fn put_option_reply(out: &mut String, reply: Option<Reply>) -> Result<(), AllocError>
+    ensures { OnOk result (string_bytes out.new ≡ string_bytes out.old ++ option_reply_text reply) }
 {
     match reply {
-        Some(reply) => reply_word(reply),
-        None => "none",
+        Some(reply) => {
+            let word = reply_word(reply);
+            write!(out, "{word}")?;
+            Ok(())
+        }
+        None => out.push_str("none"),
     }
 }
 
@@ -57,8 +61,8 @@ fn put_reply_change(
     ensures { OnOk result (string_bytes out.new ≡ string_bytes out.old ++ changed_reply before after) }
 {
     if before != after {
-        let word = option_reply_word(after);
-        write!(out, " reply {word}")?;
+        out.push_str(" reply ")?;
+        put_option_reply(out, after)?;
     }
     Ok(())
 }

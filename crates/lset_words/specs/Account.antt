@@ -1,10 +1,10 @@
 -- What a run shows of its set, apart from any machine: the contents at its moments, which replies fit them, and what each
 -- event does.
-use Rattle.std.specs.Prelude.{◌≡◌, ◌≢◌, ℕ, suc, ◌+◌, ◌<◌, ◌≤◌, Bool, true, false, Option, Some, None}
+use Rattle.std.specs.Prelude.{◌≡◌, ◌≢◌, ℕ, suc, ◌+◌, ◌^◌, ◌<◌, ◌≤◌, Bool, true, false, Option, Some, None}
 use Rattle.lset_words.specs.declared.Call.{Call}
-use Rattle.lset_words.specs.declared.Call.TheVariants.{Add, Remove, Contains}
+use Rattle.lset_words.specs.declared.Call.TheVariants.{Add, Remove, Contains, Ceiling}
 use Rattle.lset_words.specs.declared.Reply.{Reply}
-use Rattle.lset_words.specs.declared.Reply.TheVariants.{True, False, Full}
+use Rattle.lset_words.specs.declared.Reply.TheVariants.{True, False, Full, At, Nothing}
 use Rattle.lset_words.specs.Log.{Log, Entry, Change, last_call, begun_at, is_open, has_changed}
 use Rattle.lset_words.specs.Log.Entry.{began, stepped}
 
@@ -36,17 +36,33 @@ MayChange quota count call changed None = Unit {0}
 MayChange quota count call changed (Some (k, true)) = (call ≡ Add k) × (changed ≡ false) × (count < quota)
 MayChange quota count call changed (Some (k, false)) = (call ≡ Remove k) × (changed ≡ false)
 
+-- the least key of a content at or above k, or that there is none
+abbrev pub IsCeiling : Content → ℕ → Option ℕ → Type 0
+IsCeiling content k None = (j : ℕ) → k ≤ j → content j → ⊥
+IsCeiling content k (Some x) = (k ≤ x) × content x × ((j : ℕ) → k ≤ j → j < x → content j → ⊥)
+
 -- [Fits]: with this content, and this count of the thread, the sequential set gives this reply to the call without a change
 abbrev pub Fits : ℕ → Content → ℕ → Call → Reply → Type 0
 Fits quota content count (Add k) True = ⊥
 Fits quota content count (Add k) False = content k.0
 Fits quota content count (Add k) Full = (content k.0 → ⊥) × (count ≡ quota)
+Fits quota content count (Add k) (At x) = ⊥
+Fits quota content count (Add k) Nothing = ⊥
 Fits quota content count (Remove k) True = ⊥
 Fits quota content count (Remove k) False = content k.0 → ⊥
 Fits quota content count (Remove k) Full = ⊥
+Fits quota content count (Remove k) (At x) = ⊥
+Fits quota content count (Remove k) Nothing = ⊥
 Fits quota content count (Contains k) True = content k.0
 Fits quota content count (Contains k) False = content k.0 → ⊥
 Fits quota content count (Contains k) Full = ⊥
+Fits quota content count (Contains k) (At x) = ⊥
+Fits quota content count (Contains k) Nothing = ⊥
+Fits quota content count (Ceiling k) True = ⊥
+Fits quota content count (Ceiling k) False = ⊥
+Fits quota content count (Ceiling k) Full = ⊥
+Fits quota content count (Ceiling k) (At x) = IsCeiling content k.0 (Some x.0)
+Fits quota content count (Ceiling k) Nothing = IsCeiling content k.0 None
 
 -- the contents at the moments, and each thread's count
 abbrev pub Contents : Type 1
@@ -101,4 +117,6 @@ Enters threads quota log contents counts k (stepped t change reply) = Steps thre
 pub record Account (threads quota last : ℕ) (log : Log) (contents : Contents) (counts : Counts) : Type 0 where
   pub empty : (k : ℕ) → contents 0 k → ⊥
   pub none_yet : (t : ℕ) → t < threads → counts 0 t ≡ 0
+  -- keys are those of `u32`,
+  pub low : (k j : ℕ) → k ≤ last → contents k j → j < 2 ^ 32
   pub enters : (k : ℕ) → k < last → Enters threads quota log contents counts k (log k)

@@ -1,9 +1,9 @@
 -- The sequential set: Herlihy and Shavit's interface, and this project's quota of successful adds for each thread.
 use Rattle.std.specs.Prelude.{◌≡◌, ℕ, ◌+◌, ◌==◌, ◌||◌, nat_lt, Bool, false, if◌then◌else◌, List, [], ◌∷◌, replicate, slice_index, slice_set}
 use Rattle.lset_words.specs.declared.Call.{Call}
-use Rattle.lset_words.specs.declared.Call.TheVariants.{Add, Remove, Contains}
+use Rattle.lset_words.specs.declared.Call.TheVariants.{Add, Remove, Contains, Ceiling}
 use Rattle.lset_words.specs.declared.Reply.{Reply}
-use Rattle.lset_words.specs.declared.Reply.TheVariants.{True, False, Full}
+use Rattle.lset_words.specs.declared.Reply.TheVariants.{True, False, Full, At, Nothing}
 
 -- its keys, rising, and how many successful adds each thread has made
 pub record SetState : Type 0 where
@@ -27,6 +27,11 @@ abbrev pub without_key : ℕ → List ℕ → List ℕ
 without_key k [] = []
 without_key k (x ∷ xs) = if x == k then without_key k xs else x ∷ without_key k xs
 
+-- the first of rising keys at or above k, which is the least
+abbrev pub ceiling_in : ℕ → List ℕ → Reply
+ceiling_in k [] = Nothing
+ceiling_in k (x ∷ xs) = if nat_lt x k then ceiling_in k xs else At (record { 0 = x })
+
 abbrev pub count_of : SetState → ℕ → ℕ
 count_of s thread = slice_index s.counts thread
 
@@ -35,6 +40,7 @@ abbrev pub reply_to : ℕ → SetState → ℕ → Call → Reply
 reply_to quota s thread (Add k) = if has_key k.0 s.keys then False else if count_of s thread == quota then Full else True
 reply_to quota s thread (Remove k) = if has_key k.0 s.keys then True else False
 reply_to quota s thread (Contains k) = if has_key k.0 s.keys then True else False
+reply_to quota s thread (Ceiling k) = ceiling_in k.0 s.keys
 
 -- the state after a call with its reply: only a successful add or remove changes it
 abbrev pub after_call : SetState → ℕ → Call → Reply → SetState
@@ -42,8 +48,17 @@ after_call s thread (Add k) True = record {
   keys = with_key k.0 s.keys;
   counts = slice_set s.counts thread (count_of s thread + 1);
 }
+after_call s thread (Add k) False = s
+after_call s thread (Add k) Full = s
+after_call s thread (Add k) (At x) = s
+after_call s thread (Add k) Nothing = s
 after_call s thread (Remove k) True = record { keys = without_key k.0 s.keys; counts = s.counts }
-after_call s thread _ _ = s
+after_call s thread (Remove k) False = s
+after_call s thread (Remove k) Full = s
+after_call s thread (Remove k) (At x) = s
+after_call s thread (Remove k) Nothing = s
+after_call s thread (Contains k) reply = s
+after_call s thread (Ceiling k) reply = s
 
 -- a call of a thread, with a reply
 pub record Answered : Type 0 where

@@ -4,7 +4,7 @@ use Rattle.std.specs.Prelude.{◌≡◌, ◌≢◌, ℕ, ◌+◌, ◌*◌, ◌<�
 use Rattle.lset_words.specs.declared.TheConstants.{MOST_THREADS, MOST_QUOTA}
 use Rattle.lset_words.specs.declared.Key.{Key}
 use Rattle.lset_words.specs.declared.Call.{Call}
-use Rattle.lset_words.specs.declared.Call.TheVariants.{Add, Remove, Contains}
+use Rattle.lset_words.specs.declared.Call.TheVariants.{Add, Remove, Contains, Ceiling}
 use Rattle.lset_words.specs.declared.fault.LayoutFault.{LayoutFault}
 use Rattle.lset_words.specs.declared.fault.LayoutFault.TheVariants.{Threads, Quota}
 
@@ -59,6 +59,7 @@ abbrev pub key_of : Call → Key
 key_of (Add k) = k
 key_of (Remove k) = k
 key_of (Contains k) = k
+key_of (Ceiling k) = k
 
 -- the key word that a call looks for
 abbrev pub target : Call → ℕ

@@ -54,6 +54,8 @@ pub enum Call {
     Add(Key),
     Remove(Key),
     Contains(Key),
+    /// The least key at or above this one (this project's own).
+    Ceiling(Key),
 }
 
 impl Call {
@@ -62,17 +64,20 @@ impl Call {
         ensures { result ≡ key_of self }
     {
         match self {
-            Call::Add(key) | Call::Remove(key) | Call::Contains(key) => key,
+            Call::Add(key) | Call::Remove(key) | Call::Contains(key) | Call::Ceiling(key) => key,
         }
     }
 }
 
-/// What a call answers. `Full` is this project's own: an `add` of a thread whose quota is used up.
+/// What a call answers. `Full` is this project's own: an `add` of a thread whose quota is used up. So are the answers
+/// of a `ceiling`: the key that it found, or that there is none.
 #[derive(Clone, Copy, Debug, PartialEq, Eq, Hash)]
 pub enum Reply {
     True,
     False,
     Full,
+    At(Key),
+    Nothing,
 }
 
 /// The layout for `threads` threads, 1 to 64, with a quota of `quota` slots, 0 to 16,384.

@@ -1,7 +1,7 @@
 -- Schedules, in the words of the schedule format: `begin 0 add 5`, `go 0 6`.
 use Rattle.std.specs.Prelude.{ℕ, zero, suc, List, [], ◌∷◌, length}
 use Rattle.lset_words.specs.declared.Call.{Call}
-use Rattle.lset_words.specs.declared.Call.TheVariants.{Add, Remove, Contains}
+use Rattle.lset_words.specs.declared.Call.TheVariants.{Add, Remove, Contains, Ceiling}
 use Rattle.lset_steps.specs.declared.Event.{Event}
 use Rattle.lset_steps.specs.declared.Event.TheVariants.{Begin, Go}
 use Rattle.lset_steps.specs.Steps.{Table, Run, event_at}
@@ -29,6 +29,9 @@ remove key = Remove (record { 0 = key })
 
 abbrev pub contains : ℕ → Call
 contains key = Contains (record { 0 = key })
+
+abbrev pub ceiling : ℕ → Call
+ceiling key = Ceiling (record { 0 = key })
 
 -- The table runs the schedule: each event is enabled in its turn.
 abbrev pub Runs : Table → Schedule → Type 0

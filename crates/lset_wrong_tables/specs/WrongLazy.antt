@@ -2,7 +2,7 @@
 use Rattle.std.specs.Prelude.{◌++◌}
 use Rattle.lset_steps.specs.Steps.{Table}
 use Rattle.lset_lazy.specs.Lazy.{lazy}
-use Rattle.lset_wrong_tables.specs.Schedules.{Schedule, begin, go, add, remove, contains}
+use Rattle.lset_wrong_tables.specs.Schedules.{Schedule, begin, go, add, remove, contains, ceiling}
 use Rattle.lset_wrong_tables.specs.Marks.{overlooks_marks}
 
 -- WITHOUT THE MARKS: the validation looks at the next node alone, at the link of pred (6) and at that of curr (7).
@@ -27,4 +27,16 @@ asked_after_the_mark = record {
   threads = 2;
   quota = 1;
   events = begin 0 (add 5) ++ go 0 11 ++ begin 0 (remove 5) ++ go 0 7 ++ begin 1 (contains 5) ++ go 1 3;
+}
+
+-- A CEILING BY THE KEY ALONE: it answers the key at which it stops whether its node is marked or not (25).
+abbrev pub ceiling_by_key : Table
+ceiling_by_key = overlooks_marks 25 lazy
+
+-- Thread 0 has marked the node of 5, and has not taken it out, when thread 1 begins to ask for the least key from 3 on.
+abbrev pub sought_after_the_mark : Schedule
+sought_after_the_mark = record {
+  threads = 2;
+  quota = 1;
+  events = begin 0 (add 5) ++ go 0 11 ++ begin 0 (remove 5) ++ go 0 7 ++ begin 1 (ceiling 3) ++ go 1 3;
 }

@@ -18,7 +18,7 @@ use Rattle.lset_words.specs.Account.{MayChange}
 use Rattle.lset_steps.proofs.Memory.{WordStep, Memory, reads, fails, takes, gives, own_key, own_link, puts, drops, own_of, one_more, set_same, key_after_link, list_lock_after_link, list_lock_after_key, link_wrote, key_wrote, own_in, inner, next_in, chain_in, inside, mine_counted, at_own_key, at_own_link}
 use Rattle.lset_steps.proofs.QuietMove.{in_chain_published, quiet_keeps}
 use Rattle.lset_steps.proofs.Discipline.{Discipline, StepOf, Here, Thread}
-use Rattle.lset_steps.proofs.Replies.{Adding, Removing, registers_begun, keep_more, decided_cases, absent_between, fitted_on, or_false, fed, fed_is, keep, keep_ckey, keep_succ, keep_walk}
+use Rattle.lset_steps.proofs.Replies.{Adding, Removing, registers_begun, keep_more, decided_cases, absent_between, ceiling_fits, fitted_on, or_false, fed, fed_is, keep, keep_ckey, keep_succ, keep_walk}
 use Rattle.lset_steps.specs.Rows.{decided, goes_to, own_slot}
 use Rattle.lset_coarse.specs.Coarse.{coarse, next_action, local_after, fed_by, effect_of}
 
@@ -217,10 +217,10 @@ module _ (n q t : ℕ) (vs : ℕ → View) (first : ℕ → ℕ) (now : ℕ) (ws
       let ch : WordStep false n q t ws used (Load (key_index l.curr)) ws used None = reads (key_index l.curr) (omega arith) in
       elim (below_or_not s k) [
         | inl lt ↦ step a ws (record l0 { pc = 4 }) (rw e refl)
-            (rw e (if_below s k lt (record l0 { pc = 4 }) (decided 5 8 10 l.call found room l0))) (rw e refl) (rw e refl) ch
+            (rw e (if_below s k lt (record l0 { pc = 4 }) (decided 5 8 10 l.call found room s l0))) (rw e refl) (rw e refl) ch
             (keep_ckey n q t 4 s l.reply l small regs) refl refl (λ x. omega arith) (at4 refl d w lt) (alone v w.mine)
         | inr ge ↦
-            (let go = if_not_below s k ge (record l0 { pc = 4 }) (decided 5 8 10 l.call found room l0) in
+            (let go = if_not_below s k ge (record l0 { pc = 4 }) (decided 5 8 10 l.call found room s l0) in
             let hit : found ≡ true → InContent (view n q ws used) (key_of l.call).0 = λ y.
             (let z : s ≡ k = same_number s k y in let hk : node_key ws 0 ≡ 0 = M.head_key in
             let c0 : l.curr ≢ 0 = λ f. (let g : node_key ws l.curr ≡ node_key ws 0 = ap (node_key ws) f in omega arith) in
@@ -233,7 +233,11 @@ module _ (n q t : ℕ) (vs : ℕ → View) (first : ℕ → ℕ) (now : ℕ) (ws
             let full : room ≡ false → used t ≡ q = λ y.
             (let z : l.quota ≤ l.used = not_lower_number l.used l.quota y in let c = counts in let qu = regs.quota in
             let m : used t ≤ q = M.room t tn in omega arith) in
-            elim (decided_cases 5 8 10 q t (view n q ws used) l.call found room l0 hit miss full) [
+            let half : node_link ws p / 2 ≡ l.curr = omega arith in
+            let over = ceiling_fits q t (view n q ws used) p s (key_of l.call) M.ordered M.head_key M.tail_key w.at
+            (inner false n q ws used M p k w.below low) w.below (ap (node_key ws) (sym half)) ge
+            (λ x. ap (λ b. node_link ws b % 2) half ∙ M.marked l.curr cm) in
+            elim (decided_cases 5 8 10 q t (view n q ws used) l.call found room s l0 hit miss full over) [
               | inl r ↦ step a ws (goes_to 10 (Some r.0) l0) (rw e refl) (rw e (go ∙ r.1)) (rw e refl) (rw e refl) ch
                   (keep_ckey n q t 10 s (Some r.0) l small regs) refl refl (λ x. omega arith)
                   (at10 refl w.mine r.0 refl (rw d (record {

@@ -35,7 +35,7 @@ pub record Both (v : View) (t pred curr : ℕ) : Type 0 where
   pub curr_mine : v.lock curr ≡ t + 1
   pub distinct : curr ≢ pred
 
--- one line for each place, two where the call has a reply or walks again, and one for those of a contains
+-- one line for each place, two where the call has a reply or walks again, and one for those of a contains or a ceiling
 pub data At (q t : ℕ) (vs : ℕ → View) (first now : ℕ) (v : View) (done : Bool) (l : Local) : Type 0 where
   at0 : l.pc ≡ 0 → At q t vs first now v done l
   at1 : l.pc ≡ 1 → done ≡ false → At q t vs first now v done l
@@ -105,24 +105,33 @@ module _ (q t : ℕ) (vs : ℕ → View) (first now : ℕ) (v w : View) (done : 
   stays (at14_again e d p z) = at14_again e d (s.locks l.pred p) z
   stays (at_read a) = at_read (reading_on a)
 
--- its contains has the rows that take no lock
+-- its contains and its ceiling have the rows that take no lock
 pub has_read_rows : HasReadRows lazy
-has_read_rows = record { begins = λ k l. refl; acts = acts; feeds = feeds; tells = tells }
+has_read_rows = record { begins = λ call l. refl; acts = acts; feeds = feeds; tells = tells }
   where
     acts : (l : Local) → IsReadRow l.pc → next_action l ≡ read_action l
     acts l (inl e) = rw e refl
     acts l (inr (inl e)) = rw e refl
-    acts l (inr (inr e)) = rw e refl
+    acts l (inr (inr (inl e))) = rw e refl
+    acts l (inr (inr (inr (inl e)))) = rw e refl
+    acts l (inr (inr (inr (inr (inl e))))) = rw e refl
+    acts l (inr (inr (inr (inr (inr e))))) = rw e refl
 
     feeds : (l : Local) (seen : ℕ) → IsReadRow l.pc → fed_by l seen ≡ read_fed l seen
     feeds l seen (inl e) = rw e refl
     feeds l seen (inr (inl e)) = rw e refl
-    feeds l seen (inr (inr e)) = rw e refl
+    feeds l seen (inr (inr (inl e))) = rw e refl
+    feeds l seen (inr (inr (inr (inl e)))) = rw e refl
+    feeds l seen (inr (inr (inr (inr (inl e))))) = rw e refl
+    feeds l seen (inr (inr (inr (inr (inr e))))) = rw e refl
 
     tells : (l : Local) (seen : ℕ) → IsReadRow l.pc → effect_of l seen ≡ None
     tells l seen (inl e) = rw e refl
     tells l seen (inr (inl e)) = rw e refl
-    tells l seen (inr (inr e)) = rw e refl
+    tells l seen (inr (inr (inl e))) = rw e refl
+    tells l seen (inr (inr (inr (inl e)))) = rw e refl
+    tells l seen (inr (inr (inr (inr (inl e))))) = rw e refl
+    tells l seen (inr (inr (inr (inr (inr e))))) = rw e refl
 
 -- THE ROWS
 module _ (n q t : ℕ) (vs : ℕ → View) (first now : ℕ) (ws : List ℕ) (used : ℕ → ℕ) (done : Bool) (l : Local)
@@ -398,7 +407,7 @@ module _ (n q t : ℕ) (vs : ℕ → View) (first now : ℕ) (ws : List ℕ) (us
       reads_on lazy (node_locks true) At n q t vs first now ws used done l h th has_read_rows (λ l' b. at_read b)
       (λ l' b. at0 b) a
 
--- what it says of a contains
+-- what it says of a contains and of a ceiling
 pub shows_reading : ShowsReading At
 shows_reading q t vs first now v done l row (at0 e) = low_row l.pc 0 e (omega arith) row
 shows_reading q t vs first now v done l row (at1 e a) = low_row l.pc 1 e (omega arith) row

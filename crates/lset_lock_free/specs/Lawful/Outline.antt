@@ -1,25 +1,26 @@
 -- What is known at each place of the list without locks.
-use Rattle.std.specs.Prelude.{◌≡◌, ◌≢◌, ℕ, suc, ◌+◌, ◌*◌, ◌/◌, ◌%◌, ◌<◌, ◌≤◌, ◌⊎◌, Bool, true, false, Some, None, List, [], slice_set, refl, ◌==◌, nat_lt}
+use Rattle.std.specs.Prelude.{◌≡◌, ◌≢◌, ℕ, suc, ◌+◌, ◌-◌, ◌*◌, ◌/◌, ◌%◌, ◌<◌, ◌≤◌, ◌⊎◌, Bool, true, false, Some, None, List, [], slice_set, refl, ◌==◌, nat_lt}
 use Rattle.std.proofs.Common.{arith, inl, inr, sym, ◌∙◌, ap, subst}
 use Rattle.lset_words.proofs.Numbers.{same_or_not, below_or_not, if_below, if_not_below, if_same, if_other, same_number, other_number, lower_number, not_lower_number}
 use Rattle.lset_words.specs.Words.{key_index, link_index, tail_word, node_count, slot_node, target, key_of}
 use Rattle.lset_words.specs.Account.{FitsSometime}
-use Rattle.lset_words.specs.declared.Call.TheVariants.{Add, Remove}
+use Rattle.lset_words.specs.declared.Call.TheVariants.{Add, Remove, Ceiling}
 use Rattle.lset_words.specs.declared.Reply.{Reply}
 use Rattle.lset_words.specs.declared.Reply.TheVariants.{True}
+use Rattle.lset_words.specs.declared.Reply.TheVariants as reply
 use Rattle.lset_steps.specs.declared.Local.{Local}
 use Rattle.lset_steps.specs.declared.Action.TheVariants.{Load, Store, Exchange}
 use Rattle.lset_steps.specs.declared.Fed.{Fed}
-use Rattle.lset_steps.specs.Chain.{View, view, InChain, InContent, IsOrdered, node_key, node_link, contents_of, counts_of}
+use Rattle.lset_steps.specs.Chain.{View, view, InChain, InContent, IsOrdered, FitsIn, node_key, node_link, contents_of, counts_of}
 use Rattle.lset_steps.proofs.Moves.{KeepsNodes}
-use Rattle.lset_steps.proofs.Hindsight.{key_stays}
+use Rattle.lset_steps.proofs.Hindsight.{key_stays, unmarked_before}
 use Rattle.lset_steps.proofs.QuietMove.{in_chain_published, chain_on}
 use Rattle.lset_steps.specs.Laws.{Registers, Due}
 use Rattle.lset_steps.proofs.Memory.{WordStep, Memory, Writes, reads, fails, own_key, own_link, puts, sets_mark, cuts, own_of, one_more, one_more_same, not_link, next_published as next_of, inner, own_in, goes_on, memory_after, link_wrote, key_wrote, key_after_link}
 use Rattle.lset_steps.proofs.Remains.{Remains}
 use Rattle.lset_steps.proofs.Discipline.{Here, Thread}
-use Rattle.lset_steps.proofs.Replies.{Adding, Removing, removing_kept, adding_kept, registers_begun, keep_used, keep_curr, decided_cases, absent_between, keep, keep_succ, keep_walk}
-use Rattle.lset_steps.specs.Rows.{decided_on, goes_to, own_slot}
+use Rattle.lset_steps.proofs.Replies.{Adding, Removing, removing_kept, adding_kept, registers_begun, keep_used, keep_curr, decided_cases, absent_between, ceiling_fits, keep, keep_succ, keep_walk}
+use Rattle.lset_steps.specs.Rows.{ceiling_at, decided_on, goes_to, own_slot}
 use Rattle.lset_steps.specs.ReadRows.{first_row, read_action, read_fed, continued, leaves_with}
 use Rattle.lset_steps.proofs.ReadTables.{HasReadRows, IsReadRow}
 use Rattle.lset_steps.proofs.ReadOutline.{Reading, begun_reading_is, reading_on, call_begins, reads_on, even_or_odd}
@@ -49,7 +50,7 @@ pub record Open (vs : ℕ → View) (first now curr succ t count : ℕ) : Type 0
   pub next : (vs at).link curr / 2 ≡ succ
   pub same_count : (vs at).used t ≡ count
 
--- one line for each place, and one for those of a contains
+-- one line for each place, and one for those of a contains or a ceiling
 pub data At (q t : ℕ) (vs : ℕ → View) (first now : ℕ) (v : View) (done : Bool) (l : Local) : Type 0 where
   at0 : l.pc ≡ 0 → At q t vs first now v done l
   at1 : l.pc ≡ 1 → done ≡ false → At q t vs first now v done l
@@ -61,8 +62,8 @@ pub data At (q t : ℕ) (vs : ℕ → View) (first now : ℕ) (v : View) (done :
   at3 : l.pc ≡ 3 → done ≡ false → Spot v (target l.call) l.pred l.curr → v.published l.succ → v.link l.curr ≡ 2 * l.succ + 1
       → At q t vs first now v done l
   at4 : l.pc ≡ 4 → done ≡ false → Spot v (target l.call) l.pred l.curr → v.published l.succ
-      → Link vs first now (target l.call) l.pred l.curr t (v.used t) → Open vs first now l.curr l.succ t (v.used t)
-      → At q t vs first now v done l
+      → (k : Link vs first now (target l.call) l.pred l.curr t (v.used t)) → (o : Open vs first now l.curr l.succ t (v.used t))
+      → k.at ≤ o.at → At q t vs first now v done l
   at5 : l.pc ≡ 5 → done ≡ false → Spot v (target l.call) l.pred l.curr → Adding v t q l.curr l.call
       → At q t vs first now v done l
   at6 : l.pc ≡ 6 → done ≡ false → Spot v (target l.call) l.pred l.curr → Adding v t q l.curr l.call
@@ -145,12 +146,13 @@ module _ (q t : ℕ) (vs : ℕ → View) (first now : ℕ) (v w : View) (done : 
   marked_on p e = r.marked l.curr p (omega arith) ∙ e
 
   stays : At q t vs first now v done l → At q t vs first (suc now) w done l
+  unfolding link_on open_on
   stays (at0 e) = at0 e
   stays (at1 e d) = at1 e d
   stays (at2 e d s k) = at2 e d (spot_kept g s) (link_on r.used k)
   stays (at2_now e d s f i n) = at2 e d (spot_kept g s) (link_on r.used (link_now present f i n s.below))
   stays (at3 e d s p m) = at3 e d (spot_kept g s) (g.grows l.succ p) (marked_on s.curr_published m)
-  stays (at4 e d s p k o) = at4 e d (spot_kept g s) (g.grows l.succ p) (link_on r.used k) (open_on r.used o)
+  stays (at4 e d s p k o b) = at4 e d (spot_kept g s) (g.grows l.succ p) (link_on r.used k) (open_on r.used o) b
   stays (at5 e d s a) = at5 e d (spot_kept g s) (adding_kept g r.used s.curr_published a)
   stays (at6 e d s a x) = at6 e d (spot_kept g s) (adding_kept g r.used s.curr_published a) (own_key_on a.room x)
   stays (at7 e d s a x y) = at7 e d (spot_kept g s) (adding_kept g r.used s.curr_published a) (own_key_on a.room x)
@@ -160,24 +162,33 @@ module _ (q t : ℕ) (vs : ℕ → View) (first now : ℕ) (v w : View) (done : 
   stays (at10 e d s a m) = at10 e d (spot_kept g s) (removing_kept g s.curr_published a) (marked_on s.curr_published m)
   stays (at_read a) = at_read (reading_on a)
 
--- its contains has the rows that take no lock
+-- its contains and its ceiling have the rows that take no lock
 pub has_read_rows : HasReadRows lock_free
-has_read_rows = record { begins = λ k l. refl; acts = acts; feeds = feeds; tells = tells }
+has_read_rows = record { begins = λ call l. refl; acts = acts; feeds = feeds; tells = tells }
   where
     acts : (l : Local) → IsReadRow l.pc → next_action l ≡ read_action l
     acts l (inl e) = rw e refl
     acts l (inr (inl e)) = rw e refl
-    acts l (inr (inr e)) = rw e refl
+    acts l (inr (inr (inl e))) = rw e refl
+    acts l (inr (inr (inr (inl e)))) = rw e refl
+    acts l (inr (inr (inr (inr (inl e))))) = rw e refl
+    acts l (inr (inr (inr (inr (inr e))))) = rw e refl
 
     feeds : (l : Local) (seen : ℕ) → IsReadRow l.pc → fed_by l seen ≡ read_fed l seen
     feeds l seen (inl e) = rw e refl
     feeds l seen (inr (inl e)) = rw e refl
-    feeds l seen (inr (inr e)) = rw e refl
+    feeds l seen (inr (inr (inl e))) = rw e refl
+    feeds l seen (inr (inr (inr (inl e)))) = rw e refl
+    feeds l seen (inr (inr (inr (inr (inl e))))) = rw e refl
+    feeds l seen (inr (inr (inr (inr (inr e))))) = rw e refl
 
     tells : (l : Local) (seen : ℕ) → IsReadRow l.pc → effect_of l seen ≡ None
     tells l seen (inl e) = rw e refl
     tells l seen (inr (inl e)) = rw e refl
-    tells l seen (inr (inr e)) = rw e refl
+    tells l seen (inr (inr (inl e))) = rw e refl
+    tells l seen (inr (inr (inr (inl e)))) = rw e refl
+    tells l seen (inr (inr (inr (inr (inl e))))) = rw e refl
+    tells l seen (inr (inr (inr (inr (inr e))))) = rw e refl
 
 -- THE ROWS
 module _ (n q t : ℕ) (vs : ℕ → View) (first now : ℕ) (ws : List ℕ) (used : ℕ → ℕ) (done : Bool) (l : Local)
@@ -230,6 +241,7 @@ module _ (n q t : ℕ) (vs : ℕ → View) (first now : ℕ) (ws : List ℕ) (us
 
   go_2 : l.pc ≡ 2 → done ≡ false → Spot V (target l.call) l.pred l.curr
       → Link vs first now (target l.call) l.pred l.curr t (used t) → Goal
+  unfolding link_on open_on open_now
   go_2 e d s k =
       let x : ℕ = node_link ws l.curr in let curr : l.curr < node_count n q = regs.curr in
       let next : V.published (x / 2) = next_published l.curr s.curr_published in
@@ -242,7 +254,7 @@ module _ (n q t : ℕ) (vs : ℕ → View) (first now : ℕ) (ws : List ℕ) (us
             (rw e refl) (feeds ∙ if_same (x % 2) 0 even open_at marked_at) (rw e refl) read
             (keep_succ n q t 4 (x / 2) l.reply l (next_inside M l.curr s.curr_published) regs, refl, refl, λ y. omega arith)
             (at4 refl d s next (link_on refl k)
-            (open_on refl (open_now h.present th.begun (live l.curr s.curr_published even) even refl)))
+            (open_on refl (open_now h.present th.begun (live l.curr s.curr_published even) even refl)) k.upto)
         | inr odd ↦ passes (Load (link_index l.curr)) ws (record l { pc = 3; succ = x / 2 })
             (rw e refl) (feeds ∙ if_other (x % 2) 0 (omega arith) open_at marked_at) (rw e refl) read
             (keep_succ n q t 3 (x / 2) l.reply l (next_inside M l.curr s.curr_published) regs, refl, refl, λ y. omega arith)
@@ -291,14 +303,15 @@ module _ (n q t : ℕ) (vs : ℕ → View) (first now : ℕ) (ws : List ℕ) (us
   decided_at : (s at : ℕ) → first ≤ at → at ≤ now → (vs at).used t ≡ used t
       → ((s == target l.call) ≡ true → InContent (vs at) (key_of l.call).0)
       → ((s == target l.call) ≡ false → InContent (vs at) (key_of l.call).0 → ⊥)
+      → FitsIn q (vs at) t (Ceiling (key_of l.call)) (ceiling_at s)
       → ((r : Reply) × (decided_on targets s l ≡ goes_to 0 (Some r) l) × Fitting r)
       ⊎ ((decided_on targets s l ≡ goes_to 5 None l) × (l.call ≡ Add (key_of l.call)) × (s ≢ target l.call) × (used t < q))
       ⊎ ((decided_on targets s l ≡ goes_to 8 None l) × (l.call ≡ Remove (key_of l.call)) × (s ≡ target l.call))
-  decided_at s at from upto same hit miss =
+  decided_at s at from upto same hit miss over =
       let quota : l.quota ≡ q = regs.quota in let count : l.used ≡ used t = th.counts in let most : used t ≤ q = M.room t tn in
       let full : nat_lt l.used l.quota ≡ false → (vs at).used t ≡ q = λ y.
       (let z : l.quota ≤ l.used = not_lower_number l.used l.quota y in omega arith) in
-      elim (decided_cases 5 8 0 q t (vs at) l.call (s == target l.call) (nat_lt l.used l.quota) l hit miss full) [
+      elim (decided_cases 5 8 0 q t (vs at) l.call (s == target l.call) (nat_lt l.used l.quota) s l hit miss full over) [
         | inl r ↦ inl (r.0, r.1, record { moment = at; from = from; upto = upto; fits = r.2 })
         | inr z ↦ elim z [
           | inl r ↦ inr (inl (
@@ -318,12 +331,25 @@ module _ (n q t : ℕ) (vs : ℕ → View) (first now : ℕ) (ws : List ℕ) (us
       sym e ∙ key_stays vs now a at now h.course upto (omega arith)
       (in_chain_published (vs at) (h.course.ordered at upto) a i)
 
+  -- head and tail keep theirs
+  end_then : (a at : ℕ) → at ≤ now → (vs at).published a → (vs at).key a ≡ node_key ws a
+  end_then a at upto p =
+      sym (key_stays vs now a at now h.course upto (omega arith) p) ∙ ap (λ v. v.key a) h.present
+
+  -- a ceiling of a key that is there
+  own_ceiling : (v : View) (s : ℕ) → s ≡ target l.call → target l.call < tail_word → InContent v (key_of l.call).0
+      → FitsIn q v t (Ceiling (key_of l.call)) (ceiling_at s)
+  own_ceiling v s e low c = subst (FitsIn q v t (Ceiling (key_of l.call)))
+      (sym (if_below s tail_word (omega arith) (reply.At (record { 0 = s - 1 })) reply.Nothing))
+      (omega arith, subst (InContent v) (omega arith) c, λ j lo hi. absurd (omega arith))
+
   decides : (s : ℕ) → s ≡ node_key ws l.curr → target l.call ≤ s
-      → Link vs first now (target l.call) l.pred l.curr t (used t) → Open vs first now l.curr l.succ t (used t)
+      → (k : Link vs first now (target l.call) l.pred l.curr t (used t)) → (o : Open vs first now l.curr l.succ t (used t))
+      → k.at ≤ o.at
       → ((r : Reply) × (decided_on targets s l ≡ goes_to 0 (Some r) l) × Fitting r)
       ⊎ ((decided_on targets s l ≡ goes_to 5 None l) × (l.call ≡ Add (key_of l.call)) × (s ≢ target l.call) × (used t < q))
       ⊎ ((decided_on targets s l ≡ goes_to 8 None l) × (l.call ≡ Remove (key_of l.call)) × (s ≡ target l.call))
-  decides s is above k o = elim (same_or_not s (target l.call)) [
+  decides s is above k o before = elim (same_or_not s (target l.call)) [
     | inl y ↦
         (let head : node_key ws 0 ≡ 0 = M.head_key in let tail : node_key ws 1 ≡ tail_word = M.tail_key in
         let low : target l.call < tail_word = regs.low in
@@ -331,7 +357,9 @@ module _ (n q t : ℕ) (vs : ℕ → View) (first now : ℕ) (ws : List ℕ) (us
         let c1 : l.curr ≢ 1 = λ f. (let g : node_key ws l.curr ≡ node_key ws 1 = ap (node_key ws) f in omega arith) in
         decided_at s o.at o.from o.upto o.same_count
         (λ z. (l.curr, o.in_chain, omega arith, sym (key_then l.curr o.at o.upto o.in_chain) ∙ sym is ∙ y, o.unmarked))
-        (λ z. absurd (other_number s (target l.call) z y)))
+        (λ z. absurd (other_number s (target l.call) z y))
+        (own_ceiling (vs o.at) s y low
+        (l.curr, o.in_chain, omega arith, sym (key_then l.curr o.at o.upto o.in_chain) ∙ sym is ∙ y, o.unmarked)))
     | inr y ↦
         (let ord : IsOrdered (vs k.at) = h.course.ordered k.at k.upto in
         let pred : node_key ws l.pred ≡ (vs k.at).key l.pred = key_then l.pred k.at k.upto k.in_chain in
@@ -341,12 +369,18 @@ module _ (n q t : ℕ) (vs : ℕ → View) (first now : ℕ) (ws : List ℕ) (us
         let curr : node_key ws l.curr ≡ (vs k.at).key l.curr = key_then l.curr k.at k.upto inn in
         decided_at s k.at k.from k.upto k.same_count
         (λ z. absurd (y (same_number s (target l.call) z)))
-        (λ z. absent_between (vs k.at) ord l.pred (key_of l.call).0 k.in_chain user below (rw k.next (omega arith))))
+        (λ z. absent_between (vs k.at) ord l.pred (key_of l.call).0 k.in_chain user below (rw k.next (omega arith)))
+        (ceiling_fits q t (vs k.at) l.pred s (key_of l.call) ord (end_then 0 k.at k.upto ord.head_published ∙ M.head_key)
+        (end_then 1 k.at k.upto ord.tail_published ∙ M.tail_key) k.in_chain user below
+        (is ∙ curr ∙ ap (vs k.at).key (sym k.next)) above
+        (λ lt. ap (λ x. (vs k.at).link x % 2) k.next ∙ unmarked_before vs now l.curr k.at o.at h.course before o.upto
+        (in_chain_published (vs k.at) ord l.curr inn) o.unmarked)))
   ]
 
   go_4 : l.pc ≡ 4 → done ≡ false → Spot V (target l.call) l.pred l.curr → V.published l.succ
-      → Link vs first now (target l.call) l.pred l.curr t (used t) → Open vs first now l.curr l.succ t (used t) → Goal
-  go_4 e d s p k o =
+      → (k : Link vs first now (target l.call) l.pred l.curr t (used t)) → (o : Open vs first now l.curr l.succ t (used t))
+      → k.at ≤ o.at → Goal
+  go_4 e d s p k o b =
       let x : ℕ = node_key ws l.curr in let key : ℕ = target l.call in let curr : l.curr < node_count n q = regs.curr in
       let read : WordStep true n q t ws used (Load (key_index l.curr)) ws used None = reads (key_index l.curr) (omega arith) in
       let on : Fed = continued (record l { pc = 2; pred = l.curr; curr = l.succ }) in
@@ -366,7 +400,7 @@ module _ (n q t : ℕ) (vs : ℕ → View) (first now : ℕ) (ws : List ℕ) (us
               below = (let z : node_key ws l.curr ≡ (vs o.at).key l.curr = key_then l.curr o.at o.upto o.in_chain in omega arith);
               same_count = o.same_count;
             }))
-        | inr ge ↦ elim (decides x refl ge k o) [
+        | inr ge ↦ elim (decides x refl ge k o b) [
           | inl r ↦ answers (Load (key_index l.curr)) ws (goes_to 0 (Some r.0) l) r.0
               (rw e refl) (feeds ∙ if_not_below x key ge on stop ∙ ap decision_of r.1) (rw e refl) read
               (due_of done q vs first now t l.call r.0 d r.2) (keep n q t 0 (Some r.0) l regs) refl refl refl (at0 refl)
@@ -489,7 +523,7 @@ module _ (n q t : ℕ) (vs : ℕ → View) (first now : ℕ) (ws : List ℕ) (us
   go (at2 e d s k) busy = go_2 e d s k
   go (at2_now e d s f i x) busy = go_2 e d s (link_now h.present f i x s.below)
   go (at3 e d s p m) busy = go_3 e d s p m
-  go (at4 e d s p k o) busy = go_4 e d s p k o
+  go (at4 e d s p k o b) busy = go_4 e d s p k o b
   go (at5 e d s a) busy = go_5 e d s a
   go (at6 e d s a x) busy = go_6 e d s a x
   go (at7 e d s a x y) busy = go_7 e d s a x y
@@ -500,14 +534,14 @@ module _ (n q t : ℕ) (vs : ℕ → View) (first now : ℕ) (ws : List ℕ) (us
       reads_on lock_free (no_locks true) At n q t vs first now ws used done l h th has_read_rows (λ l' b. at_read b)
       (λ l' b. at0 b) a
 
--- what it says of a contains
+-- what it says of a contains and of a ceiling
 pub shows_reading : ShowsReading At
 shows_reading q t vs first now v done l row (at0 e) = low_row l.pc 0 e (omega arith) row
 shows_reading q t vs first now v done l row (at1 e a) = low_row l.pc 1 e (omega arith) row
 shows_reading q t vs first now v done l row (at2 e a b c) = low_row l.pc 2 e (omega arith) row
 shows_reading q t vs first now v done l row (at2_now e a b c d f) = low_row l.pc 2 e (omega arith) row
 shows_reading q t vs first now v done l row (at3 e a b c d) = low_row l.pc 3 e (omega arith) row
-shows_reading q t vs first now v done l row (at4 e a b c d f) = low_row l.pc 4 e (omega arith) row
+shows_reading q t vs first now v done l row (at4 e a b c d f g) = low_row l.pc 4 e (omega arith) row
 shows_reading q t vs first now v done l row (at5 e a b c) = low_row l.pc 5 e (omega arith) row
 shows_reading q t vs first now v done l row (at6 e a b c d) = low_row l.pc 6 e (omega arith) row
 shows_reading q t vs first now v done l row (at7 e a b c d f) = low_row l.pc 7 e (omega arith) row

@@ -16,7 +16,7 @@ ghost use Rattle.lset_report.specs.ReportReading.{
 ghost use Rattle.lset_text.specs.Parts.{cut_at};
 
 use crate::report_fault::ReportCause;
-use lset_text::{CallWord, cut, number, read_call, read_reply};
+use lset_text::{CallWord, Version, cut, number, read_call, read_reply};
 use lset_words::{CallRecord, Key, Placed};
 
 /// Which part of a report a text has come to.
@@ -106,7 +106,7 @@ fn open_call(
 ) -> Result<Line, ReportCause>
     ensures { result ≡ open_of id.now thread.now call.now key.now begun.now word.now }
 {
-    let call = read_call(call).ok_or(ReportCause::Line)?;
+    let call = read_call(Version::One, call).ok_or(ReportCause::Line)?;
     if word != b"open".as_slice() {
         return Err(ReportCause::Line);
     }
@@ -126,8 +126,8 @@ fn ended_call(
 ) -> Result<Line, ReportCause>
     ensures { result ≡ ended_of id.now thread.now call.now key.now begun.now end.now reply.now }
 {
-    let call = read_call(call).ok_or(ReportCause::Line)?;
-    let reply = read_reply(reply).ok_or(ReportCause::Line)?;
+    let call = read_call(Version::One, call).ok_or(ReportCause::Line)?;
+    let reply = read_reply(Version::One, reply).ok_or(ReportCause::Line)?;
     let (id, made) = begun_call(call, id, thread, key, begun)?;
     let end = number(end, 1, u32::MAX).ok_or(ReportCause::Number)?;
     let ended = CallRecord {
@@ -166,7 +166,7 @@ fn place(section: Section, word: &[u8], id: &[u8], reply: &[u8]) -> Result<Line,
     if !section.takes_places() || word != b"place".as_slice() {
         return Err(ReportCause::Line);
     }
-    let reply = read_reply(reply).ok_or(ReportCause::Line)?;
+    let reply = read_reply(Version::One, reply).ok_or(ReportCause::Line)?;
     let call = number(id, 0, u32::MAX).ok_or(ReportCause::Number)?;
     Ok(Line::Place(Placed { call, reply }))
 }

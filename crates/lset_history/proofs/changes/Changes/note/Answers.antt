@@ -3,8 +3,8 @@ use Rattle.std.specs.declared.alloc.Global.{Global}
 use Rattle.std.specs.Ordering.{nat_cmp}
 use Rattle.std.specs.BTreeMap.{BTreeMap, is_at, UpdatesBy}
 use Rattle.std.proofs.lemmas.Result.{MatchResult-from_err}
-use Rattle.lset_history.specs.Changes.{changes_in, Rise}
-use Rattle.lset_history.proofs.Noting.{noted_map, rise_noted, same_items, items_in, shown}
+use Rattle.lset_history.specs.Changes.{changes_in, AreKept}
+use Rattle.lset_history.proofs.Noting.{noted_map, kept_noted, same_items, items_in, shown}
 use Rattle.lset_history.proofs.changes.Changes.note.Goals as goal
 
 -- one more moment for a key that has some
@@ -14,15 +14,15 @@ returns-in-Some-clause-noted c = rw (← c.self.view_is) (noted_map c.self.insid
     (c.in_ok-push.ensures.items ∙ ap (λ z. items_in z ++ c.args.at ∷ []) c.in-Some.ensures.value))
 
 pub invariant_of-self-in-Some : goal.invariant_of-self-in-Some
-invariant_of-self-in-Some c = rise_noted (changes_in c.self.inside.moments) (changes_in (c.get_mut.follows.lender c.push.new.self))
-    c.args.key c.args.at c.self.invariant (rw (← c.self.view_is) at c.requires.later)
+invariant_of-self-in-Some c = kept_noted (changes_in c.self.inside.moments) (changes_in (c.get_mut.follows.lender c.push.new.self))
+    c.args.key c.args.at c.ranges.key.fits c.self.invariant (rw (← c.self.view_is) at c.requires.later)
     (noted_map c.self.inside.moments (c.get_mut.follows.lender c.push.new.self) c.args.key c.args.at c.push.new.self
     ((c.get_mut.follows.holds c.push.new.self).3 (rw (← c.in-Some.ensures.value) refl))
     (c.in_ok-push.ensures.items ∙ ap (λ z. items_in z ++ c.args.at ∷ []) c.in-Some.ensures.value))
 
 -- nothing was pushed
 pub invariant_of-self : goal.invariant_of-self
-invariant_of-self c = subst Rise (sym (ap (λ es. record { entries = es }) (ap shown (c.get_mut.follows.holds c.push.new.self).0 ∙ same_items (is_at (nat_cmp c.args.key)) c.self.inside.moments.entries
+invariant_of-self c = subst AreKept (sym (ap (λ es. record { entries = es }) (ap shown (c.get_mut.follows.holds c.push.new.self).0 ∙ same_items (is_at (nat_cmp c.args.key)) c.self.inside.moments.entries
     c.in-Some.moments.now c.push.new.self (sym c.in-Some.ensures.value) c.in_err-push.ensures.items))) c.self.invariant
 
 pub returns-in_err-push-clause-unchanged : goal.returns-in_err-push-clause-unchanged
@@ -36,7 +36,7 @@ invariant_of-self-in_err-push-2 c = rw c.get_mut.follows.holds-at-none c.self.in
 
 -- what the map was, where the key was not found
 pub invariant_of-self-in_err-insert : goal.invariant_of-self-in_err-insert
-invariant_of-self-in_err-insert c = subst Rise (sym (ap (λ es. record { entries = es }) (ap shown (c.in_err-insert.ensures.err
+invariant_of-self-in_err-insert c = subst AreKept (sym (ap (λ es. record { entries = es }) (ap shown (c.in_err-insert.ensures.err
     ∙ ap (λ (m : BTreeMap ℕ (Vec ℕ Global)). m.entries) c.get_mut.follows.holds-at-none)))) c.self.invariant
 
 pub returns-clause-noted : goal.returns-clause-noted
@@ -47,7 +47,7 @@ returns-clause-noted c = rw (← c.self.view_is) (noted_map c.self.inside.moment
     ∙ ap (λ z. items_in z ++ c.args.at ∷ []) c.in_default.ensures.value))
 
 pub invariant_of-self-2 : goal.invariant_of-self-2
-invariant_of-self-2 c = rise_noted (changes_in c.self.inside.moments) (changes_in c.insert.new.self) c.args.key c.args.at c.self.invariant
+invariant_of-self-2 c = kept_noted (changes_in c.self.inside.moments) (changes_in c.insert.new.self) c.args.key c.args.at c.ranges.key.fits c.self.invariant
     (rw (← c.self.view_is) at c.requires.later) (noted_map c.self.inside.moments c.insert.new.self c.args.key c.args.at c.push-2.new.self
     (subst (λ m. UpdatesBy nat_cmp (nat_cmp c.args.key) m c.insert.new.self (Some c.push-2.new.self)) c.get_mut.follows.holds-at-none
     c.in_ok-insert.ensures.updates)

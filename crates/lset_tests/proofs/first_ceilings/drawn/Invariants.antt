@@ -1,0 +1,7 @@
+use Rattle.std.proofs.Common.{◌≤◌, ℕ}
+use Rattle.std.specs.Prelude.{All}
+use Rattle.lset_history.specs.Changes.{moments_of}
+use Rattle.lset_tests.proofs.first_ceilings.drawn.Given as goal
+
+abbrev pub invariant-loop-done : goal.invariant-loop-done
+invariant-loop-done l = record { upto : (k : ℕ) → All (λ m. m ≤ l.done) (moments_of l.changes k) }

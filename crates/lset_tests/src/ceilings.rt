@@ -1,0 +1,201 @@
+ghost use Rattle.std.specs.Prelude.{◌<◌, IfOk, OnOk, ◌≡◌};
+
+use crate::worlds::{make, make_call};
+use lset_coarse::CoarseList;
+use lset_fine::FineList;
+use lset_history::Oracle;
+use lset_lazy::LazyList;
+use lset_lock_free::LockFreeList;
+use lset_optimistic::OptimisticList;
+use lset_replay::replay;
+use lset_schedule::{Line, Schedule};
+use lset_steps::{Event, Machine, World};
+use lset_words::{Call, CallRecord, Key, Kind, Placed, Reply, layout};
+use std::alloc::{AllocError, Global};
+use std::process::Abort;
+use std::test::Fail;
+
+/// A ceiling of one thread on the empty list answers that there is none, after so many steps.
+fn ends_on_the_empty_list<M: Machine, R: Abort>(
+    rt: &R,
+    alloc: Global,
+    steps: u64,
+) -> Result<(), Fail> {
+    let mut world = World::<M>::new(alloc, layout(1, 4)?)?;
+    let made = make_call(&mut world, 0, Call::Ceiling(Key(3)))?;
+    assert_eq!(rt; made, Some((Reply::Nothing, steps)));
+    Ok(())
+}
+
+#[test]
+fn a_ceiling_on_the_empty_list(rt: HostRuntime) -> Result<(), Fail> {
+    ends_on_the_empty_list::<CoarseList, HostRuntime>(&rt, rt.alloc(), 4)?;
+    ends_on_the_empty_list::<FineList, HostRuntime>(&rt, rt.alloc(), 6)?;
+    ends_on_the_empty_list::<OptimisticList, HostRuntime>(&rt, rt.alloc(), 7)?;
+    ends_on_the_empty_list::<LazyList, HostRuntime>(&rt, rt.alloc(), 2)?;
+    ends_on_the_empty_list::<LockFreeList, HostRuntime>(&rt, rt.alloc(), 2)
+}
+
+/// Of the keys 0 and 4294967295, one thread asks from each end on, and from between.
+fn finds_keys_at_the_ends<M: Machine, R: Abort>(rt: &R, alloc: Global) -> Result<(), Fail> {
+    let (least, most) = (Key(0), Key(u32::MAX));
+    let calls = [
+        (Call::Add(most), Reply::True),
+        (Call::Ceiling(most), Reply::At(most)),
+        (Call::Add(least), Reply::True),
+        (Call::Ceiling(least), Reply::At(least)),
+        (Call::Ceiling(Key(1)), Reply::At(most)),
+        (Call::Remove(most), Reply::True),
+        (Call::Ceiling(Key(1)), Reply::Nothing),
+    ];
+    let mut world = World::<M>::new(alloc, layout(1, 4)?)?;
+    for (call, reply) in calls {
+        let made = make_call(&mut world, 0, call)?;
+        assert_eq!(rt; made.map(|(answer, _)| answer), Some(reply), "{call:?}");
+    }
+    Ok(())
+}
+
+#[test]
+fn keys_at_the_ends(rt: HostRuntime) -> Result<(), Fail> {
+    finds_keys_at_the_ends::<CoarseList, HostRuntime>(&rt, rt.alloc())?;
+    finds_keys_at_the_ends::<FineList, HostRuntime>(&rt, rt.alloc())?;
+    finds_keys_at_the_ends::<OptimisticList, HostRuntime>(&rt, rt.alloc())?;
+    finds_keys_at_the_ends::<LazyList, HostRuntime>(&rt, rt.alloc())?;
+    finds_keys_at_the_ends::<LockFreeList, HostRuntime>(&rt, rt.alloc())
+}
+
+fn record(thread: u32, call: Call, begun: u32, ended: u32, reply: Reply) -> CallRecord {
+    CallRecord {
+        thread,
+        call,
+        begun,
+        ended: Some((ended, reply)),
+    }
+}
+
+fn placed(call: u32, reply: Reply) -> Placed {
+    Placed { call, reply }
+}
+
+/// The node at which the ceiling stops is marked by then. It starts again, and stands at the moment of the mark.
+#[test]
+fn a_ceiling_starts_again_at_a_mark(rt: HostRuntime) -> Result<(), Fail> {
+    let (add, remove, ceiling) = (
+        Call::Add(Key(5)),
+        Call::Remove(Key(5)),
+        Call::Ceiling(Key(3)),
+    );
+    let schedule = Schedule {
+        kind: Kind::LockFree,
+        threads: 2,
+        quota: 4,
+        lines: vec![in rt.alloc();
+            Line::Begin(1, add),
+            Line::Go(1, 6),
+            Line::Begin(0, ceiling),
+            Line::Go(0, 2),
+            Line::Begin(1, remove),
+            Line::Go(1, 6),
+            Line::Go(0, 3),
+        ]?,
+    };
+    let calls = [
+        record(1, add, 1, 7, Reply::True),
+        record(0, ceiling, 8, 20, Reply::Nothing),
+        record(1, remove, 11, 17, Reply::True),
+    ];
+    let order = [
+        placed(0, Reply::True),
+        placed(2, Reply::True),
+        placed(1, Reply::Nothing),
+    ];
+    let report = replay(rt.alloc(), &schedule)?;
+    assert_eq!(rt; report.history.calls(), calls.as_slice());
+    assert_eq!(rt; report.order.as_slice(), order.as_slice());
+    assert_eq!(rt; report.keys.len(), 0);
+    Ok(())
+}
+
+/// It answers 9, though 5 was put in before it ended, and stands before that.
+#[test]
+fn a_ceiling_before_which_a_key_comes(rt: HostRuntime) -> Result<(), Fail> {
+    let (nine, five, ceiling) = (Call::Add(Key(9)), Call::Add(Key(5)), Call::Ceiling(Key(3)));
+    let schedule = Schedule {
+        kind: Kind::LockFree,
+        threads: 2,
+        quota: 4,
+        lines: vec![in rt.alloc();
+            Line::Begin(1, nine),
+            Line::Go(1, 6),
+            Line::Begin(0, ceiling),
+            Line::Go(0, 1),
+            Line::Begin(1, five),
+            Line::Go(1, 6),
+            Line::Go(0, 2),
+        ]?,
+    };
+    let calls = [
+        record(1, nine, 1, 7, Reply::True),
+        record(0, ceiling, 8, 18, Reply::At(Key(9))),
+        record(1, five, 10, 16, Reply::True),
+    ];
+    let order = [
+        placed(0, Reply::True),
+        placed(1, Reply::At(Key(9))),
+        placed(2, Reply::True),
+    ];
+    let report = replay(rt.alloc(), &schedule)?;
+    assert_eq!(rt; report.history.calls(), calls.as_slice());
+    assert_eq!(rt; report.order.as_slice(), order.as_slice());
+    assert_eq!(rt; report.keys.as_slice(), [5, 9].as_slice());
+    Ok(())
+}
+
+/// The steps of the first of these runs, on a world: it answers at the fifth.
+#[test]
+fn the_steps_of_a_ceiling_that_starts_again(rt: HostRuntime) -> Result<(), Fail> {
+    let lines = [
+        (Event::Begin(1, Call::Add(Key(5))), 1, None),
+        (Event::Go(1), 6, Some(Reply::True)),
+        (Event::Begin(0, Call::Ceiling(Key(3))), 1, None),
+        (Event::Go(0), 2, None),
+        (Event::Begin(1, Call::Remove(Key(5))), 1, None),
+        (Event::Go(1), 6, Some(Reply::True)),
+        (Event::Go(0), 2, None),
+        (Event::Go(0), 1, Some(Reply::Nothing)),
+    ];
+    let mut world = World::<LockFreeList>::new(rt.alloc(), layout(2, 4)?)?;
+    for (event, times, answer) in lines {
+        assert_eq!(rt; make(&mut world, event, times)?, answer, "{event:?}");
+    }
+    Ok(())
+}
+
+/// The sequential set of the keys 0, 5 and 4294967295.
+fn three_keys(alloc: Global) -> Result<Oracle, AllocError>
+    ensures { IfOk result (λ oracle. oracle.threads ≡ 1) }
+{
+    let mut oracle = Oracle::new(alloc, 1, 4)?;
+    for key in [0, 5, u32::MAX] {
+        oracle.apply(0, Call::Add(Key(key)))?;
+    }
+    Ok(oracle)
+}
+
+#[test]
+fn ceilings_of_three_keys(rt: HostRuntime) -> Result<(), Fail> {
+    let mut oracle = three_keys(rt.alloc())?;
+    let rows = [(0, 0), (1, 5), (5, 5), (6, u32::MAX), (u32::MAX, u32::MAX)];
+    for (key, found) in rows {
+        let reply = oracle.apply(0, Call::Ceiling(Key(key)))?;
+        assert_eq!(rt; reply, Reply::At(Key(found)), "{key}");
+    }
+    oracle.apply(0, Call::Remove(Key(u32::MAX)))?;
+    assert_eq!(rt; oracle.apply(0, Call::Ceiling(Key(6)))?, Reply::Nothing);
+    assert_eq!(rt;
+        oracle.apply(0, Call::Ceiling(Key(u32::MAX)))?,
+        Reply::Nothing
+    );
+    Ok(())
+}

@@ -1,0 +1,17 @@
+use Rattle.std.specs.Prelude.{refl}
+use Rattle.lset_words.specs.declared.Reply.TheVariants.{At}
+use Rattle.lset_wrong_tables.specs.Schedules.{ceiling}
+use Rattle.lset_wrong_tables.specs.Findings.{ReplyNeverFits}
+use Rattle.lset_wrong_tables.specs.WrongLazy.{ceiling_by_key, sought_after_the_mark}
+use Rattle.lset_wrong_tables.proofs.Computed.{reply_fits_never}
+use Rattle.lset_wrong_tables.proofs.Refuted.{by_reply}
+use Rattle.lset_wrong_tables.proofs.lazy.ceiling_by_the_key_alone.Goals as goal
+
+unfit : ReplyNeverFits ceiling_by_key sought_after_the_mark 23 1 (ceiling 3) (At (record { 0 = 5 }))
+unfit = reply_fits_never ceiling_by_key sought_after_the_mark 23 1 21 3 (ceiling 3) (At (record { 0 = 5 })) refl refl refl refl refl refl refl refl
+
+pub returns-clause-answers : goal.returns-clause-answers
+returns-clause-answers c = unfit
+
+pub returns-clause-replies_fit : goal.returns-clause-replies_fit
+returns-clause-replies_fit c = by_reply ceiling_by_key sought_after_the_mark 23 1 (ceiling 3) (At (record { 0 = 5 })) unfit
