@@ -1,214 +1,277 @@
--- A search for the first moment of a fact: from one part of the fact to the next, and at the end.
-use Rattle.std.proofs.Common.{◌≡◌, ◌≢◌, ℕ, ◌+◌, ◌<◌, ◌≤◌, ◌⊎◌, inl, inr, Bool, true, false, List, [], sym, refl, subst, ap, ◌∙◌, arith}
-use Rattle.std.specs.Prelude.{Option, Some, None, IsTrue, IsSome, Vec, ◌∷◌}
-use Rattle.std.specs.declared.alloc.Global.{Global}
+-- A search for the first moment at which a key, or none, is the least one at or above another: from note to note, and at the end.
+use Rattle.std.proofs.Common.{◌≡◌, ◌≢◌, ℕ, ◌+◌, ◌<◌, ◌≤◌, ◌⊎◌, inl, inr, Bool, true, false, not, List, [], ◌∷◌, sym, refl, subst, ap, ◌∙◌, arith}
+use Rattle.std.specs.Prelude.{Option, Some, None, All, IsTrue, IsSome, ◌==◌, nat_lt, if◌then◌else◌}
 use Rattle.std.specs.declared.cmp.Ordering.TheVariants.{Less, Equal, Greater}
 use Rattle.std.specs.declared.ops.Bound.TheVariants.{Excluded, Unbounded}
 use Rattle.std.specs.Ordering.{nat_cmp, is_gt}
 use Rattle.std.specs.Cmp.{nat_cmp_is}
-use Rattle.std.specs.BTreeMap.{get}
+use Rattle.std.specs.BTreeMap.{BTreeMap, get}
 use Rattle.std.specs.BTreeMap.Range.{IsRangeOf}
-use Rattle.std.proofs.lemmas.Bool.{cases_order}
-use Rattle.lset_history.proofs.Noting.{Kept, items_in, kept_moments}
-use Rattle.lset_words.proofs.Numbers.{below_or_not, same_or_not}
+use Rattle.std.proofs.lemmas.Bool.{cases_Bool, cases_order}
+use Rattle.std.proofs.lemmas.List.Elements.{All-head, All-tail, All-nil, All-cons, All-weaker}
+use Rattle.lset_words.proofs.Numbers.{below_or_not, same_or_not, equal_test, unequal_test, if_same, if_other, if_below, if_not_below, lower_number, not_lower_number, same_number, other_number}
 use Rattle.lset_words.specs.Account.{IsCeiling}
-use Rattle.lset_history.specs.Changes.{IsFirst, is_present, state_at, moments_of, changes_in}
-use Rattle.lset_history.specs.Raising.{Raises, IsBelow, AreAbsent, IsNextAfter}
+use Rattle.lset_history.specs.Changes.{IsFirst, is_present, is_present_now, state_at}
+use Rattle.lset_history.specs.Raising.{IsNextNote, is_against, IsCandidateUpTo, IsCandidate, IsBelow, IsSomeThere, CameAfter, IsNextPresent}
+use Rattle.lset_history.proofs.ChangeLaws.{present_past}
 
-pub raised_then : (P Q : ℕ → Type 0) (from n to : ℕ) (r : Option ℕ) → Raises P from to (Some n) → Raises Q n to r
-    → Raises (λ m. P m × Q m) from to r
-raised_then P Q from n to None a b =
-    λ m x y h. elim (below_or_not m n) [ inl l ↦ a.2 m x l h.0 | inr l ↦ b m l y h.1 ]
-raised_then P Q from n to (Some k) a b =
-    let low : from ≤ n = a.0 in
-    let up : n ≤ k = b.0 in (
-      omega arith,
-      b.1,
-      λ m x y h. elim (below_or_not m n) [ inl l ↦ a.2 m x l h.0 | inr l ↦ b.2 m l y h.1 ],
-      λ e. (
-        a.3 (omega arith),
-        subst Q (let same : n ≡ from = omega arith in same) (b.3 (omega arith)),
-      ),
-    )
+abbrev pub CeilingAt : (ℕ → List ℕ) → ℕ → Option ℕ → ℕ → Type 0
+CeilingAt changes key found m = IsCeiling (λ j. is_present changes j m ≡ true) key found
 
-pub raised_same : (P Q : ℕ → Type 0) (from to : ℕ) (r : Option ℕ) → ((m : ℕ) → P m → Q m) → ((m : ℕ) → Q m → P m)
-    → Raises P from to r → Raises Q from to r
-raised_same P Q from to None f g a = λ m x y h. a m x y (g m h)
-raised_same P Q from to (Some k) f g a = (a.0, a.1, λ m x y h. a.2 m x y (g m h), λ e. f from (a.3 e))
+-- no change lies above a moment and not above a later one
+abbrev IsQuiet : List ℕ → ℕ → ℕ → Type 0
+IsQuiet ms a b = All (λ m. a < m → m ≤ b → ⊥) ms
 
-pub raised_none : (P Q : ℕ → Type 0) (from to : ℕ) → ((m : ℕ) → Q m → P m) → Raises P from to None → Raises Q from to None
-raised_none P Q from to g a = λ m x y h. a m x y (g m h)
+quiet_upto : (x : ℕ) (ms : List ℕ) (a b : ℕ) → x ≤ b → IsQuiet (x ∷ ms) a b → x ≤ a
+quiet_upto x ms a b u q = elim (below_or_not a x) [
+  | inl l ↦ absurd (All-head (λ m. a < m → m ≤ b → ⊥) x ms q l u)
+  | inr g ↦ g
+]
 
-pub first_raises : (P : ℕ → Type 0) (from to : ℕ) (r : Option ℕ) → IsFirst P from to r → Raises P from to r
-first_raises P from to None h = h
-first_raises P from to (Some k) h = (h.0, h.1, h.3, λ e. subst P e h.2)
+quiet_state : (present : Bool) (ms : List ℕ) (a b : ℕ) → a ≤ b → IsQuiet ms a b → state_at present ms b ≡ state_at present ms a
+quiet_state present [] a b l q = refl
+quiet_state present (x ∷ ms) a b l q = elim (below_or_not b x) [
+  | inl u ↦ if_below b x u present (state_at (not present) ms b) ∙ sym (if_below a x (omega arith) present (state_at (not present) ms a))
+  | inr u ↦ if_not_below b x u present (state_at (not present) ms b)
+      ∙ quiet_state (not present) ms a b l (All-tail (λ m. a < m → m ≤ b → ⊥) x ms q)
+      ∙ sym (if_not_below a x (quiet_upto x ms a b u q) present (state_at (not present) ms a))
+]
 
-pub raises_here : (P : ℕ → Type 0) (from to : ℕ) → from ≤ to → P from → Raises P from to (Some from)
-raises_here P from to l h = (omega arith, l, λ m x y i. absurd (omega arith), λ e. h)
+not_both : (b : Bool) → b ≡ true → b ≡ false → ⊥
+not_both true e f = cc
+not_both false e f = cc
 
--- ---- keys one after another
+is_absent : (b : Bool) → (b ≡ true → ⊥) → b ≡ false
+is_absent true n = absurd (n refl)
+is_absent false n = refl
 
--- no key from one on, below both ends, is there
-abbrev pub AbsentUpTo : (ℕ → List ℕ) → ℕ → Option ℕ → Option ℕ → ℕ → Type 0
-AbsentUpTo changes key next end m = (j : ℕ) → key ≤ j → IsBelow j next → IsBelow j end → is_present changes j m ≡ false
+module _ (changes : ℕ → List ℕ) (key : ℕ) (found : Option ℕ) where
+  against_same : (o : Option ℕ) (j m n : ℕ) → is_present changes j n ≡ is_present changes j m → is_against changes key o j n ≡ is_against changes key o j m
+  against_same None j m n e = ap (λ b. if nat_lt j key then false else b) e
+  against_same (Some x) j m n e =
+      ap (λ b. if nat_lt j key then false else if nat_lt x j then false else if x == j then not b else b) e
+
+  quiet_against : (j a b : ℕ) → a ≤ b → IsQuiet (changes j) a b → is_against changes key found j b ≡ is_against changes key found j a
+  quiet_against j a b l q = against_same found j a b (quiet_state false (changes j) a b l q)
+
+  -- ---- from note to note
+
+  module _ (last : ℕ) (note : ℕ × ℕ) (next : IsNextNote changes last (Some note)) where
+    before_note : (j m : ℕ) → last ≤ m → m < note.0 → is_against changes key found j m ≡ is_against changes key found j last
+    before_note j m l u = quiet_against j last m l (All-weaker (λ c. last < c → c ≤ note.0 → (c ≡ note.0) × (j ≡ note.1))
+        (λ c. last < c → c ≤ m → ⊥) (λ c h a b. let e : c ≡ note.0 = (h a (omega arith)).0 in omega arith) (changes j) (next.1 j))
+
+    at_note : (j : ℕ) → j ≢ note.1 → is_against changes key found j note.0 ≡ is_against changes key found j last
+    at_note j d = quiet_against j last note.0 (let l : last < note.0 = next.0 in omega arith)
+        (All-weaker (λ c. last < c → c ≤ note.0 → (c ≡ note.0) × (j ≡ note.1))
+        (λ c. last < c → c ≤ note.0 → ⊥) (λ c h a b. d (h a b).1) (changes j) (next.1 j))
+
+    module _ (from moment : ℕ) (s : IsCandidateUpTo changes key found from moment last) (up : moment ≤ last) where
+      stays_at_last : (j : ℕ) → is_against changes key found j moment ≡ true → is_against changes key found j last ≡ true
+      stays_at_last j h = s.stays j last h up (omega arith)
+
+      stays_before : (j m : ℕ) → is_against changes key found j moment ≡ true → moment ≤ m → m < note.0 → is_against changes key found j m ≡ true
+      stays_before j m h l u = elim (below_or_not last m) [
+        | inl a ↦ before_note j m (omega arith) u ∙ stays_at_last j h
+        | inr b ↦ s.stays j m h l b
+      ]
+
+      pub candidate_raised : is_against changes key found note.1 moment ≡ true → IsCandidateUpTo changes key found from note.0 note.0
+      candidate_raised h =
+          let low : from ≤ moment = s.low in
+          let later : last < note.0 = next.0 in
+          record {
+            low = omega arith;
+            before = λ m a b. elim (below_or_not m moment) [ inl l ↦ s.before m a l | inr g ↦ (note.1, stays_before note.1 m h g b) ];
+            stays = λ j m against l u. subst (λ z. is_against changes key found j z ≡ true) (let e : note.0 ≡ m = omega arith in e) against;
+          }
+
+      pub candidate_kept : is_against changes key found note.1 moment ≡ false → IsCandidateUpTo changes key found from moment note.0
+      candidate_kept n = record {
+        low = s.low;
+        before = s.before;
+        stays = λ j m h l u. elim (below_or_not m note.0) [
+          | inl a ↦ stays_before j m h l a
+          | inr b ↦ subst (λ z. is_against changes key found j z ≡ true) (let e : note.0 ≡ m = omega arith in e)
+              (at_note j (λ e. not_both (is_against changes key found j moment) h
+              (subst (λ z. is_against changes key found z moment ≡ false) (sym e) n)) ∙ stays_at_last j h)
+        ];
+      }
+
+  pub candidate_begins : (from : ℕ) → IsCandidateUpTo changes key found from from from
+  candidate_begins from = record {
+    low = omega arith;
+    before = λ m a b. absurd (omega arith);
+    stays = λ j m against l u. subst (λ z. is_against changes key found j z ≡ true) (let e : from ≡ m = omega arith in e) against;
+  }
+
+  pub candidate_ends : (from moment last : ℕ) → IsCandidateUpTo changes key found from moment last → moment ≤ last
+      → IsNextNote changes last None → IsCandidate changes key found from moment
+  candidate_ends from moment last s up none = λ to l. record {
+    low = s.low;
+    before = s.before;
+    stays = λ j m h a b. elim (below_or_not last m) [
+      | inl u ↦ quiet_against j last m (omega arith) (All-weaker (λ c. c ≤ last) (λ c. last < c → c ≤ m → ⊥) (λ c x y z. omega arith)
+          (changes j) (none j)) ∙ s.stays j last h up (omega arith)
+      | inr u ↦ s.stays j m h a u
+    ];
+  }
+
+-- ---- at the end
+
+-- which keys speak against it
+against_below : (changes : ℕ → List ℕ) (key : ℕ) (o : Option ℕ) (j m : ℕ) → key ≤ j → IsBelow j o
+    → is_against changes key o j m ≡ is_present changes j m
+against_below changes key None j m l u = if_not_below j key l false (is_present changes j m)
+against_below changes key (Some x) j m l u = rw (if_not_below j key l, if_not_below x j (omega arith), unequal_test x j (λ e. omega arith)) refl
+
+against_itself : (changes : ℕ → List ℕ) (key x m : ℕ) → key ≤ x → is_against changes key (Some x) x m ≡ not (is_present changes x m)
+against_itself changes key x m l = rw (if_not_below x key l, if_not_below x x (omega arith), equal_test x x refl) refl
+
+not_true : (b : Bool) → not b ≡ true → b ≡ true → ⊥
+not_true true e f = cc
+not_true false e f = cc
+
+against_is_not : (changes : ℕ → List ℕ) (key : ℕ) (o : Option ℕ) (j m : ℕ) → is_against changes key o j m ≡ true → CeilingAt changes key o m → ⊥
+against_is_not changes key None j m e h = elim (below_or_not j key) [
+  | inl l ↦ not_both (is_against changes key None j m) e (if_below j key l false (is_present changes j m))
+  | inr g ↦ h j g (sym (against_below changes key None j m g tt) ∙ e)
+]
+against_is_not changes key (Some x) j m e h = elim (below_or_not j key) [
+  | inl l ↦ not_both (is_against changes key (Some x) j m) e (rw (if_below j key l) refl)
+  | inr g ↦ elim (below_or_not x j) [
+    | inl l ↦ not_both (is_against changes key (Some x) j m) e (rw (if_not_below j key g, if_below x j l) refl)
+    | inr u ↦ elim (below_or_not j x) [
+      | inl l ↦ h.2 j g l (sym (against_below changes key (Some x) j m g l) ∙ e)
+      | inr v ↦
+          (let is : j ≡ x = omega arith in
+          not_true (is_present changes x m) (sym (against_itself changes key x m h.0)
+          ∙ subst (λ z. is_against changes key (Some x) z m ≡ true) is e) h.1)
+    ]
+  ]
+]
+
+-- a moment that no change is past
+upto : (ms : List ℕ) → (last : ℕ) × All (λ m. m ≤ last) ms
+upto [] = (0, All-nil (λ m. m ≤ 0))
+upto (x ∷ ms) = (
+  x + (upto ms).0,
+  All-cons (λ m. m ≤ x + (upto ms).0) x ms (omega arith)
+      (All-weaker (λ m. m ≤ (upto ms).0) (λ m. m ≤ x + (upto ms).0) (λ m l. omega arith) ms (upto ms).1),
+)
+
+module _ (changes : ℕ → List ℕ) (key : ℕ) (found : Option ℕ) (from moment : ℕ) (s : IsCandidate changes key found from moment) where
+  stays_now : (j : ℕ) → key ≤ j → IsBelow j found → is_present changes j moment ≡ true → is_present_now changes j ≡ true
+  stays_now j l u e =
+      let late = moment + (upto (changes j)).0 in
+      sym (present_past changes j late (All-weaker (λ m. m ≤ (upto (changes j)).0) (λ m. m ≤ moment + (upto (changes j)).0)
+      (λ m a. omega arith) (changes j) (upto (changes j)).1))
+      ∙ sym (against_below changes key found j late l u)
+      ∙ (s late (omega arith)).stays j late (against_below changes key found j moment l u ∙ e) (omega arith) (omega arith)
+
+  absent_at_candidate : CameAfter changes key found moment → (j : ℕ) → key ≤ j → IsBelow j found → is_present changes j moment ≡ true → ⊥
+  absent_at_candidate came j l u e = not_both (is_present changes j moment) e (came j l u (stays_now j l u e))
+
+  against_from_then : (to j : ℕ) → is_against changes key found j moment ≡ true → IsFirst (CeilingAt changes key found) from to None
+  against_from_then to j e = λ m a b h. elim (below_or_not m moment) [
+    | inl l ↦ (let k = (s moment (omega arith)).before m a l in against_is_not changes key found k.0 m k.1 h)
+    | inr g ↦ against_is_not changes key found j m ((s m g).stays j m e g (omega arith)) h
+  ]
+
+  -- the answers
+  pub past_the_end : (to : ℕ) → to < moment → IsFirst (CeilingAt changes key found) from to None
+  past_the_end to l = λ m a b h. let k = (s moment (omega arith)).before m a (omega arith) in against_is_not changes key found k.0 m k.1 h
+
+  pub some_there : (to : ℕ) → IsSomeThere changes key found moment → IsFirst (CeilingAt changes key found) from to None
+  some_there to k = against_from_then to k.0 (against_below changes key found k.0 moment k.1 k.2 ∙ k.3)
+
+  candidate_is_first : (to : ℕ) → moment ≤ to → CeilingAt changes key found moment → IsFirst (CeilingAt changes key found) from to (Some moment)
+  candidate_is_first to l h = (
+    (s moment (omega arith)).low,
+    l,
+    h,
+    λ m a b c. (let k = (s moment (omega arith)).before m a b in against_is_not changes key found k.0 m k.1 c),
+  )
+
+  pub none_is_least : (to : ℕ) → found ≡ None → moment ≤ to → CameAfter changes key found moment
+      → IsFirst (CeilingAt changes key found) from to (Some moment)
+  none_is_least to e l came = candidate_is_first to l (subst (λ o. CeilingAt changes key o moment) (sym e)
+      (λ j a p. absent_at_candidate came j a (subst (IsBelow j) (sym e) tt) p))
+
+  pub it_is_least : (to x : ℕ) → found ≡ Some x → key ≤ x → is_present changes x moment ≡ true → moment ≤ to → CameAfter changes key found moment
+      → IsFirst (CeilingAt changes key found) from to (Some moment)
+  it_is_least to x e low there l came = candidate_is_first to l (subst (λ o. CeilingAt changes key o moment) (sym e)
+      (low, there, λ j a b p. absent_at_candidate came j a (subst (IsBelow j) (sym e) b) p))
+
+  pub it_is_absent : (to x : ℕ) → found ≡ Some x → is_present changes x moment ≡ false → IsFirst (CeilingAt changes key found) from to None
+  it_is_absent to x e absent = elim (below_or_not x key) [
+    | inl l ↦ subst (λ o. IsFirst (CeilingAt changes key o) from to None) (sym e) (λ m a b h. let g : key ≤ x = h.0 in omega arith)
+    | inr g ↦ against_from_then to x (subst (λ o. is_against changes key o x moment ≡ true) (sym e)
+        (against_itself changes key x moment g ∙ ap not absent))
+  ]
+
+  pub it_is_too_low : (to x : ℕ) → found ≡ Some x → x < key → IsFirst (CeilingAt changes key found) from to None
+  it_is_too_low to x e l = subst (λ o. IsFirst (CeilingAt changes key o) from to None) (sym e) (λ m a b h. let g : key ≤ x = h.0 in omega arith)
+
+-- ---- the keys that are there now
 
 abbrev pub IsFrom : ℕ → Option ℕ → Type 0
 IsFrom key None = Unit {0}
 IsFrom key (Some k) = key ≤ k
 
-absent_without : (changes : ℕ → List ℕ) (j m : ℕ) → changes j ≡ [] → is_present changes j m ≡ false
-absent_without changes j m e = ap (λ ms. state_at false ms m) e
+-- those below a key, and below the end
+abbrev pub CameUpTo : (ℕ → List ℕ) → ℕ → Option ℕ → Option ℕ → ℕ → Type 0
+CameUpTo changes key next end moment =
+    (j : ℕ) → key ≤ j → IsBelow j next → IsBelow j end → is_present_now changes j ≡ true → is_present changes j moment ≡ false
 
-lower_below : (j k : ℕ) (o : Option ℕ) → j < k → IsBelow k o → IsBelow j o
-lower_below j k None l b = tt
-lower_below j k (Some e) l b = omega arith
+pub none_looked_at : (changes : ℕ → List ℕ) (key : ℕ) (end : Option ℕ) (moment : ℕ) → CameUpTo changes key (Some key) end moment
+none_looked_at changes key end moment = λ j l u e now. absurd (omega arith)
 
-pub after_is_from : (changes : ℕ → List ℕ) (key k : ℕ) (o : Option ℕ) → key ≤ k → IsNextAfter changes k o → IsFrom key o
+pub after_is_from : (changes : ℕ → List ℕ) (key k : ℕ) (o : Option ℕ) → key ≤ k → IsNextPresent changes k o → IsFrom key o
 after_is_from changes key k None l a = tt
 after_is_from changes key k (Some n) l a = let b : k < n = a.0 in omega arith
 
-below_after : (changes : ℕ → List ℕ) (k : ℕ) (o : Option ℕ) → IsNextAfter changes k o → IsBelow k o
-below_after changes k None a = tt
-below_after changes k (Some n) a = a.0
+not_now_between : (changes : ℕ → List ℕ) (k j : ℕ) (o : Option ℕ) → IsNextPresent changes k o → k < j → IsBelow j o → is_present_now changes j ≡ false
+not_now_between changes k j None a l u = a j l
+not_now_between changes k j (Some n) a l u = a.1 j l u
 
-no_changes_between : (changes : ℕ → List ℕ) (k j : ℕ) (o : Option ℕ) → IsNextAfter changes k o → k < j → IsBelow j o → changes j ≡ []
-no_changes_between changes k j None a l b = a j l
-no_changes_between changes k j (Some n) a l b = a.1 j l b
-
--- one key more
-pub one_more_key : (changes : ℕ → List ℕ) (key k : ℕ) (end next : Option ℕ) (from moment to later : ℕ) → key ≤ k
-    → IsBelow k end → IsNextAfter changes k next
-    → Raises (AbsentUpTo changes key (Some k) end) from to (Some moment)
-    → IsFirst (λ m. is_present changes k m ≡ false) moment to (Some later)
-    → Raises (AbsentUpTo changes key next end) from to (Some later)
-one_more_key changes key k end next from moment to later low under after a f =
-    raised_same (λ m. AbsentUpTo changes key (Some k) end m × (is_present changes k m ≡ false)) (AbsentUpTo changes key next end)
-    from to (Some later) (λ m h j x y z. elim (below_or_not j k) [
-      | inl l ↦ h.0 j x l z
-      | inr g ↦ elim (same_or_not j k) [
-        | inl e ↦ subst (λ i. is_present changes i m ≡ false) (sym e) h.1
-        | inr d ↦ absent_without changes j m (no_changes_between changes k j next after (omega arith) y)
-      ]
-    ])
-    (λ m h. (
-      λ j x y z. h j x (lower_below j k next y (below_after changes k next after)) z,
-      h k low (below_after changes k next after) under,
-    ))
-    (raised_then (AbsentUpTo changes key (Some k) end) (λ m. is_present changes k m ≡ false) from moment to (Some later) a
-    (first_raises (λ m. is_present changes k m ≡ false) moment to (Some later) f))
-
--- or none of the moments is left
-pub no_moment_left : (changes : ℕ → List ℕ) (key k : ℕ) (end : Option ℕ) (from moment to : ℕ) → key ≤ k → IsBelow k end
-    → Raises (AbsentUpTo changes key (Some k) end) from to (Some moment)
-    → IsFirst (λ m. is_present changes k m ≡ false) moment to None
-    → Raises (AreAbsent changes key end) from to None
-no_moment_left changes key k end from moment to low under a f =
-    raised_none (λ m. AbsentUpTo changes key (Some k) end m × (is_present changes k m ≡ false)) (AreAbsent changes key end) from to
-    (λ m h. (λ j x y z. h j x z, h k low under))
-    (raised_then (AbsentUpTo changes key (Some k) end) (λ m. is_present changes k m ≡ false) from moment to None a f)
-
-pub starts_absent : (changes : ℕ → List ℕ) (key : ℕ) (end : Option ℕ) (from to : ℕ) → from ≤ to
-    → Raises (AbsentUpTo changes key (Some key) end) from to (Some from)
-starts_absent changes key end from to l =
-    raises_here (AbsentUpTo changes key (Some key) end) from to l (λ j x y z. absurd (omega arith))
+pub one_more_came : (changes : ℕ → List ℕ) (key k : ℕ) (end next : Option ℕ) (moment : ℕ) → IsNextPresent changes k next
+    → is_present changes k moment ≡ false → CameUpTo changes key (Some k) end moment → CameUpTo changes key next end moment
+one_more_came changes key k end next moment after absent came = λ j l u e now. elim (below_or_not j k) [
+  | inl b ↦ came j l b e now
+  | inr g ↦ elim (same_or_not j k) [
+    | inl s ↦ subst (λ z. is_present changes z moment ≡ false) (sym s) absent
+    | inr d ↦ absurd (not_both (is_present_now changes j) now (not_now_between changes k j next after (omega arith) u))
+  ]
+]
 
 -- at the end of the keys
 reaches : (j k : ℕ) (end : Option ℕ) → (IsBelow k end → ⊥) → IsBelow j end → j < k
 reaches j k None past b = absurd (past tt)
 reaches j k (Some e) past b = elim (below_or_not k e) [ inl l ↦ absurd (past l) | inr g ↦ omega arith ]
 
-pub past_the_end : (changes : ℕ → List ℕ) (key k : ℕ) (end : Option ℕ) (from to moment : ℕ) → (IsBelow k end → ⊥)
-    → Raises (AbsentUpTo changes key (Some k) end) from to (Some moment) → Raises (AreAbsent changes key end) from to (Some moment)
-past_the_end changes key k end from to moment past a =
-    raised_same (AbsentUpTo changes key (Some k) end) (AreAbsent changes key end) from to (Some moment)
-    (λ m h j x z. h j x (reaches j k end past z) z) (λ m h j x y z. h j x z) a
+pub came_to_the_end : (changes : ℕ → List ℕ) (key k : ℕ) (end : Option ℕ) (moment : ℕ) → (IsBelow k end → ⊥)
+    → CameUpTo changes key (Some k) end moment → CameAfter changes key end moment
+came_to_the_end changes key k end moment past came = λ j l e now. came j l (reaches j k end past e) e now
 
-pub no_more_keys : (changes : ℕ → List ℕ) (key : ℕ) (end : Option ℕ) (from to moment : ℕ)
-    → Raises (AbsentUpTo changes key None end) from to (Some moment) → Raises (AreAbsent changes key end) from to (Some moment)
-no_more_keys changes key end from to moment a =
-    raised_same (AbsentUpTo changes key None end) (AreAbsent changes key end) from to (Some moment)
-    (λ m h j x z. h j x tt z) (λ m h j x y z. h j x z) a
-
--- ---- ceilings
-
-abbrev pub CeilingAt : (ℕ → List ℕ) → ℕ → Option ℕ → ℕ → Type 0
-CeilingAt changes key found m = IsCeiling (λ j. is_present changes j m ≡ true) key found
-
-not_there : (b : Bool) → b ≡ false → b ≡ true → ⊥
-not_there true e f = cc
-not_there false e f = cc
-
-is_absent : (b : Bool) → (b ≡ true → ⊥) → b ≡ false
-is_absent true n = absurd (n refl)
-is_absent false n = refl
-
-pub too_low : (changes : ℕ → List ℕ) (key x from to : ℕ) → x < key → Raises (CeilingAt changes key (Some x)) from to None
-too_low changes key x from to l = λ m a b h. let g : key ≤ x = h.0 in omega arith
-
-pub never_there : (changes : ℕ → List ℕ) (key x from to : ℕ) → IsFirst (λ m. is_present changes x m ≡ true) from to None
-    → Raises (CeilingAt changes key (Some x)) from to None
-never_there changes key x from to f = λ m a b h. f m a b h.1
-
-pub there_alone : (changes : ℕ → List ℕ) (key x from n to : ℕ) (r : Option ℕ) → key ≤ x
-    → IsFirst (λ m. is_present changes x m ≡ true) from to (Some n) → Raises (AreAbsent changes key (Some x)) n to r
-    → Raises (CeilingAt changes key (Some x)) from to r
-there_alone changes key x from n to r low f a =
-    raised_same (λ m. (is_present changes x m ≡ true) × AreAbsent changes key (Some x) m) (CeilingAt changes key (Some x)) from to r
-    (λ m h. (low, h.0, λ j y z t. not_there (is_present changes j m) (h.1 j y z) t))
-    (λ m h. (h.1, λ j y z. is_absent (is_present changes j m) (h.2 j y z)))
-    (raised_then (λ m. is_present changes x m ≡ true) (AreAbsent changes key (Some x)) from n to r
-    (first_raises (λ m. is_present changes x m ≡ true) from to (Some n) f) a)
-
-pub none_there : (changes : ℕ → List ℕ) (key from to : ℕ) (r : Option ℕ) → Raises (AreAbsent changes key None) from to r
-    → Raises (CeilingAt changes key None) from to r
-none_there changes key from to r a =
-    raised_same (AreAbsent changes key None) (CeilingAt changes key None) from to r
-    (λ m h j y t. not_there (is_present changes j m) (h j y tt) t)
-    (λ m h j y z. is_absent (is_present changes j m) (h j y)) a
-
--- ---- from moment to moment
-
-pub record Searched (P : ℕ → Type 0) (from to moment : ℕ) : Type 0 where
-  pub low : from ≤ moment
-  pub high : moment ≤ to
-  pub before : (m : ℕ) → from ≤ m → m < moment → P m → ⊥
-
-pub searches : (P : ℕ → Type 0) (from to : ℕ) → from ≤ to → Searched P from to from
-searches P from to l = record { low = omega arith; high = l; before = λ m x y h. absurd (omega arith) }
-
-pub searched_on : (P : ℕ → Type 0) (from to moment next : ℕ) → Searched P from to moment → Raises P moment to (Some next)
-    → Searched P from to next
-searched_on P from to moment next s a =
-    let low : from ≤ moment = s.low in
-    let up : moment ≤ next = a.0 in
-    record {
-      low = omega arith;
-      high = a.1;
-      before = λ m x y h. elim (below_or_not m moment) [ inl l ↦ s.before m x l h | inr g ↦ a.2 m g y h ];
-    }
-
-pub found_first : (P : ℕ → Type 0) (from to moment next : ℕ) → Searched P from to moment → Raises P moment to (Some next)
-    → next ≡ moment → IsFirst P from to (Some moment)
-found_first P from to moment next s a e = (s.low, s.high, a.3 e, s.before)
-
-pub found_nowhere : (P : ℕ → Type 0) (from to moment : ℕ) → Searched P from to moment → Raises P moment to None → IsFirst P from to None
-found_nowhere P from to moment s a = λ m x y h. elim (below_or_not m moment) [ inl l ↦ s.before m x l h | inr g ↦ a m g y h ]
-
--- ---- the next key of the map
-
-not_true : (b : Bool) → b ≡ false → IsTrue b → ⊥
-not_true true e t = cc
-not_true false e t = cc
+pub all_came : (changes : ℕ → List ℕ) (key : ℕ) (end : Option ℕ) (moment : ℕ) → CameUpTo changes key None end moment → CameAfter changes key end moment
+all_came changes key end moment came = λ j l e now. came j l tt e now
 
 pub below_unless : (k : ℕ) (end : Option ℕ) (b : Bool) → b ≡ false → ((IsBelow k end → ⊥) → IsTrue b) → IsBelow k end
 below_unless k None b e f = tt
 below_unless k (Some x) b e f = elim (below_or_not k x) [
   | inl l ↦ l
-  | inr g ↦ absurd (not_true b e (f (λ l. omega arith)))
+  | inr g ↦ absurd (is_not_true b e (f (λ l. omega arith)))
 ]
+  where
+    is_not_true : (b : Bool) → b ≡ false → IsTrue b → ⊥
+    is_not_true true e t = cc
+    is_not_true false e t = cc
 
-lower_key : (a b : ℕ) → nat_cmp a b ≡ Less → a < b
-lower_key a b e = elim (cases_order a b) [
+-- ---- the next note
+
+lower_moment : (a b : ℕ) → nat_cmp a b ≡ Less → a < b
+lower_moment a b e = elim (cases_order a b) [
   | inl f ↦ absurd (let g : Equal ≡ Less = nat_cmp_is a b Equal f ∙ e in cc)
   | inr d ↦ elim d [ inl l ↦ l | inr l ↦ absurd (let g : Greater ≡ Less = nat_cmp_is a b Greater l ∙ e in cc) ]
 ]
@@ -219,21 +282,33 @@ not_greater a b e = elim (below_or_not b a) [
   | inr g ↦ g
 ]
 
-module _ (m : Kept) (key : ℕ) (r : List (ℕ × Vec ℕ Global)) (range : IsRangeOf nat_cmp (Excluded key) Unbounded m r) where
-  has_none : (j : ℕ) (o : Option (Vec ℕ Global)) → get nat_cmp m j ≡ o → (IsSome (get nat_cmp m j) → ⊥) → moments_of (changes_in m) j ≡ []
-  has_none j None e n = kept_moments m j ∙ ap items_in e
-  has_none j (Some v) e n = absurd (n (subst IsSome (sym e) refl))
+some_is : (a b : ℕ) → Some a ≡ Some b → a ≡ b
+some_is a b e = cc
 
-  pub next_key : (k : ℕ) (v : Vec ℕ Global) (rest : List (ℕ × Vec ℕ Global)) → r ≡ (k, v) ∷ rest
-      → IsNextAfter (moments_of (changes_in m)) key (Some k)
-  next_key k v rest e =
+not_none : (k : ℕ) → None ≡ Some k → ⊥
+not_none k e = cc
+
+module _ (changes : ℕ → List ℕ) (keys_at : BTreeMap ℕ ℕ) (listed : (k : ℕ) → All (λ m. get nat_cmp keys_at m ≡ Some k) (changes k))
+    (moment : ℕ) (r : List (ℕ × ℕ)) (range : IsRangeOf nat_cmp (Excluded moment) Unbounded keys_at r) where
+  pub next_note : (at key : ℕ) (rest : List (ℕ × ℕ)) → r ≡ (at, key) ∷ rest → IsNextNote changes moment (Some (at, key))
+  next_note at key rest e =
       let first = rw e at range.1 in (
-        lower_key key k first.0.0,
-        λ j x y. has_none j (get nat_cmp m j) refl (λ s.
-            let least = rw e at range.2 j (sym (nat_cmp_is key j Less x), tt) s in
-            let up : k ≤ j = not_greater k j least in
-            omega arith),
+        lower_moment moment at first.0.0,
+        λ j. All-weaker (λ m. get nat_cmp keys_at m ≡ Some j) (λ m. moment < m → m ≤ at → (m ≡ at) × (j ≡ key))
+            (λ m is l u.
+            let least = rw e at range.2 m (sym (nat_cmp_is moment m Less l), tt) (subst IsSome (sym is) refl) in
+            let up : at ≤ m = not_greater at m least in
+            let same : m ≡ at = omega arith in (
+              same,
+              some_is j key (sym is ∙ ap (λ z. get nat_cmp keys_at z) same ∙ first.1),
+            ))
+            (changes j) (listed j),
       )
 
-  pub no_next_key : r ≡ [] → IsNextAfter (moments_of (changes_in m)) key None
-  no_next_key e = λ j x. kept_moments m j ∙ ap items_in (range.5 e j (sym (nat_cmp_is key j Less x), tt))
+  pub no_next_note : r ≡ [] → IsNextNote changes moment None
+  no_next_note e = λ j. All-weaker (λ m. get nat_cmp keys_at m ≡ Some j) (λ m. m ≤ moment)
+      (λ m is. elim (below_or_not moment m) [
+        | inl l ↦ absurd (not_none j (sym (range.5 e m (sym (nat_cmp_is moment m Less l), tt)) ∙ is))
+        | inr g ↦ g
+      ])
+      (changes j) (listed j)

@@ -1,10 +1,11 @@
 -- When keys were put in and taken out, and the first moment at which a key is there, or is not.
-use Rattle.std.specs.Prelude.{◌≡◌, ◌^◌, ℕ, ◌<◌, ◌≤◌, ◌==◌, length, map, slice_index, nat_lt, Bool, false, not, if◌then◌else◌, List, [], ◌∷◌, ◌++◌, All, Option, Some, None, Vec}
+use Rattle.std.specs.Prelude.{◌≡◌, ◌^◌, ℕ, ◌<◌, ◌≤◌, ◌==◌, length, map, slice_index, nat_lt, Bool, true, false, IsTrue, not, if◌then◌else◌, List, [], ◌∷◌, ◌++◌, All, Option, Some, None, Vec}
 use Rattle.std.specs.declared.alloc.Global.{Global}
 use Rattle.std.specs.List.Sorted.{IsStrictlyIncreasing}
 use Rattle.std.specs.Ordering.{nat_cmp}
 use Rattle.std.specs.Map.{lookup}
-use Rattle.std.specs.BTreeMap.{BTreeMap, is_at}
+use Rattle.std.specs.BTreeMap.{BTreeMap, get, is_at}
+use Rattle.std.specs.BTreeSet.{BTreeSet, contains}
 
 -- each key that was ever put in, with the moments at which it was put in and taken out, in turn, from the earliest on
 pub record ChangesValue : Type 0 where
@@ -61,8 +62,12 @@ Rise c = (key : ℕ) → IsStrictlyIncreasing (moments_of c key)
 abbrev pub IsBounded : (ℕ → List ℕ) → Type 0
 IsBounded changes = (key : ℕ) → 2 ^ 32 ≤ key → changes key ≡ []
 
-abbrev pub AreKept : ChangesValue → Type 0
-AreKept c = Rise c × IsBounded (moments_of c)
+-- these changes, each of their moments with its key, and each key that is there now
+pub record AreKept (c : ChangesValue) (keys_at : BTreeMap ℕ ℕ) (keys_now : BTreeSet ℕ) : Type 0 where
+  pub rise : Rise c
+  pub bounded : IsBounded (moments_of c)
+  pub listed : (key : ℕ) → All (λ m. get nat_cmp keys_at m ≡ Some key) (moments_of c key)
+  pub present : (key : ℕ) → is_present_now (moments_of c) key ≡ true → IsTrue (contains nat_cmp keys_now key)
 
 -- how many of these moments are not above one, where they rise
 pub record IsCountUpTo (ms : List ℕ) (moment count : ℕ) : Type 0 where

@@ -1,22 +1,41 @@
--- How a search for the first moment at which a fact holds goes on: words of private contracts.
-use Rattle.std.specs.Prelude.{◌≡◌, ℕ, ◌<◌, ◌≤◌, false, List, [], Option, Some, None}
-use Rattle.lset_history.specs.Changes.{is_present}
+-- How the first moment at which a key, or none, is the least one at or above another is searched for: words of private contracts.
+use Rattle.std.specs.Prelude.{◌≡◌, ℕ, ◌<◌, ◌≤◌, ◌==◌, nat_lt, Bool, true, false, not, if◌then◌else◌, List, All, Option, Some, None}
+use Rattle.lset_history.specs.Changes.{is_present, is_present_now}
 
--- From `from` on, up to `to`, the fact holds nowhere below the moment that is given, and nowhere where none is; where that moment
--- is `from`, it holds there.
-abbrev pub Raises : (ℕ → Type 0) → ℕ → ℕ → Option ℕ → Type 0
-Raises P from to None = (m : ℕ) → from ≤ m → m ≤ to → P m → ⊥
-Raises P from to (Some n) = (from ≤ n) × (n ≤ to) × ((m : ℕ) → from ≤ m → m < n → P m → ⊥) × (n ≡ from → P from)
+-- the next moment after one at which a key comes or goes, and that key
+abbrev pub IsNextNote : (ℕ → List ℕ) → ℕ → Option (ℕ × ℕ) → Type 0
+IsNextNote changes moment None = (j : ℕ) → All (λ m. m ≤ moment) (changes j)
+IsNextNote changes moment (Some n) = (moment < n.0)
+    × ((j : ℕ) → All (λ m. moment < m → m ≤ n.0 → (m ≡ n.0) × (j ≡ n.1)) (changes j))
+
+-- the next key after one that is there now
+abbrev pub IsNextPresent : (ℕ → List ℕ) → ℕ → Option ℕ → Type 0
+IsNextPresent changes key None = (j : ℕ) → key < j → is_present_now changes j ≡ false
+IsNextPresent changes key (Some k) = (key < k) × ((j : ℕ) → key < j → j < k → is_present_now changes j ≡ false)
+
+-- whether a key j keeps `found` from being the least one at or above `key` at a moment, or keeps that there is none
+abbrev pub is_against : (ℕ → List ℕ) → ℕ → Option ℕ → ℕ → ℕ → Bool
+is_against changes key None j moment = if nat_lt j key then false else is_present changes j moment
+is_against changes key (Some x) j moment =
+    if nat_lt j key then false else if nat_lt x j then false else if x == j then not (is_present changes j moment) else is_present changes j moment
+
+-- Below this moment, from `from` on, there is always such a key; and one that there is at this moment is one up to `last`.
+pub record IsCandidateUpTo (changes : ℕ → List ℕ) (key : ℕ) (found : Option ℕ) (from moment last : ℕ) : Type 0 where
+  pub low : from ≤ moment
+  pub before : (m : ℕ) → from ≤ m → m < moment → (j : ℕ) × (is_against changes key found j m ≡ true)
+  pub stays : (j m : ℕ) → is_against changes key found j moment ≡ true → moment ≤ m → m ≤ last → is_against changes key found j m ≡ true
+
+abbrev pub IsCandidate : (ℕ → List ℕ) → ℕ → Option ℕ → ℕ → ℕ → Type 0
+IsCandidate changes key found from moment = (last : ℕ) → moment ≤ last → IsCandidateUpTo changes key found from moment last
 
 abbrev pub IsBelow : ℕ → Option ℕ → Type 0
 IsBelow j None = Unit {0}
 IsBelow j (Some end) = j < end
 
--- no key from this one on, below `end`, is there
-abbrev pub AreAbsent : (ℕ → List ℕ) → ℕ → Option ℕ → ℕ → Type 0
-AreAbsent changes key end moment = (j : ℕ) → key ≤ j → IsBelow j end → is_present changes j moment ≡ false
+-- some key from this one on, below `end`, is there
+abbrev pub IsSomeThere : (ℕ → List ℕ) → ℕ → Option ℕ → ℕ → Type 0
+IsSomeThere changes key end moment = (j : ℕ) × (key ≤ j) × IsBelow j end × (is_present changes j moment ≡ true)
 
--- the next key that has changes
-abbrev pub IsNextAfter : (ℕ → List ℕ) → ℕ → Option ℕ → Type 0
-IsNextAfter changes key None = (j : ℕ) → key < j → changes j ≡ []
-IsNextAfter changes key (Some k) = (key < k) × ((j : ℕ) → key < j → j < k → changes j ≡ [])
+-- none of those that are there now was there
+abbrev pub CameAfter : (ℕ → List ℕ) → ℕ → Option ℕ → ℕ → Type 0
+CameAfter changes key end moment = (j : ℕ) → key ≤ j → IsBelow j end → is_present_now changes j ≡ true → is_present changes j moment ≡ false

@@ -1,8 +1,9 @@
-ghost use Rattle.std.specs.Prelude.{◌≡◌, ◌≤◌, ◌<◌, ◌^◌, ◌↔◌, ℕ, length, not, true, IsTrue, OnOk, OnErr, IfOk};
+ghost use Rattle.std.specs.Prelude.{◌≡◌, ◌≤◌, ◌<◌, ◌^◌, ◌↔◌, ℕ, length, not, true, false, IsTrue, OnOk, OnErr, IfOk};
 ghost use Rattle.std.specs.List.Sorted.{IsStrictlyIncreasing};
 ghost use Rattle.lset_history.specs.Changes.{
   IsFirst,
   no_changes,
+  changes_in,
   moments_of,
   is_present,
   is_present_now,
@@ -11,11 +12,19 @@ ghost use Rattle.lset_history.specs.Changes.{
   IsCountUpTo,
   IsBounded,
 };
-ghost use Rattle.lset_history.specs.Raising.{Raises, AreAbsent, IsNextAfter, IsBelow};
+ghost use Rattle.lset_history.specs.Raising.{
+  IsNextNote,
+  IsNextPresent,
+  is_against,
+  IsCandidate,
+  IsBelow,
+  IsSomeThere,
+  CameAfter,
+};
 ghost use Rattle.lset_words.specs.Account.{IsCeiling};
 
 use std::alloc::{AllocError, Global};
-use std::collections::BTreeMap;
+use std::collections::{BTreeMap, BTreeSet};
 use std::marker::Model;
 use std::ops::Bound;
 
@@ -25,6 +34,11 @@ pub struct Changes {
     alloc: Global,
     /// For each key that was ever put in, the moments at which it was put in and taken out, in turn.
     moments: BTreeMap<u32, Vec<u32>>,
+    /// At each of these moments, the key that was put in or taken out. Want of memory in `note` may leave one more
+    /// here, and one more in `keys_now`.
+    keys_at: BTreeMap<u32, u32>,
+    /// The keys that are in the set now.
+    keys_now: BTreeSet<u32>,
 }
 
 impl Model for Changes {
@@ -34,7 +48,7 @@ impl Model for Changes {
 
     ghost view = { λ c. changes_in c.moments };
 
-    ghost invariant = { λ c. AreKept (changes_in c.moments) };
+    ghost invariant = { λ c. AreKept (changes_in c.moments) c.keys_at c.keys_now };
 }
 
 /// How many of the rising moments are not above `at`, and how many of them were looked at for that.
@@ -68,6 +82,26 @@ fn is_past(end: Option<u32>, key: u32) -> bool
     }
 }
 
+/// One more moment of a key. An error is want of memory, and changes nothing.
+fn push_moment(
+    moments: &mut BTreeMap<u32, Vec<u32>>,
+    alloc: Global,
+    key: u32,
+    at: u32,
+) -> Result<(), AllocError>
+    ensures noted { OnOk result ((k : ℕ) → moments_of (changes_in moments.new) k ≡ with_change (moments_of (changes_in moments.old)) key at k) }
+    ensures unchanged { OnErr result (changes_in moments.new ≡ changes_in moments.old) }
+{
+    if let Some(moments) = moments.get_mut(&key) {
+        moments.push(at)?;
+        return Ok(());
+    }
+    let mut first = Vec::new(alloc);
+    first.push(at)?;
+    moments.insert(key, first)?;
+    Ok(())
+}
+
 impl Changes {
     /// No changes yet. It takes no memory.
     pub fn new(alloc: Global) -> Changes
@@ -76,6 +110,8 @@ impl Changes {
         Changes {
             alloc,
             moments: BTreeMap::new(alloc),
+            keys_at: BTreeMap::new(alloc),
+            keys_now: BTreeSet::new(alloc),
         }
     }
 
@@ -87,13 +123,14 @@ impl Changes {
         ensures noted { OnOk result ((k : ℕ) → moments_of self.new k ≡ with_change (moments_of self.old) key at k) }
         ensures unchanged { OnErr result (self.new ≡ self.old) }
     {
-        if let Some(moments) = self.moments.get_mut(&key) {
-            moments.push(at)?;
-            return Ok(());
+        // Both have the key before the change is noted, and `keys_now` loses it after, so that want of memory leaves
+        // out nothing.
+        self.keys_at.insert(at, key)?;
+        self.keys_now.insert(key)?;
+        push_moment(&mut self.moments, self.alloc, key, at)?;
+        if !present {
+            self.keys_now.remove(&key);
         }
-        let mut moments = Vec::new(self.alloc);
-        moments.push(at)?;
-        self.moments.insert(key, moments)?;
         Ok(())
     }
 
@@ -119,46 +156,84 @@ impl Changes {
         let found = if next <= to { Some(next) } else { None };
         (found, looked + 1)
     }
-    /// The least key above this one that was ever put in.
-    fn next_after(&self, key: u32) -> Option<u32>
-        ensures { IsNextAfter (moments_of self.now) key result }
+
+    /// Whether a key was in the set at a moment.
+    fn was_present(&self, key: u32, moment: u32) -> bool
+        ensures { result ≡ is_present (moments_of self.now) key moment }
     {
-        let above = (Bound::Excluded(key), Bound::Unbounded);
-        match self.moments.range(above).next() {
-            Some((next, _moments)) => Some(*next),
+        self.first(key, true, moment, moment).0.is_some()
+    }
+
+    /// The next moment at which a key was put in or taken out, and the key.
+    fn note_after(&self, moment: u32) -> Option<(u32, u32)>
+        ensures { IsNextNote (moments_of self.now) moment result }
+    {
+        let later = (Bound::Excluded(moment), Bound::Unbounded);
+        match self.keys_at.range(later).next() {
+            Some((at, key)) => Some((*at, *key)),
             None => None,
         }
     }
 
-    /// From a moment on, up to `to`: a moment before which some key from `key` on, below `end`, is in the set; the
-    /// moment itself where none is.
-    fn without_keys(&self, key: u32, end: Option<u32>, from: u32, to: u32) -> Option<u32>
-        requires { from ≤ to }
-        ensures { Raises (AreAbsent (moments_of self.now) key end) from to result }
+    /// The next key that is in the set now.
+    fn present_after(&self, key: u32) -> Option<u32>
+        ensures { IsNextPresent (moments_of self.now) key result }
+    {
+        let above = (Bound::Excluded(key), Bound::Unbounded);
+        match self.keys_now.range(above).next() {
+            Some(next) => Some(*next),
+            None => None,
+        }
+    }
+
+    /// Whether `other` speaks against `found` being the least key at or above `key` at a moment, or against there
+    /// being none: it is in the set then and is not to be, or the other way round.
+    fn is_against(&self, key: u32, found: Option<u32>, other: u32, moment: u32) -> bool
+        ensures { result ≡ is_against (moments_of self.now) key found other moment }
+    {
+        let present = self.was_present(other, moment);
+        match found {
+            _ if other < key => false,
+            Some(found) if found < other => false,
+            Some(found) if found == other => !present,
+            _ => present,
+        }
+    }
+
+    /// From `from` on, the moment below which some key always speaks against `found`, and at which one that does
+    /// so does it for good. Each key that speaks against `found` at the moment reached, and comes or goes later,
+    /// does so up to there.
+    fn candidate(&self, key: u32, found: Option<u32>, from: u32) -> u32
+        ensures { IsCandidate (moments_of self.now) key found from result }
     {
         let mut moment = from;
+        let mut last = from;
+        while let Some((at, noted)) = self.note_after(last) {
+            if self.is_against(key, found, noted, moment) {
+                moment = at;
+            }
+            last = at;
+        }
+        moment
+    }
+
+    /// Whether each key from `key` on, below `end`, that is in the set now was not in it at a moment. That a key
+    /// was in it then is the one cause of a `false`.
+    fn came_after(&self, key: u32, end: Option<u32>, moment: u32) -> bool
+        ensures came { IsTrue result → CameAfter (moments_of self.now) key end moment }
+        ensures there { result ≡ false → IsSomeThere (moments_of self.now) key end moment }
+    {
         let mut next = Some(key);
         while let Some(reached) = next {
             if is_past(end, reached) {
                 break;
             }
-            moment = self.first(reached, false, moment, to).0?;
-            next = self.next_after(reached);
+            if self.was_present(reached, moment) {
+                return false;
+            }
+            next = self.present_after(reached);
         }
-        Some(moment)
-    }
-
-    /// The same of the moments at which `found` is the least key at or above `key`, or none is there.
-    fn raised(&self, key: u32, found: Option<u32>, from: u32, to: u32) -> Option<u32>
-        requires { from ≤ to }
-        ensures { Raises (λ m. IsCeiling (λ j. is_present (moments_of self.now) j m ≡ true) key found) from to result }
-    {
-        let moment = match found {
-            Some(found) if found < key => return None,
-            Some(found) => self.first(found, true, from, to).0?,
-            None => from,
-        };
-        self.without_keys(key, found, moment, to)
+        true
     }
 
     /// The least moment from `from` to `to` at which the least key of the set at or above `key` is `found`, or at which
@@ -168,14 +243,17 @@ impl Changes {
         ensures first { IsFirst (λ m. IsCeiling (λ j. is_present (moments_of self.now) j m ≡ true) key found) from to result }
         ensures bounded { IsBounded (moments_of self.now) }
     {
-        let _changes = &self.moments;
-        let mut moment = from;
-        loop {
-            let next = self.raised(key, found, moment, to)?;
-            if next == moment {
-                return Some(moment);
-            }
-            moment = next;
+        let _moments = &self.moments;
+        let moment = self.candidate(key, found, from);
+        let is_there = match found {
+            Some(found) if found < key => false,
+            Some(found) => self.was_present(found, moment),
+            None => true,
+        };
+        if moment <= to && is_there && self.came_after(key, found, moment) {
+            Some(moment)
+        } else {
+            None
         }
     }
 }

@@ -17,14 +17,14 @@ returns-else-present-clause-first c = rw (← c.self.view_is, c.if-present.false
 
 pub count_upto-before-requires : goal.count_upto-before-requires
 count_upto-before-requires c = subst IsStrictlyIncreasing (kept_moments c.self.inside.moments c.args.key
-    ∙ ap items_in (sym c.in-Some.ensures.value) ∙ sym c.deref.ensures.value) (c.self.invariant.0 c.args.key)
+    ∙ ap items_in (sym c.in-Some.ensures.value) ∙ sym c.deref.ensures.value) (c.self.invariant.rise c.args.key)
 
 pub returns-then-before-present-clause-first : goal.returns-then-before-present-clause-first
 returns-then-before-present-clause-first c =
     let ms : moments_of c.args.self.now c.args.key ≡ c.deref.result.now = rw (← c.self.view_is) (kept_moments c.self.inside.moments c.args.key
     ∙ ap items_in (sym c.in-Some.ensures.value) ∙ sym c.deref.ensures.value) in
     let rise : IsStrictlyIncreasing c.deref.result.now = subst IsStrictlyIncreasing (kept_moments c.self.inside.moments c.args.key
-    ∙ ap items_in (sym c.in-Some.ensures.value) ∙ sym c.deref.ensures.value) (c.self.invariant.0 c.args.key) in
+    ∙ ap items_in (sym c.in-Some.ensures.value) ∙ sym c.deref.ensures.value) (c.self.invariant.rise c.args.key) in
     subst (λ z. IsFirst (λ m. state_at false z m ≡ c.args.present) c.args.from c.args.to (Some c.args.from)) (sym ms)
     (found_at_once c.deref.result.now rise c.args.present c.args.from c.args.to c.count_upto-before.result.0
     c.requires c.count_upto-before.ensures.count
@@ -42,7 +42,7 @@ returns-then-before-len-clause-first c =
     let ms : moments_of c.args.self.now c.args.key ≡ c.deref.result.now = rw (← c.self.view_is) (kept_moments c.self.inside.moments c.args.key
     ∙ ap items_in (sym c.in-Some.ensures.value) ∙ sym c.deref.ensures.value) in
     let rise : IsStrictlyIncreasing c.deref.result.now = subst IsStrictlyIncreasing (kept_moments c.self.inside.moments c.args.key
-    ∙ ap items_in (sym c.in-Some.ensures.value) ∙ sym c.deref.ensures.value) (c.self.invariant.0 c.args.key) in
+    ∙ ap items_in (sym c.in-Some.ensures.value) ∙ sym c.deref.ensures.value) (c.self.invariant.rise c.args.key) in
     subst (λ z. IsFirst (λ m. state_at false z m ≡ c.args.present) c.args.from c.args.to None) (sym ms)
     (never_found c.deref.result.now rise c.args.present c.args.from c.args.to c.count_upto-before.result.0
     c.requires c.count_upto-before.ensures.count
@@ -65,7 +65,7 @@ returns-clause-first c =
     let ms : moments_of c.args.self.now c.args.key ≡ c.deref.result.now = rw (← c.self.view_is) (kept_moments c.self.inside.moments c.args.key
     ∙ ap items_in (sym c.in-Some.ensures.value) ∙ sym c.deref.ensures.value) in
     let rise : IsStrictlyIncreasing c.deref.result.now = subst IsStrictlyIncreasing (kept_moments c.self.inside.moments c.args.key
-    ∙ ap items_in (sym c.in-Some.ensures.value) ∙ sym c.deref.ensures.value) (c.self.invariant.0 c.args.key) in
+    ∙ ap items_in (sym c.in-Some.ensures.value) ∙ sym c.deref.ensures.value) (c.self.invariant.rise c.args.key) in
     let upto : c.count_upto-before.result.0 ≤ length c.deref.result.now = c.count_upto-before.ensures.count.inside in
     let below : c.count_upto-before.result.0 < length c.deref.result.now = search rules in
     let below' : c.count_upto-before.result.0 < length c.in-Some.moments.now.items = subst (λ z. c.count_upto-before.result.0 < length z) c.deref.ensures.value below in

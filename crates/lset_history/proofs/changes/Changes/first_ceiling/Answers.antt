@@ -1,16 +1,40 @@
-use Rattle.std.specs.Prelude.{Some, None}
-use Rattle.std.proofs.Common.{subst}
+use Rattle.std.proofs.Common.{◌≡◌, ◌≤◌, ℕ, Bool, true, false, Some, sym, refl, subst, ap, ◌∙◌}
 use Rattle.lset_history.specs.Changes.{moments_of}
-use Rattle.lset_history.specs.Raising.{Raises}
-use Rattle.lset_history.proofs.Raises.{CeilingAt, searched_on, found_nowhere}
+use Rattle.lset_history.proofs.Raises.{past_the_end, some_there, none_is_least, it_is_least, it_is_absent, it_is_too_low}
 use Rattle.lset_history.proofs.changes.Changes.first_ceiling.Goals as goal
+use Rattle.lset_history.proofs.changes.Changes.first_ceiling.Goals.{in-Some, in-Some-2, in-None, else-moment-to-via-then-moment-to+then-is_there+else-came_after, else-moment-to-via-then-moment-to+else-is_there, else-moment-to-via-else-moment-to}
 
-pub returns-in_err-next-clause-first : goal.returns-in_err-next-clause-first
-returns-in_err-next-clause-first c = rw c.from_residual.ensures (found_nowhere (CeilingAt (moments_of c.args.self.now) c.args.key c.args.found) c.args.from c.args.to
-    c.loop-next.moment c.loop-next.invariant
-    (subst (Raises (CeilingAt (moments_of c.args.self.now) c.args.key c.args.found) c.loop-next.moment c.args.to) c.in_err-next.was c.raised.ensures))
+no_two : {A : Type 0} (b : Bool) → b ≡ false → b ≡ true → A
+no_two true e f = absurd (cc)
+no_two false e f = absurd (cc)
 
-pub loop-next-preserved : goal.loop-next-preserved
-loop-next-preserved c = searched_on (CeilingAt (moments_of c.args.self.now) c.args.key c.args.found) c.args.from c.args.to
-    c.loop-next.moment c.in_ok-next.next c.loop-next.invariant
-    (subst (Raises (CeilingAt (moments_of c.args.self.now) c.args.key c.args.found) c.loop-next.moment c.args.to) c.in_ok-next.was c.raised.ensures)
+some_is : (a b : ℕ) → Some a ≡ Some b → a ≡ b
+some_is a b e = cc
+
+pub returns-then-came_after-clause-first : goal.returns-then-came_after-clause-first
+returns-then-came_after-clause-first c = elim c.match-found.branch [
+  | in-Some w ↦ no_two c.match-found.is_there w.is_there-is c.if-is_there.true
+  | in-Some-2 w ↦ it_is_least (moments_of c.args.self.now) c.args.key c.args.found c.args.from c.candidate-moment.result
+      c.candidate-moment.ensures c.args.to w.in-Some-2.found w.in-Some-2.is
+      (subst (λ x. c.args.key ≤ x) (some_is w.in-Some.found w.in-Some-2.found (sym w.in-Some.is ∙ w.in-Some-2.is)) w.if-found-key.false)
+      (sym w.was_present-is_there.ensures ∙ sym w.is_there-is ∙ c.if-is_there.true) c.if-moment-to.true
+      (c.came_after.ensures.came c.if-came_after.true)
+  | in-None w ↦ none_is_least (moments_of c.args.self.now) c.args.key c.args.found c.args.from c.candidate-moment.result
+      c.candidate-moment.ensures c.args.to w.in-None.is c.if-moment-to.true (c.came_after.ensures.came c.if-came_after.true)
+]
+
+pub returns-else-moment-to-clause-first : goal.returns-else-moment-to-clause-first
+returns-else-moment-to-clause-first c = elim c.else-moment-to.branch [
+  | else-moment-to-via-then-moment-to+then-is_there+else-came_after v ↦ some_there (moments_of c.args.self.now) c.args.key c.args.found c.args.from
+      c.candidate-moment.result c.candidate-moment.ensures c.args.to (v.came_after.ensures.there v.if-came_after.false)
+  | else-moment-to-via-then-moment-to+else-is_there v ↦ elim c.match-found.branch [
+    | in-Some w ↦ it_is_too_low (moments_of c.args.self.now) c.args.key c.args.found c.args.from c.candidate-moment.result
+        c.candidate-moment.ensures c.args.to w.in-Some.found w.in-Some.is w.if-found-key.true
+    | in-Some-2 w ↦ it_is_absent (moments_of c.args.self.now) c.args.key c.args.found c.args.from c.candidate-moment.result
+        c.candidate-moment.ensures c.args.to w.in-Some-2.found w.in-Some-2.is
+        (sym w.was_present-is_there.ensures ∙ sym w.is_there-is ∙ v.if-is_there.false)
+    | in-None w ↦ no_two c.match-found.is_there v.if-is_there.false w.is_there-is
+  ]
+  | else-moment-to-via-else-moment-to v ↦ past_the_end (moments_of c.args.self.now) c.args.key c.args.found c.args.from c.candidate-moment.result
+      c.candidate-moment.ensures c.args.to v.if-moment-to.false
+]

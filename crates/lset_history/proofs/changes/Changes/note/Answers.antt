@@ -1,55 +1,55 @@
-use Rattle.std.proofs.Common.{ℕ, ◌++◌, ◌∷◌, [], Some, Vec, sym, refl, subst, ap, ◌∙◌}
-use Rattle.std.specs.declared.alloc.Global.{Global}
+use Rattle.std.proofs.Common.{◌≡◌, ℕ, Bool, true, false, List, Some, sym, refl, subst, ap, ◌∙◌}
+use Rattle.std.specs.List.{list_any}
 use Rattle.std.specs.Ordering.{nat_cmp}
-use Rattle.std.specs.BTreeMap.{BTreeMap, is_at, UpdatesBy}
-use Rattle.std.proofs.lemmas.Result.{MatchResult-from_err}
-use Rattle.lset_history.specs.Changes.{changes_in, AreKept}
-use Rattle.lset_history.proofs.Noting.{noted_map, kept_noted, same_items, items_in, shown}
+use Rattle.std.specs.BTreeMap.{is_at}
+use Rattle.lset_history.specs.Changes.{changes_in, moments_of, is_present_now, AreKept, IsLaterThanAll}
+use Rattle.lset_history.proofs.Noting.{kept_beside, kept_listed, kept_present, kept_noted, has_after, others_after}
 use Rattle.lset_history.proofs.changes.Changes.note.Goals as goal
 
--- one more moment for a key that has some
-pub returns-in-Some-clause-noted : goal.returns-in-Some-clause-noted
-returns-in-Some-clause-noted c = rw (← c.self.view_is) (noted_map c.self.inside.moments (c.get_mut.follows.lender c.push.new.self) c.args.key c.args.at c.push.new.self
-    ((c.get_mut.follows.holds c.push.new.self).3 (rw (← c.in-Some.ensures.value) refl))
-    (c.in_ok-push.ensures.items ∙ ap (λ z. items_in z ++ c.args.at ∷ []) c.in-Some.ensures.value))
-
-pub invariant_of-self-in-Some : goal.invariant_of-self-in-Some
-invariant_of-self-in-Some c = kept_noted (changes_in c.self.inside.moments) (changes_in (c.get_mut.follows.lender c.push.new.self))
-    c.args.key c.args.at c.ranges.key.fits c.self.invariant (rw (← c.self.view_is) at c.requires.later)
-    (noted_map c.self.inside.moments (c.get_mut.follows.lender c.push.new.self) c.args.key c.args.at c.push.new.self
-    ((c.get_mut.follows.holds c.push.new.self).3 (rw (← c.in-Some.ensures.value) refl))
-    (c.in_ok-push.ensures.items ∙ ap (λ z. items_in z ++ c.args.at ∷ []) c.in-Some.ensures.value))
-
--- nothing was pushed
+-- nothing was put in
 pub invariant_of-self : goal.invariant_of-self
-invariant_of-self c = subst AreKept (sym (ap (λ es. record { entries = es }) (ap shown (c.get_mut.follows.holds c.push.new.self).0 ∙ same_items (is_at (nat_cmp c.args.key)) c.self.inside.moments.entries
-    c.in-Some.moments.now c.push.new.self (sym c.in-Some.ensures.value) c.in_err-push.ensures.items))) c.self.invariant
+invariant_of-self c = kept_listed (changes_in c.self.inside.moments) c.self.inside.keys_at c.insert.new.self c.self.inside.keys_now
+    c.in_err-insert.ensures.err c.self.invariant
 
-pub returns-in_err-push-clause-unchanged : goal.returns-in_err-push-clause-unchanged
-returns-in_err-push-clause-unchanged c = MatchResult-from_err _ _ _ c.from_residual.ensures.0 (λ _.
-    rw (← c.self.view_is) (ap (λ es. record { entries = es }) (ap shown (c.get_mut.follows.holds c.push.new.self).0 ∙ same_items (is_at (nat_cmp c.args.key)) c.self.inside.moments.entries
-    c.in-Some.moments.now c.push.new.self (sym c.in-Some.ensures.value) c.in_err-push.ensures.items)))
+-- a moment alone
+pub invariant_of-self-in_err-insert-2 : goal.invariant_of-self-in_err-insert-2
+invariant_of-self-in_err-insert-2 c = kept_present (changes_in c.self.inside.moments) c.insert.new.self c.self.inside.keys_now c.insert-2.new.self
+    (λ k has. subst (λ ks. list_any (is_at (nat_cmp k)) ks ≡ true) (sym c.in_err-insert-2.ensures.err) has)
+    (kept_beside (changes_in c.self.inside.moments) c.args.key c.args.at (rw (← c.self.view_is) at c.requires.later)
+    c.self.inside.keys_at c.insert.new.self c.self.inside.keys_now c.in_ok-insert.ensures.updates c.self.invariant)
 
--- the first moment of a key
-pub invariant_of-self-in_err-push-2 : goal.invariant_of-self-in_err-push-2
-invariant_of-self-in_err-push-2 c = rw c.get_mut.follows.holds-at-none c.self.invariant
+-- a moment and a key
+pub invariant_of-self-in_err-push_moment : goal.invariant_of-self-in_err-push_moment
+invariant_of-self-in_err-push_moment c = subst (λ d. AreKept d c.insert.new.self c.insert-2.new.self) (sym c.in_err-push_moment.ensures.unchanged)
+    (kept_present (changes_in c.self.inside.moments) c.insert.new.self c.self.inside.keys_now c.insert-2.new.self
+    (has_after c.args.key c.self.inside.keys_now c.insert-2.new.self c.in_ok-insert-2.ensures.updates)
+    (kept_beside (changes_in c.self.inside.moments) c.args.key c.args.at (rw (← c.self.view_is) at c.requires.later)
+    c.self.inside.keys_at c.insert.new.self c.self.inside.keys_now c.in_ok-insert.ensures.updates c.self.invariant))
 
--- what the map was, where the key was not found
-pub invariant_of-self-in_err-insert : goal.invariant_of-self-in_err-insert
-invariant_of-self-in_err-insert c = subst AreKept (sym (ap (λ es. record { entries = es }) (ap shown (c.in_err-insert.ensures.err
-    ∙ ap (λ (m : BTreeMap ℕ (Vec ℕ Global)). m.entries) c.get_mut.follows.holds-at-none)))) c.self.invariant
+no_two : {A : Type 0} (b : Bool) → b ≡ false → b ≡ true → A
+no_two true e f = absurd (cc)
+no_two false e f = absurd (cc)
 
-pub returns-clause-noted : goal.returns-clause-noted
-returns-clause-noted c = rw (← c.self.view_is) (noted_map c.self.inside.moments c.insert.new.self c.args.key c.args.at c.push-2.new.self
-    (subst (λ m. UpdatesBy nat_cmp (nat_cmp c.args.key) m c.insert.new.self (Some c.push-2.new.self)) c.get_mut.follows.holds-at-none
-    c.in_ok-insert.ensures.updates)
-    (c.in_ok-push-2.ensures.items ∙ ap (λ z. z ++ c.args.at ∷ []) (c.new-moments.ensures.items)
-    ∙ ap (λ z. items_in z ++ c.args.at ∷ []) c.in_default.ensures.value))
+-- the change too
+pub invariant_of-self-then-not-present : goal.invariant_of-self-then-not-present
+invariant_of-self-then-not-present c = kept_noted (changes_in c.self.inside.moments) c.args.key c.args.at (rw (← c.self.view_is) at c.requires.later)
+    (changes_in c.push_moment.new.moments) c.in_ok-push_moment.ensures.noted c.insert.new.self c.args.present c.insert-2.new.self c.remove.new.self
+    c.ranges.key.fits
+    (kept_present (changes_in c.self.inside.moments) c.insert.new.self c.self.inside.keys_now c.insert-2.new.self
+    (has_after c.args.key c.self.inside.keys_now c.insert-2.new.self c.in_ok-insert-2.ensures.updates)
+    (kept_beside (changes_in c.self.inside.moments) c.args.key c.args.at (rw (← c.self.view_is) at c.requires.later)
+    c.self.inside.keys_at c.insert.new.self c.self.inside.keys_now c.in_ok-insert.ensures.updates c.self.invariant))
+    c.in_ok-insert.ensures.updates.1 (rw (← c.self.view_is) at c.requires.turn)
+    (others_after c.args.key c.insert-2.new.self c.remove.new.self c.remove.ensures.updates)
+    (no_two c.args.present c.if-not-present.true)
 
-pub invariant_of-self-2 : goal.invariant_of-self-2
-invariant_of-self-2 c = kept_noted (changes_in c.self.inside.moments) (changes_in c.insert.new.self) c.args.key c.args.at c.ranges.key.fits c.self.invariant
-    (rw (← c.self.view_is) at c.requires.later) (noted_map c.self.inside.moments c.insert.new.self c.args.key c.args.at c.push-2.new.self
-    (subst (λ m. UpdatesBy nat_cmp (nat_cmp c.args.key) m c.insert.new.self (Some c.push-2.new.self)) c.get_mut.follows.holds-at-none
-    c.in_ok-insert.ensures.updates)
-    (c.in_ok-push-2.ensures.items ∙ ap (λ z. z ++ c.args.at ∷ []) (c.new-moments.ensures.items)
-    ∙ ap (λ z. items_in z ++ c.args.at ∷ []) c.in_default.ensures.value))
+pub invariant_of-self-else-not-present : goal.invariant_of-self-else-not-present
+invariant_of-self-else-not-present c = kept_noted (changes_in c.self.inside.moments) c.args.key c.args.at (rw (← c.self.view_is) at c.requires.later)
+    (changes_in c.push_moment.new.moments) c.in_ok-push_moment.ensures.noted c.insert.new.self c.args.present c.insert-2.new.self c.insert-2.new.self
+    c.ranges.key.fits
+    (kept_present (changes_in c.self.inside.moments) c.insert.new.self c.self.inside.keys_now c.insert-2.new.self
+    (has_after c.args.key c.self.inside.keys_now c.insert-2.new.self c.in_ok-insert-2.ensures.updates)
+    (kept_beside (changes_in c.self.inside.moments) c.args.key c.args.at (rw (← c.self.view_is) at c.requires.later)
+    c.self.inside.keys_at c.insert.new.self c.self.inside.keys_now c.in_ok-insert.ensures.updates c.self.invariant))
+    c.in_ok-insert.ensures.updates.1 (rw (← c.self.view_is) at c.requires.turn)
+    (λ k n has. has) (λ e. c.in_ok-insert-2.ensures.updates.1)

@@ -1,0 +1,21 @@
+use Rattle.std.proofs.Common.{◌≡◌, ◌≤◌, true, false, ℕ, ◌-◌}
+use Rattle.std.specs.Prelude.{Option, Some, None}
+use Rattle.lset_history.specs.Changes.{moments_of, is_present, is_present_now}
+use Rattle.lset_history.specs.Raising.{IsBelow}
+use Rattle.lset_history.proofs.Raises.{IsFrom, CameUpTo}
+use Rattle.lset_history.proofs.changes.Changes.came_after.Given as goal
+
+-- the keys below the next one are looked at
+abbrev pub invariant-loop-next : goal.invariant-loop-next
+invariant-loop-next l = record {
+  from : IsFrom l.key l.next;
+  came : CameUpTo (moments_of l.self) l.key l.next l.end l.moment;
+}
+
+-- how many keys are left
+abbrev keys_left : Option ℕ → ℕ
+keys_left None = 0
+keys_left (Some key) = 4294967297 - key
+
+abbrev pub decreases-loop-next : goal.decreases-loop-next
+decreases-loop-next l = keys_left l.next
