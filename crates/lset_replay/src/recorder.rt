@@ -65,17 +65,18 @@ impl Recorder {
         requires { made.begun ≤ last }
         ensures { result ≡ fit (moments_of self.now.changes) made reply last }
     {
-        match made.call {
-            Call::Add(key) | Call::Remove(key) | Call::Contains(key) => {
-                let needed = needs_key(made.call, reply);
-                let (first, _looked) = self.changes.first(key.0, needed, made.begun, last);
-                first
-            }
-            Call::Ceiling(key) => {
-                let found = found_in(reply);
-                self.changes.first_ceiling(key.0, found, made.begun, last)
-            }
+        if let Call::Ceiling(key) = made.call {
+            return self
+                .changes
+                .first_ceiling(key.0, found_in(reply), made.begun, last);
         }
+        let (first, _looked) = self.changes.first(
+            made.call.key().0,
+            needs_key(made.call, reply),
+            made.begun,
+            last,
+        );
+        first
     }
 
     fn begin(&mut self, thread: u32, call: Call, moment: u32) -> Result<(), AllocError>
