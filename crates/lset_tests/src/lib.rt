@@ -16,6 +16,8 @@ mod generated;
 #[cfg(test)]
 mod history;
 #[cfg(test)]
+mod laws;
+#[cfg(test)]
 mod lazy;
 #[cfg(test)]
 mod lock_free;

@@ -112,3 +112,25 @@ fn the_counts_of_four_threads_add_up(rt: HostRuntime) -> Result<(), Fail> {
     }
     Ok(())
 }
+
+/// What 1 to 64 threads, each of 100 calls, wrote: so many calls, and as many lines of keys as are told, which are more than
+/// 100 of 64 threads.
+#[test]
+fn each_number_of_threads_is_run(rt: HostRuntime) -> Result<(), Fail> {
+    let mut keys = 0;
+    for (threads, kind) in (1..=64u64).zip(KINDS.iter().cycle()) {
+        let number = threads.to_string(rt.alloc())?;
+        let values = [*kind, number.as_str(), "100", "100", "1000", "1"];
+        let made = threads_run(&rt, rt.alloc(), &values)?;
+        assert_eq!(rt; made.status, 0, "{threads}");
+        assert_eq!(rt;
+            made.number("calls ")?,
+            Some(threads.saturating_mul(100)),
+            "{threads}"
+        );
+        keys = made.count_lines("key ")?;
+        assert_eq!(rt; made.number("keys ")?, Some(keys as u64), "{threads}");
+    }
+    assert!(rt; keys > 100);
+    Ok(())
+}

@@ -1,0 +1,57 @@
+-- The laws at the last moment of the run that has led to a world.
+use Rattle.std.specs.Prelude.{ℕ, length}
+use Rattle.std.proofs.Common.{arith, sym, subst}
+use Rattle.lset_steps.specs.Steps.{Table, State, event_at, state_at}
+use Rattle.lset_steps.specs.Promises.{InRange, SortedChain, UnmarkedNodesInChain, NoLinkIsMarked, LockWords, LockUses, UnlinkedNodesStay, FrozenNodes, SeenInThePast, TrueMeansChange}
+use Rattle.lset_steps.specs.BoundedReads.{BoundedReads, WalkWasInChain}
+use Rattle.lset_steps.specs.Worlds.{IsRun, WorldState}
+use Rattle.lset_optimistic.specs.Optimistic.{optimistic}
+use Rattle.lset_optimistic.specs.Promises.{ValidatedWalk, OptimisticRepliesFit}
+use Rattle.lset_tests.specs.Laws.{IsInOrder, KeepsOrder, KeepsReads, KeepsWalks, HasRun, IsLawful}
+
+module _ (T : Table) (w : WorldState) (r : IsRun T w) where
+  in_order : InRange T → SortedChain T → UnmarkedNodesInChain T → NoLinkIsMarked T → IsInOrder T w
+  in_order ranges chains unmarked links =
+      subst (λ (s : State). IsInOrder T (record { threads = w.threads; quota = w.quota; state = s })) (sym r.is) (record {
+        threads = λ t l. ranges w.threads w.quota (length r.events) (length r.events) t (event_at r.events) r.run (omega arith) l;
+        chain = chains w.threads w.quota (length r.events) (length r.events) (event_at r.events) r.run (omega arith);
+        unmarked = unmarked w.threads w.quota (length r.events) (length r.events) (event_at r.events) r.run (omega arith);
+        no_mark = λ m i l. links w.threads w.quota (length r.events) (length r.events) i (event_at r.events) r.run (omega arith) m l;
+      })
+
+  keeps_order : LockWords T → LockUses T → UnlinkedNodesStay T → FrozenNodes T → SeenInThePast T → TrueMeansChange T
+      → KeepsOrder T w.threads w.quota (event_at r.events) (length r.events)
+  keeps_order words uses stays frozen seen changes = record {
+    locks = λ x is l. words w.threads w.quota (length r.events) (length r.events) x (event_at r.events) r.run (omega arith) is l;
+    uses = λ k t l e. uses w.threads w.quota (length r.events) k t (event_at r.events) r.run l e;
+    stays = λ i p. stays w.threads w.quota (length r.events) 0 (length r.events) i (event_at r.events) r.run (omega arith) (omega arith) p;
+    freezes = λ i p. frozen w.threads w.quota (length r.events) 0 i (event_at r.events) r.run (omega arith) p;
+    seen = λ b p. seen w.threads w.quota (length r.events) 0 (length r.events) b (event_at r.events) r.run (omega arith) (omega arith) p;
+    changes = λ k t change l e. changes w.threads w.quota (length r.events) k t (event_at r.events) change r.run l e;
+  }
+
+  pub is_lawful : InRange T → SortedChain T → UnmarkedNodesInChain T → NoLinkIsMarked T → LockWords T → LockUses T
+      → UnlinkedNodesStay T → FrozenNodes T → SeenInThePast T → TrueMeansChange T → IsLawful T w
+  is_lawful ranges chains unmarked links words uses stays frozen seen changes =
+      (in_order ranges chains unmarked links, (r, keeps_order words uses stays frozen seen changes))
+
+  pub keeps_reads : (t : ℕ) → BoundedReads T → WalkWasInChain T
+      → HasRun T w (λ es. KeepsReads T w.threads w.quota (event_at es) (length es) t)
+  keeps_reads t reads walk = (
+    r,
+    record {
+      next = λ l busy read. reads w.threads w.quota (length r.events) (length r.events) t (event_at r.events) r.run (omega arith) l busy read;
+      passed = λ a l read p. walk w.threads w.quota (length r.events) (length r.events) t a l (event_at r.events) r.run (omega arith) read p;
+    },
+  )
+
+pub keeps_walks : (w : WorldState) → IsRun optimistic w → ValidatedWalk → OptimisticRepliesFit
+    → HasRun optimistic w (λ es. KeepsWalks w.threads w.quota (event_at es) (length es))
+keeps_walks w r walks fit = (
+  r,
+  record {
+    walks = walks w.threads w.quota (length r.events) 0 (event_at r.events) r.run r.run.limits.some;
+    replies = λ k reply l step answer same.
+        fit w.threads w.quota (length r.events) k 0 (event_at r.events) reply r.run l r.run.limits.some step answer same;
+  },
+)

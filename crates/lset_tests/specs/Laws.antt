@@ -1,0 +1,59 @@
+-- What the laws of machines say of one world: of the run that has led to it.
+use Rattle.std.specs.Prelude.{◌≡◌, ◌≢◌, ℕ, suc, ◌%◌, ◌<◌, ◌⊎◌, List, length, Option, Some, true, false, slice_index}
+use Rattle.lset_words.specs.declared.Reply.{Reply}
+use Rattle.lset_words.specs.declared.Reply.TheVariants.{True}
+use Rattle.lset_words.specs.Words.{word_count, node_count}
+use Rattle.lset_words.specs.Log.{Change, begun_at, has_changed, last_call}
+use Rattle.lset_words.specs.Log.Entry.{stepped}
+use Rattle.lset_steps.specs.declared.Event.{Event}
+use Rattle.lset_steps.specs.declared.Event.TheVariants.{Go}
+use Rattle.lset_steps.specs.Steps.{Table, local_of, state_at, event_at, told, log_of}
+use Rattle.lset_steps.specs.Chain.{InChain, Seen, UnlinkedStays, UnmarkedInChain}
+use Rattle.lset_steps.specs.Laws.{IsLockWord, LockUse, view_of, views}
+use Rattle.lset_steps.specs.Promises.{ChainIsSorted, Freezes, IsRead, ThreadInRange, holder}
+use Rattle.lset_steps.specs.BoundedReads.{HasPassed, ReadsNext}
+use Rattle.lset_optimistic.specs.Optimistic.{optimistic}
+use Rattle.lset_optimistic.specs.Promises.{FitsAtALoad, WalksAreValid, held_at}
+use Rattle.lset_steps.specs.Worlds.{IsRun, WorldState}
+
+-- of the world itself
+pub record IsInOrder (T : Table) (w : WorldState) : Type 0 where
+  pub threads : (t : ℕ) → t < w.threads → ThreadInRange T w.threads w.quota t (local_of w.state t)
+  pub chain : ChainIsSorted (view_of w.threads w.quota w.state)
+  pub unmarked : UnmarkedInChain T.marks (view_of w.threads w.quota w.state)
+  pub no_mark : T.marks ≡ false → (i : ℕ) → i < node_count w.threads w.quota
+      → (view_of w.threads w.quota w.state).link i % 2 ≡ 0
+
+-- of the moments from the first one to the last, of the events es
+pub record KeepsOrder (T : Table) (n q : ℕ) (es : ℕ → Event) (last : ℕ) : Type 0 where
+  pub locks : (x : ℕ) → IsLockWord x → x < word_count n q
+      → slice_index (state_at T n q es last).words x ≡ holder T n q es x last
+  pub uses : (k t : ℕ) → k < last → es k ≡ Go t → LockUse (state_at T n q es k).words t (T.next (local_of (state_at T n q es k) t))
+  pub stays : (i : ℕ) → (views T n q es 0).published i
+      → UnlinkedStays T.marks (views T n q es 0) (views T n q es last) i
+  pub freezes : (i : ℕ) → (views T n q es 0).published i → Freezes T n q last es 0 i
+  pub seen : (b : ℕ) → InChain (views T n q es 0) b → Seen (views T n q es) 0 last b ((views T n q es last).link b)
+  pub changes : (k t : ℕ) (change : Option Change) → k < last → log_of T n q es k ≡ stepped t change (Some True)
+      → (has_changed (log_of T n q es) t (suc k) ≡ true) ⊎ IsRead (last_call (log_of T n q es) t k)
+
+-- of a read that is open, and of the nodes that it has passed
+pub record KeepsReads (T : Table) (n q : ℕ) (es : ℕ → Event) (last t : ℕ) : Type 0 where
+  pub next : t < n → (local_of (state_at T n q es last) t).pc ≢ 0 → IsRead (local_of (state_at T n q es last) t).call
+      → ReadsNext T n q es last t
+  pub passed : (a l : ℕ) → IsRead (last_call (log_of T n q es) t last) → (p : HasPassed T n q es last t a l)
+      → Seen (views T n q es) (begun_at (log_of T n q es) t last) p.at a l
+
+-- of the walks and the replies of the one thread of an OptimisticList
+pub record KeepsWalks (n q : ℕ) (es : ℕ → Event) (last : ℕ) : Type 0 where
+  pub walks : WalksAreValid n q last 0 es
+  pub replies : (k : ℕ) (reply : Reply) → k < last → es k ≡ Go 0
+      → (told optimistic (state_at optimistic n q es k) (Go 0)).answer ≡ Some reply
+      → has_changed (log_of optimistic n q es) 0 k ≡ false
+      → FitsAtALoad n q es (begun_at (log_of optimistic n q es) 0 k) k 0 (held_at n q es k 0).call reply
+
+-- a run of the world, with what is so of it
+abbrev pub HasRun : Table → WorldState → (List Event → Type 0) → Type 0
+HasRun T w P = (r : IsRun T w) × P r.events
+
+abbrev pub IsLawful : Table → WorldState → Type 0
+IsLawful T w = IsInOrder T w × HasRun T w (λ es. KeepsOrder T w.threads w.quota (event_at es) (length es))
