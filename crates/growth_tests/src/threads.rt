@@ -79,8 +79,11 @@ fn after_refusal(
 fn is_as_wanted(outcome: &Outcome) -> bool {
     let first = [Reply::True, Reply::True, Reply::True];
     let second = [Reply::True, Reply::False];
-    let replies = outcome.replies.iter().map(|replies| replies.as_slice());
-    outcome.keys.as_slice() == [2].as_slice() && replies.eq([first.as_slice(), second.as_slice()])
+    let replies = outcome.replies.as_slice();
+    outcome.keys.as_slice() == [2].as_slice()
+        && replies.len() == 2
+        && replies[0].as_slice() == first.as_slice()
+        && replies[1].as_slice() == second.as_slice()
 }
 
 /// Two programs on two threads. Where they were refused they are run again.
