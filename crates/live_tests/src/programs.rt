@@ -286,7 +286,7 @@ impl Balance {
         match call {
             Call::Add(_) => self.put_in[at] = self.put_in[at].saturating_add(1),
             Call::Remove(_) => self.taken_out[at] = self.taken_out[at].saturating_add(1),
-            Call::Contains(_) => {}
+            Call::Contains(_) | Call::Ceiling(_) => {}
         }
     }
 
