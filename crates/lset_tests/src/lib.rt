@@ -2,6 +2,8 @@
 #![tactic(auto)]
 
 #[cfg(test)]
+mod ceilings;
+#[cfg(test)]
 mod changes;
 #[cfg(test)]
 mod coarse;
