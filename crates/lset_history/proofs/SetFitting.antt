@@ -1,5 +1,5 @@
 -- [Fits] is the sequential set's answer where it changes nothing.
-use Rattle.std.proofs.Common.{◌≡◌, ℕ, ◌≤◌, ◌<◌, ◌⊎◌, true, false, inl, inr, List, sym, refl, ap, subst, ◌∙◌, arith}
+use Rattle.std.proofs.Common.{◌≡◌, ℕ, ◌⊎◌, true, false, inl, inr, List, sym, refl, ap, subst, ◌∙◌, arith}
 use Rattle.std.specs.Prelude.{Contains, ◌==◌}
 use Rattle.std.proofs.lemmas.Bool.Decides.{nat_tests}
 use Rattle.lset_words.specs.declared.Call.{Call}

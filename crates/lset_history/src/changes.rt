@@ -200,15 +200,15 @@ impl Changes {
         }
     }
 
-    /// From `from` on, the moment below which some key always speaks against `found`, and at which one that does
-    /// so does it for good. Each key that speaks against `found` at the moment reached, and comes or goes later,
-    /// does so up to there.
+    /// The one moment from `from` on that may be the first one: at each before it some key speaks against `found`,
+    /// and a key that does so at it does so for good.
     fn candidate(&self, key: u32, found: Option<u32>, from: u32) -> u32
         ensures { IsCandidate (moments_of self.now) key found from result }
     {
         let mut moment = from;
         let mut last = from;
         while let Some((at, noted)) = self.note_after(last) {
+            // What spoke against it at `moment` did so up to here.
             if self.is_against(key, found, noted, moment) {
                 moment = at;
             }
@@ -217,8 +217,8 @@ impl Changes {
         moment
     }
 
-    /// Whether each key from `key` on, below `end`, that is in the set now was not in it at a moment. That a key
-    /// was in it then is the one cause of a `false`.
+    /// Whether each key from `key` on, below `end`, that is in the set now was not in it at a moment. It is `false`
+    /// only where some key was in it then.
     fn came_after(&self, key: u32, end: Option<u32>, moment: u32) -> bool
         ensures came { IsTrue result → CameAfter (moments_of self.now) key end moment }
         ensures there { result ≡ false → IsSomeThere (moments_of self.now) key end moment }

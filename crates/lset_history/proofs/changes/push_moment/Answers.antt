@@ -1,7 +1,6 @@
-use Rattle.std.proofs.Common.{ℕ, ◌++◌, ◌∷◌, [], Some, Vec, sym, refl, subst, ap, ◌∙◌}
-use Rattle.std.specs.declared.alloc.Global.{Global}
+use Rattle.std.proofs.Common.{◌++◌, ◌∷◌, [], Some, sym, refl, subst, ap, ◌∙◌}
 use Rattle.std.specs.Ordering.{nat_cmp}
-use Rattle.std.specs.BTreeMap.{BTreeMap, is_at, UpdatesBy}
+use Rattle.std.specs.BTreeMap.{is_at, UpdatesBy}
 use Rattle.std.proofs.lemmas.Result.{MatchResult-from_err}
 use Rattle.lset_history.proofs.Noting.{noted_map, same_items, items_in, shown}
 use Rattle.lset_history.proofs.changes.push_moment.Goals as goal

@@ -1,7 +1,6 @@
-use Rattle.std.proofs.Common.{◌≡◌, ◌≤◌, true, false, ℕ, ◌-◌}
+use Rattle.std.proofs.Common.{ℕ, ◌-◌}
 use Rattle.std.specs.Prelude.{Option, Some, None}
-use Rattle.lset_history.specs.Changes.{moments_of, is_present, is_present_now}
-use Rattle.lset_history.specs.Raising.{IsBelow}
+use Rattle.lset_history.specs.Changes.{moments_of}
 use Rattle.lset_history.proofs.Raises.{IsFrom, CameUpTo}
 use Rattle.lset_history.proofs.changes.Changes.came_after.Given as goal
 

@@ -1,4 +1,4 @@
-use Rattle.std.proofs.Common.{◌≡◌, ◌≤◌, ℕ, Bool, true, false, Some, sym, refl, subst, ap, ◌∙◌}
+use Rattle.std.proofs.Common.{◌≡◌, ◌≤◌, ℕ, Bool, true, false, Some, sym, subst, ◌∙◌}
 use Rattle.lset_history.specs.Changes.{moments_of}
 use Rattle.lset_history.proofs.Raises.{past_the_end, some_there, none_is_least, it_is_least, it_is_absent, it_is_too_low}
 use Rattle.lset_history.proofs.changes.Changes.first_ceiling.Goals as goal

@@ -1,8 +1,8 @@
-use Rattle.std.proofs.Common.{◌≡◌, ℕ, Bool, true, false, List, Some, sym, refl, subst, ap, ◌∙◌}
+use Rattle.std.proofs.Common.{◌≡◌, Bool, true, false, sym, subst}
 use Rattle.std.specs.List.{list_any}
 use Rattle.std.specs.Ordering.{nat_cmp}
 use Rattle.std.specs.BTreeMap.{is_at}
-use Rattle.lset_history.specs.Changes.{changes_in, moments_of, is_present_now, AreKept, IsLaterThanAll}
+use Rattle.lset_history.specs.Changes.{changes_in, AreKept}
 use Rattle.lset_history.proofs.Noting.{kept_beside, kept_listed, kept_present, kept_noted, has_after, others_after}
 use Rattle.lset_history.proofs.changes.Changes.note.Goals as goal
 

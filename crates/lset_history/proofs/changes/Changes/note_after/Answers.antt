@@ -1,4 +1,3 @@
-use Rattle.std.proofs.Common.{◌∷◌}
 use Rattle.lset_history.specs.Changes.{moments_of, changes_in}
 use Rattle.lset_history.proofs.Raises.{next_note, no_next_note}
 use Rattle.lset_history.proofs.changes.Changes.note_after.Goals as goal
