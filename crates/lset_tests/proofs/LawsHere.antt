@@ -1,5 +1,5 @@
 -- The laws at the last moment of the run that has led to a world.
-use Rattle.std.specs.Prelude.{ℕ, ◌+◌, ◌≡◌, ◌<◌, zero, suc, [], length, refl}
+use Rattle.std.specs.Prelude.{ℕ, ◌+◌, ◌<◌, zero, suc, [], length, refl}
 use Rattle.std.proofs.Common.{arith, sym, subst}
 use Rattle.lset_words.specs.Account.{Account, Enters}
 use Rattle.lset_words.specs.SequentialSet.{empty_set}
@@ -73,7 +73,7 @@ none_below : (i : ℕ) → i < 0 → ⊥
 none_below i l = absurd (omega arith)
 
 one_account : Account 1 4 1 one_begin (contents_of_lists no_keys) no_adds
-one_account = record { empty = λ k x. none_below x.0 x.1.0; none_yet = λ t l. refl; low = λ k j l x. absurd (none_below x.0 x.1.0); enters = one_enters }
+one_account = record { empty = λ k x. none_below x.0 x.1; none_yet = λ t l. refl; low = λ k j l x. absurd (none_below x.0 x.1); enters = one_enters }
 
 pub one_call_is_placed : PlacementLinearizes → EveryCallHasAPlace → LogsTellHistories → PlacementIsOneOrder → FitsAreReplies
     → OneCallIsPlaced
