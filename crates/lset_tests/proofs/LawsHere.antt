@@ -1,13 +1,17 @@
 -- The laws at the last moment of the run that has led to a world.
-use Rattle.std.specs.Prelude.{ℕ, length}
+use Rattle.std.specs.Prelude.{ℕ, ◌<◌, zero, suc, [], length, refl}
 use Rattle.std.proofs.Common.{arith, sym, subst}
+use Rattle.lset_words.specs.Account.{Account, Enters}
+use Rattle.lset_words.specs.SequentialSet.{empty_set}
+use Rattle.lset_words.specs.declared.Reply.TheVariants.{False}
+use Rattle.lset_history.specs.Laws.{PlacementLinearizes, EveryCallHasAPlace, LogsTellHistories, FitsAreReplies, PlacementIsOneOrder, contents_of_lists}
 use Rattle.lset_steps.specs.Steps.{Table, State, event_at, state_at}
 use Rattle.lset_steps.specs.Promises.{InRange, SortedChain, UnmarkedNodesInChain, NoLinkIsMarked, LockWords, LockUses, UnlinkedNodesStay, FrozenNodes, SeenInThePast, TrueMeansChange}
 use Rattle.lset_steps.specs.BoundedReads.{BoundedReads, WalkWasInChain}
 use Rattle.lset_steps.specs.Worlds.{IsRun, WorldState}
 use Rattle.lset_optimistic.specs.Optimistic.{optimistic}
 use Rattle.lset_optimistic.specs.Promises.{ValidatedWalk, OptimisticRepliesFit}
-use Rattle.lset_tests.specs.Laws.{IsInOrder, KeepsOrder, KeepsReads, KeepsWalks, HasRun, IsLawful}
+use Rattle.lset_tests.specs.Laws.{IsInOrder, KeepsOrder, KeepsReads, KeepsWalks, HasRun, IsLawful, OneCallIsPlaced, one_begin, one_call, no_keys, no_adds}
 
 module _ (T : Table) (w : WorldState) (r : IsRun T w) where
   in_order : InRange T → SortedChain T → UnmarkedNodesInChain T → NoLinkIsMarked T → IsInOrder T w
@@ -55,3 +59,31 @@ keeps_walks w r walks fit = (
         fit w.threads w.quota (length r.events) k 0 (event_at r.events) reply r.run l r.run.limits.some step answer same;
   },
 )
+
+one_enters : (k : ℕ) → k < 1 → Enters 1 4 one_begin (contents_of_lists no_keys) no_adds k (one_begin k)
+one_enters zero l = record {
+  of_a_thread = omega arith;
+  idle = refl;
+  content = λ j. (λ x. x, λ x. x);
+  same_counts = λ u l. refl;
+}
+one_enters (suc k) l = absurd (omega arith)
+
+none_below : (i : ℕ) → i < 0 → ⊥
+none_below i l = absurd (omega arith)
+
+one_account : Account 1 4 1 one_begin (contents_of_lists no_keys) no_adds
+one_account = record { empty = λ k x. none_below x.0 x.1; none_yet = λ t l. refl; enters = one_enters }
+
+pub one_call_is_placed : PlacementLinearizes → EveryCallHasAPlace → LogsTellHistories → PlacementIsOneOrder → FitsAreReplies
+    → OneCallIsPlaced
+one_call_is_placed linearizes places histories once fits =
+    let placed = places 1 4 1 one_begin no_keys no_adds one_account in
+    record {
+      history = histories 1 4 1 one_begin no_keys no_adds one_account 1 (omega arith);
+      order = placed.0;
+      placed = placed.1;
+      linearizes = (linearizes 1 4 1 one_begin no_keys no_adds placed.0 one_account placed.1).0;
+      alone = λ other o. once 4 1 _ no_keys no_adds other placed.0 o placed.1;
+      fits = (fits 4 0 0 [] (empty_set 1) one_call False (λ j. (λ x. x, λ x. x)) refl).1 (refl, refl);
+    }

@@ -1,10 +1,18 @@
 -- What the laws of machines say of one world: of the run that has led to it.
-use Rattle.std.specs.Prelude.{◌≡◌, ◌≢◌, ℕ, suc, ◌%◌, ◌<◌, ◌⊎◌, List, length, Option, Some, true, false, slice_index}
+use Rattle.std.specs.Prelude.{◌≡◌, ◌≢◌, ℕ, suc, ◌%◌, ◌<◌, ◌⊎◌, List, [], length, Option, Some, true, false, slice_index}
 use Rattle.lset_words.specs.declared.Reply.{Reply}
-use Rattle.lset_words.specs.declared.Reply.TheVariants.{True}
+use Rattle.lset_words.specs.declared.Call.{Call}
+use Rattle.lset_words.specs.declared.Call.TheVariants.{Contains}
+use Rattle.lset_words.specs.declared.history.Placed.{Placed}
+use Rattle.lset_words.specs.declared.Reply.TheVariants.{True, False}
 use Rattle.lset_words.specs.Words.{word_count, node_count}
-use Rattle.lset_words.specs.Log.{Change, begun_at, has_changed, last_call}
-use Rattle.lset_words.specs.Log.Entry.{stepped}
+use Rattle.lset_words.specs.Account.{Counts, Fits}
+use Rattle.lset_words.specs.History.{IsHistory, Linearizes}
+use Rattle.lset_words.specs.Placement.{IsPlacement}
+use Rattle.lset_words.specs.SequentialSet.{empty_set}
+use Rattle.lset_words.specs.Log.{Change, Log, begun_at, calls_at, has_changed, history_at, last_call}
+use Rattle.lset_words.specs.Log.Entry.{began, stepped}
+use Rattle.lset_history.specs.Laws.{content_of, contents_of_lists}
 use Rattle.lset_steps.specs.declared.Event.{Event}
 use Rattle.lset_steps.specs.declared.Event.TheVariants.{Go}
 use Rattle.lset_steps.specs.Steps.{Table, local_of, state_at, event_at, told, log_of}
@@ -57,3 +65,28 @@ HasRun T w P = (r : IsRun T w) × P r.events
 
 abbrev pub IsLawful : Table → WorldState → Type 0
 IsLawful T w = IsInOrder T w × HasRun T w (λ es. KeepsOrder T w.threads w.quota (event_at es) (length es))
+
+-- The log of one thread that begins a call on an empty set, whose content and counts stay as they are.
+abbrev pub one_call : Call
+one_call = Contains (record { 0 = 5 })
+
+abbrev pub one_begin : Log
+one_begin moment = began 0 one_call
+
+abbrev pub no_keys : ℕ → List ℕ
+no_keys moment = []
+
+abbrev pub no_adds : Counts
+no_adds moment thread = 0
+
+abbrev pub IsPlacedAs : List Placed → Type 0
+IsPlacedAs order = IsPlacement 4 1 (calls_at one_begin 1) (contents_of_lists no_keys) no_adds order
+
+-- what the laws of placement say of that log
+pub record OneCallIsPlaced : Type 0 where
+  pub history : IsHistory 1 (history_at one_begin 1)
+  pub order : List Placed
+  pub placed : IsPlacedAs order
+  pub linearizes : Linearizes 4 (empty_set 1) (history_at one_begin 1) order
+  pub alone : (other : List Placed) → IsPlacedAs other → other ≡ order
+  pub fits : Fits 4 (content_of []) 0 one_call False

@@ -5,8 +5,12 @@ ghost use Rattle.lset_schedule.specs.ScheduleReading.{reading};
 ghost use Rattle.lset_steps.specs.Steps.{event_at};
 ghost use Rattle.lset_steps.specs.Worlds.{IsRun};
 ghost use Rattle.lset_optimistic.specs.Optimistic.{optimistic};
-ghost use Rattle.lset_tests.specs.Laws.{HasRun, IsLawful, KeepsReads, KeepsWalks};
+ghost use Rattle.lset_tests.specs.Laws.{HasRun, IsLawful, KeepsReads, KeepsWalks, OneCallIsPlaced};
 
+use lset_history::{
+    every_call_has_a_place, fits_are_replies, logs_tell_histories, placement_is_one_order,
+    placement_linearizes,
+};
 use lset_lazy::LazyList;
 use lset_optimistic::OptimisticList;
 use lset_optimistic::laws::{optimistic_replies_fit, validated_walk};
@@ -71,6 +75,16 @@ fn keeps_walks(world: &World<OptimisticList>)
     let _world = world;
 }
 
+fn one_call_is_placed()
+    ensures { OneCallIsPlaced }
+{
+    placement_linearizes();
+    every_call_has_a_place();
+    logs_tell_histories();
+    placement_is_one_order();
+    fits_are_replies();
+}
+
 /// An add of so many steps, and the first step of a `contains`.
 fn add_and_contains(alloc: Global, steps: usize) -> Result<Vec<Event>, AllocError> {
     let mut events = vec![in alloc; Event::Begin(0, Call::Add(Key(5)))]?;
@@ -90,6 +104,7 @@ fn the_laws_of_machines_hold_of_a_run(rt: HostRuntime) -> Result<(), Fail> {
     let events = add_and_contains(rt.alloc(), 10)?;
     let world = after_events::<OptimisticList>(rt.alloc(), &events)?;
     keeps_walks(&world);
+    one_call_is_placed();
     assert_eq!(rt; world.content()?.as_slice(), [5].as_slice());
     Ok(())
 }

@@ -1,5 +1,7 @@
+ghost use Rattle.std.specs.Prelude.{◌≡◌, IsTrue};
+
 use super::runs::{check_run, example_run, replay_run};
-use lset_examples::ALL;
+use lset_examples::{ALL, Example, names_are_distinct};
 use std::test::Fail;
 
 /// The list of names.
@@ -85,4 +87,20 @@ fn a_name_that_stands_for_nothing_is_bad(rt: HostRuntime) -> Result<(), Fail> {
         assert_eq!(rt; run.told()?, bad, "{name}");
     }
     Ok(())
+}
+
+/// Two examples with one name are one.
+fn have_one_name(example: Example, other: Example) -> bool
+    ensures { IsTrue result → example ≡ other }
+{
+    names_are_distinct();
+    example.name() == other.name()
+}
+
+#[test]
+fn a_name_stands_for_one_example(rt: HostRuntime) {
+    for example in ALL {
+        let named = ALL.iter().filter(|other| have_one_name(example, **other));
+        assert_eq!(rt; named.count(), 1);
+    }
 }

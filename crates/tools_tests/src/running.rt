@@ -3,6 +3,7 @@ use lset_history::Oracle;
 use lset_schedule::programs;
 use lset_words::{Call, Reply};
 use std::alloc::Global;
+use std::process::Abort;
 use std::sync::Wait;
 use std::test::Fail;
 use std::thread::Threads;
@@ -113,24 +114,42 @@ fn the_counts_of_four_threads_add_up(rt: HostRuntime) -> Result<(), Fail> {
     Ok(())
 }
 
-/// What 1 to 64 threads, each of 100 calls, wrote: so many calls, and as many lines of keys as are told, which are more than
-/// 100 of 64 threads.
+fn values_of<'a>(kind: &'a str, threads: &'a str, calls: &'a str) -> [&'a str; 6] {
+    [kind, threads, "10", calls, "10000", "1"]
+}
+
+/// So many threads with so many calls each, over 10,000 keys: the calls are told, and as many keys are named as are told.
+/// How many those are.
+fn keys_left<R: Threads + Wait + Abort + Sync>(
+    rt: &R,
+    alloc: Global,
+    kind: &str,
+    threads: u64,
+    calls: u64,
+) -> Result<usize, Fail> {
+    let (number, each) = (threads.to_string(alloc)?, calls.to_string(alloc)?);
+    let made = threads_run(rt, alloc, &values_of(kind, &number, &each))?;
+    let keys = made.count_lines("key ")?;
+    assert_eq!(rt; made.status, 0, "{kind} {threads}");
+    assert_eq!(rt; made.number("calls ")?, Some(threads.saturating_mul(calls)));
+    assert_eq!(rt; made.number("keys ")?, Some(keys as u64));
+    Ok(keys)
+}
+
 #[test]
 fn each_number_of_threads_is_run(rt: HostRuntime) -> Result<(), Fail> {
     let mut keys = 0;
-    for (threads, kind) in (1..=64u64).zip(KINDS.iter().cycle()) {
-        let number = threads.to_string(rt.alloc())?;
-        let values = [*kind, number.as_str(), "100", "100", "1000", "1"];
-        let made = threads_run(&rt, rt.alloc(), &values)?;
-        assert_eq!(rt; made.status, 0, "{threads}");
-        assert_eq!(rt;
-            made.number("calls ")?,
-            Some(threads.saturating_mul(100)),
-            "{threads}"
-        );
-        keys = made.count_lines("key ")?;
-        assert_eq!(rt; made.number("keys ")?, Some(keys as u64), "{threads}");
+    for threads in 1..=64 {
+        keys = keys_left(&rt, rt.alloc(), "lock-free", threads, 10)?;
     }
     assert!(rt; keys > 100);
+    Ok(())
+}
+
+#[test]
+fn the_most_threads_run_on_each_list(rt: HostRuntime) -> Result<(), Fail> {
+    for kind in KINDS {
+        let _keys = keys_left(&rt, rt.alloc(), kind, 64, 2)?;
+    }
     Ok(())
 }
