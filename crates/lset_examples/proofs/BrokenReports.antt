@@ -10,7 +10,7 @@ use Rattle.lset_words.specs.declared.Kind.TheVariants.{Optimistic, LockFree}
 use Rattle.lset_words.specs.declared.Call.{Call}
 use Rattle.lset_words.specs.declared.Call.TheVariants as call
 use Rattle.lset_words.specs.declared.Reply.{Reply}
-use Rattle.lset_words.specs.declared.Reply.TheVariants.{True, False, Full}
+use Rattle.lset_words.specs.declared.Reply.TheVariants.{True, False, Full, At, Nothing}
 use Rattle.lset_words.specs.declared.history.CallRecord.{CallRecord}
 use Rattle.lset_words.specs.declared.history.Placed.{Placed}
 use Rattle.lset_words.specs.SequentialSet.{SetState, empty_set, has_key, reply_to, after_call, set_left, IsLegal}
@@ -106,12 +106,18 @@ stays_out zero r s l n out c = n refl
 stays_out (suc zero) True s l n out c = elim (with_from 3 5 s.keys c) [ inl e ↦ omega arith | inr d ↦ out d ]
 stays_out (suc zero) False s l n out c = out c
 stays_out (suc zero) Full s l n out c = out c
+stays_out (suc zero) (At x) s l n out c = out c
+stays_out (suc zero) Nothing s l n out c = out c
 stays_out (suc (suc zero)) True s l n out c = out (without_from 5 5 s.keys c).0
 stays_out (suc (suc zero)) False s l n out c = out c
 stays_out (suc (suc zero)) Full s l n out c = out c
+stays_out (suc (suc zero)) (At x) s l n out c = out c
+stays_out (suc (suc zero)) Nothing s l n out c = out c
 stays_out (suc (suc (suc zero))) True s l n out c = out c
 stays_out (suc (suc (suc zero))) False s l n out c = out c
 stays_out (suc (suc (suc zero))) Full s l n out c = out c
+stays_out (suc (suc (suc zero))) (At x) s l n out c = out c
+stays_out (suc (suc (suc zero))) Nothing s l n out c = out c
 stays_out (suc (suc (suc (suc k)))) r s l n out c = omega arith
 
 -- so an order of the others does not find it
@@ -172,12 +178,18 @@ stays_in : (n : ℕ) (r : Reply) (s : SetState) → n < 3 → Contains s.keys 5 
 stays_in zero True s l c = with_keeps 3 5 s.keys (inr c)
 stays_in zero False s l c = c
 stays_in zero Full s l c = c
+stays_in zero (At x) s l c = c
+stays_in zero Nothing s l c = c
 stays_in (suc zero) True s l c = with_keeps 5 5 s.keys (inr c)
 stays_in (suc zero) False s l c = c
 stays_in (suc zero) Full s l c = c
+stays_in (suc zero) (At x) s l c = c
+stays_in (suc zero) Nothing s l c = c
 stays_in (suc (suc zero)) True s l c = without_keeps 3 5 s.keys (λ e. omega (arith, e)) c
 stays_in (suc (suc zero)) False s l c = c
 stays_in (suc (suc zero)) Full s l c = c
+stays_in (suc (suc zero)) (At x) s l c = c
+stays_in (suc (suc zero)) Nothing s l c = c
 stays_in (suc (suc (suc k))) r s l c = absurd (omega arith)
 
 is_left : (order : List Placed) (s : SetState) → All (λ p. p.call < 3) order → Contains s.keys 5

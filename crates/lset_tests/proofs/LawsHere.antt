@@ -85,5 +85,5 @@ one_call_is_placed linearizes places histories once fits =
       placed = placed.1;
       linearizes = (linearizes 1 4 1 one_begin no_keys no_adds placed.0 one_account placed.1).0;
       alone = λ other o. once 4 1 _ no_keys no_adds other placed.0 o placed.1;
-      fits = (fits 4 0 0 [] (empty_set 1) one_call False (λ j. (λ x. x, λ x. x)) (λ k l. none_below (k + 1) l) refl).1 (refl, refl);
+      fits = (fits 4 0 0 [] (empty_set 1) one_call False (λ j. (λ x. x, λ x. x)) (λ k l. absurd (none_below (k + 1) l)) refl).1 (refl, refl);
     }

@@ -18,7 +18,7 @@ use Rattle.lset_steps.specs.declared.Event.TheVariants.{Go}
 use Rattle.lset_steps.specs.Steps.{Table, local_of, state_at, event_at, told, log_of}
 use Rattle.lset_steps.specs.Chain.{InChain, Seen, UnlinkedStays, UnmarkedInChain}
 use Rattle.lset_steps.specs.Laws.{IsLockWord, LockUse, view_of, views}
-use Rattle.lset_steps.specs.Promises.{ChainIsSorted, Freezes, IsRead, ThreadInRange, holder}
+use Rattle.lset_steps.specs.Promises.{ChainIsSorted, Freezes, IsContains, IsRead, ThreadInRange, holder}
 use Rattle.lset_steps.specs.BoundedReads.{HasPassed, ReadsNext}
 use Rattle.lset_optimistic.specs.Optimistic.{optimistic}
 use Rattle.lset_optimistic.specs.Promises.{FitsAtALoad, WalksAreValid, held_at}
@@ -42,11 +42,11 @@ pub record KeepsOrder (T : Table) (n q : ℕ) (es : ℕ → Event) (last : ℕ) 
   pub freezes : (i : ℕ) → (views T n q es 0).published i → Freezes T n q last es 0 i
   pub seen : (b : ℕ) → InChain (views T n q es 0) b → Seen (views T n q es) 0 last b ((views T n q es last).link b)
   pub changes : (k t : ℕ) (change : Option Change) → k < last → log_of T n q es k ≡ stepped t change (Some True)
-      → (has_changed (log_of T n q es) t (suc k) ≡ true) ⊎ IsRead (last_call (log_of T n q es) t k)
+      → (has_changed (log_of T n q es) t (suc k) ≡ true) ⊎ IsContains (last_call (log_of T n q es) t k)
 
 -- of a read that is open, and of the nodes that it has passed
 pub record KeepsReads (T : Table) (n q : ℕ) (es : ℕ → Event) (last t : ℕ) : Type 0 where
-  pub next : t < n → (local_of (state_at T n q es last) t).pc ≢ 0 → IsRead (local_of (state_at T n q es last) t).call
+  pub next : t < n → (local_of (state_at T n q es last) t).pc ≢ 0 → IsContains (local_of (state_at T n q es last) t).call
       → ReadsNext T n q es last t
   pub passed : (a l : ℕ) → IsRead (last_call (log_of T n q es) t last) → (p : HasPassed T n q es last t a l)
       → Seen (views T n q es) (begun_at (log_of T n q es) t last) p.at a l
