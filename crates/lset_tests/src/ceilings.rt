@@ -186,16 +186,14 @@ fn three_keys(alloc: Global) -> Result<Oracle, AllocError>
 #[test]
 fn ceilings_of_three_keys(rt: HostRuntime) -> Result<(), Fail> {
     let mut oracle = three_keys(rt.alloc())?;
-    let rows = [(0, 0), (1, 5), (5, 5), (6, u32::MAX), (u32::MAX, u32::MAX)];
-    for (key, found) in rows {
-        let reply = oracle.apply(0, Call::Ceiling(Key(key)))?;
-        assert_eq!(rt; reply, Reply::At(Key(found)), "{key}");
-    }
-    oracle.apply(0, Call::Remove(Key(u32::MAX)))?;
+    let most = Key(u32::MAX);
+    assert_eq!(rt; oracle.apply(0, Call::Ceiling(Key(0)))?, Reply::At(Key(0)));
+    assert_eq!(rt; oracle.apply(0, Call::Ceiling(Key(1)))?, Reply::At(Key(5)));
+    assert_eq!(rt; oracle.apply(0, Call::Ceiling(Key(5)))?, Reply::At(Key(5)));
+    assert_eq!(rt; oracle.apply(0, Call::Ceiling(Key(6)))?, Reply::At(most));
+    assert_eq!(rt; oracle.apply(0, Call::Ceiling(most))?, Reply::At(most));
+    assert_eq!(rt; oracle.apply(0, Call::Remove(most))?, Reply::True);
     assert_eq!(rt; oracle.apply(0, Call::Ceiling(Key(6)))?, Reply::Nothing);
-    assert_eq!(rt;
-        oracle.apply(0, Call::Ceiling(Key(u32::MAX)))?,
-        Reply::Nothing
-    );
+    assert_eq!(rt; oracle.apply(0, Call::Ceiling(most))?, Reply::Nothing);
     Ok(())
 }

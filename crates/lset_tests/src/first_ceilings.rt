@@ -1,103 +1,104 @@
-//! `Changes::first_ceiling` beside a search through the moments one by one.
-ghost use Rattle.std.specs.Prelude.{◌≤◌, ◌<◌, ℕ, All, OnOk};
+//! The first moment of a ceiling, beside one that is sought moment by moment, key by key.
+ghost use Rattle.std.specs.Prelude.{◌≤◌, ◌<◌, ◌+◌, ℕ, All, OnOk};
 ghost use Rattle.lset_history.specs.Changes.{moments_of};
 
 use lset_history::Changes;
+use rand_core::{Rng, SeedableRng};
+use rand_pcg::Pcg32;
 use std::alloc::{AllocError, Global};
-use std::process::Abort;
 use std::test::Fail;
 
-/// The set after each of the moments 0 to 12: the bit of each key below 6 that is there.
-type Sets = [u8; 13];
+const KEYS: u32 = 6;
 
-/// Puts the key in at the moment `at`, or takes it out, after the last moment that was noted.
-fn turn(changes: &mut Changes, key: u32, last: u32, at: u32) -> Result<(), AllocError>
+const MOMENTS: u32 = 12;
+
+/// Which keys are in the set at each moment.
+type Contents = Vec<[bool; 6]>;
+
+/// Puts a key in at the moment after the last one, or takes it out where it is there.
+fn turn(changes: &mut Changes, key: u32, last: u32) -> Result<(), AllocError>
     requires upto { (k : ℕ) → All (λ m. m ≤ last) (moments_of changes.old k) }
-    requires later { last < at }
-    ensures upto { OnOk result ((k : ℕ) → All (λ m. m ≤ at) (moments_of changes.new k)) }
+    requires room { last < 1000000 }
+    ensures { OnOk result ((k : ℕ) → All (λ m. m ≤ last + 1) (moments_of changes.new k)) }
 {
-    let present = changes.first(key, true, at, at).0.is_some();
-    changes.note(key, !present, at)?;
+    let (there, _looked) = changes.first(key, true, last, last);
+    changes.note(key, there.is_none(), last + 1)?;
     Ok(())
 }
 
-/// The next of a row of numbers (Knuth's linear congruence).
-fn next_number(number: u64) -> u64 {
-    number
-        .wrapping_mul(6_364_136_223_846_793_005)
-        .wrapping_add(1_442_695_040_888_963_407)
-}
-
-/// Twelve changes of keys below 6, drawn by the seed, and the sets that they leave.
-fn drawn(alloc: Global, seed: u64) -> Result<(Changes, Sets), AllocError> {
+/// A key, drawn anew, comes or goes at each moment but the first.
+fn drawn(alloc: Global, rng: &mut Pcg32) -> Result<(Changes, Contents), AllocError> {
     let mut changes = Changes::new(alloc);
-    let mut sets = [0; 13];
-    let mut number = seed;
-    for done in 0..12u32 {
-        number = next_number(number);
-        let key = (number >> 33) as u32 % 6;
-        turn(&mut changes, key, done, done + 1)?;
-        sets[done as usize + 1] = sets[done as usize] ^ (1 << key);
+    let mut content = [false; 6];
+    let mut contents = Vec::new(alloc);
+    contents.push(content)?;
+    for last in 0..MOMENTS {
+        let key = rng.next_u32() % KEYS;
+        turn(&mut changes, key, last)?;
+        content[key as usize] = !content[key as usize];
+        contents.push(content)?;
     }
-    Ok((changes, sets))
+    Ok((changes, contents))
 }
 
-/// The least key of a set at or above `key`.
-fn least(set: u8, key: u32) -> Option<u32> {
-    (key..6).find(|other| set >> *other & 1 == 1)
-}
-
-/// The first of the moments at which that is `found`.
-fn first_by_search(sets: &Sets, key: u32, found: Option<u32>, from: u32, to: u32) -> Option<u32> {
-    (from..=to).find(|moment| match sets.get(*moment as usize) {
-        Some(set) => least(*set, key) == found,
-        None => false,
-    })
-}
-
-/// For each key below 6, each that may be found, and none.
-fn agree_between<R: Abort>(rt: &R, changes: &Changes, sets: &Sets, from: u32, to: u32)
-    requires { from ≤ to }
-{
-    for row in 0..42u32 {
-        let key = row / 7;
-        let found = if row % 7 < 6 { Some(row % 7) } else { None };
-        let moment = changes.first_ceiling(key, found, from, to);
-        assert_eq!(rt; moment, first_by_search(sets, key, found, from, to));
-    }
-}
-
-fn agree_from<R: Abort>(rt: &R, changes: &Changes, sets: &Sets, from: u32) {
-    for to in from..13 {
-        agree_between(rt, changes, sets, from, to);
-    }
-}
-
-#[test]
-fn first_ceilings_are_those_of_a_search(rt: HostRuntime) -> Result<(), Fail> {
-    for seed in 0..30 {
-        let (changes, sets) = drawn(rt.alloc(), seed)?;
-        for from in 0..13 {
-            agree_from(&rt, &changes, &sets, from);
+fn ceiling(content: [bool; 6], key: u32) -> Option<u32> {
+    for other in key..KEYS {
+        if content[other as usize] {
+            return Some(other);
         }
     }
-    Ok(())
+    None
 }
 
-/// Of the runs in `ceilings`: one key that comes at 7 and goes at 16, and two that come at 7 and at 16.
+fn first_by_moments(
+    contents: &[[bool; 6]],
+    key: u32,
+    found: Option<u32>,
+    from: u32,
+    to: u32,
+) -> Option<u32>
+    requires { to ≤ 1000000 }
+{
+    for moment in from..to + 1 {
+        let content = contents.get(moment as usize)?;
+        if ceiling(*content, key) == found {
+            return Some(moment);
+        }
+    }
+    None
+}
+
+/// For one key, and each that may be found, and none.
+fn agrees(changes: &Changes, contents: &[[bool; 6]], key: u32, from: u32, to: u32) -> bool
+    requires order { from ≤ to }
+    requires few { to ≤ 1000000 }
+{
+    for other in 0..KEYS + 1 {
+        let found = if other < KEYS { Some(other) } else { None };
+        if changes.first_ceiling(key, found, from, to)
+            != first_by_moments(contents, key, found, from, to)
+        {
+            return false;
+        }
+    }
+    true
+}
+
 #[test]
-fn first_ceilings_of_two_runs(rt: HostRuntime) -> Result<(), Fail> {
-    let mut marked = Changes::new(rt.alloc());
-    turn(&mut marked, 5, 0, 7)?;
-    turn(&mut marked, 5, 7, 16)?;
-    assert_eq!(rt; marked.first_ceiling(3, None, 8, 20), Some(16));
-    assert_eq!(rt; marked.first_ceiling(3, Some(5), 8, 20), Some(8));
-    assert_eq!(rt; marked.first_ceiling(3, Some(5), 16, 20), None);
-    let mut between = Changes::new(rt.alloc());
-    turn(&mut between, 9, 0, 7)?;
-    turn(&mut between, 5, 7, 16)?;
-    assert_eq!(rt; between.first_ceiling(3, Some(9), 8, 18), Some(8));
-    assert_eq!(rt; between.first_ceiling(3, Some(5), 8, 18), Some(16));
-    assert_eq!(rt; between.first_ceiling(u32::MAX, None, 8, 18), Some(8));
+fn first_ceilings_are_those_of_each_moment(rt: HostRuntime) -> Result<(), Fail> {
+    let mut rng = Pcg32::seed_from_u64(12);
+    for _ in 0..40 {
+        let (changes, contents) = drawn(rt.alloc(), &mut rng)?;
+        for from in 0..MOMENTS + 1 {
+            for to in from..MOMENTS + 1 {
+                for key in 0..KEYS + 1 {
+                    assert!(rt;
+                        agrees(&changes, &contents, key, from, to),
+                        "{key} {from} {to}"
+                    );
+                }
+            }
+        }
+    }
     Ok(())
 }

@@ -3,5 +3,5 @@ use Rattle.std.specs.Prelude.{All}
 use Rattle.lset_history.specs.Changes.{moments_of}
 use Rattle.lset_tests.proofs.first_ceilings.drawn.Given as goal
 
-abbrev pub invariant-loop-done : goal.invariant-loop-done
-invariant-loop-done l = record { upto : (k : ℕ) → All (λ m. m ≤ l.done) (moments_of l.changes k) }
+abbrev pub invariant-loop-last : goal.invariant-loop-last
+invariant-loop-last l = (k : ℕ) → All (λ m. m ≤ l.last) (moments_of l.changes k)

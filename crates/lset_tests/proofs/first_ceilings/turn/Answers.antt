@@ -1,26 +1,36 @@
-use Rattle.std.proofs.Common.{◌≡◌, ℕ, ◌≤◌, ◌<◌, true, false, not, is_some, List, Option, Some, None, sym, subst, ap, ◌∙◌, arith, inl, inr}
-use Rattle.std.specs.Prelude.{All}
-use Rattle.std.proofs.lemmas.Bool.{cases_Bool}
-use Rattle.lset_history.specs.Changes.{IsFirst, is_present, is_present_now, moments_of}
-use Rattle.lset_history.proofs.ChangeLaws.{noted_upto, present_past, all_upto_later}
+use Rattle.std.proofs.Common.{◌≡◌, ◌≤◌, ◌<◌, ◌+◌, ℕ, Bool, true, false, not, sym, refl, subst, ap, ◌∙◌, arith}
+use Rattle.std.specs.Prelude.{Option, Some, None, is_some}
+use Rattle.std.proofs.lemmas.List.Elements.{All-weaker}
+use Rattle.lset_history.specs.Changes.{IsFirst, moments_of, is_present}
+use Rattle.lset_history.proofs.ChangeLaws.{noted_upto, present_past}
 use Rattle.lset_tests.proofs.first_ceilings.turn.Goals as goal
 
--- past all changes, what is found at one moment is what is so now
-is_now : (changes : ℕ → List ℕ) (key at : ℕ) (o : Option ℕ) → All (λ x. x ≤ at) (changes key)
-    → IsFirst (λ m. is_present changes key m ≡ true) at at o → is_some o ≡ is_present_now changes key
-is_now changes key at None upto f = elim (cases_Bool (is_present changes key at)) [
-  | inl yes ↦ absurd (f at (omega arith) (omega arith) yes)
-  | inr no ↦ sym no ∙ present_past changes key at upto
-]
-is_now changes key at (Some m) upto f =
-    let same : m ≡ at = omega (arith, f.0, f.1) in
-    sym (subst (λ z. is_present changes key z ≡ true) same f.2) ∙ present_past changes key at upto
+is_absent : (b : Bool) → (b ≡ true → ⊥) → false ≡ b
+is_absent true n = absurd (n refl)
+is_absent false n = refl
 
-pub note-requires-clause-turn : goal.note-requires-clause-turn
-note-requires-clause-turn c = ap not (c.is_some.ensures ∙ is_now (moments_of c.args.changes.now) c.args.key c.args.at c.first.result.0
-    (all_upto_later (moments_of c.args.changes.now c.args.key) c.args.last c.args.at
-    (let later : c.args.last < c.args.at = c.requires.later in omega arith) (c.requires.upto c.args.key)) c.first.ensures.first)
+-- the first moment of one moment tells what is there
+told : (f : ℕ → Bool) (last : ℕ) (o : Option ℕ) → IsFirst (λ m. f m ≡ true) last last o → is_some o ≡ f last
+told f last None h = is_absent (f last) (h last (omega arith) (omega arith))
+told f last (Some k) h = sym (subst (λ z. f z ≡ true)
+    (let low : last ≤ k = h.0 in let high : k ≤ last = h.1 in let e : k ≡ last = omega arith in e) h.2)
 
-pub returns-clause-upto : goal.returns-clause-upto
-returns-clause-upto c = noted_upto c.args.changes.now c.note.new.self c.args.key c.args.last c.args.at c.in_ok-note.ensures.noted
-    c.requires.upto (let later : c.args.last < c.args.at = c.requires.later in omega arith)
+opposite : (a b : Bool) → not a ≡ b → a ≡ not b
+opposite true b e = ap not e
+opposite false b e = ap not e
+
+pub note-requires : goal.note-requires
+note-requires c = record {
+  later = (
+    omega arith,
+    λ k. All-weaker (λ m. m ≤ c.args.last) (λ m. m < c.args.last + 1) (λ m l. omega arith)
+        (moments_of c.args.changes.now k) (c.requires.upto k),
+  );
+  turn = opposite c.is_none.result _ (sym c.is_none.ensures
+      ∙ told (is_present (moments_of c.args.changes.now) c.args.key) c.args.last c.first-there.result.0 c.first-there.ensures.first
+      ∙ present_past (moments_of c.args.changes.now) c.args.key c.args.last (c.requires.upto c.args.key));
+}
+
+pub returns : goal.returns
+returns c = noted_upto c.args.changes.now c.note.new.self c.args.key c.args.last (c.args.last + 1) c.in_ok-note.ensures.noted
+    c.requires.upto (omega arith)
