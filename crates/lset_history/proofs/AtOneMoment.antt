@@ -18,7 +18,7 @@ use Rattle.lset_words.proofs.RisingLists.{RisesFrom}
 use Rattle.lset_history.proofs.Lists.{Pairs, SomeOf, all_imply, all_both, all_filter, pairs_filter, pairs_imply, one_left, filter_none, some_imply, some_filter}
 use Rattle.lset_history.proofs.Keys.{has_true, has_false}
 use Rattle.lset_history.proofs.Calls.{Run}
-use Rattle.lset_history.proofs.SetFitting.{SameKeys, replies_from_fits}
+use Rattle.lset_history.proofs.SetFitting.{SameKeys, rises_for, replies_from_fits}
 use Rattle.lset_history.proofs.States.{Shows, keys_after, counts_after, set_after}
 use Rattle.lset_history.proofs.Standings.{Stood, Follows, During, during, Changing, changing, Reading}
 use Rattle.lset_history.proofs.Order.{moment_of, Leads, Stays}
@@ -58,8 +58,8 @@ reading_stays r s state h same rising n =
     let e : reply_by s.traced.changed s.traced.ended ≡ h.end.1 = replied s.traced.changed s.traced.ended h.no_change h.ended in
     let p : (reply_to r.quota state s.traced.thread s.traced.call ≡ h.end.1)
     × (after_call state s.traced.thread s.traced.call h.end.1 ≡ state) =
-    replies_from_fits r.quota (r.contents s.moment) state same rising s.traced.thread
-    (r.counts s.moment s.traced.thread) s.traced.call h.end.1 n h.fit.fits in
+    replies_from_fits r.quota (r.contents s.moment) state same s.traced.thread
+    (r.counts s.moment s.traced.thread) s.traced.call h.end.1 (rises_for s.traced.call state.keys rising) n h.fit.fits in
     (p.0 ∙ sym e, ap (after_call state s.traced.thread s.traced.call) e ∙ p.1)
   where
     replied : (changed : Option ℕ) (ended : Option (ℕ × Reply)) → changed ≡ None → ended ≡ Some h.end

@@ -11,7 +11,8 @@ use Rattle.lset_words.specs.SequentialSet.{SetState, has_key, with_key, without_
 use Rattle.lset_words.specs.Account.{Content, Fits}
 use Rattle.lset_words.proofs.Numbers.{same_or_not}
 use Rattle.std.proofs.lemmas.Bool.{cases_Bool}
-use Rattle.lset_words.proofs.RisingLists.{RisesFrom}
+use Rattle.lset_words.proofs.RisingLists.{RisesFrom, rises_from_increasing, increasing_from_rises}
+use Rattle.lset_history.specs.Laws.{RisesFor}
 use Rattle.lset_history.proofs.Ceilings.{ceiling_found, found_ceiling, ceiling_none, none_ceiling, ceiling_cases, ceiling_not}
 use Rattle.lset_history.proofs.Keys.{has_true, has_from, has_false, has_none, with_keeps, without_from, member_or_not}
 
@@ -26,11 +27,17 @@ key_told reply.Nothing = 0
 abbrev pub SameKeys : Content → List ℕ → Type 0
 SameKeys content keys = (j : ℕ) → (content j → Contains keys j) × (Contains keys j → content j)
 
+pub rises_for : (call : Call) (keys : List ℕ) → RisesFrom 0 keys → RisesFor call keys
+rises_for (call.Add k) keys r = tt
+rises_for (call.Remove k) keys r = tt
+rises_for (call.Contains k) keys r = tt
+rises_for (call.Ceiling k) keys r = increasing_from_rises 0 keys r
+
 -- the set gives that reply, and stays as it is
 abbrev pub Replies : ℕ → SetState → ℕ → Call → Reply → Type 0
 Replies quota s thread call reply = (reply_to quota s thread call ≡ reply) × (after_call s thread call reply ≡ s)
 
-module _ (quota : ℕ) (content : Content) (s : SetState) (same : SameKeys content s.keys) (rising : RisesFrom 0 s.keys) where
+module _ (quota : ℕ) (content : Content) (s : SetState) (same : SameKeys content s.keys) where
   member : (k : ℕ) → content k → has_key k s.keys ≡ true
   member k h = has_true k s.keys ((same k).0 h)
 
@@ -44,117 +51,117 @@ module _ (quota : ℕ) (content : Content) (s : SetState) (same : SameKeys conte
   is_none k e h = has_none k s.keys e ((same k).0 h)
 
   -- a reply that fits is the set's
-  pub replies_from_fits : (thread count : ℕ) (call : Call) (reply : Reply) → count_of s thread ≡ count
+  pub replies_from_fits : (thread count : ℕ) (call : Call) (reply : Reply) → RisesFor call s.keys → count_of s thread ≡ count
       → Fits quota content count call reply → Replies quota s thread call reply
-  replies_from_fits t n (call.Add k) True e f = absurd f
-  replies_from_fits t n (call.Add k) False e f = let a : has_key k.0 s.keys ≡ true = member k.0 f in (rw a refl, refl)
-  replies_from_fits t n (call.Add k) Full e f =
+  replies_from_fits t n (call.Add k) True rising e f = absurd f
+  replies_from_fits t n (call.Add k) False rising e f = let a : has_key k.0 s.keys ≡ true = member k.0 f in (rw a refl, refl)
+  replies_from_fits t n (call.Add k) Full rising e f =
       let a : has_key k.0 s.keys ≡ false = no_member k.0 f.0 in
       let m : n ≡ quota = f.1 in
       let b : (count_of s t == quota) ≡ true = grind (arith, nat_tests) in
       (rw (a, b) refl, refl)
-  replies_from_fits t n (call.Add k) (reply.At x) e f = absurd f
-  replies_from_fits t n (call.Add k) reply.Nothing e f = absurd f
-  replies_from_fits t n (call.Remove k) True e f = absurd f
-  replies_from_fits t n (call.Remove k) False e f = let a : has_key k.0 s.keys ≡ false = no_member k.0 f in (rw a refl, refl)
-  replies_from_fits t n (call.Remove k) Full e f = absurd f
-  replies_from_fits t n (call.Remove k) (reply.At x) e f = absurd f
-  replies_from_fits t n (call.Remove k) reply.Nothing e f = absurd f
-  replies_from_fits t n (call.Contains k) True e f = let a : has_key k.0 s.keys ≡ true = member k.0 f in (rw a refl, refl)
-  replies_from_fits t n (call.Contains k) False e f = let a : has_key k.0 s.keys ≡ false = no_member k.0 f in (rw a refl, refl)
-  replies_from_fits t n (call.Contains k) Full e f = absurd f
-  replies_from_fits t n (call.Contains k) (reply.At x) e f = absurd f
-  replies_from_fits t n (call.Contains k) reply.Nothing e f = absurd f
-  replies_from_fits t n (call.Ceiling k) True e f = absurd f
-  replies_from_fits t n (call.Ceiling k) False e f = absurd f
-  replies_from_fits t n (call.Ceiling k) Full e f = absurd f
-  replies_from_fits t n (call.Ceiling k) (reply.At x) e f =
-      (ceiling_found k.0 0 x s.keys rising (f.0, (same x.0).0 f.1, λ j lo hi m. f.2 j lo hi ((same j).1 m)), refl)
-  replies_from_fits t n (call.Ceiling k) reply.Nothing e f = (ceiling_none k.0 s.keys (λ j lo m. f j lo ((same j).1 m)), refl)
+  replies_from_fits t n (call.Add k) (reply.At x) rising e f = absurd f
+  replies_from_fits t n (call.Add k) reply.Nothing rising e f = absurd f
+  replies_from_fits t n (call.Remove k) True rising e f = absurd f
+  replies_from_fits t n (call.Remove k) False rising e f = let a : has_key k.0 s.keys ≡ false = no_member k.0 f in (rw a refl, refl)
+  replies_from_fits t n (call.Remove k) Full rising e f = absurd f
+  replies_from_fits t n (call.Remove k) (reply.At x) rising e f = absurd f
+  replies_from_fits t n (call.Remove k) reply.Nothing rising e f = absurd f
+  replies_from_fits t n (call.Contains k) True rising e f = let a : has_key k.0 s.keys ≡ true = member k.0 f in (rw a refl, refl)
+  replies_from_fits t n (call.Contains k) False rising e f = let a : has_key k.0 s.keys ≡ false = no_member k.0 f in (rw a refl, refl)
+  replies_from_fits t n (call.Contains k) Full rising e f = absurd f
+  replies_from_fits t n (call.Contains k) (reply.At x) rising e f = absurd f
+  replies_from_fits t n (call.Contains k) reply.Nothing rising e f = absurd f
+  replies_from_fits t n (call.Ceiling k) True rising e f = absurd f
+  replies_from_fits t n (call.Ceiling k) False rising e f = absurd f
+  replies_from_fits t n (call.Ceiling k) Full rising e f = absurd f
+  replies_from_fits t n (call.Ceiling k) (reply.At x) rising e f =
+      (ceiling_found k.0 0 x s.keys (rises_from_increasing s.keys rising) (f.0, (same x.0).0 f.1, λ j lo hi m. f.2 j lo hi ((same j).1 m)), refl)
+  replies_from_fits t n (call.Ceiling k) reply.Nothing rising e f = (ceiling_none k.0 s.keys (λ j lo m. f j lo ((same j).1 m)), refl)
 
   -- and the set's reply fits, where the set stays as it is
-  pub fits_from_replies : (thread count : ℕ) (call : Call) (reply : Reply) → count_of s thread ≡ count
+  pub fits_from_replies : (thread count : ℕ) (call : Call) (reply : Reply) → RisesFor call s.keys → count_of s thread ≡ count
       → Replies quota s thread call reply → Fits quota content count call reply
-  fits_from_replies t n (call.Add k) True e f = elim (cases_Bool (has_key k.0 s.keys)) [
+  fits_from_replies t n (call.Add k) True rising e f = elim (cases_Bool (has_key k.0 s.keys)) [
     | inl a ↦ absurd (let g : False ≡ True = rw a at f.0 in cc)
     | inr a ↦ (let g : with_key k.0 s.keys ≡ s.keys = ap (λ z. z.keys) f.1 in
         has_none k.0 s.keys a (subst (λ z. Contains z k.0) g (with_keeps k.0 k.0 s.keys (inl refl))))
   ]
-  fits_from_replies t n (call.Add k) False e f = elim (cases_Bool (has_key k.0 s.keys)) [
+  fits_from_replies t n (call.Add k) False rising e f = elim (cases_Bool (has_key k.0 s.keys)) [
     | inl a ↦ is_member k.0 a
     | inr a ↦ elim (cases_Bool (count_of s t == quota)) [
       | inl b ↦ absurd (let g : Full ≡ False = rw (a, b) at f.0 in cc)
       | inr b ↦ absurd (let g : True ≡ False = rw (a, b) at f.0 in cc)
     ]
   ]
-  fits_from_replies t n (call.Add k) Full e f = elim (cases_Bool (has_key k.0 s.keys)) [
+  fits_from_replies t n (call.Add k) Full rising e f = elim (cases_Bool (has_key k.0 s.keys)) [
     | inl a ↦ absurd (let g : False ≡ Full = rw a at f.0 in cc)
     | inr a ↦ elim (cases_Bool (count_of s t == quota)) [
       | inl b ↦ (is_none k.0 a, (let g : count_of s t ≡ quota = grind (arith, nat_tests) in sym e ∙ g))
       | inr b ↦ absurd (let g : True ≡ Full = rw (a, b) at f.0 in cc)
     ]
   ]
-  fits_from_replies t n (call.Add k) (reply.At x) e f = elim (cases_Bool (has_key k.0 s.keys)) [
+  fits_from_replies t n (call.Add k) (reply.At x) rising e f = elim (cases_Bool (has_key k.0 s.keys)) [
     | inl a ↦ absurd (let g : False ≡ reply.At x = rw a at f.0 in cc)
     | inr a ↦ elim (cases_Bool (count_of s t == quota)) [
       | inl b ↦ absurd (let g : Full ≡ reply.At x = rw (a, b) at f.0 in cc)
       | inr b ↦ absurd (let g : True ≡ reply.At x = rw (a, b) at f.0 in cc)
     ]
   ]
-  fits_from_replies t n (call.Add k) reply.Nothing e f = elim (cases_Bool (has_key k.0 s.keys)) [
+  fits_from_replies t n (call.Add k) reply.Nothing rising e f = elim (cases_Bool (has_key k.0 s.keys)) [
     | inl a ↦ absurd (let g : False ≡ reply.Nothing = rw a at f.0 in cc)
     | inr a ↦ elim (cases_Bool (count_of s t == quota)) [
       | inl b ↦ absurd (let g : Full ≡ reply.Nothing = rw (a, b) at f.0 in cc)
       | inr b ↦ absurd (let g : True ≡ reply.Nothing = rw (a, b) at f.0 in cc)
     ]
   ]
-  fits_from_replies t n (call.Remove k) True e f = elim (cases_Bool (has_key k.0 s.keys)) [
+  fits_from_replies t n (call.Remove k) True rising e f = elim (cases_Bool (has_key k.0 s.keys)) [
     | inl a ↦ (let g : without_key k.0 s.keys ≡ s.keys = ap (λ z. z.keys) f.1 in
         (without_from k.0 k.0 s.keys (subst (λ z. Contains z k.0) (sym g) (has_from k.0 s.keys a))).1 refl)
     | inr a ↦ absurd (let g : False ≡ True = rw a at f.0 in cc)
   ]
-  fits_from_replies t n (call.Remove k) False e f = elim (cases_Bool (has_key k.0 s.keys)) [
+  fits_from_replies t n (call.Remove k) False rising e f = elim (cases_Bool (has_key k.0 s.keys)) [
     | inl a ↦ absurd (let g : True ≡ False = rw a at f.0 in cc)
     | inr a ↦ is_none k.0 a
   ]
-  fits_from_replies t n (call.Remove k) Full e f = elim (cases_Bool (has_key k.0 s.keys)) [
+  fits_from_replies t n (call.Remove k) Full rising e f = elim (cases_Bool (has_key k.0 s.keys)) [
     | inl a ↦ absurd (let g : True ≡ Full = rw a at f.0 in cc)
     | inr a ↦ absurd (let g : False ≡ Full = rw a at f.0 in cc)
   ]
-  fits_from_replies t n (call.Remove k) (reply.At x) e f = elim (cases_Bool (has_key k.0 s.keys)) [
+  fits_from_replies t n (call.Remove k) (reply.At x) rising e f = elim (cases_Bool (has_key k.0 s.keys)) [
     | inl a ↦ absurd (let g : True ≡ reply.At x = rw a at f.0 in cc)
     | inr a ↦ absurd (let g : False ≡ reply.At x = rw a at f.0 in cc)
   ]
-  fits_from_replies t n (call.Remove k) reply.Nothing e f = elim (cases_Bool (has_key k.0 s.keys)) [
+  fits_from_replies t n (call.Remove k) reply.Nothing rising e f = elim (cases_Bool (has_key k.0 s.keys)) [
     | inl a ↦ absurd (let g : True ≡ reply.Nothing = rw a at f.0 in cc)
     | inr a ↦ absurd (let g : False ≡ reply.Nothing = rw a at f.0 in cc)
   ]
-  fits_from_replies t n (call.Contains k) True e f = elim (cases_Bool (has_key k.0 s.keys)) [
+  fits_from_replies t n (call.Contains k) True rising e f = elim (cases_Bool (has_key k.0 s.keys)) [
     | inl a ↦ is_member k.0 a
     | inr a ↦ absurd (let g : False ≡ True = rw a at f.0 in cc)
   ]
-  fits_from_replies t n (call.Contains k) False e f = elim (cases_Bool (has_key k.0 s.keys)) [
+  fits_from_replies t n (call.Contains k) False rising e f = elim (cases_Bool (has_key k.0 s.keys)) [
     | inl a ↦ absurd (let g : True ≡ False = rw a at f.0 in cc)
     | inr a ↦ is_none k.0 a
   ]
-  fits_from_replies t n (call.Contains k) Full e f = elim (cases_Bool (has_key k.0 s.keys)) [
+  fits_from_replies t n (call.Contains k) Full rising e f = elim (cases_Bool (has_key k.0 s.keys)) [
     | inl a ↦ absurd (let g : True ≡ Full = rw a at f.0 in cc)
     | inr a ↦ absurd (let g : False ≡ Full = rw a at f.0 in cc)
   ]
-  fits_from_replies t n (call.Contains k) (reply.At x) e f = elim (cases_Bool (has_key k.0 s.keys)) [
+  fits_from_replies t n (call.Contains k) (reply.At x) rising e f = elim (cases_Bool (has_key k.0 s.keys)) [
     | inl a ↦ absurd (let g : True ≡ reply.At x = rw a at f.0 in cc)
     | inr a ↦ absurd (let g : False ≡ reply.At x = rw a at f.0 in cc)
   ]
-  fits_from_replies t n (call.Contains k) reply.Nothing e f = elim (cases_Bool (has_key k.0 s.keys)) [
+  fits_from_replies t n (call.Contains k) reply.Nothing rising e f = elim (cases_Bool (has_key k.0 s.keys)) [
     | inl a ↦ absurd (let g : True ≡ reply.Nothing = rw a at f.0 in cc)
     | inr a ↦ absurd (let g : False ≡ reply.Nothing = rw a at f.0 in cc)
   ]
-  fits_from_replies t n (call.Ceiling k) True e f = ceiling_not k.0 s.keys True f.0 (λ x g. cc) (λ g. cc)
-  fits_from_replies t n (call.Ceiling k) False e f = ceiling_not k.0 s.keys False f.0 (λ x g. cc) (λ g. cc)
-  fits_from_replies t n (call.Ceiling k) Full e f = ceiling_not k.0 s.keys Full f.0 (λ x g. cc) (λ g. cc)
-  fits_from_replies t n (call.Ceiling k) (reply.At x) e f =
-      let c = found_ceiling k.0 0 x s.keys rising f.0 in (c.0, (same x.0).1 c.1, λ j lo hi m. c.2 j lo hi ((same j).0 m))
-  fits_from_replies t n (call.Ceiling k) reply.Nothing e f = λ j lo m. none_ceiling k.0 s.keys f.0 j lo ((same j).0 m)
+  fits_from_replies t n (call.Ceiling k) True rising e f = ceiling_not k.0 s.keys True f.0 (λ x g. cc) (λ g. cc)
+  fits_from_replies t n (call.Ceiling k) False rising e f = ceiling_not k.0 s.keys False f.0 (λ x g. cc) (λ g. cc)
+  fits_from_replies t n (call.Ceiling k) Full rising e f = ceiling_not k.0 s.keys Full f.0 (λ x g. cc) (λ g. cc)
+  fits_from_replies t n (call.Ceiling k) (reply.At x) rising e f =
+      let c = found_ceiling k.0 0 x s.keys (rises_from_increasing s.keys rising) f.0 in (c.0, (same x.0).1 c.1, λ j lo hi m. c.2 j lo hi ((same j).0 m))
+  fits_from_replies t n (call.Ceiling k) reply.Nothing rising e f = λ j lo m. none_ceiling k.0 s.keys f.0 j lo ((same j).0 m)
 
   -- a content with a list of its keys tells of each reply whether it fits
   present : (k : ℕ) → content k ⊎ (content k → ⊥)
@@ -163,38 +170,38 @@ module _ (quota : ℕ) (content : Content) (s : SetState) (same : SameKeys conte
   absent : (k : ℕ) → (content k → ⊥) ⊎ ((content k → ⊥) → ⊥)
   absent k = elim (present k) [ inl h ↦ inr (λ n. n h) | inr h ↦ inl h ]
 
-  pub fits_or_not : (count : ℕ) (call : Call) (reply : Reply) → Fits quota content count call reply
+  pub fits_or_not : RisesFrom 0 s.keys → (count : ℕ) (call : Call) (reply : Reply) → Fits quota content count call reply
       ⊎ (Fits quota content count call reply → ⊥)
-  fits_or_not n (call.Add k) True = inr (λ f. f)
-  fits_or_not n (call.Add k) False = present k.0
-  fits_or_not n (call.Add k) Full = elim (present k.0) [
+  fits_or_not rising n (call.Add k) True = inr (λ f. f)
+  fits_or_not rising n (call.Add k) False = present k.0
+  fits_or_not rising n (call.Add k) Full = elim (present k.0) [
     | inl h ↦ inr (λ f. f.0 h)
     | inr h ↦ elim (same_or_not n quota) [ inl e ↦ inl (h, e) | inr e ↦ inr (λ f. e f.1) ]
   ]
-  fits_or_not n (call.Add k) (reply.At x) = inr (λ f. f)
-  fits_or_not n (call.Add k) reply.Nothing = inr (λ f. f)
-  fits_or_not n (call.Remove k) True = inr (λ f. f)
-  fits_or_not n (call.Remove k) False = absent k.0
-  fits_or_not n (call.Remove k) Full = inr (λ f. f)
-  fits_or_not n (call.Remove k) (reply.At x) = inr (λ f. f)
-  fits_or_not n (call.Remove k) reply.Nothing = inr (λ f. f)
-  fits_or_not n (call.Contains k) True = present k.0
-  fits_or_not n (call.Contains k) False = absent k.0
-  fits_or_not n (call.Contains k) Full = inr (λ f. f)
-  fits_or_not n (call.Contains k) (reply.At x) = inr (λ f. f)
-  fits_or_not n (call.Contains k) reply.Nothing = inr (λ f. f)
-  fits_or_not n (call.Ceiling k) True = inr (λ f. f)
-  fits_or_not n (call.Ceiling k) False = inr (λ f. f)
-  fits_or_not n (call.Ceiling k) Full = inr (λ f. f)
-  fits_or_not n (call.Ceiling k) (reply.At x) = elim (ceiling_cases k.0 s.keys) [
-    | inl e ↦ inr (λ f. let g : reply.Nothing ≡ reply.At x = sym e ∙ (replies_from_fits 0 (count_of s 0) (call.Ceiling k) (reply.At x) refl f).0 in absurd (cc))
+  fits_or_not rising n (call.Add k) (reply.At x) = inr (λ f. f)
+  fits_or_not rising n (call.Add k) reply.Nothing = inr (λ f. f)
+  fits_or_not rising n (call.Remove k) True = inr (λ f. f)
+  fits_or_not rising n (call.Remove k) False = absent k.0
+  fits_or_not rising n (call.Remove k) Full = inr (λ f. f)
+  fits_or_not rising n (call.Remove k) (reply.At x) = inr (λ f. f)
+  fits_or_not rising n (call.Remove k) reply.Nothing = inr (λ f. f)
+  fits_or_not rising n (call.Contains k) True = present k.0
+  fits_or_not rising n (call.Contains k) False = absent k.0
+  fits_or_not rising n (call.Contains k) Full = inr (λ f. f)
+  fits_or_not rising n (call.Contains k) (reply.At x) = inr (λ f. f)
+  fits_or_not rising n (call.Contains k) reply.Nothing = inr (λ f. f)
+  fits_or_not rising n (call.Ceiling k) True = inr (λ f. f)
+  fits_or_not rising n (call.Ceiling k) False = inr (λ f. f)
+  fits_or_not rising n (call.Ceiling k) Full = inr (λ f. f)
+  fits_or_not rising n (call.Ceiling k) (reply.At x) = elim (ceiling_cases k.0 s.keys) [
+    | inl e ↦ inr (λ f. let g : reply.Nothing ≡ reply.At x = sym e ∙ (replies_from_fits 0 (count_of s 0) (call.Ceiling k) (reply.At x) (increasing_from_rises 0 s.keys rising) refl f).0 in absurd (cc))
     | inr p ↦ elim (same_or_not p.0.0 x.0) [
-      | inl y ↦ inl (fits_from_replies 0 (count_of s 0) (call.Ceiling k) (reply.At x) refl
+      | inl y ↦ inl (fits_from_replies 0 (count_of s 0) (call.Ceiling k) (reply.At x) (increasing_from_rises 0 s.keys rising) refl
           (p.1 ∙ ap (λ z. reply.At (record { 0 = z })) y, refl))
-      | inr y ↦ inr (λ f. y (ap key_told (sym p.1 ∙ (replies_from_fits 0 (count_of s 0) (call.Ceiling k) (reply.At x) refl f).0)))
+      | inr y ↦ inr (λ f. y (ap key_told (sym p.1 ∙ (replies_from_fits 0 (count_of s 0) (call.Ceiling k) (reply.At x) (increasing_from_rises 0 s.keys rising) refl f).0)))
     ]
   ]
-  fits_or_not n (call.Ceiling k) reply.Nothing = elim (ceiling_cases k.0 s.keys) [
-    | inl e ↦ inl (fits_from_replies 0 (count_of s 0) (call.Ceiling k) reply.Nothing refl (e, refl))
-    | inr p ↦ inr (λ f. let g : reply.At p.0 ≡ reply.Nothing = sym p.1 ∙ (replies_from_fits 0 (count_of s 0) (call.Ceiling k) reply.Nothing refl f).0 in absurd (cc))
+  fits_or_not rising n (call.Ceiling k) reply.Nothing = elim (ceiling_cases k.0 s.keys) [
+    | inl e ↦ inl (fits_from_replies 0 (count_of s 0) (call.Ceiling k) reply.Nothing (increasing_from_rises 0 s.keys rising) refl (e, refl))
+    | inr p ↦ inr (λ f. let g : reply.At p.0 ≡ reply.Nothing = sym p.1 ∙ (replies_from_fits 0 (count_of s 0) (call.Ceiling k) reply.Nothing (increasing_from_rises 0 s.keys rising) refl f).0 in absurd (cc))
   ]

@@ -2,6 +2,7 @@
 use Rattle.std.specs.Prelude.{◌≡◌, ◌↔◌, ℕ, ◌≤◌, List, map, Contains}
 use Rattle.std.specs.List.Sorted.{IsStrictlyIncreasing}
 use Rattle.lset_words.specs.declared.Call.{Call}
+use Rattle.lset_words.specs.declared.Call.TheVariants as call
 use Rattle.lset_words.specs.declared.Reply.{Reply}
 use Rattle.lset_words.specs.declared.history.Placed.{Placed}
 use Rattle.lset_words.specs.SequentialSet.{SetState, empty_set, count_of, reply_to, after_call, set_left}
@@ -45,10 +46,17 @@ abbrev pub LogsTellHistories : Type 0
 LogsTellHistories = (threads quota last : ℕ) (log : Log) (lists : ℕ → List ℕ) (counts : Counts)
     → Account threads quota last log (contents_of_lists lists) counts → (k : ℕ) → k ≤ last → IsHistory threads (history_at log k)
 
+-- the keys of a set stand in turn, where the answer to the call is the first of them
+abbrev pub RisesFor : Call → List ℕ → Type 0
+RisesFor (call.Add k) keys = Unit {0}
+RisesFor (call.Remove k) keys = Unit {0}
+RisesFor (call.Contains k) keys = Unit {0}
+RisesFor (call.Ceiling k) keys = IsStrictlyIncreasing keys
+
 -- A reply fits just where the sequential set gives it and stays as it is.
 abbrev pub FitsAreReplies : Type 0
 FitsAreReplies = (quota thread count : ℕ) (keys : List ℕ) (s : SetState) (call : Call) (reply : Reply)
-    → ((j : ℕ) → Contains keys j ↔ Contains s.keys j) → IsStrictlyIncreasing s.keys → count_of s thread ≡ count
+    → ((j : ℕ) → Contains keys j ↔ Contains s.keys j) → RisesFor call s.keys → count_of s thread ≡ count
     → Fits quota (content_of keys) count call reply
     ↔ ((reply_to quota s thread call ≡ reply) × (after_call s thread call reply ≡ s))
 

@@ -7,7 +7,6 @@ use Rattle.lset_steps.specs.declared.Told.{Told}
 use Rattle.lset_steps.specs.declared.world.StepFault.{StepFault}
 use Rattle.lset_steps.specs.Steps.{Table, State, Run, Limits, Enabled, state_at, event_at, entry_of, log_of, told, after, opening}
 use Rattle.lset_steps.specs.Worlds.{WorldState, Refused}
-use Rattle.lset_steps.specs.Promises.{HasAccount}
 use Rattle.lset_replay.specs.declared.events.LineEvent.{LineEvent}
 use Rattle.lset_replay.specs.declared.recorder.Recorder.{Recorder}
 use Rattle.lset_replay.specs.Events.{only_events, line_at}
@@ -17,7 +16,8 @@ use Rattle.lset_replay.specs.Reports.{IsFirstRefused, IsRefusal, fault_at}
 use Rattle.lset_replay.specs.Trace.{trace_of, trace_after, entry_told, MayFollow, MayChange, no_trace}
 use Rattle.lset_replay.specs.Follows.{HasFollowed}
 use Rattle.lset_history.specs.Changes.{moments_of}
-use Rattle.lset_replay.proofs.Followed.{shown}
+use Rattle.lset_replay.proofs.KeyChanges.{HoldsKeys}
+use Rattle.lset_replay.proofs.Followed.{TellsKeys, holds_keys, shown}
 use Rattle.lset_replay.proofs.Ready.{may_begin, may_step}
 
 -- what an event told is its entry
@@ -38,7 +38,7 @@ run_more T n q es k r e = record {
     last_or_before : (j k : ℕ) → j < suc k → (j ≡ k) ⊎ (j < k)
     last_or_before j k l = grind arith
 
-module _ (T : Table) (accounts : HasAccount T) (n q : ℕ) (events : List LineEvent) (k : ℕ) (w : WorldState) (r : Recorder)
+module _ (T : Table) (accounts : TellsKeys T) (n q : ℕ) (events : List LineEvent) (k : ℕ) (w : WorldState) (r : Recorder)
     (h : HasFollowed T n q events k w r)
     (e : Event) (is : event_at (only_events events) k ≡ e) where
   abbrev es : ℕ → Event
@@ -62,7 +62,10 @@ module _ (T : Table) (accounts : HasAccount T) (n q : ℕ) (events : List LineEv
   ready en a says = at e is a (says ∙ ap (λ z. told T z e) state_is)
     where
       account : Account n q (suc k) log contents counts
-      account = accounts n q (suc k) es (run_on en)
+      account = accounts.account n q (suc k) es (run_on en)
+
+      low : HoldsKeys (suc k) contents
+      low = holds_keys T accounts n q (suc k) es (run_on en)
 
       entered : (d : Event) → event_at (only_events events) k ≡ d → Enters n q log contents
           counts k (entry_of T (state_at T n q es k) d)
@@ -72,10 +75,10 @@ module _ (T : Table) (accounts : HasAccount T) (n q : ℕ) (events : List LineEv
       at : (d : Event) → event_at (only_events events) k ≡ d → (a : Told) → a ≡ told T (state_at T n q es k) d
           → MayFollow r (suc k) d a
       at (Begin t call) i a says = may_begin n q (suc k) log contents counts
-          account k (omega arith) r h.threads_are h.trace t call (entered (Begin t call) i)
+          account low k (omega arith) r h.threads_are h.trace t call (entered (Begin t call) i)
       at (Go t) i a says =
           let may = may_step n q (suc k) log contents counts
-          account k (omega arith) r h.threads_are h.trace t _ _ (entered (Go t) i) in
+          account low k (omega arith) r h.threads_are h.trace t _ _ (entered (Go t) i) in
           (may.0, subst (λ (z : Told). MayChange (moments_of r.changes) (suc k) z.change) (sym says) may.1)
 
   pub followed : (w' : WorldState) (r' : Recorder) (a : Told) → Enabled w.state e

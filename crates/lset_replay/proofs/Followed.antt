@@ -2,17 +2,19 @@
 use Rattle.std.proofs.Common.{ℕ, List, sym, subst, arith}
 use Rattle.lset_words.specs.Log.{Log}
 use Rattle.lset_words.specs.Account.{Account, Contents, Counts}
-use Rattle.lset_steps.specs.Steps.{Table, event_at, log_of}
+use Rattle.lset_steps.specs.declared.Event.{Event}
+use Rattle.lset_steps.specs.Steps.{Table, Run, event_at, log_of}
 use Rattle.lset_steps.specs.Chain.{contents_of, counts_of}
 use Rattle.lset_steps.specs.Laws.{views}
 use Rattle.lset_steps.specs.Worlds.{WorldState}
-use Rattle.lset_steps.specs.Promises.{HasAccount}
+use Rattle.lset_steps.specs.Promises.{HasAccount, ListedContent}
 use Rattle.lset_replay.specs.declared.events.LineEvent.{LineEvent}
 use Rattle.lset_replay.specs.declared.recorder.Recorder.{Recorder}
 use Rattle.lset_replay.specs.Events.{only_events}
 use Rattle.lset_replay.specs.Trace.{trace_of}
 use Rattle.lset_replay.specs.Follows.{HasFollowed}
 use Rattle.lset_replay.proofs.Following.{Follows}
+use Rattle.lset_replay.proofs.KeyChanges.{HoldsKeys}
 use Rattle.lset_replay.proofs.Ready.{follows}
 
 -- what the run of these events shows: its log, and the contents and counts of its worlds
@@ -28,13 +30,25 @@ shown T n q events = record {
   counts = counts_of (views T n q (event_at (only_events events)));
 }
 
-module _ (T : Table) (accounts : HasAccount T) (n q : ℕ) (events : List LineEvent) (k : ℕ) (w : WorldState) (r : Recorder)
+-- what is asked of a list: its runs have an account, and keys of `u32`
+pub record TellsKeys (T : Table) : Type 0 where
+  pub account : HasAccount T
+  pub listed : ListedContent T
+
+pub holds_keys : (T : Table) → TellsKeys T → (n q last : ℕ) (es : ℕ → Event) → Run T n q es last
+    → HoldsKeys last (contents_of (views T n q es))
+holds_keys T accounts n q last es run = λ k j below c. (accounts.listed n q last k es run below).low j c
+
+module _ (T : Table) (accounts : TellsKeys T) (n q : ℕ) (events : List LineEvent) (k : ℕ) (w : WorldState) (r : Recorder)
     (h : HasFollowed T n q events k w r) where
   open shown T n q events use {log, contents, counts}
 
   pub account_then : Account n q k log contents counts
-  account_then = accounts n q k (event_at (only_events events)) h.run
+  account_then = accounts.account n q k (event_at (only_events events)) h.run
+
+  pub low_then : HoldsKeys k contents
+  low_then = holds_keys T accounts n q k (event_at (only_events events)) h.run
 
   pub kept_then : Follows n q log contents counts k (trace_of r)
   kept_then = subst (λ s. Follows n q log contents counts k s) (sym h.trace)
-      (follows n q k log contents counts account_then k (omega arith))
+      (follows n q k log contents counts account_then low_then k (omega arith))

@@ -9,6 +9,10 @@ use Rattle.lset_history.specs.Changes.{is_present, is_present_now, with_change, 
 use Rattle.lset_history.proofs.ChangeLaws.{others_stay, earlier_stays, turns_there, present_past, all_below, all_upto_later, all_upto_change}
 use Rattle.lset_replay.specs.Trace.{MayChange}
 
+-- the contents up to a moment hold keys of `u32` alone
+abbrev pub HoldsKeys : ℕ → Contents → Type 0
+HoldsKeys last contents = (k j : ℕ) → k ≤ last → contents k j → j < 2 ^ 32
+
 -- a test tells whether something holds
 abbrev pub Tells : Bool → Type 0 → Type 0
 Tells b C = (b ≡ true → C) × (b ≡ false → C → ⊥)

@@ -13,6 +13,7 @@ use Rattle.lset_history.proofs.CallSteps.{run_of, calls_of}
 use Rattle.lset_replay.specs.declared.places.Place.{Place}
 use Rattle.lset_replay.specs.Trace.{trace_at, place_at}
 use Rattle.lset_replay.specs.Blocks.{placed_at, block_at, blocks_upto, is_same, StandUpTo}
+use Rattle.lset_replay.proofs.KeyChanges.{HoldsKeys}
 use Rattle.lset_replay.proofs.Following.{Follows, PlaceBy, PlaceOf}
 use Rattle.lset_replay.proofs.Ready.{follows}
 
@@ -128,7 +129,8 @@ module _ (q : ℕ) (contents : Contents) (counts : Counts) where
     }
 
 -- and no call stands after the last moment
-module _ (n q last : ℕ) (log : Log) (contents : Contents) (counts : Counts) (account : Account n q last log contents counts) where
+module _ (n q last : ℕ) (log : Log) (contents : Contents) (counts : Counts) (account : Account n q last log contents counts)
+    (low : HoldsKeys last contents) where
   upto : (x : TracedCall) (changed : Option ℕ) (ended : Option (ℕ × Reply)) (p : Option Place)
       → PlaceBy q contents counts x changed ended p
       → ChangedBy (run_of n q log contents counts) last x.thread x.call x.begun changed
@@ -142,7 +144,7 @@ module _ (n q last : ℕ) (log : Log) (contents : Contents) (counts : Counts) (a
   pub stand_upto : StandUpTo last (trace_at n log last).places
   stand_upto i l =
       let f : Follows n q log contents counts last (trace_at n log last) =
-      follows n q last log contents counts account last (omega arith) in
+      follows n q last log contents counts account low last (omega arith) in
       let count : length (trace_at n log last).places ≡ length (calls_at log last) = f.numbered in
       let t : Traced (run_of n q log contents counts) last (traced_at (calls_at log last) i) =
       all_at (Traced (run_of n q log contents counts) last) (calls_at log last) no_traced i (omega arith)
@@ -154,5 +156,5 @@ module _ (n q last : ℕ) (log : Log) (contents : Contents) (counts : Counts) (a
   pub placement : IsPlacement q last (calls_at log last) contents counts (blocks_upto (trace_at n log last).places last)
   placement =
       let f : Follows n q log contents counts last (trace_at n log last) =
-      follows n q last log contents counts account last (omega arith) in
+      follows n q last log contents counts account low last (omega arith) in
       is_placement q contents counts (calls_at log last) (trace_at n log last).places f.numbered f.placed last

@@ -16,7 +16,6 @@ use Rattle.lset_history.proofs.CallSteps.{run_of, calls_of}
 use Rattle.lset_schedule.specs.Plan.{Plan}
 use Rattle.lset_steps.specs.Steps.{Table}
 use Rattle.lset_steps.specs.Worlds.{WorldState}
-use Rattle.lset_steps.specs.Promises.{HasAccount}
 use Rattle.lset_replay.specs.declared.events.LineEvent.{LineEvent}
 use Rattle.lset_replay.specs.declared.places.Place.{Place}
 use Rattle.lset_replay.specs.declared.recorder.Recorder.{Recorder}
@@ -28,7 +27,7 @@ use Rattle.lset_replay.specs.PlacedReports.{ArePointsOf}
 use Rattle.lset_replay.proofs.EventLists.{as_many}
 use Rattle.lset_replay.proofs.Following.{Follows, PlaceBy, PlaceOf}
 use Rattle.lset_replay.proofs.Ordered.{stands_there}
-use Rattle.lset_replay.proofs.Followed.{shown, account_then, kept_then}
+use Rattle.lset_replay.proofs.Followed.{TellsKeys, shown, account_then, kept_then}
 
 -- a call with a place is known
 pub known_place : (ps : List (Option Place)) (i : ℕ) (p : Place) → place_at ps i ≡ Some p → i < length ps
@@ -120,7 +119,7 @@ module _ (n q last : ℕ) (log : Log) (contents : Contents) (counts : Counts) (a
     }
 
 -- THE POINTS of a run that has been followed
-module _ (T : Table) (accounts : HasAccount T) (n q : ℕ) (events : List LineEvent) (w : WorldState) (r : Recorder)
+module _ (T : Table) (accounts : TellsKeys T) (n q : ℕ) (events : List LineEvent) (w : WorldState) (r : Recorder)
     (h : HasFollowed T n q events (length events) w r) where
   open shown T n q events use {log, contents, counts}
 
@@ -138,7 +137,7 @@ module _ (T : Table) (accounts : HasAccount T) (n q : ℕ) (events : List LineEv
       }
 
 -- those of a schedule's events
-pub points_are_of : (T : Table) (accounts : HasAccount T) (p : Plan) (n q : ℕ) (events : List LineEvent) (w : WorldState)
+pub points_are_of : (T : Table) (accounts : TellsKeys T) (p : Plan) (n q : ℕ) (events : List LineEvent) (w : WorldState)
     (r : Recorder) (order : List Placed) (points : List Point)
     → HasFollowed T n q events (length events) w r → n ≡ p.threads → q ≡ p.quota → events ≡ events_of p
     → ArePointsAt r.places.items order points

@@ -23,20 +23,21 @@ use Rattle.lset_replay.specs.declared.recorder.Recorder.{Recorder}
 use Rattle.lset_replay.specs.Trace.{Trace, open_call_at, trace_at, trace_after, trace_of, MayStep, MayChange}
 use Rattle.lset_replay.proofs.Following.{Follows, IsWatched, follows_beginning}
 use Rattle.lset_history.specs.Changes.{moments_of}
-use Rattle.lset_replay.proofs.KeyChanges.{may_change}
+use Rattle.lset_replay.proofs.KeyChanges.{HoldsKeys, may_change}
 use Rattle.lset_replay.proofs.Stepping.{follows_step}
 
 none_passes : {X : Type 0} (p : X → Bool) (xs : List X) → AllByRecursion (λ x. p x ≡ false) xs → list_any p xs ≡ false
 none_passes p [] h = refl
 none_passes p (x ∷ xs) h = rw (h.0, none_passes p xs h.1) refl
 
-module _ (n q last : ℕ) (log : Log) (contents : Contents) (counts : Counts) (account : Account n q last log contents counts) where
+module _ (n q last : ℕ) (log : Log) (contents : Contents) (counts : Counts) (account : Account n q last log contents counts)
+    (low : HoldsKeys last contents) where
   -- THE TRACE of a run is what it has to be
   entered : (k : ℕ) → k < last → (s : Trace) → (e : Entry) → log k ≡ e → Enters n q log contents counts k e
       → Follows n q log contents counts k s
       → Follows n q log contents counts (suc k) (trace_after (suc k) e s)
   entered k l s (began t call) at en f = follows_beginning n q log contents counts k t call s at en f
-  entered k l s (stepped t change reply) at en f = follows_step n q last log contents counts account k
+  entered k l s (stepped t change reply) at en f = follows_step n q last log contents counts account low k
       (omega arith) l t change reply s at en f
 
   pub follows : (k : ℕ) → k ≤ last → Follows n q log contents counts k (trace_at n log k)

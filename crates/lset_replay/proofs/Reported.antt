@@ -11,7 +11,6 @@ use Rattle.lset_steps.specs.Steps.{Table, Run, event_at}
 use Rattle.lset_steps.specs.Chain.{View}
 use Rattle.lset_steps.specs.Laws.{view_of, views}
 use Rattle.lset_steps.specs.Worlds.{WorldState, IsContent, keys_in}
-use Rattle.lset_steps.specs.Promises.{HasAccount}
 use Rattle.lset_steps.proofs.Segments.{chain_once}
 use Rattle.lset_headline.specs.Headline.{history_of, keys_left, ExplainsRun, RunsAreLinearizable}
 use Rattle.lset_replay.specs.declared.events.LineEvent.{LineEvent}
@@ -21,7 +20,7 @@ use Rattle.lset_report.specs.Report.{ReportValue}
 use Rattle.lset_replay.specs.Reports.{IsReportOf, IsReplay, IsExplained}
 use Rattle.lset_replay.specs.Trace.{Trace}
 use Rattle.lset_replay.specs.Follows.{HasFollowed}
-use Rattle.lset_replay.proofs.Followed.{shown, account_then, kept_then}
+use Rattle.lset_replay.proofs.Followed.{TellsKeys, shown, account_then, low_then, kept_then}
 use Rattle.lset_replay.proofs.Ready.{few_calls}
 use Rattle.lset_replay.proofs.EventLists.{as_many}
 use Rattle.lset_replay.proofs.Ordered.{placement, stand_upto}
@@ -33,7 +32,7 @@ content_once : (v : View) (ks js : List ℕ) → IsContent v ks → IsContent v 
 content_once v ks js a b = a.0.2 ∙ ap (keys_in v) (chain_once v 0 a.0.0 b.0.0 a.0.1 b.0.1) ∙ sym b.0.2
 
 -- THE REPORT of a run that has been followed
-module _ (T : Table) (accounts : HasAccount T) (n q : ℕ) (events : List LineEvent) (k : ℕ) (w : WorldState) (r : Recorder)
+module _ (T : Table) (accounts : TellsKeys T) (n q : ℕ) (events : List LineEvent) (k : ℕ) (w : WorldState) (r : Recorder)
     (h : HasFollowed T n q events k w r) where
   open shown T n q events use {log, contents, counts}
 
@@ -46,13 +45,15 @@ module _ (T : Table) (accounts : HasAccount T) (n q : ℕ) (events : List LineEv
 
   pub places_upto : StandUpTo k r.places.items
   places_upto = subst (λ (s : Trace). StandUpTo k s.places) (sym h.trace)
-      (stand_upto n q k log contents counts (account_then T accounts n q events k w r h))
+      (stand_upto n q k log contents counts (account_then T accounts n q events k w r h)
+      (low_then T accounts n q events k w r h))
 
   pub order_then : IsPlacement q k (calls_at log k) contents counts
       (blocks_upto r.places.items k)
   order_then = subst (λ (s : Trace). IsPlacement q k (calls_at log k) contents
       counts (blocks_upto s.places k)) (sym h.trace)
-      (placement n q k log contents counts (account_then T accounts n q events k w r h))
+      (placement n q k log contents counts (account_then T accounts n q events k w r h)
+      (low_then T accounts n q events k w r h))
 
   report_then : (order : List Placed) (keys : List ℕ) → length (only_events events) ≡ k → order ≡ blocks_upto r.places.items k
       → IsContent (view_of w.threads w.quota w.state) keys → IsReportOf T n q (only_events events) r.history.calls order keys
@@ -66,7 +67,7 @@ module _ (T : Table) (accounts : HasAccount T) (n q : ℕ) (events : List LineEv
         (subst (λ (z : WorldState). IsContent (view_of z.threads z.quota z.state) keys) h.world c);
   }
 
-pub replay_is : (T : Table) (accounts : HasAccount T) (p : Plan) (n q : ℕ) (events : List LineEvent) (w : WorldState) (r : Recorder)
+pub replay_is : (T : Table) (accounts : TellsKeys T) (p : Plan) (n q : ℕ) (events : List LineEvent) (w : WorldState) (r : Recorder)
     (order : List Placed) (keys : List ℕ)
     → HasFollowed T n q events (length events) w r → n ≡ p.threads → q ≡ p.quota → events ≡ events_of p
     → order ≡ blocks_upto r.places.items (length events)

@@ -20,7 +20,7 @@ use Rattle.lset_replay.specs.Trace.{Trace, open_call_at, place_at, number_of, fi
 use Rattle.lset_words.specs.Words.{key_of}
 use Rattle.lset_history.specs.Changes.{IsFirst, is_present, IsBounded}
 use Rattle.lset_history.proofs.Firsts.{first_passing, first_passing_is}
-use Rattle.lset_replay.proofs.KeyChanges.{Tells, changes_by, changed_keys, changed_upto, changed_bounded}
+use Rattle.lset_replay.proofs.KeyChanges.{HoldsKeys, Tells, changes_by, changed_keys, changed_upto, changed_bounded}
 use Rattle.lset_replay.proofs.LeastFits.{fit_least, least_of, Passes, fit_is_first}
 use Rattle.lset_replay.proofs.Following.{IsWatched, Follows, PlaceBy, PlaceOf, change_place, end_place, changed_calls, changed_seats, changed_open, changed_changes, changed_count, changed_other, changed_here, ended_seats, ended_others, ended_seat, ended_count, ended_other, ended_here, ended_changes, last_number_is, calls_are, pick, pick_not, watched_next}
 
@@ -83,7 +83,7 @@ or_nothing : (b : Bool) → b ≡ false → (b || false) ≡ false
 or_nothing b e = rw e refl
 
 module _ (n q last : ℕ) (log : Log) (contents : Contents) (counts : Counts) (account : Account n q last log contents counts)
-    (k : ℕ) (below : k ≤ last) (next : suc k ≤ last)
+    (low : HoldsKeys last contents) (k : ℕ) (below : k ≤ last) (next : suc k ≤ last)
     (t : ℕ) (ch : Option Change) (r : Option Reply) (s : Trace)
     (at : log k ≡ stepped t ch r) (en : Enters n q log contents counts k (stepped t ch r))
     (f : Follows n q log contents counts k s) where
@@ -160,7 +160,7 @@ module _ (n q last : ℕ) (log : Log) (contents : Contents) (counts : Counts) (a
 
   step_bounded : IsBounded kept.changes
   step_bounded = subst IsBounded (sym kept_changes) (changed_bounded contents k s.changes f.upto f.keys ch en.content
-      (λ j m l c. account.low m j (omega arith) c) f.bounded)
+      (λ j m l c. low m j (omega arith) c) f.bounded)
 
   in_seats : (u : ℕ) → u < n → u < length s.under_way
   in_seats u l = let b : length s.under_way ≡ n = f.seats in omega arith

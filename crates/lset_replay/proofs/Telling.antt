@@ -18,7 +18,6 @@ use Rattle.lset_steps.specs.declared.world.StepFault.{StepFault}
 use Rattle.lset_steps.specs.Steps.{Table, Run, Enabled, state_at, event_at, entry_of, told, local_of, seen_next}
 use Rattle.lset_steps.specs.Laws.{Lawful, views, view_of}
 use Rattle.lset_steps.specs.Worlds.{WorldState, AreChainKeys, Refused, thread_of}
-use Rattle.lset_steps.specs.Promises.{HasAccount}
 use Rattle.lset_replay.specs.declared.events.LineEvent.{LineEvent}
 use Rattle.lset_replay.specs.declared.places.OpenCall.{OpenCall}
 use Rattle.lset_replay.specs.declared.places.Place.{Place}
@@ -37,7 +36,7 @@ use Rattle.lset_replay.specs.Tracer.{deed_ahead, open_number_of, end_there, end_
 use Rattle.lset_replay.proofs.EventSteps.{ready, followed, stopped}
 use Rattle.lset_replay.proofs.Following.{Follows, IsWatched, PlaceBy, PlaceOf, calls_are}
 use Rattle.lset_replay.proofs.Ordered.{moment_of, stands_there}
-use Rattle.lset_replay.proofs.Followed.{shown, account_then, kept_then}
+use Rattle.lset_replay.proofs.Followed.{TellsKeys, shown, account_then, kept_then}
 use Rattle.lset_replay.proofs.Reported.{few_places}
 
 -- a call that has ended has a place
@@ -49,7 +48,7 @@ has_place q contents counts x None None end p e h = absurd (cc)
 has_place q contents counts x None (Some d) end p e h = (record { moment = h.0; reply = d.1; change = false }, h.1)
 
 -- ONE EVENT, from moment k to the next
-module _ (T : Table) (accounts : HasAccount T) (n q : ℕ) (events : List LineEvent) (chains : Bool) (k : ℕ) (w w' : WorldState)
+module _ (T : Table) (accounts : TellsKeys T) (n q : ℕ) (events : List LineEvent) (chains : Bool) (k : ℕ) (w w' : WorldState)
     (r r' : Recorder) (kept kept' : List ChainKey) (next : LineEvent) (x : TracedEvent)
     (h : HasFollowed T n q events k w r) (h' : HasFollowed T n q events (suc k) w' r')
     (made : MadeEvent T next (suc k) chains w r kept x w' r' kept')
@@ -183,7 +182,7 @@ module _ (T : Table) (accounts : HasAccount T) (n q : ℕ) (events : List LineEv
   }
 
 -- AND ALL so far
-module _ (T : Table) (accounts : HasAccount T) (n q : ℕ) (events : List LineEvent) (chains : Bool) (k : ℕ) (w : WorldState)
+module _ (T : Table) (accounts : TellsKeys T) (n q : ℕ) (events : List LineEvent) (chains : Bool) (k : ℕ) (w : WorldState)
     (r : Recorder) (kept : List ChainKey) (traced : List TracedEvent)
     (h : HasTraced T n q events chains k w r kept traced) where
   pub seats : Lawful T → length w.state.locals ≡ w.threads

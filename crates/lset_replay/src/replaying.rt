@@ -17,7 +17,7 @@ use lset_headline::runs_are_linearizable;
 use lset_lists::{List, Task, on_list};
 use lset_report::Report;
 use lset_schedule::{Line, Schedule};
-use lset_steps::laws::has_account;
+use lset_steps::laws::{has_account, listed_content};
 use lset_steps::{Machine, StepFault, World};
 use lset_words::layout;
 use std::alloc::Global;
@@ -45,6 +45,7 @@ fn follow_all<M: Machine>(
         world.new recorder.new }
 {
     has_account::<M>();
+    listed_content::<M>();
     let mut moment = 0u32;
     for (index, line) in lines.iter().enumerate() {
         let (next, times) = event_of(FIRST_EVENT_LINE + index as u64, *line);
@@ -66,6 +67,7 @@ fn replay_on<M: Machine>(alloc: Global, schedule: &Schedule) -> Result<PlacedRep
     ensures explained { IfOk result (λ r. IsExplained (report.view r.report)) }
 {
     has_account::<M>();
+    listed_content::<M>();
     runs_are_linearizable::<M>();
     let Ok(layout) = layout(schedule.threads, schedule.quota) else {
         unreachable!();

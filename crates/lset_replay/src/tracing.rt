@@ -27,7 +27,7 @@ use crate::recorder::Recorder;
 use crate::{CallEnd, Deed, Trace, TracedEvent};
 use lset_lists::{List, Task, on_list};
 use lset_schedule::{Line, Schedule};
-use lset_steps::laws::has_account;
+use lset_steps::laws::{has_account, listed_content};
 use lset_steps::{Action, ChainKey, Event, Local, Machine, StepFault, World};
 use lset_words::{Reply, layout};
 use std::alloc::{AllocError, Global};
@@ -211,6 +211,7 @@ fn trace_lines<M: Machine>(
         (events_from first_event_line lines.now) chains traced.new.items refused) }
 {
     has_account::<M>();
+    listed_content::<M>();
     let mut moment = 0u32;
     for (index, line) in lines.iter().enumerate() {
         let (next, times) = event_of(FIRST_EVENT_LINE + index as u64, *line);

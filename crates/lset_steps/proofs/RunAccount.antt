@@ -15,7 +15,6 @@ use Rattle.lset_steps.specs.declared.Event.TheVariants.{Begin, Go}
 use Rattle.lset_steps.specs.Steps.{Table, State, Run, Enabled, state_at, after, told, local_of, seen_next, idle, entry_of, log_of}
 use Rattle.lset_steps.specs.Chain.{View, view, InContent, Published, contents_of, counts_of}
 use Rattle.lset_steps.proofs.QuietMove.{in_chain_published}
-use Rattle.lset_steps.proofs.RunContents.{content_at}
 use Rattle.lset_steps.specs.Laws.{Lawful, StateLaws, StepAt, views, view_of, used_in, Answered}
 
 -- the contents and the counts at the moments of a run
@@ -210,6 +209,5 @@ module _ (T : Table) (law : Lawful T) (n q : ℕ) (es : ℕ → Event) (last : �
   account_of = record {
     empty = empty_at;
     none_yet = opened;
-    low = λ k j l c. (content_at T n q last k es law r l).low j c;
     enters = λ k l. enters_at k l (es k) refl (r.enabled k l);
   }

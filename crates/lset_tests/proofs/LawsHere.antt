@@ -73,7 +73,7 @@ none_below : (i : ℕ) → i < 0 → ⊥
 none_below i l = absurd (omega arith)
 
 one_account : Account 1 4 1 one_begin (contents_of_lists no_keys) no_adds
-one_account = record { empty = λ k x. none_below x.0 x.1; none_yet = λ t l. refl; low = λ k j l x. absurd (none_below x.0 x.1); enters = one_enters }
+one_account = record { empty = λ k x. none_below x.0 x.1; none_yet = λ t l. refl; enters = one_enters }
 
 pub one_call_is_placed : PlacementLinearizes → EveryCallHasAPlace → LogsTellHistories → PlacementIsOneOrder → FitsAreReplies
     → OneCallIsPlaced
@@ -85,5 +85,5 @@ one_call_is_placed linearizes places histories once fits =
       placed = placed.1;
       linearizes = (linearizes 1 4 1 one_begin no_keys no_adds placed.0 one_account placed.1).0;
       alone = λ other o. once 4 1 _ no_keys no_adds other placed.0 o placed.1;
-      fits = (fits 4 0 0 [] (empty_set 1) one_call False (λ j. (λ x. x, λ x. x)) (λ k l. absurd (none_below (k + 1) l)) refl).1 (refl, refl);
+      fits = (fits 4 0 0 [] (empty_set 1) one_call False (λ j. (λ x. x, λ x. x)) tt refl).1 (refl, refl);
     }

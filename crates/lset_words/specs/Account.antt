@@ -1,6 +1,6 @@
 -- What a run shows of its set, apart from any machine: the contents at its moments, which replies fit them, and what each
 -- event does.
-use Rattle.std.specs.Prelude.{◌≡◌, ◌≢◌, ℕ, suc, ◌+◌, ◌^◌, ◌<◌, ◌≤◌, Bool, true, false, Option, Some, None}
+use Rattle.std.specs.Prelude.{◌≡◌, ◌≢◌, ℕ, suc, ◌+◌, ◌<◌, ◌≤◌, Bool, true, false, Option, Some, None}
 use Rattle.lset_words.specs.declared.Call.{Call}
 use Rattle.lset_words.specs.declared.Call.TheVariants.{Add, Remove, Contains, Ceiling}
 use Rattle.lset_words.specs.declared.Reply.{Reply}
@@ -117,6 +117,4 @@ Enters threads quota log contents counts k (stepped t change reply) = Steps thre
 pub record Account (threads quota last : ℕ) (log : Log) (contents : Contents) (counts : Counts) : Type 0 where
   pub empty : (k : ℕ) → contents 0 k → ⊥
   pub none_yet : (t : ℕ) → t < threads → counts 0 t ≡ 0
-  -- keys are those of `u32`,
-  pub low : (k j : ℕ) → k ≤ last → contents k j → j < 2 ^ 32
   pub enters : (k : ℕ) → k < last → Enters threads quota log contents counts k (log k)
