@@ -17,9 +17,7 @@ use Rattle.lset_history.proofs.OpenCalls.{OpenNumber, open_number, last_number, 
 use Rattle.lset_replay.specs.declared.places.OpenCall.{OpenCall}
 use Rattle.lset_replay.specs.declared.places.Place.{Place}
 use Rattle.lset_replay.specs.Trace.{Trace, open_call_at, place_at, number_of, fit, fit_by, changed_at, read_at, settled, changed_on, ended_on}
-use Rattle.lset_words.specs.Words.{key_of}
 use Rattle.lset_history.specs.Changes.{IsFirst, is_present, IsBounded}
-use Rattle.lset_history.proofs.Firsts.{first_passing, first_passing_is}
 use Rattle.lset_replay.proofs.KeyChanges.{HoldsKeys, Tells, changes_by, changed_keys, changed_upto, changed_bounded}
 use Rattle.lset_replay.proofs.LeastFits.{fit_least, least_of, Passes, fit_is_first}
 use Rattle.lset_replay.proofs.Following.{IsWatched, Follows, PlaceBy, PlaceOf, change_place, end_place, changed_calls, changed_seats, changed_open, changed_changes, changed_count, changed_other, changed_here, ended_seats, ended_others, ended_seat, ended_count, ended_other, ended_here, ended_changes, last_number_is, calls_are, pick, pick_not, watched_next}

@@ -5,7 +5,6 @@ use Rattle.lset_words.specs.declared.Call.TheVariants as call
 use Rattle.lset_words.specs.declared.Reply.{Reply}
 use Rattle.lset_words.specs.declared.Reply.TheVariants as reply
 use Rattle.lset_words.specs.declared.history.CallRecord.{CallRecord}
-use Rattle.lset_words.specs.Words.{key_of}
 use Rattle.lset_words.specs.History.{call_numbered}
 use Rattle.lset_words.specs.Log.{Log, Entry, Change}
 use Rattle.lset_words.specs.Log.Entry.{began, stepped}

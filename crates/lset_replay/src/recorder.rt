@@ -1,5 +1,7 @@
-ghost use Rattle.std.specs.Prelude.{◌≡◌, ◌<◌, ◌≤◌, ℕ, [], ◌∷◌, ◌++◌, length, not, IfOk, OnOk, OnErr, Some, None, slice_set, IsSomeAnd};
+ghost use Rattle.std.specs.Prelude.{◌≡◌, ◌≢◌, ◌<◌, ◌≤◌, ℕ, [], ◌∷◌, ◌++◌, length, not, IfOk, OnOk, OnErr, Some, None, slice_set, IsSomeAnd};
 ghost use Rattle.lset_words.specs.Words.{IsWithin};
+ghost use Rattle.lset_words.specs.declared.Key.{Key};
+ghost use Rattle.lset_words.specs.declared.Call.TheVariants.{Ceiling};
 ghost use Rattle.lset_history.specs.History.{MayBegin, with_begun, with_ended};
 ghost use Rattle.lset_history.specs.Changes.{moments_of, IsLaterThanAll, is_present_now, with_change};
 ghost use Rattle.lset_replay.specs.Trace.{
@@ -65,11 +67,23 @@ impl Recorder {
         requires { made.begun ≤ last }
         ensures { result ≡ fit (moments_of self.now.changes) made reply last }
     {
-        if let Call::Ceiling(key) = made.call {
-            return self
-                .changes
-                .first_ceiling(key.0, found_in(reply), made.begun, last);
+        match made.call {
+            Call::Ceiling(key) => {
+                self.changes
+                    .first_ceiling(key.0, found_in(reply), made.begun, last)
+            }
+            Call::Add(_) | Call::Remove(_) | Call::Contains(_) => {
+                self.fit_by_key(made, reply, last)
+            }
         }
+    }
+
+    /// The same of a call whose reply speaks of its own key alone.
+    fn fit_by_key(&self, made: OpenCall, reply: Reply, last: u32) -> Option<u32>
+        requires span { made.begun ≤ last }
+        requires own_key { (k : Key) → made.call ≢ Ceiling k }
+        ensures { result ≡ fit (moments_of self.now.changes) made reply last }
+    {
         let (first, _looked) = self.changes.first(
             made.call.key().0,
             needs_key(made.call, reply),
