@@ -1,1 +1,2 @@
 mod LawsHere
+mod ToldHere

@@ -2,6 +2,7 @@
 ghost use Rattle.std.specs.Prelude.{◌≡◌, ◌≢◌, ◌<◌, ◌^◌, IfOk, IsTrue, Ok, Some, length};
 ghost use Rattle.lset_schedule.specs.Plan.{IsSchedule, view};
 ghost use Rattle.lset_schedule.specs.ScheduleReading.{reading};
+ghost use Rattle.lset_text.specs.Headers.{IsHeader};
 ghost use Rattle.lset_steps.specs.Steps.{event_at};
 ghost use Rattle.lset_steps.specs.Worlds.{IsRun};
 ghost use Rattle.lset_optimistic.specs.Optimistic.{optimistic};
@@ -21,7 +22,10 @@ use lset_steps::laws::{
     unmarked_nodes_in_chain, walk_was_in_chain,
 };
 use lset_steps::{Event, Machine, OpenReads, World};
-use lset_text::{kind_word, number, numbers_read_back, read_kind, words_read_back};
+use lset_text::{
+    Header, headers_read_back, kind_word, number, numbers_read_back, put_header, read_header,
+    read_kind, words_read_back,
+};
 use lset_words::{Call, Key, Kind, key_index, layout, link_index, words_are_apart};
 use std::alloc::{AllocError, Global};
 use std::test::Fail;
@@ -124,6 +128,20 @@ fn number_again(alloc: Global, value: u32) -> Result<Option<u32>, AllocError>
     Ok(number(text.as_bytes(), 0, u32::MAX))
 }
 
+/// The header that is read of the lines that are written of one.
+fn header_again(alloc: Global, header: Header) -> Result<Option<Header>, AllocError>
+    requires { IsHeader header }
+    ensures { IfOk result (λ again. again ≡ Some header) }
+{
+    headers_read_back();
+    let mut text = String::new(alloc);
+    put_header(&mut text, "title", header)?;
+    match read_header(b"title", text.as_bytes()) {
+        Ok((again, _rest)) => Ok(Some(again)),
+        Err(_) => Ok(None),
+    }
+}
+
 /// The text of a schedule is read as the schedule.
 fn text_of(alloc: Global, schedule: &Schedule) -> Result<Vec<u8>, AllocError>
     requires { IsSchedule (view schedule.now) }
@@ -145,6 +163,12 @@ fn are_apart(node: u64, other: u64) -> bool
 fn the_laws_of_texts_and_words_hold_of_a_value(rt: HostRuntime) -> Result<(), Fail> {
     assert_eq!(rt; kind_again(Kind::LockFree), Some(Kind::LockFree));
     assert_eq!(rt; number_again(rt.alloc(), u32::MAX)?, Some(u32::MAX));
+    let header = Header {
+        kind: Kind::Fine,
+        threads: 64,
+        quota: 0,
+    };
+    assert_eq!(rt; header_again(rt.alloc(), header)?, Some(header));
     let text = b"listset-schedule 1\nlist coarse\nthreads 1\nquota 4\nbegin 0 add 5\ngo 0 7\n";
     let schedule = read_schedule(rt.alloc(), text)?;
     assert_eq!(rt; text_of(rt.alloc(), &schedule)?.as_slice(), text.as_slice());

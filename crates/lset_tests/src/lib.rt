@@ -36,6 +36,10 @@ mod schedule;
 #[cfg(test)]
 mod text;
 #[cfg(test)]
+mod told;
+#[cfg(test)]
 mod words;
 #[cfg(test)]
 mod worlds;
+#[cfg(test)]
+mod wrong_tables;
