@@ -4,7 +4,7 @@ use Rattle.std.specs.Fmt.{decimal}
 use Rattle.std.specs.List.{flat_map}
 use Rattle.std.specs.Str.{bytes_eq}
 use Rattle.lset_words.specs.declared.Key.{Key}
-use Rattle.lset_words.specs.declared.Call.TheVariants.{Add, Remove, Contains}
+use Rattle.lset_words.specs.declared.Call.TheVariants.{Add, Remove, Contains, Ceiling}
 use Rattle.lset_words.specs.declared.Reply.{Reply}
 use Rattle.lset_words.specs.declared.Reply.TheVariants as reply
 use Rattle.lset_text.specs.Parts.{cut_at, ended}
@@ -23,7 +23,8 @@ call_in word key =
     if bytes_eq word (codes "ADD") then request.Call (Add key)
     else (if bytes_eq word (codes "REMOVE") then request.Call (Remove key)
     else (if bytes_eq word (codes "CONTAINS") then request.Call (Contains key)
-    else request.Bad))
+    else (if bytes_eq word (codes "CEILING") then request.Call (Ceiling key)
+    else request.Bad)))
 
 abbrev pub call_with : List ℕ → Option ℕ → Request
 call_with word None = request.Bad

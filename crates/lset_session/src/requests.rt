@@ -8,7 +8,7 @@ use lset_words::{Call, Key};
 /// What a line of a session asks for.
 #[derive(Clone, Copy, Debug, PartialEq, Eq)]
 pub enum Request {
-    /// `ADD k`, `REMOVE k` or `CONTAINS k`.
+    /// `ADD k`, `REMOVE k`, `CONTAINS k` or `CEILING k`.
     Call(Call),
     /// `QUIT`.
     Quit,
@@ -16,7 +16,7 @@ pub enum Request {
     Bad,
 }
 
-/// The request of a line, without its newline: `ADD`, `REMOVE` or `CONTAINS`, one space and a key from 0 to
+/// The request of a line, without its newline: `ADD`, `REMOVE`, `CONTAINS` or `CEILING`, one space and a key from 0 to
 /// 4,294,967,295 in decimal without leading zeros, or `QUIT`. Any other line is bad. (This project's own format.)
 #[tactic(auto, unfolding(crate::specs::SessionText::request_of))]
 pub fn read_request(line: &[u8]) -> Request
@@ -40,6 +40,8 @@ pub fn read_request(line: &[u8]) -> Request
         Request::Call(Call::Remove(Key(key)))
     } else if word == b"CONTAINS".as_slice() {
         Request::Call(Call::Contains(Key(key)))
+    } else if word == b"CEILING".as_slice() {
+        Request::Call(Call::Ceiling(Key(key)))
     } else {
         Request::Bad
     }

@@ -222,11 +222,11 @@ fn bytes_in<R: Wait, W: Sink, S: SetCalls>(
 }
 
 /// Answers the lines of `reader` on `writer`, and makes their calls on `seat`, which is a seat of `set`. The requests are
-/// `ADD k`, `REMOVE k`, `CONTAINS k` and `QUIT`, the answers `TRUE`, `FALSE`, `FULL`, `BYE`, and `BAD` to any other line;
-/// requests and answers end with a newline. The session ends with `QUIT`, where no byte is left, with `LONG` as the 65th
-/// byte of a line comes, with `LIMIT` after the 1,000,000th line unless it was `QUIT`, or where a read or a write fails.
-/// Each answer is handed to `writer` whole before the next call is made. It may wait as its set, its reader and its writer
-/// do, and takes no memory. (This project's own line protocol.)
+/// `ADD k`, `REMOVE k`, `CONTAINS k`, `CEILING k` and `QUIT`, the answers `TRUE`, `FALSE`, `FULL`, `AT x` (the key x),
+/// `NONE` (no key), `BYE`, and `BAD` to any other line; requests and answers end with a newline. The session ends with
+/// `QUIT`, where no byte is left, with `LONG` as the 65th byte of a line comes, with `LIMIT` after the 1,000,000th line
+/// unless it was `QUIT`, or where a read or a write fails. Each answer is handed to `writer` whole before the next call is
+/// made. It may wait as its set, its reader and its writer do, and takes no memory. (This project's own line protocol.)
 pub fn session<R: Wait, I: Source, O: Sink, S: SetCalls>(
     rt: &R,
     reader: &mut I,

@@ -1,4 +1,4 @@
-use crate::opened::{ANSWERS, LINES, held, one_seat};
+use crate::opened::{ANSWERS, CEILINGS, LINES, held, one_seat};
 use lset_server::failing::{FailingReader, FailingWriter};
 use lset_server::{Device, Ended, Why, session};
 use std::alloc::Global;
@@ -6,13 +6,20 @@ use std::process::Abort;
 use std::sync::Wait;
 use std::test::Fail;
 
-/// The write with this number fails.
-fn write_fails<R: Wait + Abort>(rt: &R, alloc: Global, at: u64, calls: u64) -> Result<(), Fail> {
+/// Of the answers to these lines the write with this number fails.
+fn write_fails<R: Wait + Abort>(
+    rt: &R,
+    alloc: Global,
+    lines: &[u8],
+    answers: &[u8],
+    at: u64,
+    calls: u64,
+) -> Result<(), Fail> {
     let (set, mut seat) = one_seat(alloc)?;
     let mut writer = FailingWriter::new(alloc, at);
     let ended = session(
         rt,
-        &mut Device::new(LINES),
+        &mut Device::new(lines),
         &mut Device::new(&mut writer),
         &set,
         &mut seat,
@@ -25,7 +32,7 @@ fn write_fails<R: Wait + Abort>(rt: &R, alloc: Global, at: u64, calls: u64) -> R
         }
     );
     assert_eq!(rt; writer.text().len() as u64 + 1, at);
-    assert!(rt; ANSWERS.starts_with(writer.text()));
+    assert!(rt; answers.starts_with(writer.text()));
     assert_eq!(rt; writer.writes(), at);
     Ok(())
 }
@@ -34,7 +41,20 @@ fn write_fails<R: Wait + Abort>(rt: &R, alloc: Global, at: u64, calls: u64) -> R
 fn a_write_that_fails_is_the_last(rt: HostRuntime) -> Result<(), Fail> {
     for (from, to, calls) in [(1u64, 5u64, 1u64), (6, 11, 2), (12, 20, 3), (21, 29, 4)] {
         for at in from..=to {
-            write_fails(&rt, rt.alloc(), at, calls)?;
+            write_fails(&rt, rt.alloc(), LINES, ANSWERS, at, calls)?;
+        }
+    }
+    Ok(())
+}
+
+/// The longest answer, between two others.
+#[test]
+fn a_ceiling_is_written_up_to_the_write_that_fails(rt: HostRuntime) -> Result<(), Fail> {
+    let lines = b"ADD 4294967295\nCEILING 0\nQUIT\n".as_slice();
+    let answers = b"TRUE\nAT 4294967295\nBYE\n".as_slice();
+    for (from, to, calls) in [(1u64, 5u64, 1u64), (6, 19, 2), (20, 23, 2)] {
+        for at in from..=to {
+            write_fails(&rt, rt.alloc(), lines, answers, at, calls)?;
         }
     }
     Ok(())
@@ -44,11 +64,12 @@ fn a_write_that_fails_is_the_last(rt: HostRuntime) -> Result<(), Fail> {
 fn read_fails<R: Wait + Abort>(
     rt: &R,
     alloc: Global,
+    lines: &[u8],
     at: u64,
     answers: &[u8],
     calls: u64,
 ) -> Result<(), Fail> {
-    let mut reader = FailingReader::new(LINES, at);
+    let mut reader = FailingReader::new(lines, at);
     let (written, ended) = held(rt, alloc, &mut Device::new(&mut reader))?;
     assert_eq!(rt;
         ended,
@@ -74,7 +95,23 @@ fn a_read_that_fails_is_the_last(rt: HostRuntime) -> Result<(), Fail> {
     ];
     for (from, to, answers, calls) in rows {
         for at in from..=to {
-            read_fails(&rt, rt.alloc(), at, answers, calls)?;
+            read_fails(&rt, rt.alloc(), LINES, at, answers, calls)?;
+        }
+    }
+    Ok(())
+}
+
+#[test]
+fn a_ceiling_is_made_where_its_line_has_ended(rt: HostRuntime) -> Result<(), Fail> {
+    let rows: [(u64, u64, &[u8], u64); 4] = [
+        (1, 10, b"", 0),
+        (11, 16, b"NONE\n", 1),
+        (17, 26, b"NONE\nTRUE\n", 2),
+        (27, 31, b"NONE\nTRUE\nAT 9\n", 3),
+    ];
+    for (from, to, answers, calls) in rows {
+        for at in from..=to {
+            read_fails(&rt, rt.alloc(), CEILINGS, at, answers, calls)?;
         }
     }
     Ok(())

@@ -15,6 +15,11 @@ pub const LINES: &[u8] = b"ADD 7\nADD 7\nCONTAINS 7\nMOVE 7\nREMOVE 7\nQUIT\n";
 
 pub const ANSWERS: &[u8] = b"TRUE\nFALSE\nTRUE\nBAD\nTRUE\nBYE\n";
 
+/// Lines that ask for the least key at or above 7, before and after a key is added, and their answers.
+pub const CEILINGS: &[u8] = b"CEILING 7\nADD 9\nCEILING 7\nQUIT\n";
+
+pub const FOUND: &[u8] = b"NONE\nTRUE\nAT 9\nBYE\n";
+
 /// A set with a quota of 4 that was just opened, and its seats.
 pub fn opened(alloc: Global, seats: u32) -> Result<(Set, Vec<Seat<LazyList>>), OpenFault>
     ensures { IfOk result (λ r. All (λ s. s.set ≡ r.0) r.1.items) }

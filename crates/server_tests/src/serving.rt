@@ -1,5 +1,5 @@
 use crate::clients::{asks, leaves, meets};
-use crate::opened::{ANSWERS, LINES, opened};
+use crate::opened::{ANSWERS, CEILINGS, FOUND, LINES, opened};
 use lset_server::{ServeCause, Served, serve};
 use std::net::TcpListener;
 use std::process::Abort;
@@ -106,6 +106,32 @@ fn a_client_that_leaves_ends_its_session_alone(rt: HostRuntime) -> Result<(), Fa
     assert!(rt; asked);
     match served {
         Ok(served) => is_served(&rt, &served, 2, 2, &[7]),
+        Err(_) => Err(Fail::new("the sessions are not served")),
+    }
+}
+
+#[test]
+fn a_ceiling_finds_the_key_of_another_session(rt: HostRuntime) -> Result<(), Fail> {
+    let alloc = rt.alloc();
+    let listener = TcpListener::bind(&rt, "127.0.0.1:0")?;
+    let port = listener.local_addr()?.port();
+    let (set, seats) = opened(alloc, 1)?;
+    let (served, asked) = thread::join(
+        &rt,
+        || serve(&rt, alloc, listener, set, seats, 2),
+        || {
+            asks(&rt, port, CEILINGS, FOUND)
+                && asks(
+                    &rt,
+                    port,
+                    b"CEILING 9\nCEILING 10\nQUIT\n",
+                    b"AT 9\nNONE\nBYE\n",
+                )
+        },
+    );
+    assert!(rt; asked);
+    match served {
+        Ok(served) => is_served(&rt, &served, 2, 5, &[9]),
         Err(_) => Err(Fail::new("the sessions are not served")),
     }
 }

@@ -1,4 +1,4 @@
-use crate::opened::{ANSWERS, LINES, held, last_seat, opened};
+use crate::opened::{ANSWERS, CEILINGS, FOUND, LINES, held, last_seat, opened};
 use lset_server::failing::FailingReader;
 use lset_server::{Device, Ended, Request, Why, read_request, session};
 use lset_words::{Call, Key, Reply};
@@ -46,6 +46,27 @@ fn lines_are_answered(rt: HostRuntime) -> Result<(), Fail> {
 }
 
 #[test]
+fn ceilings_are_answered(rt: HostRuntime) -> Result<(), Fail> {
+    is_answered(&rt, rt.alloc(), CEILINGS, FOUND, Why::Quit, 3)?;
+    is_answered(
+        &rt,
+        rt.alloc(),
+        b"ADD 0\nADD 4294967295\nCEILING 0\nCEILING 1\nCEILING 4294967295\nREMOVE 4294967295\nCEILING 1\n",
+        b"TRUE\nTRUE\nAT 0\nAT 4294967295\nAT 4294967295\nTRUE\nNONE\n",
+        Why::End,
+        7,
+    )?;
+    is_answered(
+        &rt,
+        rt.alloc(),
+        b"ADD 8\nADD 2\nADD 6\nADD 4\nADD 5\nCEILING 5\nCEILING 6\nCEILING 9\nCONTAINS 5\n",
+        b"TRUE\nTRUE\nTRUE\nTRUE\nFULL\nAT 6\nAT 6\nNONE\nFALSE\n",
+        Why::End,
+        9,
+    )
+}
+
+#[test]
 fn other_lines_are_bad(rt: HostRuntime) -> Result<(), Fail> {
     is_answered(
         &rt,
@@ -55,9 +76,21 @@ fn other_lines_are_bad(rt: HostRuntime) -> Result<(), Fail> {
         Why::End,
         0,
     )?;
+    is_answered(
+        &rt,
+        rt.alloc(),
+        b"CEILING 4294967296\nCEILING 07\nceiling 7\nCEILING  7\nCEILING\nCEILING \nCEILING 7 7\nCEILINGS 7\nAT 7\n",
+        b"BAD\nBAD\nBAD\nBAD\nBAD\nBAD\nBAD\nBAD\nBAD\n",
+        Why::End,
+        0,
+    )?;
     assert_eq!(rt;
         read_request(b"CONTAINS 7"),
         Request::Call(Call::Contains(Key(7)))
+    );
+    assert_eq!(rt;
+        read_request(b"CEILING 7"),
+        Request::Call(Call::Ceiling(Key(7)))
     );
     assert_eq!(rt; read_request(b"QUIT"), Request::Quit);
     assert_eq!(rt; read_request(b"ADD 7 7"), Request::Bad);
