@@ -1,2 +1,3 @@
+mod HeadersHere
 mod LawsHere
 mod ToldHere
