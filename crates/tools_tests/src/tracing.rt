@@ -1,8 +1,11 @@
+ghost use Rattle.std.specs.Prelude.{◌≡◌, IsTrue};
+ghost use Rattle.lset_trace.specs.WordTexts.{name_text, word_at};
+
 use super::runs::trace_run;
 use super::traces;
 use lset_examples::{ALL, Example};
 use lset_tools::Answer;
-use lset_trace::traced;
+use lset_trace::{texts_are_apart, traced};
 use std::alloc::Global;
 use std::test::Fail;
 
@@ -116,4 +119,19 @@ fn sixty_four_threads_are_traced(rt: HostRuntime) -> Result<(), Fail> {
     let Answer { text, status } = traced(rt.alloc(), schedule.as_bytes(), false)?;
     assert_eq!(rt; (status, std::str::from_utf8(&text)?), (0, trace.as_str()));
     Ok(())
+}
+
+/// Two indices whose words have one name in a trace are one.
+fn have_one_name(index: u64, other: u64) -> bool
+    requires { name_text (word_at index) ≡ name_text (word_at other) }
+    ensures { IsTrue result }
+{
+    texts_are_apart();
+    index == other
+}
+
+#[test]
+fn a_name_stands_for_one_word(rt: HostRuntime) {
+    assert!(rt; have_one_name(0, 0));
+    assert!(rt; have_one_name(u64::MAX, u64::MAX));
 }
