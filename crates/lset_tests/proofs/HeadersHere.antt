@@ -1,5 +1,5 @@
 -- The law of headers where nothing comes after the lines of one.
-use Rattle.std.proofs.Common.{◌≡◌, ℕ, List, [], ◌++◌, Option, Some, None, Result, Ok, Err, sym, ap, ◌∙◌, append-nil}
+use Rattle.std.proofs.Common.{◌≡◌, ℕ, List, [], Result, Ok, Err, sym, ap, ◌∙◌, append-nil}
 use Rattle.lset_text.specs.declared.headers.Header.{Header}
 use Rattle.lset_text.specs.declared.headers.HeaderFault.{HeaderFault}
 use Rattle.lset_text.specs.Headers.{HeadersReadBack, IsHeader, header_lines, header_of}

@@ -1,11 +1,11 @@
 -- The laws at the last moment of the run that has led to a world.
-use Rattle.std.specs.Prelude.{ℕ, ◌+◌, ◌<◌, zero, suc, [], length, refl}
+use Rattle.std.specs.Prelude.{ℕ, ◌<◌, zero, suc, [], length, refl}
 use Rattle.std.proofs.Common.{arith, sym, subst}
 use Rattle.lset_words.specs.Account.{Account, Enters}
 use Rattle.lset_words.specs.SequentialSet.{empty_set}
 use Rattle.lset_words.specs.declared.Reply.TheVariants.{False}
 use Rattle.lset_history.specs.Laws.{PlacementLinearizes, EveryCallHasAPlace, LogsTellHistories, FitsAreReplies, PlacementIsOneOrder, contents_of_lists}
-use Rattle.lset_steps.specs.Steps.{Table, State, event_at, state_at}
+use Rattle.lset_steps.specs.Steps.{Table, State, event_at}
 use Rattle.lset_steps.specs.Promises.{InRange, SortedChain, UnmarkedNodesInChain, NoLinkIsMarked, LockWords, LockUses, UnlinkedNodesStay, FrozenNodes, SeenInThePast, TrueMeansChange}
 use Rattle.lset_steps.specs.BoundedReads.{BoundedReads, WalkWasInChain}
 use Rattle.lset_steps.specs.Worlds.{IsRun, WorldState}

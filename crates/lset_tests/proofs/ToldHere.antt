@@ -1,5 +1,5 @@
 -- The law of reports and traces at one schedule of a LazyList.
-use Rattle.std.proofs.Common.{◌≡◌, ℕ, Bool, true, false, Option, Some, None, Ok, refl, subst}
+use Rattle.std.proofs.Common.{◌≡◌, false, Option, Some, None, Ok, refl, subst}
 use Rattle.std.specs.Option.{is_some}
 use Rattle.lset_words.specs.declared.Kind.TheVariants.{Lazy}
 use Rattle.lset_lazy.specs.Lazy.{lazy}

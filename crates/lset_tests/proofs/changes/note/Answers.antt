@@ -1,4 +1,4 @@
-use Rattle.std.proofs.Common.{◌≤◌, ◌<◌, arith}
+use Rattle.std.proofs.Common.{◌<◌, arith}
 use Rattle.lset_history.proofs.ChangeLaws.{noted_upto, noted_now}
 use Rattle.lset_tests.proofs.changes.note.Goals as goal
 

@@ -1,4 +1,4 @@
-use Rattle.std.proofs.Common.{◌≡◌, ◌++◌, codes, Some, ap, refl, ◌∙◌}
+use Rattle.std.proofs.Common.{◌++◌, codes, Some, ap, refl, ◌∙◌}
 use Rattle.lset_text.specs.Headers.{header_lines}
 use Rattle.lset_text.specs.Parts.{cut_at, text_of}
 use Rattle.lset_text.proofs.PartLaws.{Lacks-from_test}
