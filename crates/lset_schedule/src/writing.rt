@@ -30,7 +30,8 @@ fn put_line(out: &mut String, line: &Line) -> Result<(), AllocError>
     Ok(())
 }
 
-/// The text of a schedule, the only one that is read as this schedule. The only error is want of memory.
+/// The text of a schedule. Of one that `read_schedule` gives it is the only text that is read as this schedule;
+/// a schedule with a ceiling has none that is read. The only error is want of memory.
 pub fn write_schedule(alloc: Global, schedule: &Schedule) -> Result<Vec<u8>, AllocError>
     ensures { IfOk result (λ v. v.items ≡ schedule_text (view schedule.now)) }
 {
