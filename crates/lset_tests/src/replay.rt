@@ -2,6 +2,7 @@ use lset_history::check_order;
 use lset_replay::*;
 use lset_report::*;
 use lset_schedule::{read_schedule, write_schedule};
+use std::alloc::Global;
 use std::test::Fail;
 
 /// A schedule and the report of its replay, as texts without their titles, which differ: the header that they share, the
@@ -279,6 +280,26 @@ const ONE_SLOT: Example = Example {
         end\n",
 };
 
+/// The text that is written of the schedule of a text.
+fn schedule_again(alloc: Global, text: &[u8]) -> Result<Vec<u8>, Fail> {
+    let schedule = read_schedule(alloc, text)?;
+    Ok(write_schedule(alloc, &schedule)?)
+}
+
+/// The text of the report of a text's schedule, whose order explains its history and leaves its keys.
+fn reported(alloc: Global, text: &[u8]) -> Result<Vec<u8>, Fail> {
+    let schedule = read_schedule(alloc, text)?;
+    let report = replay(alloc, &schedule)?;
+    check_order(alloc, &report.history, &report.order, &report.keys)?;
+    Ok(write_report(alloc, &report)?)
+}
+
+/// The text that is written of the report of a text.
+fn report_again(alloc: Global, text: &[u8]) -> Result<Vec<u8>, Fail> {
+    let report = read_report(alloc, text)?;
+    Ok(write_report(alloc, &report)?)
+}
+
 #[test]
 fn schedules_and_their_reports(rt: HostRuntime) -> Result<(), Fail> {
     let examples = [
@@ -314,17 +335,12 @@ fn schedules_and_their_reports(rt: HostRuntime) -> Result<(), Fail> {
             report: lines,
         } = example;
         let text = format!(in rt.alloc(); "listset-schedule 1\n{header}{events}")?;
-        let schedule = read_schedule(rt.alloc(), text.as_bytes())?;
-        let again = write_schedule(rt.alloc(), &schedule)?;
+        let again = schedule_again(rt.alloc(), text.as_bytes())?;
         assert_eq!(rt; again.as_slice(), text.as_bytes());
-        let report = replay(rt.alloc(), &schedule)?;
-        let checked = check_order(rt.alloc(), &report.history, &report.order, &report.keys);
-        assert_eq!(rt; checked, Ok(()));
         let want = format!(in rt.alloc(); "listset-report 1\n{header}{lines}")?;
-        let written = write_report(rt.alloc(), &report)?;
+        let written = reported(rt.alloc(), text.as_bytes())?;
         assert_eq!(rt; written.as_slice(), want.as_bytes(), "{text}");
-        let report = read_report(rt.alloc(), want.as_bytes())?;
-        let again = write_report(rt.alloc(), &report)?;
+        let again = report_again(rt.alloc(), want.as_bytes())?;
         assert_eq!(rt; again.as_slice(), want.as_bytes());
     }
     Ok(())
@@ -344,21 +360,36 @@ fn the_largest_table(rt: HostRuntime) -> Result<(), Fail> {
     Ok(())
 }
 
-/// Ten thousand events: 1,428 adds to a lock-free list, each of a key below all others, which takes 6 steps,
-/// and one that finds its thread without a slot after 3.
-#[test]
-fn ten_thousand_events(rt: HostRuntime) -> Result<(), Fail> {
-    let header = "list lock-free\nthreads 1\nquota 1428\n";
-    let mut text = format!(in rt.alloc(); "listset-schedule 1\n{header}")?;
-    let mut want = format!(in rt.alloc(); "listset-report 1\n{header}")?;
+/// What the schedule and the report of ten thousand events share.
+const LONG_HEADER: &str = "list lock-free\nthreads 1\nquota 1428\n";
+
+/// 1,428 adds to a lock-free list, each of a key below all others, which takes 6 steps, and one that finds its thread
+/// without a slot after 3.
+fn long_schedule(alloc: Global) -> Result<String, Fail> {
+    let mut text = format!(in alloc; "listset-schedule 1\n{LONG_HEADER}")?;
+    for call in 0..1428u32 {
+        let key = 2000 - call;
+        writeln!(text, "begin 0 add {key}\ngo 0 6")?;
+    }
+    writeln!(text, "begin 0 add 5\ngo 0 3")?;
+    Ok(text)
+}
+
+/// The lines of its calls.
+fn put_long_calls(want: &mut String) -> Result<(), Fail> {
     for call in 0..1428u32 {
         let key = 2000 - call;
         let begun = 7 * call + 1;
-        writeln!(text, "begin 0 add {key}\ngo 0 6")?;
         writeln!(want, "call {call} 0 add {key} {begun} {} true", begun + 6)?;
     }
-    writeln!(text, "begin 0 add 5\ngo 0 3")?;
     writeln!(want, "call 1428 0 add 5 9997 10000 full")?;
+    Ok(())
+}
+
+/// The report of that schedule.
+fn long_report(alloc: Global) -> Result<String, Fail> {
+    let mut want = format!(in alloc; "listset-report 1\n{LONG_HEADER}")?;
+    put_long_calls(&mut want)?;
     for call in 0..1428u32 {
         writeln!(want, "place {call} true")?;
     }
@@ -367,11 +398,14 @@ fn ten_thousand_events(rt: HostRuntime) -> Result<(), Fail> {
         writeln!(want, "key {key}")?;
     }
     writeln!(want, "end")?;
-    let schedule = read_schedule(rt.alloc(), text.as_bytes())?;
-    let report = replay(rt.alloc(), &schedule)?;
-    let checked = check_order(rt.alloc(), &report.history, &report.order, &report.keys);
-    assert_eq!(rt; checked, Ok(()));
-    let written = write_report(rt.alloc(), &report)?;
+    Ok(want)
+}
+
+#[test]
+fn ten_thousand_events(rt: HostRuntime) -> Result<(), Fail> {
+    let text = long_schedule(rt.alloc())?;
+    let written = reported(rt.alloc(), text.as_bytes())?;
+    let want = long_report(rt.alloc())?;
     assert_eq!(rt; written.as_slice(), want.as_bytes());
     Ok(())
 }

@@ -5,9 +5,9 @@ ghost use Rattle.lset_schedule.specs.Plan.{IsSchedule, view};
 ghost use Rattle.lset_tests.specs.ToldEnds.{TellsItsEnds};
 
 use lset_lazy::LazyList;
-use lset_replay::{PlacedReport, Trace, replay_with_points, trace, traces_tell_reports};
+use lset_replay::{CallEnd, PlacedReport, Trace, replay_with_points, trace, traces_tell_reports};
 use lset_schedule::{Schedule, read_schedule};
-use lset_words::{Kind, Placed, Reply};
+use lset_words::{Kind, Reply};
 use std::alloc::{AllocError, Global};
 use std::test::Fail;
 
@@ -37,33 +37,40 @@ fn ends_in(trace: &Trace) -> usize {
         .count()
 }
 
-/// A `contains` that answers false, though its key is there when it begins and when it ends: what its place says, its end
-/// in the trace says too.
+/// The end of the call with a number, as a trace tells it.
+fn end_of(trace: &Trace, call: u32) -> Option<CallEnd> {
+    trace
+        .events
+        .iter()
+        .find_map(|event| event.end.filter(|end| end.call == call))
+}
+
+/// What stands at a place of the order, as the report and its points tell it.
+fn placed_at(placed: &PlacedReport, place: usize) -> Option<CallEnd> {
+    let made = placed.report.order.get(place)?;
+    let point = placed.points.get(place)?;
+    Some(CallEnd {
+        call: made.call,
+        reply: made.reply,
+        moment: point.moment,
+    })
+}
+
+/// A `contains` that answers false, though its key is there when it begins and when it ends.
+const LAZY_READ: &[u8] =
+    b"listset-schedule 1\nlist lazy\nthreads 2\nquota 4\nbegin 1 add 5\ngo 1 11\n\
+begin 0 contains 5\ngo 0 2\nbegin 1 remove 5\ngo 1 10\nbegin 1 add 5\ngo 1 11\ngo 0 1\n";
+
+/// What the place of that `contains` says, its end in the trace says too.
 #[test]
 fn report_and_trace_tell_the_same_ends(rt: HostRuntime) -> Result<(), Fail> {
-    let text = b"listset-schedule 1\nlist lazy\nthreads 2\nquota 4\nbegin 1 add 5\ngo 1 11\n\
-begin 0 contains 5\ngo 0 2\nbegin 1 remove 5\ngo 1 10\nbegin 1 add 5\ngo 1 11\ngo 0 1\n";
-    let schedule = read_schedule(rt.alloc(), text)?;
+    let schedule = read_schedule(rt.alloc(), LAZY_READ)?;
     assert!(rt; schedule.kind == Kind::Lazy);
     let Some((placed, trace)) = told(rt.alloc(), &schedule)? else {
         return Err(Fail::new("an event is refused"));
     };
     assert_eq!(rt; ends_in(&trace), 4);
-    assert_eq!(rt; placed.report.order.len(), 4);
-    let end = trace
-        .events
-        .iter()
-        .find_map(|event| event.end.filter(|end| end.call == 1));
-    let place = placed.report.order.get(2).copied();
-    let moment = placed.points.get(2).map(|point| point.moment);
-    assert_eq!(rt;
-        place,
-        Some(Placed {
-            call: 1,
-            reply: Reply::False
-        })
-    );
-    assert_eq!(rt; end.map(|end| end.reply), Some(Reply::False));
-    assert_eq!(rt; end.map(|end| end.moment), moment);
+    assert_eq!(rt; end_of(&trace, 1), placed_at(&placed, 2));
+    assert_eq!(rt; end_of(&trace, 1).map(|end| end.reply), Some(Reply::False));
     Ok(())
 }
