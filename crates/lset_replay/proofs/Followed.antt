@@ -35,6 +35,9 @@ pub record TellsKeys (T : Table) : Type 0 where
   pub account : HasAccount T
   pub listed : ListedContent T
 
+pub tells_keys : (T : Table) → HasAccount T → ListedContent T → TellsKeys T
+tells_keys T account listed = record { account = account; listed = listed }
+
 pub holds_keys : (T : Table) → TellsKeys T → (n q last : ℕ) (es : ℕ → Event) → Run T n q es last
     → HoldsKeys last (contents_of (views T n q es))
 holds_keys T accounts n q last es run = λ k j below c. (accounts.listed n q last k es run below).low j c

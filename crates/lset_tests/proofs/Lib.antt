@@ -1,3 +1,4 @@
 mod HeadersHere
 mod LawsHere
+mod OtherTables
 mod ToldHere

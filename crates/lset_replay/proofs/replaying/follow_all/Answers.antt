@@ -3,6 +3,7 @@ use Rattle.lset_schedule.specs.declared.TheConstants.{MOST_EVENTS}
 use Rattle.lset_replay.specs.Events.{events_from}
 use Rattle.lset_replay.specs.Follows.{HasFollowed}
 use Rattle.lset_replay.specs.Trace.{MayFollow, trace_of, trace_after, entry_told}
+use Rattle.lset_replay.proofs.Followed.{tells_keys}
 use Rattle.lset_replay.proofs.EventLists.{comes_next, few_behind, line_done}
 use Rattle.lset_replay.proofs.EventSteps.{ready, followed, stopped, refusal_is}
 use Rattle.lset_replay.proofs.replaying.follow_all.Goals as goal
@@ -20,7 +21,7 @@ follow-requires g c =
     let there = comes_next c.args.lines.now c.loop-index.index c.loop-done._done c.loop-done.moment c.event_of-times.result.1
     c.event_of-times.result.0 c.loop-index-test.true c.event_of-times.ensures c.loop-done-test.true c.loop-done.invariant.count in
     subst (λ m. MayFollow c.loop-done.recorder m c.event_of-times.result.0.event c.in-Ok.told) (sym (add-one c.loop-done.moment))
-    (ready g.M.Machine.table (record { account = c.has_account.ensures; listed = c.listed_content.ensures }) c.args.world.now.threads c.args.world.now.quota (events_from 5 c.args.lines.now)
+    (ready g.M.Machine.table (tells_keys g.M.Machine.table c.has_account.ensures c.listed_content.ensures) c.args.world.now.threads c.args.world.now.quota (events_from 5 c.args.lines.now)
     c.loop-done.moment c.loop-done.world c.loop-done.recorder c.loop-done.invariant.followed c.event_of-times.result.0.event
     there.event_is c.in-Ok.ensures.0 c.in-Ok.told c.in-Ok.ensures.2)
 
@@ -30,7 +31,7 @@ returns-in-Err g c =
     c.event_of-times.result.0 c.loop-index-test.true c.event_of-times.ensures c.loop-done-test.true c.loop-done.invariant.count in
     refusal_is g.M.Machine.table c.args.world.now.threads c.args.world.now.quota (events_from 5 c.args.lines.now)
     c.event_of-times.result.0.line c.in-Err.cause c.refusal.result c.refusal.ensures
-    (stopped g.M.Machine.table (record { account = c.has_account.ensures; listed = c.listed_content.ensures }) c.args.world.now.threads c.args.world.now.quota (events_from 5 c.args.lines.now)
+    (stopped g.M.Machine.table (tells_keys g.M.Machine.table c.has_account.ensures c.listed_content.ensures) c.args.world.now.threads c.args.world.now.quota (events_from 5 c.args.lines.now)
     c.loop-done.moment c.loop-done.world c.loop-done.recorder c.loop-done.invariant.followed c.event_of-times.result.0.event
     there.event_is c.in-Err.cause c.event_of-times.result.0.line there.known there.line_is c.in-Err.ensures.0).0
 
@@ -42,7 +43,7 @@ loop-done-preserved g c =
       count = omega (arith, c.loop-done.invariant.count);
       followed = subst (λ m. HasFollowed g.M.Machine.table c.args.world.now.threads c.args.world.now.quota
           (events_from 5 c.args.lines.now) m c.step.new.self c.follow.new.self) (sym (add-one c.loop-done.moment))
-          (followed g.M.Machine.table (record { account = c.has_account.ensures; listed = c.listed_content.ensures }) c.args.world.now.threads c.args.world.now.quota
+          (followed g.M.Machine.table (tells_keys g.M.Machine.table c.has_account.ensures c.listed_content.ensures) c.args.world.now.threads c.args.world.now.quota
           (events_from 5 c.args.lines.now) c.loop-done.moment c.loop-done.world c.loop-done.recorder c.loop-done.invariant.followed
           c.event_of-times.result.0.event there.event_is
           c.step.new.self c.follow.new.self c.in-Ok.told c.in-Ok.ensures.0 c.in-Ok.ensures.1 c.in-Ok.ensures.2

@@ -8,6 +8,7 @@ use Rattle.lset_schedule.specs.Plan.{view, event_count}
 use Rattle.lset_replay.specs.declared.places.Place.{Place}
 use Rattle.lset_replay.specs.Blocks.{ArePointsAt, StandUpTo, blocks_upto}
 use Rattle.lset_replay.specs.Events.{events_from, events_of}
+use Rattle.lset_replay.proofs.Followed.{tells_keys}
 use Rattle.lset_replay.proofs.EventLists.{length_of_events}
 use Rattle.lset_replay.proofs.Ranks.{stand_upto_later}
 use Rattle.lset_replay.proofs.Pointed.{points_are_of}
@@ -21,7 +22,7 @@ few_events ls lines e few = subst (λ z. z ≤ MOST_EVENTS) (sym (length_of_even
 pub in_order-requires-clause-few : goal.in_order-requires-clause-few
 in_order-requires-clause-few g c =
     let places : length c.follow_all.new.recorder.places.items ≤ length (events_from 5 c.deref.result.now) =
-    few_places g.M.Machine.table (record { account = c.has_account.ensures; listed = c.listed_content.ensures }) c.in_ok-world.world.threads c.in_ok-world.world.quota
+    few_places g.M.Machine.table (tells_keys g.M.Machine.table c.has_account.ensures c.listed_content.ensures) c.in_ok-world.world.threads c.in_ok-world.world.quota
     (events_from 5 c.deref.result.now) (length (events_from 5 c.deref.result.now))
     c.follow_all.new.world c.follow_all.new.recorder c.in_ok-follow_all.ensures in
     let few : length (events_from 5 c.deref.result.now) ≤ MOST_EVENTS =
@@ -34,7 +35,7 @@ pub in_order-requires-clause-inside : goal.in_order-requires-clause-inside
 in_order-requires-clause-inside g c =
     stand_upto_later (length (events_from 5 c.deref.result.now)) MOST_EVENTS c.deref-2.result.now
     (subst (λ xs. StandUpTo (length (events_from 5 c.deref.result.now)) xs) (sym c.deref-2.ensures.value)
-    (places_upto g.M.Machine.table (record { account = c.has_account.ensures; listed = c.listed_content.ensures }) c.in_ok-world.world.threads c.in_ok-world.world.quota
+    (places_upto g.M.Machine.table (tells_keys g.M.Machine.table c.has_account.ensures c.listed_content.ensures) c.in_ok-world.world.threads c.in_ok-world.world.quota
     (events_from 5 c.deref.result.now) (length (events_from 5 c.deref.result.now))
     c.follow_all.new.world c.follow_all.new.recorder c.in_ok-follow_all.ensures))
     (few_events c.deref.result.now c.args.schedule.now.lines.items c.deref.ensures.value c.requires.few)
@@ -47,18 +48,18 @@ returns-clause-replays g c =
     ap (λ (w : WorldState). w.quota) c.in_ok-world.ensures ∙ ap (λ (s : Sizes). s.quota) c.in-Ok.ensures.sizes in
     let events : events_from 5 c.deref.result.now ≡ events_of (view c.args.schedule.now) =
     ap (λ (ls : List Line). events_from 5 ls) c.deref.ensures.value in (
-      replay_is g.M.Machine.table (record { account = c.has_account.ensures; listed = c.listed_content.ensures }) (view c.args.schedule.now) c.in_ok-world.world.threads
+      replay_is g.M.Machine.table (tells_keys g.M.Machine.table c.has_account.ensures c.listed_content.ensures) (view c.args.schedule.now) c.in_ok-world.world.threads
           c.in_ok-world.world.quota (events_from 5 c.deref.result.now)
           c.follow_all.new.world c.follow_all.new.recorder c.in_ok-ordered.ordered.order.items c.in_ok-keys.keys.items
           c.in_ok-follow_all.ensures threads quota events
           (c.in_ok-ordered.ensures.order (length (events_from 5 c.deref.result.now))
           (subst (λ xs. StandUpTo (length (events_from 5 c.deref.result.now)) xs) (sym c.deref-2.ensures.value)
-          (places_upto g.M.Machine.table (record { account = c.has_account.ensures; listed = c.listed_content.ensures }) c.in_ok-world.world.threads c.in_ok-world.world.quota
+          (places_upto g.M.Machine.table (tells_keys g.M.Machine.table c.has_account.ensures c.listed_content.ensures) c.in_ok-world.world.threads c.in_ok-world.world.quota
           (events_from 5 c.deref.result.now) (length (events_from 5 c.deref.result.now))
           c.follow_all.new.world c.follow_all.new.recorder c.in_ok-follow_all.ensures))
           ∙ ap (λ xs. blocks_upto xs (length (events_from 5 c.deref.result.now))) c.deref-2.ensures.value)
           c.in_ok-keys.ensures,
-      points_are_of g.M.Machine.table (record { account = c.has_account.ensures; listed = c.listed_content.ensures }) (view c.args.schedule.now) c.in_ok-world.world.threads
+      points_are_of g.M.Machine.table (tells_keys g.M.Machine.table c.has_account.ensures c.listed_content.ensures) (view c.args.schedule.now) c.in_ok-world.world.threads
           c.in_ok-world.world.quota (events_from 5 c.deref.result.now)
           c.follow_all.new.world c.follow_all.new.recorder c.in_ok-ordered.ordered.order.items
           c.in_ok-ordered.ordered.points.items c.in_ok-follow_all.ensures threads quota events

@@ -8,6 +8,7 @@ use Rattle.lset_replay.specs.Events.{events_from}
 use Rattle.lset_replay.specs.Trace.{MayFollow}
 use Rattle.lset_replay.specs.Tracing.{TellsEvents}
 use Rattle.lset_replay.specs.Tracer.{HasTraced, MadeEvent}
+use Rattle.lset_replay.proofs.Followed.{tells_keys}
 use Rattle.lset_replay.proofs.EventLists.{comes_next, few_behind, line_done}
 use Rattle.lset_replay.proofs.Telling.{few_begun, may_follow, traced_more, told_to_refused}
 use Rattle.lset_replay.proofs.tracing.trace_lines.Goals as goal
@@ -27,7 +28,7 @@ trace_event-requires-clause-few g c =
     let few : c.loop-done.moment < MOST_EVENTS =
     few_behind c.args.lines.now c.loop-done.moment MOST_EVENTS c.event_of-times.result.0 c.requires.few there in
     let begun : length c.loop-done.recorder.places.items ≤ c.loop-done.moment =
-    few_begun g.M.Machine.table (record { account = c.has_account.ensures; listed = c.listed_content.ensures }) c.args.world.now.threads c.args.world.now.quota (events_from 5 c.args.lines.now)
+    few_begun g.M.Machine.table (tells_keys g.M.Machine.table c.has_account.ensures c.listed_content.ensures) c.args.world.now.threads c.args.world.now.quota (events_from 5 c.args.lines.now)
     c.args.chains c.loop-done.moment c.loop-done.world c.loop-done.recorder c.loop-done.kept.items c.loop-done.traced.items
     c.loop-done.invariant.told in
     omega arith
@@ -38,7 +39,7 @@ trace_event-requires-clause-may g c =
     c.event_of-times.result.0 c.loop-index-test.true c.event_of-times.ensures c.loop-done-test.true c.loop-done.invariant.count in
     λ enabled. subst (λ m. MayFollow c.loop-done.recorder m c.event_of-times.result.0.event
     (told g.M.Machine.table c.loop-done.world.state c.event_of-times.result.0.event)) (sym (add-one c.loop-done.moment))
-    (may_follow g.M.Machine.table (record { account = c.has_account.ensures; listed = c.listed_content.ensures }) c.args.world.now.threads c.args.world.now.quota (events_from 5 c.args.lines.now)
+    (may_follow g.M.Machine.table (tells_keys g.M.Machine.table c.has_account.ensures c.listed_content.ensures) c.args.world.now.threads c.args.world.now.quota (events_from 5 c.args.lines.now)
     c.args.chains c.loop-done.moment c.loop-done.world c.loop-done.recorder c.loop-done.kept.items c.loop-done.traced.items
     c.loop-done.invariant.told c.event_of-times.result.0
     there.event_is enabled)
@@ -50,7 +51,7 @@ returns-in-Err-Refused g c =
     let refused = rw c.in-Err-Refused.field-0-is at c.in-Err-Refused.ensures in
     let t : TellsEvents g.M.Machine.table c.args.world.now.threads c.args.world.now.quota (events_from 5 c.args.lines.now) c.args.chains
     c.loop-done.traced.items (Some (c.event_of-times.result.0.line, c.in-Err-Refused.cause)) =
-    told_to_refused g.M.Machine.table (record { account = c.has_account.ensures; listed = c.listed_content.ensures }) c.args.world.now.threads c.args.world.now.quota
+    told_to_refused g.M.Machine.table (tells_keys g.M.Machine.table c.has_account.ensures c.listed_content.ensures) c.args.world.now.threads c.args.world.now.quota
     (events_from 5 c.args.lines.now) c.args.chains c.loop-done.moment c.loop-done.world c.loop-done.recorder c.loop-done.kept.items
     c.loop-done.traced.items c.loop-done.invariant.told c.event_of-times.result.0
     there.event_is c.in-Err-Refused.cause there.known
@@ -71,7 +72,7 @@ loop-done-preserved g c =
           (subst (λ (xs : List TracedEvent). HasTraced g.M.Machine.table c.args.world.now.threads c.args.world.now.quota
           (events_from 5 c.args.lines.now) c.args.chains (suc c.loop-done.moment) c.trace_event.new.world c.trace_event.new.recorder
           c.trace_event.new.kept.items xs) (sym c.in_ok-push-in-Ok.ensures.items)
-          (traced_more g.M.Machine.table (record { account = c.has_account.ensures; listed = c.listed_content.ensures }) c.args.world.now.threads c.args.world.now.quota
+          (traced_more g.M.Machine.table (tells_keys g.M.Machine.table c.has_account.ensures c.listed_content.ensures) c.args.world.now.threads c.args.world.now.quota
           (events_from 5 c.args.lines.now) c.args.chains c.loop-done.moment c.loop-done.world c.loop-done.recorder
           c.loop-done.kept.items c.loop-done.traced.items c.loop-done.invariant.told c.event_of-times.result.0
           there.event_is

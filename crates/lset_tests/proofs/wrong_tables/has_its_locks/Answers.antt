@@ -1,12 +1,12 @@
-use Rattle.std.proofs.Common.{subst}
 use Rattle.lset_steps.specs.Promises.{NamedChange}
+use Rattle.lset_tests.proofs.OtherTables.{is_other}
 use Rattle.lset_tests.proofs.wrong_tables.has_its_locks.Goals as goal
 
 pub returns : goal.returns
 returns g c = record {
-  whole = λ e. c.calls_without_the_lock.ensures.named_change.not_kept (subst NamedChange e c.named_change.ensures);
-  both = λ e. c.remove_with_one_lock.ensures.named_change.not_kept (subst NamedChange e c.named_change.ensures);
-  in_turn = λ e. c.walk_that_gives_back_pred_first.ensures.named_change.not_kept (subst NamedChange e c.named_change.ensures);
-  walk = λ e. c.validation_by_the_link_alone.ensures.named_change.not_kept (subst NamedChange e c.named_change.ensures);
-  node = λ e. c.second_walk_by_the_key_alone.ensures.named_change.not_kept (subst NamedChange e c.named_change.ensures);
+  whole = is_other NamedChange g.M.Machine.table _ c.named_change.ensures c.calls_without_the_lock.ensures.named_change;
+  both = is_other NamedChange g.M.Machine.table _ c.named_change.ensures c.remove_with_one_lock.ensures.named_change;
+  in_turn = is_other NamedChange g.M.Machine.table _ c.named_change.ensures c.walk_that_gives_back_pred_first.ensures.named_change;
+  walk = is_other NamedChange g.M.Machine.table _ c.named_change.ensures c.validation_by_the_link_alone.ensures.named_change;
+  node = is_other NamedChange g.M.Machine.table _ c.named_change.ensures c.second_walk_by_the_key_alone.ensures.named_change;
 }
