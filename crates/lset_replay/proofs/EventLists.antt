@@ -23,6 +23,9 @@ length_of_events n (l ∷ ls) = length-append (events_of_line n l) (events_from 
     ∙ ap (λ x. event_count l + x) (length_of_events (n + 1) ls)
     ∙ sym (sum_by-cons event_count l ls)
 
+pub same_events : (n m : ℕ) (ls ks : List Line) → n ≡ m → ls ≡ ks → events_from n ls ≡ events_from m ks
+same_events n m ls ks e f = ap (λ z. events_from z ls) e ∙ ap (λ zs. events_from m zs) f
+
 -- the event at an index, and its line
 event_is : (es : List LineEvent) (k : ℕ) (d : LineEvent) → k < length es → event_at (only_events es) k ≡ (get_or es k d).event
 event_is es k d below = get_or-map event_in es k d (event.Go 0) below
@@ -85,17 +88,17 @@ event_there n (suc i) j (x ∷ ls) l d below is inside =
     ∙ ap (λ k. get_or (events_of_line k l) j d) (let e : n + 1 + i ≡ n + suc i = omega arith in e)
 
 -- the next event of the line at index i, of which j events are behind
-next_there : (ls : List Line) (i j k times : ℕ) (l : Line) (next d : LineEvent) → i < length ls → l ≡ get_or ls i l
-    → events_of_line (5 + i) l ≡ replicate times next → j < times → k ≡ length (events_from 5 (take i ls)) + j
-    → (k < length (events_from 5 ls)) × (get_or (events_from 5 ls) k d ≡ next)
-next_there ls i j k times l next d below is line inside at =
-    let a : length (events_of_line (5 + i) l) ≡ event_count l = length_of_line (5 + i) l in
-    let b : length (events_of_line (5 + i) l) ≡ times = ap (λ (es : List LineEvent). length es) line ∙ length-replicate times next in
-    let c : length (events_from 5 (take (suc i) ls)) ≡ length (events_from 5 (take i ls)) + event_count l =
-    one_line_more 5 i ls l below is in
-    let e : length (events_from 5 (take (suc i) ls)) ≤ length (events_from 5 ls) = lines_taken 5 (suc i) ls in (
+next_there : (n : ℕ) (ls : List Line) (i j k times : ℕ) (l : Line) (next d : LineEvent) → i < length ls → l ≡ get_or ls i l
+    → events_of_line (n + i) l ≡ replicate times next → j < times → k ≡ length (events_from n (take i ls)) + j
+    → (k < length (events_from n ls)) × (get_or (events_from n ls) k d ≡ next)
+next_there n ls i j k times l next d below is line inside at =
+    let a : length (events_of_line (n + i) l) ≡ event_count l = length_of_line (n + i) l in
+    let b : length (events_of_line (n + i) l) ≡ times = ap (λ (es : List LineEvent). length es) line ∙ length-replicate times next in
+    let c : length (events_from n (take (suc i) ls)) ≡ length (events_from n (take i ls)) + event_count l =
+    one_line_more n i ls l below is in
+    let e : length (events_from n (take (suc i) ls)) ≤ length (events_from n ls) = lines_taken n (suc i) ls in (
       omega arith,
-      ap (λ z. get_or (events_from 5 ls) z d) at ∙ event_there 5 i j ls l d below is (omega arith)
+      ap (λ z. get_or (events_from n ls) z d) at ∙ event_there n i j ls l d below is (omega arith)
           ∙ ap (λ (es : List LineEvent). get_or es j d) line ∙ get_or-replicate times j next d inside,
     )
 
@@ -108,8 +111,8 @@ same_line : (ls : List Line) (i : ℕ) → i < length ls → get_or ls i no_line
 same_line ls i below = get_or_default ls i no_line (get_or ls i no_line) below
 
 -- so many events are behind: those of the lines before the one at index i, and j of that line
-abbrev pub AreBehind : List Line → ℕ → ℕ → ℕ → Type 0
-AreBehind ls i j k = k ≡ length (events_from 5 (take i ls)) + j
+abbrev pub AreBehind : ℕ → List Line → ℕ → ℕ → ℕ → Type 0
+AreBehind n ls i j k = k ≡ length (events_from n (take i ls)) + j
 
 -- the next event, where k events are behind
 pub record ComesNext (es : List LineEvent) (k : ℕ) (next : LineEvent) : Type 0 where
@@ -117,35 +120,35 @@ pub record ComesNext (es : List LineEvent) (k : ℕ) (next : LineEvent) : Type 0
   pub event_is : event_at (only_events es) k ≡ next.event
   pub line_is : next.line ≡ line_at es k
 
-pub comes_next : (ls : List Line) (i j k times : ℕ) (next : LineEvent) → i < length ls
-    → events_of_line (5 + i) (get_or ls i no_line) ≡ replicate times next → j < times → AreBehind ls i j k
-    → ComesNext (events_from 5 ls) k next
-comes_next ls i j k times next below line inside behind =
-    let there = next_there ls i j k times (get_or ls i no_line) next next below (same_line ls i below) line inside behind in
+pub comes_next : (n : ℕ) (ls : List Line) (i j k times : ℕ) (next : LineEvent) → i < length ls
+    → events_of_line (n + i) (get_or ls i no_line) ≡ replicate times next → j < times → AreBehind n ls i j k
+    → ComesNext (events_from n ls) k next
+comes_next n ls i j k times next below line inside behind =
+    let there = next_there n ls i j k times (get_or ls i no_line) next next below (same_line ls i below) line inside behind in
     record {
       known = there.0;
-      event_is = event_is (events_from 5 ls) k next there.0 ∙ ap (λ (e : LineEvent). e.event) there.1;
-      line_is = sym (ap (λ (e : LineEvent). e.line) there.1) ∙ line_is (events_from 5 ls) k next there.0;
+      event_is = event_is (events_from n ls) k next there.0 ∙ ap (λ (e : LineEvent). e.event) there.1;
+      line_is = sym (ap (λ (e : LineEvent). e.line) there.1) ∙ line_is (events_from n ls) k next there.0;
     }
 
 -- it is one of few
-pub few_behind : (ls : List Line) (k most : ℕ) (next : LineEvent) → sum_by event_count ls ≤ most
-    → ComesNext (events_from 5 ls) k next → k < most
-few_behind ls k most next few there =
-    let below : k < length (events_from 5 ls) = there.known in
-    let all : length (events_from 5 ls) ≡ sum_by event_count ls = length_of_events 5 ls in
+pub few_behind : (n : ℕ) (ls : List Line) (k most : ℕ) (next : LineEvent) → sum_by event_count ls ≤ most
+    → ComesNext (events_from n ls) k next → k < most
+few_behind n ls k most next few there =
+    let below : k < length (events_from n ls) = there.known in
+    let all : length (events_from n ls) ≡ sum_by event_count ls = length_of_events n ls in
     omega arith
 
 -- the next line: all events of the one at index i are behind
-pub line_done : (ls : List Line) (i j k times : ℕ) (next : LineEvent) → i < length ls
-    → events_of_line (5 + i) (get_or ls i no_line) ≡ replicate times next → times ≤ j → j ≤ times → AreBehind ls i j k
-    → k ≡ length (events_from 5 (take (i + 1) ls))
-line_done ls i j k times next below line past end behind =
+pub line_done : (n : ℕ) (ls : List Line) (i j k times : ℕ) (next : LineEvent) → i < length ls
+    → events_of_line (n + i) (get_or ls i no_line) ≡ replicate times next → times ≤ j → j ≤ times → AreBehind n ls i j k
+    → k ≡ length (events_from n (take (i + 1) ls))
+line_done n ls i j k times next below line past end behind =
     let l : Line = get_or ls i no_line in
     let is : l ≡ get_or ls i l = same_line ls i below in
-    let a : length (events_of_line (5 + i) l) ≡ event_count l = length_of_line (5 + i) l in
-    let b : length (events_of_line (5 + i) l) ≡ times = ap (λ (es : List LineEvent). length es) line ∙ length-replicate times next in
-    let c : length (events_from 5 (take (suc i) ls)) ≡ length (events_from 5 (take i ls)) + event_count l =
-    one_line_more 5 i ls l below is in
-    let e : k ≡ length (events_from 5 (take (suc i) ls)) = omega arith in
-    e ∙ ap (λ z. length (events_from 5 (take z ls))) (let f : suc i ≡ i + 1 = omega arith in f)
+    let a : length (events_of_line (n + i) l) ≡ event_count l = length_of_line (n + i) l in
+    let b : length (events_of_line (n + i) l) ≡ times = ap (λ (es : List LineEvent). length es) line ∙ length-replicate times next in
+    let c : length (events_from n (take (suc i) ls)) ≡ length (events_from n (take i ls)) + event_count l =
+    one_line_more n i ls l below is in
+    let e : k ≡ length (events_from n (take (suc i) ls)) = omega arith in
+    e ∙ ap (λ z. length (events_from n (take z ls))) (let f : suc i ≡ i + 1 = omega arith in f)

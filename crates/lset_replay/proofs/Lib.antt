@@ -14,4 +14,5 @@ pub mod Followed
 pub mod Ordered
 pub mod EventSteps
 pub mod Reported
+pub mod ReportWords
 pub mod Recorded

@@ -72,8 +72,9 @@ pub replay_is : (T : Table) (accounts : TellsKeys T) (p : Plan) (n q : ℕ) (eve
     → HasFollowed T n q events (length events) w r → n ≡ p.threads → q ≡ p.quota → events ≡ events_of p
     → order ≡ blocks_upto r.places.items (length events)
     → IsContent (view_of w.threads w.quota w.state) keys
-    → IsReplay T p (record { kind = p.kind; history = r.history; order = order; keys = keys })
+    → IsReplay T p (record { version = p.version; kind = p.kind; history = r.history; order = order; keys = keys })
 replay_is T accounts p n q events w r order keys h a b d o c = record {
+  version_is = refl;
   kind_is = refl;
   threads_are = h.threads_are ∙ a;
   quota_is = h.quota_is ∙ b;

@@ -7,7 +7,7 @@ use Rattle.lset_schedule.specs.declared.value.Line.TheVariants as line
 use Rattle.std.specs.List.{sum_by}
 use Rattle.lset_words.specs.Words.{IsWithin}
 use Rattle.lset_schedule.specs.declared.TheConstants.{MOST_EVENTS}
-use Rattle.lset_schedule.specs.Plan.{Plan, event_count}
+use Rattle.lset_schedule.specs.Plan.{Plan, event_count, first_event_line}
 use Rattle.lset_replay.specs.declared.events.LineEvent.{LineEvent}
 
 -- a line stands for one beginning, or for that many steps
@@ -19,12 +19,8 @@ abbrev pub events_from : ℕ → List Line → List LineEvent
 events_from number [] = []
 events_from number (l ∷ ls) = events_of_line number l ++ events_from (number + 1) ls
 
--- four header lines come before the first event line
-abbrev pub first_event_line : ℕ
-first_event_line = 5
-
 abbrev pub events_of : Plan → List LineEvent
-events_of p = events_from first_event_line p.lines
+events_of p = events_from (first_event_line p) p.lines
 
 -- what can be replayed: threads and quota within the limits, and no more events than there may be, whatever the calls are
 pub record IsInLimits (p : Plan) : Type 0 where

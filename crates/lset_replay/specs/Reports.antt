@@ -60,6 +60,7 @@ IsRefusal T threads quota events fault.Memory = Unit {0}
 
 -- the report of a schedule
 pub record IsReplay (T : Table) (p : Plan) (r : ReportValue) : Type 0 where
+  pub version_is : r.version ≡ p.version
   pub kind_is : r.kind ≡ p.kind
   pub threads_are : r.history.threads ≡ p.threads
   pub quota_is : r.history.quota ≡ p.quota

@@ -4,9 +4,6 @@ ghost use Rattle.lset_replay.specs.Events.{events_of_line};
 use lset_schedule::Line;
 use lset_steps::Event;
 
-/// The number of the first line of events in a schedule's text; four header lines come before it.
-pub const FIRST_EVENT_LINE: u64 = 5;
-
 /// An event of a schedule, and the number of its line in the schedule's text.
 #[derive(Clone, Copy, Debug, PartialEq, Eq)]
 pub struct LineEvent {

@@ -5,7 +5,7 @@ use std::alloc::AllocError;
 use thiserror::Error;
 
 /// Why a schedule is not replayed: its first event that is not enabled, by the number of its line in the
-/// schedule's text, where the first event line is line 5; or what is missing for the replay.
+/// schedule's text, whose header lines count too; or what is missing for the replay.
 #[derive(Clone, Copy, Debug, PartialEq, Eq, Error)]
 pub enum ReplayFault {
     /// There is no such thread.

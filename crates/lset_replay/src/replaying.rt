@@ -1,15 +1,16 @@
-ghost use Rattle.std.specs.Prelude.{◌≡◌, ◌≤◌, IfOk};
+ghost use Rattle.std.specs.Prelude.{◌≡◌, ◌≤◌, ◌^◌, IfOk};
 ghost use Rattle.lset_schedule.specs.declared.TheConstants.{MOST_EVENTS};
 ghost use Rattle.std.specs.List.{sum_by};
-ghost use Rattle.lset_schedule.specs.Plan.{view, event_count};
-ghost use Rattle.lset_replay.specs.Events.{IsInLimits, events_from, first_event_line};
+ghost use Rattle.lset_schedule.specs.Plan.{view, event_count, HasCallsOfVersion};
+ghost use Rattle.lset_replay.specs.Events.{IsInLimits, events_from};
 ghost use Rattle.lset_replay.specs.Follows.{HasFollowed, FollowsAll};
 ghost use Rattle.lset_lists.specs.Tables.{table_of};
 ghost use Rattle.lset_replay.specs.Reports.{Replays, IsExplained, fault_at};
 ghost use Rattle.lset_report.specs.Report as report;
+ghost use Rattle.lset_report.specs.Texts.{HasWordsOfVersion};
 ghost use Rattle.lset_replay.specs.PlacedReports.{ReplaysWithPoints};
 
-use crate::events::{FIRST_EVENT_LINE, event_of};
+use crate::events::event_of;
 use crate::order::in_order;
 use crate::recorder::Recorder;
 use crate::{PlacedReport, ReplayFault};
@@ -32,23 +33,25 @@ fn refusal(cause: StepFault, line: u64) -> ReplayFault
     }
 }
 
-/// Follows the events of the lines, one after another.
+/// Follows the events of the lines, one after another; the first of them has the number `first`.
 fn follow_all<M: Machine>(
     world: &mut World<M>,
     recorder: &mut Recorder,
+    first: u64,
     lines: &[Line],
 ) -> Result<(), ReplayFault>
+    requires header { first ≤ 2 ^ 32 }
     requires few { sum_by event_count lines.now ≤ MOST_EVENTS }
-    requires start { HasFollowed M.table world.old.threads world.old.quota (events_from first_event_line lines.now) 0
+    requires start { HasFollowed M.table world.old.threads world.old.quota (events_from first lines.now) 0
         world.old recorder.old }
-    ensures { FollowsAll M.table world.old.threads world.old.quota (events_from first_event_line lines.now) result
+    ensures { FollowsAll M.table world.old.threads world.old.quota (events_from first lines.now) result
         world.new recorder.new }
 {
     has_account::<M>();
     listed_content::<M>();
     let mut moment = 0u32;
     for (index, line) in lines.iter().enumerate() {
-        let (next, times) = event_of(FIRST_EVENT_LINE + index as u64, *line);
+        let (next, times) = event_of(first + index as u64, *line);
         for _done in 0..times {
             moment += 1;
             match world.step(next.event) {
@@ -65,6 +68,7 @@ fn replay_on<M: Machine>(alloc: Global, schedule: &Schedule) -> Result<PlacedRep
     requires { IsInLimits (view schedule.now) }
     ensures replays { ReplaysWithPoints M.table (view schedule.now) result }
     ensures explained { IfOk result (λ r. IsExplained (report.view r.report)) }
+    ensures in_words { HasCallsOfVersion (view schedule.now) → IfOk result (λ r. HasWordsOfVersion (report.view r.report)) }
 {
     has_account::<M>();
     listed_content::<M>();
@@ -74,10 +78,16 @@ fn replay_on<M: Machine>(alloc: Global, schedule: &Schedule) -> Result<PlacedRep
     };
     let mut world = World::<M>::new(alloc, layout)?;
     let mut recorder = Recorder::new(alloc, schedule.threads, schedule.quota)?;
-    follow_all(&mut world, &mut recorder, &schedule.lines)?;
+    follow_all(
+        &mut world,
+        &mut recorder,
+        schedule.first_event_line(),
+        &schedule.lines,
+    )?;
     let ordered = in_order(alloc, &recorder.places)?;
     let keys = world.content()?;
     let report = Report {
+        version: schedule.version,
         kind: schedule.kind,
         history: recorder.history,
         order: ordered.order,
@@ -102,7 +112,8 @@ impl Task for Replaying<'_> {
     ghost may = { λ task kind. IsInLimits (view task.schedule.now) };
 
     ghost done = { λ task table result. ReplaysWithPoints table (view task.schedule.now) result
-        × IfOk result (λ r. IsExplained (report.view r.report)) };
+        × IfOk result (λ r. IsExplained (report.view r.report))
+        × (HasCallsOfVersion (view task.schedule.now) → IfOk result (λ r. HasWordsOfVersion (report.view r.report))) };
 
     fn run<M: List>(self) -> Result<PlacedReport, ReplayFault> {
         replay_on::<M>(self.alloc, self.schedule)
@@ -111,7 +122,8 @@ impl Task for Replaying<'_> {
 
 /// Replays a schedule on the list of its kind, one event after another. The schedule is within its limits, as
 /// what `read_schedule` gives: 1 to 64 threads, a quota of 0 to 16,384, and at most 1,000,000 events. Its calls may be
-/// ceilings too, which no text of a schedule has.
+/// ceilings too, which have words in a text of version 2 alone. A schedule whose version has words for its calls gets a
+/// report whose version, the same, has words for what it tells, so that `write_report` takes it.
 ///
 /// It is refused at the first event that is not enabled, with the number of its line: `NoThread` where there is no such
 /// thread, `Busy` where a thread begins a call and has one open, `Idle` where a thread makes a step and has no call open.
@@ -122,6 +134,7 @@ pub fn replay(alloc: Global, schedule: &Schedule) -> Result<Report, ReplayFault>
     requires { IsInLimits (view schedule.now) }
     ensures replays { Replays (table_of schedule.now.kind) (view schedule.now) result }
     ensures explained { IfOk result (λ r. IsExplained (report.view r)) }
+    ensures in_words { HasCallsOfVersion (view schedule.now) → IfOk result (λ r. HasWordsOfVersion (report.view r)) }
 {
     let placed = replay_with_points(alloc, schedule)?;
     Ok(placed.report)
@@ -135,6 +148,7 @@ pub fn replay_with_points(alloc: Global, schedule: &Schedule) -> Result<PlacedRe
     requires { IsInLimits (view schedule.now) }
     ensures replays { ReplaysWithPoints (table_of schedule.now.kind) (view schedule.now) result }
     ensures explained { IfOk result (λ r. IsExplained (report.view r.report)) }
+    ensures in_words { HasCallsOfVersion (view schedule.now) → IfOk result (λ r. HasWordsOfVersion (report.view r.report)) }
 {
     on_list(schedule.kind, Replaying { alloc, schedule })
 }

@@ -6,7 +6,7 @@ ghost use Rattle.lset_steps.specs.Laws.{view_of};
 ghost use Rattle.lset_steps.specs.Worlds.{thread_of};
 ghost use Rattle.lset_schedule.specs.declared.TheConstants.{MOST_EVENTS};
 ghost use Rattle.lset_schedule.specs.Plan.{IsSchedule, view, event_count};
-ghost use Rattle.lset_replay.specs.Events.{events_from, first_event_line};
+ghost use Rattle.lset_replay.specs.Events.{events_from};
 ghost use Rattle.lset_replay.specs.Trace.{MayFollow, open_call_at};
 ghost use Rattle.lset_replay.specs.Tracing.{IsTraceOf, TellsEvents};
 ghost use Rattle.lset_replay.specs.Tracer.{
@@ -22,7 +22,7 @@ ghost use Rattle.lset_replay.specs.Tracer.{
 };
 ghost use Rattle.lset_replay.specs.declared.tracing.Stop.TheVariants.{Memory};
 
-use crate::events::{FIRST_EVENT_LINE, LineEvent, event_of};
+use crate::events::{LineEvent, event_of};
 use crate::recorder::Recorder;
 use crate::{CallEnd, Deed, Trace, TracedEvent};
 use lset_lists::{List, Task, on_list};
@@ -193,28 +193,30 @@ fn trace_event<M: Machine>(
     })
 }
 
-/// Makes and tells the events of the lines, one after another, up to the first that is not enabled, whose line and
-/// cause it answers.
+/// Makes and tells the events of the lines, the first of which has the number `first`, one after another, up to the
+/// first that is not enabled, whose line and cause it answers.
 fn trace_lines<M: Machine>(
     alloc: Global,
     world: &mut World<M>,
     recorder: &mut Recorder,
     kept: &mut Vec<ChainKey>,
     traced: &mut Vec<TracedEvent>,
+    first: u64,
     lines: &[Line],
     chains: bool,
 ) -> Result<Option<(u64, StepFault)>, AllocError>
+    requires header { first ≤ 2 ^ 32 }
     requires few { sum_by event_count lines.now ≤ MOST_EVENTS }
-    requires start { HasTraced M.table world.old.threads world.old.quota (events_from first_event_line lines.now) chains 0
+    requires start { HasTraced M.table world.old.threads world.old.quota (events_from first lines.now) chains 0
         world.old recorder.old kept.old.items traced.old.items }
     ensures { IfOk result (λ refused. TellsEvents M.table world.old.threads world.old.quota
-        (events_from first_event_line lines.now) chains traced.new.items refused) }
+        (events_from first lines.now) chains traced.new.items refused) }
 {
     has_account::<M>();
     listed_content::<M>();
     let mut moment = 0u32;
     for (index, line) in lines.iter().enumerate() {
-        let (next, times) = event_of(FIRST_EVENT_LINE + index as u64, *line);
+        let (next, times) = event_of(first + index as u64, *line);
         for _done in 0..times {
             moment += 1;
             match trace_event(alloc, world, recorder, kept, next, moment, chains) {
@@ -249,6 +251,7 @@ fn trace_on<M: Machine>(
         &mut recorder,
         &mut kept,
         &mut events,
+        schedule.first_event_line(),
         &schedule.lines,
         chains,
     )?;

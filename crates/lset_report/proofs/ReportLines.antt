@@ -14,8 +14,9 @@ use Rattle.lset_words.specs.Words.{key_of}
 use Rattle.lset_text.specs.declared.words.CallWord.{CallWord}
 use Rattle.lset_text.specs.Parts.{cut_at, line_of, Lacks}
 use Rattle.lset_text.specs.Numbers.{number_in, max_number}
-use Rattle.lset_text.specs.Spellings.{call_text, call_word_text, call_word_in, word_of, with_key, reply_text, reply_in, HasWord, HasCall, HasReply}
-use Rattle.lset_text.specs.declared.words.Version.TheVariants.{One}
+use Rattle.lset_text.specs.Spellings.{call_text, call_word_text, call_word_in, word_of, with_key, reply_text, reply_in, is_reply_in}
+use Rattle.lset_text.specs.Spellings.{HasWord, HasCall, HasReply}
+use Rattle.lset_text.specs.declared.words.Version.{Version}
 use Rattle.lset_text.specs.Results.{◌>>=◌, or_fail}
 use Rattle.lset_text.proofs.PartLaws.{Lacks-below, line_lacks, cut_line, line_from_cut}
 use Rattle.lset_text.proofs.NumberLaws.{number_ok, number_again, decimal_lacks}
@@ -28,8 +29,8 @@ use Rattle.lset_report.specs.declared.reading.lines.Section.{Section}
 use Rattle.lset_report.specs.declared.report_fault.ReportCause.{ReportCause}
 use Rattle.lset_report.specs.declared.report_fault.ReportCause.TheVariants as wrong
 use Rattle.lset_report.specs.Texts.{end_pieces}
-use Rattle.lset_report.specs.ReportReading.{takes_calls, takes_places, takes_keys, any_number, moment, begun_of, open_of}
-use Rattle.lset_report.specs.ReportReading.{ended_of, call_of, place_of}
+use Rattle.lset_report.specs.ReportReading.{takes_calls, takes_places, takes_keys, any_number, moment, begun_of, reply_told}
+use Rattle.lset_report.specs.ReportReading.{IsPlace, open_of, ended_of, call_of, place_of}
 use Rattle.lset_report.specs.ReportReading.{key_of_line, end_of, line_of_pieces, line_in}
 
 -- ---- lines and their texts
@@ -45,17 +46,18 @@ pieces_of told.End = codes "end" ∷ []
 abbrev pub line_text : Line → List ℕ
 line_text l = line_of (pieces_of l)
 
-abbrev pub IsEndLine : Option (ℕ × Reply) → Type 0
-IsEndLine None = Unit {0}
-IsEndLine (Some end) = (0 < end.0) × (end.0 < 2 ^ 32) × HasReply One end.1
+abbrev pub IsEndLine : Version → Option (ℕ × Reply) → Type 0
+IsEndLine v None = Unit {0}
+IsEndLine v (Some end) = (0 < end.0) × (end.0 < 2 ^ 32) × HasReply v end.1
 
--- the numbers of a line are in range
-abbrev pub IsLine : Line → Type 0
-IsLine (told.Call n x) =
-    (n < 2 ^ 32) × (x.thread < 2 ^ 32) × ((key_of x.call).0 < 2 ^ 32) × (0 < x.begun) × (x.begun < 2 ^ 32) × IsEndLine x.ended × HasCall One x.call
-IsLine (told.Place p) = (p.call < 2 ^ 32) × HasReply One p.reply
-IsLine (told.Key k) = k < 2 ^ 32
-IsLine told.End = Unit {0}
+-- the numbers of a line are in range, and its words are those of a version
+abbrev pub IsLine : Version → Line → Type 0
+IsLine v (told.Call n x) =
+    (n < 2 ^ 32) × (x.thread < 2 ^ 32) × ((key_of x.call).0 < 2 ^ 32) × (0 < x.begun) × (x.begun < 2 ^ 32)
+    × IsEndLine v x.ended × HasCall v x.call
+IsLine v (told.Place p) = IsPlace v p
+IsLine v (told.Key k) = k < 2 ^ 32
+IsLine v told.End = Unit {0}
 
 -- the line may come in a section
 abbrev pub takes : Section → Line → Bool
@@ -65,8 +67,8 @@ takes s (told.Key k) = takes_keys s
 takes s told.End = takes_keys s
 
 -- the pieces of a line that may come
-abbrev AreOf : Section → List (List ℕ) → Line → Type 0
-AreOf s pieces l = (pieces ≡ pieces_of l) × IsLine l × (takes s l ≡ true)
+abbrev AreOf : Version → Section → List (List ℕ) → Line → Type 0
+AreOf v s pieces l = (pieces ≡ pieces_of l) × IsLine v l × (takes s l ≡ true)
 
 -- ---- what is read stands there
 
@@ -77,6 +79,14 @@ test_ok false d r y e = absurd cc
 number_told : (low high : ℕ) (p : List ℕ) (n : ℕ) → high < 2 ^ 64 → or_fail wrong.Number (number_in low high p) ≡ Ok n
     → (p ≡ decimal n) × (low ≤ n) × (n ≤ high)
 number_told low high p n wide is = number_ok low high p n wide (or_fail_ok wrong.Number (number_in low high p) n is)
+
+-- a reply is read from its text, which is a reply of the version
+reply_told_ok : (v : Version) (p : List ℕ) (r : Reply) → reply_told v p ≡ Ok r → HasReply v r × (p ≡ reply_text r)
+unfolding reply_told
+reply_told_ok v p r is =
+    let test = test_ok (is_reply_in v p) wrong.Line (or_fail wrong.Number (reply_in v p)) r is in
+    let reply = reply_ok v p r (or_fail_ok wrong.Number (reply_in v p) r test.1) in
+    (reply.0, reply.1)
 
 two : (a b x y : List ℕ) → a ≡ x → b ≡ y → a ∷ b ∷ [] ≡ x ∷ y ∷ []
 two a b x y e f = cc
@@ -156,21 +166,21 @@ abbrev open_from : List ℕ → List ℕ → List ℕ → List ℕ → List ℕ 
 open_from i t k b o w =
     cond (bytes_eq o (codes "open")) (begun_of w i t k b >>= λ x. Ok (told.Call x.0 x.1)) (Err wrong.Line)
 
-open_ok : (s : Section) (i t a k b o : List ℕ) (l : Line) → takes_calls s ≡ true → open_of i t a k b o ≡ Ok l
-    → AreOf s (codes "call" ∷ i ∷ t ∷ a ∷ k ∷ b ∷ o ∷ []) l
+open_ok : (v : Version) (s : Section) (i t a k b o : List ℕ) (l : Line) → takes_calls s ≡ true → open_of v i t a k b o ≡ Ok l
+    → AreOf v s (codes "call" ∷ i ∷ t ∷ a ∷ k ∷ b ∷ o ∷ []) l
 unfolding open_of
-open_ok s i t a k b o l may is =
-    let w = bind_ok (or_fail wrong.Line (call_word_in One a)) (open_from i t k b o) l is in
+open_ok v s i t a k b o l may is =
+    let w = bind_ok (or_fail wrong.Line (call_word_in v a)) (open_from i t k b o) l is in
     let test = test_ok (bytes_eq o (codes "open")) wrong.Line (begun_of w.0 i t k b >>= λ x. Ok (told.Call x.0 x.1)) l w.2 in
     let x = bind_ok (begun_of w.0 i t k b) (λ x. Ok (told.Call x.0 x.1)) l test.1 in
-    let word = call_in_ok One a w.0 (or_fail_ok wrong.Line (call_word_in One a) w.0 w.1) in
+    let word = call_in_ok v a w.0 (or_fail_ok wrong.Line (call_word_in v a) w.0 w.1) in
     let begun = begun_ok w.0 i t k b x.0 x.1 in
     let ends : o ∷ [] ≡ end_pieces None = ap (λ (z : List ℕ). z ∷ []) (same_bytes o (codes "open") test.0) in
     let same : record x.0.1 { ended = None } ≡ x.0.1 = again x.0.1 begun.not_ended in
     let m = begun.small in
-    let one : AreOf s (codes "call" ∷ i ∷ t ∷ a ∷ k ∷ b ∷ o ∷ []) (told.Call x.0.0 (record x.0.1 { ended = None })) =
-    (call_are w.0 i t a k b (o ∷ []) x.0 None begun word.1 ends, (m.0, m.1, m.2, m.3, m.4, tt, subst (HasWord One) (sym begun.word_is) word.0), may) in
-    subst (AreOf s (codes "call" ∷ i ∷ t ∷ a ∷ k ∷ b ∷ o ∷ []))
+    let one : AreOf v s (codes "call" ∷ i ∷ t ∷ a ∷ k ∷ b ∷ o ∷ []) (told.Call x.0.0 (record x.0.1 { ended = None })) =
+    (call_are w.0 i t a k b (o ∷ []) x.0 None begun word.1 ends, (m.0, m.1, m.2, m.3, m.4, tt, subst (HasWord v) (sym begun.word_is) word.0), may) in
+    subst (AreOf v s (codes "call" ∷ i ∷ t ∷ a ∷ k ∷ b ∷ o ∷ []))
     (ap (λ (y : CallRecord). told.Call x.0.0 y) same ∙ ok_is (told.Call x.0.0 x.0.1) l x.2) one
   where
     again : (y : CallRecord) → y.ended ≡ None → record y { ended = None } ≡ y
@@ -185,90 +195,90 @@ from_begun e r x = moment e >>= λ m. Ok (ended_with r x m)
 abbrev from_reply : List ℕ → List ℕ → List ℕ → List ℕ → List ℕ → CallWord → Reply → Result Line ReportCause
 from_reply i t k b e w r = begun_of w i t k b >>= from_begun e r
 
-abbrev from_word : List ℕ → List ℕ → List ℕ → List ℕ → List ℕ → List ℕ → CallWord → Result Line ReportCause
-from_word i t k b e a w = or_fail wrong.Line (reply_in One a) >>= from_reply i t k b e w
+abbrev from_word : Version → List ℕ → List ℕ → List ℕ → List ℕ → List ℕ → List ℕ → CallWord → Result Line ReportCause
+from_word v i t k b e a w = reply_told v a >>= from_reply i t k b e w
 
-ended_ok : (s : Section) (i t a k b e c : List ℕ) (l : Line) → takes_calls s ≡ true → ended_of i t a k b e c ≡ Ok l
-    → AreOf s (codes "call" ∷ i ∷ t ∷ a ∷ k ∷ b ∷ e ∷ c ∷ []) l
+ended_ok : (v : Version) (s : Section) (i t a k b e c : List ℕ) (l : Line) → takes_calls s ≡ true → ended_of v i t a k b e c ≡ Ok l
+    → AreOf v s (codes "call" ∷ i ∷ t ∷ a ∷ k ∷ b ∷ e ∷ c ∷ []) l
 unfolding ended_of
-ended_ok s i t a k b e c l may is =
-    let w = bind_ok (or_fail wrong.Line (call_word_in One a)) (from_word i t k b e c) l is in
-    let r = bind_ok (or_fail wrong.Line (reply_in One c)) (from_reply i t k b e w.0) l w.2 in
+ended_ok v s i t a k b e c l may is =
+    let w = bind_ok (or_fail wrong.Line (call_word_in v a)) (from_word v i t k b e c) l is in
+    let r = bind_ok (reply_told v c) (from_reply i t k b e w.0) l w.2 in
     let x = bind_ok (begun_of w.0 i t k b) (from_begun e r.0) l r.2 in
     let m = bind_ok (moment e) (λ m. Ok (ended_with r.0 x.0 m)) l x.2 in
-    let word = call_in_ok One a w.0 (or_fail_ok wrong.Line (call_word_in One a) w.0 w.1) in
-    let reply = reply_ok One c r.0 (or_fail_ok wrong.Line (reply_in One c) r.0 r.1) in
+    let word = call_in_ok v a w.0 (or_fail_ok wrong.Line (call_word_in v a) w.0 w.1) in
+    let reply = reply_told_ok v c r.0 r.1 in
     let begun = begun_ok w.0 i t k b x.0 x.1 in
     let end = number_told 1 max_number e m.0 (omega arith) m.1 in
     let ends : e ∷ c ∷ [] ≡ end_pieces (Some (m.0, r.0)) = two e c (decimal m.0) (reply_text r.0) end.0 reply.1 in
     let n = begun.small in
-    subst (AreOf s (codes "call" ∷ i ∷ t ∷ a ∷ k ∷ b ∷ e ∷ c ∷ [])) (ok_is (ended_with r.0 x.0 m.0) l m.2) (
+    subst (AreOf v s (codes "call" ∷ i ∷ t ∷ a ∷ k ∷ b ∷ e ∷ c ∷ [])) (ok_is (ended_with r.0 x.0 m.0) l m.2) (
       call_are w.0 i t a k b (e ∷ c ∷ []) x.0 (Some (m.0, r.0)) begun word.1 ends,
-      (n.0, n.1, n.2, n.3, n.4, (omega (arith, end.1), omega (arith, end.2), reply.0), subst (HasWord One) (sym begun.word_is) word.0),
+      (n.0, n.1, n.2, n.3, n.4, (omega (arith, end.1), omega (arith, end.2), reply.0), subst (HasWord v) (sym begun.word_is) word.0),
       may,
     )
 
-call_ok : (s : Section) (i t : List ℕ) (ps : List (List ℕ)) (l : Line) → takes_calls s ≡ true → call_of i t ps ≡ Ok l
-    → AreOf s (codes "call" ∷ i ∷ t ∷ ps) l
-call_ok s i t [] l may is = absurd cc
-call_ok s i t (a ∷ []) l may is = absurd cc
-call_ok s i t (a ∷ b ∷ []) l may is = absurd cc
-call_ok s i t (a ∷ b ∷ c ∷ []) l may is = absurd cc
-call_ok s i t (a ∷ b ∷ c ∷ d ∷ []) l may is = open_ok s i t a b c d l may is
-call_ok s i t (a ∷ b ∷ c ∷ d ∷ e ∷ []) l may is = ended_ok s i t a b c d e l may is
-call_ok s i t (a ∷ b ∷ c ∷ d ∷ e ∷ f ∷ more) l may is = absurd cc
+call_ok : (v : Version) (s : Section) (i t : List ℕ) (ps : List (List ℕ)) (l : Line) → takes_calls s ≡ true → call_of v i t ps ≡ Ok l
+    → AreOf v s (codes "call" ∷ i ∷ t ∷ ps) l
+call_ok v s i t [] l may is = absurd cc
+call_ok v s i t (a ∷ []) l may is = absurd cc
+call_ok v s i t (a ∷ b ∷ []) l may is = absurd cc
+call_ok v s i t (a ∷ b ∷ c ∷ []) l may is = absurd cc
+call_ok v s i t (a ∷ b ∷ c ∷ d ∷ []) l may is = open_ok v s i t a b c d l may is
+call_ok v s i t (a ∷ b ∷ c ∷ d ∷ e ∷ []) l may is = ended_ok v s i t a b c d e l may is
+call_ok v s i t (a ∷ b ∷ c ∷ d ∷ e ∷ f ∷ more) l may is = absurd cc
 
 abbrev from_place : List ℕ → Reply → Result Line ReportCause
 from_place i r = any_number i >>= λ n. Ok (told.Place (record { call = n; reply = r }))
 
-place_ok : (s : Section) (a i c : List ℕ) (l : Line) → place_of s a i c ≡ Ok l → AreOf s (a ∷ i ∷ c ∷ []) l
+place_ok : (v : Version) (s : Section) (a i c : List ℕ) (l : Line) → place_of v s a i c ≡ Ok l → AreOf v s (a ∷ i ∷ c ∷ []) l
 unfolding place_of
-place_ok s a i c l is =
-    let test = test_ok (takes_places s && bytes_eq a (codes "place")) wrong.Line (or_fail wrong.Line
-    (reply_in One c) >>= from_place i) l is in
+place_ok v s a i c l is =
+    let test = test_ok (takes_places s && bytes_eq a (codes "place")) wrong.Line (reply_told v c >>= from_place i) l is in
     let parts = and_parts (takes_places s) (bytes_eq a (codes "place")) test.0 in
-    let r = bind_ok (or_fail wrong.Line (reply_in One c)) (from_place i) l test.1 in
+    let r = bind_ok (reply_told v c) (from_place i) l test.1 in
     let n = bind_ok (any_number i) (λ n. Ok (told.Place (record { call = n; reply = r.0 }))) l r.2 in
     let number = number_told 0 max_number i n.0 (omega arith) n.1 in
-    let reply = reply_ok One c r.0 (or_fail_ok wrong.Line (reply_in One c) r.0 r.1) in
+    let reply = reply_told_ok v c r.0 r.1 in
     let p : Placed = record { call = n.0; reply = r.0 } in
-    subst (AreOf s (a ∷ i ∷ c ∷ [])) (ok_is (told.Place p) l n.2) (
+    subst (AreOf v s (a ∷ i ∷ c ∷ [])) (ok_is (told.Place p) l n.2) (
       three a i c (codes "place") (decimal n.0) (reply_text r.0) (same_bytes a (codes "place") parts.1) number.0 reply.1,
       (omega (arith, number.2), reply.0),
       parts.0,
     )
 
-key_ok : (s : Section) (a k : List ℕ) (l : Line) → key_of_line s a k ≡ Ok l → AreOf s (a ∷ k ∷ []) l
+key_ok : (v : Version) (s : Section) (a k : List ℕ) (l : Line) → key_of_line s a k ≡ Ok l → AreOf v s (a ∷ k ∷ []) l
 unfolding key_of_line
-key_ok s a k l is =
+key_ok v s a k l is =
     let test = test_ok (takes_keys s && bytes_eq a (codes "key")) wrong.Line (any_number k >>= λ n. Ok (told.Key n)) l is in
     let parts = and_parts (takes_keys s) (bytes_eq a (codes "key")) test.0 in
     let n = bind_ok (any_number k) (λ n. Ok (told.Key n)) l test.1 in
     let number = number_told 0 max_number k n.0 (omega arith) n.1 in
-    subst (AreOf s (a ∷ k ∷ [])) (ok_is (told.Key n.0) l n.2)
+    subst (AreOf v s (a ∷ k ∷ [])) (ok_is (told.Key n.0) l n.2)
     (two a k (codes "key") (decimal n.0) (same_bytes a (codes "key") parts.1) number.0, omega (arith, number.2), parts.0)
 
-end_ok : (s : Section) (a : List ℕ) (l : Line) → end_of s a ≡ Ok l → AreOf s (a ∷ []) l
-end_ok s a l is =
+end_ok : (v : Version) (s : Section) (a : List ℕ) (l : Line) → end_of s a ≡ Ok l → AreOf v s (a ∷ []) l
+end_ok v s a l is =
     let test = test_ok (takes_keys s && bytes_eq a (codes "end")) wrong.Line (Ok told.End) l is in
     let parts = and_parts (takes_keys s) (bytes_eq a (codes "end")) test.0 in
-    subst (AreOf s (a ∷ [])) (ok_is told.End l test.1)
+    subst (AreOf v s (a ∷ [])) (ok_is told.End l test.1)
     (ap (λ (z : List ℕ). z ∷ []) (same_bytes a (codes "end") parts.1), tt, parts.0)
 
-pieces_ok : (s : Section) (ps : List (List ℕ)) (l : Line) → line_of_pieces s ps ≡ Ok l → AreOf s ps l
-pieces_ok s [] l is = absurd cc
-pieces_ok s (a ∷ []) l is = end_ok s a l is
-pieces_ok s (a ∷ b ∷ []) l is = key_ok s a b l is
-pieces_ok s (a ∷ b ∷ c ∷ []) l is = place_ok s a b c l is
-pieces_ok s (a ∷ b ∷ c ∷ d ∷ more) l is =
-    let test = test_ok (takes_calls s && bytes_eq a (codes "call")) wrong.Line (call_of b c (d ∷ more)) l is in
+pieces_ok : (v : Version) (s : Section) (ps : List (List ℕ)) (l : Line) → line_of_pieces v s ps ≡ Ok l → AreOf v s ps l
+pieces_ok v s [] l is = absurd cc
+pieces_ok v s (a ∷ []) l is = end_ok v s a l is
+pieces_ok v s (a ∷ b ∷ []) l is = key_ok v s a b l is
+pieces_ok v s (a ∷ b ∷ c ∷ []) l is = place_ok v s a b c l is
+pieces_ok v s (a ∷ b ∷ c ∷ d ∷ more) l is =
+    let test = test_ok (takes_calls s && bytes_eq a (codes "call")) wrong.Line (call_of v b c (d ∷ more)) l is in
     let parts = and_parts (takes_calls s) (bytes_eq a (codes "call")) test.0 in
-    subst (λ (z : List ℕ). AreOf s (z ∷ b ∷ c ∷ d ∷ more) l) (sym (same_bytes a (codes "call") parts.1))
-    (call_ok s b c (d ∷ more) l parts.0 test.1)
+    subst (λ (z : List ℕ). AreOf v s (z ∷ b ∷ c ∷ d ∷ more) l) (sym (same_bytes a (codes "call") parts.1))
+    (call_ok v s b c (d ∷ more) l parts.0 test.1)
 
-pub line_ok : (s : Section) (x : List ℕ) (l : Line) → line_in s x ≡ Ok l → (x ≡ line_text l) × IsLine l × (takes s l ≡ true)
-line_ok s x l is =
-    let found = pieces_ok s (cut_at 32 x) l is in
+pub line_ok : (v : Version) (s : Section) (x : List ℕ) (l : Line) → line_in v s x ≡ Ok l
+    → (x ≡ line_text l) × IsLine v l × (takes s l ≡ true)
+line_ok v s x l is =
+    let found = pieces_ok v s (cut_at 32 x) l is in
     (line_from_cut x (pieces_of l) found.0, found.1, found.2)
 
 -- ---- what stands there is read
@@ -279,55 +289,62 @@ any_again n small = rw (number_again 0 max_number n (omega arith) (omega arith) 
 moment_again : (n : ℕ) → 0 < n → n < 2 ^ 32 → moment (decimal n) ≡ Ok n
 moment_again n some small = rw (number_again 1 max_number n (omega arith) (omega arith) (omega arith)) refl
 
+reply_told_again : (v : Version) (r : Reply) → HasReply v r → reply_told v (reply_text r) ≡ Ok r
+unfolding reply_told
+reply_told_again v r has =
+    let again = reply_again v r has in
+    let formed = (reply_ok v (reply_text r) r again).2 in
+    rw (formed, again) refl
+
 begun_again : (w : CallWord) (n t k b : ℕ) → n < 2 ^ 32 → t < 2 ^ 32 → k < 2 ^ 32 → 0 < b → b < 2 ^ 32
     → begun_of w (decimal n) (decimal t) (decimal k) (decimal b) ≡ Ok (begun_at w n t k b)
 unfolding begun_of
 begun_again w n t k b n_low t_low k_low some b_low =
     rw (any_again n n_low, any_again t t_low, any_again k k_low, moment_again b some b_low) refl
 
-call_again : (s : Section) (n t b : ℕ) (c : CallMade) (o : Option (ℕ × Reply)) → takes_calls s ≡ true
-    → IsLine (told.Call n (record { thread = t; call = c; begun = b; ended = o }))
-    → line_of_pieces s (pieces_of (told.Call n (record { thread = t; call = c; begun = b; ended = o })))
+call_again : (v : Version) (s : Section) (n t b : ℕ) (c : CallMade) (o : Option (ℕ × Reply)) → takes_calls s ≡ true
+    → IsLine v (told.Call n (record { thread = t; call = c; begun = b; ended = o }))
+    → line_of_pieces v s (pieces_of (told.Call n (record { thread = t; call = c; begun = b; ended = o })))
     ≡ Ok (told.Call n (record { thread = t; call = c; begun = b; ended = o }))
 unfolding open_of ended_of
-call_again s n t b c None may h =
-    rw (may, call_in_again One (word_of c) h.6, begun_again (word_of c) n t ((key_of c).0) b h.0 h.1 h.2 h.3 h.4)
+call_again v s n t b c None may h =
+    rw (may, call_in_again v (word_of c) h.6, begun_again (word_of c) n t ((key_of c).0) b h.0 h.1 h.2 h.3 h.4)
     (ap (λ (d : CallMade). Ok (told.Call n (record { thread = t; call = d; begun = b; ended = None }))) (with_key-word_of c))
-call_again s n t b c (Some e) may h =
+call_again v s n t b c (Some e) may h =
     rw (
       may,
-      call_in_again One (word_of c) h.6,
-      reply_again One e.1 h.5.2,
+      call_in_again v (word_of c) h.6,
+      reply_told_again v e.1 h.5.2,
       begun_again (word_of c) n t ((key_of c).0) b h.0 h.1 h.2 h.3 h.4,
       moment_again e.0 h.5.0 h.5.1,
     )
     (ap (λ (d : CallMade). Ok (told.Call n (record { thread = t; call = d; begun = b; ended = Some e }))) (with_key-word_of c))
 
-pieces_again : (s : Section) (l : Line) → takes s l ≡ true → IsLine l → line_of_pieces s (pieces_of l) ≡ Ok l
+pieces_again : (v : Version) (s : Section) (l : Line) → takes s l ≡ true → IsLine v l → line_of_pieces v s (pieces_of l) ≡ Ok l
 unfolding place_of key_of_line
-pieces_again s (told.Call n x) may h = call_again s n x.thread x.begun x.call x.ended may h
-pieces_again s (told.Place p) may h = rw (may, reply_again One p.reply h.1, any_again p.call h.0) refl
-pieces_again s (told.Key k) may h = rw (may, any_again k h) refl
-pieces_again s told.End may h = rw may refl
+pieces_again v s (told.Call n x) may h = call_again v s n x.thread x.begun x.call x.ended may h
+pieces_again v s (told.Place p) may h = rw (may, reply_told_again v p.reply h.1, any_again p.call h.0) refl
+pieces_again v s (told.Key k) may h = rw (may, any_again k h) refl
+pieces_again v s told.End may h = rw may refl
 
-ends_lack : (byte : ℕ) (o : Option (ℕ × Reply)) → byte < 45 → IsEndLine o → AllByRecursion (Lacks byte) (end_pieces o)
-ends_lack byte None low h = (Lacks-below 45 byte (codes "open") low refl, tt)
-ends_lack byte (Some e) low h = (decimal_lacks byte e.0 (omega arith) (omega (arith, h.1)), (reply_lacks byte One e.1 h.2 low, tt))
+ends_lack : (byte : ℕ) (v : Version) (o : Option (ℕ × Reply)) → byte < 45 → IsEndLine v o → AllByRecursion (Lacks byte) (end_pieces o)
+ends_lack byte v None low h = (Lacks-below 45 byte (codes "open") low refl, tt)
+ends_lack byte v (Some e) low h = (decimal_lacks byte e.0 (omega arith) (omega (arith, h.1)), (reply_lacks byte v e.1 h.2 low, tt))
 
-pieces_lack : (byte : ℕ) (l : Line) → byte < 45 → IsLine l → AllByRecursion (Lacks byte) (pieces_of l)
-pieces_lack byte (told.Call n x) low h =
+pieces_lack : (byte : ℕ) (v : Version) (l : Line) → byte < 45 → IsLine v l → AllByRecursion (Lacks byte) (pieces_of l)
+pieces_lack byte v (told.Call n x) low h =
     let word = Lacks-below 45 byte (codes "call") low refl in
     let number = decimal_lacks byte n (omega arith) (omega (arith, h.0)) in
     let thread = decimal_lacks byte x.thread (omega arith) (omega (arith, h.1)) in
     let key = decimal_lacks byte ((key_of x.call).0) (omega arith) (omega (arith, h.2)) in
     let begun = decimal_lacks byte x.begun (omega arith) (omega (arith, h.4)) in
-    (word, (number, (thread, (call_lacks byte x.call low, (key, (begun, ends_lack byte x.ended low h.5))))))
-pieces_lack byte (told.Place p) low h =
+    (word, (number, (thread, (call_lacks byte x.call low, (key, (begun, ends_lack byte v x.ended low h.5))))))
+pieces_lack byte v (told.Place p) low h =
     let word = Lacks-below 45 byte (codes "place") low refl in
-    (word, (decimal_lacks byte p.call (omega arith) (omega (arith, h.0)), (reply_lacks byte One p.reply h.1 low, tt)))
-pieces_lack byte (told.Key k) low h =
+    (word, (decimal_lacks byte p.call (omega arith) (omega (arith, h.0)), (reply_lacks byte v p.reply h.1 low, tt)))
+pieces_lack byte v (told.Key k) low h =
     (Lacks-below 45 byte (codes "key") low refl, (decimal_lacks byte k (omega arith) (omega (arith, h)), tt))
-pieces_lack byte told.End low h = (Lacks-below 45 byte (codes "end") low refl, tt)
+pieces_lack byte v told.End low h = (Lacks-below 45 byte (codes "end") low refl, tt)
 
 cut_pieces : (l : Line) → AllByRecursion (Lacks 32) (pieces_of l) → cut_at 32 (line_text l) ≡ pieces_of l
 cut_pieces (told.Call n x) h =
@@ -337,20 +354,21 @@ cut_pieces (told.Place p) h = cut_line (codes "place") (decimal p.call ∷ reply
 cut_pieces (told.Key k) h = cut_line (codes "key") (decimal k ∷ []) h.0 h.1
 cut_pieces told.End h = cut_line (codes "end") [] h.0 h.1
 
-pub line_again : (s : Section) (l : Line) → takes s l ≡ true → IsLine l → line_in s (line_text l) ≡ Ok l
-line_again s l may h = ap (line_of_pieces s) (cut_pieces l (pieces_lack 32 l (omega arith) h)) ∙ pieces_again s l may h
+pub line_again : (v : Version) (s : Section) (l : Line) → takes s l ≡ true → IsLine v l → line_in v s (line_text l) ≡ Ok l
+line_again v s l may h =
+    ap (line_of_pieces v s) (cut_pieces l (pieces_lack 32 v l (omega arith) h)) ∙ pieces_again v s l may h
 
-pub line_free : (l : Line) → IsLine l → Lacks 10 (line_text l)
-line_free l h = line_lacks (pieces_of l) (pieces_lack 10 l (omega arith) h)
+pub line_free : (v : Version) (l : Line) → IsLine v l → Lacks 10 (line_text l)
+line_free v l h = line_lacks (pieces_of l) (pieces_lack 10 v l (omega arith) h)
 
 -- ---- lines of many pieces
 
-pub call_many : (i t a b c d e : List ℕ) (parts : List (List ℕ)) → 0 < length parts
-    → Err wrong.Line ≡ call_of i t (a ∷ b ∷ c ∷ d ∷ e ∷ parts)
-call_many i t a b c d e [] h = absurd (omega arith)
-call_many i t a b c d e (f ∷ more) h = refl
+pub call_many : (v : Version) (i t a b c d e : List ℕ) (parts : List (List ℕ)) → 0 < length parts
+    → Err wrong.Line ≡ call_of v i t (a ∷ b ∷ c ∷ d ∷ e ∷ parts)
+call_many v i t a b c d e [] h = absurd (omega arith)
+call_many v i t a b c d e (f ∷ more) h = refl
 
-pub call_pieces : (s : Section) (a b c : List ℕ) (parts : List (List ℕ)) → 0 < length parts
-    → line_of_pieces s (a ∷ b ∷ c ∷ parts) ≡ cond (takes_calls s && bytes_eq a (codes "call")) (call_of b c parts) (Err wrong.Line)
-call_pieces s a b c [] h = absurd (omega arith)
-call_pieces s a b c (d ∷ more) h = refl
+pub call_pieces : (v : Version) (s : Section) (a b c : List ℕ) (parts : List (List ℕ)) → 0 < length parts
+    → line_of_pieces v s (a ∷ b ∷ c ∷ parts) ≡ cond (takes_calls s && bytes_eq a (codes "call")) (call_of v b c parts) (Err wrong.Line)
+call_pieces v s a b c [] h = absurd (omega arith)
+call_pieces v s a b c (d ∷ more) h = refl

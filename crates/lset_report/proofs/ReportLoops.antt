@@ -20,9 +20,11 @@ use Rattle.lset_report.specs.declared.report_fault.ReportFault.{ReportFault}
 use Rattle.lset_report.specs.Report.{ReportValue}
 use Rattle.lset_report.specs.ReportReading.{fault, line_in, may_follow, judged, counted, following, line_after, section_after}
 use Rattle.lset_report.specs.ReportReading.{with_line}
-use Rattle.lset_report.specs.ReportReading.{ended_in, report_from, report_of, in_report, reading, no_lines, IsGoodUpTo, RunsOut}
+use Rattle.lset_report.specs.ReportReading.{last_of_header, first_line, ended_in, report_from, report_of, in_report, reading}
+use Rattle.lset_report.specs.ReportReading.{version_told, no_lines, IsGoodUpTo, RunsOut}
 use Rattle.lset_report.specs.Texts.{title, last_line}
 use Rattle.lset_report.specs.declared.reading.lines.Section.TheVariants as section
+use Rattle.lset_text.specs.declared.words.Version.{Version}
 use Rattle.lset_text.specs.declared.headers.Header.{Header}
 use Rattle.lset_text.specs.declared.headers.HeaderFault.{HeaderFault}
 use Rattle.lset_text.specs.Headers.{header_of, header_lines, number_line}
@@ -63,7 +65,7 @@ judged_ok r End k e = (cc, tt)
 -- what was judged good is so again
 pub judged_again : (s : Section) (r : ReportValue) (x : List ℕ) (l : Line) → line_after s r x ≡ Ok l → judged r l ≡ Ok l
 judged_again s r x l e =
-    let told = bind_ok (line_in s x) (judged r) l e in
+    let told = bind_ok (line_in r.version s x) (judged r) l e in
     let same = judged_ok r told.0 l told.2 in
     subst (λ (k : Line). judged r k ≡ Ok l) same.0 told.2
 
@@ -96,8 +98,8 @@ goes_on s t line rest first after l whole parts read section_is told_is so_far_i
 
 -- the parts before those that are left, after one more
 pub one_more : (line : ℕ) (before : List (List ℕ)) (text rest first after : List ℕ) → cut_at 10 rest ≡ first ∷ cut_at 10 after
-    → cut_at 10 text ≡ before ++ cut_at 10 rest → line ≡ 5 + length before
-    → (more : List (List ℕ)) × (cut_at 10 text ≡ more ++ cut_at 10 after) × (line + 1 ≡ 5 + length more)
+    → cut_at 10 text ≡ before ++ cut_at 10 rest → line ≡ first_line + length before
+    → (more : List (List ℕ)) × (cut_at 10 text ≡ more ++ cut_at 10 after) × (line + 1 ≡ first_line + length more)
 one_more line before text rest first after parts all lines =
     let split : cut_at 10 text ≡ before ++ first ∷ cut_at 10 after = all ∙ ap (λ (ps : List (List ℕ)). before ++ ps) parts in
     let long : length (before ++ first ∷ []) ≡ length before + 1 = length-append before (first ∷ []) in
@@ -144,8 +146,8 @@ pub stops : (line : ℕ) (s : Section) (r : ReportValue) (before : List (List �
     → cut_at 10 rest ≡ first ∷ cut_at 10 after
     → ((cause : ReportCause) × (line_after s r first ≡ Err cause) × (e ≡ fault line cause))
     ⊎ ((l : Line) × (line_after s r first ≡ Ok l) × (l ≢ End) × (e ≡ fault line wrong.Memory))
-    → report_from line s r (cut_at 10 rest) ≡ whole → cut_at 10 text ≡ before ++ cut_at 10 rest → line ≡ 5 + length before
-    → (whole ≡ Err e) ⊎ RunsOut 5 (cut_at 10 text) whole e
+    → report_from line s r (cut_at 10 rest) ≡ whole → cut_at 10 text ≡ before ++ cut_at 10 rest
+    → line ≡ first_line + length before → (whole ≡ Err e) ⊎ RunsOut first_line (cut_at 10 text) whole e
 stops line s r before text rest first after e whole parts (inl bad) so_far_is all lines =
     let step = report_fails line s r first (cut_at 10 after) bad.0 (some_part 10 after) bad.1 in
     inl (sym so_far_is ∙ ap (report_from line s r) parts ∙ step ∙ ap (λ (f : ReportFault). Err f) (sym bad.2))
@@ -159,7 +161,7 @@ stops line s r before text rest first after e whole parts (inr full) so_far_is a
     ap length split ∙ length-append before (first ∷ cut_at 10 after) in
     let here : get_or (cut_at 10 text) (length before) [] ≡ first =
     ap (λ (ps : List (List ℕ)). get_or ps (length before) []) split ∙ get_or-append_seam before first (cut_at 10 after) [] in
-    let out : RunsOut 5 (cut_at 10 text) whole (fault line wrong.Memory) = record {
+    let out : RunsOut first_line (cut_at 10 text) whole (fault line wrong.Memory) = record {
       cause = refl;
       after_header = omega (arith, lines);
       index = length before;
@@ -168,7 +170,7 @@ stops line s r before text rest first after e whole parts (inr full) so_far_is a
       asks = λ is_end. full.2 (end_told s r first full.0 full.1 (sym here ∙ is_end));
       good = subst (IsGoodUpTo line) (sym left) good;
     } in
-    inr (subst (RunsOut 5 (cut_at 10 text) whole) (sym full.3) out)
+    inr (subst (RunsOut first_line (cut_at 10 text) whole) (sym full.3) out)
 
 pub not_ended : (line : ℕ) (s : Section) (r : ReportValue) (rest : List ℕ) (whole : Result ReportValue ReportFault)
     → cut_at 10 rest ≡ rest ∷ [] → (length rest ≡ 0 → ⊥)
@@ -188,34 +190,43 @@ at_end line s r rest whole none so_far_is =
     sym so_far_is ∙ one
 
 -- a text whose header has a fault
-pub header_fault : (bytes word : List ℕ) (e : HeaderFault) → word ≡ title → header_of word (cut_at 10 bytes) ≡ Err e
-    → reading bytes ≡ Err (in_report e)
+pub header_fault : (bytes word : List ℕ) (v : Version) (e : HeaderFault) → v ≡ version_told (cut_at 10 bytes) → word ≡ title v
+    → header_of word (cut_at 10 bytes) ≡ Err e → reading bytes ≡ Err (in_report e)
 unfolding report_of
-header_fault bytes word e word_is header_is =
-    let head : header_of title (cut_at 10 bytes) ≡ Err e =
-    ap (λ (w : List ℕ). header_of w (cut_at 10 bytes)) (sym word_is) ∙ header_is in
+header_fault bytes word v e version_is word_is header_is =
+    let head : header_of (title (version_told (cut_at 10 bytes))) (cut_at 10 bytes) ≡ Err e =
+    ap (λ (w : List ℕ). header_of w (cut_at 10 bytes)) (ap title (sym version_is) ∙ sym word_is) ∙ header_is in
     rw head refl
 
--- a text whose header was read, and the parts of the text
-pub after_header : (bytes rest word : List ℕ) (h : Header) → word ≡ title
-    → header_of word (cut_at 10 bytes) ≡ Ok (h, cut_at 10 rest)
-    → (reading bytes ≡ report_from 5 section.Calls (no_lines h) (cut_at 10 rest))
-    × (cut_at 10 bytes ≡ header_lines title h ++ cut_at 10 rest)
+-- the parts of a text of a version whose header was read
+in_version : (parts rest : List (List ℕ)) (v : Version) (h : Header) → v ≡ version_told parts
+    → header_of (title v) parts ≡ Ok (h, rest)
+    → report_of parts ≡ report_from first_line section.Calls (no_lines v h) rest
 unfolding report_of
-after_header bytes rest word h word_is header_is =
-    let head : header_of title (cut_at 10 bytes) ≡ Ok (h, cut_at 10 rest) =
+in_version parts rest v h is head =
+    let told : header_of (title (version_told parts)) parts ≡ Ok (h, rest) =
+    ap (λ (u : Version). header_of (title u) parts) (sym is) ∙ head in
+    rw told (ap (λ (u : Version). report_from first_line section.Calls (no_lines u h) rest) (sym is))
+
+-- a text of a version whose header was read, and the parts of the text
+pub after_header : (bytes rest word : List ℕ) (v : Version) (h : Header) → v ≡ version_told (cut_at 10 bytes) → word ≡ title v
+    → header_of word (cut_at 10 bytes) ≡ Ok (h, cut_at 10 rest)
+    → (reading bytes ≡ report_from first_line section.Calls (no_lines v h) (cut_at 10 rest))
+    × (cut_at 10 bytes ≡ header_lines (title v) h ++ cut_at 10 rest)
+after_header bytes rest word v h version_is word_is header_is =
+    let head : header_of (title v) (cut_at 10 bytes) ≡ Ok (h, cut_at 10 rest) =
     ap (λ (w : List ℕ). header_of w (cut_at 10 bytes)) (sym word_is) ∙ header_is in
-    let begins = header_ok title (cut_at 10 bytes) (h, cut_at 10 rest) head in
-    (rw head refl, begins.0)
+    let begins = header_ok (title v) (cut_at 10 bytes) (h, cut_at 10 rest) head in
+    (in_version (cut_at 10 bytes) (cut_at 10 rest) v h version_is head, begins.0)
 
 -- where memory ran out after the header
-pub runs_out_after_header : (bytes rest word : List ℕ) (h : Header) → word ≡ title
-    → header_of word (cut_at 10 bytes) ≡ Ok (h, cut_at 10 rest)
-    → RunsOut 1 (cut_at 10 bytes) (reading bytes) (fault 4 wrong.Memory)
-runs_out_after_header bytes rest word h word_is header_is =
-    let after = after_header bytes rest word h word_is header_is in
-    let good = good_from 4 5 section.Calls (no_lines h) (cut_at 10 rest) (omega arith) in
-    let long : length (cut_at 10 bytes) ≡ length (header_lines title h ++ cut_at 10 rest) = ap length after.1 in
+pub runs_out_after_header : (bytes rest word : List ℕ) (v : Version) (h : Header) → v ≡ version_told (cut_at 10 bytes)
+    → word ≡ title v → header_of word (cut_at 10 bytes) ≡ Ok (h, cut_at 10 rest)
+    → RunsOut 1 (cut_at 10 bytes) (reading bytes) (fault last_of_header wrong.Memory)
+runs_out_after_header bytes rest word v h version_is word_is header_is =
+    let after = after_header bytes rest word v h version_is word_is header_is in
+    let good = good_from last_of_header first_line section.Calls (no_lines v h) (cut_at 10 rest) (omega arith) in
+    let long : length (cut_at 10 bytes) ≡ length (header_lines (title v) h ++ cut_at 10 rest) = ap length after.1 in
     let here : get_or (cut_at 10 bytes) 3 [] ≡ number_line (codes "quota") h.quota = ap (λ (ps : List (List ℕ)). get_or ps 3 []) after.1 in
     record {
       cause = refl;
@@ -224,34 +235,35 @@ runs_out_after_header bytes rest word h word_is header_is =
       line_is = refl;
       whole = omega (arith, long, some_part 10 rest);
       asks = λ is_end. (let same = sym here ∙ is_end in cc);
-      good = subst (IsGoodUpTo 4) (sym after.0) good;
+      good = subst (IsGoodUpTo last_of_header) (sym after.0) good;
     }
 
 -- the lines after a header that was read
-pub report_is : (bytes rest word : List ℕ) (h : Header) (s : Reader) → word ≡ title
-    → header_of word (cut_at 10 bytes) ≡ Ok (h, cut_at 10 rest)
-    → s.section ≡ section.Calls → so_far s ≡ no_lines h
-    → (reading bytes ≡ report_from 5 s.section (so_far s) (cut_at 10 rest))
-    × (cut_at 10 bytes ≡ header_lines title h ++ cut_at 10 rest)
-report_is bytes rest word h s word_is header_is section_is so_far_is =
-    let after = after_header bytes rest word h word_is header_is in
+pub report_is : (bytes rest word : List ℕ) (v : Version) (h : Header) (s : Reader) → v ≡ version_told (cut_at 10 bytes)
+    → word ≡ title v → header_of word (cut_at 10 bytes) ≡ Ok (h, cut_at 10 rest)
+    → s.section ≡ section.Calls → so_far s ≡ no_lines v h
+    → (reading bytes ≡ report_from first_line s.section (so_far s) (cut_at 10 rest))
+    × (cut_at 10 bytes ≡ header_lines (title v) h ++ cut_at 10 rest)
+report_is bytes rest word v h s version_is word_is header_is section_is so_far_is =
+    let after = after_header bytes rest word v h version_is word_is header_is in
     (rw (section_is, so_far_is) after.0, after.1)
 
 -- what reading the lines after the header gives, as what reading the whole text gives
-pub whole_text : (bytes rest : List ℕ) (h : Header) (e : ReportFault) (read : Result ReportValue ReportFault)
-    → reading bytes ≡ read → cut_at 10 bytes ≡ header_lines title h ++ cut_at 10 rest
-    → (read ≡ Err e) ⊎ RunsOut 5 (cut_at 10 rest) read e → (reading bytes ≡ Err e) ⊎ RunsOut 1 (cut_at 10 bytes) (reading bytes) e
-whole_text bytes rest h e read read_is parts_are (inl bad) = inl (read_is ∙ bad)
-whole_text bytes rest h e read read_is parts_are (inr out) =
-    let long : length (cut_at 10 bytes) ≡ length (header_lines title h ++ cut_at 10 rest) = ap length parts_are in
-    let here : get_or (cut_at 10 bytes) (4 + out.index) [] ≡ get_or (cut_at 10 rest) out.index [] =
-    ap (λ (ps : List (List ℕ)). get_or ps (4 + out.index) []) parts_are
-    ∙ get_or-append-add (header_lines title h) (cut_at 10 rest) out.index [] in
+pub whole_text : (bytes rest : List ℕ) (v : Version) (h : Header) (e : ReportFault) (read : Result ReportValue ReportFault)
+    → reading bytes ≡ read → cut_at 10 bytes ≡ header_lines (title v) h ++ cut_at 10 rest
+    → (read ≡ Err e) ⊎ RunsOut first_line (cut_at 10 rest) read e
+    → (reading bytes ≡ Err e) ⊎ RunsOut 1 (cut_at 10 bytes) (reading bytes) e
+whole_text bytes rest v h e read read_is parts_are (inl bad) = inl (read_is ∙ bad)
+whole_text bytes rest v h e read read_is parts_are (inr out) =
+    let long : length (cut_at 10 bytes) ≡ length (header_lines (title v) h ++ cut_at 10 rest) = ap length parts_are in
+    let here : get_or (cut_at 10 bytes) (last_of_header + out.index) [] ≡ get_or (cut_at 10 rest) out.index [] =
+    ap (λ (ps : List (List ℕ)). get_or ps (last_of_header + out.index) []) parts_are
+    ∙ get_or-append-add (header_lines (title v) h) (cut_at 10 rest) out.index [] in
     inr
     (record {
       cause = out.cause;
       after_header = out.after_header;
-      index = 4 + out.index;
+      index = last_of_header + out.index;
       line_is = omega (arith, out.line_is);
       whole = omega (arith, long, out.whole);
       asks = λ is_end. out.asks (sym here ∙ is_end);

@@ -16,8 +16,9 @@ use Rattle.lset_text.specs.Headers.{IsHeader, header_lines, header_of}
 use Rattle.lset_text.proofs.PartLaws.{text_from_lines}
 use Rattle.lset_text.proofs.ReadingLaws.{bind_ok, map_fault_ok, ok_is}
 use Rattle.lset_text.proofs.HeaderLaws.{header_ok}
-use Rattle.lset_text.specs.Spellings.{HasReply}
-use Rattle.lset_text.specs.declared.words.Version.TheVariants.{One}
+use Rattle.lset_text.specs.Spellings.{HasCall, HasReply}
+use Rattle.lset_text.specs.declared.words.Version.{Version}
+use Rattle.lset_text.specs.declared.words.Version.TheVariants.{One, Two}
 use Rattle.lset_report.specs.declared.reading.lines.Line.{Line}
 use Rattle.lset_report.specs.declared.reading.lines.Line.TheVariants as told
 use Rattle.lset_report.specs.declared.reading.lines.Section.{Section}
@@ -27,11 +28,11 @@ use Rattle.lset_report.specs.declared.report_fault.ReportCause.TheVariants as wr
 use Rattle.lset_report.specs.declared.report_fault.ReportFault.{ReportFault}
 use Rattle.lset_report.specs.Report.{ReportValue, view}
 use Rattle.lset_report.specs.Texts.{title, header_in, call_line, call_lines, place_line, key_line, last_line}
-use Rattle.lset_report.specs.Texts.{report_lines, report_text}
-use Rattle.lset_report.specs.ReportReading.{IsEnd, IsCall, IsReport, fault, in_report, takes_calls, takes_places, takes_keys}
+use Rattle.lset_report.specs.Texts.{report_lines, report_text, HasEnd, HasWordsIn, HasWordsOfVersion}
+use Rattle.lset_report.specs.ReportReading.{IsEnd, IsCall, IsPlace, IsReport, fault, in_report, takes_calls, takes_places, takes_keys}
 use Rattle.lset_report.specs.ReportReading.{line_in}
 use Rattle.lset_report.specs.ReportReading.{judged, line_after, section_after, with_line, ended_in}
-use Rattle.lset_report.specs.ReportReading.{report_from, no_lines}
+use Rattle.lset_report.specs.ReportReading.{first_line, report_from, no_lines, version_told}
 use Rattle.lset_report.specs.ReportReading.{report_of, reading, Gives}
 use Rattle.lset_report.proofs.ReportHistories.{history_more}
 use Rattle.lset_report.proofs.ReportLines.{line_text, IsEndLine, IsLine, takes, line_ok}
@@ -55,7 +56,7 @@ calls_pushed n (y ∷ ys) x =
 -- ---- the lines of the report so far
 
 abbrev so_far : ReportValue → List (List ℕ)
-so_far r = header_lines title (header_in r) ++ call_lines 0 r.history.calls ++ map place_line r.order ++ map key_line r.keys
+so_far r = header_lines (title r.version) (header_in r) ++ call_lines 0 r.history.calls ++ map place_line r.order ++ map key_line r.keys
 
 abbrev lines_at : Section → ReportValue → List (List ℕ)
 lines_at section.Calls r = so_far r
@@ -110,7 +111,7 @@ more_lines : (s : Section) (r : ReportValue) (l : Line) → Reaches s r → take
 more_lines s r (told.Call n x) h may good =
     let none = no_order s r may h in
     let nothing = no_keys s r (takes_more s may) h in
-    let front = header_lines title (header_in r) in
+    let front = header_lines (title r.version) (header_in r) in
     let cs = r.history.calls in
     let number : n ≡ 0 + length cs = omega (arith, good.1) in
     ap (λ (ls : List (List ℕ)). ls ++ call_line n x ∷ []) (lines_open s r (takes_most s (takes_more s may))
@@ -121,7 +122,7 @@ more_lines s r (told.Call n x) h may good =
     ∙ sym (with_nothing (front ++ call_lines 0 (cs ++ x ∷ [])) r.order r.keys none nothing)
 more_lines s r (told.Place p) h may good =
     let nothing = no_keys s r may h in
-    let front = header_lines title (header_in r) ++ call_lines 0 r.history.calls in
+    let front = header_lines (title r.version) (header_in r) ++ call_lines 0 r.history.calls in
     ap (λ (ls : List (List ℕ)). ls ++ place_line p ∷ []) (lines_open s r (takes_most s may)
     ∙ ap (λ (ks : List ℕ). front ++ map place_line r.order ++ map key_line ks) nothing
     ∙ append-nil (front ++ map place_line r.order))
@@ -130,7 +131,7 @@ more_lines s r (told.Place p) h may good =
     ∙ sym (ap (λ (ks : List ℕ). front ++ map place_line (r.order ++ p ∷ []) ++ map key_line ks) nothing
     ∙ append-nil (front ++ map place_line (r.order ++ p ∷ [])))
 more_lines s r (told.Key k) h may good =
-    let front = header_lines title (header_in r) ++ call_lines 0 r.history.calls ++ map place_line r.order in
+    let front = header_lines (title r.version) (header_in r) ++ call_lines 0 r.history.calls ++ map place_line r.order in
     ap (λ (ls : List (List ℕ)). ls ++ key_line k ∷ []) (lines_open s r may)
     ∙ append_assoc front (map key_line r.keys) (key_line k ∷ [])
     ∙ ap (λ (ls : List (List ℕ)). front ++ ls) (sym (map_push key_line r.keys k))
@@ -144,18 +145,18 @@ reaches_more s r (told.Key k) h may = tt
 reaches_more s r told.End h may = tt
 
 -- and the report keeps its limits
-is_end : (o : Option (ℕ × Reply)) → IsEndLine o → IsEnd o
-is_end None h = tt
-is_end (Some e) h = (h.1, h.2)
+is_end : (v : Version) (o : Option (ℕ × Reply)) → IsEndLine v o → IsEnd v o
+is_end v None h = tt
+is_end v (Some e) h = (h.1, h.2)
 
 length-one : {X : Type 0} (xs : List X) (x : X) → length (xs ++ x ∷ []) ≡ length xs + 1
 length-one xs x = length-append xs (x ∷ [])
 
-report_more : (r : ReportValue) (l : Line) → IsReport r → IsLine l → IsGood r l → IsReport (with_line r l)
+report_more : (r : ReportValue) (l : Line) → IsReport r → IsLine r.version l → IsGood r l → IsReport (with_line r l)
 report_more r (told.Call n x) is line good = record {
   header = is.header;
   history = history_more r.history.threads r.history.calls x is.history good.2;
-  calls = all_join IsCall r.history.calls (x ∷ []) is.calls ((line.4, line.2, is_end x.ended line.5, line.6), tt);
+  calls = all_join (IsCall r.version) r.history.calls (x ∷ []) is.calls ((line.4, line.2, is_end r.version x.ended line.5, line.6), tt);
   places = is.places;
   keys = is.keys;
   few_calls = let long = length-one r.history.calls x in omega (arith, long, good.0);
@@ -166,7 +167,7 @@ report_more r (told.Place p) is line good = record {
   header = is.header;
   history = is.history;
   calls = is.calls;
-  places = all_join (λ (q : Placed). (q.call < 2 ^ 32) × HasReply One q.reply) r.order (p ∷ []) is.places (line, tt);
+  places = all_join (IsPlace r.version) r.order (p ∷ []) is.places (line, tt);
   keys = is.keys;
   few_calls = is.few_calls;
   few_places = let long = length-one r.order p in omega (arith, long, good);
@@ -202,12 +203,12 @@ ended_ok line section.Done r q e is = subst (IsFound (so_far r ++ last_line ∷ 
 
 -- the line that was read
 told_line : (line : ℕ) (s : Section) (r : ReportValue) (x : List ℕ) (l : Line) → map_fault (fault line) (line_after s r x) ≡ Ok l
-    → (x ≡ line_text l) × IsLine l × (takes s l ≡ true) × IsGood r l
+    → (x ≡ line_text l) × IsLine r.version l × (takes s l ≡ true) × IsGood r l
 told_line line s r x l is =
-    let two = bind_ok (line_in s x) (judged r) l (map_fault_ok (fault line) (line_after s r x) l is) in
+    let two = bind_ok (line_in r.version s x) (judged r) l (map_fault_ok (fault line) (line_after s r x) l is) in
     let judged_is = judged_ok r two.0 l two.2 in
-    let text = line_ok s x two.0 two.1 in
-    subst (λ (k : Line). (x ≡ line_text k) × IsLine k × (takes s k ≡ true) × IsGood r k) judged_is.0
+    let text = line_ok r.version s x two.0 two.1 in
+    subst (λ (k : Line). (x ≡ line_text k) × IsLine r.version k × (takes s k ≡ true) × IsGood r k) judged_is.0
     (text.0, text.1, text.2, judged_is.1)
 
 lines_found : (line : ℕ) (s : Section) (r q : ReportValue) (x : List ℕ) (parts : List (List ℕ)) → IsReport r → Reaches s r
@@ -229,8 +230,8 @@ lines_found line s r q x (y ∷ more) is reached e =
     ∙ ap (λ (ls : List (List ℕ)). ls ++ y ∷ more) (more_lines s r l.0 reached one.2 one.3) in
     subst (λ (ls : List (List ℕ)). IsFound ls q) (sym regrouped) rest
 
-empty_report : (h : Header) → IsHeader h → IsReport (no_lines h)
-empty_report h is = record {
+empty_report : (v : Version) (h : Header) → IsHeader h → IsReport (no_lines v h)
+empty_report v h is = record {
   header = is;
   history = tt;
   calls = tt;
@@ -241,18 +242,20 @@ empty_report h is = record {
   few_keys = omega arith;
 }
 
-after_header : (h : Header) (q : ReportValue) (parts : List (List ℕ)) → 0 < length parts → IsHeader h
-    → report_from 5 section.Calls (no_lines h) parts ≡ Ok q → IsFound (header_lines title h ++ parts) q
-after_header h q [] some is e = absurd (omega arith)
-after_header h q (x ∷ parts) some is e = lines_found 5 section.Calls (no_lines h) q x parts (empty_report h is) (refl, refl) e
+after_header : (v : Version) (h : Header) (q : ReportValue) (parts : List (List ℕ)) → 0 < length parts → IsHeader h
+    → report_from first_line section.Calls (no_lines v h) parts ≡ Ok q → IsFound (header_lines (title v) h ++ parts) q
+after_header v h q [] some is e = absurd (omega arith)
+after_header v h q (x ∷ parts) some is e =
+    lines_found first_line section.Calls (no_lines v h) q x parts (empty_report v h is) (refl, refl) e
 
 report_ok : (parts : List (List ℕ)) (r : ReportValue) → report_of parts ≡ Ok r → IsFound parts r
 unfolding report_of
 report_ok parts r is =
-    let head = bind_ok (map_fault in_report (header_of title parts))
-    (λ head. report_from 5 section.Calls (no_lines head.0) head.1) r is in
-    let header = header_ok title parts head.0 (map_fault_ok in_report (header_of title parts) head.0 head.1) in
-    subst (λ (ps : List (List ℕ)). IsFound ps r) (sym header.0) (after_header head.0.0 r head.0.1 header.2 header.1 head.2)
+    let v = version_told parts in
+    let head = bind_ok (map_fault in_report (header_of (title v) parts))
+    (λ head. report_from first_line section.Calls (no_lines v head.0) head.1) r is in
+    let header = header_ok (title v) parts head.0 (map_fault_ok in_report (header_of (title v) parts) head.0 head.1) in
+    subst (λ (ps : List (List ℕ)). IsFound ps r) (sym header.0) (after_header v head.0.0 r head.0.1 header.2 header.1 head.2)
 
 pub is_found : (bytes : List ℕ) (r : ReportValue) → reading bytes ≡ Ok r → IsReport r × (bytes ≡ report_text r)
 is_found bytes r is =
@@ -265,3 +268,30 @@ pub found_in : (bytes : List ℕ) (r : Result Report ReportFault) → Gives view
     → IfOk r (λ s. IsReport (view s) × (bytes ≡ report_text (view s)))
 found_in bytes (Ok s) gives = is_found bytes (view s) gives
 found_in bytes (Err e) gives = tt
+
+-- ---- as what a writer asks
+
+all_words : {X : Type 0} (P Q : X → Type 0) (xs : List X) → ((x : X) → P x → Q x) → AllByRecursion P xs → AllByRecursion Q xs
+all_words P Q [] each h = tt
+all_words P Q (x ∷ xs) each h = (each x h.0, all_words P Q xs each h.1)
+
+end_words : (v : Version) (o : Option (ℕ × Reply)) → IsEnd v o → HasEnd v o
+end_words v None h = tt
+end_words v (Some e) h = h.1
+
+words_in : (v : Version) (calls : List CallRecord) (order : List Placed) → AllByRecursion (IsCall v) calls
+    → AllByRecursion (IsPlace v) order → HasWordsIn v calls order
+words_in One calls order are places = (
+  all_words (IsCall One) (λ (x : CallRecord). HasCall One x.call × HasEnd One x.ended) calls
+      (λ x h. (h.3, end_words One x.ended h.2)) are,
+  all_words (IsPlace One) (λ (p : Placed). HasReply One p.reply) order (λ p h. h.1) places,
+)
+words_in Two calls order are places = tt
+
+-- a report that has a text has the words of its version, so what was read can be written
+pub has_words : (r : ReportValue) → IsReport r → HasWordsOfVersion r
+has_words r is = words_in r.version r.history.calls r.order is.calls is.places
+
+pub words_found : (bytes : List ℕ) (r : Result Report ReportFault) → Gives view r bytes → IfOk r (λ s. HasWordsOfVersion (view s))
+words_found bytes (Ok s) gives = has_words (view s) (is_found bytes (view s) gives).0
+words_found bytes (Err e) gives = tt

@@ -7,12 +7,13 @@ use Rattle.lset_report.specs.declared.report_fault.ReportFault.{ReportFault}
 use Rattle.lset_report.specs.Report.{ReportValue}
 use Rattle.lset_report.specs.declared.reading.lines.Line.{Line}
 use Rattle.lset_report.specs.declared.reading.lines.Line.TheVariants.{End}
-use Rattle.lset_report.specs.ReportReading.{fault, line_after, section_after, with_line, RunsOut}
+use Rattle.lset_report.specs.ReportReading.{first_line, fault, line_after, section_after, with_line, RunsOut}
 use Rattle.lset_report.specs.ReportCalls.{Tracks, threads_of}
 
 -- the report of the lines that were read
 abbrev pub so_far : Reader → ReportValue
 so_far s = record {
+  version = s.version;
   kind = s.header.kind;
   history = record { threads = s.header.threads; quota = s.header.quota; calls = s.calls.calls.items };
   order = s.order.items;
@@ -26,7 +27,7 @@ pub record Holds (s : Reader) : Type 0 where
 -- the reader of the parts after a header went on to this report, or this is the first fault, or memory ran out
 abbrev pub GoesOn : {X : Type 0} → ReportValue → Result X ReportFault → List (List ℕ) → Result ReportValue ReportFault → Type 0
 GoesOn r (Ok x) parts read = read ≡ Ok r
-GoesOn r (Err e) parts read = (read ≡ Err e) ⊎ RunsOut 5 parts read e
+GoesOn r (Err e) parts read = (read ≡ Err e) ⊎ RunsOut first_line parts read e
 
 -- the reader read a line with that number
 abbrev pub ReadsLine : {X : Type 0} → Reader → Reader → ℕ → List ℕ → Result X ReportFault → Type 0

@@ -16,10 +16,11 @@ use Rattle.lset_text.specs.declared.headers.HeaderCause.TheVariants as head
 use Rattle.lset_text.specs.declared.headers.HeaderFault.{HeaderFault}
 use Rattle.lset_text.specs.Parts.{cut_at}
 use Rattle.lset_text.specs.Numbers.{number_in, max_number}
-use Rattle.lset_text.specs.Spellings.{call_word_in, reply_in, with_key, HasCall, HasReply}
-use Rattle.lset_text.specs.declared.words.Version.TheVariants.{One}
+use Rattle.lset_text.specs.Spellings.{call_word_in, reply_in, is_reply_in, with_key, HasCall, HasReply}
+use Rattle.lset_text.specs.declared.words.Version.{Version}
+use Rattle.lset_text.specs.declared.words.Version.TheVariants.{Two}
 use Rattle.lset_text.specs.Results.{◌>>=◌, or_fail, map_fault}
-use Rattle.lset_text.specs.Headers.{IsHeader, header_of}
+use Rattle.lset_text.specs.Headers.{IsHeader, header_of, version_in}
 use Rattle.lset_report.specs.declared.report.TheConstants.{MOST_CALLS, MOST_PLACES, MOST_KEYS}
 use Rattle.lset_report.specs.declared.reading.lines.Line.{Line as ReportLine}
 use Rattle.lset_report.specs.declared.reading.lines.Line.TheVariants as told
@@ -34,19 +35,23 @@ use Rattle.lset_report.specs.Texts.{title, header_in, last_line, report_text}
 -- ---- reports that have a text which is read
 
 -- what its history leaves open of a call: its key and its moments are numbers up to 4294967295
-abbrev pub IsEnd : Option (ℕ × Reply) → Type 0
-IsEnd None = Unit {0}
-IsEnd (Some end) = (end.0 < 2 ^ 32) × HasReply One end.1
+abbrev pub IsEnd : Version → Option (ℕ × Reply) → Type 0
+IsEnd version None = Unit {0}
+IsEnd version (Some end) = (end.0 < 2 ^ 32) × HasReply version end.1
 
-abbrev pub IsCall : CallRecord → Type 0
-IsCall x = (x.begun < 2 ^ 32) × ((key_of x.call).0 < 2 ^ 32) × IsEnd x.ended × HasCall One x.call
+abbrev pub IsCall : Version → CallRecord → Type 0
+IsCall version x = (x.begun < 2 ^ 32) × ((key_of x.call).0 < 2 ^ 32) × IsEnd version x.ended × HasCall version x.call
 
--- What has a text that is read: its calls are a history, and nothing is too large or too many. The order and the keys are free.
+abbrev pub IsPlace : Version → Placed → Type 0
+IsPlace version p = (p.call < 2 ^ 32) × HasReply version p.reply
+
+-- What has a text that is read: its calls are a history, its calls and replies are those that its version has, and nothing is
+-- too large or too many. The order and the keys are free.
 pub record IsReport (r : ReportValue) : Type 0 where
   pub header : IsHeader (header_in r)
   pub history : IsHistory r.history.threads r.history.calls
-  pub calls : AllByRecursion IsCall r.history.calls
-  pub places : AllByRecursion (λ (p : Placed). (p.call < 2 ^ 32) × HasReply One p.reply) r.order
+  pub calls : AllByRecursion (IsCall r.version) r.history.calls
+  pub places : AllByRecursion (IsPlace r.version) r.order
   pub keys : AllByRecursion (λ k. k < 2 ^ 32) r.keys
   pub few_calls : length r.history.calls ≤ MOST_CALLS
   pub few_places : length r.order ≤ MOST_PLACES
@@ -104,34 +109,38 @@ begun_of word id thread key begun = do
   b ← moment begun
   Ok (n, record { thread = t; call = with_key word (record { 0 = k }); begun = b; ended = None })
 
-unfoldable pub open_of : List ℕ → List ℕ → List ℕ → List ℕ → List ℕ → List ℕ → Result ReportLine ReportCause
-open_of id thread call key begun open_word = do
-  w ← or_fail wrong.Line (call_word_in One call)
+-- The reply of a version that a piece spells. Its form is looked at in the check of the line, its number in that of the numbers.
+unfoldable pub reply_told : Version → List ℕ → Result Reply ReportCause
+reply_told version piece = if is_reply_in version piece then or_fail wrong.Number (reply_in version piece) else Err wrong.Line
+
+unfoldable pub open_of : Version → List ℕ → List ℕ → List ℕ → List ℕ → List ℕ → List ℕ → Result ReportLine ReportCause
+open_of version id thread call key begun open_word = do
+  w ← or_fail wrong.Line (call_word_in version call)
   if bytes_eq open_word (codes "open") then (do
     x ← begun_of w id thread key begun
     Ok (told.Call x.0 x.1)) else Err wrong.Line
 
-unfoldable pub ended_of : List ℕ → List ℕ → List ℕ → List ℕ → List ℕ → List ℕ → List ℕ → Result ReportLine ReportCause
-ended_of id thread call key begun end reply = do
-  w ← or_fail wrong.Line (call_word_in One call)
-  r ← or_fail wrong.Line (reply_in One reply)
+unfoldable pub ended_of : Version → List ℕ → List ℕ → List ℕ → List ℕ → List ℕ → List ℕ → List ℕ → Result ReportLine ReportCause
+ended_of version id thread call key begun end reply = do
+  w ← or_fail wrong.Line (call_word_in version call)
+  r ← reply_told version reply
   x ← begun_of w id thread key begun
   e ← moment end
   Ok (told.Call x.0 (record x.1 { ended = Some (e, r) }))
 
 -- a call, of the pieces after its thread
-abbrev pub call_of : List ℕ → List ℕ → List (List ℕ) → Result ReportLine ReportCause
-call_of id thread [] = Err wrong.Line
-call_of id thread (a ∷ []) = Err wrong.Line
-call_of id thread (a ∷ b ∷ []) = Err wrong.Line
-call_of id thread (a ∷ b ∷ c ∷ []) = Err wrong.Line
-call_of id thread (a ∷ b ∷ c ∷ d ∷ []) = open_of id thread a b c d
-call_of id thread (a ∷ b ∷ c ∷ d ∷ e ∷ []) = ended_of id thread a b c d e
-call_of id thread (a ∷ b ∷ c ∷ d ∷ e ∷ f ∷ more) = Err wrong.Line
+abbrev pub call_of : Version → List ℕ → List ℕ → List (List ℕ) → Result ReportLine ReportCause
+call_of version id thread [] = Err wrong.Line
+call_of version id thread (a ∷ []) = Err wrong.Line
+call_of version id thread (a ∷ b ∷ []) = Err wrong.Line
+call_of version id thread (a ∷ b ∷ c ∷ []) = Err wrong.Line
+call_of version id thread (a ∷ b ∷ c ∷ d ∷ []) = open_of version id thread a b c d
+call_of version id thread (a ∷ b ∷ c ∷ d ∷ e ∷ []) = ended_of version id thread a b c d e
+call_of version id thread (a ∷ b ∷ c ∷ d ∷ e ∷ f ∷ more) = Err wrong.Line
 
-unfoldable pub place_of : Section → List ℕ → List ℕ → List ℕ → Result ReportLine ReportCause
-place_of s word id reply = if takes_places s && bytes_eq word (codes "place") then (do
-  r ← or_fail wrong.Line (reply_in One reply)
+unfoldable pub place_of : Version → Section → List ℕ → List ℕ → List ℕ → Result ReportLine ReportCause
+place_of version s word id reply = if takes_places s && bytes_eq word (codes "place") then (do
+  r ← reply_told version reply
   n ← any_number id
   Ok (told.Place (record { call = n; reply = r }))) else Err wrong.Line
 
@@ -143,17 +152,17 @@ key_of_line s word key = if takes_keys s && bytes_eq word (codes "key") then (do
 abbrev pub end_of : Section → List ℕ → Result ReportLine ReportCause
 end_of s word = if takes_keys s && bytes_eq word (codes "end") then Ok told.End else Err wrong.Line
 
-abbrev pub line_of_pieces : Section → List (List ℕ) → Result ReportLine ReportCause
-line_of_pieces s [] = Err wrong.Line
-line_of_pieces s (a ∷ []) = end_of s a
-line_of_pieces s (a ∷ b ∷ []) = key_of_line s a b
-line_of_pieces s (a ∷ b ∷ c ∷ []) = place_of s a b c
-line_of_pieces s (a ∷ b ∷ c ∷ d ∷ more) =
-    if takes_calls s && bytes_eq a (codes "call") then call_of b c (d ∷ more) else Err wrong.Line
+abbrev pub line_of_pieces : Version → Section → List (List ℕ) → Result ReportLine ReportCause
+line_of_pieces version s [] = Err wrong.Line
+line_of_pieces version s (a ∷ []) = end_of s a
+line_of_pieces version s (a ∷ b ∷ []) = key_of_line s a b
+line_of_pieces version s (a ∷ b ∷ c ∷ []) = place_of version s a b c
+line_of_pieces version s (a ∷ b ∷ c ∷ d ∷ more) =
+    if takes_calls s && bytes_eq a (codes "call") then call_of version b c (d ∷ more) else Err wrong.Line
 
--- what a line tells in a text that has come to a section
-abbrev pub line_in : Section → List ℕ → Result ReportLine ReportCause
-line_in s line = line_of_pieces s (cut_at 32 line)
+-- what a line tells in a text of a version that has come to a section
+abbrev pub line_in : Version → Section → List ℕ → Result ReportLine ReportCause
+line_in version s line = line_of_pieces version s (cut_at 32 line)
 
 -- ---- a line after those above it
 
@@ -211,7 +220,7 @@ judged r told.End = Ok told.End
 
 -- what a line tells after the report of the lines above
 abbrev pub line_after : Section → ReportValue → List ℕ → Result ReportLine ReportCause
-line_after s r line = line_in s line >>= judged r
+line_after s r line = line_in r.version s line >>= judged r
 
 abbrev pub section_after : ReportLine → Section
 section_after (told.Call number x) = section.Calls
@@ -230,6 +239,13 @@ with_line r told.End = r
 
 -- ---- texts, as their parts between newlines: whole lines, and what comes after the last newline
 
+-- the last line of the header, and the first one after it
+abbrev pub last_of_header : ℕ
+last_of_header = 4
+
+abbrev pub first_line : ℕ
+first_line = last_of_header + 1
+
 -- a text that ends here
 abbrev pub ended_in : ℕ → Section → ReportValue → Result ReportValue ReportFault
 ended_in line section.Calls r = Err (fault line wrong.NotEnded)
@@ -245,18 +261,23 @@ report_from line s r (x ∷ y ∷ more) = do
   l ← map_fault (fault line) (line_after s r x)
   report_from (line + 1) (section_after l) (with_line r l) (y ∷ more)
 
-abbrev pub no_lines : HeaderTold → ReportValue
-no_lines h = record {
+abbrev pub no_lines : Version → HeaderTold → ReportValue
+no_lines version h = record {
+  version = version;
   kind = h.kind;
   history = record { threads = h.threads; quota = h.quota; calls = [] };
   order = [];
   keys = [];
 }
 
+-- the version that the first line alone tells
+abbrev pub version_told : List (List ℕ) → Version
+version_told parts = version_in (title Two) parts
+
 unfoldable pub report_of : List (List ℕ) → Result ReportValue ReportFault
 report_of parts = do
-  head ← map_fault in_report (header_of title parts)
-  report_from 5 section.Calls (no_lines head.0) head.1
+  head ← map_fault in_report (header_of (title (version_told parts)) parts)
+  report_from first_line section.Calls (no_lines (version_told parts) head.0) head.1
 
 abbrev pub reading : List ℕ → Result ReportValue ReportFault
 reading bytes = report_of (cut_at 10 bytes)
@@ -279,7 +300,7 @@ IsGoodUpTo line (Err e) = line < e.line
 pub record RunsOut (first : ℕ) (parts : List (List ℕ)) (read : Result ReportValue ReportFault) (e : ReportFault) : Type 0 where
   pub cause : e.cause ≡ wrong.Memory
   -- the line is the last of the header, whose lines take no memory, or one after it,
-  pub after_header : 4 ≤ e.line
+  pub after_header : last_of_header ≤ e.line
   -- it is a whole line of the text,
   pub index : ℕ
   pub line_is : e.line ≡ first + index

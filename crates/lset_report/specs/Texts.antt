@@ -1,18 +1,22 @@
--- [Report text]: the one spelling of each report.
+-- [Report text]: the one spelling of each report, in its version.
 use Rattle.std.specs.Prelude.{ℕ, ◌+◌, List, [], ◌∷◌, ◌++◌, map, codes, Option, Some, None}
 use Rattle.std.specs.Fmt.{decimal}
+use Rattle.std.specs.List.{AllByRecursion}
 use Rattle.lset_words.specs.declared.Reply.{Reply}
 use Rattle.lset_words.specs.declared.history.CallRecord.{CallRecord}
 use Rattle.lset_words.specs.declared.history.Placed.{Placed}
 use Rattle.lset_words.specs.Words.{key_of}
 use Rattle.lset_text.specs.declared.headers.Header.{Header}
 use Rattle.lset_text.specs.Parts.{line_of, text_of}
-use Rattle.lset_text.specs.Spellings.{call_text, reply_text}
+use Rattle.lset_text.specs.Spellings.{call_text, reply_text, HasCall, HasReply}
+use Rattle.lset_text.specs.declared.words.Version.{Version}
+use Rattle.lset_text.specs.declared.words.Version.TheVariants.{One, Two}
 use Rattle.lset_text.specs.Headers.{header_lines}
 use Rattle.lset_report.specs.Report.{ReportValue}
 
-abbrev pub title : List ℕ
-title = codes "listset-report 1"
+abbrev pub title : Version → List ℕ
+title One = codes "listset-report 1"
+title Two = codes "listset-report 2"
 
 abbrev pub header_in : ReportValue → Header
 header_in r = record { kind = r.kind; threads = r.history.threads; quota = r.history.quota }
@@ -41,8 +45,24 @@ abbrev pub last_line : List ℕ
 last_line = codes "end"
 
 abbrev pub report_lines : ReportValue → List (List ℕ)
-report_lines r = header_lines title (header_in r) ++ call_lines 0 r.history.calls ++ map place_line r.order ++ map key_line r.keys
-    ++ last_line ∷ []
+report_lines r = header_lines (title r.version) (header_in r) ++ call_lines 0 r.history.calls ++ map place_line r.order
+    ++ map key_line r.keys ++ last_line ∷ []
 
 abbrev pub report_text : ReportValue → List ℕ
 report_text r = text_of (report_lines r)
+
+-- ---- reports whose version has words for what they tell
+
+-- a call is open, or its reply is one that a version has
+abbrev pub HasEnd : Version → Option (ℕ × Reply) → Type 0
+HasEnd version None = Unit {0}
+HasEnd version (Some end) = HasReply version end.1
+
+abbrev pub HasWordsIn : Version → List CallRecord → List Placed → Type 0
+HasWordsIn One calls order = AllByRecursion (λ (x : CallRecord). HasCall One x.call × HasEnd One x.ended) calls
+    × AllByRecursion (λ (p : Placed). HasReply One p.reply) order
+HasWordsIn Two calls order = Unit {0}
+
+-- A report of the first version has none of the calls and replies that came with the second, which has words for all.
+abbrev pub HasWordsOfVersion : ReportValue → Type 0
+HasWordsOfVersion r = HasWordsIn r.version r.history.calls r.order

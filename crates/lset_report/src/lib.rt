@@ -5,12 +5,10 @@
 mod reading;
 mod report;
 mod report_fault;
+mod title;
 mod writing;
 
 pub use reading::{read_report, reports_read_back};
 pub use report::{MOST_CALLS, MOST_KEYS, MOST_PLACES, Report};
 pub use report_fault::{ReportCause, ReportFault};
 pub use writing::write_report;
-
-/// The first line of a report's text.
-const TITLE: &str = "listset-report 1";

@@ -2,10 +2,12 @@ ghost use Rattle.std.specs.Prelude.{◌≡◌, ◌≢◌, IfOk, OnOk, OnErr, Mat
 ghost use Rattle.lset_text.specs.Parts.{cut_at};
 ghost use Rattle.lset_text.specs.Headers.{IsHeader};
 ghost use Rattle.lset_report.specs.Report.{ReportValue, view};
-ghost use Rattle.lset_report.specs.Texts.{report_text};
+ghost use Rattle.lset_report.specs.Texts.{report_text, HasWordsOfVersion};
 ghost use Rattle.lset_report.specs.ReportReading.{
   IsReport,
   Gives,
+  first_line,
+  version_told,
   section_after,
   judged,
   line_after,
@@ -20,11 +22,12 @@ mod calls;
 mod lines;
 
 use crate::report_fault::{ReportCause, ReportFault};
-use crate::{MOST_CALLS, MOST_KEYS, MOST_PLACES, Report, TITLE};
+use crate::title::title;
+use crate::{MOST_CALLS, MOST_KEYS, MOST_PLACES, Report};
 use calls::CallsSoFar;
 use lines::{Line, Section, line_of_report};
 use lset_history::History;
-use lset_text::{Header, cut, read_header};
+use lset_text::{Header, Version, cut, read_header, version_of};
 use lset_words::{CallRecord, Placed};
 use std::alloc::{AllocError, Global};
 
@@ -32,11 +35,12 @@ use std::alloc::{AllocError, Global};
 const LAST_OF_HEADER: u64 = 4;
 
 /// The first line after the header.
-const FIRST_LINE: u64 = 5;
+const FIRST_LINE: u64 = LAST_OF_HEADER + 1;
 
 /// What a text has told up to some line.
 #[derive(Drop)]
 pub struct Reader {
+    pub version: Version,
     pub header: Header,
     pub section: Section,
     pub calls: CallsSoFar,
@@ -45,12 +49,13 @@ pub struct Reader {
 }
 
 impl Reader {
-    fn new(alloc: Global, header: Header) -> Result<Reader, AllocError>
+    fn new(alloc: Global, version: Version, header: Header) -> Result<Reader, AllocError>
         ensures holds { IfOk result (λ s. Holds s) }
         ensures section { IfOk result (λ s. s.section ≡ Section.Calls) }
-        ensures nothing { IfOk result (λ s. so_far s ≡ no_lines header) }
+        ensures nothing { IfOk result (λ s. so_far s ≡ no_lines version header) }
     {
         Ok(Reader {
+            version,
             header,
             section: Section::Calls,
             calls: CallsSoFar::new(alloc, header.threads)?,
@@ -85,7 +90,7 @@ impl Reader {
         requires { Holds self.now }
         ensures { result ≡ line_after self.now.section (so_far self.now) line.now }
     {
-        self.judged(line_of_report(self.section, line)?)
+        self.judged(line_of_report(self.version, self.section, line)?)
     }
 
     fn put(&mut self, line: Line) -> Result<(), AllocError>
@@ -129,7 +134,7 @@ impl Reader {
         ensures holds { OnOk result (Holds self.new) }
         ensures header { OnOk result (self.new.header ≡ self.old.header) }
         ensures told { GoesOn (so_far self.new) result (cut_at 10 text.now)
-            (report_from 5 self.old.section (so_far self.old) (cut_at 10 text.now)) }
+            (report_from first_line self.old.section (so_far self.old) (cut_at 10 text.now)) }
     {
         let mut number = FIRST_LINE;
         let mut rest = text;
@@ -154,6 +159,7 @@ impl Reader {
     {
         let calls = self.calls;
         Report {
+            version: self.version,
             kind: self.header.kind,
             history: History::from_calls(self.header.threads, self.header.quota, calls.calls),
             order: self.order,
@@ -162,12 +168,20 @@ impl Reader {
     }
 }
 
+/// The version of a report's text, by its first line.
+fn version_told(bytes: &[u8]) -> Version
+    ensures { result ≡ version_told (cut_at 10 bytes.now) }
+{
+    version_of(bytes, title(Version::Two).as_bytes())
+}
+
 #[tactic(auto, unfolding(crate::specs::ReportReading::report_of))]
 fn report(alloc: Global, bytes: &[u8]) -> Result<Report, ReportFault>
     ensures { Gives view result bytes.now }
 {
-    let (header, rest) = read_header(TITLE.as_bytes(), bytes)?;
-    let Ok(mut reader) = Reader::new(alloc, header) else {
+    let version = version_told(bytes);
+    let (header, rest) = read_header(title(version).as_bytes(), bytes)?;
+    let Ok(mut reader) = Reader::new(alloc, version, header) else {
         return Err(ReportFault::at(LAST_OF_HEADER, ReportCause::Memory));
     };
     reader.read_lines(rest)?;
@@ -180,11 +194,16 @@ fn report(alloc: Global, bytes: &[u8]) -> Result<Report, ReportFault>
 /// of any other answer, where a growth was refused: its line is the last one that was read, which is not `end`
 /// and has no other fault, and neither has a line above it.
 ///
+/// The first line alone tells the version, `listset-report 1` or `listset-report 2`. The other lines have the words
+/// of that version: in version 1 a line with `ceiling`, `nothing` or `at-5` has the fault `Line`.
+///
 /// The order and the keys are not judged: whether they explain the history is for `check_order`. With n bytes
 /// it takes about `n log n` steps, whatever the numbers are. (This project's own format.)
 pub fn read_report(alloc: Global, bytes: &[u8]) -> Result<Report, ReportFault>
     // What is read is a report with a history, and the bytes are its text.
     ensures found { IfOk result (λ r. IsReport (view r) × (bytes.now ≡ report_text (view r))) }
+    // So it can be written again: its version has words for all of it.
+    ensures words { IfOk result (λ r. HasWordsOfVersion (view r)) }
     // The text of such a report is read, unless memory runs out.
     ensures only { (r : ReportValue) → IsReport r → bytes.now ≡ report_text r
         → MatchResult result (λ s. view s ≡ r) (λ e. e.cause ≡ ReportCause.Memory) }

@@ -1,4 +1,5 @@
 use lset_history::History;
+use lset_text::Version;
 use lset_words::{Kind, Placed};
 
 /// The most calls of a report that has a text.
@@ -10,11 +11,13 @@ pub const MOST_PLACES: usize = 1_000_000;
 /// The most keys of such a report.
 pub const MOST_KEYS: usize = 1_048_576;
 
-/// What a replay tells: the kind of list, the history of the run with its threads and quota, an order of
-/// the calls that linearizes the history, and the keys that are left, rising. The order and the keys of a report
-/// that was read from a text may be any.
+/// What a replay tells: the version of its text, the kind of list, the history of the run with its threads and
+/// quota, an order of the calls that linearizes the history, and the keys that are left, rising. The order and the
+/// keys of a report that was read from a text may be any. A report of `Version::One` has a text only where it has no
+/// call `ceiling` and none of its replies, `at-5` or `nothing`.
 #[derive(Drop)]
 pub struct Report {
+    pub version: Version,
     pub kind: Kind,
     pub history: History,
     pub order: Vec<Placed>,

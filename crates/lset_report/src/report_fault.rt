@@ -7,7 +7,7 @@ use thiserror::Error;
 /// What is wrong with a line of a report.
 #[derive(Clone, Copy, Debug, PartialEq, Eq)]
 pub enum ReportCause {
-    /// The first line is not `listset-report 1`.
+    /// The first line is not `listset-report 1` or `listset-report 2`.
     Header,
     /// The second line is not `list` and the word for a kind.
     Kind,
@@ -15,9 +15,11 @@ pub enum ReportCause {
     Threads,
     /// The fourth line is not `quota` and a number from 0 to 16384.
     Quota,
-    /// The line has not the pieces and the words of a line that may come there.
+    /// The line has not the pieces and the words of a line that may come there. In version 2 a reply that begins with
+    /// `at-` has the form of one, whatever comes after it.
     Line,
-    /// A moment is no number from 1 to 4294967295, or another number is none up to 4294967295.
+    /// A moment is no number from 1 to 4294967295, or another number is none up to 4294967295, as `05` in the reply
+    /// `at-05` of version 2.
     Number,
     /// The lines of its section up to and with this one are more than `MOST_CALLS` calls, `MOST_PLACES` places or
     /// `MOST_KEYS` keys.

@@ -1,9 +1,10 @@
 ghost use Rattle.std.specs.Prelude.{◌≡◌, ◌++◌, ◌∷◌, [], map, IfOk, OnOk, Some, string_bytes};
 ghost use Rattle.lset_text.specs.Parts.{ended, text_of};
 ghost use Rattle.lset_report.specs.Report.{view};
-ghost use Rattle.lset_report.specs.Texts.{call_line, call_lines, place_line, key_line, last_line, report_text};
+ghost use Rattle.lset_report.specs.Texts.{call_line, call_lines, place_line, key_line, last_line, report_text, HasWordsOfVersion};
 
-use crate::{Report, TITLE};
+use crate::Report;
+use crate::title::title;
 use lset_text::{Header, call_word, put_header, reply_word};
 use lset_words::{CallRecord, Placed};
 use std::alloc::{AllocError, Global};
@@ -82,9 +83,11 @@ fn put_end(out: &mut String) -> Result<(), AllocError>
     Ok(())
 }
 
-/// The text of a report: its header, the calls by their numbers, the order, the keys. The only error is
-/// want of memory. (This project's own format.)
+/// The text of a report, in its version: its header, the calls by their numbers, the order, the keys. A report of
+/// version 1 must have no call `ceiling` and none of its replies, for which that version has no words; one that was
+/// read has none. The only error is want of memory. (This project's own format.)
 pub fn write_report(alloc: Global, report: &Report) -> Result<Vec<u8>, AllocError>
+    requires { HasWordsOfVersion (view report.now) }
     ensures { IfOk result (λ v. v.items ≡ report_text (view report.now)) }
 {
     let header = Header {
@@ -93,7 +96,7 @@ pub fn write_report(alloc: Global, report: &Report) -> Result<Vec<u8>, AllocErro
         quota: report.history.quota(),
     };
     let mut out = String::new(alloc);
-    put_header(&mut out, TITLE, header)?;
+    put_header(&mut out, title(report.version), header)?;
     put_calls(&mut out, report.history.calls())?;
     put_order(&mut out, &report.order)?;
     put_keys(&mut out, &report.keys)?;

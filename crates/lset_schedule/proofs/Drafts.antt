@@ -8,6 +8,7 @@ use Rattle.lset_words.specs.declared.TheConstants.{MOST_THREADS}
 use Rattle.lset_schedule.specs.declared.TheConstants.{MOST_GENERATED}
 use Rattle.lset_words.specs.declared.Kind.{Kind}
 use Rattle.lset_words.specs.Words.{IsWithin}
+use Rattle.lset_text.specs.declared.words.Version.TheVariants.{One}
 use Rattle.lset_steps.specs.declared.Event.{Event}
 use Rattle.lset_steps.specs.declared.Event.TheVariants as event
 use Rattle.lset_steps.specs.Steps.{Table, State, Enabled, after, opening, local_of}
@@ -237,7 +238,7 @@ draft_end T n q calls keys turns left lines w d late =
 -- ---- generated lines are lines of a schedule
 
 lines_fit : (n keys : ℕ) (lines : List Line) → n ≤ MOST_THREADS → keys < 2 ^ 32
-    → AllByRecursion (IsGeneratedLine n keys) lines → AllByRecursion IsLine lines
+    → AllByRecursion (IsGeneratedLine n keys) lines → AllByRecursion (IsLine One) lines
 lines_fit n keys [] few small each = tt
 lines_fit n keys (line.Begin t call ∷ ls) few small each =
     ((omega (arith, each.0.0), omega (arith, each.0.1), each.0.2), lines_fit n keys ls few small each.1)
@@ -260,7 +261,7 @@ events_counted n keys (l ∷ ls) each =
 
 pub generated_fits : (T : Table) (kind : Kind) (n q calls keys : ℕ) (lines : List Line) → keys < 2 ^ 32
     → length lines ≤ MOST_GENERATED → IsGenerated T n q calls keys lines
-    → IsSchedule (record { kind = kind; threads = n; quota = q; lines = lines })
+    → IsSchedule (record { version = One; kind = kind; threads = n; quota = q; lines = lines })
 generated_fits T kind n q calls keys lines small few made = record {
   header = made.run.limits;
   lines = lines_fit n keys lines made.run.limits.few small made.each;

@@ -12,7 +12,7 @@ use Rattle.lset_text.specs.declared.words.CallWord.{CallWord}
 use Rattle.lset_text.specs.Parts.{cut_at, Lacks}
 use Rattle.lset_text.specs.Numbers.{number_in, max_number}
 use Rattle.lset_text.specs.Spellings.{call_text, call_word_text, call_word_in, word_of, with_key, HasWord}
-use Rattle.lset_text.specs.declared.words.Version.TheVariants.{One}
+use Rattle.lset_text.specs.declared.words.Version.{Version}
 use Rattle.lset_text.specs.Results.{◌>>=◌, or_fail}
 use Rattle.lset_text.proofs.PartLaws.{Lacks-below, line_lacks, cut_line, line_from_cut}
 use Rattle.lset_text.proofs.NumberLaws.{number_ok, number_again, decimal_lacks}
@@ -42,38 +42,38 @@ four : (a b c d x y z w : List ℕ) → a ≡ x → b ≡ y → c ≡ z → d �
 four a b c d x y z w e f g h = cc
 
 -- the pieces of a line that is one
-abbrev AreOf : List (List ℕ) → Line → Type 0
-AreOf pieces e = (pieces ≡ pieces_of e) × IsLine e
+abbrev AreOf : Version → List (List ℕ) → Line → Type 0
+AreOf v pieces e = (pieces ≡ pieces_of e) × IsLine v e
 
 abbrev go_from : List ℕ → ℕ → Result Line Cause
 go_from steps t = or_fail Number (number_in 1 MOST_STEPS steps) >>= λ n. Ok (Go t n)
 
-go_ok : (a b c : List ℕ) (e : Line) → go_of a b c ≡ Ok e → AreOf (a ∷ b ∷ c ∷ []) e
+go_ok : (v : Version) (a b c : List ℕ) (e : Line) → go_of a b c ≡ Ok e → AreOf v (a ∷ b ∷ c ∷ []) e
 unfolding go_of
-go_ok a b c e is =
+go_ok v a b c e is =
     let test = test_ok (bytes_eq a (codes "go")) Event (or_fail Number (number_in 0 max_number b) >>= go_from c) e is in
     let t = bind_ok (or_fail Number (number_in 0 max_number b)) (go_from c) e test.1 in
     let n = bind_ok (or_fail Number (number_in 1 MOST_STEPS c)) (λ n. Ok (Go t.0 n)) e t.2 in
     let thread = number_told 0 max_number b t.0 (omega arith) t.1 in
     let steps = number_told 1 MOST_STEPS c n.0 (omega arith) n.1 in
     let pieces = three a b c (codes "go") (decimal t.0) (decimal n.0) (same_bytes a (codes "go") test.0) thread.0 steps.0 in
-    subst (AreOf (a ∷ b ∷ c ∷ [])) (ok_is (Go t.0 n.0) e n.2) (pieces, (omega (arith, thread.2), steps.1, steps.2))
+    subst (AreOf v (a ∷ b ∷ c ∷ [])) (ok_is (Go t.0 n.0) e n.2) (pieces, (omega (arith, thread.2), steps.1, steps.2))
 
 -- the line of a thread, the word of a call and its key
 abbrev begun : ℕ → CallWord → ℕ → Line
 begun t w k = Begin t (with_key w (record { 0 = k }))
 
-begun_is : (a b c d : List ℕ) (t : ℕ) (w : CallWord) (k : ℕ)
-    → a ≡ codes "begin" → b ≡ decimal t → c ≡ call_word_text w → d ≡ decimal k → t ≤ max_number → k ≤ max_number → HasWord One w
-    → AreOf (a ∷ b ∷ c ∷ d ∷ []) (begun t w k)
-begun_is a b c d t w k e f g h small few has =
+begun_is : (v : Version) (a b c d : List ℕ) (t : ℕ) (w : CallWord) (k : ℕ)
+    → a ≡ codes "begin" → b ≡ decimal t → c ≡ call_word_text w → d ≡ decimal k → t ≤ max_number → k ≤ max_number → HasWord v w
+    → AreOf v (a ∷ b ∷ c ∷ d ∷ []) (begun t w k)
+begun_is v a b c d t w k e f g h small few has =
     let key : Key = record { 0 = k } in
     let call = with_key w key in
     let same_key : (key_of call).0 ≡ k = ap (λ (x : Key). x.0) (key_of-with_key w key) in
     let word : c ≡ call_text call = g ∙ ap call_word_text (sym (word_of-with_key w key)) in
     let spelled : d ≡ decimal ((key_of call).0) = h ∙ ap decimal (sym same_key) in
     let pieces = four a b c d (codes "begin") (decimal t) (call_text call) (decimal ((key_of call).0)) e f word spelled in
-    (pieces, (omega (arith, small), omega (arith, same_key, few), subst (HasWord One) (sym (word_of-with_key w key)) has))
+    (pieces, (omega (arith, small), omega (arith, same_key, few), subst (HasWord v) (sym (word_of-with_key w key)) has))
 
 -- what is left to read of a line after its thread, and after the word of its call
 abbrev begin_after_thread : List ℕ → CallWord → ℕ → Result Line Cause
@@ -82,52 +82,52 @@ begin_after_thread key w t = or_fail Number (number_in 0 max_number key) >>= λ 
 abbrev begin_after_word : List ℕ → List ℕ → CallWord → Result Line Cause
 begin_after_word thread key w = or_fail Number (number_in 0 max_number thread) >>= begin_after_thread key w
 
-begin_ok : (a b c d : List ℕ) (e : Line) → begin_of a b c d ≡ Ok e → AreOf (a ∷ b ∷ c ∷ d ∷ []) e
+begin_ok : (v : Version) (a b c d : List ℕ) (e : Line) → begin_of v a b c d ≡ Ok e → AreOf v (a ∷ b ∷ c ∷ d ∷ []) e
 unfolding begin_of
-begin_ok a b c d e is =
-    let test = test_ok (bytes_eq a (codes "begin")) Event (or_fail Event (call_word_in One c) >>= begin_after_word b d) e is in
-    let w = bind_ok (or_fail Event (call_word_in One c)) (begin_after_word b d) e test.1 in
+begin_ok v a b c d e is =
+    let test = test_ok (bytes_eq a (codes "begin")) Event (or_fail Event (call_word_in v c) >>= begin_after_word b d) e is in
+    let w = bind_ok (or_fail Event (call_word_in v c)) (begin_after_word b d) e test.1 in
     let t = bind_ok (or_fail Number (number_in 0 max_number b)) (begin_after_thread d w.0) e w.2 in
     let k = bind_ok (or_fail Number (number_in 0 max_number d)) (λ k. Ok (begun t.0 w.0 k)) e t.2 in
     let thread = number_told 0 max_number b t.0 (omega arith) t.1 in
     let key = number_told 0 max_number d k.0 (omega arith) k.1 in
-    let call = call_in_ok One c w.0 (or_fail_ok Event (call_word_in One c) w.0 w.1) in
-    subst (AreOf (a ∷ b ∷ c ∷ d ∷ [])) (ok_is (begun t.0 w.0 k.0) e k.2)
-    (begun_is a b c d t.0 w.0 k.0 (same_bytes a (codes "begin") test.0) thread.0 call.1 key.0 thread.2 key.2 call.0)
+    let call = call_in_ok v c w.0 (or_fail_ok Event (call_word_in v c) w.0 w.1) in
+    subst (AreOf v (a ∷ b ∷ c ∷ d ∷ [])) (ok_is (begun t.0 w.0 k.0) e k.2)
+    (begun_is v a b c d t.0 w.0 k.0 (same_bytes a (codes "begin") test.0) thread.0 call.1 key.0 thread.2 key.2 call.0)
 
-event_of_pieces_ok : (ps : List (List ℕ)) (e : Line) → event_of_pieces ps ≡ Ok e → AreOf ps e
-event_of_pieces_ok [] e is = absurd cc
-event_of_pieces_ok (a ∷ []) e is = absurd cc
-event_of_pieces_ok (a ∷ b ∷ []) e is = absurd cc
-event_of_pieces_ok (a ∷ b ∷ c ∷ []) e is = go_ok a b c e is
-event_of_pieces_ok (a ∷ b ∷ c ∷ d ∷ []) e is = begin_ok a b c d e is
-event_of_pieces_ok (a ∷ b ∷ c ∷ d ∷ x ∷ more) e is = absurd cc
+event_of_pieces_ok : (v : Version) (ps : List (List ℕ)) (e : Line) → event_of_pieces v ps ≡ Ok e → AreOf v ps e
+event_of_pieces_ok v [] e is = absurd cc
+event_of_pieces_ok v (a ∷ []) e is = absurd cc
+event_of_pieces_ok v (a ∷ b ∷ []) e is = absurd cc
+event_of_pieces_ok v (a ∷ b ∷ c ∷ []) e is = go_ok v a b c e is
+event_of_pieces_ok v (a ∷ b ∷ c ∷ d ∷ []) e is = begin_ok v a b c d e is
+event_of_pieces_ok v (a ∷ b ∷ c ∷ d ∷ x ∷ more) e is = absurd cc
 
-pub event_ok : (line : List ℕ) (e : Line) → event_of line ≡ Ok e → (line ≡ line_text e) × IsLine e
-event_ok line e is =
-    let found = event_of_pieces_ok (cut_at 32 line) e is in
+pub event_ok : (v : Version) (line : List ℕ) (e : Line) → event_of v line ≡ Ok e → (line ≡ line_text e) × IsLine v e
+event_ok v line e is =
+    let found = event_of_pieces_ok v (cut_at 32 line) e is in
     (line_from_cut line (pieces_of e) found.0, found.1)
 
 -- ---- what stands there is read
 
-pieces_again : (e : Line) → IsLine e → event_of_pieces (pieces_of e) ≡ Ok e
+pieces_again : (v : Version) (e : Line) → IsLine v e → event_of_pieces v (pieces_of e) ≡ Ok e
 unfolding go_of begin_of
-pieces_again (Begin t c) line =
+pieces_again v (Begin t c) line =
     let thread = number_again 0 max_number t (omega arith) (omega arith) (omega (arith, line.0)) in
     let key = number_again 0 max_number ((key_of c).0) (omega arith) (omega arith) (omega (arith, line.1)) in
-    rw (call_in_again One (word_of c) line.2, thread, key) (ap (λ (x : Call). Ok (Begin t x)) (with_key-word_of c))
-pieces_again (Go t n) line =
+    rw (call_in_again v (word_of c) line.2, thread, key) (ap (λ (x : Call). Ok (Begin t x)) (with_key-word_of c))
+pieces_again v (Go t n) line =
     let thread = number_again 0 max_number t (omega arith) (omega arith) (omega (arith, line.0)) in
     rw (thread, number_again 1 MOST_STEPS n (omega arith) line.1 line.2) refl
 
 -- no space and no newline stands in a piece
-pieces_lack : (byte : ℕ) (e : Line) → byte < 45 → IsLine e → AllByRecursion (Lacks byte) (pieces_of e)
-pieces_lack byte (Begin t c) low line =
+pieces_lack : (v : Version) (byte : ℕ) (e : Line) → byte < 45 → IsLine v e → AllByRecursion (Lacks byte) (pieces_of e)
+pieces_lack v byte (Begin t c) low line =
     let word = Lacks-below 45 byte (codes "begin") low refl in
     let thread = decimal_lacks byte t (omega (arith, low)) (omega (arith, line.0)) in
     let key = decimal_lacks byte ((key_of c).0) (omega (arith, low)) (omega (arith, line.1)) in
     (word, (thread, (call_lacks byte c low, (key, tt))))
-pieces_lack byte (Go t n) low line =
+pieces_lack v byte (Go t n) low line =
     let word = Lacks-below 45 byte (codes "go") low refl in
     let thread = decimal_lacks byte t (omega (arith, low)) (omega (arith, line.0)) in
     (word, (thread, (decimal_lacks byte n (omega (arith, low)) (omega (arith, line.2)), tt)))
@@ -136,14 +136,14 @@ cut_pieces : (e : Line) → AllByRecursion (Lacks 32) (pieces_of e) → cut_at 3
 cut_pieces (Begin t c) h = cut_line (codes "begin") (decimal t ∷ call_text c ∷ decimal ((key_of c).0) ∷ []) h.0 h.1
 cut_pieces (Go t n) h = cut_line (codes "go") (decimal t ∷ decimal n ∷ []) h.0 h.1
 
-pub event_again : (e : Line) → IsLine e → event_of (line_text e) ≡ Ok e
-event_again e line = rw (cut_pieces e (pieces_lack 32 e (omega arith) line)) (pieces_again e line)
+pub event_again : (v : Version) (e : Line) → IsLine v e → event_of v (line_text e) ≡ Ok e
+event_again v e line = rw (cut_pieces e (pieces_lack v 32 e (omega arith) line)) (pieces_again v e line)
 
-pub event_lacks : (e : Line) → IsLine e → Lacks 10 (line_text e)
-event_lacks e line = line_lacks (pieces_of e) (pieces_lack 10 e (omega arith) line)
+pub event_lacks : (v : Version) (e : Line) → IsLine v e → Lacks 10 (line_text e)
+event_lacks v e line = line_lacks (pieces_of e) (pieces_lack v 10 e (omega arith) line)
 
 -- five pieces are too many
-pub event_many : (a b c d : List ℕ) (parts : List (List ℕ)) → 0 < length parts
-    → Err Event ≡ event_of_pieces (a ∷ b ∷ c ∷ d ∷ parts)
-event_many a b c d [] h = absurd (omega arith)
-event_many a b c d (e ∷ more) h = refl
+pub event_many : (v : Version) (a b c d : List ℕ) (parts : List (List ℕ)) → 0 < length parts
+    → Err Event ≡ event_of_pieces v (a ∷ b ∷ c ∷ d ∷ parts)
+event_many v a b c d [] h = absurd (omega arith)
+event_many v a b c d (e ∷ more) h = refl

@@ -10,7 +10,7 @@ use Rattle.lset_text.specs.declared.headers.Header.{Header}
 use Rattle.lset_text.specs.Parts.{cut_at}
 use Rattle.lset_text.specs.Numbers.{number_in, max_number}
 use Rattle.lset_text.specs.Spellings.{call_word_in, with_key}
-use Rattle.lset_text.specs.declared.words.Version.TheVariants.{One}
+use Rattle.lset_text.specs.declared.words.Version.{Version}
 use Rattle.lset_text.specs.Headers.{header_of}
 use Rattle.lset_text.specs.Results.{◌>>=◌, or_fail, map_fault}
 use Rattle.lset_text.proofs.PartLaws.{some_part}
@@ -21,9 +21,9 @@ use Rattle.lset_schedule.specs.declared.value.Schedule.{Schedule}
 use Rattle.lset_schedule.specs.declared.fault.Cause.{Cause}
 use Rattle.lset_schedule.specs.declared.fault.Cause.TheVariants.{Event, Number, TooMany, NotEnded, Memory}
 use Rattle.lset_schedule.specs.declared.fault.ScheduleFault.{ScheduleFault}
-use Rattle.lset_schedule.specs.Plan.{Plan, title, event_count}
+use Rattle.lset_schedule.specs.Plan.{planned, title, first_event_line, event_count}
 use Rattle.lset_schedule.specs.ScheduleReading.{fault, go_of, begin_of, event_of_pieces, event_of, within, event_after, events_at}
-use Rattle.lset_schedule.specs.ScheduleReading.{plan_of, reading, IsFaultlessTo, IsGoodEvent, IsGoodLine}
+use Rattle.lset_schedule.specs.ScheduleReading.{plan_in, version_told, reading, IsFaultlessTo, IsGoodEvent, IsGoodLine}
 use Rattle.lset_schedule.proofs.LoopLaws.{with_front, goes_on}
 
 -- ---- the faults of lines of events stand at the first of them or below
@@ -48,15 +48,15 @@ line_not_ended false line es e is =
 no_fault : (es : List Line) (e : ScheduleFault) → Ok es ≡ Err e → ⊥
 no_fault es e is = cc
 
-faults_below : (line total : ℕ) (parts : List (List ℕ)) (e : ScheduleFault) → events_at line total parts ≡ Err e → line ≤ e.line
+faults_below : (v : Version) (line total : ℕ) (parts : List (List ℕ)) (e : ScheduleFault) → events_at v line total parts ≡ Err e → line ≤ e.line
 unfolding events_at
-faults_below line total [] e is = absurd cc
-faults_below line total (x ∷ []) e is = omega (arith, line_not_ended (eqb (length x) 0) line [] e is)
-faults_below line total (x ∷ y ∷ more) e is =
-    elim (bind_err (map_fault (fault line) (event_after total x)) _ e is) [
-      | inl here ↦ omega (arith, line_of_fault line (event_after total x) e here)
-      | inr later ↦ elim (bind_err (events_at (line + 1) (total + event_count later.0) (y ∷ more)) _ e later.2) [
-        | inl below ↦ omega (arith, faults_below (line + 1) (total + event_count later.0) (y ∷ more) e below)
+faults_below v line total [] e is = absurd cc
+faults_below v line total (x ∷ []) e is = omega (arith, line_not_ended (eqb (length x) 0) line [] e is)
+faults_below v line total (x ∷ y ∷ more) e is =
+    elim (bind_err (map_fault (fault line) (event_after v total x)) _ e is) [
+      | inl here ↦ omega (arith, line_of_fault line (event_after v total x) e here)
+      | inr later ↦ elim (bind_err (events_at v (line + 1) (total + event_count later.0) (y ∷ more)) _ e later.2) [
+        | inl below ↦ omega (arith, faults_below v (line + 1) (total + event_count later.0) (y ∷ more) e below)
         | inr none ↦ absurd (no_fault (later.0 ∷ none.0) e none.2)
       ]
     ]
@@ -74,16 +74,16 @@ faultless : (front : List Line) (line : ℕ) (read whole : Result (List Line) Sc
 faultless front line (Ok x) whole below so_far = subst (IsFaultlessTo line) so_far tt
 faultless front line (Err e) whole below so_far = subst (IsFaultlessTo line) so_far (below e refl)
 
-pub good_event : (front : List Line) (line total : ℕ) (text rest first after : List ℕ) (e : Line)
-    → cut_at 10 rest ≡ first ∷ cut_at 10 after → Ok e ≡ event_after total first → 5 ≤ line
-    → line + length (cut_at 10 rest) ≡ 5 + length (cut_at 10 text)
-    → with_front front (events_at line total (cut_at 10 rest)) ≡ events_at 5 0 (cut_at 10 text)
-    → IsGoodEvent (cut_at 10 text) line
-good_event front line total text rest first after e parts is low left so_far =
-    let next = events_at (line + 1) (total + event_count e) (cut_at 10 after) in
-    let more = goes_on front line total rest first after e (events_at 5 0 (cut_at 10 text)) parts is so_far in
+pub good_event : (v : Version) (first_line : ℕ) (front : List Line) (line total : ℕ) (text rest first after : List ℕ) (e : Line)
+    → cut_at 10 rest ≡ first ∷ cut_at 10 after → Ok e ≡ event_after v total first → first_line ≤ line
+    → line + length (cut_at 10 rest) ≡ first_line + length (cut_at 10 text)
+    → with_front front (events_at v line total (cut_at 10 rest)) ≡ events_at v first_line 0 (cut_at 10 text)
+    → IsGoodEvent v first_line (cut_at 10 text) line
+good_event v first_line front line total text rest first after e parts is low left so_far =
+    let next = events_at v (line + 1) (total + event_count e) (cut_at 10 after) in
+    let more = goes_on v front line total rest first after e (events_at v first_line 0 (cut_at 10 text)) parts is so_far in
     let below : (d : ScheduleFault) → next ≡ Err d → line < d.line =
-    λ d bad. omega (arith, faults_below (line + 1) (total + event_count e) (cut_at 10 after) d bad) in
+    λ d bad. omega (arith, faults_below v (line + 1) (total + event_count e) (cut_at 10 after) d bad) in
     let counted = one_more (cut_at 10 rest) (cut_at 10 after) first parts in
     (low, omega (arith, left, counted, some_part 10 after), faultless (front ++ e ∷ []) line next _ below more)
 
@@ -105,24 +105,24 @@ begin_fails true (Some v) None p is = cc
 begin_fails true (Some v) (Some t) None is = cc
 begin_fails true (Some v) (Some t) (Some k) is = cc
 
-pieces_fail : (ps : List (List ℕ)) → event_of_pieces ps ≡ Err Memory → ⊥
+pieces_fail : (v : Version) (ps : List (List ℕ)) → event_of_pieces v ps ≡ Err Memory → ⊥
 unfolding go_of begin_of
-pieces_fail [] is = cc
-pieces_fail (a ∷ []) is = cc
-pieces_fail (a ∷ b ∷ []) is = cc
-pieces_fail (a ∷ b ∷ c ∷ []) is = go_fails (bytes_eq a (codes "go")) (number_in 0 max_number b) (number_in 1 MOST_STEPS c) is
-pieces_fail (a ∷ b ∷ c ∷ d ∷ []) is =
-    begin_fails (bytes_eq a (codes "begin")) (call_word_in One c) (number_in 0 max_number b) (number_in 0 max_number d) is
-pieces_fail (a ∷ b ∷ c ∷ d ∷ e ∷ more) is = cc
+pieces_fail v [] is = cc
+pieces_fail v (a ∷ []) is = cc
+pieces_fail v (a ∷ b ∷ []) is = cc
+pieces_fail v (a ∷ b ∷ c ∷ []) is = go_fails (bytes_eq a (codes "go")) (number_in 0 max_number b) (number_in 1 MOST_STEPS c) is
+pieces_fail v (a ∷ b ∷ c ∷ d ∷ []) is =
+    begin_fails (bytes_eq a (codes "begin")) (call_word_in v c) (number_in 0 max_number b) (number_in 0 max_number d) is
+pieces_fail v (a ∷ b ∷ c ∷ d ∷ e ∷ more) is = cc
 
 room_fails : (b : Bool) (e : Line) → cond b (Err TooMany) (Ok e) ≡ Err Memory → ⊥
 room_fails true e is = cc
 room_fails false e is = cc
 
-pub event_fails : (total : ℕ) (line : List ℕ) (cause : Cause) → Err cause ≡ event_after total line → cause ≡ Memory → ⊥
-event_fails total line cause is memory =
-    elim (bind_err (event_of line) (within total) Memory (sym is ∙ ap (λ (c : Cause). Err c) memory)) [
-      | inl bad ↦ pieces_fail (cut_at 32 line) bad
+pub event_fails : (v : Version) (total : ℕ) (line : List ℕ) (cause : Cause) → Err cause ≡ event_after v total line → cause ≡ Memory → ⊥
+event_fails v total line cause is memory =
+    elim (bind_err (event_of v line) (within total) Memory (sym is ∙ ap (λ (c : Cause). Err c) memory)) [
+      | inl bad ↦ pieces_fail v (cut_at 32 line) bad
       | inr bad ↦ room_fails (ltb MOST_EVENTS (total + event_count bad.0)) bad.0 bad.2
     ]
 
@@ -133,28 +133,34 @@ plan_faultless : {X : Type 0} (line : ℕ) (read : Result (List Line) ScheduleFa
 plan_faultless line (Ok es) f good = tt
 plan_faultless line (Err e) f good = good
 
-module _ (bytes rest read_title : List ℕ) (h : Header) (same : read_title ≡ title)
-    (is : header_of read_title (cut_at 10 bytes) ≡ Ok (h, cut_at 10 rest)) where
-  abbrev plan : List Line → Plan
-  plan es = record { kind = h.kind; threads = h.threads; quota = h.quota; lines = es }
+module _ (v : Version) (first : ℕ) (bytes rest read_title : List ℕ) (h : Header) (told : v ≡ version_told (cut_at 10 bytes))
+    (same : read_title ≡ title v)
+    (is : header_of read_title (cut_at 10 bytes) ≡ Ok (h, cut_at 10 rest)) (starts : first ≡ first_event_line (planned v h [])) where
+  reads_in : reading bytes ≡ plan_in v (cut_at 10 bytes)
+  reads_in = ap (λ w. plan_in w (cut_at 10 bytes)) (sym told)
 
-  header : header_of title (cut_at 10 bytes) ≡ Ok (h, cut_at 10 rest)
+  header : header_of (title v) (cut_at 10 bytes) ≡ Ok (h, cut_at 10 rest)
   header = subst (λ t. header_of t (cut_at 10 bytes) ≡ Ok (h, cut_at 10 rest)) same is
 
-  pub schedule_read : (lines : List Line) → events_at 5 0 (cut_at 10 rest) ≡ Ok lines → reading bytes ≡ Ok (plan lines)
-  unfolding plan_of
-  schedule_read lines read = rw (header, read) refl
+  faultless_in : (line : ℕ) → IsFaultlessTo line (events_at v first 0 (cut_at 10 rest)) → IsFaultlessTo line (plan_in v (cut_at 10 bytes))
+  unfolding plan_in
+  faultless_in line good =
+      rw header (plan_faultless line _ (planned v h)
+      (subst (λ n. IsFaultlessTo line (events_at v n 0 (cut_at 10 rest))) starts good))
 
-  pub good_line : (line : ℕ) → IsGoodEvent (cut_at 10 rest) line → IsGoodLine bytes line
-  unfolding plan_of
+  good_line : (line : ℕ) → IsGoodEvent v first (cut_at 10 rest) line → IsGoodLine bytes line
   good_line line good =
-      let parts = (header_ok title (cut_at 10 bytes) (h, cut_at 10 rest) header).0 in
-      let counted = four_more (cut_at 10 bytes) (cut_at 10 rest) _ _ _ _ parts in
-      (good.0, omega (arith, good.1, counted), rw header (plan_faultless line (events_at 5 0 (cut_at 10 rest)) plan good.2))
+      let parts = (header_ok (title v) (cut_at 10 bytes) (h, cut_at 10 rest) header).0 in
+      let counted = four_more (cut_at 10 bytes) (cut_at 10 rest) _ _ _ _ parts in (
+        omega (arith, good.0, starts),
+        omega (arith, good.1, starts, counted),
+        subst (IsFaultlessTo line) (sym reads_in) (faultless_in line good.2),
+      )
 
   -- a fault of the lines of events is passed on
   pub good_fault : (e : ScheduleFault) (answer : Result Schedule ScheduleFault) → IsErrAnd answer (λ f. f ≡ e)
-      → (e.cause ≡ Memory → IsGoodEvent (cut_at 10 rest) e.line) → IfErr answer (λ f. f.cause ≡ Memory → IsGoodLine bytes f.line)
+      → (e.cause ≡ Memory → IsGoodEvent v first (cut_at 10 rest) e.line)
+      → IfErr answer (λ f. f.cause ≡ Memory → IsGoodLine bytes f.line)
   good_fault e (Ok s) is good = tt
   good_fault e (Err f) is good = λ memory.
       subst (λ (x : ScheduleFault). IsGoodLine bytes x.line) (sym is)

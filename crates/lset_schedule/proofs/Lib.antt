@@ -6,3 +6,4 @@ pub mod LoopLaws
 pub mod RunLaws
 pub mod TextLaws
 pub mod TurnLaws
+pub mod VersionLaws

@@ -3,6 +3,7 @@ use Rattle.std.proofs.Common.{◌≡◌, ℕ, ◌+◌, ◌<◌, ◌≤◌, Bool,
 use Rattle.std.proofs.Common.{take, Result, Ok, Err, refl, sym, ap, subst, ◌∙◌, arith}
 use Rattle.std.specs.Prelude.{IfOk, MatchResult, ◌≢◌}
 use Rattle.std.specs.List.{sum_by, AllByRecursion}
+use Rattle.std.specs.Str.{bytes_eq}
 use Rattle.std.proofs.lemmas.Bool.{eqb-true, le-ltb}
 use Rattle.std.proofs.lemmas.List.{append-nil, nil_from_length, map_push, take_more}
 use Rattle.std.proofs.lemmas.List.Concat.{flat_map-append}
@@ -11,65 +12,67 @@ use Rattle.lset_schedule.specs.declared.TheConstants.{MOST_EVENTS}
 use Rattle.lset_text.specs.declared.headers.Header.{Header}
 use Rattle.lset_text.specs.Parts.{cut_at, ended, text_of, Lacks}
 use Rattle.lset_text.specs.Results.{◌>>=◌, map_fault}
-use Rattle.lset_text.specs.Headers.{header_lines, header_of}
+use Rattle.lset_text.specs.Headers.{header_lines, header_of, told_by_line}
 use Rattle.lset_text.proofs.PartLaws.{Lacks-from_test, text_from_lines, cut_lines}
 use Rattle.lset_text.proofs.ReadingLaws.{bind_ok, map_fault_ok, ok_is}
 use Rattle.lset_text.proofs.HeaderLaws.{header_ok, header_again, header_lacks}
+use Rattle.lset_text.specs.declared.words.Version.{Version}
+use Rattle.lset_text.specs.declared.words.Version.TheVariants.{One, Two}
 use Rattle.lset_schedule.specs.declared.value.Line.{Line}
 use Rattle.lset_schedule.specs.declared.value.Schedule.{Schedule}
 use Rattle.lset_schedule.specs.declared.fault.Cause.{Cause}
 use Rattle.lset_schedule.specs.declared.fault.Cause.TheVariants.{Header as OfHeader, Kind, Threads, Quota, Event, Number}
 use Rattle.lset_schedule.specs.declared.fault.Cause.TheVariants.{TooMany, NotEnded, Memory}
 use Rattle.lset_schedule.specs.declared.fault.ScheduleFault.{ScheduleFault}
-use Rattle.lset_schedule.specs.Plan.{Plan, view, header_in, line_text, title, schedule_lines, schedule_text, event_count}
-use Rattle.lset_schedule.specs.Plan.{IsLine, IsSchedule}
-use Rattle.lset_schedule.specs.ScheduleReading.{fault, in_schedule, event_of, within, event_after, events_at, plan_of, reading, Gives}
+use Rattle.lset_schedule.specs.Plan.{Plan, view, planned, header_in, line_text, title, schedule_lines, schedule_text, event_count}
+use Rattle.lset_schedule.specs.Plan.{first_event_line, IsLine, IsSchedule}
+use Rattle.lset_schedule.specs.ScheduleReading.{fault, in_schedule, event_of, within, event_after, events_at, plan_in, version_told, plan_of, reading, Gives}
 use Rattle.lset_schedule.proofs.EventLaws.{event_ok, event_again, event_lacks}
 use Rattle.lset_schedule.proofs.LoopLaws.{within_ok}
 
 -- ---- the lines of events
 
-abbrev counted : ℕ → ℕ → List ℕ → Result Line ScheduleFault
-counted line total x = map_fault (fault line) (event_after total x)
+abbrev counted : Version → ℕ → ℕ → List ℕ → Result Line ScheduleFault
+counted v line total x = map_fault (fault line) (event_after v total x)
 
 -- a line of an event that the total has room for
-abbrev IsCounted : ℕ → List ℕ → Line → Type 0
-IsCounted total x e = (x ≡ line_text e) × IsLine e × (total + event_count e ≤ MOST_EVENTS)
+abbrev IsCounted : Version → ℕ → List ℕ → Line → Type 0
+IsCounted v total x e = (x ≡ line_text e) × IsLine v e × (total + event_count e ≤ MOST_EVENTS)
 
-counted_ok : (line total : ℕ) (x : List ℕ) (e : Line) → counted line total x ≡ Ok e → IsCounted total x e
-counted_ok line total x e is =
-    let event = bind_ok (event_of x) (within total) e (map_fault_ok (fault line) (event_after total x) e is) in
+counted_ok : (v : Version) (line total : ℕ) (x : List ℕ) (e : Line) → counted v line total x ≡ Ok e → IsCounted v total x e
+counted_ok v line total x e is =
+    let event = bind_ok (event_of v x) (within total) e (map_fault_ok (fault line) (event_after v total x) e is) in
     let few = within_ok total event.0 e event.2 in
-    let text = event_ok x event.0 event.1 in
-    subst (IsCounted total x) few.0 (text.0, text.1, few.1)
+    let text = event_ok v x event.0 event.1 in
+    subst (IsCounted v total x) few.0 (text.0, text.1, few.1)
 
-abbrev AreRead : ℕ → List (List ℕ) → List Line → Type 0
-AreRead total parts es =
-    (parts ≡ map line_text es ++ [] ∷ []) × AllByRecursion IsLine es × (total + sum_by event_count es ≤ MOST_EVENTS)
+abbrev AreRead : Version → ℕ → List (List ℕ) → List Line → Type 0
+AreRead v total parts es =
+    (parts ≡ map line_text es ++ [] ∷ []) × AllByRecursion (IsLine v) es × (total + sum_by event_count es ≤ MOST_EVENTS)
 
 last_ok : (b : Bool) (line : ℕ) (es : List Line) → cond b (Ok []) (Err (fault line NotEnded)) ≡ Ok es → (b ≡ true) × ([] ≡ es)
 last_ok true line es is = (refl, cc)
 last_ok false line es is = absurd cc
 
 -- what is left to read after an event
-abbrev events_from : ℕ → ℕ → List (List ℕ) → Line → Result (List Line) ScheduleFault
-events_from line total parts e = events_at (line + 1) (total + event_count e) parts >>= λ es. Ok (e ∷ es)
+abbrev events_from : Version → ℕ → ℕ → List (List ℕ) → Line → Result (List Line) ScheduleFault
+events_from v line total parts e = events_at v (line + 1) (total + event_count e) parts >>= λ es. Ok (e ∷ es)
 
-events_ok : (line total : ℕ) (x : List ℕ) (parts : List (List ℕ)) (es : List Line) → total ≤ MOST_EVENTS
-    → events_at line total (x ∷ parts) ≡ Ok es → AreRead total (x ∷ parts) es
+events_ok : (v : Version) (line total : ℕ) (x : List ℕ) (parts : List (List ℕ)) (es : List Line) → total ≤ MOST_EVENTS
+    → events_at v line total (x ∷ parts) ≡ Ok es → AreRead v total (x ∷ parts) es
 unfolding events_at
-events_ok line total x [] es few is =
+events_ok v line total x [] es few is =
     let last = last_ok (eqb (length x) 0) line es is in
     let none : x ≡ [] = nil_from_length x (eqb-true _ _ last.0) in
-    subst (AreRead total (x ∷ [])) last.1 (ap (λ (t : List ℕ). t ∷ []) none, tt, omega (arith, few))
-events_ok line total x (y ∷ more) es few is =
-    let e = bind_ok (counted line total x) (events_from line total (y ∷ more)) es is in
-    let rest = bind_ok (events_at (line + 1) (total + event_count e.0) (y ∷ more)) (λ rest. Ok (e.0 ∷ rest)) es e.2 in
-    let one = counted_ok line total x e.0 e.1 in
-    let others = events_ok (line + 1) (total + event_count e.0) y more rest.0 one.2 rest.1 in
+    subst (AreRead v total (x ∷ [])) last.1 (ap (λ (t : List ℕ). t ∷ []) none, tt, omega (arith, few))
+events_ok v line total x (y ∷ more) es few is =
+    let e = bind_ok (counted v line total x) (events_from v line total (y ∷ more)) es is in
+    let rest = bind_ok (events_at v (line + 1) (total + event_count e.0) (y ∷ more)) (λ rest. Ok (e.0 ∷ rest)) es e.2 in
+    let one = counted_ok v line total x e.0 e.1 in
+    let others = events_ok v (line + 1) (total + event_count e.0) y more rest.0 one.2 rest.1 in
     let parts : x ∷ y ∷ more ≡ map line_text (e.0 ∷ rest.0) ++ [] ∷ [] =
     cons_same x (line_text e.0) (y ∷ more) (map line_text rest.0 ++ [] ∷ []) one.0 others.0 in
-    subst (AreRead total (x ∷ y ∷ more)) (ok_is (e.0 ∷ rest.0) es rest.2)
+    subst (AreRead v total (x ∷ y ∷ more)) (ok_is (e.0 ∷ rest.0) es rest.2)
     (parts, (one.1, others.1), omega (arith, others.2, sum_by-cons event_count e.0 rest.0))
   where
     cons_same : (a b : List ℕ) (xs ys : List (List ℕ)) → a ≡ b → xs ≡ ys → a ∷ xs ≡ b ∷ ys
@@ -79,78 +82,97 @@ some_more : (ls : List (List ℕ)) → (y : List ℕ) × (more : List (List ℕ)
 some_more [] = ([], [], refl)
 some_more (l ∷ ls) = (l, ls ++ [] ∷ [], refl)
 
-counted_again : (line total : ℕ) (e : Line) → IsLine e → total + event_count e ≤ MOST_EVENTS → counted line total (line_text e) ≡ Ok e
-counted_again line total e is few = rw (event_again e is, le-ltb MOST_EVENTS (total + event_count e) few) refl
+counted_again : (v : Version) (line total : ℕ) (e : Line) → IsLine v e → total + event_count e ≤ MOST_EVENTS
+    → counted v line total (line_text e) ≡ Ok e
+counted_again v line total e is few = rw (event_again v e is, le-ltb MOST_EVENTS (total + event_count e) few) refl
 
-events_go : (line total : ℕ) (x : List ℕ) (parts : List (List ℕ)) (e : Line)
+events_go : (v : Version) (line total : ℕ) (x : List ℕ) (parts : List (List ℕ)) (e : Line)
     → ((y : List ℕ) × (more : List (List ℕ)) × (parts ≡ y ∷ more))
-    → counted line total x ≡ Ok e → events_at line total (x ∷ parts) ≡ events_from line total parts e
+    → counted v line total x ≡ Ok e → events_at v line total (x ∷ parts) ≡ events_from v line total parts e
 unfolding events_at
-events_go line total x parts e some is = rw some.2 (rw is refl)
+events_go v line total x parts e some is = rw some.2 (rw is refl)
 
-events_again : (line total : ℕ) (es : List Line) → AllByRecursion IsLine es → total + sum_by event_count es ≤ MOST_EVENTS
-    → events_at line total (map line_text es ++ [] ∷ []) ≡ Ok es
+events_again : (v : Version) (line total : ℕ) (es : List Line) → AllByRecursion (IsLine v) es → total + sum_by event_count es ≤ MOST_EVENTS
+    → events_at v line total (map line_text es ++ [] ∷ []) ≡ Ok es
 unfolding events_at
-events_again line total [] are few = refl
-events_again line total (e ∷ es) are few =
+events_again v line total [] are few = refl
+events_again v line total (e ∷ es) are few =
     let sum = sum_by-cons event_count e es in
-    let one = counted_again line total e are.0 (omega (arith, sum, few)) in
-    let go = events_go line total (line_text e) (map line_text es ++ [] ∷ []) e (some_more (map line_text es)) one in
-    go ∙ rw (events_again (line + 1) (total + event_count e) es are.1 (omega (arith, sum, few))) refl
+    let one = counted_again v line total e are.0 (omega (arith, sum, few)) in
+    let go = events_go v line total (line_text e) (map line_text es ++ [] ∷ []) e (some_more (map line_text es)) one in
+    go ∙ rw (events_again v (line + 1) (total + event_count e) es are.1 (omega (arith, sum, few))) refl
 
 -- ---- the whole
-
-abbrev plan : Header → List Line → Plan
-plan h ls = record { kind = h.kind; threads = h.threads; quota = h.quota; lines = ls }
 
 abbrev IsFound : List (List ℕ) → Plan → Type 0
 IsFound parts p = (parts ≡ schedule_lines p ++ [] ∷ []) × IsSchedule p
 
-events_found : (parts : List (List ℕ)) (es : List Line) → 0 < length parts → events_at 5 0 parts ≡ Ok es → AreRead 0 parts es
-events_found [] es some is = absurd (omega arith)
-events_found (x ∷ parts) es some is = events_ok 5 0 x parts es (omega arith) is
+events_found : (v : Version) (line : ℕ) (parts : List (List ℕ)) (es : List Line) → 0 < length parts → events_at v line 0 parts ≡ Ok es
+    → AreRead v 0 parts es
+events_found v line [] es some is = absurd (omega arith)
+events_found v line (x ∷ parts) es some is = events_ok v line 0 x parts es (omega arith) is
 
 -- what is left to read after the header
-abbrev plan_from : Header × List (List ℕ) → Result Plan ScheduleFault
-plan_from head = events_at 5 0 head.1 >>= λ lines. Ok (plan head.0 lines)
+abbrev plan_from : Version → Header × List (List ℕ) → Result Plan ScheduleFault
+plan_from v head = events_at v (first_event_line (planned v head.0 [])) 0 head.1 >>= λ lines. Ok (planned v head.0 lines)
 
-plan_ok : (parts : List (List ℕ)) (p : Plan) → plan_of parts ≡ Ok p → IsFound parts p
-unfolding plan_of
-plan_ok parts p is =
-    let head = bind_ok (map_fault in_schedule (header_of title parts)) plan_from p is in
-    let lines = bind_ok (events_at 5 0 head.0.1) (λ lines. Ok (plan head.0.0 lines)) p head.2 in
-    let header = header_ok title parts head.0 (map_fault_ok in_schedule (header_of title parts) head.0 head.1) in
-    let events = events_found head.0.1 lines.0 header.2 lines.1 in
-    let all : parts ≡ schedule_lines (plan head.0.0 lines.0) ++ [] ∷ [] =
-    header.0 ∙ ap (λ (ps : List (List ℕ)). header_lines title head.0.0 ++ ps) events.0 in
-    subst (IsFound parts) (ok_is (plan head.0.0 lines.0) p lines.2)
+plan_ok : (v : Version) (parts : List (List ℕ)) (p : Plan) → plan_in v parts ≡ Ok p → IsFound parts p
+unfolding plan_in
+plan_ok v parts p is =
+    let head = bind_ok (map_fault in_schedule (header_of (title v) parts)) (plan_from v) p is in
+    let first = first_event_line (planned v head.0.0 []) in
+    let lines = bind_ok (events_at v first 0 head.0.1) (λ lines. Ok (planned v head.0.0 lines)) p head.2 in
+    let header = header_ok (title v) parts head.0 (map_fault_ok in_schedule (header_of (title v) parts) head.0 head.1) in
+    let events = events_found v first head.0.1 lines.0 header.2 lines.1 in
+    let all : parts ≡ schedule_lines (planned v head.0.0 lines.0) ++ [] ∷ [] =
+    header.0 ∙ ap (λ (ps : List (List ℕ)). header_lines (title v) head.0.0 ++ ps) events.0 in
+    subst (IsFound parts) (ok_is (planned v head.0.0 lines.0) p lines.2)
     (all, record { header = header.1; lines = events.1; few = omega (arith, events.2) })
 
-plan_again : (p : Plan) → IsSchedule p → plan_of (schedule_lines p ++ [] ∷ []) ≡ Ok p
-unfolding plan_of
+plan_again : (p : Plan) → IsSchedule p → plan_in p.version (schedule_lines p ++ [] ∷ []) ≡ Ok p
+unfolding plan_in
 plan_again p is =
     let rest : List (List ℕ) = map line_text p.lines ++ [] ∷ [] in
     let some = some_more (map line_text p.lines) in
-    let head : header_of title (header_lines title (header_in p) ++ rest) ≡ Ok (header_in p, rest) =
-    rw some.2 (header_again title (header_in p) some.0 some.1 is.header) in
-    rw (head, events_again 5 0 p.lines is.lines (omega (arith, is.few))) refl
+    let head : header_of (title p.version) (header_lines (title p.version) (header_in p) ++ rest) ≡ Ok (header_in p, rest) =
+    rw some.2 (header_again (title p.version) (header_in p) some.0 some.1 is.header) in
+    rw (head, events_again p.version (first_event_line p) 0 p.lines is.lines (omega (arith, is.few))) refl
 
-lines_lack : (es : List Line) → AllByRecursion IsLine es → AllByRecursion (Lacks 10) (map line_text es)
-lines_lack [] are = tt
-lines_lack (e ∷ es) are = (event_lacks e are.0, lines_lack es are.1)
+-- the first line tells the version
+version_again : (v : Version) → cond (bytes_eq (title v) (title Two)) Two One ≡ v
+version_again One = refl
+version_again Two = refl
+
+-- a first line without its newline is not ended, in either version
+pub title_not_ended : (v : Version) → reading (title v) ≡ Err (fault 1 NotEnded)
+unfolding plan_in header_of told_by_line
+title_not_ended One = refl
+title_not_ended Two = refl
+
+title_lacks : (v : Version) → Lacks 10 (title v)
+title_lacks One = Lacks-from_test 10 (title One) refl
+title_lacks Two = Lacks-from_test 10 (title Two) refl
+
+lines_lack : (v : Version) (es : List Line) → AllByRecursion (IsLine v) es → AllByRecursion (Lacks 10) (map line_text es)
+lines_lack v [] are = tt
+lines_lack v (e ∷ es) are = (event_lacks v e are.0, lines_lack v es are.1)
 
 schedule_lacks : (p : Plan) → IsSchedule p → AllByRecursion (Lacks 10) (schedule_lines p)
 schedule_lacks p is =
-    let h = header_lacks title (header_in p) (Lacks-from_test 10 title refl) is.header in
-    (h.0, (h.1.0, (h.1.1.0, (h.1.1.1.0, lines_lack p.lines is.lines))))
+    let h = header_lacks (title p.version) (header_in p) (title_lacks p.version) is.header in
+    (h.0, (h.1.0, (h.1.1.0, (h.1.1.1.0, lines_lack p.version p.lines is.lines))))
 
 pub is_found : (bytes : List ℕ) (p : Plan) → reading bytes ≡ Ok p → IsSchedule p × (bytes ≡ schedule_text p)
 is_found bytes p is =
-    let found = plan_ok (cut_at 10 bytes) p is in
+    let found = plan_ok (version_told (cut_at 10 bytes)) (cut_at 10 bytes) p is in
     (found.1, text_from_lines bytes (schedule_lines p) found.0)
 
 pub reads_text : (p : Plan) → IsSchedule p → reading (schedule_text p) ≡ Ok p
-reads_text p is = ap plan_of (cut_lines (schedule_lines p) (schedule_lacks p is)) ∙ plan_again p is
+reads_text p is =
+    let parts : List (List ℕ) = schedule_lines p ++ [] ∷ [] in
+    ap plan_of (cut_lines (schedule_lines p) (schedule_lacks p is))
+    ∙ ap (λ v. plan_in v parts) (version_again p.version)
+    ∙ plan_again p is
 
 -- ---- as a reader's clauses
 
@@ -184,15 +206,15 @@ only_in bytes r gives p is text =
 
 -- ---- writing line after line
 
-pub text_more : (h : Header) (ls ms : List Line) (i : ℕ) (d : Line) → ms ≡ ls → i < length ms
-    → schedule_text (plan h (take i ls)) ++ ended (line_text (get_or ms i d)) ≡ schedule_text (plan h (take (i + 1) ls))
-text_more h ls ms i d same lt =
-    let front = schedule_lines (plan h (take i ls)) in
+pub text_more : (v : Version) (h : Header) (ls ms : List Line) (i : ℕ) (d : Line) → ms ≡ ls → i < length ms
+    → schedule_text (planned v h (take i ls)) ++ ended (line_text (get_or ms i d)) ≡ schedule_text (planned v h (take (i + 1) ls))
+text_more v h ls ms i d same lt =
+    let front = schedule_lines (planned v h (take i ls)) in
     let last = line_text (get_or ms i d) in
     let more : take (i + 1) ls ≡ take i ls ++ get_or ms i d ∷ [] = rw (← same) (take_more ms i d lt) in
     let mapped : map line_text (take (i + 1) ls) ≡ map line_text (take i ls) ++ last ∷ [] =
     rw more (map_push line_text (take i ls) (get_or ms i d)) in
-    let pushed : schedule_lines (plan h (take (i + 1) ls)) ≡ front ++ last ∷ [] =
-    ap (λ (ps : List (List ℕ)). header_lines title h ++ ps) mapped in
+    let pushed : schedule_lines (planned v h (take (i + 1) ls)) ≡ front ++ last ∷ [] =
+    ap (λ (ps : List (List ℕ)). header_lines (title v) h ++ ps) mapped in
     let end = ap (λ (t : List ℕ). text_of front ++ t) (append-nil (ended last)) in
     sym (ap text_of pushed ∙ flat_map-append ended front (last ∷ []) ∙ end)

@@ -1,5 +1,5 @@
 -- Schedules and their text: the one spelling of each schedule.
-use Rattle.std.specs.Prelude.{ℕ, ◌<◌, ◌≤◌, ◌^◌, List, [], ◌∷◌, ◌++◌, map, codes}
+use Rattle.std.specs.Prelude.{ℕ, ◌+◌, ◌<◌, ◌≤◌, ◌^◌, List, [], ◌∷◌, ◌++◌, map, codes}
 use Rattle.std.specs.Fmt.{decimal}
 use Rattle.std.specs.List.{sum_by, AllByRecursion}
 use Rattle.lset_schedule.specs.declared.TheConstants.{MOST_EVENTS, MOST_STEPS}
@@ -8,7 +8,8 @@ use Rattle.lset_words.specs.Words.{key_of}
 use Rattle.lset_text.specs.declared.headers.Header.{Header}
 use Rattle.lset_text.specs.Parts.{line_of, text_of}
 use Rattle.lset_text.specs.Spellings.{call_text, HasCall}
-use Rattle.lset_text.specs.declared.words.Version.TheVariants.{One}
+use Rattle.lset_text.specs.declared.words.Version.{Version}
+use Rattle.lset_text.specs.declared.words.Version.TheVariants.{One, Two}
 use Rattle.lset_text.specs.Headers.{IsHeader, header_lines}
 use Rattle.lset_schedule.specs.declared.value.Line.{Line}
 use Rattle.lset_schedule.specs.declared.value.Line.TheVariants.{Begin, Go}
@@ -16,13 +17,18 @@ use Rattle.lset_schedule.specs.declared.value.Schedule.{Schedule}
 
 -- a schedule without where its lines lie in memory
 pub record Plan : Type 0 where
+  pub version : Version
   pub kind : Kind
   pub threads : ℕ
   pub quota : ℕ
   pub lines : List Line
 
+-- a version, what a header tells, and lines
+abbrev pub planned : Version → Header → List Line → Plan
+planned v h lines = record { version = v; kind = h.kind; threads = h.threads; quota = h.quota; lines = lines }
+
 abbrev pub view : Schedule → Plan
-view s = record { kind = s.kind; threads = s.threads; quota = s.quota; lines = s.lines.items }
+view s = planned s.version (record { kind = s.kind; threads = s.threads; quota = s.quota }) s.lines.items
 
 abbrev pub header_in : Plan → Header
 header_in p = record { kind = p.kind; threads = p.threads; quota = p.quota }
@@ -36,14 +42,23 @@ pieces_of (Go thread steps) = codes "go" ∷ decimal thread ∷ decimal steps �
 abbrev pub line_text : Line → List ℕ
 line_text l = line_of (pieces_of l)
 
-abbrev pub title : List ℕ
-title = codes "listset-schedule 1"
+abbrev pub title : Version → List ℕ
+title One = codes "listset-schedule 1"
+title Two = codes "listset-schedule 2"
 
 abbrev pub schedule_lines : Plan → List (List ℕ)
-schedule_lines p = header_lines title (header_in p) ++ map line_text p.lines
+schedule_lines p = header_lines (title p.version) (header_in p) ++ map line_text p.lines
 
 abbrev pub schedule_text : Plan → List ℕ
 schedule_text p = text_of (schedule_lines p)
+
+-- how many lines a header has
+abbrev pub header_size : ℕ
+header_size = 4
+
+-- the number of the line of the first event, counted from 1: the lines of the header come before it
+abbrev pub first_event_line : Plan → ℕ
+first_event_line p = header_size + 1
 
 -- ---- its limits
 
@@ -52,12 +67,22 @@ abbrev pub event_count : Line → ℕ
 event_count (Begin thread call) = 1
 event_count (Go thread steps) = steps
 
-abbrev pub IsLine : Line → Type 0
-IsLine (Begin thread call) = (thread < 2 ^ 32) × ((key_of call).0 < 2 ^ 32) × HasCall One call
-IsLine (Go thread steps) = (thread < 2 ^ 32) × (1 ≤ steps) × (steps ≤ MOST_STEPS)
+abbrev pub IsLine : Version → Line → Type 0
+IsLine version (Begin thread call) = (thread < 2 ^ 32) × ((key_of call).0 < 2 ^ 32) × HasCall version call
+IsLine version (Go thread steps) = (thread < 2 ^ 32) × (1 ≤ steps) × (steps ≤ MOST_STEPS)
 
 -- what has a text that is read
 pub record IsSchedule (p : Plan) : Type 0 where
   pub header : IsHeader (header_in p)
-  pub lines : AllByRecursion IsLine p.lines
+  pub lines : AllByRecursion (IsLine p.version) p.lines
   pub few : sum_by event_count p.lines ≤ MOST_EVENTS
+
+-- ---- the calls that its version has
+
+abbrev pub HasCallOfLine : Version → Line → Type 0
+HasCallOfLine version (Begin thread call) = HasCall version call
+HasCallOfLine version (Go thread steps) = Unit {0}
+
+-- What is begun has a word in the text of the plan's version. `IsSchedule` gives it (proofs/VersionLaws.antt).
+abbrev pub HasCallsOfVersion : Plan → Type 0
+HasCallsOfVersion p = AllByRecursion (HasCallOfLine p.version) p.lines

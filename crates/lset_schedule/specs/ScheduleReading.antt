@@ -8,16 +8,17 @@ use Rattle.lset_text.specs.declared.headers.HeaderFault.{HeaderFault}
 use Rattle.lset_text.specs.Parts.{cut_at}
 use Rattle.lset_text.specs.Numbers.{number_in, max_number}
 use Rattle.lset_text.specs.Spellings.{call_word_in, with_key}
-use Rattle.lset_text.specs.declared.words.Version.TheVariants.{One}
+use Rattle.lset_text.specs.declared.words.Version.{Version}
+use Rattle.lset_text.specs.declared.words.Version.TheVariants.{Two}
 use Rattle.lset_text.specs.Results.{◌>>=◌, or_fail, map_fault}
-use Rattle.lset_text.specs.Headers.{header_of}
+use Rattle.lset_text.specs.Headers.{header_of, version_in}
 use Rattle.lset_schedule.specs.declared.value.Line.{Line}
 use Rattle.lset_schedule.specs.declared.value.Line.TheVariants.{Begin, Go}
 use Rattle.lset_schedule.specs.declared.fault.Cause.{Cause}
 use Rattle.lset_schedule.specs.declared.fault.Cause.TheVariants.{Header, Kind, Threads, Quota, Event, Number, TooMany}
 use Rattle.lset_schedule.specs.declared.fault.Cause.TheVariants.{NotEnded, Memory}
 use Rattle.lset_schedule.specs.declared.fault.ScheduleFault.{ScheduleFault}
-use Rattle.lset_schedule.specs.Plan.{Plan, IsSchedule, title, schedule_text, event_count}
+use Rattle.lset_schedule.specs.Plan.{Plan, planned, IsSchedule, title, schedule_text, header_size, first_event_line, event_count}
 
 -- ---- faults
 
@@ -43,47 +44,56 @@ go_of word thread steps = if bytes_eq word (codes "go") then (do
   n ← or_fail Number (number_in 1 MOST_STEPS steps)
   Ok (Go t n)) else Err Event
 
-unfoldable pub begin_of : List ℕ → List ℕ → List ℕ → List ℕ → Result Line Cause
-begin_of word thread call key = if bytes_eq word (codes "begin") then (do
-  w ← or_fail Event (call_word_in One call)
+unfoldable pub begin_of : Version → List ℕ → List ℕ → List ℕ → List ℕ → Result Line Cause
+begin_of version word thread call key = if bytes_eq word (codes "begin") then (do
+  w ← or_fail Event (call_word_in version call)
   t ← or_fail Number (number_in 0 max_number thread)
   k ← or_fail Number (number_in 0 max_number key)
   Ok (Begin t (with_key w (record { 0 = k })))) else Err Event
 
-abbrev pub event_of_pieces : List (List ℕ) → Result Line Cause
-event_of_pieces [] = Err Event
-event_of_pieces (a ∷ []) = Err Event
-event_of_pieces (a ∷ b ∷ []) = Err Event
-event_of_pieces (a ∷ b ∷ c ∷ []) = go_of a b c
-event_of_pieces (a ∷ b ∷ c ∷ d ∷ []) = begin_of a b c d
-event_of_pieces (a ∷ b ∷ c ∷ d ∷ e ∷ more) = Err Event
+abbrev pub event_of_pieces : Version → List (List ℕ) → Result Line Cause
+event_of_pieces version [] = Err Event
+event_of_pieces version (a ∷ []) = Err Event
+event_of_pieces version (a ∷ b ∷ []) = Err Event
+event_of_pieces version (a ∷ b ∷ c ∷ []) = go_of a b c
+event_of_pieces version (a ∷ b ∷ c ∷ d ∷ []) = begin_of version a b c d
+event_of_pieces version (a ∷ b ∷ c ∷ d ∷ e ∷ more) = Err Event
 
-abbrev pub event_of : List ℕ → Result Line Cause
-event_of line = event_of_pieces (cut_at 32 line)
+abbrev pub event_of : Version → List ℕ → Result Line Cause
+event_of version line = event_of_pieces version (cut_at 32 line)
 
 abbrev pub within : ℕ → Line → Result Line Cause
 within total e = if nat_lt MOST_EVENTS (total + event_count e) then Err TooMany else Ok e
 
 -- the event of a line that comes after `total` events
-abbrev pub event_after : ℕ → List ℕ → Result Line Cause
-event_after total line = event_of line >>= within total
+abbrev pub event_after : Version → ℕ → List ℕ → Result Line Cause
+event_after version total line = event_of version line >>= within total
 
 -- ---- texts, as their parts between newlines: whole lines, and what comes after the last newline
 
 -- the lines of events, from a number of line and after a total of events
-unfoldable pub events_at : ℕ → ℕ → List (List ℕ) → Result (List Line) ScheduleFault
-events_at line total [] = Ok []
-events_at line total (rest ∷ []) = if length rest == 0 then Ok [] else Err (fault line NotEnded)
-events_at line total (x ∷ y ∷ more) = do
-  e ← map_fault (fault line) (event_after total x)
-  es ← events_at (line + 1) (total + event_count e) (y ∷ more)
+unfoldable pub events_at : Version → ℕ → ℕ → List (List ℕ) → Result (List Line) ScheduleFault
+events_at version line total [] = Ok []
+events_at version line total (rest ∷ []) = if length rest == 0 then Ok [] else Err (fault line NotEnded)
+events_at version line total (x ∷ y ∷ more) = do
+  e ← map_fault (fault line) (event_after version total x)
+  es ← events_at version (line + 1) (total + event_count e) (y ∷ more)
   Ok (e ∷ es)
 
-unfoldable pub plan_of : List (List ℕ) → Result Plan ScheduleFault
-plan_of parts = do
-  head ← map_fault in_schedule (header_of title parts)
-  lines ← events_at 5 0 head.1
-  Ok (record { kind = head.0.kind; threads = head.0.threads; quota = head.0.quota; lines = lines })
+-- the schedule of a text's parts, read as a text of this version
+unfoldable pub plan_in : Version → List (List ℕ) → Result Plan ScheduleFault
+plan_in version parts = do
+  head ← map_fault in_schedule (header_of (title version) parts)
+  lines ← events_at version (first_event_line (planned version head.0 [])) 0 head.1
+  Ok (planned version head.0 lines)
+
+-- The first line alone decides the version: it is the second where that line is the title of the second, and else the first.
+-- A text that is that title without a newline is of the second, and is refused as NotEnded as it would be by either.
+abbrev pub version_told : List (List ℕ) → Version
+version_told parts = version_in (title Two) parts
+
+abbrev pub plan_of : List (List ℕ) → Result Plan ScheduleFault
+plan_of parts = plan_in (version_told parts) parts
 
 abbrev pub reading : List ℕ → Result Plan ScheduleFault
 reading bytes = plan_of (cut_at 10 bytes)
@@ -107,8 +117,9 @@ IsFaultlessTo line (Err e) = line < e.line
 -- a line of an event that ends with a newline, with no fault in it or above it; the last of the parts of a text comes
 -- after the last newline
 abbrev pub IsGoodLine : List ℕ → ℕ → Type 0
-IsGoodLine bytes line = (5 ≤ line) × (line < length (cut_at 10 bytes)) × IsFaultlessTo line (reading bytes)
+IsGoodLine bytes line = (header_size < line) × (line < length (cut_at 10 bytes)) × IsFaultlessTo line (reading bytes)
 
--- the same, of the parts from the fifth line on
-abbrev pub IsGoodEvent : List (List ℕ) → ℕ → Type 0
-IsGoodEvent parts line = (5 ≤ line) × (line < 4 + length parts) × IsFaultlessTo line (events_at 5 0 parts)
+-- the same, of the parts from the line of the first event on
+abbrev pub IsGoodEvent : Version → ℕ → List (List ℕ) → ℕ → Type 0
+IsGoodEvent version first parts line =
+    (first ≤ line) × (line + 1 < first + length parts) × IsFaultlessTo line (events_at version first 0 parts)

@@ -11,7 +11,7 @@ use thiserror::Error;
 /// What is wrong with a line.
 #[derive(Clone, Copy, Debug, PartialEq, Eq)]
 pub enum Cause {
-    /// The first line is not `listset-schedule 1`.
+    /// The first line is neither `listset-schedule 1` nor `listset-schedule 2`.
     Header,
     /// The second line is not `list` and the word for a kind.
     Kind,
@@ -19,7 +19,7 @@ pub enum Cause {
     Threads,
     /// The fourth line is not `quota` and a number from 0 to 16384.
     Quota,
-    /// The line has not the pieces and the words of a `begin` line or a `go` line.
+    /// The line has not the pieces and the words of a `begin` line or a `go` line of the text's version.
     Event,
     /// A thread or a key is no number up to 4294967295, or the steps are no number from 1 to 10000.
     Number,

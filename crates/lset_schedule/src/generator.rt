@@ -10,6 +10,7 @@ use crate::fault::GenFault;
 use crate::value::{Line, Schedule};
 use crate::{MOST_GENERATED, MOST_TURNS};
 use lset_steps::{Event, Machine, World};
+use lset_text::{Header, Version};
 use lset_words::{Layout, layout};
 use rand_core::{Rng, SeedableRng};
 use rand_pcg::Pcg32;
@@ -128,7 +129,7 @@ fn generated_lines<M: Machine, R: Rng>(
 /// draw is a number from one generator, which is made from `seed`. In each of at most 100,000 turns a draw
 /// chooses a thread. If it has an open call, it goes one step; else, while fewer than `calls` calls were
 /// begun, two draws choose the kind of the call that it begins and its key, below `keys`. The turns end
-/// where no call is open and none is left. (This project's own format.)
+/// where no call is open and none is left. It is of the first version. (This project's own format.)
 ///
 /// `GenFault::Threads` where the threads are outside their limits, else `GenFault::Quota` where the quota
 /// is, else `GenFault::Keys` where `keys` is 0, and `GenFault::Memory` where memory was refused.
@@ -140,6 +141,7 @@ pub fn generate<M: Machine>(
     keys: u32,
     seed: u64,
 ) -> Result<Schedule, GenFault>
+    ensures version { IfOk result (λ s. s.version ≡ Version.One) }
     ensures kind { IfOk result (λ s. s.kind ≡ M.KIND) }
     ensures sizes { IfOk result (λ s. (s.threads ≡ threads) × (s.quota ≡ quota)) }
     ensures schedule { IfOk result (λ s. IsSchedule (view s)) }
@@ -154,10 +156,10 @@ pub fn generate<M: Machine>(
     }
     let mut rng = Pcg32::seed_from_u64(seed);
     let lines = generated_lines::<M, Pcg32>(alloc, layout, calls, keys, &mut rng)?;
-    Ok(Schedule {
+    let header = Header {
         kind: M::KIND,
         threads,
         quota,
-        lines,
-    })
+    };
+    Ok(Schedule::of_header(Version::One, header, lines))
 }

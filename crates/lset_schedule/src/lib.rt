@@ -12,12 +12,16 @@ mod writing;
 pub use draws::programs;
 pub use fault::{Cause, GenFault, ScheduleFault};
 pub use generator::generate;
+pub use lset_text::Version;
 pub use reading::{read_schedule, schedules_read_back};
 pub use value::{Line, Schedule};
 pub use writing::write_schedule;
 
-/// The first line of a schedule's text.
-const TITLE: &str = "listset-schedule 1";
+/// The first line of a schedule's text, in the first version: it has the calls `add`, `remove`, `contains`.
+const TITLE_ONE: &str = "listset-schedule 1";
+
+/// The first line of a schedule's text, in the second version: it has the call `ceiling` too.
+const TITLE_TWO: &str = "listset-schedule 2";
 
 /// The most events of a schedule, the steps of a `go` line counted one by one. (This project's own limit, as
 /// are those below.)

@@ -1,8 +1,9 @@
-ghost use Rattle.std.specs.Prelude.{◌≡◌, ◌≤◌, IfOk, IfErr, MatchResult};
+ghost use Rattle.std.specs.Prelude.{◌≡◌, ◌≤◌, ◌<◌, ◌^◌, IfOk, IfErr, MatchResult};
 ghost use Rattle.lset_text.specs.Parts.{cut_at};
 ghost use Rattle.lset_schedule.specs.Plan.{Plan, IsSchedule, view, schedule_text};
 ghost use Rattle.lset_schedule.specs.ScheduleReading.{
   Gives,
+  version_told,
   go_of,
   begin_of,
   event_of,
@@ -15,14 +16,11 @@ ghost use Rattle.lset_schedule.specs.ScheduleReading.{
 };
 
 use crate::fault::{Cause, ScheduleFault};
-use crate::value::{Line, Schedule};
-use crate::{MOST_EVENTS, MOST_STEPS, TITLE};
-use lset_text::{Version, cut, number, read_call, read_header};
+use crate::value::{Line, Schedule, title};
+use crate::{MOST_EVENTS, MOST_STEPS};
+use lset_text::{Version, cut, number, read_call, read_header, version_of};
 use lset_words::Key;
 use std::alloc::Global;
-
-/// The line of the first event.
-const FIRST_EVENT: u64 = 5;
 
 #[tactic(auto, unfolding(crate::specs::ScheduleReading::go_of))]
 fn go(word: &[u8], thread: &[u8], steps: &[u8]) -> Result<Line, Cause>
@@ -37,20 +35,26 @@ fn go(word: &[u8], thread: &[u8], steps: &[u8]) -> Result<Line, Cause>
 }
 
 #[tactic(auto, unfolding(crate::specs::ScheduleReading::begin_of))]
-fn begin(word: &[u8], thread: &[u8], call: &[u8], key: &[u8]) -> Result<Line, Cause>
-    ensures { result ≡ begin_of word.now thread.now call.now key.now }
+fn begin(
+    version: Version,
+    word: &[u8],
+    thread: &[u8],
+    call: &[u8],
+    key: &[u8],
+) -> Result<Line, Cause>
+    ensures { result ≡ begin_of version word.now thread.now call.now key.now }
 {
     if word != b"begin".as_slice() {
         return Err(Cause::Event);
     }
-    let call = read_call(Version::One, call).ok_or(Cause::Event)?;
+    let call = read_call(version, call).ok_or(Cause::Event)?;
     let thread = number(thread, 0, u32::MAX).ok_or(Cause::Number)?;
     let key = number(key, 0, u32::MAX).ok_or(Cause::Number)?;
     Ok(Line::Begin(thread, call.with_key(Key(key))))
 }
 
-fn event(line: &[u8]) -> Result<Line, Cause>
-    ensures { result ≡ event_of line.now }
+fn event(version: Version, line: &[u8]) -> Result<Line, Cause>
+    ensures { result ≡ event_of version line.now }
 {
     let Some((first, rest)) = cut(line, b' ') else {
         return Err(Cause::Event);
@@ -64,34 +68,41 @@ fn event(line: &[u8]) -> Result<Line, Cause>
     if let Some((_, _more)) = cut(fourth, b' ') {
         return Err(Cause::Event);
     }
-    begin(first, second, third, fourth)
+    begin(version, first, second, third, fourth)
 }
 
 /// The event of a line that comes after `total` events.
-fn counted_event(line: &[u8], total: u32) -> Result<Line, Cause>
+fn counted_event(version: Version, line: &[u8], total: u32) -> Result<Line, Cause>
     requires { total ≤ MOST_EVENTS }
-    ensures { result ≡ event_after total line.now }
+    ensures { result ≡ event_after version total line.now }
 {
-    let event = event(line)?;
+    let event = event(version, line)?;
     if event.event_count() > MOST_EVENTS - total {
         return Err(Cause::TooMany);
     }
     Ok(event)
 }
 
-fn events(alloc: Global, text: &[u8]) -> Result<Vec<Line>, ScheduleFault>
-    ensures exact { Gives (λ v. v.items) result (events_at 5 0 (cut_at 10 text.now)) }
-    ensures memory { IfErr result (λ e. e.cause ≡ Cause.Memory → IsGoodEvent (cut_at 10 text.now) e.line) }
+/// The lines of events of a text of this version, of which the first has the number `first_line`.
+fn events(
+    alloc: Global,
+    version: Version,
+    first_line: u64,
+    text: &[u8],
+) -> Result<Vec<Line>, ScheduleFault>
+    requires { first_line < 2 ^ 32 }
+    ensures exact { Gives (λ v. v.items) result (events_at version first_line 0 (cut_at 10 text.now)) }
+    ensures memory { IfErr result (λ e. e.cause ≡ Cause.Memory → IsGoodEvent version first_line (cut_at 10 text.now) e.line) }
 {
     let mut lines = Vec::new(alloc);
     let mut total: u32 = 0;
-    let mut line = FIRST_EVENT;
+    let mut line = first_line;
     let mut rest = text;
     while !rest.is_empty() {
         let Some((first, after)) = cut(rest, b'\n') else {
             return Err(ScheduleFault::at(line, Cause::NotEnded));
         };
-        let event = match counted_event(first, total) {
+        let event = match counted_event(version, first, total) {
             Ok(event) => event,
             Err(cause) => return Err(ScheduleFault::at(line, cause)),
         };
@@ -105,25 +116,31 @@ fn events(alloc: Global, text: &[u8]) -> Result<Vec<Line>, ScheduleFault>
     Ok(lines)
 }
 
-#[tactic(auto, unfolding(crate::specs::ScheduleReading::plan_of))]
+/// The version that the first line of a text tells.
+fn told_version(bytes: &[u8]) -> Version
+    ensures { result ≡ version_told (cut_at 10 bytes.now) }
+{
+    version_of(bytes, title(Version::Two).as_bytes())
+}
+
+#[tactic(auto, unfolding(crate::specs::ScheduleReading::plan_in))]
 fn schedule(alloc: Global, bytes: &[u8]) -> Result<Schedule, ScheduleFault>
     ensures exact { Gives view result (reading bytes.now) }
     ensures memory { IfErr result (λ e. e.cause ≡ Cause.Memory → IsGoodLine bytes.now e.line) }
 {
-    let (header, rest) = read_header(TITLE.as_bytes(), bytes)?;
-    let lines = events(alloc, rest)?;
-    Ok(Schedule {
-        kind: header.kind,
-        threads: header.threads,
-        quota: header.quota,
-        lines,
-    })
+    let version = told_version(bytes);
+    let (header, rest) = read_header(title(version).as_bytes(), bytes)?;
+    let mut schedule = Schedule::of_header(version, header, Vec::new(alloc));
+    let first_line = schedule.first_event_line();
+    schedule.lines = events(alloc, version, first_line, rest)?;
+    Ok(schedule)
 }
 
 /// The schedule that the bytes are the text of, or the first fault of the bytes: its line, and the first
 /// check of that line that fails, in the order of `Cause` but for `NotEnded`, which comes before all others
 /// where a line has bytes and no newline. `Memory` comes last. A header line that is due where no byte is
-/// left has the fault of that header line.
+/// left has the fault of that header line. The first line alone decides the version: a text of the first
+/// version has no `ceiling`, and its line is refused with `Event`.
 pub fn read_schedule(alloc: Global, bytes: &[u8]) -> Result<Schedule, ScheduleFault>
     // What is read is a schedule, and the bytes are its text.
     ensures found { IfOk result (λ s. IsSchedule (view s) × (bytes.now ≡ schedule_text (view s))) }

@@ -1,9 +1,8 @@
 ghost use Rattle.std.specs.Prelude.{◌≡◌, ◌++◌, ◌∷◌, [], IfOk, OnOk, Some, string_bytes};
 ghost use Rattle.lset_text.specs.Parts.{ended};
-ghost use Rattle.lset_schedule.specs.Plan.{view, line_text, schedule_text};
+ghost use Rattle.lset_schedule.specs.Plan.{HasCallsOfVersion, view, line_text, schedule_text};
 
-use crate::TITLE;
-use crate::value::{Line, Schedule};
+use crate::value::{Line, Schedule, title};
 use lset_text::{Header, call_word, put_header};
 use std::alloc::{AllocError, Global};
 use std::fmt;
@@ -30,9 +29,11 @@ fn put_line(out: &mut String, line: &Line) -> Result<(), AllocError>
     Ok(())
 }
 
-/// The text of a schedule. Of one that `read_schedule` gives it is the only text that is read as this schedule;
-/// a schedule with a ceiling has none that is read. The only error is want of memory.
+/// The text of a schedule, in its version: the only one that is read as this schedule. The calls that it
+/// begins are those of its version; what `read_schedule` and `generate` give is such. The only error is want
+/// of memory.
 pub fn write_schedule(alloc: Global, schedule: &Schedule) -> Result<Vec<u8>, AllocError>
+    requires { HasCallsOfVersion (view schedule.now) }
     ensures { IfOk result (λ v. v.items ≡ schedule_text (view schedule.now)) }
 {
     let header = Header {
@@ -41,7 +42,7 @@ pub fn write_schedule(alloc: Global, schedule: &Schedule) -> Result<Vec<u8>, All
         quota: schedule.quota,
     };
     let mut out = String::new(alloc);
-    put_header(&mut out, TITLE, header)?;
+    put_header(&mut out, title(schedule.version), header)?;
     for line in &schedule.lines {
         put_line(&mut out, line)?;
     }

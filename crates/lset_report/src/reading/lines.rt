@@ -11,13 +11,14 @@ ghost use Rattle.lset_report.specs.ReportReading.{
   place_of,
   key_of_line,
   end_of,
+  reply_told,
   line_in,
 };
 ghost use Rattle.lset_text.specs.Parts.{cut_at};
 
 use crate::report_fault::ReportCause;
-use lset_text::{CallWord, Version, cut, number, read_call, read_reply};
-use lset_words::{CallRecord, Key, Placed};
+use lset_text::{CallWord, Version, cut, is_reply, number, read_call, read_reply};
+use lset_words::{CallRecord, Key, Placed, Reply};
 
 /// Which part of a report a text has come to.
 #[derive(Clone, Copy, Debug, PartialEq, Eq)]
@@ -95,8 +96,21 @@ fn begun_call(
     Ok((id, made))
 }
 
+/// The reply that a piece spells: `Line` where it has not the form of one, and else `Number` where it has not the number of
+/// one.
+#[tactic(auto, unfolding(crate::specs::ReportReading::reply_told))]
+fn reply_of(version: Version, piece: &[u8]) -> Result<Reply, ReportCause>
+    ensures { result ≡ reply_told version piece.now }
+{
+    if !is_reply(version, piece) {
+        return Err(ReportCause::Line);
+    }
+    read_reply(version, piece).ok_or(ReportCause::Number)
+}
+
 #[tactic(auto, unfolding(crate::specs::ReportReading::open_of))]
 fn open_call(
+    version: Version,
     id: &[u8],
     thread: &[u8],
     call: &[u8],
@@ -104,9 +118,9 @@ fn open_call(
     begun: &[u8],
     word: &[u8],
 ) -> Result<Line, ReportCause>
-    ensures { result ≡ open_of id.now thread.now call.now key.now begun.now word.now }
+    ensures { result ≡ open_of version id.now thread.now call.now key.now begun.now word.now }
 {
-    let call = read_call(Version::One, call).ok_or(ReportCause::Line)?;
+    let call = read_call(version, call).ok_or(ReportCause::Line)?;
     if word != b"open".as_slice() {
         return Err(ReportCause::Line);
     }
@@ -116,6 +130,7 @@ fn open_call(
 
 #[tactic(auto, unfolding(crate::specs::ReportReading::ended_of))]
 fn ended_call(
+    version: Version,
     id: &[u8],
     thread: &[u8],
     call: &[u8],
@@ -124,10 +139,10 @@ fn ended_call(
     end: &[u8],
     reply: &[u8],
 ) -> Result<Line, ReportCause>
-    ensures { result ≡ ended_of id.now thread.now call.now key.now begun.now end.now reply.now }
+    ensures { result ≡ ended_of version id.now thread.now call.now key.now begun.now end.now reply.now }
 {
-    let call = read_call(Version::One, call).ok_or(ReportCause::Line)?;
-    let reply = read_reply(Version::One, reply).ok_or(ReportCause::Line)?;
+    let call = read_call(version, call).ok_or(ReportCause::Line)?;
+    let reply = reply_of(version, reply)?;
     let (id, made) = begun_call(call, id, thread, key, begun)?;
     let end = number(end, 1, u32::MAX).ok_or(ReportCause::Number)?;
     let ended = CallRecord {
@@ -138,8 +153,8 @@ fn ended_call(
 }
 
 /// A call, of what comes after its thread.
-fn call(id: &[u8], thread: &[u8], rest: &[u8]) -> Result<Line, ReportCause>
-    ensures { result ≡ call_of id.now thread.now (cut_at 32 rest.now) }
+fn call(version: Version, id: &[u8], thread: &[u8], rest: &[u8]) -> Result<Line, ReportCause>
+    ensures { result ≡ call_of version id.now thread.now (cut_at 32 rest.now) }
 {
     let Some((call, rest)) = cut(rest, b' ') else {
         return Err(ReportCause::Line);
@@ -151,22 +166,28 @@ fn call(id: &[u8], thread: &[u8], rest: &[u8]) -> Result<Line, ReportCause>
         return Err(ReportCause::Line);
     };
     let Some((end, reply)) = cut(rest, b' ') else {
-        return open_call(id, thread, call, key, begun, rest);
+        return open_call(version, id, thread, call, key, begun, rest);
     };
     if let Some((_, _more)) = cut(reply, b' ') {
         return Err(ReportCause::Line);
     }
-    ended_call(id, thread, call, key, begun, end, reply)
+    ended_call(version, id, thread, call, key, begun, end, reply)
 }
 
 #[tactic(auto, unfolding(crate::specs::ReportReading::place_of))]
-fn place(section: Section, word: &[u8], id: &[u8], reply: &[u8]) -> Result<Line, ReportCause>
-    ensures { result ≡ place_of section word.now id.now reply.now }
+fn place(
+    version: Version,
+    section: Section,
+    word: &[u8],
+    id: &[u8],
+    reply: &[u8],
+) -> Result<Line, ReportCause>
+    ensures { result ≡ place_of version section word.now id.now reply.now }
 {
     if !section.takes_places() || word != b"place".as_slice() {
         return Err(ReportCause::Line);
     }
-    let reply = read_reply(Version::One, reply).ok_or(ReportCause::Line)?;
+    let reply = reply_of(version, reply)?;
     let call = number(id, 0, u32::MAX).ok_or(ReportCause::Number)?;
     Ok(Line::Place(Placed { call, reply }))
 }
@@ -191,9 +212,9 @@ fn end(section: Section, word: &[u8]) -> Result<Line, ReportCause>
     Ok(Line::End)
 }
 
-/// What a line tells in a text that has come to a section.
-pub fn line_of_report(section: Section, line: &[u8]) -> Result<Line, ReportCause>
-    ensures { result ≡ line_in section line.now }
+/// What a line tells in a text of a version that has come to a section.
+pub fn line_of_report(version: Version, section: Section, line: &[u8]) -> Result<Line, ReportCause>
+    ensures { result ≡ line_in version section line.now }
 {
     let Some((word, rest)) = cut(line, b' ') else {
         return end(section, line);
@@ -202,10 +223,10 @@ pub fn line_of_report(section: Section, line: &[u8]) -> Result<Line, ReportCause
         return key(section, word, rest);
     };
     let Some((third, rest)) = cut(rest, b' ') else {
-        return place(section, word, second, rest);
+        return place(version, section, word, second, rest);
     };
     if !section.takes_calls() || word != b"call".as_slice() {
         return Err(ReportCause::Line);
     }
-    call(second, third, rest)
+    call(version, second, third, rest)
 }

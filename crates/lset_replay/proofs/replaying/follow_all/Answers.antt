@@ -10,41 +10,41 @@ use Rattle.lset_replay.proofs.replaying.follow_all.Goals as goal
 
 pub overflow_add-moment : goal.overflow_add-moment
 overflow_add-moment g c =
-    let there = comes_next c.args.lines.now c.loop-index.index c.loop-done._done c.loop-done.moment c.event_of-times.result.1
+    let there = comes_next c.args.first c.args.lines.now c.loop-index.index c.loop-done._done c.loop-done.moment c.event_of-times.result.1
     c.event_of-times.result.0 c.loop-index-test.true c.event_of-times.ensures c.loop-done-test.true c.loop-done.invariant.count in
     let few : c.loop-done.moment < MOST_EVENTS =
-    few_behind c.args.lines.now c.loop-done.moment MOST_EVENTS c.event_of-times.result.0 c.requires.few there in
+    few_behind c.args.first c.args.lines.now c.loop-done.moment MOST_EVENTS c.event_of-times.result.0 c.requires.few there in
     omega arith
 
 pub follow-requires : goal.follow-requires
 follow-requires g c =
-    let there = comes_next c.args.lines.now c.loop-index.index c.loop-done._done c.loop-done.moment c.event_of-times.result.1
+    let there = comes_next c.args.first c.args.lines.now c.loop-index.index c.loop-done._done c.loop-done.moment c.event_of-times.result.1
     c.event_of-times.result.0 c.loop-index-test.true c.event_of-times.ensures c.loop-done-test.true c.loop-done.invariant.count in
     subst (λ m. MayFollow c.loop-done.recorder m c.event_of-times.result.0.event c.in-Ok.told) (sym (add-one c.loop-done.moment))
-    (ready g.M.Machine.table (tells_keys g.M.Machine.table c.has_account.ensures c.listed_content.ensures) c.args.world.now.threads c.args.world.now.quota (events_from 5 c.args.lines.now)
+    (ready g.M.Machine.table (tells_keys g.M.Machine.table c.has_account.ensures c.listed_content.ensures) c.args.world.now.threads c.args.world.now.quota (events_from c.args.first c.args.lines.now)
     c.loop-done.moment c.loop-done.world c.loop-done.recorder c.loop-done.invariant.followed c.event_of-times.result.0.event
     there.event_is c.in-Ok.ensures.0 c.in-Ok.told c.in-Ok.ensures.2)
 
 pub returns-in-Err : goal.returns-in-Err
 returns-in-Err g c =
-    let there = comes_next c.args.lines.now c.loop-index.index c.loop-done._done c.loop-done.moment c.event_of-times.result.1
+    let there = comes_next c.args.first c.args.lines.now c.loop-index.index c.loop-done._done c.loop-done.moment c.event_of-times.result.1
     c.event_of-times.result.0 c.loop-index-test.true c.event_of-times.ensures c.loop-done-test.true c.loop-done.invariant.count in
-    refusal_is g.M.Machine.table c.args.world.now.threads c.args.world.now.quota (events_from 5 c.args.lines.now)
+    refusal_is g.M.Machine.table c.args.world.now.threads c.args.world.now.quota (events_from c.args.first c.args.lines.now)
     c.event_of-times.result.0.line c.in-Err.cause c.refusal.result c.refusal.ensures
-    (stopped g.M.Machine.table (tells_keys g.M.Machine.table c.has_account.ensures c.listed_content.ensures) c.args.world.now.threads c.args.world.now.quota (events_from 5 c.args.lines.now)
+    (stopped g.M.Machine.table (tells_keys g.M.Machine.table c.has_account.ensures c.listed_content.ensures) c.args.world.now.threads c.args.world.now.quota (events_from c.args.first c.args.lines.now)
     c.loop-done.moment c.loop-done.world c.loop-done.recorder c.loop-done.invariant.followed c.event_of-times.result.0.event
     there.event_is c.in-Err.cause c.event_of-times.result.0.line there.known there.line_is c.in-Err.ensures.0).0
 
 pub loop-done-preserved : goal.loop-done-preserved
 loop-done-preserved g c =
-    let there = comes_next c.args.lines.now c.loop-index.index c.loop-done._done c.loop-done.moment c.event_of-times.result.1
+    let there = comes_next c.args.first c.args.lines.now c.loop-index.index c.loop-done._done c.loop-done.moment c.event_of-times.result.1
     c.event_of-times.result.0 c.loop-index-test.true c.event_of-times.ensures c.loop-done-test.true c.loop-done.invariant.count in
     record {
       count = omega (arith, c.loop-done.invariant.count);
       followed = subst (λ m. HasFollowed g.M.Machine.table c.args.world.now.threads c.args.world.now.quota
-          (events_from 5 c.args.lines.now) m c.step.new.self c.follow.new.self) (sym (add-one c.loop-done.moment))
+          (events_from c.args.first c.args.lines.now) m c.step.new.self c.follow.new.self) (sym (add-one c.loop-done.moment))
           (followed g.M.Machine.table (tells_keys g.M.Machine.table c.has_account.ensures c.listed_content.ensures) c.args.world.now.threads c.args.world.now.quota
-          (events_from 5 c.args.lines.now) c.loop-done.moment c.loop-done.world c.loop-done.recorder c.loop-done.invariant.followed
+          (events_from c.args.first c.args.lines.now) c.loop-done.moment c.loop-done.world c.loop-done.recorder c.loop-done.invariant.followed
           c.event_of-times.result.0.event there.event_is
           c.step.new.self c.follow.new.self c.in-Ok.told c.in-Ok.ensures.0 c.in-Ok.ensures.1 c.in-Ok.ensures.2
           (subst (λ m. trace_of c.follow.new.self ≡ trace_after m (entry_told c.event_of-times.result.0.event c.in-Ok.told)
@@ -54,7 +54,7 @@ loop-done-preserved g c =
 
 pub loop-index-preserved : goal.loop-index-preserved
 loop-index-preserved g c = record {
-  count = line_done c.args.lines.now c.loop-index.index c.loop-done._done c.loop-done.moment c.event_of-times.result.1
+  count = line_done c.args.first c.args.lines.now c.loop-index.index c.loop-done._done c.loop-done.moment c.event_of-times.result.1
       c.event_of-times.result.0 c.loop-index-test.true c.event_of-times.ensures c.loop-done-test.false c.loop-done.auto._done-end
       c.loop-done.invariant.count;
   followed = c.loop-done.invariant.followed;

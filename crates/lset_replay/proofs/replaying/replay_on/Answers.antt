@@ -1,7 +1,12 @@
-use Rattle.std.proofs.Common.{◌≡◌, ◌≤◌, List, Option, length, sym, ap, subst, ◌∙◌, arith}
+use Rattle.std.proofs.Common.{◌≡◌, ℕ, ◌≤◌, List, Option, length, sym, ap, subst, ◌∙◌, arith}
 use Rattle.std.specs.List.{sum_by}
-use Rattle.lset_steps.specs.Worlds.{WorldState}
+use Rattle.lset_words.specs.declared.Kind.{Kind}
+use Rattle.lset_words.specs.declared.history.Placed.{Placed}
 use Rattle.lset_words.specs.Words.{Sizes}
+use Rattle.lset_text.specs.declared.words.Version.{Version}
+use Rattle.lset_history.specs.History.{HistoryValue}
+use Rattle.lset_steps.specs.Worlds.{WorldState}
+use Rattle.lset_report.specs.Report.{ReportValue}
 use Rattle.lset_schedule.specs.declared.TheConstants.{MOST_EVENTS}
 use Rattle.lset_schedule.specs.declared.value.Line.{Line}
 use Rattle.lset_schedule.specs.Plan.{view, event_count}
@@ -9,36 +14,38 @@ use Rattle.lset_replay.specs.declared.places.Place.{Place}
 use Rattle.lset_replay.specs.Blocks.{ArePointsAt, StandUpTo, blocks_upto}
 use Rattle.lset_replay.specs.Events.{events_from, events_of}
 use Rattle.lset_replay.proofs.Followed.{tells_keys}
-use Rattle.lset_replay.proofs.EventLists.{length_of_events}
+use Rattle.lset_replay.proofs.EventLists.{length_of_events, same_events}
 use Rattle.lset_replay.proofs.Ranks.{stand_upto_later}
 use Rattle.lset_replay.proofs.Pointed.{points_are_of}
 use Rattle.lset_replay.proofs.Reported.{few_places, places_upto, replay_is, explained_is}
+use Rattle.lset_replay.proofs.ReportWords.{words_of_version}
 use Rattle.lset_replay.proofs.replaying.replay_on.Goals as goal
 
 -- there are as many events as may be
-few_events : (ls lines : List Line) → ls ≡ lines → sum_by event_count lines ≤ MOST_EVENTS → length (events_from 5 ls) ≤ MOST_EVENTS
-few_events ls lines e few = subst (λ z. z ≤ MOST_EVENTS) (sym (length_of_events 5 ls ∙ ap (λ xs. sum_by event_count xs) e)) few
+few_events : (n : ℕ) (ls lines : List Line) → ls ≡ lines → sum_by event_count lines ≤ MOST_EVENTS
+    → length (events_from n ls) ≤ MOST_EVENTS
+few_events n ls lines e few = subst (λ z. z ≤ MOST_EVENTS) (sym (length_of_events n ls ∙ ap (λ xs. sum_by event_count xs) e)) few
 
 pub in_order-requires-clause-few : goal.in_order-requires-clause-few
 in_order-requires-clause-few g c =
-    let places : length c.follow_all.new.recorder.places.items ≤ length (events_from 5 c.deref.result.now) =
+    let places : length c.follow_all.new.recorder.places.items ≤ length (events_from c.first_event_line.result c.deref.result.now) =
     few_places g.M.Machine.table (tells_keys g.M.Machine.table c.has_account.ensures c.listed_content.ensures) c.in_ok-world.world.threads c.in_ok-world.world.quota
-    (events_from 5 c.deref.result.now) (length (events_from 5 c.deref.result.now))
+    (events_from c.first_event_line.result c.deref.result.now) (length (events_from c.first_event_line.result c.deref.result.now))
     c.follow_all.new.world c.follow_all.new.recorder c.in_ok-follow_all.ensures in
-    let few : length (events_from 5 c.deref.result.now) ≤ MOST_EVENTS =
-    few_events c.deref.result.now c.args.schedule.now.lines.items c.deref.ensures.value c.requires.few in
+    let few : length (events_from c.first_event_line.result c.deref.result.now) ≤ MOST_EVENTS =
+    few_events c.first_event_line.result c.deref.result.now c.args.schedule.now.lines.items c.deref.ensures.value c.requires.few in
     let same : length c.deref-2.result.now ≡ length c.follow_all.new.recorder.places.items =
     ap (λ (xs : List (Option Place)). length xs) c.deref-2.ensures.value in
     omega arith
 
 pub in_order-requires-clause-inside : goal.in_order-requires-clause-inside
 in_order-requires-clause-inside g c =
-    stand_upto_later (length (events_from 5 c.deref.result.now)) MOST_EVENTS c.deref-2.result.now
-    (subst (λ xs. StandUpTo (length (events_from 5 c.deref.result.now)) xs) (sym c.deref-2.ensures.value)
+    stand_upto_later (length (events_from c.first_event_line.result c.deref.result.now)) MOST_EVENTS c.deref-2.result.now
+    (subst (λ xs. StandUpTo (length (events_from c.first_event_line.result c.deref.result.now)) xs) (sym c.deref-2.ensures.value)
     (places_upto g.M.Machine.table (tells_keys g.M.Machine.table c.has_account.ensures c.listed_content.ensures) c.in_ok-world.world.threads c.in_ok-world.world.quota
-    (events_from 5 c.deref.result.now) (length (events_from 5 c.deref.result.now))
+    (events_from c.first_event_line.result c.deref.result.now) (length (events_from c.first_event_line.result c.deref.result.now))
     c.follow_all.new.world c.follow_all.new.recorder c.in_ok-follow_all.ensures))
-    (few_events c.deref.result.now c.args.schedule.now.lines.items c.deref.ensures.value c.requires.few)
+    (few_events c.first_event_line.result c.deref.result.now c.args.schedule.now.lines.items c.deref.ensures.value c.requires.few)
 
 pub returns-clause-replays : goal.returns-clause-replays
 returns-clause-replays g c =
@@ -46,33 +53,40 @@ returns-clause-replays g c =
     ap (λ (w : WorldState). w.threads) c.in_ok-world.ensures ∙ ap (λ (s : Sizes). s.threads) c.in-Ok.ensures.sizes in
     let quota : c.in_ok-world.world.quota ≡ c.args.schedule.now.quota =
     ap (λ (w : WorldState). w.quota) c.in_ok-world.ensures ∙ ap (λ (s : Sizes). s.quota) c.in-Ok.ensures.sizes in
-    let events : events_from 5 c.deref.result.now ≡ events_of (view c.args.schedule.now) =
-    ap (λ (ls : List Line). events_from 5 ls) c.deref.ensures.value in (
+    let events : events_from c.first_event_line.result c.deref.result.now ≡ events_of (view c.args.schedule.now) =
+    same_events c.first_event_line.result _ c.deref.result.now _ c.first_event_line.ensures c.deref.ensures.value in (
       replay_is g.M.Machine.table (tells_keys g.M.Machine.table c.has_account.ensures c.listed_content.ensures) (view c.args.schedule.now) c.in_ok-world.world.threads
-          c.in_ok-world.world.quota (events_from 5 c.deref.result.now)
+          c.in_ok-world.world.quota (events_from c.first_event_line.result c.deref.result.now)
           c.follow_all.new.world c.follow_all.new.recorder c.in_ok-ordered.ordered.order.items c.in_ok-keys.keys.items
           c.in_ok-follow_all.ensures threads quota events
-          (c.in_ok-ordered.ensures.order (length (events_from 5 c.deref.result.now))
-          (subst (λ xs. StandUpTo (length (events_from 5 c.deref.result.now)) xs) (sym c.deref-2.ensures.value)
+          (c.in_ok-ordered.ensures.order (length (events_from c.first_event_line.result c.deref.result.now))
+          (subst (λ xs. StandUpTo (length (events_from c.first_event_line.result c.deref.result.now)) xs) (sym c.deref-2.ensures.value)
           (places_upto g.M.Machine.table (tells_keys g.M.Machine.table c.has_account.ensures c.listed_content.ensures) c.in_ok-world.world.threads c.in_ok-world.world.quota
-          (events_from 5 c.deref.result.now) (length (events_from 5 c.deref.result.now))
+          (events_from c.first_event_line.result c.deref.result.now) (length (events_from c.first_event_line.result c.deref.result.now))
           c.follow_all.new.world c.follow_all.new.recorder c.in_ok-follow_all.ensures))
-          ∙ ap (λ xs. blocks_upto xs (length (events_from 5 c.deref.result.now))) c.deref-2.ensures.value)
+          ∙ ap (λ xs. blocks_upto xs (length (events_from c.first_event_line.result c.deref.result.now))) c.deref-2.ensures.value)
           c.in_ok-keys.ensures,
       points_are_of g.M.Machine.table (tells_keys g.M.Machine.table c.has_account.ensures c.listed_content.ensures) (view c.args.schedule.now) c.in_ok-world.world.threads
-          c.in_ok-world.world.quota (events_from 5 c.deref.result.now)
+          c.in_ok-world.world.quota (events_from c.first_event_line.result c.deref.result.now)
           c.follow_all.new.world c.follow_all.new.recorder c.in_ok-ordered.ordered.order.items
           c.in_ok-ordered.ordered.points.items c.in_ok-follow_all.ensures threads quota events
           (subst (λ ps. ArePointsAt ps c.in_ok-ordered.ordered.order.items c.in_ok-ordered.ordered.points.items)
           c.deref-2.ensures.value c.in_ok-ordered.ensures.points),
     )
 
+-- what is told
+abbrev told : (version : Version) (kind : Kind) (history : HistoryValue) (order : List Placed) (keys : List ℕ) → ReportValue
+told version kind history order keys =
+    record { version = version; kind = kind; history = history; order = order; keys = keys }
+
 pub returns-clause-explained : goal.returns-clause-explained
 returns-clause-explained g c = explained_is g.M.Machine.table c.runs_are_linearizable.ensures (view c.args.schedule.now)
-    (record {
-      kind = c.args.schedule.now.kind;
-      history = c.follow_all.new.recorder.history;
-      order = c.in_ok-ordered.ordered.order.items;
-      keys = c.in_ok-keys.keys.items;
-    })
+    (told c.args.schedule.now.version c.args.schedule.now.kind c.follow_all.new.recorder.history
+    c.in_ok-ordered.ordered.order.items c.in_ok-keys.keys.items)
     (returns-clause-replays g c).0
+
+pub returns-clause-in_words : goal.returns-clause-in_words
+returns-clause-in_words g c = λ calls. words_of_version g.M.Machine.table (view c.args.schedule.now)
+    (told c.args.schedule.now.version c.args.schedule.now.kind c.follow_all.new.recorder.history
+    c.in_ok-ordered.ordered.order.items c.in_ok-keys.keys.items)
+    (returns-clause-replays g c).0 (returns-clause-explained g c) calls

@@ -7,15 +7,15 @@ use Rattle.lset_replay.proofs.tracing.trace_lines.Given as goal
 -- the events of the lines so far have been told
 abbrev pub invariant-loop-index : goal.invariant-loop-index
 invariant-loop-index g l = record {
-  count : l.moment ≡ length (events_from 5 (take l.index l.lines));
-  told : HasTraced g.M.Machine.table l.fn.world.threads l.fn.world.quota (events_from 5 l.lines) l.chains l.moment l.world
+  count : l.moment ≡ length (events_from l.first (take l.index l.lines));
+  told : HasTraced g.M.Machine.table l.fn.world.threads l.fn.world.quota (events_from l.first l.lines) l.chains l.moment l.world
       l.recorder l.kept.items l.traced.items;
 }
 
 -- and some of the next line
 abbrev pub invariant-loop-done : goal.invariant-loop-done
 invariant-loop-done g l = record {
-  count : AreBehind l.lines l.index l._done l.moment;
-  told : HasTraced g.M.Machine.table l.fn.world.threads l.fn.world.quota (events_from 5 l.lines) l.chains l.moment l.world
+  count : AreBehind l.first l.lines l.index l._done l.moment;
+  told : HasTraced g.M.Machine.table l.fn.world.threads l.fn.world.quota (events_from l.first l.lines) l.chains l.moment l.world
       l.recorder l.kept.items l.traced.items;
 }

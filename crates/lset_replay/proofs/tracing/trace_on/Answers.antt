@@ -1,26 +1,26 @@
-use Rattle.std.proofs.Common.{rules, List, refl, ap, ◌∙◌}
+use Rattle.std.proofs.Common.{rules, refl, ap, ◌∙◌}
 use Rattle.lset_words.specs.Words.{Sizes}
 use Rattle.lset_steps.specs.Worlds.{WorldState}
-use Rattle.lset_schedule.specs.declared.value.Line.{Line}
 use Rattle.lset_schedule.specs.Plan.{view}
 use Rattle.lset_replay.specs.Events.{events_from}
 use Rattle.lset_replay.specs.Follows.{HasFollowed}
+use Rattle.lset_replay.proofs.EventLists.{same_events}
 use Rattle.lset_replay.proofs.Telling.{traced_none, trace_is}
 use Rattle.lset_replay.proofs.tracing.trace_on.Goals as goal
 
 pub trace_lines-requires-clause-start : goal.trace_lines-requires-clause-start
 trace_lines-requires-clause-start g c =
     let followed : HasFollowed g.M.Machine.table c.in_ok-world.world.threads c.in_ok-world.world.quota
-    (events_from 5 c.deref.result.now) 0 c.in_ok-world.world c.in_ok-recorder.recorder = search rules in
-    traced_none g.M.Machine.table c.in_ok-world.world.threads c.in_ok-world.world.quota (events_from 5 c.deref.result.now)
+    (events_from c.first_event_line.result c.deref.result.now) 0 c.in_ok-world.world c.in_ok-recorder.recorder = search rules in
+    traced_none g.M.Machine.table c.in_ok-world.world.threads c.in_ok-world.world.quota (events_from c.first_event_line.result c.deref.result.now)
     c.args.chains c.in_ok-world.world c.in_ok-recorder.recorder c.in_ok-kept.kept.items c.new-events.result.items
     followed c.new-events.ensures.items c.in_ok-kept.ensures.keys
 
 pub returns : goal.returns
 returns g c =
     trace_is g.M.Machine.table (view c.args.schedule.now) c.args.chains c.in_ok-world.world.threads c.in_ok-world.world.quota
-    (events_from 5 c.deref.result.now) _
+    (events_from c.first_event_line.result c.deref.result.now) _
     (ap (λ (w : WorldState). w.threads) c.in_ok-world.ensures ∙ ap (λ (s : Sizes). s.threads) c.in-Ok.ensures.sizes)
     (ap (λ (w : WorldState). w.quota) c.in_ok-world.ensures ∙ ap (λ (s : Sizes). s.quota) c.in-Ok.ensures.sizes)
-    (ap (λ (ls : List Line). events_from 5 ls) c.deref.ensures.value)
+    (same_events c.first_event_line.result _ c.deref.result.now _ c.first_event_line.ensures c.deref.ensures.value)
     refl refl refl c.in_ok-refused.ensures

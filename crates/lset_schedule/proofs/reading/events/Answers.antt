@@ -10,35 +10,35 @@ pub returns-in_default-clause-exact : goal.returns-in_default-clause-exact
 returns-in_default-clause-exact c = λ other.
     let some = eqb-false _ _ (sym c.is_empty.ensures ∙ c.loop-rest-test.true) in
     rw c.at.ensures
-    (not_ended c.loop-rest.lines.items c.loop-rest.line c.loop-rest.total c.loop-rest.rest.now _
+    (not_ended c.args.version c.loop-rest.lines.items c.loop-rest.line c.loop-rest.total c.loop-rest.rest.now _
     c.in_default.ensures.parts some c.loop-rest.invariant.so_far)
 
 pub returns-in-Err-clause-exact : goal.returns-in-Err-clause-exact
 returns-in-Err-clause-exact c = λ other.
     rw c.at-in-Err.ensures
-    (stops c.loop-rest.lines.items c.loop-rest.line c.loop-rest.total c.loop-rest.rest.now c.in-Some.first.now c.in-Some.after.now
+    (stops c.args.version c.loop-rest.lines.items c.loop-rest.line c.loop-rest.total c.loop-rest.rest.now c.in-Some.first.now c.in-Some.after.now
     c.in-Err.cause _ c.in-Some.ensures.parts c.in-Err.ensures c.loop-rest.invariant.so_far)
 
 pub returns-in-Err-clause-memory : goal.returns-in-Err-clause-memory
 returns-in-Err-clause-memory c = λ is.
-    absurd (event_fails c.loop-rest.total c.in-Some.first.now c.in-Err.cause c.in-Err.ensures
+    absurd (event_fails c.args.version c.loop-rest.total c.in-Some.first.now c.in-Err.cause c.in-Err.ensures
     (ap (λ (e : ScheduleFault). e.cause) (sym c.at-in-Err.ensures) ∙ is))
 
 pub returns-then-is_err-clause-memory : goal.returns-then-is_err-clause-memory
 returns-then-is_err-clause-memory c = λ is.
     let before = c.loop-rest.invariant in
     rw c.at-then-is_err.ensures
-    (good_event c.loop-rest.lines.items c.loop-rest.line c.loop-rest.total c.args.text.now c.loop-rest.rest.now
+    (good_event c.args.version c.args.first_line c.loop-rest.lines.items c.loop-rest.line c.loop-rest.total c.args.text.now c.loop-rest.rest.now
     c.in-Some.first.now c.in-Some.after.now c.in-Ok.event c.in-Some.ensures.parts c.in-Ok.ensures
     before.lines_done before.parts_left before.so_far)
 
 pub loop-rest-preserved : goal.loop-rest-preserved
 loop-rest-preserved c =
-    let parts = goes_on c.loop-rest.lines.items c.loop-rest.line c.loop-rest.total c.loop-rest.rest.now
+    let parts = goes_on c.args.version c.loop-rest.lines.items c.loop-rest.line c.loop-rest.total c.loop-rest.rest.now
     c.in-Some.first.now c.in-Some.after.now c.in-Ok.event _
     c.in-Some.ensures.parts c.in-Ok.ensures c.loop-rest.invariant.so_far in
     let counted = one_more _ _ _ c.in-Some.ensures.parts in
-    let few = total_few c.loop-rest.total c.in-Some.first.now c.in-Ok.event c.in-Ok.ensures in
+    let few = total_few c.args.version c.loop-rest.total c.in-Some.first.now c.in-Ok.event c.in-Ok.ensures in
     let pushed : c.push.new.self.items ≡ c.loop-rest.lines.items ++ c.in-Ok.event ∷ [] = grind (arith, common_steps) in
     record {
       so_far = rw (pushed, c.event_count-total.ensures) parts;
@@ -51,4 +51,4 @@ loop-rest-preserved c =
 pub returns-clause-exact : goal.returns-clause-exact
 returns-clause-exact c =
     let none = eqb-true _ _ (sym c.is_empty.ensures ∙ c.loop-rest-test.false) in
-    is_done c.loop-rest.lines.items c.loop-rest.line c.loop-rest.total c.loop-rest.rest.now _ none c.loop-rest.invariant.so_far
+    is_done c.args.version c.loop-rest.lines.items c.loop-rest.line c.loop-rest.total c.loop-rest.rest.now _ none c.loop-rest.invariant.so_far

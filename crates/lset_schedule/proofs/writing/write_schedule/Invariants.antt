@@ -5,6 +5,7 @@ use Rattle.lset_schedule.proofs.writing.write_schedule.Given as goal
 
 abbrev pub invariant-loop-line : goal.invariant-loop-line
 invariant-loop-line l = string_bytes l.out ≡ schedule_text (record {
+  version = l.schedule.version;
   kind = l.schedule.kind;
   threads = l.schedule.threads;
   quota = l.schedule.quota;

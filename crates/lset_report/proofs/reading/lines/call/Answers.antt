@@ -11,4 +11,4 @@ returns-in-Some-cut-4 c =
       c.in-Some-cut-3.ensures.parts,
       c.in-Some-cut-4.ensures.parts,
     )
-    (call_many _ _ _ _ _ _ _ _ (some_part 32 c.in-Some-cut-4._more.now))
+    (call_many _ _ _ _ _ _ _ _ _ (some_part 32 c.in-Some-cut-4._more.now))

@@ -1,0 +1,20 @@
+ghost use Rattle.std.specs.Prelude.{◌≡◌};
+ghost use Rattle.lset_report.specs.Texts.{title};
+
+use lset_text::Version;
+
+/// The first line of a report's text of version 1.
+const TITLE_ONE: &str = "listset-report 1";
+
+/// The first line of a report's text of version 2, which has the words of a `ceiling` and of its replies.
+const TITLE_TWO: &str = "listset-report 2";
+
+/// The first line of a report's text of a version.
+pub fn title(version: Version) -> &'static str
+    ensures { result.now ≡ title version }
+{
+    match version {
+        Version::One => TITLE_ONE,
+        Version::Two => TITLE_TWO,
+    }
+}
