@@ -17,27 +17,31 @@ def plain(text):
 
 
 def rows_of(section):
-    """The rows of a section's table, and the registers that they set."""
+    """The rows of a section's table, and what stands in their column "Then"."""
     rows, then = {}, ""
     for line in section.splitlines():
         cells = [cell.strip() for cell in line.strip("|").split("|")]
         if len(cells) == 4 and cells[0].isdigit():
             rows[int(cells[0])] = {"step": plain(cells[1]), "book": plain(cells[3])}
             then += cells[2]
-    return rows, [name for name in REGISTERS if f"`{name}` =" in then]
+    return rows, then
+
+
+def registers_in(then):
+    """The registers that these rows set."""
+    return [name for name in REGISTERS if f"`{name}` =" in then]
 
 
 def rows_text(tables):
     """The text of rows.js for the text of docs/TABLES.md."""
     sections = {part.split("\n", 1)[0].strip(): part for part in tables.split("\n## ")}
-    reads, _ = rows_of(sections["`contains` of LazyList and LockFreeList"])
-    ceilings, _ = rows_of(sections["`ceiling` of LazyList and LockFreeList"])
+    reads = [rows_of(sections[f"`{call}` of LazyList and LockFreeList"]) for call in ("contains", "ceiling")]
     lists = {}
     for name, kind in TITLES.items():
-        rows, registers = rows_of(sections[name])
-        if kind in ("lazy", "lock-free"):
-            rows.update(reads)
-            rows.update(ceilings)
-        lists[kind] = {"name": name, "registers": registers, "rows": rows}
+        rows, then = rows_of(sections[name])
+        for more, more_then in reads if kind in ("lazy", "lock-free") else []:
+            rows.update(more)
+            then += more_then
+        lists[kind] = {"name": name, "registers": registers_in(then), "rows": rows}
     return ("// The rows of the step tables, from docs/TABLES.md by page/build: for show alone, no state is computed from them.\n"
             f'"use strict";\n\nconst LISTS = {json.dumps(lists, indent=2, ensure_ascii=False)};\n')

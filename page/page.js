@@ -3,11 +3,11 @@
 
 const LINE_HEIGHT = 21;
 const CAUSES = {
-  Header: 'line 1 is to be "listset-schedule 1"',
+  Header: 'line 1 is to be "listset-schedule 1", or "listset-schedule 2", which has ceilings',
   Kind: 'line 2 is to be "list" and one of coarse, fine, optimistic, lazy, lock-free',
   Threads: 'line 3 is to be "threads" and a number from 1 to 64',
   Quota: 'line 4 is to be "quota" and a number from 0 to 16384',
-  Event: 'a line is to be "begin T CALL K" or "go T N", with one space between',
+  Event: 'a line is to be "begin T CALL K" or "go T N", with one space between; a ceiling is of version 2 alone',
   Number: "a number is none, has a leading zero, or is out of its range",
   TooMany: "the events up to this line are more than 1,000,000",
   NotEnded: "the line has no newline at its end",
@@ -140,11 +140,11 @@ function tellLine(text) {
   else tellFault(null, "", text);
 }
 
-// Shows a trace; false where its text is none.
-function takeTrace(text, count, source) {
+// Shows a trace, of a schedule of this version where it is known; false where its text is none.
+function takeTrace(text, count, source, version) {
   let trace;
   try {
-    trace = readTrace(text);
+    trace = readTrace(text, version);
   } catch (fault) {
     if (!(fault instanceof TraceFault)) throw fault;
     tellFault(null, "", `this is no trace: ${fault.message}`);
@@ -174,7 +174,7 @@ function runText(text, count) {
     tellFault(null, "", fault.message);
     return;
   }
-  if (answer.text.startsWith("listset-trace")) takeTrace(answer.text, count, "run by the proved replayer");
+  if (answer.text.startsWith("listset-trace")) takeTrace(answer.text, count, "run by the proved replayer", versionOf(text));
   else tellLine(answer.text.trim());
   showMarks();
   refreshReport();

@@ -285,7 +285,8 @@ const LISTS = {
     "registers": [
       "pred",
       "curr",
-      "succ"
+      "succ",
+      "ckey"
     ],
     "rows": {
       "1": {

@@ -4,8 +4,8 @@
 const MOST_THREADS = 64;
 const MOST_QUOTA = 16384;
 const MOST_NUMBER = 4294967295;
-const CALL_WORDS = ["add", "remove", "contains"];
-const REPLY_WORDS = ["true", "false", "full"];
+const CALL_WORDS = ["add", "remove", "contains", "ceiling"];
+const REPLY_WORDS = ["true", "false", "full", "nothing"]; // and at-X of a key X
 const REFUSALS = ["NoThread", "Busy", "Idle"];
 const NODE_REGISTERS = ["pred", "curr", "succ", "node"];
 const KEY_REGISTERS = ["pkey", "ckey"];
@@ -52,7 +52,7 @@ class Pieces {
   number(least, most, wanted) {
     const piece = this.take(wanted);
     const value = Number(piece);
-    if (!/^(0|[1-9][0-9]{0,9})$/.test(piece) || value < least || value > most) {
+    if (!isNumber(piece) || value < least || value > most) {
       this.fail(`"${piece}" is no ${wanted} (a number from ${least} to ${most})`);
     }
     return value;
@@ -70,7 +70,9 @@ function isNode(name, trace) {
 }
 
 const isThread = (word, trace) => /^t(0|[1-9][0-9]?)$/.test(word) && Number(word.slice(1)) < trace.threads;
-const isKey = (word) => word === "-inf" || word === "+inf" || (/^(0|[1-9][0-9]{0,9})$/.test(word) && Number(word) <= MOST_NUMBER);
+const isNumber = (word) => /^(0|[1-9][0-9]{0,9})$/.test(word) && Number(word) <= MOST_NUMBER;
+const isKey = (word) => word === "-inf" || word === "+inf" || isNumber(word);
+const isReply = (word) => REPLY_WORDS.includes(word) || (word.startsWith("at-") && isNumber(word.slice(3)));
 
 // A word of the table, as "list.lock" or "n6.link".
 function takeWord(pieces, trace) {
@@ -97,6 +99,12 @@ function takeValue(pieces, word, trace) {
   return value;
 }
 
+function takeReply(pieces) {
+  const reply = pieces.take("a reply");
+  if (!isReply(reply)) pieces.fail(`"${reply}" is no reply`);
+  return reply;
+}
+
 // The row at which the thread stands after the event, and the registers that have another value than before.
 function takeChanges(pieces, trace) {
   pieces.expect("pc");
@@ -112,13 +120,14 @@ function takeChanges(pieces, trace) {
     if (!isKey(changes[name])) pieces.fail(`"${changes[name]}" is no key`);
   }
   if (pieces.isNext("used")) changes.used = pieces.number(0, trace.quota, "count of slots");
-  if (pieces.isNext("reply")) changes.reply = pieces.oneOf([...REPLY_WORDS, "none"], "reply");
+  if (pieces.isNext("reply")) changes.reply = pieces.isNext("none") ? "none" : takeReply(pieces);
   return changes;
 }
 
 function takeBegin(pieces, event, trace) {
   if (trace.open[event.thread] !== null) pieces.fail(`thread ${event.thread} begins a call and has one open`);
   const operation = pieces.oneOf(CALL_WORDS, "call");
+  if (operation === "ceiling") trace.version = 2;
   const key = pieces.number(0, MOST_NUMBER, "key");
   pieces.expect("call");
   const id = pieces.number(trace.calls.length, trace.calls.length, "number of the next call");
@@ -161,7 +170,7 @@ function takeTold(pieces, event, trace) {
   }
   if (!pieces.isNext("answer")) return;
   const call = event.call;
-  event.answer = call.reply = pieces.oneOf(REPLY_WORDS, "reply");
+  event.answer = call.reply = takeReply(pieces);
   pieces.expect("call");
   pieces.number(call.id, call.id, "number of the thread's call");
   pieces.expect("at");
@@ -226,10 +235,11 @@ function readHeader(lines) {
   return trace;
 }
 
-// The trace whose text this is. Throws a TraceFault that names the first line that is wrong.
-function readTrace(text) {
+// The trace whose text this is. Its `version` is that of its schedule's text: the one that is given, and the second where it
+// begins a ceiling. Throws a TraceFault that names the first line that is wrong.
+function readTrace(text, version = 1) {
   const lines = text.split("\n");
-  const trace = { ...readHeader(lines), events: [], calls: [], changes: [], refused: null, text };
+  const trace = { ...readHeader(lines), version, events: [], calls: [], changes: [], refused: null, text };
   trace.open = Array(trace.threads).fill(null);
   let number = 5;
   for (; lines[number - 1] !== "end"; number++) {
@@ -255,9 +265,13 @@ function orderOf(calls) {
   return placed.sort((one, other) => one.at - other.at || Number(other.changes) - Number(one.changes) || one.id - other.id);
 }
 
+// The first line of a schedule of this version, and the version of one that is no other text.
+const titleOf = (version) => `listset-schedule ${version}`;
+const versionOf = (schedule) => (schedule.startsWith(`${titleOf(2)}\n`) ? 2 : 1);
+
 // The lines of the schedule of the first `count` events, as the lines of the trace have them.
 function scheduleLines(trace, count) {
-  const lines = ["listset-schedule 1", `list ${trace.kind}`, `threads ${trace.threads}`, `quota ${trace.quota}`];
+  const lines = [titleOf(trace.version), `list ${trace.kind}`, `threads ${trace.threads}`, `quota ${trace.quota}`];
   let steps = 0;
   for (let index = 0; index < count; index++) {
     const event = trace.events[index];
@@ -270,12 +284,14 @@ function scheduleLines(trace, count) {
   return lines;
 }
 
-// The schedule of the first `count` events and one more line, which a `go` line before it may take up.
+// The schedule of the first `count` events and one more line, which a `go` line before it may take up. A ceiling wants the
+// second version.
 function scheduleAndLine(trace, count, line) {
   const lines = scheduleLines(trace, count);
   const last = lines[lines.length - 1].split(" ");
   const added = line.split(" ");
   const joins = added[0] === "go" && last[0] === "go" && last[1] === added[1] && Number(last[2]) + Number(added[2]) <= 10000;
+  if (added[2] === "ceiling") lines[0] = titleOf(2);
   if (joins) lines[lines.length - 1] = `go ${last[1]} ${Number(last[2]) + Number(added[2])}`;
   else lines.push(line);
   return lines.join("\n") + "\n";

@@ -16,13 +16,15 @@ function check(result, name, isGood) {
   else result.failed.push(name);
 }
 
-// Each trace is read, its schedule is the one that was given, and the state goes on and back to where it began.
+// Each trace is read, its schedule is the one that was given, and the state goes on and back to where it began. Some end ceilings.
 function checkTraces(result, engine, cases) {
+  const replies = new Set();
   for (const { text } of cases.filter((wanted) => wanted.function === "listset_trace")) {
     const schedule = Buffer.from(text, "base64").toString();
     const answer = engine.ask("listset_trace", schedule);
     if (!answer.text.startsWith("listset-trace")) continue;
-    const trace = inPage("readTrace")(answer.text);
+    const trace = inPage("readTrace")(answer.text, inPage("versionOf")(schedule));
+    trace.calls.forEach((call) => replies.add(call.reply));
     const lines = inPage("scheduleLines")(trace, trace.events.length).join("\n") + "\n";
     if (trace.refused === null) check(result, `the schedule of the trace of ${schedule}`, lines === schedule);
     const state = new (inPage("State"))(trace);
@@ -32,6 +34,8 @@ function checkTraces(result, engine, cases) {
     state.moveTo(0);
     check(result, `back to the start of ${schedule}`, JSON.stringify(state.threads) === atFirst);
   }
+  check(result, "a ceiling answers a key", [...replies].some((reply) => /^at-\d+$/.test(reply)));
+  check(result, "and one that there is none", replies.has("nothing"));
 }
 
 // The keys of the nodes without a mark in the chain, and those that the events put in and took out.

@@ -24,7 +24,7 @@ function runSchedule(lines) {
   part("run").click();
 }
 
-const header = (kind, threads) => ["listset-schedule 1", `list ${kind}`, `threads ${threads}`, "quota 4"];
+const header = (kind, threads, version = 1) => [`listset-schedule ${version}`, `list ${kind}`, `threads ${threads}`, "quota 4"];
 
 function pick(name) {
   part("examples").value = name;
@@ -34,7 +34,7 @@ function pick(name) {
 // Each example goes to its end, event by event, and its calls stand in the order of its report.
 function driveExamples() {
   const names = [...part("examples").options].map((option) => option.value).filter((name) => name !== "");
-  check("twelve examples", names.length === 12);
+  check("fifteen examples", names.length === 15);
   for (const name of names) {
     pick(name);
     const total = inPage("page.trace.events.length");
@@ -50,6 +50,16 @@ function driveExamples() {
   }
 }
 
+// Lets a thread at rest begin a call, by its row of controls.
+function beginCall(thread, operation, key) {
+  const row = part("moves").querySelector(`[data-thread="${thread}"]`);
+  row.querySelector("select").value = operation;
+  row.querySelector("select").onchange();
+  row.querySelector("input").value = String(key);
+  row.querySelector("input").oninput();
+  row.querySelector("button").click();
+}
+
 // In the middle of a run another thread is given a step, and then begins a call.
 function driveMoves() {
   pick("read-in-anothers-step");
@@ -59,17 +69,70 @@ function driveMoves() {
   const text = part("schedule").value;
   check("a step of another thread", textOf("where") === "event 15 of 15" && text.endsWith("begin 0 contains 5\ngo 0 2\n"));
   check("the example is left", part("examples").value === "");
-  const row = part("moves").querySelector('[data-thread="1"]');
-  row.querySelector("select").value = "remove";
-  row.querySelector("select").onchange();
-  row.querySelector("input").value = "5";
-  row.querySelector("input").oninput();
-  row.querySelector("button").click();
+  beginCall(1, "remove", 5);
   check("a call is begun", part("schedule").value.endsWith("go 0 2\nbegin 1 remove 5\n") && textOf("where") === "event 16 of 16");
   press("1");
   check("a digit is a step of that thread", part("schedule").value.endsWith("begin 1 remove 5\ngo 1 1\n"));
   for (let count = 0; count < 3; count++) press("u");
   check("undo, three times", inPage("page.text") === before && textOf("where").startsWith("event 14 of 39"));
+}
+
+function goToEvent(count) {
+  part("slider").value = count;
+  part("slider").oninput();
+}
+
+const textsOf = (elements) => [...elements].map((element) => element.textContent).join("; ");
+const rowOf = (thread) => textsOf(part("threads").querySelectorAll("tbody tr")[thread].children);
+const orderShown = () => textsOf(part("order").querySelectorAll("li"));
+
+// The walk that meets a marked node and starts again, the one behind which a key comes in, and the one that may not end yet.
+function driveCeilingExamples() {
+  pick("ceiling-meets-mark");
+  goToEvent(10);
+  check("the row that looks at the mark", rowOf(0).startsWith("t0; ceiling(3); 25 load link of curr "));
+  check("the key at which the walk stops", rowOf(0).includes("; n6; head; 5; "));
+  goToEvent(18);
+  check("the mark is seen, and the walk starts again", textOf("said").includes("n6.link: tail, marked.") && rowOf(0).includes("; 23 load "));
+  part("last").click();
+  check("there is none", textOf("said").endsWith("ceiling(3) answers nothing; it took effect at event 16, a step of t1."));
+  check("it stands behind the remove", orderShown().endsWith("t1 remove(5) true; t0 ceiling(3) nothing"));
+  pick("behind-the-walk");
+  part("last").click();
+  check("the key above the one that came in", textOf("said").endsWith("ceiling(3) answers at-9; it took effect at event 8."));
+  check("it stands before the add", orderShown() === "t1 add(9) true; t0 ceiling(3) at-9; t1 add(5) true");
+  check("its bar has the reply", part("calls").textContent.includes("ceiling(3) at-9"));
+  pick("ceiling-left-in-chain");
+  part("broken").click();
+  check("the report of a ceiling that looks at no mark is refused", textOf("checked") === "refused WrongReply 3");
+}
+
+// On each list a thread begins a ceiling of a key that is not there, and another above all keys, and goes on to the answers.
+function driveCeilings() {
+  const stepsOfAdd = { coarse: 7, fine: 9, optimistic: 10, lazy: 11, "lock-free": 6 };
+  for (const kind in stepsOfAdd) {
+    runSchedule([...header(kind, 2), "begin 0 add 5", `go 0 ${stepsOfAdd[kind]}`]);
+    part("last").click();
+    for (const [key, reply] of [[3, "at-5"], [6, "nothing"]]) {
+      beginCall(1, "ceiling", key);
+      const text = part("schedule").value;
+      check(`${kind}: a ceiling is begun`, text.startsWith("listset-schedule 2\n") && text.endsWith(`\nbegin 1 ceiling ${key}\n`));
+      check(`${kind}: its row is told`, /^t1; ceiling\(\d\); \d+ (load|try) /.test(rowOf(1)));
+      for (let count = 0; count < 20 && inPage("page.state.threads[1].pc") !== 0; count++) press("1");
+      check(`${kind}: the ceiling of ${key}`, textOf("said").includes(`ceiling(${key}) answers ${reply}`) && rowOf(1).includes(reply));
+    }
+    press("Home");
+    beginCall(1, "add", 7);
+    check(`${kind}: the version stays`, part("schedule").value.startsWith("listset-schedule 2\n") && textOf("fault") === "");
+  }
+  runSchedule([...header("lazy", 2), "begin 0 ceiling 5"]);
+  check("a ceiling in version 1", textOf("fault").startsWith("listset: line 5: Event:"));
+  runSchedule(["listset-schedule 3", ...header("lazy", 2).slice(1)]);
+  check("a version that there is not", textOf("fault").startsWith("listset: line 1: Header:"));
+  runSchedule([...header("lazy", 2, 2), "begin 0 add 5", "go 0 3"]);
+  press("End");
+  press("0");
+  check("a text keeps its version", part("schedule").value === [...header("lazy", 2, 2), "begin 0 add 5", "go 0 4", ""].join("\n"));
 }
 
 // Texts that are refused are shown with their fault and its line.
@@ -101,8 +164,7 @@ function driveKeys() {
   press("End");
   check("the end", textOf("where").startsWith("event 39 ") && part("last").disabled);
   check("contains stands in the step of the other thread", textOf("said").includes("it took effect at event 23, a step of t1"));
-  part("slider").value = 23;
-  part("slider").oninput();
+  goToEvent(23);
   check("the slider", textOf("where").startsWith("event 23 "));
   check("a marked node is hatched", part("list").querySelectorAll(".box.marked").length === 1);
   check("and crossed", part("list").querySelectorAll(".cross").length === 1);
@@ -129,6 +191,15 @@ async function driveFiles() {
   check("a trace that is none", textOf("fault").startsWith('this is no trace: line 11: "07" is no number'));
   await open("cut.trace", trace.slice(0, -4));
   check("a trace that is cut", textOf("fault").startsWith("this is no trace: line "));
+  pick("behind-the-walk");
+  const ofCeiling = inPage("page.trace.text");
+  await open("ceiling.trace", ofCeiling);
+  check("a trace of a ceiling is opened", textOf("source").includes("gives the same"));
+  check("its schedule is of version 2", part("schedule").value.startsWith("listset-schedule 2\n"));
+  await open("zero.trace", ofCeiling.replace("answer at-9", "answer at-09"));
+  check("a key with a leading zero", textOf("fault").endsWith('"at-09" is no reply'));
+  await open("two.report", inPage("page.engine.ask('listset_replay', page.text).text"));
+  check("a report of version 2 is checked", textOf("report").startsWith("listset-report 2\n") && textOf("checked") === "ok");
   await open("one.schedule", [...header("coarse", 1), "begin 0 add 5", "go 0 7", ""].join("\n"));
   check("a schedule is opened", textOf("where") === "event 0 of 8");
   await open("one.report", inPage("page.engine.ask('listset_replay', page.text).text"));
@@ -173,6 +244,8 @@ async function drive() {
   check("the engine runs here", inPage("page.engine") !== null);
   driveExamples();
   driveMoves();
+  driveCeilingExamples();
+  driveCeilings();
   driveFaults();
   driveKeys();
   await driveFiles();

@@ -12,12 +12,17 @@ use lset_schedule::{
 use lset_words::{Call, Key};
 use std::alloc::{AllocError, Global};
 
-/// One thread adds five keys to a coarse list.
-const FIVE_ADDS: &str =
-    "listset-schedule 1\nlist coarse\nthreads 1\nquota 5\nbegin 0 add 1\ngo 0 7\nbegin 0 add 2\ngo 0 9\nbegin 0 add 3\ngo 0 11\nbegin 0 add 4\ngo 0 13\nbegin 0 add 5\ngo 0 15\n";
+/// One thread adds five keys to a coarse list, and asks for two ceilings, of which one is a key.
+const CEILINGS: &str = "listset-schedule 2\nlist coarse\nthreads 1\nquota 5\n\
+    begin 0 add 1\ngo 0 7\nbegin 0 add 2\ngo 0 9\nbegin 0 add 3\ngo 0 11\nbegin 0 add 4\ngo 0 13\n\
+    begin 0 add 5\ngo 0 15\nbegin 0 ceiling 3\ngo 0 8\nbegin 0 ceiling 6\ngo 0 14\n";
 
-const FIVE_ADDS_REPORT: &str =
-    "listset-report 1\nlist coarse\nthreads 1\nquota 5\ncall 0 0 add 1 1 8 true\ncall 1 0 add 2 9 18 true\ncall 2 0 add 3 19 30 true\ncall 3 0 add 4 31 44 true\ncall 4 0 add 5 45 60 true\nplace 0 true\nplace 1 true\nplace 2 true\nplace 3 true\nplace 4 true\nkey 1\nkey 2\nkey 3\nkey 4\nkey 5\nend\n";
+const CEILINGS_REPORT: &str = "listset-report 2\nlist coarse\nthreads 1\nquota 5\n\
+    call 0 0 add 1 1 8 true\ncall 1 0 add 2 9 18 true\ncall 2 0 add 3 19 30 true\n\
+    call 3 0 add 4 31 44 true\ncall 4 0 add 5 45 60 true\ncall 5 0 ceiling 3 61 69 at-3\n\
+    call 6 0 ceiling 6 70 84 nothing\n\
+    place 0 true\nplace 1 true\nplace 2 true\nplace 3 true\nplace 4 true\nplace 5 at-3\nplace 6 nothing\n\
+    key 1\nkey 2\nkey 3\nkey 4\nkey 5\nend\n";
 
 /// A `go` line of no steps, behind other events.
 const NO_SCHEDULE: &str =
@@ -62,15 +67,16 @@ pub fn one_add(alloc: Global, calls: &mut Calls) -> Result<Schedule, ScheduleFau
 }
 
 /// Reads and writes the schedule and its report, and replays the one.
+#[tactic(auto, using(lset_schedule::proofs::VersionLaws::schedule_has_calls))]
 pub fn replays(alloc: Global, calls: &mut Calls) -> Result<(), Wrong> {
     let plan = answer!(
         calls,
         "read_schedule",
         ScheduleFault {
-            line: 1..=14,
+            line: 1..=18,
             cause: Cause::Memory,
         },
-        read_schedule(alloc, FIVE_ADDS.as_bytes())
+        read_schedule(alloc, CEILINGS.as_bytes())
     )?;
     let text = answer!(
         calls,
@@ -78,7 +84,7 @@ pub fn replays(alloc: Global, calls: &mut Calls) -> Result<(), Wrong> {
         AllocError,
         write_schedule(alloc, &plan)
     )?;
-    check(text.as_slice() == FIVE_ADDS.as_bytes())?;
+    check(text.as_slice() == CEILINGS.as_bytes())?;
     let replayed = answer!(calls, "replay", ReplayFault::Memory, replay(alloc, &plan))?;
     let text = answer!(
         calls,
@@ -86,15 +92,15 @@ pub fn replays(alloc: Global, calls: &mut Calls) -> Result<(), Wrong> {
         AllocError,
         write_report(alloc, &replayed)
     )?;
-    check(text.as_slice() == FIVE_ADDS_REPORT.as_bytes())?;
+    check(text.as_slice() == CEILINGS_REPORT.as_bytes())?;
     let found = answer!(
         calls,
         "read_report",
         ReportFault {
-            line: 1..=20,
+            line: 1..=24,
             cause: ReportCause::Memory,
         },
-        read_report(alloc, FIVE_ADDS_REPORT.as_bytes())
+        read_report(alloc, CEILINGS_REPORT.as_bytes())
     )?;
     answer!(
         calls,
@@ -108,7 +114,7 @@ pub fn replays(alloc: Global, calls: &mut Calls) -> Result<(), Wrong> {
         AllocError,
         write_report(alloc, &found)
     )?;
-    check(text.as_slice() == FIVE_ADDS_REPORT.as_bytes())
+    check(text.as_slice() == CEILINGS_REPORT.as_bytes())
 }
 
 /// Reads what is no schedule and what is no report, and replays a schedule that is refused.
@@ -150,6 +156,7 @@ pub fn refusals(alloc: Global, calls: &mut Calls) -> Result<(), Wrong> {
     check(fault == Some(ReplayFault::Idle(10)))
 }
 
+#[tactic(auto, using(lset_schedule::proofs::VersionLaws::schedule_has_calls))]
 pub fn schedules_drawn(alloc: Global, calls: &mut Calls) -> Result<(), Wrong> {
     let drawn = answer!(
         calls,

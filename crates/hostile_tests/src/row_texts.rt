@@ -6,6 +6,14 @@ pub const SCHEDULE: &str =
 pub const REPORT: &str =
     "listset-report 1\nlist coarse\nthreads 1\nquota 4\ncall 0 0 add 5 1 8 true\nplace 0 true\nkey 5\nend\n";
 
+/// A schedule of the second version, whose ceiling starts again at a mark.
+pub const CEILING: &str = "listset-schedule 2\nlist lock-free\nthreads 2\nquota 4\n\
+    begin 1 add 5\ngo 1 6\nbegin 0 ceiling 3\ngo 0 2\nbegin 1 remove 5\ngo 1 6\ngo 0 3\n";
+
+pub const CEILING_REPORT: &str = "listset-report 2\nlist lock-free\nthreads 2\nquota 4\n\
+    call 0 1 add 5 1 7 true\ncall 1 0 ceiling 3 8 20 nothing\ncall 2 1 remove 5 11 17 true\n\
+    place 0 true\nplace 2 true\nplace 1 nothing\nend\n";
+
 /// A report whose order leaves out its call.
 pub const LEFT_OUT: &str =
     "listset-report 1\nlist coarse\nthreads 1\nquota 4\ncall 0 0 add 5 1 8 true\nkey 5\nend\n";

@@ -1,11 +1,13 @@
-ghost use Rattle.std.specs.Prelude.{◌≡◌, ◌<◌, IfOk};
+ghost use Rattle.std.specs.Prelude.{⊤, ◌≡◌, ◌<◌, IfOk};
 
 use lset_history::Oracle;
+use lset_lists::{List, Task, on_list};
 use lset_replay::replay;
 use lset_report::Report;
-use lset_schedule::read_schedule;
+use lset_schedule::{Line, Schedule, read_schedule};
+use lset_steps::{Event, Machine, World};
 use lset_tools::tool_gen;
-use lset_words::{Call, CallRecord, Key, Reply};
+use lset_words::{Call, CallRecord, Key, Reply, layout};
 use std::alloc::{AllocError, Global};
 use std::test::Fail;
 
@@ -49,6 +51,93 @@ impl Drawn {
         let _status = tool_gen(alloc, &values, &mut text, &mut faults);
         Ok(text)
     }
+
+    /// The same with ceilings, as `WithCeilings` puts them there.
+    fn text_with_ceilings(self, alloc: Global, kind: &str, seed: u64) -> Result<String, Fail> {
+        let schedule = read_schedule(alloc, &self.text(alloc, kind, seed)?)?;
+        let Drawn { threads, quota, .. } = self;
+        let header = format!(in alloc;
+            "listset-schedule 2\nlist {kind}\nthreads {threads}\nquota {quota}\n"
+        )?;
+        let kind = schedule.kind;
+        let ceilings = WithCeilings {
+            alloc,
+            header: &header,
+            schedule: &schedule,
+        };
+        on_list(kind, ceilings)
+    }
+}
+
+/// Makes a text of the second version of a schedule of the first: this header, and the lines of the schedule, in which a
+/// `ceiling` stands for each `contains` of an odd key. It takes another number of steps, so what the list refuses is left
+/// out, and at the end each thread may end its call.
+#[derive(Clone, Copy)]
+struct WithCeilings<'a> {
+    alloc: Global,
+    header: &'a str,
+    schedule: &'a Schedule,
+}
+
+impl Task for WithCeilings<'_> {
+    type Out = Result<String, Fail>;
+
+    ghost may = { λ task kind. ⊤ };
+
+    ghost done = { λ task table result. ⊤ };
+
+    fn run<M: List>(self) -> Result<String, Fail> {
+        let Schedule { threads, quota, .. } = *self.schedule;
+        let mut world = World::<M>::new(self.alloc, layout(threads, quota)?)?;
+        let mut text = String::from_str(self.alloc, self.header)?;
+        for line in &self.schedule.lines {
+            put_taken(&mut world, &mut text, with_ceiling(*line))?;
+        }
+        put_ends(&mut world, &mut text, threads)?;
+        Ok(text)
+    }
+}
+
+fn with_ceiling(line: Line) -> Line {
+    match line {
+        Line::Begin(thread, Call::Contains(key)) if key.0 % 2 == 1 => {
+            Line::Begin(thread, Call::Ceiling(key))
+        }
+        _ => line,
+    }
+}
+
+/// Makes the event of a line of one event, and puts the line down where the list does not refuse it.
+fn put_taken<M: Machine>(
+    world: &mut World<M>,
+    text: &mut String,
+    line: Line,
+) -> Result<(), AllocError> {
+    let event = match line {
+        Line::Begin(thread, call) => Event::Begin(thread, call),
+        Line::Go(thread, _) => Event::Go(thread),
+    };
+    if world.step(event).is_ok() {
+        writeln!(text, "{line}")?;
+    }
+    Ok(())
+}
+
+/// More steps than a call takes once the others have ended.
+const STEPS: u32 = 200;
+
+/// Each thread goes on, in turn, to the end of its call.
+fn put_ends<M: Machine>(
+    world: &mut World<M>,
+    text: &mut String,
+    threads: u32,
+) -> Result<(), AllocError> {
+    for _step in 0..STEPS {
+        for thread in 0..threads {
+            put_taken(world, text, Line::Go(thread, 1))?;
+        }
+    }
+    Ok(())
 }
 
 /// The first lines of a text, up to the last that ends in its first bytes.
@@ -163,6 +252,71 @@ fn several_threads_leave_what_they_added(rt: HostRuntime) -> Result<(), Fail> {
             open = open.saturating_add(calls.filter(|made| made.ended.is_none()).count());
         }
         assert!(rt; open > 0);
+    }
+    Ok(())
+}
+
+/// How many calls were found of these, in some reports.
+#[derive(Clone, Copy)]
+struct Found {
+    /// Ceilings that answer a key.
+    keys: usize,
+    /// Ceilings that answer that there is none.
+    nothings: usize,
+    open: usize,
+}
+
+impl Found {
+    const NONE: Found = Found {
+        keys: 0,
+        nothings: 0,
+        open: 0,
+    };
+
+    fn look_at(&mut self, report: &Report) {
+        for made in report.history.calls() {
+            let found = match made.ended {
+                Some((_, Reply::At(_))) => &mut self.keys,
+                Some((_, Reply::Nothing)) => &mut self.nothings,
+                Some(_) => continue,
+                None => &mut self.open,
+            };
+            *found = found.saturating_add(1);
+        }
+    }
+}
+
+/// One thread gets the replies of the sequential set and leaves its keys, also where it asks for ceilings.
+#[test]
+fn one_thread_with_ceilings_is_the_sequential_set(rt: HostRuntime) -> Result<(), Fail> {
+    for kind in KINDS {
+        let mut found = Found::NONE;
+        for seed in 0..SEEDS {
+            let text = ALONE.text_with_ceilings(rt.alloc(), kind, seed)?;
+            let report = replayed(rt.alloc(), text.as_bytes())?;
+            let oracle = made(rt.alloc(), report.history.calls())?.ok_or(seed)?;
+            assert_eq!(rt; report.keys, oracle.keys()?);
+            found.look_at(&report);
+        }
+        assert!(rt; found.keys > 0 && found.nothings > 0);
+    }
+    Ok(())
+}
+
+/// Several threads leave the keys of their adds and removes beside their ceilings, also where the schedule stops early.
+#[test]
+fn several_threads_with_ceilings_leave_what_they_added(rt: HostRuntime) -> Result<(), Fail> {
+    for kind in KINDS {
+        let mut found = Found::NONE;
+        for seed in 0..SEEDS {
+            let text = TOGETHER.text_with_ceilings(rt.alloc(), kind, seed)?;
+            for bytes in [text.len(), text.len() / 2] {
+                let report = replayed(rt.alloc(), front(text.as_bytes(), bytes))?;
+                assert!(rt; adds_up(&report, 5));
+                found.look_at(&report);
+            }
+        }
+        assert!(rt; found.keys > 0 && found.nothings > 0 && found.open > 0);
     }
     Ok(())
 }

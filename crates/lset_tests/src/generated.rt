@@ -1,6 +1,7 @@
 ghost use Rattle.std.specs.Prelude.{IfOk};
 ghost use Rattle.lset_schedule.specs.Plan.{IsSchedule, view};
 
+use crate::written::text_of_schedule;
 use lset_coarse::CoarseList;
 use lset_fine::FineList;
 use lset_history::check_order;
@@ -8,7 +9,7 @@ use lset_lazy::LazyList;
 use lset_lock_free::LockFreeList;
 use lset_optimistic::OptimisticList;
 use lset_replay::replay;
-use lset_schedule::{GenFault, Line, Schedule, generate, write_schedule};
+use lset_schedule::{GenFault, Line, Schedule, generate};
 use lset_words::Kind;
 use std::alloc::Global;
 use std::test::Fail;
@@ -47,7 +48,7 @@ fn no_calls_are_the_header_alone(rt: HostRuntime) -> Result<(), Fail> {
         let header = format!(in rt.alloc();
             "listset-schedule 1\nlist {word}\nthreads 2\nquota 4\n"
         )?;
-        let text = write_schedule(rt.alloc(), &schedule)?;
+        let text = text_of_schedule(rt.alloc(), &schedule)?;
         assert_eq!(rt; text.as_slice(), header.as_bytes());
     }
     Ok(())
@@ -57,9 +58,9 @@ fn no_calls_are_the_header_alone(rt: HostRuntime) -> Result<(), Fail> {
 fn the_same_numbers_give_the_same_schedule_which_replays(rt: HostRuntime) -> Result<(), Fail> {
     for (kind, word) in LISTS {
         let schedule = generated(rt.alloc(), kind, 2, 4, 50)?;
-        let text = write_schedule(rt.alloc(), &schedule)?;
+        let text = text_of_schedule(rt.alloc(), &schedule)?;
         let again = generated(rt.alloc(), kind, 2, 4, 50)?;
-        assert_eq!(rt; write_schedule(rt.alloc(), &again)?, text, "{word}");
+        assert_eq!(rt; text_of_schedule(rt.alloc(), &again)?, text, "{word}");
         let report = replay(rt.alloc(), &schedule)?;
         let checked = check_order(rt.alloc(), &report.history, &report.order, &report.keys);
         assert_eq!(rt; checked, Ok(()), "{word}");

@@ -38,8 +38,12 @@ mod text;
 #[cfg(test)]
 mod told;
 #[cfg(test)]
+mod versions;
+#[cfg(test)]
 mod words;
 #[cfg(test)]
 mod worlds;
+#[cfg(test)]
+mod written;
 #[cfg(test)]
 mod wrong_tables;

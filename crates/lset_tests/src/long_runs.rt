@@ -1,7 +1,7 @@
-use lset_history::check_order;
+use crate::written::{reported, text_of_schedule};
 use lset_replay::{ReplayFault, replay};
-use lset_report::{ReportCause, ReportFault, read_report, write_report};
-use lset_schedule::{Cause, ScheduleFault, read_schedule, write_schedule};
+use lset_report::{ReportCause, ReportFault, read_report};
+use lset_schedule::{Cause, ScheduleFault, read_schedule};
 use std::alloc::{AllocError, Global};
 use std::test::Fail;
 
@@ -26,7 +26,7 @@ fn a_million_events_are_read_and_no_more(rt: HostRuntime) -> Result<(), Fail> {
     let text = steps_of_an_add(rt.alloc(), 9999)?;
     let schedule = read_schedule(rt.alloc(), text.as_bytes())?;
     assert_eq!(rt; schedule.lines.len(), 101);
-    let written = write_schedule(rt.alloc(), &schedule)?;
+    let written = text_of_schedule(rt.alloc(), &schedule)?;
     assert!(rt; written.as_slice() == text.as_bytes());
     let one_more = steps_of_an_add(rt.alloc(), 10000)?;
     let found = read_schedule(rt.alloc(), one_more.as_bytes()).err();
@@ -64,11 +64,7 @@ fn tries_of_a_lock(alloc: Global) -> Result<String, AllocError> {
 #[test]
 fn a_call_spans_a_million_events(rt: HostRuntime) -> Result<(), Fail> {
     let text = tries_of_a_lock(rt.alloc())?;
-    let schedule = read_schedule(rt.alloc(), text.as_bytes())?;
-    let report = replay(rt.alloc(), &schedule)?;
-    let checked = check_order(rt.alloc(), &report.history, &report.order, &report.keys);
-    assert_eq!(rt; checked, Ok(()));
-    let written = write_report(rt.alloc(), &report)?;
+    let written = reported(rt.alloc(), text.as_bytes())?;
     let want = b"listset-report 1\nlist coarse\nthreads 2\nquota 4\n\
         call 0 0 add 5 1 999999 true\ncall 1 1 add 5 3 open\nplace 0 true\nkey 5\nend\n";
     assert_eq!(rt; written.as_slice(), want.as_slice());

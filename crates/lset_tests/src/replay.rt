@@ -1,7 +1,7 @@
-use lset_history::check_order;
+use crate::written::{is_replayed, reported};
 use lset_replay::*;
 use lset_report::*;
-use lset_schedule::{read_schedule, write_schedule};
+use lset_schedule::read_schedule;
 use std::alloc::Global;
 use std::test::Fail;
 
@@ -280,26 +280,6 @@ const ONE_SLOT: Example = Example {
         end\n",
 };
 
-/// The text that is written of the schedule of a text.
-fn schedule_again(alloc: Global, text: &[u8]) -> Result<Vec<u8>, Fail> {
-    let schedule = read_schedule(alloc, text)?;
-    Ok(write_schedule(alloc, &schedule)?)
-}
-
-/// The text of the report of a text's schedule, whose order explains its history and leaves its keys.
-fn reported(alloc: Global, text: &[u8]) -> Result<Vec<u8>, Fail> {
-    let schedule = read_schedule(alloc, text)?;
-    let report = replay(alloc, &schedule)?;
-    check_order(alloc, &report.history, &report.order, &report.keys)?;
-    Ok(write_report(alloc, &report)?)
-}
-
-/// The text that is written of the report of a text.
-fn report_again(alloc: Global, text: &[u8]) -> Result<Vec<u8>, Fail> {
-    let report = read_report(alloc, text)?;
-    Ok(write_report(alloc, &report)?)
-}
-
 #[test]
 fn schedules_and_their_reports(rt: HostRuntime) -> Result<(), Fail> {
     let examples = [
@@ -335,13 +315,8 @@ fn schedules_and_their_reports(rt: HostRuntime) -> Result<(), Fail> {
             report: lines,
         } = example;
         let text = format!(in rt.alloc(); "listset-schedule 1\n{header}{events}")?;
-        let again = schedule_again(rt.alloc(), text.as_bytes())?;
-        assert_eq!(rt; again.as_slice(), text.as_bytes());
-        let want = format!(in rt.alloc(); "listset-report 1\n{header}{lines}")?;
-        let written = reported(rt.alloc(), text.as_bytes())?;
-        assert_eq!(rt; written.as_slice(), want.as_bytes(), "{text}");
-        let again = report_again(rt.alloc(), want.as_bytes())?;
-        assert_eq!(rt; again.as_slice(), want.as_bytes());
+        let report = format!(in rt.alloc(); "listset-report 1\n{header}{lines}")?;
+        assert!(rt; is_replayed(rt.alloc(), &text, &report)?, "{text}");
     }
     Ok(())
 }
@@ -351,9 +326,7 @@ fn schedules_and_their_reports(rt: HostRuntime) -> Result<(), Fail> {
 fn the_largest_table(rt: HostRuntime) -> Result<(), Fail> {
     let text =
         b"listset-schedule 1\nlist lock-free\nthreads 64\nquota 16384\nbegin 63 add 5\ngo 63 6\n";
-    let schedule = read_schedule(rt.alloc(), text)?;
-    let report = replay(rt.alloc(), &schedule)?;
-    let written = write_report(rt.alloc(), &report)?;
+    let written = reported(rt.alloc(), text)?;
     let want = b"listset-report 1\nlist lock-free\nthreads 64\nquota 16384\n\
         call 0 63 add 5 1 7 true\nplace 0 true\nkey 5\nend\n";
     assert_eq!(rt; written.as_slice(), want.as_slice());

@@ -1,3 +1,5 @@
+use crate::versions::MARKED;
+use crate::written::{schedule_again, text_of_schedule};
 use lset_coarse::CoarseList;
 use lset_schedule::*;
 use lset_words::{Call, Key, Kind};
@@ -40,8 +42,7 @@ fn texts_are_written_back_also_where_replay_refuses_them(rt: HostRuntime) -> Res
         "listset-schedule 1\nlist coarse\nthreads 1\nquota 4\nbegin 0 add 5\ngo 0 8\n",
     ];
     for text in texts {
-        let schedule = read_schedule(rt.alloc(), text.as_bytes())?;
-        let written = write_schedule(rt.alloc(), &schedule)?;
+        let written = schedule_again(rt.alloc(), text.as_bytes())?;
         assert_eq!(rt; written.as_slice(), text.as_bytes());
     }
     Ok(())
@@ -50,7 +51,7 @@ fn texts_are_written_back_also_where_replay_refuses_them(rt: HostRuntime) -> Res
 #[test]
 fn every_prefix_has_its_own_answer(rt: HostRuntime) -> Result<(), Fail> {
     let due = [Cause::Header, Cause::Kind, Cause::Threads, Cause::Quota];
-    for text in [ADD, PASSING] {
+    for text in [ADD, PASSING, MARKED] {
         for length in 0..text.len() {
             let prefix = &text.as_bytes()[..length];
             let whole_lines = prefix.iter().filter(|byte| **byte == b'\n').count();
@@ -134,7 +135,7 @@ fn a_million_lines_of_one_step_are_read_and_no_more(rt: HostRuntime) -> Result<(
     let text = one_step_lines(rt.alloc(), 1_000_000)?;
     let schedule = read_schedule(rt.alloc(), text.as_bytes())?;
     assert_eq!(rt; schedule.lines.len(), 1_000_000);
-    let written = write_schedule(rt.alloc(), &schedule)?;
+    let written = text_of_schedule(rt.alloc(), &schedule)?;
     assert!(rt; written.as_slice() == text.as_bytes());
     let one_more = one_step_lines(rt.alloc(), 1_000_001)?;
     let found = read_schedule(rt.alloc(), one_more.as_bytes()).err();
@@ -224,7 +225,7 @@ fn refused_numbers_in_their_order(rt: HostRuntime) {
 #[test]
 fn no_calls_are_a_schedule_of_no_lines(rt: HostRuntime) -> Result<(), Fail> {
     let schedule = generate::<CoarseList>(rt.alloc(), 2, 4, 0, 8, 1)?;
-    let text = write_schedule(rt.alloc(), &schedule)?;
+    let text = text_of_schedule(rt.alloc(), &schedule)?;
     assert_eq!(rt;
         text.as_slice(),
         b"listset-schedule 1\nlist coarse\nthreads 2\nquota 4\n".as_slice()
@@ -243,9 +244,9 @@ fn a_seed_stands_for_one_schedule(rt: HostRuntime) -> Result<(), Fail> {
     ];
     assert!(rt; schedule.lines.starts_with(&first_lines));
     let again = generate::<CoarseList>(rt.alloc(), 2, 4, 50, 8, 1)?;
-    let text = write_schedule(rt.alloc(), &schedule)?;
+    let text = text_of_schedule(rt.alloc(), &schedule)?;
     assert_eq!(rt;
-        write_schedule(rt.alloc(), &again)?.as_slice(),
+        text_of_schedule(rt.alloc(), &again)?.as_slice(),
         text.as_slice()
     );
     Ok(())
