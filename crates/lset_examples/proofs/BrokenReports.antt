@@ -1,10 +1,10 @@
 -- The reports that the broken texts are texts of, and why no order explains them.
-use Rattle.std.proofs.Common.{◌≡◌, ◌≢◌, ℕ, zero, suc, ◌<◌, ◌⊎◌, inl, inr, if◌then◌else◌, List, [], ◌∷◌, map}
-use Rattle.std.proofs.Common.{length, get_or, Bor, Option, Some, None, Ok, IfSome, unwrap_or, refl, sym, ap, subst, ◌∙◌, arith, lit<}
-use Rattle.std.specs.Prelude.{Contains, All, AllPairs}
+use Rattle.std.proofs.Common.{◌≡◌, ◌≢◌, ℕ, zero, suc, ◌<◌, inl, inr, List, [], ◌∷◌, map}
+use Rattle.std.proofs.Common.{Bor, Option, Some, None, Ok, IfSome, unwrap_or, refl, sym, ap, subst, arith, lit<}
+use Rattle.std.specs.Prelude.{Contains, All, nat_lt}
 use Rattle.std.specs.Option.{option_copied}
 use Rattle.std.proofs.lemmas.Bool.{cases_Bool}
-use Rattle.std.proofs.lemmas.List.Elements.{All-contains}
+use Rattle.lset_words.specs.declared.Key.{Key}
 use Rattle.lset_words.specs.declared.Kind.{Kind}
 use Rattle.lset_words.specs.declared.Kind.TheVariants.{Optimistic, LockFree}
 use Rattle.lset_words.specs.declared.Call.{Call}
@@ -13,35 +13,42 @@ use Rattle.lset_words.specs.declared.Reply.{Reply}
 use Rattle.lset_words.specs.declared.Reply.TheVariants.{True, False, Full, At, Nothing}
 use Rattle.lset_words.specs.declared.history.CallRecord.{CallRecord}
 use Rattle.lset_words.specs.declared.history.Placed.{Placed}
-use Rattle.lset_words.specs.SequentialSet.{SetState, empty_set, has_key, reply_to, after_call, set_left, IsLegal}
-use Rattle.lset_words.specs.History.{call_numbered, Precedes, answered}
-use Rattle.lset_words.proofs.RisingLists.{contains-nil}
+use Rattle.lset_words.specs.SequentialSet.{SetState, empty_set, has_key, ceiling_in, set_left}
+use Rattle.lset_words.specs.History.{answered}
+use Rattle.lset_words.proofs.RisingLists.{contains-head, contains-tail, contains-nil}
 use Rattle.lset_text.specs.Headers.{header_of, told_by_line}
 use Rattle.lset_text.specs.Numbers.{number_in}
 use Rattle.lset_text.specs.Spellings.{call_word_of, reply_of}
+use Rattle.lset_text.specs.declared.words.Version.{Version}
+use Rattle.lset_text.specs.declared.words.Version.TheVariants.{One, Two}
 use Rattle.lset_text.specs.Spellings.{kind_of as kind_of_word}
 use Rattle.lset_history.proofs.Keys.{has_from, with_keeps, with_from, without_keeps, without_from}
-use Rattle.lset_history.proofs.Pairs.{pairs_head, pairs_tail}
 use Rattle.lset_report.specs.Report.{ReportValue}
-use Rattle.lset_report.specs.ReportReading.{reading, report_of, report_from, begun_of, ended_of, place_of, key_of_line}
+use Rattle.lset_report.specs.ReportReading.{reading, report_of, report_from, reply_told, begun_of, ended_of, place_of, key_of_line}
 use Rattle.lset_report.specs.ReportReading.{ReportsReadBack}
 use Rattle.lset_examples.specs.declared.example.Example.{Example}
 use Rattle.lset_examples.specs.declared.example.Example.TheVariants.{FailedTries, Full as FullExample, HandOverHand, SameGap}
 use Rattle.lset_examples.specs.declared.example.Example.TheVariants.{StalePred, MarkedInChain, MarkedPred, ReadInAnothersStep}
 use Rattle.lset_examples.specs.declared.example.Example.TheVariants.{TwoRemovers, Snip, TriesAgain, LeftInChain}
+use Rattle.lset_examples.specs.declared.example.Example.TheVariants.{CeilingMeetsMark, CeilingLeftInChain, BehindTheWalk}
 use Rattle.lset_examples.specs.Examples.{broken_of, IsUnexplained, IsBrokenReportOf}
-use Rattle.lset_examples.specs.declared.texts.TheConstants.{STALE_PRED_BROKEN, LEFT_IN_CHAIN_BROKEN}
+use Rattle.lset_examples.specs.declared.texts.TheConstants.{STALE_PRED_BROKEN, LEFT_IN_CHAIN_BROKEN, CEILING_LEFT_IN_CHAIN_BROKEN}
+use Rattle.lset_examples.proofs.TakenOut.{place, stands_in, stands_nowhere, all_tail, after, IsOut, AsksTooLate, finds_late}
 
 -- ---- the reports
 
+abbrev made_with : Reply → ℕ → Call → ℕ → ℕ → CallRecord
+made_with reply thread call begun end = record { thread = thread; call = call; begun = begun; ended = Some (end, reply) }
+
 abbrev made : ℕ → Call → ℕ → ℕ → CallRecord
-made thread call begun end = record { thread = thread; call = call; begun = begun; ended = Some (end, True) }
+made = made_with True
 
-abbrev place : ℕ → Placed
-place call = record { call = call; reply = True }
+abbrev place_at : ℕ → ℕ → Placed
+place_at call key = record { call = call; reply = At (record { 0 = key }) }
 
-abbrev report : Kind → List CallRecord → List Placed → List ℕ → ReportValue
-report kind calls order keys = record {
+abbrev report : Version → Kind → List CallRecord → List Placed → List ℕ → ReportValue
+report version kind calls order keys = record {
+  version = version;
   kind = kind;
   history = record { threads = 2; quota = 4; calls = calls };
   order = order;
@@ -49,59 +56,39 @@ report kind calls order keys = record {
 }
 
 abbrev stale_pred : ReportValue
-stale_pred = report Optimistic (made 1 (call.Add (record { 0 = 3 })) 1 11 ∷ made 0 (call.Add (record { 0 = 5 })) 12 34
+stale_pred = report One Optimistic (made 1 (call.Add (record { 0 = 3 })) 1 11 ∷ made 0 (call.Add (record { 0 = 5 })) 12 34
     ∷ made 1 (call.Remove (record { 0 = 3 })) 17 26 ∷ []) (place 0 ∷ place 2 ∷ place 1 ∷ []) []
 
 abbrev left_in_chain : ReportValue
-left_in_chain = report LockFree (made 0 (call.Add (record { 0 = 5 })) 1 7 ∷ made 0 (call.Add (record { 0 = 3 })) 8 20
+left_in_chain = report One LockFree (made 0 (call.Add (record { 0 = 5 })) 1 7 ∷ made 0 (call.Add (record { 0 = 3 })) 8 20
     ∷ made 1 (call.Remove (record { 0 = 5 })) 14 21 ∷ made 0 (call.Contains (record { 0 = 5 })) 22 27 ∷ [])
     (place 0 ∷ place 2 ∷ place 1 ∷ place 3 ∷ []) (3 ∷ [])
 
+abbrev ceiling_left_in_chain : ReportValue
+ceiling_left_in_chain = report Two LockFree (made 0 (call.Add (record { 0 = 5 })) 1 7 ∷ made 0 (call.Add (record { 0 = 3 })) 8 20
+    ∷ made 1 (call.Remove (record { 0 = 5 })) 14 21
+    ∷ made_with (At (record { 0 = 5 })) 0 (call.Ceiling (record { 0 = 4 })) 22 27
+    ∷ made 1 (call.Add (record { 0 = 7 })) 28 38 ∷ [])
+    (place 0 ∷ place 2 ∷ place 1 ∷ place_at 3 5 ∷ place 4 ∷ []) (3 ∷ 7 ∷ [])
+
 reads_stale_pred : reading STALE_PRED_BROKEN.now ≡ Ok stale_pred
-unfolding report_of report_from header_of told_by_line number_in kind_of_word call_word_of reply_of begun_of ended_of place_of key_of_line
+unfolding report_of report_from header_of told_by_line number_in kind_of_word call_word_of reply_of reply_told begun_of ended_of place_of key_of_line
 reads_stale_pred = refl
 
 reads_left_in_chain : reading LEFT_IN_CHAIN_BROKEN.now ≡ Ok left_in_chain
-unfolding report_of report_from header_of told_by_line number_in kind_of_word call_word_of reply_of begun_of ended_of place_of key_of_line
+unfolding report_of report_from header_of told_by_line number_in kind_of_word call_word_of reply_of reply_told begun_of ended_of place_of key_of_line
 reads_left_in_chain = refl
 
--- ---- orders
-
-stands_in : (x p : Placed) (xs : List Placed) → Contains (x ∷ xs) p → (x ≡ p) ⊎ Contains xs p
-stands_in x p xs c = at c.0 c.1 c.2
-  where
-    at : (k : ℕ) → k < length (x ∷ xs) → get_or (x ∷ xs) k p ≡ p → (x ≡ p) ⊎ Contains xs p
-    at zero l e = inl e
-    at (suc k) l e = inr (k, omega arith, e)
-
-stands_nowhere : (p : Placed) → Contains [] p → ⊥
-stands_nowhere p c = let l : c.0 < 0 = c.1 in omega arith
-
-all_tail : (P : Placed → Type 0) (x : Placed) (xs : List Placed) → All P (x ∷ xs) → All P xs
-all_tail P x xs a k d l = a (suc k) d (omega arith)
-
--- the state after a call of a history, and how that call and a later one lie in time
-abbrev after : List CallRecord → SetState → ℕ → Reply → SetState
-after calls s n r = after_call s (call_numbered calls n).thread (call_numbered calls n).call r
-
-abbrev InTime : List CallRecord → Placed → Placed → Type 0
-InTime calls p r = Precedes (call_numbered calls r.call) (call_numbered calls p.call) → ⊥
-
-in_time : (calls : List CallRecord) (n m a b : ℕ) → n ≡ a → m ≡ b → Precedes (call_numbered calls a) (call_numbered calls b)
-    → Precedes (call_numbered calls n) (call_numbered calls m)
-in_time calls n m a b p q h =
-    let P : ℕ → Type 0 = λ z. Precedes (call_numbered calls z) (call_numbered calls m) in
-    let Q : ℕ → Type 0 = λ z. Precedes (call_numbered calls a) (call_numbered calls z) in
-    subst P (sym p) (subst Q (sym q) h)
+reads_ceiling_left_in_chain : reading CEILING_LEFT_IN_CHAIN_BROKEN.now ≡ Ok ceiling_left_in_chain
+unfolding report_of report_from header_of told_by_line number_in kind_of_word call_word_of reply_of reply_told begun_of ended_of place_of key_of_line
+reads_ceiling_left_in_chain = refl
 
 -- ---- left-in-chain: the key 5 is put in once, and taken out before it is asked for
 
 abbrev its_calls : List CallRecord
 its_calls = left_in_chain.history.calls
 
--- no call but the first puts 5 in
-stays_out : (n : ℕ) (r : Reply) (s : SetState) → n < 4 → n ≢ 0 → (Contains s.keys 5 → ⊥)
-    → Contains (after its_calls s n r).keys 5 → ⊥
+stays_out : (n : ℕ) (r : Reply) (s : SetState) → n < 4 → n ≢ 0 → IsOut s → IsOut (after its_calls s n r)
 stays_out zero r s l n out c = n refl
 stays_out (suc zero) True s l n out c = elim (with_from 3 5 s.keys c) [ inl e ↦ omega arith | inr d ↦ out d ]
 stays_out (suc zero) False s l n out c = out c
@@ -113,61 +100,71 @@ stays_out (suc (suc zero)) False s l n out c = out c
 stays_out (suc (suc zero)) Full s l n out c = out c
 stays_out (suc (suc zero)) (At x) s l n out c = out c
 stays_out (suc (suc zero)) Nothing s l n out c = out c
-stays_out (suc (suc (suc zero))) True s l n out c = out c
-stays_out (suc (suc (suc zero))) False s l n out c = out c
-stays_out (suc (suc (suc zero))) Full s l n out c = out c
-stays_out (suc (suc (suc zero))) (At x) s l n out c = out c
-stays_out (suc (suc (suc zero))) Nothing s l n out c = out c
+stays_out (suc (suc (suc zero))) r s l n out c = out c
 stays_out (suc (suc (suc (suc k)))) r s l n out c = omega arith
 
--- so an order of the others does not find it
-finds_none : (order : List Placed) (s : SetState) → IsLegal 4 s (map (answered its_calls) order) → (Contains s.keys 5 → ⊥)
-    → All (λ p. p.call < 4) order → All (λ p. p.call ≢ 0) order → Contains order (place 3) → ⊥
-finds_none [] s legal out known others asked = stands_nowhere (place 3) asked
-finds_none (x ∷ xs) s legal out known others asked = elim (stands_in x (place 3) xs asked) [
-  | inl e ↦
-      let P : Placed → Type 0 = λ p.
-      reply_to 4 s (call_numbered its_calls p.call).thread (call_numbered its_calls p.call).call ≡ p.reply in
-      let told : (if has_key 5 s.keys then True else False) ≡ True = subst P e legal.0 in
-      elim (cases_Bool (has_key 5 s.keys)) [
-        | inl has ↦ out (has_from 5 s.keys has)
-        | inr lacks ↦ (let f : False ≡ True = rw lacks at told in absurd (cc))
-      ]
-  | inr rest ↦ finds_none xs (after its_calls s x.call x.reply) legal.1
-      (stays_out x.call x.reply s (known 0 x (omega arith)) (others 0 x (omega arith)) out)
-      (all_tail (λ p. p.call < 4) x xs known) (all_tail (λ p. p.call ≢ 0) x xs others) rest
-]
-
--- and before its taking out stands no asking
-finds_late : (order : List Placed) (s : SetState) → IsLegal 4 s (map (answered its_calls) order) → All (λ p. p.call < 4) order
-    → AllPairs (InTime its_calls) order → Contains order (place 2) → Contains order (place 3) → ⊥
-finds_late [] s legal known time taken asked = stands_nowhere (place 3) asked
-finds_late (x ∷ xs) s legal known time taken asked =
-    let later : All (InTime its_calls x) xs = pairs_head (InTime its_calls) x xs time in
-    elim (stands_in x (place 2) xs taken) [
-      | inl e ↦ elim (stands_in x (place 3) xs asked) [
-        | inl f ↦ (let g : 2 ≡ 3 = ap (λ (p : Placed). p.call) (sym e ∙ f) in omega (arith, g))
-        | inr rest ↦ finds_none xs (after its_calls s x.call x.reply) legal.1
-            (let Q : Placed → Type 0 = λ p. Contains (after its_calls s p.call p.reply).keys 5 → ⊥ in
-            subst Q (sym e) (λ c. (without_from 5 5 s.keys c).1 refl))
-            (all_tail (λ p. p.call < 4) x xs known)
-            (λ k d l z.
-            later k d l (in_time its_calls (get_or xs k d).call x.call 0 2 z (ap (λ (p : Placed). p.call) e) (lit< tt)))
-            rest
-      ]
-      | inr taken_later ↦ elim (stands_in x (place 3) xs asked) [
-        | inl f ↦ All-contains (InTime its_calls x) xs (place 2) later taken_later
-            (in_time its_calls 2 x.call 2 3 refl (ap (λ (p : Placed). p.call) f) (lit< tt))
-        | inr rest ↦ finds_late xs (after its_calls s x.call x.reply) legal.1 (all_tail (λ p. p.call < 4) x xs known)
-            (pairs_tail (InTime its_calls) x xs time) taken_later rest
-      ]
-    ]
+asked_by_contains : AsksTooLate its_calls 4 (place 3)
+asked_by_contains = record {
+  stays_out = stays_out;
+  taken_out = λ s c. (without_from 5 5 s.keys c).1 refl;
+  asks = λ s told. elim (cases_Bool (has_key 5 s.keys)) [
+    | inl has ↦ has_from 5 s.keys has
+    | inr lacks ↦ (let f : False ≡ True = rw lacks at told in absurd (cc))
+  ];
+  put_before = lit< tt;
+  taken_before = lit< tt;
+  another = λ e. omega (arith, e);
+}
 
 left_in_chain_is_unexplained : IsUnexplained left_in_chain
 left_in_chain_is_unexplained order e =
     let l = e.linearizes in
-    finds_late order (empty_set 2) l.legal l.known l.in_time (l.ended 2 21 True (lit< tt) refl)
-    (l.ended 3 27 True (lit< tt) refl)
+    finds_late its_calls 4 (place 3) asked_by_contains order (empty_set 2) l.legal l.known l.in_time
+    (l.ended 2 21 True (lit< tt) refl) (l.ended 3 27 True (lit< tt) refl)
+
+-- ---- ceiling-left-in-chain: the same, where a ceiling answers 5
+
+abbrev sought_calls : List CallRecord
+sought_calls = ceiling_left_in_chain.history.calls
+
+stays_sought : (n : ℕ) (r : Reply) (s : SetState) → n < 5 → n ≢ 0 → IsOut s → IsOut (after sought_calls s n r)
+stays_sought zero r s l n out c = n refl
+stays_sought (suc zero) r s l n out c = stays_out 1 r s (lit< tt) (λ e. omega (arith, e)) out c
+stays_sought (suc (suc zero)) r s l n out c = stays_out 2 r s (lit< tt) (λ e. omega (arith, e)) out c
+stays_sought (suc (suc (suc zero))) r s l n out c = out c
+stays_sought (suc (suc (suc (suc zero)))) True s l n out c = elim (with_from 7 5 s.keys c) [ inl e ↦ omega arith | inr d ↦ out d ]
+stays_sought (suc (suc (suc (suc zero)))) False s l n out c = out c
+stays_sought (suc (suc (suc (suc zero)))) Full s l n out c = out c
+stays_sought (suc (suc (suc (suc zero)))) (At x) s l n out c = out c
+stays_sought (suc (suc (suc (suc zero)))) Nothing s l n out c = out c
+stays_sought (suc (suc (suc (suc (suc k))))) r s l n out c = omega arith
+
+-- a key that is the ceiling of another is there
+is_there : (k : ℕ) (x : Key) (xs : List ℕ) → ceiling_in k xs ≡ At x → Contains xs x.0
+is_there k x [] e = absurd (cc)
+is_there k x (y ∷ ys) e = elim (cases_Bool (nat_lt y k)) [
+  | inl f ↦ contains-tail y x.0 ys (is_there k x ys (rw f at e))
+  | inr f ↦ contains-head y x.0 ys (ap (λ (z : Key). z.0) (key_is (record { 0 = y }) x (rw f at e)))
+]
+  where
+    key_is : (a b : Key) → At a ≡ At b → a ≡ b
+    key_is a b e = cc
+
+asked_by_ceiling : AsksTooLate sought_calls 5 (place_at 3 5)
+asked_by_ceiling = record {
+  stays_out = stays_sought;
+  taken_out = λ s c. (without_from 5 5 s.keys c).1 refl;
+  asks = λ s told. is_there 4 (record { 0 = 5 }) s.keys told;
+  put_before = lit< tt;
+  taken_before = lit< tt;
+  another = λ e. omega (arith, e);
+}
+
+ceiling_left_in_chain_is_unexplained : IsUnexplained ceiling_left_in_chain
+ceiling_left_in_chain_is_unexplained order e =
+    let l = e.linearizes in
+    finds_late sought_calls 5 (place_at 3 5) asked_by_ceiling order (empty_set 2) l.legal l.known l.in_time
+    (l.ended 2 21 True (lit< tt) refl) (l.ended 3 27 (At (record { 0 = 5 })) (lit< tt) refl)
 
 -- ---- stale-pred: the key 5 is put in, and no call takes it out
 
@@ -225,6 +222,10 @@ is_broken_report back LeftInChain text is =
     let found = (back left_in_chain LEFT_IN_CHAIN_BROKEN.now).1 reads_left_in_chain in
     subst (IsBrokenReportOf LeftInChain) (ap (λ o. unwrap_or o []) is)
     (left_in_chain, found.0, refl, found.1, left_in_chain_is_unexplained)
+is_broken_report back CeilingLeftInChain text is =
+    let found = (back ceiling_left_in_chain CEILING_LEFT_IN_CHAIN_BROKEN.now).1 reads_ceiling_left_in_chain in
+    subst (IsBrokenReportOf CeilingLeftInChain) (ap (λ o. unwrap_or o []) is)
+    (ceiling_left_in_chain, found.0, refl, found.1, ceiling_left_in_chain_is_unexplained)
 is_broken_report back FailedTries text is = absurd (cc is)
 is_broken_report back FullExample text is = absurd (cc is)
 is_broken_report back HandOverHand text is = absurd (cc is)
@@ -235,6 +236,8 @@ is_broken_report back ReadInAnothersStep text is = absurd (cc is)
 is_broken_report back TwoRemovers text is = absurd (cc is)
 is_broken_report back Snip text is = absurd (cc is)
 is_broken_report back TriesAgain text is = absurd (cc is)
+is_broken_report back CeilingMeetsMark text is = absurd (cc is)
+is_broken_report back BehindTheWalk text is = absurd (cc is)
 
 pub is_broken_report_text : ReportsReadBack → (e : Example) (o : Option (Bor (List ℕ))) → option_copied o ≡ broken_of e
     → IfSome o (λ text. IsBrokenReportOf e text.now)

@@ -6,6 +6,8 @@ use Rattle.lset_words.specs.Words.{IsWithin}
 use Rattle.lset_words.specs.declared.Kind.{Kind}
 use Rattle.lset_words.specs.declared.Kind.TheVariants.{Coarse, Fine, Optimistic, Lazy, LockFree}
 use Rattle.lset_words.specs.declared.Call.TheVariants as call
+use Rattle.lset_text.specs.declared.words.Version.{Version}
+use Rattle.lset_text.specs.declared.words.Version.TheVariants.{One, Two}
 use Rattle.lset_schedule.specs.declared.value.Line.{Line}
 use Rattle.lset_schedule.specs.declared.value.Line.TheVariants.{Begin, Go}
 use Rattle.lset_schedule.specs.Plan.{Plan, IsSchedule, schedule_text}
@@ -13,6 +15,7 @@ use Rattle.lset_examples.specs.declared.example.Example.{Example}
 use Rattle.lset_examples.specs.declared.example.Example.TheVariants.{FailedTries, Full, HandOverHand, SameGap}
 use Rattle.lset_examples.specs.declared.example.Example.TheVariants.{StalePred, MarkedInChain, MarkedPred, ReadInAnothersStep}
 use Rattle.lset_examples.specs.declared.example.Example.TheVariants.{TwoRemovers, Snip, TriesAgain, LeftInChain}
+use Rattle.lset_examples.specs.declared.example.Example.TheVariants.{CeilingMeetsMark, CeilingLeftInChain, BehindTheWalk}
 use Rattle.lset_examples.specs.Examples.{text_of, kind_of, IsScheduleOf}
 use Rattle.lset_examples.specs.declared.example.TheConstants.{ALL}
 
@@ -25,11 +28,18 @@ remove thread key = Begin thread (call.Remove (record { 0 = key }))
 abbrev contains : ℕ → ℕ → Line
 contains thread key = Begin thread (call.Contains (record { 0 = key }))
 
+abbrev ceiling : ℕ → ℕ → Line
+ceiling thread key = Begin thread (call.Ceiling (record { 0 = key }))
+
 abbrev go : ℕ → ℕ → Line
 go thread steps = Go thread steps
 
+abbrev plan_in : Version → Kind → ℕ → ℕ → List Line → Plan
+plan_in version kind threads quota lines =
+    record { version = version; kind = kind; threads = threads; quota = quota; lines = lines }
+
 abbrev plan : Kind → ℕ → ℕ → List Line → Plan
-plan kind threads quota lines = record { kind = kind; threads = threads; quota = quota; lines = lines }
+plan = plan_in One
 
 abbrev plan_of : Example → Plan
 plan_of FailedTries = plan Coarse 2 4 (add 0 5 ∷ add 1 5 ∷ go 0 1 ∷ go 1 3 ∷ go 0 6 ∷ go 1 4 ∷ [])
@@ -46,6 +56,10 @@ plan_of Snip = plan LockFree 2 4 (add 0 5 ∷ go 0 6 ∷ remove 0 5 ∷ go 0 5 �
 plan_of TriesAgain = plan LockFree 2 4 (add 0 5 ∷ add 1 7 ∷ go 0 5 ∷ go 1 6 ∷ go 0 7 ∷ [])
 plan_of LeftInChain = plan LockFree 2 4 (add 0 5 ∷ go 0 6 ∷ add 0 3 ∷ go 0 5 ∷ remove 1 5 ∷ go 1 5 ∷ go 0 1 ∷ go 1 1
     ∷ contains 0 5 ∷ go 0 5 ∷ [])
+plan_of CeilingMeetsMark = plan_in Two LockFree 2 4 (add 1 5 ∷ go 1 6 ∷ ceiling 0 3 ∷ go 0 2 ∷ remove 1 5 ∷ go 1 6 ∷ go 0 3 ∷ [])
+plan_of CeilingLeftInChain = plan_in Two LockFree 2 4 (add 0 5 ∷ go 0 6 ∷ add 0 3 ∷ go 0 5 ∷ remove 1 5 ∷ go 1 5 ∷ go 0 1
+    ∷ go 1 1 ∷ ceiling 0 4 ∷ go 0 5 ∷ add 1 7 ∷ go 1 10 ∷ go 0 5 ∷ [])
+plan_of BehindTheWalk = plan_in Two LockFree 2 4 (add 1 9 ∷ go 1 6 ∷ ceiling 0 3 ∷ go 0 1 ∷ add 1 5 ∷ go 1 6 ∷ go 0 2 ∷ [])
 
 is_text_of_plan : (e : Example) → text_of e ≡ schedule_text (plan_of e)
 unfolding digits
@@ -61,6 +75,9 @@ is_text_of_plan TwoRemovers = refl
 is_text_of_plan Snip = refl
 is_text_of_plan TriesAgain = refl
 is_text_of_plan LeftInChain = refl
+is_text_of_plan CeilingMeetsMark = refl
+is_text_of_plan CeilingLeftInChain = refl
+is_text_of_plan BehindTheWalk = refl
 
 is_of_kind : (e : Example) → (plan_of e).kind ≡ kind_of e
 is_of_kind FailedTries = refl
@@ -75,6 +92,9 @@ is_of_kind TwoRemovers = refl
 is_of_kind Snip = refl
 is_of_kind TriesAgain = refl
 is_of_kind LeftInChain = refl
+is_of_kind CeilingMeetsMark = refl
+is_of_kind CeilingLeftInChain = refl
+is_of_kind BehindTheWalk = refl
 
 two_threads : IsWithin (record { threads = 2; quota = 4 })
 two_threads = record { some = lit< tt; few = lit≤ tt; small = lit≤ tt }
@@ -95,6 +115,9 @@ is_schedule TwoRemovers = record { header = two_threads; lines = search rules; f
 is_schedule Snip = record { header = two_threads; lines = search rules; few = lit≤ tt }
 is_schedule TriesAgain = record { header = two_threads; lines = search rules; few = lit≤ tt }
 is_schedule LeftInChain = record { header = two_threads; lines = search rules; few = lit≤ tt }
+is_schedule CeilingMeetsMark = record { header = two_threads; lines = search rules; few = lit≤ tt }
+is_schedule CeilingLeftInChain = record { header = two_threads; lines = search rules; few = lit≤ tt }
+is_schedule BehindTheWalk = record { header = two_threads; lines = search rules; few = lit≤ tt }
 
 -- each text is that of a schedule on the example's list
 pub is_schedule_text : (e : Example) → IsScheduleOf e (text_of e)
@@ -115,3 +138,6 @@ is_listed TwoRemovers = (8, lit< tt, refl)
 is_listed Snip = (9, lit< tt, refl)
 is_listed TriesAgain = (10, lit< tt, refl)
 is_listed LeftInChain = (11, lit< tt, refl)
+is_listed CeilingMeetsMark = (12, lit< tt, refl)
+is_listed CeilingLeftInChain = (13, lit< tt, refl)
+is_listed BehindTheWalk = (14, lit< tt, refl)

@@ -12,6 +12,7 @@ use Rattle.lset_examples.specs.declared.example.Example.{Example}
 use Rattle.lset_examples.specs.declared.example.Example.TheVariants.{FailedTries, Full, HandOverHand, SameGap}
 use Rattle.lset_examples.specs.declared.example.Example.TheVariants.{StalePred, MarkedInChain, MarkedPred, ReadInAnothersStep}
 use Rattle.lset_examples.specs.declared.example.Example.TheVariants.{TwoRemovers, Snip, TriesAgain, LeftInChain}
+use Rattle.lset_examples.specs.declared.example.Example.TheVariants.{CeilingMeetsMark, CeilingLeftInChain, BehindTheWalk}
 use Rattle.lset_examples.specs.declared.example.TheConstants.{ALL}
 use Rattle.lset_examples.specs.declared.texts.TheConstants as texts
 
@@ -29,6 +30,9 @@ name_of TwoRemovers = codes "two-removers"
 name_of Snip = codes "snip"
 name_of TriesAgain = codes "tries-again"
 name_of LeftInChain = codes "left-in-chain"
+name_of CeilingMeetsMark = codes "ceiling-meets-mark"
+name_of CeilingLeftInChain = codes "ceiling-left-in-chain"
+name_of BehindTheWalk = codes "behind-the-walk"
 
 -- the list that it is about
 abbrev pub kind_of : Example → Kind
@@ -44,6 +48,9 @@ kind_of TwoRemovers = LockFree
 kind_of Snip = LockFree
 kind_of TriesAgain = LockFree
 kind_of LeftInChain = LockFree
+kind_of CeilingMeetsMark = LockFree
+kind_of CeilingLeftInChain = LockFree
+kind_of BehindTheWalk = LockFree
 
 -- what happens in it, in half a line
 abbrev pub about_of : Example → List ℕ
@@ -59,6 +66,9 @@ about_of TwoRemovers = codes "two removes of one key: one marks, the other walks
 about_of Snip = codes "an add takes out the node that a remove has marked"
 about_of TriesAgain = codes "an exchange fails, and the add walks again with the same slot"
 about_of LeftInChain = codes "a remove has ended, and its node is still in the chain: contains answers false"
+about_of CeilingMeetsMark = codes "the node at which ceiling stops is marked: it walks again and answers nothing"
+about_of CeilingLeftInChain = codes "ceiling stops at the node of a remove that has ended: it may not answer that key"
+about_of BehindTheWalk = codes "a key comes in behind the walk of ceiling, which answers the key above it"
 
 -- the text of its schedule
 abbrev pub text_of : Example → List ℕ
@@ -74,6 +84,9 @@ text_of TwoRemovers = texts.TWO_REMOVERS.now
 text_of Snip = texts.SNIP.now
 text_of TriesAgain = texts.TRIES_AGAIN.now
 text_of LeftInChain = texts.LEFT_IN_CHAIN.now
+text_of CeilingMeetsMark = texts.CEILING_MEETS_MARK.now
+text_of CeilingLeftInChain = texts.CEILING_LEFT_IN_CHAIN.now
+text_of BehindTheWalk = texts.BEHIND_THE_WALK.now
 
 -- the text of the report of a list that lacks the check in question, of the examples that have one
 abbrev pub broken_of : Example → Option (List ℕ)
@@ -89,6 +102,9 @@ broken_of TwoRemovers = None
 broken_of Snip = None
 broken_of TriesAgain = None
 broken_of LeftInChain = Some texts.LEFT_IN_CHAIN_BROKEN.now
+broken_of CeilingMeetsMark = None
+broken_of CeilingLeftInChain = Some texts.CEILING_LEFT_IN_CHAIN_BROKEN.now
+broken_of BehindTheWalk = None
 
 -- the text of a schedule on the example's list
 abbrev pub IsScheduleOf : Example → List ℕ → Type 0

@@ -32,10 +32,13 @@ pub enum Example {
     Snip,
     TriesAgain,
     LeftInChain,
+    CeilingMeetsMark,
+    CeilingLeftInChain,
+    BehindTheWalk,
 }
 
 /// All examples, in the order of the lists that they are about.
-pub const ALL: [Example; 12] = [
+pub const ALL: [Example; 15] = [
     Example::FailedTries,
     Example::Full,
     Example::HandOverHand,
@@ -48,6 +51,9 @@ pub const ALL: [Example; 12] = [
     Example::Snip,
     Example::TriesAgain,
     Example::LeftInChain,
+    Example::CeilingMeetsMark,
+    Example::CeilingLeftInChain,
+    Example::BehindTheWalk,
 ];
 
 impl Example {
@@ -68,6 +74,9 @@ impl Example {
             Example::Snip => "snip",
             Example::TriesAgain => "tries-again",
             Example::LeftInChain => "left-in-chain",
+            Example::CeilingMeetsMark => "ceiling-meets-mark",
+            Example::CeilingLeftInChain => "ceiling-left-in-chain",
+            Example::BehindTheWalk => "behind-the-walk",
         }
     }
 
@@ -81,8 +90,13 @@ impl Example {
             Example::SameGap | Example::StalePred => Kind::Optimistic,
             Example::MarkedInChain | Example::MarkedPred | Example::ReadInAnothersStep =>
                 Kind::Lazy,
-            Example::TwoRemovers | Example::Snip | Example::TriesAgain | Example::LeftInChain =>
-                Kind::LockFree,
+            Example::TwoRemovers
+            | Example::Snip
+            | Example::TriesAgain
+            | Example::LeftInChain
+            | Example::CeilingMeetsMark
+            | Example::CeilingLeftInChain
+            | Example::BehindTheWalk => Kind::LockFree,
         }
     }
 
@@ -110,6 +124,12 @@ impl Example {
             Example::TriesAgain => "an exchange fails, and the add walks again with the same slot",
             Example::LeftInChain =>
                 "a remove has ended, and its node is still in the chain: contains answers false",
+            Example::CeilingMeetsMark =>
+                "the node at which ceiling stops is marked: it walks again and answers nothing",
+            Example::CeilingLeftInChain =>
+                "ceiling stops at the node of a remove that has ended: it may not answer that key",
+            Example::BehindTheWalk =>
+                "a key comes in behind the walk of ceiling, which answers the key above it",
         }
     }
 
@@ -137,11 +157,14 @@ impl Example {
             Example::Snip => texts::SNIP,
             Example::TriesAgain => texts::TRIES_AGAIN,
             Example::LeftInChain => texts::LEFT_IN_CHAIN,
+            Example::CeilingMeetsMark => texts::CEILING_MEETS_MARK,
+            Example::CeilingLeftInChain => texts::CEILING_LEFT_IN_CHAIN,
+            Example::BehindTheWalk => texts::BEHIND_THE_WALK,
         }
     }
 
-    /// The text of the report that a list without the check in question would give of the schedule, for the two examples that
-    /// have one. No order explains its calls and keys, whether the one that stands there, which `check` refuses, or another.
+    /// The text of the report that a list without the check in question would give of the schedule, for the three examples
+    /// that have one. No order explains its calls and keys, whether the one that stands there, which `check` refuses, or another.
     pub fn broken_report_text(self) -> Option<&'static str>
         ensures constant { option_copied result ≡ broken_of self }
         ensures report { IfSome result (λ text. IsBrokenReportOf self text.now) }
@@ -156,6 +179,7 @@ impl Example {
         match self {
             Example::StalePred => Some(texts::STALE_PRED_BROKEN),
             Example::LeftInChain => Some(texts::LEFT_IN_CHAIN_BROKEN),
+            Example::CeilingLeftInChain => Some(texts::CEILING_LEFT_IN_CHAIN_BROKEN),
             Example::FailedTries
             | Example::Full
             | Example::HandOverHand
@@ -165,7 +189,9 @@ impl Example {
             | Example::ReadInAnothersStep
             | Example::TwoRemovers
             | Example::Snip
-            | Example::TriesAgain => None,
+            | Example::TriesAgain
+            | Example::CeilingMeetsMark
+            | Example::BehindTheWalk => None,
         }
     }
 }

@@ -170,6 +170,54 @@ begin 0 contains 5
 go 0 5
 ";
 
+pub const CEILING_MEETS_MARK: &str = "\
+listset-schedule 2
+list lock-free
+threads 2
+quota 4
+begin 1 add 5
+go 1 6
+begin 0 ceiling 3
+go 0 2
+begin 1 remove 5
+go 1 6
+go 0 3
+";
+
+pub const CEILING_LEFT_IN_CHAIN: &str = "\
+listset-schedule 2
+list lock-free
+threads 2
+quota 4
+begin 0 add 5
+go 0 6
+begin 0 add 3
+go 0 5
+begin 1 remove 5
+go 1 5
+go 0 1
+go 1 1
+begin 0 ceiling 4
+go 0 5
+begin 1 add 7
+go 1 10
+go 0 5
+";
+
+pub const BEHIND_THE_WALK: &str = "\
+listset-schedule 2
+list lock-free
+threads 2
+quota 4
+begin 1 add 9
+go 1 6
+begin 0 ceiling 3
+go 0 1
+begin 1 add 5
+go 1 6
+go 0 2
+";
+
 pub const STALE_PRED_BROKEN: &str = "\
 listset-report 1
 list optimistic
@@ -198,5 +246,25 @@ place 2 true
 place 1 true
 place 3 true
 key 3
+end
+";
+
+pub const CEILING_LEFT_IN_CHAIN_BROKEN: &str = "\
+listset-report 2
+list lock-free
+threads 2
+quota 4
+call 0 0 add 5 1 7 true
+call 1 0 add 3 8 20 true
+call 2 1 remove 5 14 21 true
+call 3 0 ceiling 4 22 27 at-5
+call 4 1 add 7 28 38 true
+place 0 true
+place 2 true
+place 1 true
+place 3 at-5
+place 4 true
+key 3
+key 7
 end
 ";

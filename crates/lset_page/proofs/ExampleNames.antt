@@ -8,6 +8,7 @@ use Rattle.lset_examples.specs.Examples.{name_of}
 use Rattle.lset_examples.specs.declared.example.Example.{Example}
 use Rattle.lset_examples.specs.declared.example.Example.TheVariants.{FailedTries, Full, HandOverHand, SameGap, StalePred, MarkedInChain}
 use Rattle.lset_examples.specs.declared.example.Example.TheVariants.{MarkedPred, ReadInAnothersStep, TwoRemovers, Snip, TriesAgain, LeftInChain}
+use Rattle.lset_examples.specs.declared.example.Example.TheVariants.{CeilingMeetsMark, CeilingLeftInChain, BehindTheWalk}
 
 abbrev is_ascii : List ℕ → Bool
 is_ascii [] = true
@@ -35,3 +36,6 @@ name_is_utf8 TwoRemovers = spelled (name_of TwoRemovers) refl
 name_is_utf8 Snip = spelled (name_of Snip) refl
 name_is_utf8 TriesAgain = spelled (name_of TriesAgain) refl
 name_is_utf8 LeftInChain = spelled (name_of LeftInChain) refl
+name_is_utf8 CeilingMeetsMark = spelled (name_of CeilingMeetsMark) refl
+name_is_utf8 CeilingLeftInChain = spelled (name_of CeilingLeftInChain) refl
+name_is_utf8 BehindTheWalk = spelled (name_of BehindTheWalk) refl

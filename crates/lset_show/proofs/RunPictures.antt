@@ -13,6 +13,7 @@ use Rattle.lset_drawing.specs.declared.picture.Window.{Window}
 use Rattle.lset_drawing.specs.Pictures.{PictureValue}
 use Rattle.lset_tools.specs.Tools.{Made}
 use Rattle.lset_show.specs.Bars.{BarsAreApart}
+use Rattle.lset_show.specs.ReportPictures.{report_in}
 use Rattle.lset_show.specs.SchedulePictures.{IsPictureOfSchedule}
 use Rattle.lset_show.specs.Showing.{Shows}
 use Rattle.lset_show.proofs.InBars.{has_run_points}
@@ -28,18 +29,24 @@ run_drawn r points events = record {
   refusal = None;
 }
 
+-- the report is of the version of its schedule
+report_drawn : (p : Plan) (r : ReportValue) (points : List Point) (events : ℕ) → r.version ≡ p.version
+    → r ≡ report_in p.version (run_drawn r points events)
+report_drawn p r points events e = ap (λ v. report_in v (run_drawn r points events)) e
+
 pub schedule_picture : (p : Plan) (r : ReportValue) (points : List Point) (events : ℕ)
     → IsReplay (table_of p.kind) p r → IsExplained r
     → ArePointsOf (table_of p.kind) p.threads p.quota (only_events (events_of p)) r.history.calls r.order points
     → events ≡ sum_by event_count p.lines → BarsAreApart r.history.calls → IsPictureOfSchedule p (run_drawn r points events)
-schedule_picture p r points events replay explained are counted apart = record {
-  replay = replay;
-  explained = explained;
-  points_are = are;
-  events_are = ap (λ (n : ℕ). let o : Option ℕ = Some n in o) counted;
-  accepted = refl;
-  in_bars = record { apart = apart; points = λ none. has_run_points _ r.history.calls r.order points are.bars };
-}
+schedule_picture p r points events replay explained are counted apart =
+    let drawn = report_drawn p r points events replay.version_is in record {
+      replay = subst (IsReplay (table_of p.kind) p) drawn replay;
+      explained = subst IsExplained drawn explained;
+      points_are = are;
+      events_are = ap (λ (n : ℕ). let o : Option ℕ = Some n in o) counted;
+      accepted = refl;
+      in_bars = record { apart = apart; points = λ none. has_run_points _ r.history.calls r.order points are.bars };
+    }
 
 -- what is made of the bytes that were read is made of those of the input
 pub shown_of : (remaining : Option (List ℕ)) (svg : Bool) (window : Window) (items read : List ℕ) (made : Made)

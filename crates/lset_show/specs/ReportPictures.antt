@@ -13,6 +13,7 @@ use Rattle.lset_history.specs.Faults.{Explains}
 use Rattle.lset_history.specs.Points.{first_points}
 use Rattle.lset_history.specs.Refusals.{IsRefusalOf}
 use Rattle.lset_report.specs.Report.{ReportValue}
+use Rattle.lset_text.specs.declared.words.Version.{Version}
 use Rattle.lset_drawing.specs.Pictures.{PictureValue}
 use Rattle.lset_show.specs.Bars.{IsInBars}
 
@@ -44,9 +45,9 @@ abbrev pub drawn_points : Option Refusal → List CallRecord → List Placed →
 drawn_points None calls order = first_marked calls order
 drawn_points (Some refusal) calls order = []
 
--- the report that a picture shows
-abbrev pub report_in : PictureValue → ReportValue
-report_in v = record { kind = v.kind; history = v.history; order = v.order; keys = v.keys }
+-- The report of a version that a picture shows. It shows no version: the words for what it draws are those of the second.
+abbrev pub report_in : Version → PictureValue → ReportValue
+report_in version v = record { version = version; kind = v.kind; history = v.history; order = v.order; keys = v.keys }
 
 -- no refusal where the order explains the history and leaves just the keys, and else its first fault, with what is so of it
 abbrev pub IsJudgement : ReportValue → Option Refusal → Type 0
@@ -56,7 +57,7 @@ IsJudgement r (Some refusal) = IsRefusalOf r.history r.order r.keys refusal
 -- THE PICTURE OF A REPORT
 pub record IsPictureOfReport (r : ReportValue) (v : PictureValue) : Type 0 where
   -- shows its history, its order and its keys,
-  pub report_is : report_in v ≡ r
+  pub report_is : report_in r.version v ≡ r
   pub events_are : v.events ≡ None
   -- tells a refusal just where the order is refused,
   pub judged : IsJudgement r v.refusal

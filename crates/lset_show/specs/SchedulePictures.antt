@@ -13,8 +13,8 @@ use Rattle.lset_show.specs.ReportPictures.{report_in}
 -- THE PICTURE OF A SCHEDULE
 pub record IsPictureOfSchedule (p : Plan) (v : PictureValue) : Type 0 where
   -- shows the report of just its events, whose order explains the history and leaves the keys,
-  pub replay : IsReplay (table_of p.kind) p (report_in v)
-  pub explained : IsExplained (report_in v)
+  pub replay : IsReplay (table_of p.kind) p (report_in p.version v)
+  pub explained : IsExplained (report_in p.version v)
   -- has the points at which the calls of the run stand,
   pub points_are : ArePointsOf (table_of p.kind) p.threads p.quota (only_events (events_of p)) v.history.calls v.order v.points
   pub events_are : v.events ≡ Some (sum_by event_count p.lines)

@@ -1,5 +1,5 @@
 -- What `show` makes of an input.
-use Rattle.std.specs.Prelude.{◌≡◌, ◌⊎◌, ◌==◌, ℕ, Bool, true, false, List, codes, Option, Some, None, Ok, Err, if◌then◌else◌}
+use Rattle.std.specs.Prelude.{◌≡◌, ◌⊎◌, ◌==◌, ℕ, Bool, true, false, ◌||◌, List, Option, Some, None, Ok, Err, if◌then◌else◌}
 use Rattle.std.specs.List.{starts_with}
 use Rattle.lset_schedule.specs.Plan.{Plan, IsSchedule, schedule_text}
 use Rattle.lset_schedule.specs.ScheduleReading as schedule
@@ -7,7 +7,9 @@ use Rattle.lset_history.specs.declared.refusal.Refusal.{Refusal}
 use Rattle.lset_report.specs.Report.{ReportValue}
 use Rattle.lset_report.specs.ReportReading.{IsReport}
 use Rattle.lset_report.specs.ReportReading as report
-use Rattle.lset_report.specs.Texts.{report_text}
+use Rattle.lset_report.specs.Texts.{title, report_text}
+use Rattle.lset_text.specs.Parts.{ended}
+use Rattle.lset_text.specs.declared.words.Version.TheVariants.{One, Two}
 use Rattle.lset_drawing.specs.declared.picture.Window.{Window}
 use Rattle.lset_drawing.specs.Pictures.{PictureValue}
 use Rattle.lset_picture.specs.PictureTexts.{picture_text}
@@ -27,9 +29,13 @@ ShowsSchedule bytes v = (p : Plan) × IsSchedule p × (bytes ≡ schedule_text p
 abbrev pub ShowsReport : List ℕ → PictureValue → Type 0
 ShowsReport bytes v = (r : ReportValue) × IsReport r × (bytes ≡ report_text r) × IsPictureOfReport r v
 
--- the first line is that of a report
+-- the first line is this title
+abbrev pub has_title : List ℕ → List ℕ → Bool
+has_title title bytes = starts_with (λ a b. a == b) bytes (ended title)
+
+-- the first line is that of a report, of either version
 abbrev pub has_report_title : List ℕ → Bool
-has_report_title bytes = starts_with (λ a b. a == b) bytes (codes "listset-report 1\n")
+has_report_title bytes = has_title (title One) bytes || has_title (title Two) bytes
 
 -- the first fault of the text: of a report where it has the title of one, and else of a schedule or of its replay
 abbrev pub IsFirstFault : List ℕ → Trouble → Type 0

@@ -52,6 +52,7 @@ pub fn picture_of_replay(alloc: Global, schedule: &Schedule) -> Result<Picture, 
         history,
         order,
         keys,
+        ..
     } = report;
     bars_are_apart(&history);
     Ok(Picture {

@@ -19,13 +19,16 @@ use lset_tools::{Answer, LONGEST, Trouble, deliver, input_of};
 use std::alloc::{AllocError, Global};
 use std::io::{Read, Write};
 
-/// The first line of a report's text.
-const REPORT_TITLE: &[u8] = b"listset-report 1\n";
+/// The first line of a report's text of version 1.
+const TITLE_ONE: &[u8] = b"listset-report 1\n";
+
+/// The first line of a report's text of version 2.
+const TITLE_TWO: &[u8] = b"listset-report 2\n";
 
 fn has_report_title(bytes: &[u8]) -> bool
     ensures { result ≡ has_report_title bytes.now }
 {
-    bytes.starts_with(REPORT_TITLE)
+    bytes.starts_with(TITLE_ONE) || bytes.starts_with(TITLE_TWO)
 }
 
 /// The picture of the schedule whose text the bytes are.
@@ -103,9 +106,9 @@ fn answer_of(alloc: Global, bytes: &[u8], svg: bool, window: Window) -> Result<A
 /// The answer of `show` on an input of these bytes: the picture of the schedule or the report whose text they are, of the
 /// moments in `window`, as text or as an SVG (`svg`); its status is 1 where the order of the report is refused, and else 0.
 ///
-/// The error is `TooLong` where there are more than `LONGEST` bytes. A text with the first line of a report that is none has
-/// the first fault of `read_report`; any other text that is no schedule has that of `read_schedule`, and a schedule that is
-/// not replayed that of `replay`. `Memory` where memory was refused.
+/// The error is `TooLong` where there are more than `LONGEST` bytes. A text with the first line of a report, of either
+/// version, that is none has the first fault of `read_report`; any other text that is no schedule has that of
+/// `read_schedule`, and a schedule that is not replayed that of `replay`. `Memory` where memory was refused.
 pub fn shown(alloc: Global, bytes: &[u8], svg: bool, window: Window) -> Result<Answer, Trouble>
     ensures shows { Shows svg window bytes.now (tools.view result) }
     // Bytes that are here can be read.

@@ -8,7 +8,7 @@ use lset_lazy::LazyList;
 use lset_lock_free::LockFreeList;
 use lset_optimistic::OptimisticList;
 use lset_replay::replay;
-use lset_schedule::{Line, Schedule};
+use lset_schedule::{Line, Schedule, Version};
 use lset_steps::{Event, Machine, World};
 use lset_words::{Call, CallRecord, Key, Kind, Placed, Reply, layout};
 use std::alloc::{AllocError, Global};
@@ -87,6 +87,7 @@ fn a_ceiling_starts_again_at_a_mark(rt: HostRuntime) -> Result<(), Fail> {
         Call::Ceiling(Key(3)),
     );
     let schedule = Schedule {
+        version: Version::Two,
         kind: Kind::LockFree,
         threads: 2,
         quota: 4,
@@ -122,6 +123,7 @@ fn a_ceiling_starts_again_at_a_mark(rt: HostRuntime) -> Result<(), Fail> {
 fn a_ceiling_before_which_a_key_comes(rt: HostRuntime) -> Result<(), Fail> {
     let (nine, five, ceiling) = (Call::Add(Key(9)), Call::Add(Key(5)), Call::Ceiling(Key(3)));
     let schedule = Schedule {
+        version: Version::Two,
         kind: Kind::LockFree,
         threads: 2,
         quota: 4,

@@ -7,6 +7,7 @@ use Rattle.lset_lists.specs.Tables.{table_of}
 use Rattle.lset_text.specs.Numbers.{number_in}
 use Rattle.lset_text.specs.Results.{◌>>=◌, or_fail}
 use Rattle.lset_text.specs.Spellings.{kind_of}
+use Rattle.lset_text.specs.declared.words.Version.TheVariants.{One}
 use Rattle.lset_schedule.specs.Drawing.{AreOfSeed}
 use Rattle.lset_schedule.specs.Generating.{IsGenerated}
 use Rattle.lset_schedule.specs.Plan.{Plan, IsSchedule, schedule_text}
@@ -45,6 +46,7 @@ request_of values = do
 
 -- A schedule as a request asks for it, of the machine of this table:
 pub record IsRequested (T : Table) (request : Request) (p : Plan) : Type 0 where
+  pub version_is : p.version ≡ One
   pub kind_is : p.kind ≡ request.kind
   pub threads_are : p.threads ≡ request.threads
   pub quota_is : p.quota ≡ request.quota

@@ -83,7 +83,7 @@ fn generated(alloc: Global, values: &[String]) -> Result<Answer, Trouble>
 }
 
 /// Generates the schedule that the values ask for, which are KIND THREADS QUOTA CALLS KEYS SEED in this
-/// order: writes its text on the output, or one line about the first wrong value on `faults`, and gives the
+/// order: writes its text, of version 1, on the output, or one line about the first wrong value on `faults`, and gives the
 /// exit status: 0 where the schedule was written, 2 where a value is wrong, 3 where memory was refused, else 1.
 /// KIND is the word for a list; numbers are decimals without leading zeros, THREADS 1 to 64,
 /// QUOTA 0 to 16,384, CALLS 0 to 10,000, KEYS 1 to 4,294,967,295, SEED 0 to 2^64 - 1. The schedule ends at 10,000

@@ -18,6 +18,9 @@ two-removers           lock-free   two removes of one key: one marks, the other 
 snip                   lock-free   an add takes out the node that a remove has marked
 tries-again            lock-free   an exchange fails, and the add walks again with the same slot
 left-in-chain          lock-free   a remove has ended, and its node is still in the chain: contains answers false
+ceiling-meets-mark     lock-free   the node at which ceiling stops is marked: it walks again and answers nothing
+ceiling-left-in-chain  lock-free   ceiling stops at the node of a remove that has ended: it may not answer that key
+behind-the-walk        lock-free   a key comes in behind the walk of ceiling, which answers the key above it
 ";
 
 #[test]
@@ -48,6 +51,7 @@ fn each_broken_report_is_refused(rt: HostRuntime) -> Result<(), Fail> {
     let rows = [
         ("stale-pred", "refused WrongSet\n"),
         ("left-in-chain", "refused WrongReply 3\n"),
+        ("ceiling-left-in-chain", "refused WrongReply 3\n"),
     ];
     for (name, verdict) in rows {
         let run = example_run(rt.alloc(), true, Some(name));
@@ -82,7 +86,7 @@ fn a_name_that_stands_for_nothing_is_bad(rt: HostRuntime) -> Result<(), Fail> {
             assert_eq!(rt; run.told()?, bad, "{name}");
         }
     }
-    for name in ["snip", "full", "marked-in-chain"] {
+    for name in ["snip", "full", "marked-in-chain", "ceiling-meets-mark"] {
         let run = example_run(rt.alloc(), true, Some(name));
         assert_eq!(rt; run.told()?, bad, "{name}");
     }
