@@ -1,11 +1,13 @@
 ghost use Rattle.std.specs.Prelude.{IfOk};
 ghost use Rattle.lset_schedule.specs.Plan.{IsSchedule, view};
+ghost use Rattle.lset_report.specs.Report as report;
+ghost use Rattle.lset_report.specs.Texts.{HasWordsOfVersion};
 
 use crate::calls::{Calls, Wrong, check};
 use lset_coarse::CoarseList;
 use lset_history::{OrderFault, check_order};
 use lset_replay::{ReplayFault, replay};
-use lset_report::{ReportCause, ReportFault, read_report, write_report};
+use lset_report::{Report, ReportCause, ReportFault, read_report, write_report};
 use lset_schedule::{
     Cause, GenFault, Schedule, ScheduleFault, generate, programs, read_schedule, write_schedule,
 };
@@ -66,6 +68,15 @@ pub fn one_add(alloc: Global, calls: &mut Calls) -> Result<Schedule, ScheduleFau
     )
 }
 
+/// The report of a schedule that has a text: it has one too.
+#[tactic(auto, using(lset_schedule::proofs::VersionLaws::schedule_has_calls))]
+fn replayed(alloc: Global, plan: &Schedule) -> Result<Report, ReplayFault>
+    requires { IsSchedule (view plan.now) }
+    ensures { IfOk result (λ r. HasWordsOfVersion (report.view r)) }
+{
+    replay(alloc, plan)
+}
+
 /// Reads and writes the schedule and its report, and replays the one.
 #[tactic(auto, using(lset_schedule::proofs::VersionLaws::schedule_has_calls))]
 pub fn replays(alloc: Global, calls: &mut Calls) -> Result<(), Wrong> {
@@ -85,12 +96,12 @@ pub fn replays(alloc: Global, calls: &mut Calls) -> Result<(), Wrong> {
         write_schedule(alloc, &plan)
     )?;
     check(text.as_slice() == CEILINGS.as_bytes())?;
-    let replayed = answer!(calls, "replay", ReplayFault::Memory, replay(alloc, &plan))?;
+    let told = answer!(calls, "replay", ReplayFault::Memory, replayed(alloc, &plan))?;
     let text = answer!(
         calls,
         "write_report",
         AllocError,
-        write_report(alloc, &replayed)
+        write_report(alloc, &told)
     )?;
     check(text.as_slice() == CEILINGS_REPORT.as_bytes())?;
     let found = answer!(
