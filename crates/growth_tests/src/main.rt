@@ -17,6 +17,16 @@ macro_rules! answer {
     }};
 }
 
+/// Makes a group of calls, unless one of a group before it was refused its memory: one growth is refused in a run, so nothing
+/// is left to be seen in it.
+macro_rules! group {
+    ($calls:ident, $group:expr) => {
+        if $calls.refused.is_none() {
+            $group?;
+        }
+    };
+}
+
 mod calls;
 mod changes;
 mod examples;
@@ -59,22 +69,23 @@ fn make_calls<R: Net<Listener = TcpListener, Stream = TcpStream> + Threads + Wai
     alloc: Global,
     calls: &mut Calls,
 ) -> Result<(), Wrong> {
-    sets::worlds(alloc, calls)?;
-    sets::oracles(alloc, calls)?;
-    sets::histories(alloc, calls)?;
-    changes::changes(alloc, calls)?;
-    live::running_sets(rt, alloc, calls)?;
-    threads::programs_on_threads(rt, alloc, calls)?;
-    threads::a_session(rt, alloc, calls)?;
-    texts::replays(alloc, calls)?;
-    texts::refusals(alloc, calls)?;
-    texts::schedules_drawn(alloc, calls)?;
-    texts::programs_drawn(alloc, calls)?;
-    points::points(alloc, calls)?;
-    pictures::pictures(alloc, calls)?;
-    traces::traces(alloc, calls)?;
-    examples::examples(alloc, calls)?;
-    tools::tools(alloc, calls)
+    group!(calls, sets::worlds(alloc, calls));
+    group!(calls, sets::oracles(alloc, calls));
+    group!(calls, sets::histories(alloc, calls));
+    group!(calls, changes::changes(alloc, calls));
+    group!(calls, live::running_sets(rt, alloc, calls));
+    group!(calls, threads::programs_on_threads(rt, alloc, calls));
+    group!(calls, threads::a_session(rt, alloc, calls));
+    group!(calls, texts::replays(alloc, calls));
+    group!(calls, texts::refusals(alloc, calls));
+    group!(calls, texts::schedules_drawn(alloc, calls));
+    group!(calls, texts::programs_drawn(alloc, calls));
+    group!(calls, points::points(alloc, calls));
+    group!(calls, pictures::pictures(alloc, calls));
+    group!(calls, traces::traces(alloc, calls));
+    group!(calls, examples::examples(alloc, calls));
+    group!(calls, tools::tools(alloc, calls));
+    Ok(())
 }
 
 fn main(rt: HostRuntime) -> io::Result<ExitCode> {

@@ -280,43 +280,50 @@ const ONE_SLOT: Example = Example {
         end\n",
 };
 
+/// All of them.
+const EXAMPLES: [Example; 24] = [
+    ONE_ADD,
+    FAILED_TRIES,
+    OPEN_CALL,
+    COARSE_ENDS,
+    FINE_ENDS,
+    OPTIMISTIC_ENDS,
+    LAZY_ENDS,
+    LOCK_FREE_ENDS,
+    NO_EVENT,
+    HAND_OVER_HAND,
+    UNLINKED_BEFORE,
+    PARTED_BEFORE,
+    SAME_KEY_AGAIN,
+    UNLINKED_UNDER_IT,
+    TWO_UNLINKED_IN_A_ROW,
+    ADDED_UNDER_IT,
+    MARKED,
+    LAZY_REMOVES,
+    LAZY_READ,
+    LOCK_FREE_READ,
+    LOCK_FREE_REMOVES,
+    TAKEN_OUT,
+    NO_SLOT,
+    ONE_SLOT,
+];
+
+/// Whether an example's schedule is replayed to its report.
+fn is_as_replayed(alloc: Global, example: Example) -> Result<bool, Fail> {
+    let Example {
+        header,
+        events,
+        report: lines,
+    } = example;
+    let text = format!(in alloc; "listset-schedule 1\n{header}{events}")?;
+    let report = format!(in alloc; "listset-report 1\n{header}{lines}")?;
+    Ok(is_replayed(alloc, &text, &report)?)
+}
+
 #[test]
 fn schedules_and_their_reports(rt: HostRuntime) -> Result<(), Fail> {
-    let examples = [
-        ONE_ADD,
-        FAILED_TRIES,
-        OPEN_CALL,
-        COARSE_ENDS,
-        FINE_ENDS,
-        OPTIMISTIC_ENDS,
-        LAZY_ENDS,
-        LOCK_FREE_ENDS,
-        NO_EVENT,
-        HAND_OVER_HAND,
-        UNLINKED_BEFORE,
-        PARTED_BEFORE,
-        SAME_KEY_AGAIN,
-        UNLINKED_UNDER_IT,
-        TWO_UNLINKED_IN_A_ROW,
-        ADDED_UNDER_IT,
-        MARKED,
-        LAZY_REMOVES,
-        LAZY_READ,
-        LOCK_FREE_READ,
-        LOCK_FREE_REMOVES,
-        TAKEN_OUT,
-        NO_SLOT,
-        ONE_SLOT,
-    ];
-    for example in examples {
-        let Example {
-            header,
-            events,
-            report: lines,
-        } = example;
-        let text = format!(in rt.alloc(); "listset-schedule 1\n{header}{events}")?;
-        let report = format!(in rt.alloc(); "listset-report 1\n{header}{lines}")?;
-        assert!(rt; is_replayed(rt.alloc(), &text, &report)?, "{text}");
+    for example in EXAMPLES {
+        assert!(rt; is_as_replayed(rt.alloc(), example)?, "{}", example.events);
     }
     Ok(())
 }
