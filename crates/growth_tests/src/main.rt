@@ -31,6 +31,7 @@ mod calls;
 mod changes;
 mod examples;
 mod live;
+mod openings;
 mod pictures;
 mod points;
 mod sets;
@@ -74,6 +75,7 @@ fn make_calls<R: Net<Listener = TcpListener, Stream = TcpStream> + Threads + Wai
     group!(calls, sets::histories(alloc, calls));
     group!(calls, changes::changes(alloc, calls));
     group!(calls, live::running_sets(rt, alloc, calls));
+    group!(calls, openings::openings(alloc, calls));
     group!(calls, threads::programs_on_threads(rt, alloc, calls));
     group!(calls, threads::a_session(rt, alloc, calls));
     group!(calls, texts::replays(alloc, calls));

@@ -22,4 +22,6 @@ mod pauses;
 #[cfg(test)]
 mod programs;
 #[cfg(test)]
+mod renewal;
+#[cfg(test)]
 mod waiting;

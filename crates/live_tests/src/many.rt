@@ -23,13 +23,13 @@ const KEYS: u64 = 24;
 const CALLS: u32 = 1000;
 
 /// The next of a row of numbers (Knuth's linear congruence).
-fn next_number(number: u64) -> u64 {
+pub fn next_number(number: u64) -> u64 {
     number
         .wrapping_mul(6_364_136_223_846_793_005)
         .wrapping_add(1_442_695_040_888_963_407)
 }
 
-fn drawn_call(number: u64) -> Call {
+pub fn drawn_call(number: u64) -> Call {
     let key = Key((number >> 40) as u32 % KEYS as u32);
     match (number >> 33) % 4 {
         0 => Call::Add(key),
@@ -99,7 +99,7 @@ fn make_all_calls<M: Running + Send + Sync, R: Threads + Wait + Sync>(
     );
 }
 
-fn gathered<M: Running>(set: &LiveSet<M>, mut seats: Vec<Seat<M>>) -> Option<Seat<M>>
+pub fn gathered<M: Running>(set: &LiveSet<M>, mut seats: Vec<Seat<M>>) -> Option<Seat<M>>
     requires { All (λ s. s.set ≡ set.now) seats.items }
     ensures { IfSome result (λ s. s.set ≡ set.now) }
 {

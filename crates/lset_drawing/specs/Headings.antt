@@ -14,8 +14,8 @@ events_text None = []
 events_text (Some count) = codes " in " ++ counted count (codes "event")
 
 abbrev pub heading_line : PictureValue → List ℕ
-heading_line p = kind_text p.kind ++ codes " list, " ++ counted p.history.threads (codes "thread") ++ codes ", quota "
-    ++ decimal p.history.quota ++ codes ": " ++ counted (length p.history.calls) (codes "call") ++ events_text p.events
+heading_line p = kind_text p.kind ++ codes " list, " ++ counted p.history.opening.threads (codes "thread") ++ codes ", quota "
+    ++ decimal p.history.opening.quota ++ codes ": " ++ counted (length p.history.calls) (codes "call") ++ events_text p.events
 
 -- ---- which moments are drawn, where that are not all: something happens before them, or after them
 

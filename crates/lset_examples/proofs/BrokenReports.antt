@@ -13,9 +13,10 @@ use Rattle.lset_words.specs.declared.Reply.{Reply}
 use Rattle.lset_words.specs.declared.Reply.TheVariants.{True, False, Full, At, Nothing}
 use Rattle.lset_words.specs.declared.history.CallRecord.{CallRecord}
 use Rattle.lset_words.specs.declared.history.Placed.{Placed}
-use Rattle.lset_words.specs.SequentialSet.{SetState, empty_set, has_key, ceiling_in, set_left}
+use Rattle.lset_words.specs.SequentialSet.{SetState, opening_set, has_key, ceiling_in, set_left}
 use Rattle.lset_words.specs.History.{answered}
 use Rattle.lset_words.proofs.RisingLists.{contains-head, contains-tail, contains-nil}
+use Rattle.lset_words.specs.Words.{empty}
 use Rattle.lset_text.specs.Headers.{header_of, told_by_line}
 use Rattle.lset_text.specs.Numbers.{number_in}
 use Rattle.lset_text.specs.Spellings.{call_word_of, reply_of}
@@ -50,7 +51,7 @@ abbrev report : Version → Kind → List CallRecord → List Placed → List �
 report version kind calls order keys = record {
   version = version;
   kind = kind;
-  history = record { threads = 2; quota = 4; calls = calls };
+  history = record { opening = empty 2 4; calls = calls };
   order = order;
   keys = keys;
 }
@@ -119,7 +120,7 @@ asked_by_contains = record {
 left_in_chain_is_unexplained : IsUnexplained left_in_chain
 left_in_chain_is_unexplained order e =
     let l = e.linearizes in
-    finds_late its_calls 4 (place 3) asked_by_contains order (empty_set 2) l.legal l.known l.in_time
+    finds_late its_calls 4 (place 3) asked_by_contains order (opening_set (empty 2 4)) l.legal l.known l.in_time
     (l.ended 2 21 True (lit< tt) refl) (l.ended 3 27 True (lit< tt) refl)
 
 -- ---- ceiling-left-in-chain: the same, where a ceiling answers 5
@@ -163,7 +164,7 @@ asked_by_ceiling = record {
 ceiling_left_in_chain_is_unexplained : IsUnexplained ceiling_left_in_chain
 ceiling_left_in_chain_is_unexplained order e =
     let l = e.linearizes in
-    finds_late sought_calls 5 (place_at 3 5) asked_by_ceiling order (empty_set 2) l.legal l.known l.in_time
+    finds_late sought_calls 5 (place_at 3 5) asked_by_ceiling order (opening_set (empty 2 4)) l.legal l.known l.in_time
     (l.ended 2 21 True (lit< tt) refl) (l.ended 3 27 (At (record { 0 = 5 })) (lit< tt) refl)
 
 -- ---- stale-pred: the key 5 is put in, and no call takes it out
@@ -209,7 +210,7 @@ is_put_in (x ∷ xs) s known put = elim (stands_in x (place 1) xs put) [
 stale_pred_is_unexplained : IsUnexplained stale_pred
 stale_pred_is_unexplained order e =
     let P : List ℕ → Type 0 = λ keys. Contains keys 5 in
-    contains-nil 5 (subst P (sym e.keys_left) (is_put_in order (empty_set 2) e.linearizes.known
+    contains-nil 5 (subst P (sym e.keys_left) (is_put_in order (opening_set (empty 2 4)) e.linearizes.known
     (e.linearizes.ended 1 34 True (lit< tt) refl)))
 
 -- ---- the texts

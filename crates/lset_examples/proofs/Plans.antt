@@ -2,7 +2,7 @@
 use Rattle.std.proofs.Common.{◌≡◌, ℕ, List, [], ◌∷◌, refl, rules, lit<, lit≤}
 use Rattle.std.specs.List.{Contains}
 use Rattle.std.specs.Fmt.{digits}
-use Rattle.lset_words.specs.Words.{IsWithin}
+use Rattle.lset_words.specs.Words.{IsWithin, empty, sizes}
 use Rattle.lset_words.specs.declared.Kind.{Kind}
 use Rattle.lset_words.specs.declared.Kind.TheVariants.{Coarse, Fine, Optimistic, Lazy, LockFree}
 use Rattle.lset_words.specs.declared.Call.TheVariants as call
@@ -96,11 +96,11 @@ is_of_kind CeilingMeetsMark = refl
 is_of_kind CeilingLeftInChain = refl
 is_of_kind BehindTheWalk = refl
 
-two_threads : IsWithin (record { threads = 2; quota = 4 })
-two_threads = record { some = lit< tt; few = lit≤ tt; small = lit≤ tt }
+two_threads : IsWithin (sizes (empty 2 4))
+two_threads = record { some = lit< tt; few = lit≤ tt; small = lit≤ tt; opens = lit≤ tt }
 
-one_thread : IsWithin (record { threads = 1; quota = 1 })
-one_thread = record { some = lit< tt; few = lit≤ tt; small = lit≤ tt }
+one_thread : IsWithin (sizes (empty 1 1))
+one_thread = record { some = lit< tt; few = lit≤ tt; small = lit≤ tt; opens = lit≤ tt }
 
 is_schedule : (e : Example) → IsSchedule (plan_of e)
 is_schedule FailedTries = record { header = two_threads; lines = search rules; few = lit≤ tt }

@@ -2,43 +2,44 @@
 use Rattle.std.specs.Prelude.{◌≡◌, ℕ, List, map}
 use Rattle.lset_words.specs.declared.history.CallRecord.{CallRecord}
 use Rattle.lset_words.specs.declared.history.Placed.{Placed}
+use Rattle.lset_words.specs.Words.{Opening}
 use Rattle.lset_words.specs.Log.{calls_at, history_at}
 use Rattle.lset_words.specs.Placement.{IsPlacement}
 use Rattle.lset_words.specs.History.{IsHistory, Linearizes, answered}
-use Rattle.lset_words.specs.SequentialSet.{empty_set, set_left}
+use Rattle.lset_words.specs.SequentialSet.{opening_set, set_left}
 use Rattle.lset_steps.specs.declared.Event.{Event}
 use Rattle.lset_steps.specs.Steps.{Table, Run, log_of}
 use Rattle.lset_steps.specs.Chain.{contents_of, counts_of}
 use Rattle.lset_steps.specs.Laws.{views}
 use Rattle.lset_steps.specs.Worlds.{IsContent}
 
--- the keys that an order of the calls of a history leaves, from the empty set
-abbrev pub keys_left : ℕ → List CallRecord → List Placed → List ℕ
-keys_left threads history order = (set_left (empty_set threads) (map (answered history) order)).keys
+-- the keys that an order of the calls of a history leaves, from the opening set
+abbrev pub keys_left : Opening → List CallRecord → List Placed → List ℕ
+keys_left op history order = (set_left (opening_set op) (map (answered history) order)).keys
 
 -- the history of the first k events of a run
-abbrev pub history_of : Table → ℕ → ℕ → (ℕ → Event) → ℕ → List CallRecord
-history_of T threads quota es k = history_at (log_of T threads quota es) k
+abbrev pub history_of : Table → Opening → (ℕ → Event) → ℕ → List CallRecord
+history_of T op es k = history_at (log_of T op es) k
 
 -- the order is [Placement], by the contents of the worlds of the run and its threads' counts of successful adds
-abbrev pub IsPlacedBy : Table → ℕ → ℕ → (ℕ → Event) → ℕ → List Placed → Type 0
-IsPlacedBy T threads quota es k order = IsPlacement quota k (calls_at (log_of T threads quota es) k)
-    (contents_of (views T threads quota es)) (counts_of (views T threads quota es)) order
+abbrev pub IsPlacedBy : Table → Opening → (ℕ → Event) → ℕ → List Placed → Type 0
+IsPlacedBy T op es k order = IsPlacement op.quota k (calls_at (log_of T op es) k)
+    (contents_of (views T op es)) (counts_of (views T op es)) order
 
 -- ONE ORDER OF CALLS explains the first `last` events of a run:
-pub record ExplainsRun (T : Table) (threads quota : ℕ) (es : ℕ → Event) (last : ℕ) (order : List Placed) : Type 0 where
+pub record ExplainsRun (T : Table) (op : Opening) (es : ℕ → Event) (last : ℕ) (order : List Placed) : Type 0 where
   -- what the run shows is a history,
-  pub history : IsHistory threads (history_of T threads quota es last)
-  -- the order linearizes it from the empty set,
-  pub linearizes : Linearizes quota (empty_set threads) (history_of T threads quota es last) order
+  pub history : IsHistory op.threads (history_of T op es last)
+  -- the order linearizes it from the opening set,
+  pub linearizes : Linearizes op.quota (opening_set op) (history_of T op es last) order
   -- the keys that it leaves are the content of the last world, rising,
-  pub content : IsContent (views T threads quota es last) (keys_left threads (history_of T threads quota es last) order)
+  pub content : IsContent (views T op es last) (keys_left op (history_of T op es last) order)
   -- it is the run's placement,
-  pub placement : IsPlacedBy T threads quota es last order
+  pub placement : IsPlacedBy T op es last order
   -- and no other order is.
-  pub alone : (other : List Placed) → IsPlacedBy T threads quota es last other → other ≡ order
+  pub alone : (other : List Placed) → IsPlacedBy T op es last other → other ≡ order
 
 -- THE HEADLINE: every run has such an order.
 abbrev pub RunsAreLinearizable : Table → Type 0
-RunsAreLinearizable T = (threads quota last : ℕ) (es : ℕ → Event) → Run T threads quota es last
-    → (order : List Placed) × ExplainsRun T threads quota es last order
+RunsAreLinearizable T = (op : Opening) (last : ℕ) (es : ℕ → Event) → Run T op es last
+    → (order : List Placed) × ExplainsRun T op es last order

@@ -12,6 +12,7 @@ use Rattle.lset_words.proofs.Numbers.{equal_test, unequal_test, same_or_not}
 use Rattle.std.proofs.lemmas.Bool.{cases_Bool}
 use Rattle.lset_history.proofs.Lists.{Pairs, SomeOf, all_imply, all_map, pairs_map, some_imply, some_of_all, some_map}
 use Rattle.lset_history.proofs.Calls.{Run, ChangedBy, ReplyOf, OpenAt, EndedBy, Traced, Later, IsOpenOf, ChangesAt, Calls, open_is, call_is, begun_is, changed_is, stays_stepped, changed_on, after_beginning}
+use Rattle.lset_words.specs.Words.{Opening}
 
 -- a step of a thread, as the account tells of it
 pub record Stepping (r : Run) (k t : ℕ) (change : Option Change) (reply : Option Reply) : Type 0 where
@@ -287,15 +288,15 @@ abbrev pub run_of : ℕ → ℕ → Log → Contents → Counts → Run
 run_of threads quota log contents counts =
     record { threads = threads; quota = quota; log = log; contents = contents; counts = counts }
 
-pub calls_of : (threads quota last : ℕ) (log : Log) (contents : Contents) (counts : Counts)
-    → Account threads quota last log contents counts
-    → (k : ℕ) → k ≤ last → Calls (run_of threads quota log contents counts) k (calls_at log k)
-calls_of threads quota last log contents counts a zero l = record {
+pub calls_of : (op : Opening) (last : ℕ) (log : Log) (contents : Contents) (counts : Counts)
+    → Account op last log contents counts
+    → (k : ℕ) → k ≤ last → Calls (run_of op.threads op.quota log contents counts) k (calls_at log k)
+calls_of op last log contents counts a zero l = record {
   each = tt;
   pairs = tt;
   opens = λ t o. absurd (cc);
   changers = λ j t change reply m e. absurd (omega arith);
 }
-calls_of threads quota last log contents counts a (suc k) l =
-    calls_on (run_of threads quota log contents counts) k (log k) refl (a.enters k (omega arith))
-    (calls_of threads quota last log contents counts a k (omega arith))
+calls_of op last log contents counts a (suc k) l =
+    calls_on (run_of op.threads op.quota log contents counts) k (log k) refl (a.enters k (omega arith))
+    (calls_of op last log contents counts a k (omega arith))

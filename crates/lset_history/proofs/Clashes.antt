@@ -7,7 +7,7 @@ use Rattle.std.proofs.lemmas.List.{get_or_default, take-take, get_or-take, lengt
 use Rattle.lset_words.specs.declared.Reply.{Reply}
 use Rattle.lset_words.specs.declared.history.CallRecord.{CallRecord}
 use Rattle.lset_words.specs.declared.history.Placed.{Placed}
-use Rattle.lset_words.specs.SequentialSet.{SetState, empty_set, reply_to}
+use Rattle.lset_words.specs.SequentialSet.{SetState, opening_set, reply_to}
 use Rattle.lset_words.specs.History.{call_numbered, no_call, IsHistory, Precedes}
 use Rattle.lset_history.specs.History.{HistoryValue}
 use Rattle.lset_history.specs.Faults.{Passes, RefusesFirst, IsUnknown, IsTwice, HasWrongReply, place_at, placed_call, set_left_by}
@@ -61,14 +61,14 @@ replies_before quota s calls order i right k low w =
 
 -- A CALL WITH ANOTHER REPLY
 pub wrong_here : (h : HistoryValue) (order : List Placed) (call index : ℕ) → Passes (IsTwice order) order
-    → RefusesFirst (HasWrongReply h.quota (empty_set h.threads) h.calls order) order call
+    → RefusesFirst (HasWrongReply h.opening.quota (opening_set h.opening) h.calls order) order call
     → index < length order → (place_at order index).call ≡ call
     → ((k : ℕ) → 0 ≤ k → k < index → (place_at order k).call ≡ call → ⊥)
-    → HasWrongReply h.quota (empty_set h.threads) h.calls order index
-    × ((k : ℕ) → k < index → HasWrongReply h.quota (empty_set h.threads) h.calls order k → ⊥)
+    → HasWrongReply h.opening.quota (opening_set h.opening) h.calls order index
+    × ((k : ℕ) → k < index → HasWrongReply h.opening.quota (opening_set h.opening) h.calls order k → ⊥)
 wrong_here h order call index once w inside stands first =
-    let P : ℕ → Type 0 = λ n. HasWrongReply h.quota (empty_set h.threads) h.calls order n
-    × ((k : ℕ) → k < n → HasWrongReply h.quota (empty_set h.threads) h.calls order k → ⊥) in
+    let P : ℕ → Type 0 = λ n. HasWrongReply h.opening.quota (opening_set h.opening) h.calls order n
+    × ((k : ℕ) → k < n → HasWrongReply h.opening.quota (opening_set h.opening) h.calls order k → ⊥) in
     subst P (same_place order call w.place index once w.inside w.names inside stands first) (w.refused, w.first)
 
 -- the call that stands at the index, as it is read
@@ -101,9 +101,9 @@ pub answered_otherwise : (h : HistoryValue) (order : List Placed) (calls : List 
     (keys : List ℕ) (answer : Reply)
     → calls ≡ h.calls → HasKnownCalls h.calls order → index < length order → (place_at order index).call ≡ call
     → IfSome (get_or calls call d).ended (λ (end : ℕ × Reply). end.1 ≡ (place_at order index).reply)
-    → HasWrongReply h.quota (empty_set h.threads) h.calls order index
+    → HasWrongReply h.opening.quota (opening_set h.opening) h.calls order index
     → keys ≡ (set_before h order index).keys
-    → answer ≡ reply_to h.quota (set_before h order index) (get_or calls call d).thread (get_or calls call d).call
+    → answer ≡ reply_to h.opening.quota (set_before h order index) (get_or calls call d).thread (get_or calls call d).call
     → AnsweredOtherwise h order call (index + 1) (place_at order index).reply keys answer
 answered_otherwise h order calls call index d keys answer e known inside stands recorded wrong keys_are answer_is =
     let N : ℕ → Type 0 = λ n. n < length h.calls in
@@ -111,11 +111,11 @@ answered_otherwise h order calls call index d keys answer e known inside stands 
     let before = set_before h order index in
     let low : call < length h.calls = subst N stands (known index (place_at [] 0) inside) in
     let read = read_call h calls call d e low in
-    let is : answer ≡ reply_to h.quota before (call_numbered h.calls call).thread (call_numbered h.calls call).call =
-    answer_is ∙ ap (λ (x : CallRecord). reply_to h.quota before x.thread x.call) read in
+    let is : answer ≡ reply_to h.opening.quota before (call_numbered h.calls call).thread (call_numbered h.calls call).call =
+    answer_is ∙ ap (λ (x : CallRecord). reply_to h.opening.quota before x.thread x.call) read in
     let W : ℕ → Type 0 = λ n.
     IsSomeAnd (call_numbered h.calls n).ended (λ (end : ℕ × Reply). end.1 ≢ says)
-    ⊎ (reply_to h.quota before (call_numbered h.calls n).thread (call_numbered h.calls n).call ≢ says) in
+    ⊎ (reply_to h.opening.quota before (call_numbered h.calls n).thread (call_numbered h.calls n).call ≢ says) in
     let R : CallRecord → Type 0 = λ x. IfSome x.ended (λ (end : ℕ × Reply). end.1 ≡ says) in
     record {
       index = index;
@@ -126,7 +126,7 @@ answered_otherwise h order calls call index d keys answer e known inside stands 
       differ = ⊎_elim
           (λ (w : IsSomeAnd (call_numbered h.calls call).ended (λ (end : ℕ × Reply). end.1 ≢ says)).
           absurd (never_other _ says (subst R read recorded) w))
-          (λ (w : reply_to h.quota before (call_numbered h.calls call).thread (call_numbered h.calls call).call ≢ says).
+          (λ (w : reply_to h.opening.quota before (call_numbered h.calls call).thread (call_numbered h.calls call).call ≢ says).
           λ same. w (sym is ∙ same))
           (subst W stands wrong);
       recorded = subst R read recorded;
@@ -134,10 +134,10 @@ answered_otherwise h order calls call index d keys answer e known inside stands 
 
 -- the thread of a known call is one of the set
 pub thread_below : (h : HistoryValue) (calls : List CallRecord) (call threads : ℕ) (d : CallRecord) → calls ≡ h.calls
-    → IsHistory h.threads h.calls → call < length calls → threads ≡ h.threads → (get_or calls call d).thread < threads
+    → IsHistory h.opening.threads h.calls → call < length calls → threads ≡ h.opening.threads → (get_or calls call d).thread < threads
 thread_below h calls call threads d e history low same =
-    let P : List CallRecord → Type 0 = λ xs. All (IsCall h.threads) xs in
-    let own : IsCall h.threads (get_or calls call d) = subst P (sym e) (calls_of h.threads h.calls history) call d low in
+    let P : List CallRecord → Type 0 = λ xs. All (IsCall h.opening.threads) xs in
+    let own : IsCall h.opening.threads (get_or calls call d) = subst P (sym e) (calls_of h.opening.threads h.calls history) call d low in
     rw same own.of_a_thread
 
 -- A CALL BEFORE ONE THAT PRECEDES IT

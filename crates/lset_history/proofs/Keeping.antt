@@ -2,7 +2,7 @@
 use Rattle.std.proofs.Common.{◌≡◌, ℕ, suc, zero, ◌<◌, ◌≤◌, ◌^◌, ◌≢◌, ◌==◌, ◌&&◌, ◌||◌, Bool, true, false, List, [], ◌∷◌, ◌++◌, length, take, get_or, ◌+◌, max, add-one, Option, Some, None, is_none, is_some, refl, sym, ap, ◌∙◌, subst, arith, ⊎_elim, inl, inr, ◌⊎◌, replicate, length-append}
 use Rattle.std.proofs.Math.Bool.{or-false}
 use Rattle.lset_words.specs.declared.TheConstants.{MOST_THREADS}
-use Rattle.lset_words.specs.Words.{IsWithin}
+use Rattle.lset_words.specs.Words.{Opening, Opens}
 use Rattle.std.specs.List.{All, list_any}
 use Rattle.std.specs.Option.{IfSome, IsSomeAnd}
 use Rattle.std.proofs.Math.ListN.{set}
@@ -98,10 +98,10 @@ none_is : (o : Option (ℕ × Reply)) → o ≡ None → is_none o ≡ true
 none_is o e = rw e refl
 
 -- A CALL BEGINS
-call_begins : (h : HistoryValue) (x : CallRecord) → IsHistory h.threads h.calls → MayBegin h x.thread x.begun → x.ended ≡ None
-    → IsHistory h.threads (h.calls ++ x ∷ [])
+call_begins : (h : HistoryValue) (x : CallRecord) → IsHistory h.opening.threads h.calls → MayBegin h x.thread x.begun → x.ended ≡ None
+    → IsHistory h.opening.threads (h.calls ++ x ∷ [])
 call_begins h x history may e =
-    history_begun h.threads h.calls x history
+    history_begun h.opening.threads h.calls x history
     (record { of_a_thread = may.of_a_thread; counted = may.later.counted; ends_later = no_end x.ended _ e })
     (λ k d b.
     let begun : (get_or h.calls k d).begun < x.begun = may.later.begins k d b in
@@ -136,7 +136,7 @@ others_begun calls x t other =
 
 -- what the fields tell of the call that is to begin
 pub may_begin : (h : HistoryValue) (busy : List Bool) (latest thread at : ℕ)
-    → IsKept h busy latest → thread < h.threads → get_or busy thread false ≡ false → latest < at → MayBegin h thread at
+    → IsKept h busy latest → thread < h.opening.threads → get_or busy thread false ≡ false → latest < at → MayBegin h thread at
 may_begin h busy latest thread at kept low idle above = record {
   of_a_thread = low;
   idle = sym (kept.busy_if_open thread low) ∙ idle;
@@ -151,7 +151,7 @@ pub kept_begun : (h : HistoryValue) (busy : List Bool) (latest : ℕ) (x : CallR
     → IsKept h busy latest → MayBegin h x.thread x.begun → latest < x.begun → x.begun < 2 ^ 32 → x.ended ≡ None
     → IsKept (with_begun h x) (set busy x.thread true) x.begun
 kept_begun h busy latest x kept may above fits e = record {
-  within = kept.within;
+  opens = kept.opens;
   history = call_begins h x kept.history may e;
   flags = let l = length-set busy x.thread true in let f = kept.flags in omega arith;
   busy_if_open = λ t low. ⊎_elim
@@ -165,7 +165,7 @@ kept_begun h busy latest x kept may above fits e = record {
   fits = fits;
 }
   where
-    here : (t : ℕ) → t < h.threads → t ≡ x.thread → x.thread < length busy
+    here : (t : ℕ) → t < h.opening.threads → t ≡ x.thread → x.thread < length busy
     here t low same = let f = kept.flags in omega arith
 
 -- A CALL ENDS
@@ -217,12 +217,12 @@ pub kept_ended : (h : HistoryValue) (busy : List Bool) (latest n at : ℕ) (repl
     → IsKept h busy latest → IsOpen h.calls n → latest < at → at < 2 ^ 32
     → IsKept (with_ended h n (at, reply)) (set busy (call_numbered h.calls n).thread false) at
 kept_ended h busy latest n at reply kept still above fits = record {
-  within = kept.within;
-  history = history_ended h.threads h.calls n at reply kept.history still (is_later h.calls at over);
+  opens = kept.opens;
+  history = history_ended h.opening.threads h.calls n at reply kept.history still (is_later h.calls at over);
   flags = let l = length-set busy x.thread false in let f = kept.flags in omega arith;
   busy_if_open = λ t low. ⊎_elim
       (λ (same : t ≡ x.thread). read_written busy x.thread t false false same (here t low same)
-      ∙ sym (idle_ended h.threads h.calls n t at reply kept.history still same))
+      ∙ sym (idle_ended h.opening.threads h.calls n t at reply kept.history still same))
       (λ (other : t ≢ x.thread). get_or-set_other busy x.thread t false false other ∙ kept.busy_if_open t low
       ∙ sym (others_ended h.calls n t at reply still.known other))
       (cases_eq t x.thread);
@@ -237,15 +237,15 @@ kept_ended h busy latest n at reply kept still above fits = record {
     over : latest_moment h.calls < at
     over = let l = kept.latest_is in omega arith
 
-    here : (t : ℕ) → t < h.threads → t ≡ x.thread → x.thread < length busy
+    here : (t : ℕ) → t < h.opening.threads → t ≡ x.thread → x.thread < length busy
     here t low same = let f = kept.flags in omega arith
 
 -- the thread of a call is one of the threads that a history may have
 thread_of_call : (h : HistoryValue) (busy : List Bool) (latest n : ℕ) → IsKept h busy latest → n < length h.calls
     → (call_numbered h.calls n).thread < MOST_THREADS
 thread_of_call h busy latest n kept inside =
-    let c : IsCall h.threads (call_numbered h.calls n) = calls_of h.threads h.calls kept.history n no_call inside in
-    let few = kept.within.few in
+    let c : IsCall h.opening.threads (call_numbered h.calls n) = calls_of h.opening.threads h.calls kept.history n no_call inside in
+    let few = kept.opens.within.few in
     let low = c.of_a_thread in
     omega arith
 
@@ -287,13 +287,12 @@ thread_read h busy latest n x kept inside e =
     let P : CallRecord → Type 0 = λ y. y.thread < MOST_THREADS in subst P (sym e) (thread_of_call h busy latest n kept inside)
 
 -- a history without calls
-pub kept_new : (threads quota : ℕ) → IsWithin (record { threads = threads; quota = quota })
-    → IsKept (record { threads = threads; quota = quota; calls = [] }) (replicate MOST_THREADS false) 0
-kept_new threads quota w = record {
-  within = w;
+pub kept_new : (op : Opening) → Opens op → IsKept (record { opening = op; calls = [] }) (replicate MOST_THREADS false) 0
+kept_new op o = record {
+  opens = o;
   history = tt;
-  flags = let f = w.few in omega arith;
-  busy_if_open = λ t low. let f = w.few in get_or-replicate MOST_THREADS t false false (omega arith);
+  flags = let f = o.within.few in omega arith;
+  busy_if_open = λ t low. let f = o.within.few in get_or-replicate MOST_THREADS t false false (omega arith);
   latest_is = refl;
   numbered = omega arith;
   fits = omega arith;
@@ -358,22 +357,22 @@ few_calls threads (x ∷ xs) h =
     begins_below (x ∷ xs) (suc (latest_moment (x ∷ xs))) (omega arith) n no_call (omega arith) in
     omega arith
 
-pub kept_of : (threads quota : ℕ) (calls : List CallRecord) (busy : List Bool) (latest n : ℕ)
-    → IsWithin (record { threads = threads; quota = quota }) → IsHistory threads calls → length busy ≡ MOST_THREADS
+pub kept_of : (op : Opening) (calls : List CallRecord) (busy : List Bool) (latest n : ℕ)
+    → Opens op → IsHistory op.threads calls → length busy ≡ MOST_THREADS
     → length calls ≤ n → latest ≡ latest_moment (take n calls) → TellsOpen busy (take n calls) → latest < 2 ^ 32
-    → IsKept (record { threads = threads; quota = quota; calls = calls }) busy latest
-kept_of threads quota calls busy latest n w h long all e tells fits =
+    → IsKept (record { opening = op; calls = calls }) busy latest
+kept_of op calls busy latest n o h long all e tells fits =
     let whole = take_all n calls all in
     let P : List CallRecord → Type 0 = TellsOpen busy in
     let own : TellsOpen busy calls = subst P whole tells in
     let moment : latest ≡ latest_moment calls = e ∙ ap latest_moment whole in
     record {
-      within = w;
+      opens = o;
       history = h;
-      flags = let f = w.few in omega arith;
-      busy_if_open = λ t low. let f = w.few in own t (omega arith);
+      flags = let f = o.within.few in omega arith;
+      busy_if_open = λ t low. let f = o.within.few in own t (omega arith);
       latest_is = moment;
-      numbered = let few = few_calls threads calls h in omega arith;
+      numbered = let few = few_calls op.threads calls h in omega arith;
       fits = fits;
     }
 

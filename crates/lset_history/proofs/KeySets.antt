@@ -18,7 +18,7 @@ less k x h = sym (nat_cmp_is k x Less h)
 equal : (k x : ℕ) → k ≡ x → nat_cmp k x ≡ Equal
 equal k x h = sym (nat_cmp_is k x Equal h)
 
-greater : (k x : ℕ) → x < k → nat_cmp k x ≡ Greater
+pub greater : (k x : ℕ) → x < k → nat_cmp k x ≡ Greater
 greater k x h = sym (nat_cmp_is k x Greater h)
 
 pub same_test : (k x : ℕ) → (x == k) ≡ is_eq (nat_cmp k x)

@@ -28,3 +28,4 @@ pub mod FirstPoints
 pub mod Clashes
 pub mod Raises
 pub mod CeilingTests
+pub mod OpeningKeys

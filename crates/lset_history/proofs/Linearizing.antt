@@ -8,7 +8,7 @@ use Rattle.std.proofs.lemmas.List.Elements.{All-from_recursion}
 use Rattle.lset_words.specs.declared.Reply.{Reply}
 use Rattle.lset_words.specs.declared.history.CallRecord.{CallRecord}
 use Rattle.lset_words.specs.declared.history.Placed.{Placed}
-use Rattle.lset_words.specs.SequentialSet.{Answered, empty_set, IsLegal, set_left}
+use Rattle.lset_words.specs.SequentialSet.{Answered, opening_set, IsLegal, set_left}
 use Rattle.lset_words.specs.History.{call_numbered, Precedes, answered, Linearizes}
 use Rattle.lset_words.specs.Log.{Log, Change, TracedCall, calls_at, history_at, record_of}
 use Rattle.lset_words.specs.Log.Entry.{stepped}
@@ -22,17 +22,18 @@ use Rattle.lset_history.proofs.States.{Shows, set_at, shows_at}
 use Rattle.lset_history.proofs.Standings.{Stood, Follows, IsStanding, During, during, ended_place, EndedPlace, reading, stood, follow, has_place}
 use Rattle.lset_history.proofs.Order.{Ahead, ahead, all_by_moments, some_by_moments, Leads, Stays, order_leads}
 use Rattle.lset_history.proofs.AtOneMoment.{answered_of, reading_stays, none_changes, turns}
+use Rattle.lset_words.specs.Words.{Opening}
 
 -- the history does not have the later one first
 abbrev InTime : List CallRecord → Placed → Placed → Type 0
 InTime history p q = Precedes (call_numbered history q.call) (call_numbered history p.call) → ⊥
 
-module _ (threads quota last : ℕ) (log : Log) (contents : Contents) (counts : Counts)
-    (a : Account threads quota last log contents counts) (places : List (Option ℕ))
+module _ (op : Opening) (last : ℕ) (log : Log) (contents : Contents) (counts : Counts)
+    (a : Account op last log contents counts) (places : List (Option ℕ))
     (stands : (i : ℕ) → i < length (calls_at log last)
-    → StandsAt quota contents counts (traced_at (calls_at log last) i) (place_at places i)) where
+    → StandsAt op.quota contents counts (traced_at (calls_at log last) i) (place_at places i)) where
   abbrev r : Run
-  r = run_of threads quota log contents counts
+  r = run_of op.threads op.quota log contents counts
 
   abbrev calls : List TracedCall
   calls = calls_at log last
@@ -50,7 +51,7 @@ module _ (threads quota last : ℕ) (log : Log) (contents : Contents) (counts : 
   Stands = Stood r last calls places
 
   told : Calls r last calls
-  told = calls_of threads quota last log contents counts a last (omega arith)
+  told = calls_of op last log contents counts a last (omega arith)
 
   all_stood : AllByRecursion Stands ss
   all_stood = stood r last calls places told stands
@@ -61,8 +62,8 @@ module _ (threads quota last : ℕ) (log : Log) (contents : Contents) (counts : 
   placed_stood : AllByRecursion Stands in_order
   placed_stood = all_by_moments Stands ss all_stood last
 
-  shown : (k : ℕ) → k ≤ last → Shows threads (contents k) (counts k) (set_at threads log k)
-  shown = shows_at threads quota last log contents counts a
+  shown : (k : ℕ) → k ≤ last → Shows op.threads (contents k) (counts k) (set_at op log k)
+  shown = shows_at op last log contents counts a
 
   -- the history's calls
   record_is : (i : ℕ) → call_numbered history i ≡ record_of (traced_at calls i)
@@ -84,48 +85,48 @@ module _ (threads quota last : ℕ) (log : Log) (contents : Contents) (counts : 
       let o : (i : ℕ) × (i < length calls) × ChangesAt (suc j) (traced_at calls i) =
       some_at (ChangesAt (suc j)) calls no_traced (told.changers j t change reply l e) in
       let p : place_at places o.0 ≡ Some (suc j) =
-      subst (λ z. StandsBy quota contents counts (traced_at calls o.0) z (traced_at calls o.0).ended
+      subst (λ z. StandsBy op.quota contents counts (traced_at calls o.0) z (traced_at calls o.0).ended
       (place_at places o.0)) o.2 (stands o.0 o.1) in
       some_imply (IsStanding o.0 (traced_at calls o.0) (suc j)) (λ q. (makes_change q ≡ true) × (q.moment ≡ suc j))
       (λ q h. (let c : q.traced.changed ≡ Some (suc j) = ap (λ (x : TracedCall). x.changed) h.1 ∙ o.2 in rw c refl, h.2))
       ss (has_place r last calls places told stands o.0 (suc j) o.1 p)
 
-  reads_stay : AllByRecursion (λ x. makes_change x ≡ false → Stays quota answered_of (set_at threads log x.moment) x) ss
-  reads_stay = all_imply Stands (λ x. makes_change x ≡ false → Stays quota answered_of (set_at threads log x.moment) x) each
+  reads_stay : AllByRecursion (λ x. makes_change x ≡ false → Stays op.quota answered_of (set_at op log x.moment) x) ss
+  reads_stay = all_imply Stands (λ x. makes_change x ≡ false → Stays op.quota answered_of (set_at op log x.moment) x) each
       ss all_stood
     where
-      each : (x : Standing) → Stands x → makes_change x ≡ false → Stays quota answered_of (set_at threads log x.moment) x
+      each : (x : Standing) → Stands x → makes_change x ≡ false → Stays op.quota answered_of (set_at op log x.moment) x
       each x h f =
           let d : During last x.traced.begun x.moment x.traced.ended = during r last calls places x h in
-          let w : Shows threads (contents x.moment) (counts x.moment) (set_at threads log x.moment) = shown x.moment d.upto in
-          reading_stays r x (set_at threads log x.moment) (reading r last calls places x h f) w.keys w.rising
+          let w : Shows op.threads (contents x.moment) (counts x.moment) (set_at op log x.moment) = shown x.moment d.upto in
+          reading_stays r x (set_at op log x.moment) (reading r last calls places x h f) w.keys w.rising
           (w.numbers x.traced.thread h.trace.of_a_thread)
 
-  at_first : Leads quota answered_of (empty_set threads) (set_at threads log 0) (filter makes_change (at_moment 0 ss))
-  at_first = subst (Leads quota answered_of (empty_set threads) (empty_set threads))
+  at_first : Leads op.quota answered_of (opening_set op) (set_at op log 0) (filter makes_change (at_moment 0 ss))
+  at_first = subst (Leads op.quota answered_of (opening_set op) (opening_set op))
       (sym (none_changes r last calls places ss all_stood 0 (λ s c m. let b : s.moment ≡ suc c.change.before =
       c.change.is in absurd (omega arith))))
       (tt, refl)
 
   at_next : (j : ℕ) → j < last
-      → Leads quota answered_of (set_at threads log j) (set_at threads log (suc j)) (filter makes_change (at_moment (suc j) ss))
-  at_next j l = turns r last calls places ss all_stood j (log j) (set_at threads log j) followed refl (a.enters j l)
+      → Leads op.quota answered_of (set_at op log j) (set_at op log (suc j)) (filter makes_change (at_moment (suc j) ss))
+  at_next j l = turns r last calls places ss all_stood j (log j) (set_at op log j) followed refl (a.enters j l)
       (shown j (omega arith))
       (λ t change reply e. changer_stands j t change reply l e)
 
-  led : Leads quota answered_of (empty_set threads) (set_at threads log last) in_order
-  led = order_leads quota answered_of (set_at threads log) ss reads_stay (empty_set threads) last at_first at_next last
+  led : Leads op.quota answered_of (opening_set op) (set_at op log last) in_order
+  led = order_leads op.quota answered_of (set_at op log) ss reads_stay (opening_set op) last at_first at_next last
       (omega arith)
 
   answers_are : map (answered history) (map placed_of in_order) ≡ map answered_of in_order
   answers_are = map_twice placed_of (answered history) answered_of in_order
       (all_imply Stands (λ s. answered history (placed_of s) ≡ answered_of s) answered_is in_order placed_stood)
 
-  is_legal : IsLegal quota (empty_set threads) (map (answered history) (map placed_of in_order))
-  is_legal = subst (IsLegal quota (empty_set threads)) (sym answers_are) led.0
+  is_legal : IsLegal op.quota (opening_set op) (map (answered history) (map placed_of in_order))
+  is_legal = subst (IsLegal op.quota (opening_set op)) (sym answers_are) led.0
 
-  leaves : set_left (empty_set threads) (map (answered history) (map placed_of in_order)) ≡ set_at threads log last
-  leaves = ap (set_left (empty_set threads)) answers_are ∙ led.1
+  leaves : set_left (opening_set op) (map (answered history) (map placed_of in_order)) ≡ set_at op log last
+  leaves = ap (set_left (opening_set op)) answers_are ∙ led.1
 
   -- ONCE EACH AND IN TIME
   pairs : Pairs Ahead in_order
@@ -198,40 +199,40 @@ module _ (threads quota last : ℕ) (log : Log) (contents : Contents) (counts : 
           let g : reply_by z.traced.changed z.traced.ended ≡ reply = ap (λ (y : TracedCall). reply_by y.changed y.ended) f ∙ q in
           rw (e, g) refl
 
-  placed_linearizes : Linearizes quota (empty_set threads) history (map placed_of in_order)
+  placed_linearizes : Linearizes op.quota (opening_set op) history (map placed_of in_order)
   placed_linearizes = record { known = is_known; once = is_once; ended = is_ended; legal = is_legal; in_time = is_in_time }
 
 -- THE THEOREM
-pub linearizes : (threads quota last : ℕ) (log : Log) (contents : Contents) (counts : Counts) (order : List Placed)
-    → Account threads quota last log contents counts → IsPlacement quota last (calls_at log last) contents counts order
-    → Linearizes quota (empty_set threads) (history_at log last) order
-linearizes threads quota last log contents counts order a p =
-    subst (Linearizes quota (empty_set threads) (history_at log last)) (sym p.in_order)
-    (placed_linearizes threads quota last log contents counts a p.places p.stands)
+pub linearizes : (op : Opening) (last : ℕ) (log : Log) (contents : Contents) (counts : Counts) (order : List Placed)
+    → Account op last log contents counts → IsPlacement op.quota last (calls_at log last) contents counts order
+    → Linearizes op.quota (opening_set op) (history_at log last) order
+linearizes op last log contents counts order a p =
+    subst (Linearizes op.quota (opening_set op) (history_at log last)) (sym p.in_order)
+    (placed_linearizes op last log contents counts a p.places p.stands)
 
 -- the set that it leaves shows the last content and counts
-pub leaves_set : (threads quota last : ℕ) (log : Log) (contents : Contents) (counts : Counts) (order : List Placed)
-    → Account threads quota last log contents counts → IsPlacement quota last (calls_at log last) contents counts order
-    → Shows threads (contents last) (counts last) (set_left (empty_set threads) (map (answered (history_at log last)) order))
-leaves_set threads quota last log contents counts order a p =
-    let e : set_left (empty_set threads) (map (answered (history_at log last))
+pub leaves_set : (op : Opening) (last : ℕ) (log : Log) (contents : Contents) (counts : Counts) (order : List Placed)
+    → Account op last log contents counts → IsPlacement op.quota last (calls_at log last) contents counts order
+    → Shows op.threads (contents last) (counts last) (set_left (opening_set op) (map (answered (history_at log last)) order))
+leaves_set op last log contents counts order a p =
+    let e : set_left (opening_set op) (map (answered (history_at log last))
     (map placed_of (by_moments last (standing 0 (calls_at log last) p.places))))
-    ≡ set_at threads log last = leaves threads quota last log contents counts a p.places p.stands in
-    subst (λ z. Shows threads (contents last) (counts last) (set_left (empty_set threads)
+    ≡ set_at op log last = leaves op last log contents counts a p.places p.stands in
+    subst (λ z. Shows op.threads (contents last) (counts last) (set_left (opening_set op)
     (map (answered (history_at log last)) z))) (sym p.in_order)
-    (subst (Shows threads (contents last) (counts last)) (sym e) (shows_at threads quota last log contents counts a last
+    (subst (Shows op.threads (contents last) (counts last)) (sym e) (shows_at op last log contents counts a last
     (omega arith)))
 
 -- and its keys are the rising list of the last content
-pub leaves_keys : (threads quota last : ℕ) (log : Log) (contents : Contents) (counts : Counts) (order : List Placed)
-    → Account threads quota last log contents counts → IsPlacement quota last (calls_at log last) contents counts order
+pub leaves_keys : (op : Opening) (last : ℕ) (log : Log) (contents : Contents) (counts : Counts) (order : List Placed)
+    → Account op last log contents counts → IsPlacement op.quota last (calls_at log last) contents counts order
     → (keys : List ℕ) → IsStrictlyIncreasing keys
     → ((j : ℕ) → (contents last j → Contains keys j) × (Contains keys j → contents last j))
-    → (set_left (empty_set threads) (map (answered (history_at log last)) order)).keys ≡ keys
-leaves_keys threads quota last log contents counts order a p keys up same =
-    let w : Shows threads (contents last) (counts last) (set_left (empty_set threads)
+    → (set_left (opening_set op) (map (answered (history_at log last)) order)).keys ≡ keys
+leaves_keys op last log contents counts order a p keys up same =
+    let w : Shows op.threads (contents last) (counts last) (set_left (opening_set op)
     (map (answered (history_at log last)) order)) =
-    leaves_set threads quota last log contents counts order a p in
-    same_rising 0 0 (set_left (empty_set threads) (map (answered (history_at log last)) order)).keys keys w.rising
+    leaves_set op last log contents counts order a p in
+    same_rising 0 0 (set_left (opening_set op) (map (answered (history_at log last)) order)).keys keys w.rising
     (rises_from_increasing keys up)
     (λ k c. (same k).0 ((w.keys k).1 c)) (λ k c. (w.keys k).0 ((same k).1 c))

@@ -14,7 +14,7 @@ use Rattle.std.proofs.lemmas.List.{get_or_push, get_or_append_left, length_push}
 use Rattle.std.proofs.lemmas.List.Elements.{All-get_or, All-from_get_or, All-push}
 use mathlib.Core.Bool.{cond}
 use Rattle.lset_words.proofs.Numbers.{same_number, same_or_not, unequal_test, if_other}
-use Rattle.lset_history.specs.Changes.{ChangesValue, changes_in, moments_in, moments_of, state_after, is_present_now, with_change, IsLaterThanAll, Rise, IsBounded, AreKept}
+use Rattle.lset_history.specs.Changes.{ChangesValue, changes_in, moments_in, moments_of, state_after, is_present_now, with_change, IsLaterThanAll, Rise, IsBounded, IsListed, AreKept}
 use Rattle.lset_history.proofs.KeySets.{same_test}
 use Rattle.lset_history.proofs.ChangeLaws.{noted_now}
 
@@ -82,12 +82,34 @@ bounded_noted c d key at low bounded is k high =
 all_both : (P Q R : ℕ → Type 0) → ((m : ℕ) → P m → Q m → R m) → (ms : List ℕ) → All P ms → All Q ms → All R ms
 all_both P Q R f ms p q = All-from_get_or R ms 0 (λ i l. f (get_or ms i 0) (All-get_or P ms i 0 l p) (All-get_or Q ms i 0 l q))
 
+-- one more change of a key
+module _ (c d : ChangesValue) (key at : ℕ) (noted : (k : ℕ) → moments_of d k ≡ with_change (moments_of c) key at k) where
+  listed_noted : (keys_at : BTreeMap ℕ ℕ) → (0 < at → get nat_cmp keys_at at ≡ Some key)
+      → ((k : ℕ) → All (IsListed keys_at k) (moments_of c k)) → (k : ℕ) → All (IsListed keys_at k) (moments_of d k)
+  listed_noted keys_at is listed k = subst (λ ms. All (IsListed keys_at k) ms) (sym (noted k)) (by_test (k == key) refl)
+    where
+      by_test : (b : Bool) → (k == key) ≡ b → All (IsListed keys_at k) (if b then moments_of c k ++ at ∷ [] else moments_of c k)
+      by_test true e = All-push (IsListed keys_at k) (moments_of c k) at (listed k) (λ some. is some ∙ ap Some (sym (same_number k key e)))
+      by_test false e = listed k
+
+  present_noted : (present : Bool) (old new : BTreeSet ℕ) → present ≡ not (is_present_now (moments_of c) key)
+      → ((k : ℕ) → k ≢ key → IsTrue (contains nat_cmp old k) → IsTrue (contains nat_cmp new k))
+      → (present ≡ true → IsTrue (contains nat_cmp new key))
+      → ((k : ℕ) → is_present_now (moments_of c) k ≡ true → IsTrue (contains nat_cmp old k))
+      → (k : ℕ) → is_present_now (moments_of d) k ≡ true → IsTrue (contains nat_cmp new k)
+  present_noted present old new turn others own has k now = elim (same_or_not k key) [
+    | inl e ↦ subst (λ z. IsTrue (contains nat_cmp new z)) (sym e) (own (sym (noted_now c d key 0 at noted present turn)
+        ∙ subst (λ z. is_present_now (moments_of d) z ≡ true) e now))
+    | inr n ↦ others k n (has k (ap (λ ms. state_after false ms) (sym (noted k
+        ∙ if_other k key n (moments_of c k ++ at ∷ []) (moments_of c k))) ∙ now))
+  ]
+
 module _ (c : ChangesValue) (key at : ℕ) (later : IsLaterThanAll (moments_of c) at) where
   -- also where one more is put beside the others
   listed_beside : (old new : BTreeMap ℕ ℕ) → UpdatesBy nat_cmp (nat_cmp at) old new (Some key)
-      → ((k : ℕ) → All (λ m. get nat_cmp old m ≡ Some k) (moments_of c k)) → (k : ℕ) → All (λ m. get nat_cmp new m ≡ Some k) (moments_of c k)
-  listed_beside old new up listed k = all_both (λ m. m < at) (λ m. get nat_cmp old m ≡ Some k) (λ m. get nat_cmp new m ≡ Some k)
-      (λ m l e. up.2 m (sym (same_test at m) ∙ unequal_test m at (λ s. omega arith)) ∙ e) (moments_of c k) (later.1 k) (listed k)
+      → ((k : ℕ) → All (IsListed old k) (moments_of c k)) → (k : ℕ) → All (IsListed new k) (moments_of c k)
+  listed_beside old new up listed k = all_both (λ m. m < at) (IsListed old k) (IsListed new k)
+      (λ m l e some. up.2 m (sym (same_test at m) ∙ unequal_test m at (λ s. omega arith)) ∙ e some) (moments_of c k) (later.1 k) (listed k)
 
   pub kept_beside : (old new : BTreeMap ℕ ℕ) (now : BTreeSet ℕ) → UpdatesBy nat_cmp (nat_cmp at) old new (Some key)
       → AreKept c old now → AreKept c new now
@@ -98,47 +120,24 @@ module _ (c : ChangesValue) (key at : ℕ) (later : IsLaterThanAll (moments_of c
     present = kept.present;
   }
 
-  -- one more change
-  module _ (d : ChangesValue) (noted : (k : ℕ) → moments_of d k ≡ with_change (moments_of c) key at k) where
-    listed_noted : (keys_at : BTreeMap ℕ ℕ) → get nat_cmp keys_at at ≡ Some key
-        → ((k : ℕ) → All (λ m. get nat_cmp keys_at m ≡ Some k) (moments_of c k)) → (k : ℕ) → All (λ m. get nat_cmp keys_at m ≡ Some k) (moments_of d k)
-    listed_noted keys_at is listed k = subst (λ ms. All (λ m. get nat_cmp keys_at m ≡ Some k) ms) (sym (noted k)) (by_test (k == key) refl)
-      where
-        by_test : (b : Bool) → (k == key) ≡ b
-            → All (λ m. get nat_cmp keys_at m ≡ Some k) (if b then moments_of c k ++ at ∷ [] else moments_of c k)
-        by_test true e = All-push (λ m. get nat_cmp keys_at m ≡ Some k) (moments_of c k) at (listed k)
-            (is ∙ ap Some (sym (same_number k key e)))
-        by_test false e = listed k
-
-    present_noted : (present : Bool) (old new : BTreeSet ℕ) → present ≡ not (is_present_now (moments_of c) key)
-        → ((k : ℕ) → k ≢ key → IsTrue (contains nat_cmp old k) → IsTrue (contains nat_cmp new k))
-        → (present ≡ true → IsTrue (contains nat_cmp new key))
-        → ((k : ℕ) → is_present_now (moments_of c) k ≡ true → IsTrue (contains nat_cmp old k))
-        → (k : ℕ) → is_present_now (moments_of d) k ≡ true → IsTrue (contains nat_cmp new k)
-    present_noted present old new turn others own has k now = elim (same_or_not k key) [
-      | inl e ↦ subst (λ z. IsTrue (contains nat_cmp new z)) (sym e) (own (sym (noted_now c d key 0 at noted present turn)
-          ∙ subst (λ z. is_present_now (moments_of d) z ≡ true) e now))
-      | inr n ↦ others k n (has k (ap (λ ms. state_after false ms) (sym (noted k
-          ∙ if_other k key n (moments_of c k ++ at ∷ []) (moments_of c k))) ∙ now))
-    ]
-
-    pub kept_noted : (keys_at : BTreeMap ℕ ℕ) (present : Bool) (old new : BTreeSet ℕ) → key < 2 ^ 32 → AreKept c keys_at old
-        → get nat_cmp keys_at at ≡ Some key → present ≡ not (is_present_now (moments_of c) key)
-        → ((k : ℕ) → k ≢ key → IsTrue (contains nat_cmp old k) → IsTrue (contains nat_cmp new k))
-        → (present ≡ true → IsTrue (contains nat_cmp new key)) → AreKept d keys_at new
-    kept_noted keys_at present old new low kept is turn others own = record {
-      rise = rise_noted c d key at kept.rise later noted;
-      bounded = bounded_noted c d key at low kept.bounded noted;
-      listed = listed_noted keys_at is kept.listed;
-      present = present_noted present old new turn others own kept.present;
-    }
+  pub kept_noted : (d : ChangesValue) (noted : (k : ℕ) → moments_of d k ≡ with_change (moments_of c) key at k)
+      (keys_at : BTreeMap ℕ ℕ) (present : Bool) (old new : BTreeSet ℕ) → key < 2 ^ 32 → AreKept c keys_at old
+      → get nat_cmp keys_at at ≡ Some key → present ≡ not (is_present_now (moments_of c) key)
+      → ((k : ℕ) → k ≢ key → IsTrue (contains nat_cmp old k) → IsTrue (contains nat_cmp new k))
+      → (present ≡ true → IsTrue (contains nat_cmp new key)) → AreKept d keys_at new
+  kept_noted d noted keys_at present old new low kept is turn others own = record {
+    rise = rise_noted c d key at kept.rise later noted;
+    bounded = bounded_noted c d key at low kept.bounded noted;
+    listed = listed_noted c d key at noted keys_at (λ some. is) kept.listed;
+    present = present_noted c d key at noted present old new turn others own kept.present;
+  }
 
 -- the same of lists that have as much
 pub kept_listed : (c : ChangesValue) (old new : BTreeMap ℕ ℕ) (now : BTreeSet ℕ) → new.entries ≡ old.entries → AreKept c old now → AreKept c new now
 kept_listed c old new now e kept = record {
   rise = kept.rise;
   bounded = kept.bounded;
-  listed = subst (λ es. (k : ℕ) → All (λ m. lookup (is_at (nat_cmp m)) es ≡ Some k) (moments_of c k)) (sym e) kept.listed;
+  listed = subst (λ es. (k : ℕ) → All (λ m. 0 < m → lookup (is_at (nat_cmp m)) es ≡ Some k) (moments_of c k)) (sym e) kept.listed;
   present = kept.present;
 }
 
@@ -162,6 +161,23 @@ has_after key old new up k has = elim (same_or_not k key) [
 pub others_after : (key : ℕ) (old new : BTreeSet ℕ) → set.UpdatesBy nat_cmp (nat_cmp key) old new false → (k : ℕ) → k ≢ key
     → IsTrue (contains nat_cmp old k) → IsTrue (contains nat_cmp new k)
 others_after key old new up k n has = up.2 k (sym (same_test key k) ∙ unequal_test k key n) ∙ has
+
+-- a key without changes is there from the beginning
+pub kept_opened : (c d : ChangesValue) (key : ℕ) (keys_at : BTreeMap ℕ ℕ) (before now : BTreeSet ℕ) → key < 2 ^ 32 → moments_of c key ≡ []
+    → ((k : ℕ) → moments_of d k ≡ with_change (moments_of c) key 0 k) → Updates nat_cmp before now key true → AreKept c keys_at before
+    → AreKept d keys_at now
+kept_opened c d key keys_at before now low none noted up kept = record {
+  rise = λ k. subst (λ ms. IsStrictlyIncreasing ms) (sym (noted k)) (rises k (k == key) refl);
+  bounded = bounded_noted c d key 0 low kept.bounded noted;
+  listed = listed_noted c d key 0 noted keys_at (λ some. absurd (omega arith)) kept.listed;
+  present = present_noted c d key 0 noted true before now (ap (λ ms. not (state_after false ms)) (sym none))
+      (λ k n has. has_after key before now up k has) (λ e. up.1) kept.present;
+}
+  where
+    rises : (k : ℕ) (b : Bool) → (k == key) ≡ b → IsStrictlyIncreasing (if b then moments_of c k ++ 0 ∷ [] else moments_of c k)
+    rises k true e = subst (λ ms. IsStrictlyIncreasing (ms ++ 0 ∷ []))
+        (sym (ap (λ z. moments_of c z) (same_number k key e) ∙ none)) (λ i l. absurd (omega arith))
+    rises k false e = kept.rise k
 
 -- a value written back with the same items
 abbrev pub shown : List (ℕ × Vec ℕ Global) → List (ℕ × List ℕ)

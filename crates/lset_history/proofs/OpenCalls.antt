@@ -13,6 +13,7 @@ use Rattle.std.proofs.lemmas.Bool.{cases_Bool}
 use Rattle.lset_history.proofs.Lists.{Pairs, pairs_std}
 use Rattle.lset_history.proofs.Calls.{Later, IsOpenOf, Calls, open_is, new_call}
 use Rattle.lset_history.proofs.CallSteps.{step_of, way_of, is_way, run_of, calls_of}
+use Rattle.lset_words.specs.Words.{Opening}
 
 -- how many calls have begun
 pub length_began : (log : Log) (k t : ℕ) (call : Call) → log k ≡ began t call
@@ -108,17 +109,17 @@ number_on log k t (stepped u change (Some reply)) e s h o = elim (same_or_not u 
 ]
 
 -- THE OPEN CALL of a thread is its last one
-pub open_number : (threads quota last : ℕ) (log : Log) (contents : Contents) (counts : Counts)
-    → Account threads quota last log contents counts
+pub open_number : (op : Opening) (last : ℕ) (log : Log) (contents : Contents) (counts : Counts)
+    → Account op last log contents counts
     → (k : ℕ) → k ≤ last → (t : ℕ) → is_open log t k ≡ true → OpenNumber (calls_at log k) t (last_number log t k)
-open_number threads quota last log contents counts a zero l t o = absurd (cc)
-open_number threads quota last log contents counts a (suc k) l t o =
+open_number op last log contents counts a zero l t o = absurd (cc)
+open_number op last log contents counts a (suc k) l t o =
     number_on log k t (log k) refl (λ u call e. shut u call (log k) e (a.enters k (omega arith)))
-    (open_number threads quota last log contents counts a k (omega arith)) o
+    (open_number op last log contents counts a k (omega arith)) o
   where
-    shut : (u : ℕ) (call : Call) (e : Entry) → e ≡ began u call → Enters threads quota log contents counts k e
+    shut : (u : ℕ) (call : Call) (e : Entry) → e ≡ began u call → Enters op.threads op.quota log contents counts k e
         → is_open log u k ≡ false
-    shut u call e f h = (subst (Enters threads quota log contents counts k) f h).idle
+    shut u call e f h = (subst (Enters op.threads op.quota log contents counts k) f h).idle
 
 -- A STEP sets the open call anew, and leaves the others
 open_once : (xs : List TracedCall) (t i j : ℕ) → Pairs Later xs → i < length xs → j < length xs → IsOpenOf t (traced_at xs i)
@@ -159,16 +160,16 @@ map_sets t (suc i) f (x ∷ xs) l u n =
     rw (b, e) refl
 
 -- at one step of an account, over the number of the thread's last call
-pub step_sets : (threads quota last : ℕ) (log : Log) (contents : Contents) (counts : Counts)
-    → Account threads quota last log contents counts
+pub step_sets : (op : Opening) (last : ℕ) (log : Log) (contents : Contents) (counts : Counts)
+    → Account op last log contents counts
     → (k t : ℕ) (change : Option Change) (reply : Option Reply) → k ≤ last → is_open log t k ≡ true
     → calls_after (suc k) (stepped t change reply) (calls_at log k)
     ≡ set (calls_at log k) (last_number log t k) (traced_on (suc k) change reply
     (traced_at (calls_at log k) (last_number log t k)))
-step_sets threads quota last log contents counts a k t change reply l o =
-    let c : Calls (run_of threads quota log contents counts) k (calls_at log k) =
-    calls_of threads quota last log contents counts a k l in
-    let p : OpenNumber (calls_at log k) t (last_number log t k) = open_number threads quota last log contents counts a k l t o in
+step_sets op last log contents counts a k t change reply l o =
+    let c : Calls (run_of op.threads op.quota log contents counts) k (calls_at log k) =
+    calls_of op last log contents counts a k l in
+    let p : OpenNumber (calls_at log k) t (last_number log t k) = open_number op last log contents counts a k l t o in
     map_sets t (last_number log t k) (traced_on (suc k) change reply) (calls_at log k) p.below
     (is_way t (traced_at (calls_at log k) (last_number log t k)) p.open_call.0 p.open_call.1)
     (λ j m n. others (calls_at log k) c.pairs p j m n (cases_Bool (is_under_way t (traced_at (calls_at log k) j))))

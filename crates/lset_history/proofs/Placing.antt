@@ -13,6 +13,7 @@ use Rattle.lset_history.proofs.Calls.{Run, EndedBy, Traced, Calls}
 use Rattle.lset_history.proofs.CallSteps.{run_of, calls_of}
 use Rattle.lset_history.proofs.States.{Shows, set_at, shows_at}
 use Rattle.lset_history.proofs.SetFitting.{fits_or_not}
+use Rattle.lset_words.specs.Words.{Opening}
 
 -- THE LEAST MOMENT of a fact that can be told at each moment
 pub record Least (P : ℕ → Type 0) (first last : ℕ) : Type 0 where
@@ -85,29 +86,29 @@ chosen P (x ∷ xs) h =
     at ps f zero l = h.0.1
     at ps f (suc i) l = f i (omega arith)
 
-pub has_placement : (threads quota last : ℕ) (log : Log) (contents : Contents) (counts : Counts)
-    → Account threads quota last log contents counts
-    → (order : List Placed) × IsPlacement quota last (calls_at log last) contents counts order
-has_placement threads quota last log contents counts a =
-    let r : Run = run_of threads quota log contents counts in
-    let c : Calls r last (calls_at log last) = calls_of threads quota last log contents counts a last (omega arith) in
+pub has_placement : (op : Opening) (last : ℕ) (log : Log) (contents : Contents) (counts : Counts)
+    → Account op last log contents counts
+    → (order : List Placed) × IsPlacement op.quota last (calls_at log last) contents counts order
+has_placement op last log contents counts a =
+    let r : Run = run_of op.threads op.quota log contents counts in
+    let c : Calls r last (calls_at log last) = calls_of op last log contents counts a last (omega arith) in
     let p : (ps : List (Option ℕ)) × (length ps ≡ length (calls_at log last))
-    × ((i : ℕ) → i < length (calls_at log last) → StandsAt quota contents counts (traced_at (calls_at log last) i)
+    × ((i : ℕ) → i < length (calls_at log last) → StandsAt op.quota contents counts (traced_at (calls_at log last) i)
     (place_at ps i)) =
-    chosen (StandsAt quota contents counts) (calls_at log last)
-    (all_imply (Traced r last) (λ x. (place : Option ℕ) × StandsAt quota contents counts x place) each
+    chosen (StandsAt op.quota contents counts) (calls_at log last)
+    (all_imply (Traced r last) (λ x. (place : Option ℕ) × StandsAt op.quota contents counts x place) each
     (calls_at log last) c.each) in (
       map placed_of (by_moments last (standing 0 (calls_at log last) p.0)),
       record
           { places = p.0; one_each = p.1; stands = p.2; in_order = refl },
     )
   where
-    each : (x : TracedCall) → Traced (run_of threads quota log contents counts) last x
-        → (place : Option ℕ) × StandsAt quota contents counts x place
-    each x t = place_of (run_of threads quota log contents counts) last x x.changed x.ended
-        (λ m l reply. let w : Shows threads (contents m) (counts m) (set_at threads log m) = shows_at threads quota last log
+    each : (x : TracedCall) → Traced (run_of op.threads op.quota log contents counts) last x
+        → (place : Option ℕ) × StandsAt op.quota contents counts x place
+    each x t = place_of (run_of op.threads op.quota log contents counts) last x x.changed x.ended
+        (λ m l reply. let w : Shows op.threads (contents m) (counts m) (set_at op log m) = shows_at op last log
         contents counts a m l in
-        fits_or_not quota (contents m) (set_at threads log m) w.keys w.rising (counts m x.thread) x.call reply) t.ends
+        fits_or_not op.quota (contents m) (set_at op log m) w.keys w.rising (counts m x.thread) x.call reply) t.ends
 
 -- ONE PLACE FOR EACH
 least_once : (quota : ℕ) (contents : Contents) (counts : Counts) (x : TracedCall) (end : ℕ) (reply : Reply) (m n : ℕ)

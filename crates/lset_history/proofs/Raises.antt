@@ -11,7 +11,7 @@ use Rattle.std.proofs.lemmas.Bool.{cases_order}
 use Rattle.std.proofs.lemmas.List.Elements.{All-head, All-tail, All-nil, All-cons, All-weaker}
 use Rattle.lset_words.proofs.Numbers.{below_or_not, same_or_not, equal_test, unequal_test, if_below, if_not_below}
 use Rattle.lset_words.specs.Account.{IsCeiling}
-use Rattle.lset_history.specs.Changes.{IsFirst, is_present, is_present_now, state_at}
+use Rattle.lset_history.specs.Changes.{IsFirst, is_present, is_present_now, state_at, IsListed}
 use Rattle.lset_history.specs.Raising.{IsNextNote, is_against, IsCandidateUpTo, IsCandidate, IsBelow, IsSomeThere, CameAfter, IsNextPresent}
 use Rattle.lset_history.proofs.ChangeLaws.{present_past}
 
@@ -288,14 +288,15 @@ some_is a b e = cc
 not_none : (k : ℕ) → None ≡ Some k → ⊥
 not_none k e = cc
 
-module _ (changes : ℕ → List ℕ) (keys_at : BTreeMap ℕ ℕ) (listed : (k : ℕ) → All (λ m. get nat_cmp keys_at m ≡ Some k) (changes k))
+module _ (changes : ℕ → List ℕ) (keys_at : BTreeMap ℕ ℕ) (listed : (k : ℕ) → All (IsListed keys_at k) (changes k))
     (moment : ℕ) (r : List (ℕ × ℕ)) (range : IsRangeOf nat_cmp (Excluded moment) Unbounded keys_at r) where
   pub next_note : (at key : ℕ) (rest : List (ℕ × ℕ)) → r ≡ (at, key) ∷ rest → IsNextNote changes moment (Some (at, key))
   next_note at key rest e =
       let first = rw e at range.1 in (
         lower_moment moment at first.0.0,
-        λ j. All-weaker (λ m. get nat_cmp keys_at m ≡ Some j) (λ m. moment < m → m ≤ at → (m ≡ at) × (j ≡ key))
-            (λ m is l u.
+        λ j. All-weaker (IsListed keys_at j) (λ m. moment < m → m ≤ at → (m ≡ at) × (j ≡ key))
+            (λ m lists l u.
+            let is : get nat_cmp keys_at m ≡ Some j = lists (omega arith) in
             let least = rw e at range.2 m (sym (nat_cmp_is moment m Less l), tt) (subst IsSome (sym is) refl) in
             let up : at ≤ m = not_greater at m least in
             let same : m ≡ at = omega arith in (
@@ -306,9 +307,9 @@ module _ (changes : ℕ → List ℕ) (keys_at : BTreeMap ℕ ℕ) (listed : (k 
       )
 
   pub no_next_note : r ≡ [] → IsNextNote changes moment None
-  no_next_note e = λ j. All-weaker (λ m. get nat_cmp keys_at m ≡ Some j) (λ m. m ≤ moment)
-      (λ m is. elim (below_or_not moment m) [
-        | inl l ↦ absurd (not_none j (sym (range.5 e m (sym (nat_cmp_is moment m Less l), tt)) ∙ is))
+  no_next_note e = λ j. All-weaker (IsListed keys_at j) (λ m. m ≤ moment)
+      (λ m lists. elim (below_or_not moment m) [
+        | inl l ↦ absurd (not_none j (sym (range.5 e m (sym (nat_cmp_is moment m Less l), tt)) ∙ lists (omega arith)))
         | inr g ↦ g
       ])
       (changes j) (listed j)

@@ -13,6 +13,7 @@ use Rattle.lset_words.specs.Account.{Contents, Counts, Account}
 use Rattle.lset_history.proofs.Lists.{Pairs, all_imply, all_map, all-append}
 use Rattle.lset_history.proofs.Calls.{Run, EndedBy, EndAt, Traced, Later, Calls}
 use Rattle.lset_history.proofs.CallSteps.{run_of, calls_of}
+use Rattle.lset_words.specs.Words.{Opening}
 
 module _ (r : Run) (k : ℕ) where
   -- two moments of calls are moments of entries, so the same one only of the same entry
@@ -112,10 +113,10 @@ module _ (r : Run) (k : ℕ) where
       Next y = Traced r k y × AllByRecursion (Later y) xs
 
 -- THE LOG OF A RUN TELLS A HISTORY
-pub is_history : (threads quota last : ℕ) (log : Log) (contents : Contents) (counts : Counts)
-    → Account threads quota last log contents counts
-    → (k : ℕ) → k ≤ last → IsHistory threads (history_at log k)
-is_history threads quota last log contents counts a k l =
-    let c : Calls (run_of threads quota log contents counts) k (calls_at log k) =
-    calls_of threads quota last log contents counts a k l in
-    continues (run_of threads quota log contents counts) k [] (calls_at log k) tt c.each c.pairs
+pub is_history : (op : Opening) (last : ℕ) (log : Log) (contents : Contents) (counts : Counts)
+    → Account op last log contents counts
+    → (k : ℕ) → k ≤ last → IsHistory op.threads (history_at log k)
+is_history op last log contents counts a k l =
+    let c : Calls (run_of op.threads op.quota log contents counts) k (calls_at log k) =
+    calls_of op last log contents counts a k l in
+    continues (run_of op.threads op.quota log contents counts) k [] (calls_at log k) tt c.each c.pairs

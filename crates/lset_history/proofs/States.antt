@@ -2,14 +2,15 @@
 use Rattle.std.proofs.Common.{◌≡◌, ◌≢◌, ℕ, zero, suc, ◌+◌, ◌<◌, ◌≤◌, true, false, inl, inr, List, length, sym, refl, ap, subst, ◌∙◌, arith}
 use Rattle.std.specs.Prelude.{Contains, Option, Some, None, slice_index, slice_set}
 use Rattle.std.proofs.lemmas.List.{get_or-set_same, get_or-set_other, length-set, length-replicate, get_or-replicate}
-use Rattle.lset_words.specs.SequentialSet.{SetState, empty_set, with_key, without_key}
+use Rattle.lset_words.specs.SequentialSet.{SetState, opening_set, with_key, without_key}
 use Rattle.lset_words.specs.Log.{Log, Entry, Change}
 use Rattle.lset_words.specs.Log.Entry.{began, stepped}
 use Rattle.lset_words.specs.Account.{Content, Contents, Counts, Same, Changes, count_after, Enters, Account}
 use Rattle.lset_words.proofs.Numbers.{same_or_not}
-use Rattle.lset_words.proofs.RisingLists.{contains-nil, RisesFrom}
+use Rattle.lset_words.proofs.RisingLists.{RisesFrom, rises_from_increasing}
 use Rattle.lset_history.proofs.Keys.{with_keeps, with_from, without_keeps, without_from, with_rises, without_rises}
 use Rattle.lset_history.proofs.SetFitting.{SameKeys}
+use Rattle.lset_words.specs.Words.{Opening}
 
 -- after a change
 abbrev pub keys_after : Option Change → List ℕ → List ℕ
@@ -28,9 +29,9 @@ set_after (began t call) s = s
 set_after (stepped t change reply) s = record { keys = keys_after change s.keys; counts = counts_after t change s.counts }
 
 -- at a moment
-abbrev pub set_at : ℕ → Log → ℕ → SetState
-set_at threads log zero = empty_set threads
-set_at threads log (suc k) = set_after (log k) (set_at threads log k)
+abbrev pub set_at : Opening → Log → ℕ → SetState
+set_at op log zero = opening_set op
+set_at op log (suc k) = set_after (log k) (set_at op log k)
 
 -- A state that shows a content and counts
 pub record Shows (threads : ℕ) (content : Content) (counts : ℕ → ℕ) (s : SetState) : Type 0 where
@@ -117,15 +118,15 @@ shows_on threads quota log contents counts k (stepped t change reply) s h w = re
     ]
 
 -- AT EVERY MOMENT the state shows contents and counts
-pub shows_at : (threads quota last : ℕ) (log : Log) (contents : Contents) (counts : Counts)
-    → Account threads quota last log contents counts
-    → (k : ℕ) → k ≤ last → Shows threads (contents k) (counts k) (set_at threads log k)
-shows_at threads quota last log contents counts a zero l = record {
-  keys = λ j. ((λ h. absurd (a.empty j h)), (λ c. absurd (contains-nil j c)));
-  rising = tt;
-  long = length-replicate threads 0;
-  numbers = λ t m. get_or-replicate threads t 0 0 m ∙ sym (a.none_yet t m);
+pub shows_at : (op : Opening) (last : ℕ) (log : Log) (contents : Contents) (counts : Counts)
+    → Account op last log contents counts
+    → (k : ℕ) → k ≤ last → Shows op.threads (contents k) (counts k) (set_at op log k)
+shows_at op last log contents counts a zero l = record {
+  keys = a.opens;
+  rising = rises_from_increasing op.keys a.rising;
+  long = length-replicate op.threads 0;
+  numbers = λ t m. get_or-replicate op.threads t 0 0 m ∙ sym (a.none_yet t m);
 }
-shows_at threads quota last log contents counts a (suc k) l =
-    shows_on threads quota log contents counts k (log k) (set_at threads log k) (a.enters k (omega arith))
-    (shows_at threads quota last log contents counts a k (omega arith))
+shows_at op last log contents counts a (suc k) l =
+    shows_on op.threads op.quota log contents counts k (log k) (set_at op log k) (a.enters k (omega arith))
+    (shows_at op last log contents counts a k (omega arith))

@@ -10,10 +10,10 @@ use Rattle.std.proofs.lemmas.Bool.{cases_Bool, cases_order, ne_eqb, false≢true
 use Rattle.lset_words.specs.declared.Reply.{Reply}
 use Rattle.lset_words.specs.declared.history.CallRecord.{CallRecord}
 use Rattle.lset_words.specs.declared.history.Placed.{Placed}
-use Rattle.lset_words.specs.SequentialSet.{SetState, empty_set}
+use Rattle.lset_words.specs.SequentialSet.{SetState, opening_set}
 use Rattle.lset_words.specs.History.{call_numbered, Precedes, Linearizes, IsHistory}
 use Rattle.lset_history.specs.History.{HistoryValue}
-use Rattle.lset_history.specs.Oracle.{OracleValue}
+use Rattle.lset_history.specs.Oracle.{OracleValue, set_opened}
 use Rattle.lset_history.specs.declared.fault.OrderFault.{OrderFault}
 use Rattle.lset_history.specs.declared.fault.OrderFault.TheVariants.{Unknown, Twice, Missing, WrongReply, TooEarly, WrongSet, Memory}
 use Rattle.lset_history.specs.Faults.{Explains, IsFault, Passes, RefusesFirst, MissesNone, MissesFirst, IsMissing, IsUnknown, IsTwice, HasWrongReply, IsTooEarly, place_at, set_left_by}
@@ -117,8 +117,6 @@ linearizes o calls order known once none replies early = record {
         )
 
 -- THE ANSWERS of the check, from what its single checks tell of the calls that it reads
-abbrev opening_of : HistoryValue → OracleValue
-opening_of h = record { threads = h.threads; quota = h.quota; state = empty_set h.threads }
 
 -- the calls of the order are known and stand once, and a tree has their numbers
 pub record StandsOnce (h : HistoryValue) (calls : List CallRecord) (order : List Placed) (tree : List ℕ) : Type 0 where
@@ -132,7 +130,7 @@ pub record LeavesNoneOut (h : HistoryValue) (calls : List CallRecord) (order : L
     (oracle : OracleValue) : Type 0 where
   pub stands_once : StandsOnce h calls order tree
   pub none_out : (number : ℕ) → IsLeftOut calls tree number → ⊥
-  pub opens : oracle ≡ opening_of h
+  pub opens : oracle ≡ set_opened h.opening
 
 pub stands_once : (h : HistoryValue) (calls : List CallRecord) (order : List Placed) (tree : List ℕ) (twice : Option ℕ)
     → calls ≡ h.calls → HasKnownCalls calls order → twice ≡ None
@@ -147,23 +145,21 @@ stands_once h calls order tree twice e known none once holds = record {
 }
 
 pub leaves_none_out : (h : HistoryValue) (calls : List CallRecord) (order : List Placed) (tree : List ℕ)
-    (oracle : OracleValue) (threads quota : ℕ)
+    (oracle : OracleValue)
     → StandsOnce h calls order tree → ((number : ℕ) → IsLeftOut calls tree number → ⊥)
-    → oracle ≡ record { threads = threads; quota = quota; state = empty_set threads } → threads ≡ h.threads → quota ≡ h.quota
-    → LeavesNoneOut h calls order tree oracle
-leaves_none_out h calls order tree oracle threads quota once none opens e f =
-    record { stands_once = once; none_out = none; opens = rw (opens, e, f) refl }
+    → oracle ≡ set_opened h.opening → LeavesNoneOut h calls order tree oracle
+leaves_none_out h calls order tree oracle once none opens =
+    record { stands_once = once; none_out = none; opens = opens }
 
 -- the threads of the calls are those of the set
-pub threads_below : (h : HistoryValue) (calls : List CallRecord) (oracle : OracleValue) (threads quota : ℕ) → calls ≡ h.calls
-    → IsHistory h.threads h.calls
-    → oracle ≡ record { threads = threads; quota = quota; state = empty_set threads } → threads ≡ h.threads
+pub threads_below : (h : HistoryValue) (calls : List CallRecord) (oracle : OracleValue) → calls ≡ h.calls
+    → IsHistory h.opening.threads h.calls → oracle ≡ set_opened h.opening
     → All (λ (x : CallRecord). x.thread < oracle.threads) calls
-threads_below h calls oracle threads quota e history opens f k d low =
-    let P : List CallRecord → Type 0 = λ xs. All (IsCall h.threads) xs in
-    let call : IsCall h.threads (get_or calls k d) = subst P (sym e) (calls_of h.threads h.calls history) k d low in
-    let own : (get_or calls k d).thread < h.threads = call.of_a_thread in
-    rw (opens, f) own
+threads_below h calls oracle e history opens k d low =
+    let P : List CallRecord → Type 0 = λ xs. All (IsCall h.opening.threads) xs in
+    let call : IsCall h.opening.threads (get_or calls k d) = subst P (sym e) (calls_of h.opening.threads h.calls history) k d low in
+    let own : (get_or calls k d).thread < h.opening.threads = call.of_a_thread in
+    rw opens own
 
 none_missing : (h : HistoryValue) (order : List Placed) (tree : List ℕ) (oracle : OracleValue)
     → LeavesNoneOut h h.calls order tree oracle → MissesNone h.calls order
@@ -184,7 +180,7 @@ missing_fault h calls order keys tree number s out =
 
 -- the same facts of the calls of the history itself, from the opening of its set
 settled : (h : HistoryValue) (calls : List CallRecord) (order : List Placed) (tree : List ℕ) (oracle : OracleValue)
-    → LeavesNoneOut h calls order tree oracle → LeavesNoneOut h h.calls order tree (opening_of h)
+    → LeavesNoneOut h calls order tree oracle → LeavesNoneOut h h.calls order tree (set_opened h.opening)
 settled h calls order tree oracle l =
     let P : List CallRecord → Type 0 = λ xs. StandsOnce h xs order tree in
     let Q : List CallRecord → Type 0 = λ xs. (number : ℕ) → IsLeftOut xs tree number → ⊥ in
@@ -201,7 +197,7 @@ pub wrong_reply_fault : (h : HistoryValue) (calls : List CallRecord) (order : Li
 wrong_reply_fault h calls order keys tree oracle number l w =
     let own = settled h calls order tree oracle l in
     let P : OracleValue → Type 0 = λ o. RefusesFirst (HasWrongReply o.quota o.state calls order) order number in
-    let Q : List CallRecord → Type 0 = λ xs. RefusesFirst (HasWrongReply h.quota (empty_set h.threads) xs order) order number in (
+    let Q : List CallRecord → Type 0 = λ xs. RefusesFirst (HasWrongReply h.opening.quota (opening_set h.opening) xs order) order number in (
       passes_known h.calls order own.stands_once.known,
       own.stands_once.once,
       none_missing h order tree _ own,
@@ -209,10 +205,10 @@ wrong_reply_fault h calls order keys tree oracle number l w =
     )
 
 own_replies : (h : HistoryValue) (calls : List CallRecord) (order : List Placed) (tree : List ℕ) (oracle : OracleValue)
-    → LeavesNoneOut h calls order tree oracle → HasReplies oracle calls order → HasReplies (opening_of h) h.calls order
+    → LeavesNoneOut h calls order tree oracle → HasReplies oracle calls order → HasReplies (set_opened h.opening) h.calls order
 own_replies h calls order tree oracle l r =
     let P : OracleValue → Type 0 = λ o. HasReplies o calls order in
-    let Q : List CallRecord → Type 0 = λ xs. HasReplies (opening_of h) xs order in
+    let Q : List CallRecord → Type 0 = λ xs. HasReplies (set_opened h.opening) xs order in
     subst Q l.stands_once.calls_are (subst P l.opens r)
 
 pub too_early_fault : (h : HistoryValue) (calls : List CallRecord) (order : List Placed) (keys tree : List ℕ)
@@ -233,10 +229,10 @@ too_early_fault h calls order keys tree oracle number l r e =
 -- the keys that the set has after the order
 keys_after : (h : HistoryValue) (calls : List CallRecord) (order : List Placed) (tree : List ℕ) (oracle : OracleValue)
     → LeavesNoneOut h calls order tree oracle
-    → (after_order oracle calls order).state.keys ≡ (set_left_by (empty_set h.threads) h.calls order).keys
+    → (after_order oracle calls order).state.keys ≡ (set_left_by (opening_set h.opening) h.calls order).keys
 keys_after h calls order tree oracle l =
     ap (λ (o : OracleValue). (after_order o calls order).state.keys) l.opens
-    ∙ ap (λ (xs : List CallRecord). (set_left_by (empty_set h.threads) xs order).keys) l.stands_once.calls_are
+    ∙ ap (λ (xs : List CallRecord). (set_left_by (opening_set h.opening) xs order).keys) l.stands_once.calls_are
 
 pub wrong_set_fault : (h : HistoryValue) (calls : List CallRecord) (order : List Placed) (keys tree : List ℕ)
     (oracle now : OracleValue)
@@ -262,7 +258,7 @@ explained h calls order keys tree oracle now l r e after same rising =
     let own = settled h calls order tree oracle l in
     let P : List CallRecord → Type 0 = λ xs. Passes (IsTooEarly xs order) order in
     record {
-      linearizes = linearizes (opening_of h) h.calls order own.stands_once.known own.stands_once.once
+      linearizes = linearizes (set_opened h.opening) h.calls order own.stands_once.known own.stands_once.once
           (none_missing h order tree _ own)
           (own_replies h calls order tree oracle l r) (subst P l.stands_once.calls_are e);
       keys_left = sym same ∙ ap (λ (o : OracleValue). o.state.keys) after ∙ keys_after h calls order tree oracle l;
@@ -316,9 +312,9 @@ not_explained h order keys (Unknown number) f ne x =
 not_explained h order keys (Twice number) f ne x =
     let twice = f.1.refused in
     pair_of_places (λ (p r : Placed). p.call ≢ r.call) order twice.0 f.1.place x.linearizes.once twice.1 f.1.inside twice.2
-not_explained h order keys (Missing number) f ne x = never_missing h.quota _ h.calls order number x.linearizes f.2.missing
+not_explained h order keys (Missing number) f ne x = never_missing h.opening.quota _ h.calls order number x.linearizes f.2.missing
 not_explained h order keys (WrongReply number) f ne x =
-    never_wrong h.quota _ h.calls order f.3.place f.3.inside x.linearizes f.3.refused
+    never_wrong h.opening.quota _ h.calls order f.3.place f.3.inside x.linearizes f.3.refused
 not_explained h order keys (TooEarly number) f ne x =
     let early = f.4.refused in
     pair_of_places (λ (p r : Placed). Precedes (call_numbered h.calls r.call) (call_numbered h.calls p.call) → ⊥) order

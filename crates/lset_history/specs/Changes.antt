@@ -6,8 +6,9 @@ use Rattle.std.specs.Ordering.{nat_cmp}
 use Rattle.std.specs.Map.{lookup}
 use Rattle.std.specs.BTreeMap.{BTreeMap, get, is_at}
 use Rattle.std.specs.BTreeSet.{BTreeSet, contains}
+use Rattle.lset_words.specs.SequentialSet.{has_key}
 
--- each key that was ever put in, with the moments at which it was put in and taken out, in turn, from the earliest on
+-- each key that was ever there, with the moments at which it was put in and taken out, in turn, from the earliest on
 pub record ChangesValue : Type 0 where
   pub entries : List (ℕ × List ℕ)
 
@@ -46,6 +47,10 @@ IsLaterThanAll changes moment = (0 < moment) × ((key : ℕ) → All (λ m. m < 
 abbrev pub with_change : (ℕ → List ℕ) → ℕ → ℕ → ℕ → List ℕ
 with_change changes key moment k = if k == key then changes k ++ moment ∷ [] else changes k
 
+-- the changes with which a set opens: its keys go in at moment 0
+abbrev pub opened_moments : List ℕ → ℕ → List ℕ
+opened_moments keys key = if has_key key keys then 0 ∷ [] else []
+
 -- THE FIRST MOMENT from `first` to `last` at which a fact holds, or none
 abbrev pub IsFirst : (ℕ → Type 0) → ℕ → ℕ → Option ℕ → Type 0
 IsFirst P first last None = (m : ℕ) → first ≤ m → m ≤ last → P m → ⊥
@@ -62,11 +67,15 @@ Rise c = (key : ℕ) → IsStrictlyIncreasing (moments_of c key)
 abbrev pub IsBounded : (ℕ → List ℕ) → Type 0
 IsBounded changes = (key : ℕ) → 2 ^ 32 ≤ key → changes key ≡ []
 
+-- a moment above 0 stands with its key
+abbrev pub IsListed : BTreeMap ℕ ℕ → ℕ → ℕ → Type 0
+IsListed keys_at key moment = 0 < moment → get nat_cmp keys_at moment ≡ Some key
+
 -- these changes, each of their moments with its key, and each key that is there now
 pub record AreKept (c : ChangesValue) (keys_at : BTreeMap ℕ ℕ) (keys_now : BTreeSet ℕ) : Type 0 where
   pub rise : Rise c
   pub bounded : IsBounded (moments_of c)
-  pub listed : (key : ℕ) → All (λ m. get nat_cmp keys_at m ≡ Some key) (moments_of c key)
+  pub listed : (key : ℕ) → All (IsListed keys_at key) (moments_of c key)
   pub present : (key : ℕ) → is_present_now (moments_of c) key ≡ true → IsTrue (contains nat_cmp keys_now key)
 
 -- how many of these moments are not above one, where they rise

@@ -5,7 +5,7 @@ use Rattle.lset_words.specs.declared.Reply.{Reply}
 use Rattle.lset_words.specs.declared.Reply.TheVariants.{True}
 use Rattle.lset_words.specs.declared.history.CallRecord.{CallRecord}
 use Rattle.lset_words.specs.declared.history.Placed.{Placed}
-use Rattle.lset_words.specs.SequentialSet.{SetState, empty_set, reply_to, set_left}
+use Rattle.lset_words.specs.SequentialSet.{SetState, opening_set, reply_to, set_left}
 use Rattle.lset_words.specs.History.{call_numbered, Precedes, answered, Linearizes}
 use Rattle.lset_history.specs.declared.fault.OrderFault.{OrderFault}
 use Rattle.lset_history.specs.declared.fault.OrderFault.TheVariants.{Unknown, Twice, Missing, WrongReply, TooEarly, WrongSet, Memory}
@@ -17,8 +17,8 @@ set_left_by start calls order = set_left start (map (answered calls) order)
 
 -- The order linearizes the history, and the keys are those of the set that it leaves, rising.
 pub record Explains (h : HistoryValue) (order : List Placed) (keys : List ℕ) : Type 0 where
-  pub linearizes : Linearizes h.quota (empty_set h.threads) h.calls order
-  pub keys_left : keys ≡ (set_left_by (empty_set h.threads) h.calls order).keys
+  pub linearizes : Linearizes h.opening.quota (opening_set h.opening) h.calls order
+  pub keys_left : keys ≡ (set_left_by (opening_set h.opening) h.calls order).keys
   pub rising : IsStrictlyIncreasing keys
 
 -- THE CHECKS of a place in the order
@@ -84,13 +84,13 @@ IsFault h order keys (Missing number) =
     Passes (IsUnknown h.calls order) order × Passes (IsTwice order) order × MissesFirst h.calls order number
 IsFault h order keys (WrongReply number) =
     Passes (IsUnknown h.calls order) order × Passes (IsTwice order) order × MissesNone h.calls order
-    × RefusesFirst (HasWrongReply h.quota (empty_set h.threads) h.calls order) order number
+    × RefusesFirst (HasWrongReply h.opening.quota (opening_set h.opening) h.calls order) order number
 IsFault h order keys (TooEarly number) =
     Passes (IsUnknown h.calls order) order × Passes (IsTwice order) order × MissesNone h.calls order
-    × Passes (HasWrongReply h.quota (empty_set h.threads) h.calls order) order
+    × Passes (HasWrongReply h.opening.quota (opening_set h.opening) h.calls order) order
     × RefusesFirst (IsTooEarly h.calls order) order number
 IsFault h order keys WrongSet =
     Passes (IsUnknown h.calls order) order × Passes (IsTwice order) order × MissesNone h.calls order
-    × Passes (HasWrongReply h.quota (empty_set h.threads) h.calls order) order × Passes (IsTooEarly h.calls order) order
-    × (keys ≢ (set_left_by (empty_set h.threads) h.calls order).keys)
+    × Passes (HasWrongReply h.opening.quota (opening_set h.opening) h.calls order) order × Passes (IsTooEarly h.calls order) order
+    × (keys ≢ (set_left_by (opening_set h.opening) h.calls order).keys)
 IsFault h order keys Memory = Unit {0}

@@ -3,15 +3,14 @@ use Rattle.std.specs.Prelude.{◌≡◌, ℕ, ◌<◌, ◌≤◌, ◌^◌, ◌==
 use Rattle.std.specs.List.{list_any}
 use Rattle.lset_words.specs.declared.Reply.{Reply}
 use Rattle.lset_words.specs.declared.history.CallRecord.{CallRecord}
-use Rattle.lset_words.specs.Words.{IsWithin}
+use Rattle.lset_words.specs.Words.{Opening, Opens}
 use Rattle.lset_words.specs.History.{IsHistory, call_numbered}
 use Rattle.lset_history.specs.declared.fault.HistoryFault.{HistoryFault}
 use Rattle.lset_history.specs.declared.fault.HistoryFault.TheVariants.{NoThread, Busy, NotOpen, Time, Memory}
 
--- the threads, their quota, and the calls by their numbers
+-- how the set opens, and the calls by their numbers
 pub record HistoryValue : Type 0 where
-  pub threads : ℕ
-  pub quota : ℕ
+  pub opening : Opening
   pub calls : List CallRecord
 
 -- a thread has an open call
@@ -26,16 +25,16 @@ pub record IsLater (calls : List CallRecord) (at : ℕ) : Type 0 where
 
 -- A CALL BEGINS
 pub record MayBegin (h : HistoryValue) (thread at : ℕ) : Type 0 where
-  pub of_a_thread : thread < h.threads
+  pub of_a_thread : thread < h.opening.threads
   pub idle : has_open h.calls thread ≡ false
   pub later : IsLater h.calls at
 
 -- the first cause why it does not
 abbrev pub CannotBegin : HistoryValue → ℕ → ℕ → HistoryFault → Type 0
-CannotBegin h thread at NoThread = h.threads ≤ thread
-CannotBegin h thread at Busy = (thread < h.threads) × (has_open h.calls thread ≡ true)
+CannotBegin h thread at NoThread = h.opening.threads ≤ thread
+CannotBegin h thread at Busy = (thread < h.opening.threads) × (has_open h.calls thread ≡ true)
 CannotBegin h thread at NotOpen = ⊥
-CannotBegin h thread at Time = (thread < h.threads) × (has_open h.calls thread ≡ false) × (IsLater h.calls at → ⊥)
+CannotBegin h thread at Time = (thread < h.opening.threads) × (has_open h.calls thread ≡ false) × (IsLater h.calls at → ⊥)
 CannotBegin h thread at Memory = MayBegin h thread at
 
 abbrev pub with_begun : HistoryValue → CallRecord → HistoryValue
@@ -81,10 +80,10 @@ latest_moment [] = 0
 latest_moment (x ∷ xs) = max (last_moment x) (latest_moment xs)
 
 pub record IsKept (h : HistoryValue) (busy : List Bool) (latest : ℕ) : Type 0 where
-  pub within : IsWithin (record { threads = h.threads; quota = h.quota })
-  pub history : IsHistory h.threads h.calls
-  pub flags : h.threads ≤ length busy
-  pub busy_if_open : (t : ℕ) → t < h.threads → slice_index_or busy t false ≡ has_open h.calls t
+  pub opens : Opens h.opening
+  pub history : IsHistory h.opening.threads h.calls
+  pub flags : h.opening.threads ≤ length busy
+  pub busy_if_open : (t : ℕ) → t < h.opening.threads → slice_index_or busy t false ≡ has_open h.calls t
   pub latest_is : latest ≡ latest_moment h.calls
   pub numbered : length h.calls ≤ latest
   pub fits : latest < 2 ^ 32

@@ -5,11 +5,12 @@ use Rattle.lset_words.specs.declared.Call.{Call}
 use Rattle.lset_words.specs.declared.Call.TheVariants as call
 use Rattle.lset_words.specs.declared.Reply.{Reply}
 use Rattle.lset_words.specs.declared.history.Placed.{Placed}
-use Rattle.lset_words.specs.SequentialSet.{SetState, empty_set, count_of, reply_to, after_call, set_left}
+use Rattle.lset_words.specs.SequentialSet.{SetState, opening_set, count_of, reply_to, after_call, set_left}
 use Rattle.lset_words.specs.History.{IsHistory, answered, Linearizes}
 use Rattle.lset_words.specs.Log.{Log, TracedCall, calls_at, history_at}
 use Rattle.lset_words.specs.Account.{Content, Contents, Counts, Fits, Account}
 use Rattle.lset_words.specs.Placement.{IsPlacement}
+use Rattle.lset_words.specs.Words.{Opening}
 
 -- the content of a list of keys, and the contents of a list of keys at each moment
 abbrev pub content_of : List ℕ → Content
@@ -24,27 +25,27 @@ pub record HasKeysOf (s : SetState) (content : List ℕ) : Type 0 where
   pub members : (j : ℕ) → Contains content j ↔ Contains s.keys j
   pub alone : (keys : List ℕ) → IsStrictlyIncreasing keys → ((j : ℕ) → Contains content j ↔ Contains keys j) → s.keys ≡ keys
 
--- the set that the calls of a log leave in that order, from the empty set
-abbrev pub set_of_order : ℕ → Log → ℕ → List Placed → SetState
-set_of_order threads log last order = set_left (empty_set threads) (map (answered (history_at log last)) order)
+-- the set that the calls of a log leave in that order, from the opening set
+abbrev pub set_of_order : Opening → Log → ℕ → List Placed → SetState
+set_of_order op log last order = set_left (opening_set op) (map (answered (history_at log last)) order)
 
--- THE PLACEMENT THEOREM: the order of placement linearizes the history from the empty set, and leaves the last content.
+-- THE PLACEMENT THEOREM: the order of placement linearizes the history from the opening set, and leaves the last content.
 abbrev pub PlacementLinearizes : Type 0
-PlacementLinearizes = (threads quota last : ℕ) (log : Log) (lists : ℕ → List ℕ) (counts : Counts) (order : List Placed)
-    → Account threads quota last log (contents_of_lists lists) counts
-    → IsPlacement quota last (calls_at log last) (contents_of_lists lists) counts order
-    → Linearizes quota (empty_set threads) (history_at log last) order × HasKeysOf (set_of_order threads log last order) (lists last)
+PlacementLinearizes = (op : Opening) (last : ℕ) (log : Log) (lists : ℕ → List ℕ) (counts : Counts) (order : List Placed)
+    → Account op last log (contents_of_lists lists) counts
+    → IsPlacement op.quota last (calls_at log last) (contents_of_lists lists) counts order
+    → Linearizes op.quota (opening_set op) (history_at log last) order × HasKeysOf (set_of_order op log last order) (lists last)
 
 -- Every call has its place: no run is without an order of placement.
 abbrev pub EveryCallHasAPlace : Type 0
-EveryCallHasAPlace = (threads quota last : ℕ) (log : Log) (lists : ℕ → List ℕ) (counts : Counts)
-    → Account threads quota last log (contents_of_lists lists) counts
-    → (order : List Placed) × IsPlacement quota last (calls_at log last) (contents_of_lists lists) counts order
+EveryCallHasAPlace = (op : Opening) (last : ℕ) (log : Log) (lists : ℕ → List ℕ) (counts : Counts)
+    → Account op last log (contents_of_lists lists) counts
+    → (order : List Placed) × IsPlacement op.quota last (calls_at log last) (contents_of_lists lists) counts order
 
 -- The calls of a run, at each of its moments, are a history.
 abbrev pub LogsTellHistories : Type 0
-LogsTellHistories = (threads quota last : ℕ) (log : Log) (lists : ℕ → List ℕ) (counts : Counts)
-    → Account threads quota last log (contents_of_lists lists) counts → (k : ℕ) → k ≤ last → IsHistory threads (history_at log k)
+LogsTellHistories = (op : Opening) (last : ℕ) (log : Log) (lists : ℕ → List ℕ) (counts : Counts)
+    → Account op last log (contents_of_lists lists) counts → (k : ℕ) → k ≤ last → IsHistory op.threads (history_at log k)
 
 -- the keys of a set stand in turn, where the answer to the call is the first of them
 abbrev pub RisesFor : Call → List ℕ → Type 0

@@ -5,7 +5,8 @@ use Rattle.lset_words.specs.declared.Call.{Call}
 use Rattle.lset_words.specs.declared.Call.TheVariants.{Add, Remove, Contains, Ceiling}
 use Rattle.lset_words.specs.declared.Reply.{Reply}
 use Rattle.lset_words.specs.declared.Reply.TheVariants.{True}
-use Rattle.lset_words.specs.SequentialSet.{SetState, reply_to, after_call}
+use Rattle.lset_words.specs.Words.{Opening}
+use Rattle.lset_words.specs.SequentialSet.{SetState, opening_set, reply_to, after_call}
 
 pub record OracleValue : Type 0 where
   pub threads : ℕ
@@ -15,6 +16,10 @@ pub record OracleValue : Type 0 where
 -- the set with these keys, and with a count for each of its threads
 abbrev pub set_of : ℕ → List ℕ → List ℕ → OracleValue
 set_of quota keys counts = record { threads = length counts; quota = quota; state = record { keys = keys; counts = counts } }
+
+-- the set before any call
+abbrev pub set_opened : Opening → OracleValue
+set_opened op = record { threads = op.threads; quota = op.quota; state = opening_set op }
 
 -- the set gives that reply to a call of a thread, and goes on
 pub record Answers (old new : OracleValue) (thread : ℕ) (call : Call) (reply : Reply) : Type 0 where

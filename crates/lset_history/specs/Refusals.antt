@@ -3,7 +3,7 @@ use Rattle.std.specs.Prelude.{◌≡◌, ◌≢◌, ℕ, ◌<◌, ◌≤◌, ◌
 use Rattle.lset_words.specs.declared.Reply.{Reply}
 use Rattle.lset_words.specs.declared.history.CallRecord.{CallRecord}
 use Rattle.lset_words.specs.declared.history.Placed.{Placed}
-use Rattle.lset_words.specs.SequentialSet.{SetState, empty_set, reply_to}
+use Rattle.lset_words.specs.SequentialSet.{SetState, opening_set, reply_to}
 use Rattle.lset_words.specs.History.{call_numbered, Precedes}
 use Rattle.lset_history.specs.declared.fault.OrderFault.{OrderFault}
 use Rattle.lset_history.specs.declared.fault.OrderFault.TheVariants as fault
@@ -39,7 +39,7 @@ pub record StandsTwice (order : List Placed) (call first second : ℕ) : Type 0 
 
 -- the set after the places before one
 abbrev pub set_before : HistoryValue → List Placed → ℕ → SetState
-set_before h order index = set_left_by (empty_set h.threads) h.calls (take index order)
+set_before h order index = set_left_by (opening_set h.opening) h.calls (take index order)
 
 -- The call's place says one reply, and the call ended with another.
 pub record EndedOtherwise (h : HistoryValue) (order : List Placed) (call place : ℕ) (says ended : Reply) : Type 0 where
@@ -57,7 +57,7 @@ pub record AnsweredOtherwise (h : HistoryValue) (order : List Placed) (call plac
   pub at : IsPlace order call place index
   pub says_is : says ≡ (place_at order index).reply
   pub keys_are : keys ≡ (set_before h order index).keys
-  pub answer_is : answer ≡ reply_to h.quota (set_before h order index) (call_numbered h.calls call).thread (call_numbered h.calls call).call
+  pub answer_is : answer ≡ reply_to h.opening.quota (set_before h order index) (call_numbered h.calls call).thread (call_numbered h.calls call).call
   pub differ : answer ≢ says
   pub recorded : IfSome (call_numbered h.calls call).ended (λ (end : ℕ × Reply). end.1 ≡ says)
 
@@ -83,7 +83,7 @@ IsTold h order (Missing call moment reply) = (call_numbered h.calls call).ended 
 IsTold h order (HistoryReply call place says ended) = EndedOtherwise h order call place says ended
 IsTold h order (SetReply call place says keys answer) = AnsweredOtherwise h order call place says keys.items answer
 IsTold h order (TooEarly call begun other ended) = StandsBefore h order call begun other ended
-IsTold h order (WrongSet left) = left.items ≡ (set_left_by (empty_set h.threads) h.calls order).keys
+IsTold h order (WrongSet left) = left.items ≡ (set_left_by (opening_set h.opening) h.calls order).keys
 
 -- THE REFUSAL of an order that does not explain the history and the keys: its first fault, told with what is so of it
 pub record IsRefusalOf (h : HistoryValue) (order : List Placed) (keys : List ℕ) (refusal : Refusal) : Type 0 where

@@ -1,4 +1,4 @@
-ghost use Rattle.std.specs.Prelude.{◌≡◌, ◌≤◌, ◌<◌, ◌^◌, ◌↔◌, ℕ, length, not, true, false, IsTrue, OnOk, OnErr, IfOk};
+ghost use Rattle.std.specs.Prelude.{◌≡◌, ◌≤◌, ◌<◌, ◌^◌, ◌↔◌, ℕ, length, not, true, false, IsTrue, OnOk, OnErr, IfOk, []};
 ghost use Rattle.std.specs.List.Sorted.{IsStrictlyIncreasing};
 ghost use Rattle.lset_history.specs.Changes.{
   IsFirst,
@@ -9,6 +9,7 @@ ghost use Rattle.lset_history.specs.Changes.{
   is_present_now,
   IsLaterThanAll,
   with_change,
+  opened_moments,
   IsCountUpTo,
   IsBounded,
 };
@@ -28,13 +29,13 @@ use std::collections::{BTreeMap, BTreeSet};
 use std::marker::Model;
 use std::ops::Bound;
 
-/// When keys were put into a set and taken out of it. At first every key is absent.
+/// When keys were put into a set and taken out of it. At moment 0 the opening keys are there, and no other key is.
 #[derive(Drop)]
 pub struct Changes {
     alloc: Global,
-    /// For each key that was ever put in, the moments at which it was put in and taken out, in turn.
+    /// For each key that was ever there, the moments at which it was put in (0 for an opening key) and taken out, in turn.
     moments: BTreeMap<u32, Vec<u32>>,
-    /// At each of these moments, the key that was put in or taken out. Want of memory in `note` may leave one more
+    /// At each of these moments above 0, the key that was put in or taken out. Want of memory in `note` may leave one more
     /// here, and one more in `keys_now`.
     keys_at: BTreeMap<u32, u32>,
     /// The keys that are in the set now.
@@ -103,7 +104,7 @@ fn push_moment(
 }
 
 impl Changes {
-    /// No changes yet. It takes no memory.
+    /// No changes yet, and no opening keys. It takes no memory.
     pub fn new(alloc: Global) -> Changes
         ensures { result ≡ no_changes }
     {
@@ -113,6 +114,30 @@ impl Changes {
             keys_at: BTreeMap::new(alloc),
             keys_now: BTreeSet::new(alloc),
         }
+    }
+
+    /// No changes yet, of a set that opens with these keys, which rise strictly: they are there from moment 0 on. An error is
+    /// want of memory.
+    pub fn opened(alloc: Global, keys: &[u32]) -> Result<Changes, AllocError>
+        requires { IsStrictlyIncreasing keys.now }
+        ensures { IfOk result (λ c. (k : ℕ) → moments_of c k ≡ opened_moments keys.now k) }
+    {
+        let mut changes = Changes::new(alloc);
+        for key in keys {
+            changes.open(*key)?;
+        }
+        Ok(changes)
+    }
+
+    /// A key without changes is there from moment 0 on. An error is want of memory, and changes nothing.
+    fn open(&mut self, key: u32) -> Result<(), AllocError>
+        requires { moments_of self.old key ≡ [] }
+        ensures noted { OnOk result ((k : ℕ) → moments_of self.new k ≡ with_change (moments_of self.old) key 0 k) }
+        ensures unchanged { OnErr result (self.new ≡ self.old) }
+    {
+        self.keys_now.insert(key)?;
+        push_moment(&mut self.moments, self.alloc, key, 0)?;
+        Ok(())
     }
 
     /// Notes that `key` was put in (`present`), or taken out, at the moment `at`, which is above 0 and above

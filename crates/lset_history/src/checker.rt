@@ -159,7 +159,7 @@ pub fn check_order(
     if let Some(number) = first_missing(calls, &placed) {
         return Err(OrderFault::Missing(number));
     }
-    let mut oracle = Oracle::new(alloc, history.threads(), history.quota())?;
+    let mut oracle = Oracle::before(alloc, history)?;
     if let Some(number) = first_wrong_reply(&mut oracle, calls, order)? {
         return Err(OrderFault::WrongReply(number));
     }

@@ -1,5 +1,6 @@
-ghost use Rattle.std.specs.Prelude.{◌≡◌, ◌<◌, ◌^◌, length, IfOk, OnOk, IfErr, OnErr, [], None};
-ghost use Rattle.lset_words.specs.Words.{IsWithin};
+ghost use Rattle.std.specs.Prelude.{◌≡◌, ◌<◌, ◌^◌, length, IfOk, OnOk, IfErr, OnErr, [], None, All};
+ghost use Rattle.std.specs.List.Sorted.{IsStrictlyIncreasing};
+ghost use Rattle.lset_words.specs.Words.{IsWithin, Opens, Opening, empty};
 ghost use Rattle.lset_words.specs.History.{IsHistory};
 ghost use Rattle.lset_history.specs.History.{MayBegin, CannotBegin, with_begun, MayEnd, CannotEnd, with_ended, last_moment};
 
@@ -15,6 +16,7 @@ use std::marker::Model;
 pub struct History {
     threads: u32,
     quota: u32,
+    opening: Vec<u32>,
     calls: Vec<CallRecord>,
     busy: [bool; MOST_THREADS as usize],
     latest: u32,
@@ -25,9 +27,22 @@ impl Model for History {
 
     ghost Value = { HistoryValue };
 
-    ghost view = { λ h. record { threads = h.threads; quota = h.quota; calls = h.calls.items } };
+    ghost view = { λ h. record {
+      opening = record { threads = h.threads; quota = h.quota; keys = h.opening.items };
+      calls = h.calls.items;
+    } };
 
-    ghost invariant = { λ h. IsKept (record { threads = h.threads; quota = h.quota; calls = h.calls.items }) h.busy h.latest };
+    ghost invariant = { λ h. IsKept (record {
+      opening = record { threads = h.threads; quota = h.quota; keys = h.opening.items };
+      calls = h.calls.items;
+    }) h.busy h.latest };
+}
+
+/// Keys are numbers of 32 bits.
+fn keys_are_small(keys: &[u32])
+    ensures { All (λ k. k < 2 ^ 32) keys.now }
+{
+    let _keys = keys;
 }
 
 /// The last moment of a call: that of its end, if it has ended, and else that of its beginning.
@@ -42,14 +57,29 @@ fn last_moment(call_record: &CallRecord) -> u32
 
 impl History {
     /// The history without calls, of `threads` threads, 1 to 64, with a quota of `quota` slots each, 0 to
-    /// 16,384. It takes no memory.
+    /// 16,384, of a set that opens empty. It takes no memory.
     pub fn new(alloc: Global, threads: u32, quota: u32) -> History
-        requires { IsWithin (record { threads = threads; quota = quota }) }
-        ensures { result ≡ record { threads = threads; quota = quota; calls = [] } }
+        requires { IsWithin (record { threads = threads; quota = quota; opening = 0 }) }
+        ensures { result ≡ record { opening = empty threads quota; calls = [] } }
     {
+        History::opened(alloc, threads, quota, Vec::new(alloc))
+    }
+
+    /// The history without calls of a set that opens with these keys: they rise strictly and are at most 1,048,576. It takes
+    /// no memory.
+    pub fn opened(alloc: Global, threads: u32, quota: u32, opening: Vec<u32>) -> History
+        requires within { IsWithin (record { threads = threads; quota = quota; opening = length opening.items }) }
+        requires rising { IsStrictlyIncreasing opening.items }
+        ensures { result ≡ record {
+          opening = record { threads = threads; quota = quota; keys = opening.items };
+          calls = [];
+        } }
+    {
+        keys_are_small(&opening);
         History {
             threads,
             quota,
+            opening,
             calls: Vec::new(alloc),
             busy: [false; MOST_THREADS as usize],
             latest: 0,
@@ -57,13 +87,23 @@ impl History {
     }
 
     /// The history of given calls, of `threads` threads, 1 to 64, with a quota of `quota` slots each, 0 to
-    /// 16,384. The calls stand by their numbers, and each of them may follow those before it. It takes no
-    /// memory.
-    pub fn from_calls(threads: u32, quota: u32, calls: Vec<CallRecord>) -> History
-        requires within { IsWithin (record { threads = threads; quota = quota }) }
+    /// 16,384, of a set that opens with these keys: they rise strictly and are at most 1,048,576. The calls stand by their
+    /// numbers, and each of them may follow those before it. It takes no memory.
+    pub fn from_calls(
+        threads: u32,
+        quota: u32,
+        opening: Vec<u32>,
+        calls: Vec<CallRecord>,
+    ) -> History
+        requires within { IsWithin (record { threads = threads; quota = quota; opening = length opening.items }) }
+        requires rising { IsStrictlyIncreasing opening.items }
         requires history { IsHistory threads calls.items }
-        ensures { result ≡ record { threads = threads; quota = quota; calls = calls.items } }
+        ensures { result ≡ record {
+          opening = record { threads = threads; quota = quota; keys = opening.items };
+          calls = calls.items;
+        } }
     {
+        keys_are_small(&opening);
         let mut busy = [false; MOST_THREADS as usize];
         let mut latest = 0u32;
         for call_record in &calls {
@@ -75,6 +115,7 @@ impl History {
         History {
             threads,
             quota,
+            opening,
             calls,
             busy,
             latest,
@@ -152,7 +193,7 @@ impl History {
     /// The calls, by their numbers.
     pub fn calls(&self) -> &[CallRecord]
         ensures value { result.now ≡ self.now.calls }
-        ensures history { IsHistory self.now.threads self.now.calls }
+        ensures history { IsHistory self.now.opening.threads self.now.calls }
         ensures few { length self.now.calls < 2 ^ 32 }
     {
         &self.calls
@@ -160,17 +201,25 @@ impl History {
 
     /// The number of threads, 1 to 64.
     pub fn threads(&self) -> u32
-        ensures value { result ≡ self.now.threads }
-        ensures within { IsWithin (record { threads = self.now.threads; quota = self.now.quota }) }
+        ensures value { result ≡ self.now.opening.threads }
+        ensures opens { Opens self.now.opening }
     {
         self.threads
     }
 
     /// The slots of each thread, 0 to 16,384.
     pub fn quota(&self) -> u32
-        ensures value { result ≡ self.now.quota }
-        ensures within { IsWithin (record { threads = self.now.threads; quota = self.now.quota }) }
+        ensures value { result ≡ self.now.opening.quota }
+        ensures opens { Opens self.now.opening }
     {
         self.quota
+    }
+
+    /// The keys with which its set opens, rising, at most 1,048,576.
+    pub fn opening(&self) -> &[u32]
+        ensures value { result.now ≡ self.now.opening.keys }
+        ensures opens { Opens self.now.opening }
+    {
+        &self.opening
     }
 }

@@ -2,9 +2,11 @@ ghost use Rattle.std.specs.Prelude.{◌≡◌, ℕ, ◌<◌, IfOk, OnErr, if◌t
 ghost use Rattle.std.specs.List.Sorted.{IsStrictlyIncreasing};
 ghost use Rattle.lset_words.specs.declared.Call.{Call};
 ghost use Rattle.lset_words.specs.declared.Reply.{Reply};
-ghost use Rattle.lset_words.specs.SequentialSet.{empty_set};
-ghost use Rattle.lset_history.specs.Oracle.{Answers, PutsIn};
+ghost use Rattle.lset_words.specs.Words.{Opening, empty};
+ghost use Rattle.lset_words.specs.SequentialSet.{opening_set};
+ghost use Rattle.lset_history.specs.Oracle.{Answers, PutsIn, set_opened};
 
+use crate::History;
 use lset_words::{Call, Key, Reply};
 use std::alloc::{AllocError, Global};
 use std::collections::BTreeSet;
@@ -14,6 +16,17 @@ fn reply_of(found: bool) -> Reply
     ensures { result ≡ (if found then Reply.True else Reply.False) }
 {
     if found { Reply::True } else { Reply::False }
+}
+
+fn tree_of(alloc: Global, keys: &[u32]) -> Result<BTreeSet<u32>, AllocError>
+    requires { IsStrictlyIncreasing keys.now }
+    ensures { IfOk result (λ t. t.keys ≡ keys.now) }
+{
+    let mut tree = BTreeSet::new(alloc);
+    for key in keys {
+        tree.insert(*key)?;
+    }
+    Ok(tree)
 }
 
 /// The sequential set (Herlihy and Shavit's interface) with this project's quota: a set of keys, and for each
@@ -40,15 +53,36 @@ impl Oracle {
     /// The empty set for `threads` threads, each with a quota of `quota` successful adds; each may be any number.
     /// An error is want of memory.
     pub fn new(alloc: Global, threads: u32, quota: u32) -> Result<Oracle, AllocError>
-        ensures { IfOk result (λ o. o ≡ record { threads = threads; quota = quota; state = empty_set threads }) }
+        ensures { IfOk result (λ o. o ≡ set_opened (empty threads quota)) }
+    {
+        Oracle::opened(alloc, threads, quota, &[])
+    }
+
+    /// The set that opens with these keys, which rise strictly and count as nobody's adds, and else as `new` has it. An error
+    /// is want of memory.
+    pub fn opened(
+        alloc: Global,
+        threads: u32,
+        quota: u32,
+        keys: &[u32],
+    ) -> Result<Oracle, AllocError>
+        requires { IsStrictlyIncreasing keys.now }
+        ensures { IfOk result (λ o. o ≡ set_opened (record { threads = threads; quota = quota; keys = keys.now })) }
     {
         let counts = vec![in alloc; 0; threads as usize]?;
         Ok(Oracle {
             alloc,
             quota,
-            keys: BTreeSet::new(alloc),
+            keys: tree_of(alloc, keys)?,
             counts,
         })
+    }
+
+    /// The set as it is before the first call of a history. An error is want of memory.
+    pub(crate) fn before(alloc: Global, history: &History) -> Result<Oracle, AllocError>
+        ensures { IfOk result (λ o. o ≡ set_opened history.now.opening) }
+    {
+        Oracle::opened(alloc, history.threads(), history.quota(), history.opening())
     }
 
     /// Makes a call of the thread `thread`, below the threads, and gives its reply: `Add` of a present key is

@@ -1,6 +1,6 @@
 ghost use Rattle.std.specs.Prelude.{◌≡◌, ◌<◌, ◌^◌, ℕ, length, IfOk, MatchOption, IsSome, IsSomeAnd};
 ghost use Rattle.lset_words.specs.declared.Reply.{Reply};
-ghost use Rattle.lset_words.specs.SequentialSet.{empty_set};
+ghost use Rattle.lset_words.specs.SequentialSet.{opening_set};
 ghost use Rattle.lset_words.specs.History.{call_numbered};
 ghost use Rattle.lset_history.specs.Oracle.{OracleValue};
 ghost use Rattle.lset_history.specs.Faults.{Explains, Passes, RefusesFirst, IsUnknown, IsTwice, HasWrongReply, IsTooEarly, IsMissing, place_at, placed_call, set_left_by};
@@ -94,14 +94,14 @@ fn ended_before(calls: &[CallRecord], order: &[Placed], from: usize, moment: u32
 /// The sequential set after the calls of an order that has its replies.
 fn set_after(alloc: Global, history: &History, order: &[Placed]) -> Result<Oracle, AllocError>
     requires known { HasKnownCalls history.now.calls order.now }
-    requires replies { Passes (HasWrongReply history.now.quota (empty_set history.now.threads) history.now.calls order.now) order.now }
+    requires replies { Passes (HasWrongReply history.now.opening.quota (opening_set history.now.opening) history.now.calls order.now) order.now }
     ensures { IfOk result (λ o. o ≡ record {
-      threads = history.now.threads;
-      quota = history.now.quota;
-      state = set_left_by (empty_set history.now.threads) history.now.calls order.now;
+      threads = history.now.opening.threads;
+      quota = history.now.opening.quota;
+      state = set_left_by (opening_set history.now.opening) history.now.calls order.now;
     }) }
 {
-    let mut oracle = Oracle::new(alloc, history.threads(), history.quota())?;
+    let mut oracle = Oracle::before(alloc, history)?;
     let None = first_wrong_reply(&mut oracle, history.calls(), order)? else {
         unreachable!();
     };
@@ -159,7 +159,7 @@ fn told_wrong_reply(
 ) -> Result<Refusal, AllocError>
     requires known { Passes (IsUnknown history.now.calls order.now) order.now }
     requires once { Passes (IsTwice order.now) order.now }
-    requires wrong { RefusesFirst (HasWrongReply history.now.quota (empty_set history.now.threads) history.now.calls order.now) order.now call }
+    requires wrong { RefusesFirst (HasWrongReply history.now.opening.quota (opening_set history.now.opening) history.now.calls order.now) order.now call }
     ensures { IfOk result (Tells history.now order.now (fault.WrongReply call)) }
 {
     let Some(index) = place_from(order, 0, call) else {

@@ -5,19 +5,18 @@ use lib.ListN.{get_elem?}
 use Rattle.std.specs.Prelude.{slice_index, if◌then◌else◌, nat_lt, ◌&&◌, ◌==◌, ◌%◌, ◌-◌}
 use Rattle.std.specs.List.{AllByRecursion}
 use Rattle.std.proofs.lemmas.List.Elements.{recursion_from_All, All-from_recursion, All-cons, All-nil}
-use Rattle.lset_words.specs.Words.{word_count, node_count}
+use Rattle.lset_words.specs.Words.{word_count, node_count, Sizes, Opening, sizes, IsWithin}
 use Rattle.lset_words.specs.declared.history.CallRecord.{CallRecord}
 use Rattle.lset_words.specs.declared.history.Placed.{Placed}
 use Rattle.lset_words.specs.History.{answered, no_call}
-use Rattle.lset_words.specs.SequentialSet.{Answered, empty_set, set_left}
-use Rattle.lset_words.proofs.Bounds.{few_nodes}
+use Rattle.lset_words.specs.SequentialSet.{Answered, opening_set, set_left}
+use Rattle.lset_words.proofs.Bounds.{nodes_within}
 use Rattle.lset_headline.specs.Headline.{RunsAreLinearizable}
 use Rattle.lset_steps.specs.Steps.{Table, State}
 use Rattle.lset_steps.specs.Laws.{Lawful, StateLaws, used_in}
 use Rattle.lset_steps.specs.Chain.{View as ChainView, Segment, view}
 use Rattle.lset_steps.specs.Worlds.{IsContent, keys_in}
 use Rattle.lset_rule.specs.declared.view.View.{View}
-use Rattle.lset_rule.specs.declared.view.Shape.{Shape}
 use Rattle.lset_rule.specs.Pasts.{calls_of}
 use Rattle.lset_rule.specs.Runs.{end_of, history_of}
 use Rattle.lset_rule.specs.Views.{Stands}
@@ -28,23 +27,23 @@ use Rattle.lset_rule.proofs.Counts.{has_all, closes}
 use Rattle.lset_live.specs.Records.{Keeps}
 use Rattle.lset_live.specs.Dated.{record_of}
 use Rattle.lset_live.specs.Explained.{Explains}
-use Rattle.lset_live.specs.Closes.{LastWords, HasKeys, HasLaws, IsLast, shape_of}
+use Rattle.lset_live.specs.Closes.{LastWords, HasKeys, HasLaws, IsLast}
 use Rattle.lset_live.proofs.Dated.{in_named, said_by}
 use Rattle.lset_live.proofs.Orders.{calls_by_is, none_in}
 use Rattle.lset_live.proofs.Explained.{own, order, explains, part, turns, kept}
 
 -- THE KEYS OF SOME WORDS
 -- chain and keys are read of keys and links alone
-module _ (n q : ℕ) (ws : List ℕ) (used other : ℕ → ℕ) where
-  same_segment : (i : ℕ) (ns : List ℕ) (j : ℕ) → Segment (view n q ws used) i ns j → Segment (view n q ws other) i ns j
+module _ (sz : Sizes) (ws : List ℕ) (used other : ℕ → ℕ) where
+  same_segment : (i : ℕ) (ns : List ℕ) (j : ℕ) → Segment (view sz ws used) i ns j → Segment (view sz ws other) i ns j
   same_segment i [] j s = s
-  same_segment i (a ∷ ns) j s = (s.0, s.1, same_segment ((view n q ws used).link i / 2) ns j s.2)
+  same_segment i (a ∷ ns) j s = (s.0, s.1, same_segment ((view sz ws used).link i / 2) ns j s.2)
 
-  same_keys : (ns : List ℕ) → keys_in (view n q ws used) ns ≡ keys_in (view n q ws other) ns
+  same_keys : (ns : List ℕ) → keys_in (view sz ws used) ns ≡ keys_in (view sz ws other) ns
   same_keys [] = refl
-  same_keys (b ∷ bs) = ap (λ (l : List ℕ). if nat_lt 1 b && (view n q ws used).link b % 2 == 0 then ((view n q ws used).key b - 1) ∷ l else l) (same_keys bs)
+  same_keys (b ∷ bs) = ap (λ (l : List ℕ). if nat_lt 1 b && (view sz ws used).link b % 2 == 0 then ((view sz ws used).key b - 1) ∷ l else l) (same_keys bs)
 
-  pub same_content : (keys : List ℕ) → IsContent (view n q ws used) keys → IsContent (view n q ws other) keys
+  pub same_content : (keys : List ℕ) → IsContent (view sz ws used) keys → IsContent (view sz ws other) keys
   same_content keys c = ((c.0.0, same_segment 0 c.0.0 1 c.0.1, c.0.2 ∙ same_keys c.0.0), c.1)
 
 -- and there is one chain
@@ -60,7 +59,7 @@ one_content v keys others c d = c.0.2 ∙ (ap (keys_in v) (one_segment v 0 c.0.0
 -- THE SEAT WITH ALL THREADS
 module _ (T : Table) (law : Lawful T) (v : View) (st : Stands T v) (idle : v.under ≡ None) (linear : RunsAreLinearizable T)
     (full : length v.others + 1 ≡ v.shape.threads) where
-  abbrev k : Shape
+  abbrev k : Opening
   k = v.shape
 
   abbrev H : List CallRecord
@@ -71,50 +70,52 @@ module _ (T : Table) (law : Lawful T) (v : View) (st : Stands T v) (idle : v.und
   of_threads [] a = tt
   of_threads (p ∷ ps) a = (((part T law v st idle linear).calls p.call no_call a.0).of_a_thread, of_threads ps a.1)
 
-  pub closed_explains : (ws : List ℕ) → ws ≡ (end_of T k v.seen).words → (keys : List ℕ) → HasKeys (record { threads = k.threads; quota = k.quota; words = ws }) keys
+  pub closed_explains : (ws : List ℕ) → ws ≡ (end_of T k v.seen).words → (keys : List ℕ) → HasKeys (record { sizes = sizes k; words = ws }) keys
       → Explains k (record_of v.past ∷ []) keys
   closed_explains ws is keys has =
       let ex = explains T law v st idle linear in
       let P : List Placed = order T law v st idle linear in
       let known = recursion_from_All (λ (x : Placed). x.call < length H) P ex.linearizes.known in
-      let now : IsContent (view k.threads k.quota (end_of T k v.seen).words (λ t. 0)) keys = subst (λ z. IsContent (view k.threads k.quota z (λ t. 0)) keys) is has in record {
+      let now : IsContent (view (sizes k) (end_of T k v.seen).words (λ t. 0)) keys = subst (λ z. IsContent (view (sizes k) z (λ t. 0)) keys) is has in record {
         order = map (answered H) P;
         legal = ex.linearizes.legal;
         keeps = All-cons (Keeps (map (answered H) P)) (record_of v.past) [] (kept T law v st idle linear) (All-nil (Keeps (map (answered H) P)));
         threads = All-from_recursion (λ (a : Answered). a.thread < k.threads) (map (answered H) P) (of_threads P known);
-        no_other = λ u low out. calls_by_is k.quota (empty_set k.threads) H P ex.linearizes (turns T law v st idle linear) u (calls_of u v.past) (own T law v st idle u (has_all T v st full u low))
+        no_other = λ u low out. calls_by_is k.quota (opening_set k) H P ex.linearizes (turns T law v st idle linear) u (calls_of u v.past) (own T law v st idle u (has_all T v st full u low))
             ∙ ap (map (said_by u)) (none_in u v.past (λ n. out (inl (in_named u v.past n))));
-        leaves = one_content (view k.threads k.quota (end_of T k v.seen).words (used_in (end_of T k v.seen))) (set_left (empty_set k.threads) (map (answered H) P)).keys keys
-            ex.content (same_content k.threads k.quota (end_of T k v.seen).words (λ t. 0) (used_in (end_of T k v.seen)) keys now);
+        leaves = one_content (view (sizes k) (end_of T k v.seen).words (used_in (end_of T k v.seen))) (set_left (opening_set k) (map (answered H) P)).keys keys
+            ex.content (same_content (sizes k) (end_of T k v.seen).words (λ t. 0) (used_in (end_of T k v.seen)) keys now);
       }
 
 -- what is so of the words with which a table is closed
-module _ (T : Table) (law : Lawful T) (v : View) (st : Stands T v) (sp : v.spent ≡ false) (idle : v.under ≡ None) (k : Shape) (shape : v.shape ≡ k)
+module _ (T : Table) (law : Lawful T) (v : View) (st : Stands T v) (sp : v.spent ≡ false) (idle : v.under ≡ None) (k : Opening) (shape : v.shape ≡ k)
     (full : length v.others + 1 ≡ k.threads) (id : ℕ) (ws : List ℕ) (xs : List (Unit {0})) (final : Final (Seen (Holds T k) id v) ws xs) where
   last : ws ≡ (end_of T v.shape v.seen).words
-  last = closes T law k id v ws xs shape sp full final ∙ ap (λ (z : Shape). (end_of T z v.seen).words) (sym shape)
+  last = closes T law k id v ws xs shape sp full final ∙ ap (λ (z : Opening). (end_of T z v.seen).words) (sym shape)
 
-  pub last_words : IsLast (record { threads = k.threads; quota = k.quota; words = ws })
-  last_words = subst (λ (z : Shape). IsLast (record { threads = z.threads; quota = z.quota; words = ws })) shape
-      (record { machine = T; law = law; events = v.seen; run = st.ran; words = last })
+  pub last_words : IsLast (record { sizes = sizes k; words = ws })
+  last_words = subst (λ (z : Opening). IsLast (record { sizes = sizes z; words = ws })) shape
+      (record { opening = v.shape; of_sizes = refl; machine = T; law = law; events = v.seen; run = st.ran; words = last })
 
-  pub last_explains : RunsAreLinearizable T → (keys : List ℕ) → HasKeys (record { threads = k.threads; quota = k.quota; words = ws }) keys → Explains k (record_of v.past ∷ []) keys
-  last_explains linear = subst (λ (z : Shape). (keys : List ℕ) → HasKeys (record { threads = z.threads; quota = z.quota; words = ws }) keys → Explains z (record_of v.past ∷ []) keys) shape
-      (closed_explains T law v st idle linear (full ∙ sym (ap (λ (z : Shape). z.threads) shape)) ws last)
+  pub last_explains : RunsAreLinearizable T → (keys : List ℕ) → HasKeys (record { sizes = sizes k; words = ws }) keys → Explains k (record_of v.past ∷ []) keys
+  last_explains linear = subst (λ (z : Opening). (keys : List ℕ) → HasKeys (record { sizes = sizes z; words = ws }) keys → Explains z (record_of v.past ∷ []) keys) shape
+      (closed_explains T law v st idle linear (full ∙ sym (ap (λ (z : Opening). z.threads) shape)) ws last)
 
 -- THE LAST WORDS
 pub laws_of : (c : LastWords) → IsLast c → HasLaws c
 laws_of c l =
-    let s : State = end_of l.machine (shape_of c) l.events in
-    let laws : StateLaws l.machine.marks c.threads c.quota s = end_laws l.machine l.law (shape_of c) l.events l.run in
-    let n : length c.words ≡ word_count c.threads c.quota = ap length l.words ∙ laws.words in
-    subst (λ ws. HasLaws (record { threads = c.threads; quota = c.quota; words = ws })) (sym l.words) record {
-      few = let w = laws.words in let m = few_nodes c.threads c.quota l.run.limits.few l.run.limits.small in omega arith;
+    let s : State = end_of l.machine l.opening l.events in
+    let laws : StateLaws l.machine.marks c.sizes s = subst (λ (z : Sizes). StateLaws l.machine.marks z s) l.of_sizes
+    (end_laws l.machine l.law l.opening l.events l.run) in
+    let within : IsWithin c.sizes = subst (λ (z : Sizes). IsWithin z) l.of_sizes l.run.opens.within in
+    let n : length c.words ≡ word_count c.sizes = ap length l.words ∙ laws.words in
+    subst (λ ws. HasLaws (record { sizes = c.sizes; words = ws })) (sym l.words) record {
+      few = let w = laws.words in let m = nodes_within c.sizes within in omega arith;
       used = used_in s;
       ordered = laws.ordered;
       head_key = laws.head_key;
       tail_key = laws.tail_key;
-      inside = λ i p. let low : i < node_count c.threads c.quota = laws.inside i p in let w = laws.words in omega arith;
+      inside = λ i p. let low : i < node_count c.sizes = laws.inside i p in let w = laws.words in omega arith;
     }
 
 pub at_word : (l : List ℕ) (i x : ℕ) → get_elem? l i ≡ some x → x ≡ slice_index l i

@@ -14,7 +14,7 @@ use Rattle.lset_words.specs.declared.Reply.TheVariants as reply
 use Rattle.lset_words.specs.declared.history.CallRecord.{CallRecord}
 use Rattle.lset_words.specs.declared.history.Placed.{Placed}
 use Rattle.lset_words.specs.History.{Precedes, answered, call_numbered, no_call}
-use Rattle.lset_words.specs.SequentialSet.{SetState, Answered, IsLegal, empty_set, reply_to, after_call, has_key}
+use Rattle.lset_words.specs.SequentialSet.{SetState, Answered, IsLegal, opening_set, reply_to, after_call, has_key}
 use Rattle.lset_history.proofs.Histories.{IsPart, part_of}
 use Rattle.lset_headline.specs.Headline.{ExplainsRun, RunsAreLinearizable}
 use Rattle.lset_steps.specs.declared.Event.{Event}
@@ -24,7 +24,6 @@ use Rattle.lset_steps.specs.Laws.{Lawful}
 use Rattle.lset_rule.specs.declared.view.OwnCall.{OwnCall}
 use Rattle.lset_rule.specs.declared.view.Under.{Under}
 use Rattle.lset_rule.specs.declared.view.Aside.{Aside}
-use Rattle.lset_rule.specs.declared.view.Shape.{Shape}
 use Rattle.lset_rule.specs.declared.view.Past.{Past}
 use Rattle.lset_rule.specs.declared.view.View.{View}
 use Rattle.lset_rule.specs.Pasts.{calls_of, root}
@@ -39,6 +38,7 @@ use Rattle.lset_live.specs.Seats.{reply_of, is_true}
 use Rattle.lset_live.proofs.Dated.{root_is, said_by}
 use Rattle.lset_live.proofs.Histories.{of_thread, ended_record, thread_records, MayBegin, thread_calls}
 use Rattle.lset_live.proofs.Orders.{keeps}
+use Rattle.lset_words.specs.Words.{Opening}
 
 -- a thread that begins a call has none under way
 may_begin : (T : Table) (s : State) (e : Event) (u : ℕ) (o : Option Under) → Tied o (local_of s u) → Enabled s e → MayBegin (entry_of T s e) u o
@@ -47,10 +47,10 @@ may_begin T s (Begin t c) u (Some x) ti en = λ is. absurd (ti.0 (ap (λ z. (loc
 may_begin T s (Go t) u o ti en = tt
 
 -- the calls of a thread of a run of events
-calls_of_thread : (T : Table) (law : Lawful T) (k : Shape) (es : List Event) → IsRunOf T k es → (u : ℕ) → u < k.threads
+calls_of_thread : (T : Table) (law : Lawful T) (k : Opening) (es : List Event) → IsRunOf T k es → (u : ℕ) → u < k.threads
     → of_thread u (history_of T k es) ≡ thread_records u (at_end T k es u).done (at_end T k es u).under
 calls_of_thread T law k es r u low = thread_calls (log_by T k es) u (length es)
-    (λ j l. may_begin T (state_at T k.threads k.quota (event_at es) j) (event_at es j) u _ (tied T law k.threads k.quota (event_at es) (length es) r u j low (omega arith)) (r.enabled j l)) (length es) (omega arith)
+    (λ j l. may_begin T (state_at T k (event_at es) j) (event_at es j) u _ (tied T law k (event_at es) (length es) r u j low (omega arith)) (r.enabled j l)) (length es) (omega arith)
 
 -- a further thread of a view is idle, and its calls are those of the record
 aside_idle : (w : ℕ → Here) (t : ℕ) (r : Past) (os : List Aside) → AreIdle w t r os → (u : ℕ) → HasAside os u → ((w u).under ≡ None) × ((w u).done ≡ calls_of u r)
@@ -73,10 +73,10 @@ module _ (T : Table) (law : Lawful T) (v : View) (st : Stands T v) (idle : v.und
 
   module _ (linear : RunsAreLinearizable T) where
     abbrev pub order : List Placed
-    order = (linear v.shape.threads v.shape.quota (length v.seen) (event_at v.seen) st.ran).0
+    order = (linear v.shape (length v.seen) (event_at v.seen) st.ran).0
 
-    pub explains : ExplainsRun T v.shape.threads v.shape.quota (event_at v.seen) (length v.seen) order
-    explains = (linear v.shape.threads v.shape.quota (length v.seen) (event_at v.seen) st.ran).1
+    pub explains : ExplainsRun T v.shape (event_at v.seen) (length v.seen) order
+    explains = (linear v.shape (length v.seen) (event_at v.seen) st.ran).1
 
     pub part : IsPart v.shape.threads [] (history_of T v.shape v.seen)
     part = part_of v.shape.threads [] (history_of T v.shape v.seen) explains.history
@@ -88,7 +88,7 @@ module _ (T : Table) (law : Lawful T) (v : View) (st : Stands T v) (idle : v.und
     turns i j lt l same = (part.pairs i j no_call lt l).none_open same
 
     pub kept : Keeps (map (answered (history_of T v.shape v.seen)) order) (record_of v.past)
-    kept = keeps v.shape.quota (empty_set v.shape.threads) (history_of T v.shape v.seen) order explains.linearizes turns
+    kept = keeps v.shape.quota (opening_set v.shape) (history_of T v.shape v.seen) order explains.linearizes turns
         (λ u. calls_of u v.past) v.past st.apart st.ordered (λ u h. own u (st.named u h)) (λ u. refl)
 
     pub explained : IsExplained T v.shape v.seen (record_of v.past)
@@ -171,8 +171,8 @@ read_is_truth T law linear key v r w m =
     let ex : IsExplained T w.shape w.seen (called (record_of v.past) (call_of call)) =
     subst (λ p. IsExplained T w.shape w.seen p) (ap record_of m.past) (made_explained T law linear (Contains key) v r w m) in
     let at = ex.keeps.1.1 in
-    let l = legal_at w.shape.quota (empty_set w.shape.threads) at.before (said_by (thread_of (record_of v.past)) call) at.after
-    (subst (λ o. IsLegal w.shape.quota (empty_set w.shape.threads) o) at.is ex.linearizes.legal) in
+    let l = legal_at w.shape.quota (opening_set w.shape) at.before (said_by (thread_of (record_of v.past)) call) at.after
+    (subst (λ o. IsLegal w.shape.quota (opening_set w.shape) o) at.is ex.linearizes.legal) in
     is_truth (has_key key.0 l.0.keys) r l.1
 
 pub as_bool : (T : Table) (law : Lawful T) → RunsAreLinearizable T → (key : Key) (v : View) (r : Reply) (w : View) → Makes T (Contains key) v r w

@@ -2,10 +2,10 @@
 use Rattle.std.proofs.Common.{◌≡◌, ℕ, inl, inr, ⊎_elim, List, [], ◌∷◌, ◌++◌, Option, Some, None, IfSome, All, refl, subst, sym}
 use Rattle.std.proofs.lemmas.List.Elements.{All-head, All-cons, All-nil}
 use Rattle.lset_words.specs.SequentialSet.{Answered}
-use Rattle.lset_rule.specs.declared.view.Shape.{Shape}
 use Rattle.lset_live.specs.Records.{CallMade, Record, called, gathered, with_calls, thread_of, Names, Keeps}
 use Rattle.lset_live.specs.Seats.{gather_onto}
 use Rattle.lset_live.specs.Explained.{NamedIn, Explains}
+use Rattle.lset_words.specs.Words.{Opening}
 
 pub with_calls-append : (r : Record) (xs ys : List CallMade) → with_calls r (xs ++ ys) ≡ with_calls (with_calls r xs) ys
 with_calls-append r [] ys = refl
@@ -35,7 +35,7 @@ unnamed u None (q ∷ qs) h n = unnamed u (Some q) qs (λ x. n (inl x)) (λ x. n
 unnamed u (Some p) (q ∷ qs) h n = unnamed u (Some (gathered p q)) qs (λ x. ⊎_elim h (λ y. n (inl y)) x) (λ x. n (inr x))
 
 -- an order that explains the gathered record explains each of those that were gathered
-pub gathered_explains : (k : Shape) (r : Record) (rs : List Record) (keys : List ℕ) → Some r ≡ gather_onto None rs → Explains k (r ∷ []) keys → Explains k rs keys
+pub gathered_explains : (k : Opening) (r : Record) (rs : List Record) (keys : List ℕ) → Some r ≡ gather_onto None rs → Explains k (r ∷ []) keys → Explains k rs keys
 gathered_explains k r rs keys e x = record {
   order = x.order;
   legal = x.legal;

@@ -1,41 +1,38 @@
 -- What a closed set says.
 use Rattle.std.specs.Prelude.{◌≡◌, ℕ, ◌<◌, ◌≤◌, List, length}
 use Rattle.lset_words.specs.declared.TheConstants.{MOST_WORDS}
-use Rattle.lset_words.specs.Words.{lock_index, tail_word}
+use Rattle.lset_words.specs.Words.{lock_index, tail_word, Opening, sizes, Sizes}
 use Rattle.lset_steps.specs.declared.Event.{Event}
 use Rattle.lset_steps.specs.Chain.{view, IsOrdered}
 use Rattle.lset_steps.specs.Worlds.{IsContent}
 use Rattle.lset_steps.specs.Steps.{Table}
 use Rattle.lset_steps.specs.Laws.{Lawful}
-use Rattle.lset_rule.specs.declared.view.Shape.{Shape}
 use Rattle.lset_rule.specs.Runs.{end_of, IsRunOf}
 
 -- the words that a run has left
 pub record LastWords : Type 0 where
-  pub threads : ℕ
-  pub quota : ℕ
+  pub sizes : Sizes
   pub words : List ℕ
-
-abbrev pub shape_of : LastWords → Shape
-shape_of c = record { threads = c.threads; quota = c.quota }
 
 -- they are those after the events of a run of some list
 pub record IsLast (c : LastWords) : Type 0 where
+  pub opening : Opening
+  pub of_sizes : sizes opening ≡ c.sizes
   pub machine : Table
   pub law : Lawful machine
   pub events : List Event
-  pub run : IsRunOf machine (shape_of c) events
-  pub words : c.words ≡ (end_of machine (shape_of c) events).words
+  pub run : IsRunOf machine opening events
+  pub words : c.words ≡ (end_of machine opening events).words
 
 -- [Content] of the words: the keys of the unmarked nodes of the chain, rising
 abbrev pub HasKeys : LastWords → List ℕ → Type 0
-HasKeys c keys = IsContent (view c.threads c.quota c.words (λ t. 0)) keys
+HasKeys c keys = IsContent (view c.sizes c.words (λ t. 0)) keys
 
 -- what the walk along the chain rests on
 pub record HasLaws (c : LastWords) : Type 0 where
   pub few : length c.words ≤ MOST_WORDS
   pub used : ℕ → ℕ
-  pub ordered : IsOrdered (view c.threads c.quota c.words used)
-  pub head_key : (view c.threads c.quota c.words used).key 0 ≡ 0
-  pub tail_key : (view c.threads c.quota c.words used).key 1 ≡ tail_word
-  pub inside : (i : ℕ) → (view c.threads c.quota c.words used).published i → lock_index i < length c.words
+  pub ordered : IsOrdered (view c.sizes c.words used)
+  pub head_key : (view c.sizes c.words used).key 0 ≡ 0
+  pub tail_key : (view c.sizes c.words used).key 1 ≡ tail_word
+  pub inside : (i : ℕ) → (view c.sizes c.words used).published i → lock_index i < length c.words

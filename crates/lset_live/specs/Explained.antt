@@ -6,17 +6,17 @@ use Rattle.lset_words.specs.declared.Call.{Call}
 use Rattle.lset_words.specs.declared.Reply.{Reply}
 use Rattle.lset_words.specs.declared.history.Placed.{Placed}
 use Rattle.lset_words.specs.History.{Linearizes, answered}
-use Rattle.lset_words.specs.SequentialSet.{Answered, IsLegal, empty_set, set_left}
+use Rattle.lset_words.specs.SequentialSet.{Answered, IsLegal, opening_set, set_left}
 use Rattle.lset_steps.specs.declared.Event.{Event}
 use Rattle.lset_steps.specs.declared.Event.TheVariants.{Begin, Go}
 use Rattle.lset_steps.specs.Steps.{Table}
-use Rattle.lset_rule.specs.declared.view.Shape.{Shape}
 use Rattle.lset_rule.specs.Runs.{IsRunOf, history_of}
 use Rattle.lset_live.specs.Records.{Record, Names, Keeps, calls_by}
+use Rattle.lset_words.specs.Words.{Opening}
 
 -- The call c of thread t answered r: it began after the events that were seen before it, and its answering step is the last of
 -- the events that are seen now.
-pub record IsAnswered (T : Table) (k : Shape) (t : ℕ) (c : Call) (r : Reply) (before after : List Event) : Type 0 where
+pub record IsAnswered (T : Table) (k : Opening) (t : ℕ) (c : Call) (r : Reply) (before after : List Event) : Type 0 where
   pub others : List Event
   pub since : List Event
   pub is : after ≡ (before ++ others) ++ Begin t c ∷ since ++ Go t ∷ []
@@ -28,12 +28,12 @@ pub record IsAnswered (T : Table) (k : Shape) (t : ℕ) (c : Call) (r : Reply) (
     ended = Some (length after, r);
   })
 
--- The events are a run of the machine, and an order of its calls linearizes their history, from the empty set, and keeps the
+-- The events are a run of the machine, and an order of its calls linearizes their history, from the opening set, and keeps the
 -- record.
-pub record IsExplained (T : Table) (k : Shape) (events : List Event) (r : Record) : Type 0 where
+pub record IsExplained (T : Table) (k : Opening) (events : List Event) (r : Record) : Type 0 where
   pub run : IsRunOf T k events
   pub order : List Placed
-  pub linearizes : Linearizes k.quota (empty_set k.threads) (history_of T k events) order
+  pub linearizes : Linearizes k.quota (opening_set k) (history_of T k events) order
   pub keeps : Keeps (map (answered (history_of T k events)) order) r
 
 -- some record of the list names the thread
@@ -42,10 +42,10 @@ NamedIn u [] = ⊥
 NamedIn u (r ∷ rs) = Names u r ⊎ NamedIn u rs
 
 -- ONE LEGAL ORDER of calls keeps each of the records, has no other call, and leaves the keys.
-pub record Explains (k : Shape) (records : List Record) (keys : List ℕ) : Type 0 where
+pub record Explains (k : Opening) (records : List Record) (keys : List ℕ) : Type 0 where
   pub order : List Answered
-  pub legal : IsLegal k.quota (empty_set k.threads) order
+  pub legal : IsLegal k.quota (opening_set k) order
   pub keeps : All (Keeps order) records
   pub threads : All (λ (a : Answered). a.thread < k.threads) order
   pub no_other : (u : ℕ) → u < k.threads → ¬ (NamedIn u records) → calls_by u order ≡ []
-  pub leaves : (set_left (empty_set k.threads) order).keys ≡ keys
+  pub leaves : (set_left (opening_set k) order).keys ≡ keys

@@ -1,14 +1,15 @@
 -- What contracts see of a running set and of a seat.
-use Rattle.std.specs.Prelude.{◌≡◌, ℕ, Bool, true, false, List, [], ◌∷◌, Option, Some, None, map}
+use Rattle.std.specs.Prelude.{◌≡◌, ◌<◌, ◌≤◌, ◌⊎◌, length, ℕ, Bool, true, false, List, [], ◌∷◌, Option, Some, None, map}
 use Rattle.std.specs.List.{range_with_len}
+use Rattle.std.specs.List.Sorted.{IsStrictlyIncreasing}
+use Rattle.lset_words.specs.declared.TheConstants.{MOST_THREADS, MOST_QUOTA, MOST_OPENING}
 use Rattle.atomic_table.specs.Seated.{TableId}
 use Rattle.lset_words.specs.declared.Reply.{Reply}
 use Rattle.lset_words.specs.declared.Reply.TheVariants.{True, False, Full}
 use Rattle.lset_words.specs.declared.Reply.TheVariants as reply
 use Rattle.lset_words.specs.declared.fault.LayoutFault.TheVariants as layout
-use Rattle.lset_words.specs.Words.{Sizes, IsWithin, RefusesSizes}
+use Rattle.lset_words.specs.Words.{Sizes, IsWithin, RefusesSizes, Opening, Opens, sizes}
 use Rattle.lset_steps.specs.declared.Event.{Event}
-use Rattle.lset_rule.specs.declared.view.Shape.{Shape}
 use Rattle.lset_live.specs.declared.fault.OpenFault.{OpenFault}
 use Rattle.lset_live.specs.declared.fault.OpenFault.TheVariants as fault
 use Rattle.lset_live.specs.Records.{Record, fresh, gathered}
@@ -16,7 +17,7 @@ use Rattle.lset_live.specs.Records.{Record, fresh, gathered}
 -- a set: its table, its threads and its quota
 pub record SetValue : Type 0 where
   pub table : TableId
-  pub shape : Shape
+  pub shape : Opening
 
 -- a seat: its set, its record, the seats that it holds (itself included), and the events that it has seen. The running program
 -- stores none of these but the count.
@@ -30,16 +31,24 @@ pub record SeatValue : Type 0 where
 abbrev pub new_seat : SetValue → ℕ → SeatValue
 new_seat set t = record { set = set; past = fresh t; held = 1; events = [] }
 
--- a set that was just opened with these numbers: seat t is that of thread t
-abbrev pub IsOpened : SetValue → ℕ → ℕ → List SeatValue → Type 0
-IsOpened set threads quota seats = (set.shape ≡ record { threads = threads; quota = quota })
-    × (seats ≡ map (new_seat set) (range_with_len 0 threads))
+-- a set that was just opened so: seat t is that of thread t
+abbrev pub IsOpened : SetValue → Opening → List SeatValue → Type 0
+IsOpened set opening seats = (set.shape ≡ opening) × (seats ≡ map (new_seat set) (range_with_len 0 opening.threads))
 
 -- why a set is not opened; want of memory, within the limits, is not told apart
 abbrev pub RefusesSeats : Sizes → OpenFault → Type 0
 RefusesSeats s fault.Seats = RefusesSizes s layout.Threads
 RefusesSeats s fault.Quota = RefusesSizes s layout.Quota
 RefusesSeats s fault.Memory = IsWithin s
+RefusesSeats s fault.Opening = ⊥
+
+-- the same of a set that is to open with keys: they do not rise strictly, or are too many
+abbrev pub RefusesOpening : Opening → OpenFault → Type 0
+RefusesOpening o fault.Seats = RefusesSizes (sizes o) layout.Threads
+RefusesOpening o fault.Quota = RefusesSizes (sizes o) layout.Quota
+RefusesOpening o fault.Memory = Opens o
+RefusesOpening o fault.Opening = ((0 < o.threads) × (o.threads ≤ MOST_THREADS) × (o.quota ≤ MOST_QUOTA))
+    × ((IsStrictlyIncreasing o.keys → ⊥) ⊎ (MOST_OPENING < length o.keys))
 
 -- what an answer of `contains_now` counts as
 abbrev pub reply_of : Bool → Reply

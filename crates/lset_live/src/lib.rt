@@ -13,7 +13,7 @@ mod set_calls;
 pub use closed::Closed;
 pub use fault::OpenFault;
 pub use lset_rule::{Pause, Spin};
-pub use opening::open;
+pub use opening::{open, open_with};
 pub use running::{Running, RunningReads};
 pub use seat::Seat;
 pub use set::{LiveSet, SeatsOut};

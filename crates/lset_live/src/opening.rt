@@ -1,6 +1,9 @@
 //! Opening a set.
-ghost use Rattle.std.specs.Prelude.{◌≡◌, All, IfOk, IfErr};
-ghost use Rattle.lset_live.specs.Seats.{IsOpened, RefusesSeats};
+ghost use Rattle.std.specs.Prelude.{◌≡◌, ◌↔◌, IsTrue, length, All, IfOk, IfErr};
+ghost use Rattle.std.specs.List.Sorted.{IsStrictlyIncreasing};
+ghost use Rattle.lset_words.specs.Words.{empty};
+ghost use Rattle.lset_steps.specs.Steps.{opening_of};
+ghost use Rattle.lset_live.specs.Seats.{IsOpened, RefusesSeats, RefusesOpening};
 
 use crate::fault::OpenFault;
 use crate::running::Running;
@@ -9,25 +12,32 @@ use crate::set::LiveSet;
 use atomic_table::Table;
 use lset_rule::{Shape, Slots};
 use lset_steps::opening_words;
-use lset_words::{Layout, LayoutFault, layout};
+use lset_words::{Layout, LayoutFault, layout, layout_opening};
 use std::alloc::{AllocError, Global};
 use std::marker::PhantomData;
 
 fn open_on<M: Running>(
     alloc: Global,
     layout: Layout,
+    keys: &[u32],
 ) -> Result<(LiveSet<M>, Vec<Seat<M>>), AllocError>
-    ensures { IfOk result (λ r. IsOpened r.0 layout.threads layout.quota r.1.items) }
+    requires many { length keys.now ≡ layout.opening }
+    requires rising { IsStrictlyIncreasing keys.now }
+    ensures { IfOk result (λ r. IsOpened r.0 (opening_of layout keys.now) r.1.items) }
 {
     let threads = layout.threads();
     let quota = layout.quota();
-    let words = opening_words(alloc, &layout)?;
-    let (table, mut place) = Table::of_words(alloc, words.as_slice(), &Shape { threads, quota })?;
+    let opening = layout.opening();
+    let words = opening_words(alloc, &layout, keys)?;
+    let copied = Vec::from_slice(alloc, keys)?;
+    let shape = Shape::new(threads, quota, copied);
+    let (table, mut place) = Table::of_words(alloc, words.as_slice(), &shape)?;
     let set = LiveSet {
         alloc,
         table,
         threads,
         quota,
+        opening,
     };
     let last = threads - 1;
     let mut seats = Vec::new(alloc);
@@ -60,15 +70,52 @@ pub fn open<M: Running>(
     seats: u32,
     quota: u32,
 ) -> Result<(LiveSet<M>, Vec<Seat<M>>), OpenFault>
-    ensures opened { IfOk result (λ r. IsOpened r.0 seats quota r.1.items) }
+    ensures opened { IfOk result (λ r. IsOpened r.0 (empty seats quota) r.1.items) }
     ensures seats { IfOk result (λ r. All (λ s. s.set ≡ r.0) r.1.items) }
-    ensures refused { IfErr result (RefusesSeats (record { threads = seats; quota = quota })) }
+    ensures refused { IfErr result (RefusesSeats (record { threads = seats; quota = quota; opening = 0 })) }
 {
     match layout(seats, quota) {
-        Ok(layout) => match open_on::<M>(alloc, layout) {
+        Ok(layout) => match open_on::<M>(alloc, layout, &[]) {
             Ok(opened) => Ok(opened),
             Err(_) => Err(OpenFault::Memory),
         },
+        Err(LayoutFault::Threads) => Err(OpenFault::Seats),
+        Err(LayoutFault::Quota) => Err(OpenFault::Quota),
+        Err(LayoutFault::Opening) => unreachable!(),
+    }
+}
+
+/// Whether the keys rise strictly.
+fn rises(keys: &[u32]) -> bool
+    ensures { IsTrue result ↔ IsStrictlyIncreasing keys.now }
+{
+    for i in 1..keys.len() {
+        if keys[i - 1] >= keys[i] {
+            return false;
+        }
+    }
+    true
+}
+
+/// Opens a set with these keys, which rise strictly and are at most `MOST_OPENING`, and else as `open` does.
+/// `OpenFault::Seats` and `OpenFault::Quota` come first, then `OpenFault::Opening`.
+pub fn open_with<M: Running>(
+    alloc: Global,
+    seats: u32,
+    quota: u32,
+    keys: &[u32],
+) -> Result<(LiveSet<M>, Vec<Seat<M>>), OpenFault>
+    ensures opened { IfOk result (λ r. IsOpened r.0 (record { threads = seats; quota = quota; keys = keys.now }) r.1.items) }
+    ensures seats { IfOk result (λ r. All (λ s. s.set ≡ r.0) r.1.items) }
+    ensures refused { IfErr result (RefusesOpening (record { threads = seats; quota = quota; keys = keys.now })) }
+{
+    let many = u32::try_from(keys.len()).unwrap_or(u32::MAX);
+    match layout_opening(seats, quota, many) {
+        Ok(layout) if rises(keys) => match open_on::<M>(alloc, layout, keys) {
+            Ok(opened) => Ok(opened),
+            Err(_) => Err(OpenFault::Memory),
+        },
+        Ok(_) | Err(LayoutFault::Opening) => Err(OpenFault::Opening),
         Err(LayoutFault::Threads) => Err(OpenFault::Seats),
         Err(LayoutFault::Quota) => Err(OpenFault::Quota),
     }

@@ -1,6 +1,6 @@
 //! A running set and its calls.
 ghost use Rattle.std.specs.Prelude.{◌≡◌, ◌≢◌, ◌+◌, ◌<◌, ◌≤◌, ℕ, List, [], ◌∷◌, length, IfOk, IfErr};
-ghost use Rattle.lset_words.specs.Words.{word_count};
+ghost use Rattle.lset_words.specs.Words.{word_count, sizes};
 ghost use Rattle.lset_words.specs.declared.Call.TheVariants.{Add, Remove, Contains, Ceiling};
 ghost use Rattle.lset_words.specs.declared.TheConstants.{MOST_QUOTA, MOST_THREADS};
 ghost use Rattle.lset_rule.specs.declared.view.Past.{Fresh};
@@ -8,7 +8,7 @@ ghost use Rattle.lset_rule.specs.Views.{IsIdle};
 ghost use Rattle.lset_rule.specs.Seats.{IsOf};
 ghost use Rattle.lset_rule.specs.Runs.{StartsWith};
 ghost use Rattle.lset_rule.specs.Rule.{left_view, right_view};
-ghost use Rattle.lset_live.specs.Closes.{HasKeys, shape_of};
+ghost use Rattle.lset_live.specs.Closes.{HasKeys};
 ghost use Rattle.lset_live.specs.Explained.{Explains, IsAnswered, IsExplained};
 ghost use Rattle.lset_live.specs.Records.{called, gathered, thread_of};
 ghost use Rattle.lset_live.specs.Seats.{is_true, reply_of};
@@ -31,9 +31,10 @@ pub struct LiveSet<M: Running> {
     pub(crate) table: Table<(), View, Shape, Follows<M>, Global>,
     pub(crate) threads: u32,
     pub(crate) quota: u32,
+    pub(crate) opening: u32,
     pub(crate) alloc: Global,
-    ghost sized: { (table.shared.table_id.words ≡ word_count threads quota) × (table.shared.table_id.slots ≡ 0) },
-    ghost shaped: { table.shared.key ≡ record { threads = threads; quota = quota } },
+    ghost sized: { (table.shared.table_id.words ≡ word_count (record { threads = threads; quota = quota; opening = opening })) × (table.shared.table_id.slots ≡ 0) },
+    ghost shaped: { sizes table.shared.key ≡ record { threads = threads; quota = quota; opening = opening } },
     ghost within: { (0 < threads) × (threads ≤ MOST_THREADS) × (quota ≤ MOST_QUOTA) },
 }
 
@@ -190,6 +191,7 @@ impl<M: Running> LiveSet<M> {
             table,
             threads,
             quota,
+            opening,
         } = self;
         let Seat {
             place,
@@ -203,6 +205,7 @@ impl<M: Running> LiveSet<M> {
             words,
             threads,
             quota,
+            opening,
         })
     }
 

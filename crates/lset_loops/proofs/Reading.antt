@@ -6,7 +6,7 @@ use Rattle.lset_words.specs.declared.Call.{Call}
 use Rattle.lset_words.specs.declared.Call.TheVariants.{Contains}
 use Rattle.lset_words.specs.declared.Reply.{Reply}
 use Rattle.lset_words.specs.declared.Reply.TheVariants.{True, False}
-use Rattle.lset_words.specs.Words.{key_index, link_index, target}
+use Rattle.lset_words.specs.Words.{key_index, link_index, target, sizes}
 use Rattle.lset_words.proofs.Numbers.{if_below, if_not_below, if_same, if_other}
 use Rattle.lset_steps.specs.declared.Local.{Local}
 use Rattle.lset_steps.specs.declared.Fed.{Fed}
@@ -108,19 +108,19 @@ pub ends_22 : (m : Table) → HasReading m → (k : Key) (v : View) (x : ℕ) (w
 ends_22 m laws k v x w n w' at g = ends m k v 22 x w n w' (if n % 2 == 0 then True else False) at g
     (((laws.row_22 (reading_row k v 22 x) refl).1 n).0 ∙ leaves_by (n % 2 == 0) (reading_row k v 22 x))
 
-pub small : (m : Table) → Lawful m → (k : Key) (v : View) (pc x : ℕ) (w : View) → v.spent ≡ false → AtRead m k v pc x w → x ≤ 1048578
-small m law k v pc x w sp at = let s : x < 1048578 = (row_small m law (Contains k) v w (reading_row k v pc x) sp at).curr in omega arith
+pub small : (m : Table) → Lawful m → (k : Key) (v : View) (pc x : ℕ) (w : View) → v.spent ≡ false → AtRead m k v pc x w → x ≤ 2097154
+small m law k v pc x w sp at = let s : x < 2097154 = (row_small m law (Contains k) v w (reading_row k v pc x) sp at).curr in omega arith
 
 -- two steps more
 pub falls : (m : Table) (law : Lawful m) → BoundedReads m → (k : Key) (v : View) (x n n' : ℕ) (w w' w'' : View) → v.spent ≡ false → AtRead m k v 21 x w → AtRead m k v 20 x w' → AtRead m k v 21 (n' / 2) w''
     → Goes m w n w' → Goes m w' n' w''
-    → most_reads v.shape.threads v.shape.quota - steps_of w''.under < most_reads v.shape.threads v.shape.quota - steps_of w.under
+    → most_reads (sizes v.shape) - steps_of w''.under < most_reads (sizes v.shape) - steps_of w.under
 falls m law reads k v x n n' w w' w'' sp at at' at'' g g' =
     let c : Call = Contains k in
     let a = reading_row k v 21 x in
     let b = reading_row k v 20 x in
     let d = reading_row k v 21 (n' / 2) in
-    let low : steps_of w.under < most_reads v.shape.threads v.shape.quota = low_steps m law reads k v w a sp at in
+    let low : steps_of w.under < most_reads (sizes v.shape) = low_steps m law reads k v w a sp at in
     let one : steps_of w'.under ≡ steps_of w.under + 1 = more_steps m n v w w' a b c at at' g in
     let two : steps_of w''.under ≡ steps_of w'.under + 1 = more_steps m n' v w' w'' b d c at' at'' g' in
     omega arith

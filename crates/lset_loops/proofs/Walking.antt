@@ -145,7 +145,7 @@ slot v = slot_node v.local.quota v.local.thread v.local.used
 pub slot_of : (v : View) (s : Slots) (n : ℕ) → s ≡ slots_of v.local → n ≡ slot_node s.quota s.thread s.used → n ≡ slot v
 slot_of v s n same is = is ∙ ap (λ (z : Slots). slot_node z.quota z.thread z.used) same
 
-pub few_slots : (c : Call) (v : View) (pc p x s : ℕ) (w : View) → v.spent ≡ false → At c v pc p x s w → slot v ≤ 1048578
+pub few_slots : (c : Call) (v : View) (pc p x s : ℕ) (w : View) → v.spent ≡ false → At c v pc p x s w → slot v ≤ 2097154
 few_slots c v pc p x s w sp at = let m = small c v pc p x s w sp at in slot_small v.local.thread v.local.quota v.local.used m.thread m.quota m.used
 
 pub acts_5 : (c : Call) (v : View) (p x s : ℕ) (w : View) → At c v 5 p x s w → Store (key_index (slot v)) (target c) ≡ lock_free.next w.local

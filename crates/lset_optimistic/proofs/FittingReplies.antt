@@ -5,7 +5,7 @@ use Rattle.std.proofs.lemmas.List.FromFn.{get_or-map-range_with_len}
 use Rattle.lset_words.proofs.Numbers.{same_or_not, if_same, if_other}
 use Rattle.lset_words.specs.declared.Call.{Call}
 use Rattle.lset_words.specs.declared.Reply.{Reply}
-use Rattle.lset_words.specs.Words.{target}
+use Rattle.lset_words.specs.Words.{target, Sizes, Opening, sizes}
 use Rattle.lset_words.specs.Log.{Log, begun_at, has_changed, is_change, begun_after, changed_after}
 use Rattle.lset_steps.specs.declared.Local.{Local}
 use Rattle.lset_steps.specs.declared.Event.{Event}
@@ -33,18 +33,18 @@ none_is_not reply e = absurd (cc)
 some_is : (a b : Reply) → Some a ≡ Some b → a ≡ b
 some_is a b e = cc
 
-module _ (n q t : ℕ) (vs : ℕ → View) (first now : ℕ) (ws : List ℕ) (used : ℕ → ℕ) (done : Bool) (l : Local) (reply : Reply)
-    (m : Memory false n q ws used) (th : Thread At n q t vs first now ws used done l) (tn : t < n) (e : l.pc ≡ 8) where
-  fits_link : Window (view n q ws used) l → node_lock ws l.curr ≡ t + 1 → Held (view n q ws used) t l.pred
+module _ (sz : Sizes) (t : ℕ) (vs : ℕ → View) (first now : ℕ) (ws : List ℕ) (used : ℕ → ℕ) (done : Bool) (l : Local) (reply : Reply)
+    (m : Memory false sz ws used) (th : Thread At sz t vs first now ws used done l) (tn : t < sz.threads) (e : l.pc ≡ 8) where
+  fits_link : Window (view sz ws used) l → node_lock ws l.curr ≡ t + 1 → Held (view sz ws used) t l.pred
       → (at_link (node_link ws l.pred) (record l { pc = 8 })).reply ≡ Some reply
-      → (node_link ws l.pred / 2 ≡ l.curr) × FitsIn q (view n q ws used) t l.call reply
+      → (node_link ws l.pred / 2 ≡ l.curr) × FitsIn sz.quota (view sz ws used) t l.call reply
   fits_link f c x y = elim (same_or_not (node_link ws l.pred / 2) l.curr) [
-    | inl z ↦ (let made = decision m (record l { pc = 8 }) tn (keep n q t 8 l.reply l th.registers) th.counts f c x z in
+    | inl z ↦ (let made = decision m (record l { pc = 8 }) tn (keep sz t 8 l.reply l th.registers) th.counts f c x z in
         let told = ap (λ (k : Local). k.reply) (sym (if_same (node_link ws l.pred / 2) l.curr z
         (decided_on targets l.ckey (record l { pc = 8 })) (record l { pc = 14; reply = None }))) ∙ y in (
           z,
           elim made.1 [
-            | inl r ↦ subst (FitsIn q (view n q ws used) t l.call) (some_is r.0 reply (sym (ap (λ (k : Local). k.reply) r.1) ∙ told)) r.2
+            | inl r ↦ subst (FitsIn sz.quota (view sz ws used) t l.call) (some_is r.0 reply (sym (ap (λ (k : Local). k.reply) r.1) ∙ told)) r.2
             | inr o ↦ elim o [
               | inl r ↦ none_is_not reply (sym (ap (λ (k : Local). k.reply) r.0) ∙ told)
               | inr r ↦ none_is_not reply (sym (ap (λ (k : Local). k.reply) r.0) ∙ told)
@@ -58,9 +58,9 @@ module _ (n q t : ℕ) (vs : ℕ → View) (first now : ℕ) (ws : List ℕ) (us
   not_here : {A : Type 0} (p : ℕ) → l.pc ≡ p → p ≢ 8 → A
   not_here p f d = absurd (d (sym f ∙ e))
 
-  fits_row : At q t vs first now (view n q ws used) done l
+  fits_row : At sz.quota t vs first now (view sz ws used) done l
       → (at_link (node_link ws l.pred) (record l { pc = 8 })).reply ≡ Some reply
-      → (node_link ws l.pred / 2 ≡ l.curr) × FitsIn q (view n q ws used) t l.call reply
+      → (node_link ws l.pred / 2 ≡ l.curr) × FitsIn sz.quota (view sz ws used) t l.call reply
   fits_row (at0 f) = not_here 0 f (omega arith)
   fits_row (at1 f d) = not_here 1 f (omega arith)
   fits_row (at2 f d x k) = not_here 2 f (omega arith)
@@ -84,17 +84,17 @@ link_row : (ws : List ℕ) (l : Local) → l.pc ≡ 8
 link_row ws l e = rw e refl
 
 -- where a thread at 8 makes its step, and has a reply then
-fits_at : (n q last : ℕ) (es : ℕ → Event) (r : Run optimistic n q es last) (t : ℕ) (tn : t < n) (k : ℕ) → k < last → es k ≡ Go t
-    → (held_at n q es k t).pc ≡ 8 → (reply : Reply)
-    → (local_after (held_at n q es k t) (seen_next optimistic (state_at optimistic n q es k) t)).reply ≡ Some reply
-    → ((world_at n q es k).link (held_at n q es k t).pred / 2 ≡ (held_at n q es k t).curr)
-    × FitsIn q (world_at n q es k) t (held_at n q es k t).call reply
-fits_at n q last es r t tn k l goes e reply y =
-    let i = inv_at optimistic false At (discipline_of optimistic (node_locks false) At optimistic_follows) n q es last r k (omega arith) in
-    let s : State = state_at optimistic n q es k in
+fits_at : (op : Opening) (last : ℕ) (es : ℕ → Event) (r : Run optimistic op es last) (t : ℕ) (tn : t < op.threads) (k : ℕ) → k < last → es k ≡ Go t
+    → (held_at op es k t).pc ≡ 8 → (reply : Reply)
+    → (local_after (held_at op es k t) (seen_next optimistic (state_at optimistic op es k) t)).reply ≡ Some reply
+    → ((world_at op es k).link (held_at op es k t).pred / 2 ≡ (held_at op es k t).curr)
+    × FitsIn op.quota (world_at op es k) t (held_at op es k t).call reply
+fits_at op last es r t tn k l goes e reply y =
+    let i = inv_at optimistic false At (discipline_of optimistic (node_locks false) At optimistic_follows) op es last r k (omega arith) in
+    let s : State = state_at optimistic op es k in
     let th = i.threads t tn in
-    fits_row n q t (views optimistic n q es) (begun_at (log_of optimistic n q es) t k) k s.words (used_in s)
-    (has_changed (log_of optimistic n q es) t k) (local_of s t) reply i.memory th tn e th.at
+    fits_row (sizes op) t (views optimistic op es) (begun_at (log_of optimistic op es) t k) k s.words (used_in s)
+    (has_changed (log_of optimistic op es) t k) (local_of s t) reply i.memory th tn e th.at
     (ap (λ (x : Local). x.reply) (sym (link_row s.words (local_of s t) e)) ∙ y)
 
 -- WHERE A REPLY COMES FROM: a step to a row that gives a lock back (14, 15), with a reply, is the load of pc 8, or a change, or one from
@@ -174,20 +174,20 @@ not_true true b e f = absurd (cc)
 not_true false b e f = absurd (cc)
 
 -- A RUN
-module _ (n q last : ℕ) (es : ℕ → Event) (r : Run optimistic n q es last) (t : ℕ) (tn : t < n) where
+module _ (op : Opening) (last : ℕ) (es : ℕ → Event) (r : Run optimistic op es last) (t : ℕ) (tn : t < op.threads) where
   abbrev L : Log
-  L = log_of optimistic n q es
+  L = log_of optimistic op es
 
   abbrev S : ℕ → State
-  S k = state_at optimistic n q es k
+  S k = state_at optimistic op es k
 
   -- a thread that is about to give a lock back, with a reply and without a change, has made its load
   abbrev Settled : ℕ → ℕ → Bool → Local → Type 0
   Settled now first done l = (reply : Reply) → 14 ≤ l.pc → l.reply ≡ Some reply → done ≡ false
-      → FitsAtALoad n q es first now t l.call reply
+      → FitsAtALoad op es first now t l.call reply
 
-  later : {now first : ℕ} {call : Call} {reply : Reply} → FitsAtALoad n q es first now t call reply
-      → FitsAtALoad n q es first (suc now) t call reply
+  later : {now first : ℕ} {call : Call} {reply : Reply} → FitsAtALoad op es first now t call reply
+      → FitsAtALoad op es first (suc now) t call reply
   later {now} x = record {
     at = x.at;
     from = x.from;
@@ -215,17 +215,17 @@ module _ (n q last : ℕ) (es : ℕ → Event) (r : Run optimistic n q es last) 
   own_step k lt goes en settled reply h y u =
       let l : Local = local_of (S k) t in
       let seen : ℕ = seen_next optimistic (S k) t in
-      let th = known n q last es r t tn k (omega arith) in
+      let th = known op last es r t tn k (omega arith) in
       let same : local_of (after optimistic (S k) (Go t)) t ≡ local_after l seen =
       get_or-set_same (S k).locals t (local_after l seen) (idle 0 0) en.0 in
       let unchanged : (has_changed L t k || is_change (optimistic.effect l seen)) ≡ false =
       sym (if_same t t refl (has_changed L t k || is_change (optimistic.effect l seen)) (has_changed L t k)) ∙ u in
       let reply_is : (local_after l seen).reply ≡ Some reply = ap (λ (x : Local). x.reply) (sym same) ∙ y in
-      let same_call : (local_after l seen).call ≡ l.call = (optimistic_lawful.steps n q last k t es r lt goes).same_call in
-      subst (λ (x : Local). FitsAtALoad n q es (begun_at L t k) (suc k) t x.call reply) (sym same)
-      (subst (λ x. FitsAtALoad n q es (begun_at L t k) (suc k) t x reply) (sym same_call)
+      let same_call : (local_after l seen).call ≡ l.call = (optimistic_lawful.steps op last k t es r lt goes).same_call in
+      subst (λ (x : Local). FitsAtALoad op es (begun_at L t k) (suc k) t x.call reply) (sym same)
+      (subst (λ x. FitsAtALoad op es (begun_at L t k) (suc k) t x reply) (sym same_call)
       (elim (came l seen th.at en.1 reply (subst (λ (x : Local). 14 ≤ x.pc) same h) reply_is) [
-        | inl e ↦ (let fit = fits_at n q last es r t tn k lt goes e reply reply_is in record {
+        | inl e ↦ (let fit = fits_at op last es r t tn k lt goes e reply reply_is in record {
           at = k;
           from = th.begun;
           before = omega arith;
@@ -264,7 +264,7 @@ module _ (n q last : ℕ) (es : ℕ → Event) (r : Run optimistic n q es last) 
 
   settled_at : (k : ℕ) → k ≤ last → Now k
   settled_at zero l = λ reply h y u.
-      too_early (subst (λ (x : Local). 14 ≤ x.pc) (get_or-map-range_with_len (idle q) 0 n t t (idle 0 0) tn (omega arith)) h)
+      too_early (subst (λ (x : Local). 14 ≤ x.pc) (get_or-map-range_with_len (idle op.quota) 0 op.threads t t (idle 0 0) tn (omega arith)) h)
       (omega arith)
   settled_at (suc k) l = settle k (omega arith) (es k) refl (r.enabled k (omega arith)) (settled_at k (omega arith))
 
@@ -276,7 +276,7 @@ answers_at_the_end l reply e = elim (same_or_not l.pc 15) [
 ]
 
 pub optimistic_replies_fit_of : OptimisticRepliesFit
-optimistic_replies_fit_of n q last k t es reply r lt tn goes answered unchanged =
-    let l : Local = local_of (state_at optimistic n q es k) t in
+optimistic_replies_fit_of op last k t es reply r lt tn goes answered unchanged =
+    let l : Local = local_of (state_at optimistic op es k) t in
     let last_row = answers_at_the_end l reply answered in
-    settled_at n q last es r t tn k (omega arith) reply (let e : l.pc ≡ 15 = last_row.0 in omega arith) last_row.1 unchanged
+    settled_at op last es r t tn k (omega arith) reply (let e : l.pc ≡ 15 = last_row.0 in omega arith) last_row.1 unchanged

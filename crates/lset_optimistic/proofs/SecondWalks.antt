@@ -4,7 +4,7 @@ use Rattle.std.proofs.Common.{arith, inl, inr, sym, ◌∙◌, ap, subst, get_or
 use Rattle.lset_words.proofs.Numbers.{same_or_not, below_or_not, if_same, if_other, if_below, if_not_below}
 use Rattle.lset_words.specs.declared.Call.{Call}
 use Rattle.lset_words.specs.declared.Call.TheVariants.{Add, Remove, Contains, Ceiling}
-use Rattle.lset_words.specs.Words.{target, lock_index}
+use Rattle.lset_words.specs.Words.{target, lock_index, Opening, sizes}
 use Rattle.lset_words.specs.Log.{begun_at, has_changed}
 use Rattle.lset_steps.specs.declared.Local.{Local}
 use Rattle.lset_steps.specs.declared.Action.TheVariants.{Store}
@@ -175,42 +175,42 @@ module _ (s : State) (t : ℕ) where
   ]
 
 -- A RUN
-module _ (n q last : ℕ) (es : ℕ → Event) (r : Run optimistic n q es last) (t : ℕ) (tn : t < n) where
+module _ (op : Opening) (last : ℕ) (es : ℕ → Event) (r : Run optimistic op es last) (t : ℕ) (tn : t < op.threads) where
   abbrev vs : ℕ → View
-  vs = views optimistic n q es
+  vs = views optimistic op es
 
   pub known : (k : ℕ) → k ≤ last
-      → Thread At n q t (views optimistic n q es) (begun_at (log_of optimistic n q es) t k) k
-      (state_at optimistic n q es k).words (used_in (state_at optimistic n q es k))
-      (has_changed (log_of optimistic n q es) t k) (held_at n q es k t)
-  known k l = (inv_at optimistic false At (discipline_of optimistic (node_locks false) At optimistic_follows) n q es last r k l).threads t tn
+      → Thread At (sizes op) t (views optimistic op es) (begun_at (log_of optimistic op es) t k) k
+      (state_at optimistic op es k).words (used_in (state_at optimistic op es k))
+      (has_changed (log_of optimistic op es) t k) (held_at op es k t)
+  known k l = (inv_at optimistic false At (discipline_of optimistic (node_locks false) At optimistic_follows) op es last r k l).threads t tn
 
   facts_at : (k : ℕ) → k ≤ last
-      → Facts (views optimistic n q es) (begun_at (log_of optimistic n q es) t k) k (world_at n q es k) t (held_at n q es k t)
-  facts_at k l = facts q t (views optimistic n q es) (begun_at (log_of optimistic n q es) t k) k (world_at n q es k)
-      (has_changed (log_of optimistic n q es) t k) (held_at n q es k t) refl (known k l).at
+      → Facts (views optimistic op es) (begun_at (log_of optimistic op es) t k) k (world_at op es k) t (held_at op es k t)
+  facts_at k l = facts op.quota t (views optimistic op es) (begun_at (log_of optimistic op es) t k) k (world_at op es k)
+      (has_changed (log_of optimistic op es) t k) (held_at op es k t) refl (known k l).at
 
-  stays_for : (j d k : ℕ) → k ≡ j + d → k ≤ last → HasArrived (held_at n q es j t)
-      → ((i : ℕ) → j ≤ i → i < k → GivesBack n q es i t (held_at n q es j t).pred → ⊥)
-      → Stays (held_at n q es j t) (held_at n q es k t)
+  stays_for : (j d k : ℕ) → k ≡ j + d → k ≤ last → HasArrived (held_at op es j t)
+      → ((i : ℕ) → j ≤ i → i < k → GivesBack op es i t (held_at op es j t).pred → ⊥)
+      → Stays (held_at op es j t) (held_at op es k t)
   stays_for j zero k e l h f = let g : j ≡ k = omega arith in
-      subst (λ x. Stays (held_at n q es j t) (held_at n q es x t)) g (h, refl)
+      subst (λ x. Stays (held_at op es j t) (held_at op es x t)) g (h, refl)
   stays_for j (suc d) k e l h f =
-      let before : Stays (held_at n q es j t) (held_at n q es (j + d) t) =
+      let before : Stays (held_at op es j t) (held_at op es (j + d) t) =
       stays_for j d (j + d) refl (omega arith) h (λ i a b. f i a (omega arith)) in
-      let now : Stays (held_at n q es (j + d) t) (held_at n q es (suc (j + d)) t) =
-      event_stays (state_at optimistic n q es (j + d)) t (es (j + d)) (r.enabled (j + d) (omega arith)) before.0
+      let now : Stays (held_at op es (j + d) t) (held_at op es (suc (j + d)) t) =
+      event_stays (state_at optimistic op es (j + d)) t (es (j + d)) (r.enabled (j + d) (omega arith)) before.0
       (λ goes at.
       f (j + d) (omega arith) (omega arith)
-      (record { step = goes; stores = gives_back (held_at n q es (j + d) t) (held_at n q es j t).pred at before.1 })) in
+      (record { step = goes; stores = gives_back (held_at op es (j + d) t) (held_at op es j t).pred at before.1 })) in
       let g : suc (j + d) ≡ k = omega arith in
-      subst (λ x. Stays (held_at n q es j t) (held_at n q es x t)) g (now.0, now.1 ∙ before.1)
+      subst (λ x. Stays (held_at op es j t) (held_at op es x t)) g (now.0, now.1 ∙ before.1)
 
 pub validated_walk_of : ValidatedWalk
-validated_walk_of n q last t es r tn = record {
-  passes = λ k l w. (facts_at n q last es r t tn k l).walks w;
+validated_walk_of op last t es r tn = record {
+  passes = λ k l w. (facts_at op last es r t tn k l).walks w;
   arrives = λ j k a l h f.
-      (let s : Stays (held_at n q es j t) (held_at n q es k t) = stays_for n q last es r t tn j (k - j) k (omega arith) l h f in
-      subst (IsLockedInChain (world_at n q es k) t) s.1 ((facts_at n q last es r t tn k l).arrives s.0));
-  decides = λ k l from upto. (facts_at n q last es r t tn k l).decides from upto;
+      (let s : Stays (held_at op es j t) (held_at op es k t) = stays_for op last es r t tn j (k - j) k (omega arith) l h f in
+      subst (IsLockedInChain (world_at op es k) t) s.1 ((facts_at op last es r t tn k l).arrives s.0));
+  decides = λ k l from upto. (facts_at op last es r t tn k l).decides from upto;
 }

@@ -1,7 +1,7 @@
 -- What is promised of every run of OptimisticList beyond the law of all machines. In all of it n is the number of threads, q the
 -- quota, es the events of a run of `last` events, t a thread, and k a moment: k events have happened.
 use Rattle.std.specs.Prelude.{◌≡◌, ℕ, ◌+◌, ◌/◌, ◌<◌, ◌≤◌, ◌⊎◌, false, Some}
-use Rattle.lset_words.specs.Words.{lock_index}
+use Rattle.lset_words.specs.Words.{lock_index, Opening}
 use Rattle.lset_words.specs.declared.Call.{Call}
 use Rattle.lset_words.specs.declared.Reply.{Reply}
 use Rattle.lset_words.specs.Log.{begun_at, has_changed}
@@ -15,11 +15,11 @@ use Rattle.lset_steps.specs.Laws.{views}
 use Rattle.lset_optimistic.specs.Optimistic.{optimistic}
 
 -- what thread t holds at the moment k, and the world then
-abbrev pub held_at : ℕ → ℕ → (ℕ → Event) → ℕ → ℕ → Local
-held_at n q es k t = local_of (state_at optimistic n q es k) t
+abbrev pub held_at : Opening → (ℕ → Event) → ℕ → ℕ → Local
+held_at op es k t = local_of (state_at optimistic op es k) t
 
-abbrev pub world_at : ℕ → ℕ → (ℕ → Event) → ℕ → View
-world_at n q es k = views optimistic n q es k
+abbrev pub world_at : Opening → (ℕ → Event) → ℕ → View
+world_at op es k = views optimistic op es k
 
 -- The second walk is on its way: it has come to `node`, and the thread is about to load the key (row 7) or the link (row 6) of
 -- that node.
@@ -35,9 +35,9 @@ pub record HasArrived (l : Local) : Type 0 where
   pub there : l.node ≡ l.pred
 
 -- The event i is thread t's storing of 0 in the lock of node a.
-pub record GivesBack (n q : ℕ) (es : ℕ → Event) (i t a : ℕ) : Type 0 where
+pub record GivesBack (op : Opening) (es : ℕ → Event) (i t a : ℕ) : Type 0 where
   pub step : es i ≡ Go t
-  pub stores : optimistic.next (held_at n q es i t) ≡ Store (lock_index a) 0
+  pub stores : optimistic.next (held_at op es i t) ≡ Store (lock_index a) 0
 
 -- Node a is in the chain, and thread t has its lock.
 pub record IsLockedInChain (v : View) (t a : ℕ) : Type 0 where
@@ -54,41 +54,41 @@ pub record WasInChain (vs : ℕ → View) (first now t pred a : ℕ) : Type 0 wh
   pub locked : (i : ℕ) → at ≤ i → i ≤ now → (vs i).lock pred ≡ t + 1
 
 -- What holds of each second walk of thread t in a run:
-pub record WalksAreValid (n q last t : ℕ) (es : ℕ → Event) : Type 0 where
+pub record WalksAreValid (op : Opening) (last t : ℕ) (es : ℕ → Event) : Type 0 where
   -- It may pass through nodes that are being unlinked; but each node that it comes to was in the chain at some moment of the
   -- call, and from that moment on the thread has had the lock of pred.
-  pub passes : (k : ℕ) → k ≤ last → IsWalking (held_at n q es k t)
-      → WasInChain (views optimistic n q es) (begun_at (log_of optimistic n q es) t k) k t (held_at n q es k t).pred
-      (held_at n q es k t).node
+  pub passes : (k : ℕ) → k ≤ last → IsWalking (held_at op es k t)
+      → WasInChain (views optimistic op es) (begun_at (log_of optimistic op es) t k) k t (held_at op es k t).pred
+      (held_at op es k t).node
   -- Where it has arrived at pred, at a moment j, pred is in the chain then and at each later moment k up to which the thread has
   -- not stored 0 in the lock of pred; and the lock is the thread's.
-  pub arrives : (j k : ℕ) → j ≤ k → k ≤ last → HasArrived (held_at n q es j t)
-      → ((i : ℕ) → j ≤ i → i < k → GivesBack n q es i t (held_at n q es j t).pred → ⊥)
-      → IsLockedInChain (world_at n q es k) t (held_at n q es j t).pred
+  pub arrives : (j k : ℕ) → j ≤ k → k ≤ last → HasArrived (held_at op es j t)
+      → ((i : ℕ) → j ≤ i → i < k → GivesBack op es i t (held_at op es j t).pred → ⊥)
+      → IsLockedInChain (world_at op es k) t (held_at op es j t).pred
   -- A thread stands at the row that decides (8), or at those of an Add or a Remove that go on from it (9 to 13), only where its
   -- walk has arrived.
-  pub decides : (k : ℕ) → k ≤ last → 8 ≤ (held_at n q es k t).pc → (held_at n q es k t).pc ≤ 13 → HasArrived (held_at n q es k t)
+  pub decides : (k : ℕ) → k ≤ last → 8 ≤ (held_at op es k t).pc → (held_at op es k t).pc ≤ 13 → HasArrived (held_at op es k t)
 
 -- [Validated walk]: where the second walk arrives at pred, pred is in the chain from then to the storing of 0 in its lock,
 -- although the walk may have passed through nodes that were being unlinked.
 abbrev pub ValidatedWalk : Type 0
-ValidatedWalk = (n q last t : ℕ) (es : ℕ → Event) → Run optimistic n q es last → t < n → WalksAreValid n q last t es
+ValidatedWalk = (op : Opening) (last t : ℕ) (es : ℕ → Event) → Run optimistic op es last → t < op.threads → WalksAreValid op last t es
 
 -- At a moment from `first` on and before `now` thread t made its load of the link of pred (row 8) and saw that it leads to curr,
 -- and the reply fits that moment.
-pub record FitsAtALoad (n q : ℕ) (es : ℕ → Event) (first now t : ℕ) (call : Call) (reply : Reply) : Type 0 where
+pub record FitsAtALoad (op : Opening) (es : ℕ → Event) (first now t : ℕ) (call : Call) (reply : Reply) : Type 0 where
   pub at : ℕ
   pub from : first ≤ at
   pub before : at < now
   pub step : es at ≡ Go t
-  pub row : (held_at n q es at t).pc ≡ 8
-  pub leads : (world_at n q es at).link (held_at n q es at t).pred / 2 ≡ (held_at n q es at t).curr
-  pub fits : FitsIn q (world_at n q es at) t call reply
+  pub row : (held_at op es at t).pc ≡ 8
+  pub leads : (world_at op es at).link (held_at op es at t).pred / 2 ≡ (held_at op es at t).curr
+  pub fits : FitsIn op.quota (world_at op es at) t call reply
 
 -- [Optimistic replies fit]: where a call ends that changed nothing, its reply fits a moment of the call, one at which the thread
 -- saw that pred leads to curr, after a walk that had arrived (row 8).
 abbrev pub OptimisticRepliesFit : Type 0
-OptimisticRepliesFit = (n q last k t : ℕ) (es : ℕ → Event) (reply : Reply) → Run optimistic n q es last → k < last → t < n
-    → es k ≡ Go t → (told optimistic (state_at optimistic n q es k) (Go t)).answer ≡ Some reply
-    → has_changed (log_of optimistic n q es) t k ≡ false
-    → FitsAtALoad n q es (begun_at (log_of optimistic n q es) t k) k t (held_at n q es k t).call reply
+OptimisticRepliesFit = (op : Opening) (last k t : ℕ) (es : ℕ → Event) (reply : Reply) → Run optimistic op es last → k < last → t < op.threads
+    → es k ≡ Go t → (told optimistic (state_at optimistic op es k) (Go t)).answer ≡ Some reply
+    → has_changed (log_of optimistic op es) t k ≡ false
+    → FitsAtALoad op es (begun_at (log_of optimistic op es) t k) k t (held_at op es k t).call reply

@@ -39,4 +39,4 @@ abbrev pub set_lines : DrawingValue → List (List ℕ)
 set_lines d = if d.known then set_line d.columns ∷ [] else []
 
 abbrev pub row_lines : PictureValue → DrawingValue → List (List ℕ)
-row_lines p d = moment_line d.columns ∷ (lane_lines p.history.calls d.columns d.from p.history.threads 0 ++ set_lines d)
+row_lines p d = moment_line d.columns ∷ (lane_lines p.history.calls d.columns d.from p.history.opening.threads 0 ++ set_lines d)

@@ -70,9 +70,9 @@ module _ (v w : View) (keys : (a : ℕ) → w.key a ≡ v.key a) (links : (a : �
 
 pub chain_kept : (T : Table) (w w' : WorldState) (begun : ℕ) (e : Event) (chains : Bool) (kept : List ChainKey)
     → w' ≡ record w { state = after T w.state e } → writes_node (deed_ahead T w.state begun e) ≡ false
-    → KeepsChain chains (view_of w.threads w.quota w.state) kept → KeepsChain chains (view_of w'.threads w'.quota w'.state) kept
+    → KeepsChain chains (view_of w.sizes w.state) kept → KeepsChain chains (view_of w'.sizes w'.state) kept
 chain_kept T w w' begun e false kept is quiet c = tt
 chain_kept T w w' begun e true kept is quiet c =
-    subst (λ (z : WorldState). AreChainKeys (view_of z.threads z.quota z.state) kept) (sym is)
-    (same_chain (view_of w.threads w.quota w.state) (view_of w.threads w.quota (after T w.state e))
+    subst (λ (z : WorldState). AreChainKeys (view_of z.sizes z.state) kept) (sym is)
+    (same_chain (view_of w.sizes w.state) (view_of w.sizes (after T w.state e))
     (λ a. (words_kept T w.state begun e quiet a).0) (λ a. (words_kept T w.state begun e quiet a).1) kept c)

@@ -1,11 +1,12 @@
 -- From event to event of a run: the recorder is ready for each enabled one, and follows it.
 use Rattle.std.proofs.Common.{◌≡◌, ℕ, suc, ◌<◌, ◌⊎◌, inl, inr, List, length, sym, refl, subst, ap, ◌∙◌, arith}
 use Rattle.lset_words.specs.Account.{Account, Enters}
+use Rattle.lset_words.specs.Words.{Opening, Opens, sizes}
 use Rattle.lset_steps.specs.declared.Event.{Event}
 use Rattle.lset_steps.specs.declared.Event.TheVariants.{Begin, Go}
 use Rattle.lset_steps.specs.declared.Told.{Told}
 use Rattle.lset_steps.specs.declared.world.StepFault.{StepFault}
-use Rattle.lset_steps.specs.Steps.{Table, State, Run, Limits, Enabled, state_at, event_at, entry_of, log_of, told, after, opening}
+use Rattle.lset_steps.specs.Steps.{Table, State, Run, Enabled, state_at, event_at, entry_of, log_of, told, after, opening}
 use Rattle.lset_steps.specs.Worlds.{WorldState, Refused}
 use Rattle.lset_replay.specs.declared.events.LineEvent.{LineEvent}
 use Rattle.lset_replay.specs.declared.recorder.Recorder.{Recorder}
@@ -25,12 +26,12 @@ told_entry : (T : Table) (s : State) (e : Event) → entry_told e (told T s e) �
 told_entry T s (Begin t call) = refl
 told_entry T s (Go t) = refl
 
-run_more : (T : Table) (n q : ℕ) (es : ℕ → Event) (k : ℕ) → Run T n q es k → Enabled (state_at T n q es k) (es k)
-    → Run T n q es (suc k)
-run_more T n q es k r e = record {
-  limits = r.limits;
+run_more : (T : Table) (op : Opening) (es : ℕ → Event) (k : ℕ) → Run T op es k → Enabled (state_at T op es k) (es k)
+    → Run T op es (suc k)
+run_more T op es k r e = record {
+  opens = r.opens;
   enabled = λ j l. elim (last_or_before j k l) [
-    | inl y ↦ subst (λ z. Enabled (state_at T n q es z) (es z)) (sym y) e
+    | inl y ↦ subst (λ z. Enabled (state_at T op es z) (es z)) (sym y) e
     | inr y ↦ r.enabled j y
   ];
 }
@@ -38,93 +39,90 @@ run_more T n q es k r e = record {
     last_or_before : (j k : ℕ) → j < suc k → (j ≡ k) ⊎ (j < k)
     last_or_before j k l = grind arith
 
-module _ (T : Table) (accounts : TellsKeys T) (n q : ℕ) (events : List LineEvent) (k : ℕ) (w : WorldState) (r : Recorder)
-    (h : HasFollowed T n q events k w r)
+module _ (T : Table) (accounts : TellsKeys T) (op : Opening) (events : List LineEvent) (k : ℕ) (w : WorldState) (r : Recorder)
+    (h : HasFollowed T op events k w r)
     (e : Event) (is : event_at (only_events events) k ≡ e) where
   abbrev es : ℕ → Event
   es = event_at (only_events events)
 
-  open shown T n q events use {log, contents, counts}
+  open shown T op events use {log, contents, counts}
 
-  state_is : w.state ≡ state_at T n q es k
+  state_is : w.state ≡ state_at T op es k
   state_is = ap (λ (x : WorldState). x.state) h.world
 
-  enabled_now : Enabled w.state e → Enabled (state_at T n q es k) (event_at (only_events events) k)
-  enabled_now en = subst (λ z. Enabled (state_at T n q es k) z) (sym is) (subst (λ z. Enabled z e) state_is en)
+  enabled_now : Enabled w.state e → Enabled (state_at T op es k) (event_at (only_events events) k)
+  enabled_now en = subst (λ z. Enabled (state_at T op es k) z) (sym is) (subst (λ z. Enabled z e) state_is en)
 
-  run_on : Enabled w.state e → Run T n q es (suc k)
-  run_on en = run_more T n q es k h.run (enabled_now en)
+  run_on : Enabled w.state e → Run T op es (suc k)
+  run_on en = run_more T op es k h.run (enabled_now en)
 
-  entry_now : log_of T n q es k ≡ entry_of T (state_at T n q es k) e
-  entry_now = ap (λ z. entry_of T (state_at T n q es k) z) is
+  entry_now : log_of T op es k ≡ entry_of T (state_at T op es k) e
+  entry_now = ap (λ z. entry_of T (state_at T op es k) z) is
 
   pub ready : Enabled w.state e → (a : Told) → a ≡ told T w.state e → MayFollow r (suc k) e a
   ready en a says = at e is a (says ∙ ap (λ z. told T z e) state_is)
     where
-      account : Account n q (suc k) log contents counts
-      account = accounts.account n q (suc k) es (run_on en)
+      account : Account op (suc k) log contents counts
+      account = accounts.account op (suc k) es (run_on en)
 
       low : HoldsKeys (suc k) contents
-      low = holds_keys T accounts n q (suc k) es (run_on en)
+      low = holds_keys T accounts op (suc k) es (run_on en)
 
-      entered : (d : Event) → event_at (only_events events) k ≡ d → Enters n q log contents
-          counts k (entry_of T (state_at T n q es k) d)
-      entered d i = subst (λ z. Enters n q log contents
-          counts k (entry_of T (state_at T n q es k) z)) i (account.enters k (omega arith))
+      entered : (d : Event) → event_at (only_events events) k ≡ d → Enters op.threads op.quota log contents
+          counts k (entry_of T (state_at T op es k) d)
+      entered d i = subst (λ z. Enters op.threads op.quota log contents
+          counts k (entry_of T (state_at T op es k) z)) i (account.enters k (omega arith))
 
-      at : (d : Event) → event_at (only_events events) k ≡ d → (a : Told) → a ≡ told T (state_at T n q es k) d
+      at : (d : Event) → event_at (only_events events) k ≡ d → (a : Told) → a ≡ told T (state_at T op es k) d
           → MayFollow r (suc k) d a
-      at (Begin t call) i a says = may_begin n q (suc k) log contents counts
-          account low k (omega arith) r h.threads_are h.trace t call (entered (Begin t call) i)
+      at (Begin t call) i a says = may_begin op (suc k) log contents counts
+          account low k (omega arith) r (ap (λ (o : Opening). o.threads) h.opening_is) h.trace t call (entered (Begin t call) i)
       at (Go t) i a says =
-          let may = may_step n q (suc k) log contents counts
-          account low k (omega arith) r h.threads_are h.trace t _ _ (entered (Go t) i) in
+          let may = may_step op (suc k) log contents counts
+          account low k (omega arith) r (ap (λ (o : Opening). o.threads) h.opening_is) h.trace t _ _ (entered (Go t) i) in
           (may.0, subst (λ (z : Told). MayChange (moments_of r.changes) (suc k) z.change) (sym says) may.1)
 
   pub followed : (w' : WorldState) (r' : Recorder) (a : Told) → Enabled w.state e
       → w' ≡ record w { state = after T w.state e } → a ≡ told T w.state e
-      → trace_of r' ≡ trace_after (suc k) (entry_told e a) (trace_of r) → r'.history.threads ≡ r.history.threads
-      → r'.history.quota ≡ r.history.quota
-      → HasFollowed T n q events (suc k) w' r'
-  followed w' r' a en world says trace threads quota = record {
+      → trace_of r' ≡ trace_after (suc k) (entry_told e a) (trace_of r) → r'.history.opening ≡ r.history.opening
+      → HasFollowed T op events (suc k) w' r'
+  followed w' r' a en world says trace opens = record {
     run = run_on en;
     world = world ∙ ap (λ (z : WorldState). record z { state = after T z.state e }) h.world
-        ∙ ap (λ z. record { threads = n; quota = q; state = after T (state_at T n q es k) z }) (sym is);
+        ∙ ap (λ z. record { sizes = sizes op; state = after T (state_at T op es k) z }) (sym is);
     trace = trace ∙ ap (λ z. trace_after (suc k) (entry_told e z) (trace_of r)) says
         ∙ ap (λ z. trace_after (suc k) z (trace_of r)) (told_entry T w.state e ∙ ap (λ z. entry_of T z e) state_is ∙ sym entry_now)
-        ∙ ap (λ z. trace_after (suc k) (log_of T n q es k) z) h.trace;
-    threads_are = threads ∙ h.threads_are;
-    quota_is = quota ∙ h.quota_is;
+        ∙ ap (λ z. trace_after (suc k) (log_of T op es k) z) h.trace;
+    opening_is = opens ∙ h.opening_is;
   }
 
   pub stopped : (cause : StepFault) (line : ℕ) → k < length events → line ≡ line_at events k → Refused w e cause
-      → (first : IsFirstRefused T n q events line cause) × (first.index ≡ k)
+      → (first : IsFirstRefused T op events line cause) × (first.index ≡ k)
   stopped cause line below line_is refused = (
     record {
       index = k;
       known = below;
       line_is = line_is;
       before = h.run;
-      refused = subst (λ z. Refused (record { threads = n; quota = q; state = state_at T n q es k }) z cause) (sym is)
+      refused = subst (λ z. Refused (record { sizes = sizes op; state = state_at T op es k }) z cause) (sym is)
           (subst (λ z. Refused z e cause) h.world refused);
     },
     refl,
   )
 
 -- nothing has been followed
-pub at_first : (T : Table) (n q : ℕ) (events : List LineEvent) (w : WorldState) (r : Recorder) → Limits n q
-    → w ≡ record { threads = n; quota = q; state = opening n q }
-    → trace_of r ≡ no_trace n → r.history.threads ≡ n → r.history.quota ≡ q → HasFollowed T n q events 0 w r
-at_first T n q events w r limits world trace threads quota = record {
-  run = record { limits = limits; enabled = λ k l. absurd (omega arith) };
+pub at_first : (T : Table) (op : Opening) (events : List LineEvent) (w : WorldState) (r : Recorder) → Opens op
+    → w ≡ record { sizes = sizes op; state = opening op }
+    → trace_of r ≡ no_trace op → r.history.opening ≡ op → HasFollowed T op events 0 w r
+at_first T op events w r opens world trace opening_is = record {
+  run = record { opens = opens; enabled = λ k l. absurd (omega arith) };
   world = world;
   trace = trace;
-  threads_are = threads;
-  quota_is = quota;
+  opening_is = opening_is;
 }
 
-pub refusal_is : (T : Table) (n q : ℕ) (events : List LineEvent) (line : ℕ) (cause : StepFault) (f : ReplayFault)
-    → f ≡ fault_at line cause → IsFirstRefused T n q events line cause → IsRefusal T n q events f
-refusal_is T n q events line NoThread f e h = subst (λ z. IsRefusal T n q events z) (sym e) h
-refusal_is T n q events line Busy f e h = subst (λ z. IsRefusal T n q events z) (sym e) h
-refusal_is T n q events line Idle f e h = subst (λ z. IsRefusal T n q events z) (sym e) h
+pub refusal_is : (T : Table) (op : Opening) (events : List LineEvent) (line : ℕ) (cause : StepFault) (f : ReplayFault)
+    → f ≡ fault_at line cause → IsFirstRefused T op events line cause → IsRefusal T op events f
+refusal_is T op events line NoThread f e h = subst (λ z. IsRefusal T op events z) (sym e) h
+refusal_is T op events line Busy f e h = subst (λ z. IsRefusal T op events z) (sym e) h
+refusal_is T op events line Idle f e h = subst (λ z. IsRefusal T op events z) (sym e) h

@@ -10,6 +10,7 @@ use Rattle.lset_words.specs.Log.Entry.{began}
 use Rattle.lset_words.specs.Account.{Contents, Counts, Enters}
 use Rattle.lset_words.specs.Placement.{traced_at, no_traced, IsLeastFit}
 use Rattle.lset_words.proofs.Numbers.{equal_test, unequal_test, same_or_not}
+use Rattle.lset_words.specs.Words.{Opening}
 use Rattle.lset_history.proofs.Calls.{open_is, call_is, begun_is, changed_is, new_call}
 use Rattle.lset_history.proofs.OpenCalls.{last_number, number_after, length_began}
 use Rattle.lset_replay.specs.declared.places.OpenCall.{OpenCall}
@@ -39,18 +40,18 @@ abbrev pub PlaceOf : ℕ → Contents → Counts → TracedCall → Option Place
 PlaceOf q contents counts x p = PlaceBy q contents counts x x.changed x.ended p
 
 -- WHAT IS KEPT after k events
-pub record Follows (n q : ℕ) (log : Log) (contents : Contents) (counts : Counts) (k : ℕ) (s : Trace) : Type 0 where
+pub record Follows (op : Opening) (log : Log) (contents : Contents) (counts : Counts) (k : ℕ) (s : Trace) : Type 0 where
   pub history : s.calls ≡ history_at log k
-  pub seats : length s.under_way ≡ n
+  pub seats : length s.under_way ≡ op.threads
   pub numbered : length s.places ≡ length (calls_at log k)
   pub upto : (j : ℕ) → All (λ x. x ≤ k) (s.changes j)
   pub keys : (j m : ℕ) → m ≤ k → Tells (is_present s.changes j m) (contents m j)
   pub bounded : IsBounded s.changes
-  pub idle : (t : ℕ) → t < n → is_open log t k ≡ false → open_call_at s.under_way t ≡ None
-  pub busy : (t : ℕ) → t < n → is_open log t k ≡ true
+  pub idle : (t : ℕ) → t < op.threads → is_open log t k ≡ false → open_call_at s.under_way t ≡ None
+  pub busy : (t : ℕ) → t < op.threads → is_open log t k ≡ true
       → (o : OpenCall) × (open_call_at s.under_way t ≡ Some o) × IsWatched log contents counts k t o
   pub placed : (i : ℕ) → i < length (calls_at log k)
-      → PlaceOf q contents counts (traced_at (calls_at log k) i) (place_at s.places i)
+      → PlaceOf op.quota contents counts (traced_at (calls_at log k) i) (place_at s.places i)
 
 -- ---- what a step does to the parts of a trace
 abbrev pub change_place : Option Change → ℕ → Option Place → Option Place
@@ -162,9 +163,9 @@ module _ (log : Log) (contents : Contents) (counts : Counts) (k u : ℕ) (o : Op
       last_or_before : (m k : ℕ) → m ≤ suc k → (m ≡ suc k) ⊎ (m ≤ k)
       last_or_before m k b = grind arith
 
-module _ (n q : ℕ) (log : Log) (contents : Contents) (counts : Counts) (k t : ℕ) (call : Call) (s : Trace)
-    (at : log k ≡ began t call) (en : Enters n q log contents counts k (began t call))
-    (f : Follows n q log contents counts k s) where
+module _ (op : Opening) (log : Log) (contents : Contents) (counts : Counts) (k t : ℕ) (call : Call) (s : Trace)
+    (at : log k ≡ began t call) (en : Enters op.threads op.quota log contents counts k (began t call))
+    (f : Follows op log contents counts k s) where
   count_calls : length s.calls ≡ length (calls_at log k)
   count_calls = ap (λ (xs : List CallRecord). length xs) f.history ∙ length-map (calls_at log k) record_of
 
@@ -183,7 +184,7 @@ module _ (n q : ℕ) (log : Log) (contents : Contents) (counts : Counts) (k t : 
   begun_keys : (j m : ℕ) → m ≤ suc k → Tells (is_present s.changes j m) (contents m j)
   begun_keys j m l = quiet_keys contents k s.changes f.upto f.keys j m l (en.content j).0 (en.content j).1
 
-  begun_idle : (u : ℕ) → u < n → is_open log u (suc k) ≡ false → open_call_at (begun_on (suc k) t call s).under_way u ≡ None
+  begun_idle : (u : ℕ) → u < op.threads → is_open log u (suc k) ≡ false → open_call_at (begun_on (suc k) t call s).under_way u ≡ None
   begun_idle u l e = elim (same_or_not t u) [
     | inl y ↦ absurd (let g : true ≡ false = sym (pick (t == u) true (is_open log u k) (equal_test t u y))
         ∙ sym (open_is log k (began t call) at u) ∙ e in cc)
@@ -192,21 +193,21 @@ module _ (n q : ℕ) (log : Log) (contents : Contents) (counts : Counts) (k t : 
         ∙ sym (open_is log k (began t call) at u) ∙ e))
   ]
 
-  begun_busy : (u : ℕ) → u < n → is_open log u (suc k) ≡ true
+  begun_busy : (u : ℕ) → u < op.threads → is_open log u (suc k) ≡ true
       → (o : OpenCall) × (open_call_at (begun_on (suc k) t call s).under_way u ≡ Some o) × IsWatched log contents counts
       (suc k) u o
   begun_busy u l e = elim (same_or_not t u) [
     | inl y ↦ (let b : (t == u) ≡ true = equal_test t u y in
         let first : begun_at log u (suc k) ≡ suc k = begun_is log k (began t call) at u
         ∙ pick (t == u) (suc k) (begun_at log u k) b in
-        let seats : length s.under_way ≡ n = f.seats in (
+        let seats : length s.under_way ≡ op.threads = f.seats in (
           record { number = length s.calls; call = call; begun = suc k },
           subst (λ z. open_call_at (begun_on (suc k) t call s).under_way z ≡ Some (record {
             number = length s.calls;
             call = call;
             begun = suc k;
           })) y
-              (get_or-set_same s.under_way t _ None (let th : t < n = en.of_a_thread in omega arith)),
+              (get_or-set_same s.under_way t _ None (let th : t < op.threads = en.of_a_thread in omega arith)),
           record {
             number_is = count_calls
                 ∙ sym (last_number_is log k (began t call) at u ∙ pick (t == u) (length (calls_at log k)) (last_number log u k) b);
@@ -235,26 +236,26 @@ module _ (n q : ℕ) (log : Log) (contents : Contents) (counts : Counts) (k t : 
   ]
 
   begun_placed : (i : ℕ) → i < length (calls_at log (suc k))
-      → PlaceOf q contents counts (traced_at (calls_at log (suc k)) i) (place_at (begun_on (suc k) t call s).places i)
+      → PlaceOf op.quota contents counts (traced_at (calls_at log (suc k)) i) (place_at (begun_on (suc k) t call s).places i)
   begun_placed i l =
       let long : length (calls_at log (suc k)) ≡ suc (length (calls_at log k)) = length_began log k t call at in
       let b : length s.places ≡ length (calls_at log k) = f.numbered in
       elim (last_or_before i (length (calls_at log k)) (omega arith)) [
-        | inl e ↦ subst (λ z. PlaceOf q contents counts z (place_at (begun_on (suc k) t call s).places i))
+        | inl e ↦ subst (λ z. PlaceOf op.quota contents counts z (place_at (begun_on (suc k) t call s).places i))
             (sym (ap (λ xs. traced_at xs i) (calls_are log k (began t call) at)
             ∙ get_or_push (calls_at log k) (new_call k t call) no_traced i (sym e)))
             (get_or_push s.places None None i (omega arith))
-        | inr y ↦ subst (λ z. PlaceOf q contents counts z (place_at (begun_on (suc k) t call s).places i))
+        | inr y ↦ subst (λ z. PlaceOf op.quota contents counts z (place_at (begun_on (suc k) t call s).places i))
             (sym (ap (λ xs. traced_at xs i) (calls_are log k (began t call) at)
             ∙ get_or_append_left (calls_at log k) (new_call k t call ∷ []) no_traced i y))
-            (subst (λ z. PlaceOf q contents counts (traced_at (calls_at log k) i) z) (sym (get_or_append_left s.places
+            (subst (λ z. PlaceOf op.quota contents counts (traced_at (calls_at log k) i) z) (sym (get_or_append_left s.places
             (None ∷ []) None i (omega arith))) (f.placed i y))
       ]
     where
       last_or_before : (i m : ℕ) → i < suc m → (i ≡ m) ⊎ (i < m)
       last_or_before i m b = grind arith
 
-  pub follows_beginning : Follows n q log contents counts (suc k) (begun_on (suc k) t call s)
+  pub follows_beginning : Follows op log contents counts (suc k) (begun_on (suc k) t call s)
   follows_beginning = record {
     history = begun_history;
     seats = length-set s.under_way t _ ∙ f.seats;

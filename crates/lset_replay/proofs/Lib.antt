@@ -9,6 +9,7 @@ pub mod KeyChanges
 pub mod LeastFits
 pub mod Following
 pub mod Stepping
+pub mod OpenedChanges
 pub mod Ready
 pub mod Followed
 pub mod Ordered

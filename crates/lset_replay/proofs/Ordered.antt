@@ -7,6 +7,7 @@ use Rattle.lset_words.specs.declared.history.Placed.{Placed}
 use Rattle.lset_words.specs.Log.{Log, TracedCall, calls_at}
 use Rattle.lset_words.specs.Account.{Contents, Counts, Account}
 use Rattle.lset_words.specs.Placement.{Standing, standing, placed_of, makes_change, at_moment, block, by_moments, traced_at, no_traced, StandsBy, StandsAt, IsPlacement, reply_by}
+use Rattle.lset_words.specs.Words.{Opening}
 use Rattle.lset_history.proofs.Lists.{all_at}
 use Rattle.lset_history.proofs.Calls.{Traced, ChangedBy, EndedBy}
 use Rattle.lset_history.proofs.CallSteps.{run_of, calls_of}
@@ -129,32 +130,32 @@ module _ (q : ℕ) (contents : Contents) (counts : Counts) where
     }
 
 -- and no call stands after the last moment
-module _ (n q last : ℕ) (log : Log) (contents : Contents) (counts : Counts) (account : Account n q last log contents counts)
+module _ (op : Opening) (last : ℕ) (log : Log) (contents : Contents) (counts : Counts) (account : Account op last log contents counts)
     (low : HoldsKeys last contents) where
   upto : (x : TracedCall) (changed : Option ℕ) (ended : Option (ℕ × Reply)) (p : Option Place)
-      → PlaceBy q contents counts x changed ended p
-      → ChangedBy (run_of n q log contents counts) last x.thread x.call x.begun changed
-      → EndedBy (run_of n q log contents counts) last x.thread x.call x.begun changed ended
+      → PlaceBy op.quota contents counts x changed ended p
+      → ChangedBy (run_of op.threads op.quota log contents counts) last x.thread x.call x.begun changed
+      → EndedBy (run_of op.threads op.quota log contents counts) last x.thread x.call x.begun changed ended
       → IfSome p (λ (z : Place). z.moment ≤ last)
   upto x (Some m) ended p h c e = subst (λ y. IfSome y (λ (z : Place). z.moment ≤ last)) (sym h) c.0
   upto x None None p h c e = subst (λ y. IfSome y (λ (z : Place). z.moment ≤ last)) (sym h) tt
   upto x None (Some end) p h c e = subst (λ y. IfSome y (λ (z : Place). z.moment ≤ last)) (sym h.1)
       (let a : h.0 ≤ end.0 = h.2.upto in let b : end.0 ≤ last = e.0 in omega arith)
 
-  pub stand_upto : StandUpTo last (trace_at n log last).places
+  pub stand_upto : StandUpTo last (trace_at op log last).places
   stand_upto i l =
-      let f : Follows n q log contents counts last (trace_at n log last) =
-      follows n q last log contents counts account low last (omega arith) in
-      let count : length (trace_at n log last).places ≡ length (calls_at log last) = f.numbered in
-      let t : Traced (run_of n q log contents counts) last (traced_at (calls_at log last) i) =
-      all_at (Traced (run_of n q log contents counts) last) (calls_at log last) no_traced i (omega arith)
-      (calls_of n q last log contents counts account last (omega arith)).each in
+      let f : Follows op log contents counts last (trace_at op log last) =
+      follows op last log contents counts account low last (omega arith) in
+      let count : length (trace_at op log last).places ≡ length (calls_at log last) = f.numbered in
+      let t : Traced (run_of op.threads op.quota log contents counts) last (traced_at (calls_at log last) i) =
+      all_at (Traced (run_of op.threads op.quota log contents counts) last) (calls_at log last) no_traced i (omega arith)
+      (calls_of op last log contents counts account last (omega arith)).each in
       upto (traced_at (calls_at log last) i) (traced_at (calls_at log last) i).changed (traced_at (calls_at log last) i).ended
-      (place_at (trace_at n log last).places i)
+      (place_at (trace_at op log last).places i)
       (f.placed i (omega arith)) t.changes t.ends
 
-  pub placement : IsPlacement q last (calls_at log last) contents counts (blocks_upto (trace_at n log last).places last)
+  pub placement : IsPlacement op.quota last (calls_at log last) contents counts (blocks_upto (trace_at op log last).places last)
   placement =
-      let f : Follows n q log contents counts last (trace_at n log last) =
-      follows n q last log contents counts account low last (omega arith) in
-      is_placement q contents counts (calls_at log last) (trace_at n log last).places f.numbered f.placed last
+      let f : Follows op log contents counts last (trace_at op log last) =
+      follows op last log contents counts account low last (omega arith) in
+      is_placement op.quota contents counts (calls_at log last) (trace_at op log last).places f.numbered f.placed last

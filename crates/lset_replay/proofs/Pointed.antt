@@ -10,10 +10,11 @@ use Rattle.lset_words.specs.Log.{Log, TracedCall, calls_at, history_at, record_o
 use Rattle.lset_words.specs.Account.{Contents, Counts, Account}
 use Rattle.lset_words.specs.Placement.{traced_at, no_traced}
 use Rattle.lset_words.specs.Points.{place_numbered, point_numbered, call_placed, bar_end, LieInBars, IsPointOf, StandAsPlaced}
+use Rattle.lset_words.specs.Words.{Opening}
 use Rattle.lset_history.proofs.Lists.{all_at, get_or_mapped}
 use Rattle.lset_history.proofs.Calls.{Traced, ChangedBy, EndedBy}
 use Rattle.lset_history.proofs.CallSteps.{run_of, calls_of}
-use Rattle.lset_schedule.specs.Plan.{Plan}
+use Rattle.lset_schedule.specs.Plan.{Plan, opening_in}
 use Rattle.lset_steps.specs.Steps.{Table}
 use Rattle.lset_steps.specs.Worlds.{WorldState}
 use Rattle.lset_replay.specs.declared.events.LineEvent.{LineEvent}
@@ -45,11 +46,11 @@ module _ (q : ℕ) (contents : Contents) (counts : Counts) where
   change_tells x None (Some end) p h =
       let s = h.1 in let c : p.change ≡ false = cc in (λ t. absurd (let f : p.change ≡ true = t in cc), λ e. absurd (cc))
 
-module _ (n q last : ℕ) (log : Log) (contents : Contents) (counts : Counts) (account : Account n q last log contents counts) where
+module _ (op : Opening) (last : ℕ) (log : Log) (contents : Contents) (counts : Counts) (account : Account op last log contents counts) where
   -- it lies in the bar of its call
   after_begin : (x : TracedCall) (changed : Option ℕ) (ended : Option (ℕ × Reply)) (p : Place)
-      → PlaceBy q contents counts x changed ended (Some p)
-      → ChangedBy (run_of n q log contents counts) last x.thread x.call x.begun changed
+      → PlaceBy op.quota contents counts x changed ended (Some p)
+      → ChangedBy (run_of op.threads op.quota log contents counts) last x.thread x.call x.begun changed
       → x.begun ≤ p.moment
   after_begin x (Some m) ended p h c = let l : x.begun < m = c.1.later in let e : p.moment ≡ m = cc in omega arith
   after_begin x None None p h c = absurd (cc)
@@ -57,9 +58,9 @@ module _ (n q last : ℕ) (log : Log) (contents : Contents) (counts : Counts) (a
       let s = h.1 in let l : x.begun ≤ h.0 = h.2.from in let e : p.moment ≡ h.0 = cc in omega arith
 
   before_end : (x : TracedCall) (changed : Option ℕ) (ended : Option (ℕ × Reply)) (p : Place)
-      → PlaceBy q contents counts x changed ended (Some p)
-      → ChangedBy (run_of n q log contents counts) last x.thread x.call x.begun changed
-      → EndedBy (run_of n q log contents counts) last x.thread x.call x.begun changed ended
+      → PlaceBy op.quota contents counts x changed ended (Some p)
+      → ChangedBy (run_of op.threads op.quota log contents counts) last x.thread x.call x.begun changed
+      → EndedBy (run_of op.threads op.quota log contents counts) last x.thread x.call x.begun changed ended
       → p.moment ≤ bar_end last ended
   before_end x (Some m) None p h c e = let l : m ≤ last = c.0 in let s : p.moment ≡ m = cc in omega arith
   before_end x (Some m) (Some end) p h c e =
@@ -68,7 +69,7 @@ module _ (n q last : ℕ) (log : Log) (contents : Contents) (counts : Counts) (a
   before_end x None (Some end) p h c e =
       let t = h.1 in let l : h.0 ≤ end.0 = h.2.upto in let s : p.moment ≡ h.0 = cc in omega arith
 
-  module _ (places : List (Option Place)) (follow : (s : Trace) × (s.places ≡ places) × Follows n q log contents counts last s)
+  module _ (places : List (Option Place)) (follow : (s : Trace) × (s.places ≡ places) × Follows op log contents counts last s)
       (order : List Placed) (points : List Point)
       (h : ArePointsAt places order points) where
     abbrev traced : ℕ → TracedCall
@@ -82,22 +83,22 @@ module _ (n q last : ℕ) (log : Log) (contents : Contents) (counts : Counts) (a
         let c : length follow.0.places ≡ length places = ap (λ (xs : List (Option Place)). length xs) follow.1 in
         omega arith
 
-    placed_there : (i : ℕ) (l : i < length order) → PlaceOf q contents counts (traced i) (Some (h.there i l).0)
-    placed_there i l = subst (λ z. PlaceOf q contents counts (traced i) z)
+    placed_there : (i : ℕ) (l : i < length order) → PlaceOf op.quota contents counts (traced i) (Some (h.there i l).0)
+    placed_there i l = subst (λ z. PlaceOf op.quota contents counts (traced i) z)
         (ap (λ ps. place_at ps (place_numbered order i).call) follow.1 ∙ (h.there i l).1)
         (follow.2.placed (place_numbered order i).call (inside i l))
 
-    is_traced : (i : ℕ) (l : i < length order) → Traced (run_of n q log contents counts) last (traced i)
-    is_traced i l = all_at (Traced (run_of n q log contents counts) last) (calls_at log last) no_traced
-        (place_numbered order i).call (inside i l) (calls_of n q last log contents counts account last (omega arith)).each
+    is_traced : (i : ℕ) (l : i < length order) → Traced (run_of op.threads op.quota log contents counts) last (traced i)
+    is_traced i l = all_at (Traced (run_of op.threads op.quota log contents counts) last) (calls_at log last) no_traced
+        (place_numbered order i).call (inside i l) (calls_of op last log contents counts account last (omega arith)).each
 
-    point_is : (i : ℕ) (l : i < length order) → IsPointOf q contents counts (traced i) (point_numbered points i)
-    point_is i l = subst (λ p. IsPointOf q contents counts (traced i) p) (sym (h.there i l).2) (record {
-      stands = stands_there q contents counts (traced i) (traced i).changed (traced i).ended (Some (h.there i l).0) (placed_there i l);
-      change = change_tells q contents counts (traced i) (traced i).changed (traced i).ended (h.there i l).0 (placed_there i l);
+    point_is : (i : ℕ) (l : i < length order) → IsPointOf op.quota contents counts (traced i) (point_numbered points i)
+    point_is i l = subst (λ p. IsPointOf op.quota contents counts (traced i) p) (sym (h.there i l).2) (record {
+      stands = stands_there op.quota contents counts (traced i) (traced i).changed (traced i).ended (Some (h.there i l).0) (placed_there i l);
+      change = change_tells op.quota contents counts (traced i) (traced i).changed (traced i).ended (h.there i l).0 (placed_there i l);
     })
 
-    pub stand : StandAsPlaced q (calls_at log last) contents counts order points
+    pub stand : StandAsPlaced op.quota (calls_at log last) contents counts order points
     stand = record { each = point_is }
 
     recorded : (i : ℕ) → call_placed (history_at log last) order i ≡ record_of (traced i)
@@ -119,31 +120,30 @@ module _ (n q last : ℕ) (log : Log) (contents : Contents) (counts : Counts) (a
     }
 
 -- THE POINTS of a run that has been followed
-module _ (T : Table) (accounts : TellsKeys T) (n q : ℕ) (events : List LineEvent) (w : WorldState) (r : Recorder)
-    (h : HasFollowed T n q events (length events) w r) where
-  open shown T n q events use {log, contents, counts}
+module _ (T : Table) (accounts : TellsKeys T) (op : Opening) (events : List LineEvent) (w : WorldState) (r : Recorder)
+    (h : HasFollowed T op events (length events) w r) where
+  open shown T op events use {log, contents, counts}
 
   pub points_then : (order : List Placed) (points : List Point) → ArePointsAt r.places.items order points
-      → ArePointsOf T n q (only_events events) r.history.calls order points
+      → ArePointsOf T op (only_events events) r.history.calls order points
   points_then order points a =
-      let account = account_then T accounts n q events (length events) w r h in
-      let kept = kept_then T accounts n q events (length events) w r h in
+      let account = account_then T accounts op events (length events) w r h in
+      let kept = kept_then T accounts op events (length events) w r h in
       record {
         bars = subst (λ k. LieInBars k r.history.calls order points) (sym (as_many events))
             (subst (λ xs. LieInBars (length events) xs order points) (sym kept.history)
-            (lie n q (length events) log contents counts account r.places.items (trace_of r, refl, kept) order points a));
-        stand = subst (λ k. StandAsPlaced q (calls_at log k) contents counts order points) (sym (as_many events))
-            (stand n q (length events) log contents counts account r.places.items (trace_of r, refl, kept) order points a);
+            (lie op (length events) log contents counts account r.places.items (trace_of r, refl, kept) order points a));
+        stand = subst (λ k. StandAsPlaced op.quota (calls_at log k) contents counts order points) (sym (as_many events))
+            (stand op (length events) log contents counts account r.places.items (trace_of r, refl, kept) order points a);
       }
 
 -- those of a schedule's events
-pub points_are_of : (T : Table) (accounts : TellsKeys T) (p : Plan) (n q : ℕ) (events : List LineEvent) (w : WorldState)
+pub points_are_of : (T : Table) (accounts : TellsKeys T) (p : Plan) (op : Opening) (events : List LineEvent) (w : WorldState)
     (r : Recorder) (order : List Placed) (points : List Point)
-    → HasFollowed T n q events (length events) w r → n ≡ p.threads → q ≡ p.quota → events ≡ events_of p
+    → HasFollowed T op events (length events) w r → op ≡ opening_in p → events ≡ events_of p
     → ArePointsAt r.places.items order points
-    → ArePointsOf T p.threads p.quota (only_events (events_of p)) r.history.calls order points
-points_are_of T accounts p n q events w r order points h a b d at =
-    subst (λ es. ArePointsOf T p.threads p.quota (only_events es) r.history.calls order points) d
-    (subst (λ z. ArePointsOf T z p.quota (only_events events) r.history.calls order points) a
-    (subst (λ z. ArePointsOf T n z (only_events events) r.history.calls order points) b
-    (points_then T accounts n q events w r h order points at)))
+    → ArePointsOf T (opening_in p) (only_events (events_of p)) r.history.calls order points
+points_are_of T accounts p op events w r order points h a d at =
+    subst (λ es. ArePointsOf T (opening_in p) (only_events es) r.history.calls order points) d
+    (subst (λ z. ArePointsOf T z (only_events events) r.history.calls order points) a
+    (points_then T accounts op events w r h order points at))

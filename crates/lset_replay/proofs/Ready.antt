@@ -12,6 +12,7 @@ use Rattle.lset_words.specs.Log.Entry.{began, stepped}
 use Rattle.lset_words.specs.Account.{Contents, Counts, Enters, Account}
 use Rattle.lset_words.specs.Placement.{no_traced}
 use Rattle.lset_words.specs.History.{call_numbered}
+use Rattle.lset_words.specs.Words.{Opening}
 use Rattle.lset_history.specs.History.{IsLater, MayBegin, MayEnd, has_open}
 use Rattle.std.proofs.lemmas.Bool.{cases_Bool}
 use Rattle.lset_history.proofs.Lists.{all_imply, all_map, get_or_mapped}
@@ -25,50 +26,51 @@ use Rattle.lset_replay.proofs.Following.{Follows, IsWatched, follows_beginning}
 use Rattle.lset_history.specs.Changes.{moments_of}
 use Rattle.lset_replay.proofs.KeyChanges.{HoldsKeys, may_change}
 use Rattle.lset_replay.proofs.Stepping.{follows_step}
+use Rattle.lset_replay.proofs.OpenedChanges.{opened_upto, opened_tells, opened_bounded}
 
 none_passes : {X : Type 0} (p : X → Bool) (xs : List X) → AllByRecursion (λ x. p x ≡ false) xs → list_any p xs ≡ false
 none_passes p [] h = refl
 none_passes p (x ∷ xs) h = rw (h.0, none_passes p xs h.1) refl
 
-module _ (n q last : ℕ) (log : Log) (contents : Contents) (counts : Counts) (account : Account n q last log contents counts)
+module _ (op : Opening) (last : ℕ) (log : Log) (contents : Contents) (counts : Counts) (account : Account op last log contents counts)
     (low : HoldsKeys last contents) where
   -- THE TRACE of a run is what it has to be
-  entered : (k : ℕ) → k < last → (s : Trace) → (e : Entry) → log k ≡ e → Enters n q log contents counts k e
-      → Follows n q log contents counts k s
-      → Follows n q log contents counts (suc k) (trace_after (suc k) e s)
-  entered k l s (began t call) at en f = follows_beginning n q log contents counts k t call s at en f
-  entered k l s (stepped t change reply) at en f = follows_step n q last log contents counts account low k
+  entered : (k : ℕ) → k < last → (s : Trace) → (e : Entry) → log k ≡ e → Enters op.threads op.quota log contents counts k e
+      → Follows op log contents counts k s
+      → Follows op log contents counts (suc k) (trace_after (suc k) e s)
+  entered k l s (began t call) at en f = follows_beginning op log contents counts k t call s at en f
+  entered k l s (stepped t change reply) at en f = follows_step op last log contents counts account low k
       (omega arith) l t change reply s at en f
 
-  pub follows : (k : ℕ) → k ≤ last → Follows n q log contents counts k (trace_at n log k)
+  pub follows : (k : ℕ) → k ≤ last → Follows op log contents counts k (trace_at op log k)
   follows zero l = record {
     history = refl;
-    seats = length-replicate n None;
+    seats = length-replicate op.threads None;
     numbered = refl;
-    upto = λ j. All-from_get_or (λ x. x ≤ 0) [] 0 (λ i below. absurd (omega arith));
-    keys = λ j m b. ((λ e. absurd (cc)), (λ e c. account.empty j (let z : m ≡ 0 = omega arith in subst (λ y. contents y j) z c)));
-    bounded = λ j l. refl;
-    idle = λ t m e. get_or-replicate n t None None m;
+    upto = opened_upto op.keys;
+    keys = opened_tells op contents account.opens;
+    bounded = opened_bounded op contents account.opens (λ j. low 0 j (omega arith));
+    idle = λ t m e. get_or-replicate op.threads t None None m;
     busy = λ t m e. absurd (cc);
     placed = λ i m. absurd (omega arith);
   }
-  follows (suc k) l = entered k l (trace_at n log k) (log k) refl (account.enters k l) (follows k (omega arith))
+  follows (suc k) l = entered k l (trace_at op log k) (log k) refl (account.enters k l) (follows k (omega arith))
 
-  module _ (k : ℕ) (below : k ≤ last) (r : Recorder) (threads : r.history.threads ≡ n) (is : trace_of r ≡ trace_at n log k) where
-    now : Follows n q log contents counts k (trace_of r)
-    now = subst (λ s. Follows n q log contents counts k s) (sym is) (follows k below)
+  module _ (k : ℕ) (below : k ≤ last) (r : Recorder) (threads : r.history.opening.threads ≡ op.threads) (is : trace_of r ≡ trace_at op log k) where
+    now : Follows op log contents counts k (trace_of r)
+    now = subst (λ s. Follows op log contents counts k s) (sym is) (follows k below)
 
-    each : AllByRecursion (Traced (run_of n q log contents counts) k) (calls_at log k)
-    each = (calls_of n q last log contents counts account k below).each
+    each : AllByRecursion (Traced (run_of op.threads op.quota log contents counts) k) (calls_at log k)
+    each = (calls_of op last log contents counts account k below).each
 
-    begun_before : (x : TracedCall) → Traced (run_of n q log contents counts) k x → (record_of x).begun < suc k
+    begun_before : (x : TracedCall) → Traced (run_of op.threads op.quota log contents counts) k x → (record_of x).begun < suc k
     begun_before x t = let a : x.begun ≤ k = t.already in omega arith
 
-    ended_before : (x : TracedCall) → Traced (run_of n q log contents counts) k x
+    ended_before : (x : TracedCall) → Traced (run_of op.threads op.quota log contents counts) k x
         → IfSome (record_of x).ended (λ (e : ℕ × Reply). e.0 < suc k)
     ended_before x t = at x.ended t.ends
       where
-        at : (ended : Option (ℕ × Reply)) → EndedBy (run_of n q log contents counts) k x.thread x.call x.begun x.changed ended
+        at : (ended : Option (ℕ × Reply)) → EndedBy (run_of op.threads op.quota log contents counts) k x.thread x.call x.begun x.changed ended
             → IfSome ended (λ (e : ℕ × Reply). e.0 < suc k)
         at None h = tt
         at (Some e) h = let a : e.0 ≤ k = h.0 in omega arith
@@ -78,27 +80,27 @@ module _ (n q last : ℕ) (log : Log) (contents : Contents) (counts : Counts) (a
       counted = omega arith;
       begins = All-from_recursion (λ (y : CallRecord). y.begun < suc k) (history_at log k)
           (all_map record_of (λ (y : CallRecord). y.begun < suc k) (calls_at log k) (all_imply (Traced
-          (run_of n q log contents counts) k) (λ x. (record_of x).begun < suc k) begun_before (calls_at log k) each));
+          (run_of op.threads op.quota log contents counts) k) (λ x. (record_of x).begun < suc k) begun_before (calls_at log k) each));
       ends = All-from_recursion (λ (y : CallRecord). IfSome y.ended (λ (e : ℕ × Reply). e.0 < suc k)) (history_at log k)
           (all_map record_of (λ (y : CallRecord). IfSome y.ended (λ (e : ℕ × Reply). e.0 < suc k)) (calls_at log k)
-          (all_imply (Traced (run_of n q log contents counts) k) (λ x. IfSome (record_of x).ended
+          (all_imply (Traced (run_of op.threads op.quota log contents counts) k) (λ x. IfSome (record_of x).ended
           (λ (e : ℕ × Reply). e.0 < suc k)) ended_before (calls_at log k) each));
     })
 
-    shut : (t : ℕ) → is_open log t k ≡ false → (x : TracedCall) → Traced (run_of n q log contents counts) k x
+    shut : (t : ℕ) → is_open log t k ≡ false → (x : TracedCall) → Traced (run_of op.threads op.quota log contents counts) k x
         → is_under_way t x ≡ false
     shut t e x h = elim (cases_Bool (is_under_way t x)) [
       | inl y ↦ absurd (
           let w : (t ≡ x.thread) × (x.ended ≡ None) = way_of t x y in
-          let o : OpenAt (run_of n q log contents counts) k x.thread x.call x.begun x.changed =
-          subst (EndedBy (run_of n q log contents counts) k x.thread x.call x.begun x.changed) w.1 h.ends in
+          let o : OpenAt (run_of op.threads op.quota log contents counts) k x.thread x.call x.begun x.changed =
+          subst (EndedBy (run_of op.threads op.quota log contents counts) k x.thread x.call x.begun x.changed) w.1 h.ends in
           let a : is_open log x.thread k ≡ true = o.is in
           let b : is_open log x.thread k ≡ false = subst (λ z. is_open log z k ≡ false) w.0 e in
           cc)
       | inr y ↦ y
     ]
 
-    pub may_begin : (t : ℕ) (call : Call) → Enters n q log contents counts k (began t call)
+    pub may_begin : (t : ℕ) (call : Call) → Enters op.threads op.quota log contents counts k (began t call)
         → MayBegin r.history t (suc k) × (t < length r.under_way.items)
     may_begin t call en = (
       record {
@@ -106,27 +108,27 @@ module _ (n q last : ℕ) (log : Log) (contents : Contents) (counts : Counts) (a
         idle = ap (λ (xs : List CallRecord). has_open xs t) now.history
             ∙ none_passes (λ (x : CallRecord). x.thread == t && is_none x.ended) (history_at log k)
             (all_map record_of (λ (x : CallRecord). (x.thread == t && is_none x.ended) ≡ false) (calls_at log k)
-            (all_imply (Traced (run_of n q log contents counts) k)
+            (all_imply (Traced (run_of op.threads op.quota log contents counts) k)
             (λ x. is_under_way t x ≡ false) (shut t en.idle) (calls_at log k) each));
         later = later;
       },
-      (let a : t < n = en.of_a_thread in let b : length r.under_way.items ≡ n = now.seats in omega arith),
+      (let a : t < op.threads = en.of_a_thread in let b : length r.under_way.items ≡ op.threads = now.seats in omega arith),
     )
 
     pub may_step : (t : ℕ) (change : Option Change) (reply : Option Reply)
-        → Enters n q log contents counts k (stepped t change reply)
+        → Enters op.threads op.quota log contents counts k (stepped t change reply)
         → MayStep r.history r.under_way.items r.places.items t (suc k) × MayChange (moments_of r.changes) (suc k) change
     may_step t change reply en =
         let o : (o : OpenCall) × (open_call_at r.under_way.items t ≡ Some o) × IsWatched log contents counts k t o =
         now.busy t en.of_a_thread en.under_way in
         let number : OpenNumber (calls_at log k) t (last_number log t k) =
-        open_number n q last log contents counts account k below t en.under_way in
+        open_number op last log contents counts account k below t en.under_way in
         let inside : last_number log t k < length (calls_at log k) = number.below in
         let places : length r.places.items ≡ length (calls_at log k) = now.numbered in
         let records : length r.history.calls ≡ length (calls_at log k) =
         ap (λ (xs : List CallRecord). length xs) now.history ∙ length-map (calls_at log k) record_of in
-        let seats : length r.under_way.items ≡ n = now.seats in
-        let th : t < n = en.of_a_thread in
+        let seats : length r.under_way.items ≡ op.threads = now.seats in
+        let th : t < op.threads = en.of_a_thread in
         let e : o.0.number ≡ last_number log t k = o.2.number_is in
         let begun : o.0.begun ≡ begun_at log t k = o.2.begun_is in
         let since : begun_at log t k ≤ k = o.2.since in (

@@ -1,5 +1,5 @@
 -- A replay tells calls and replies that its schedule's version has words for.
-use Rattle.std.proofs.Common.{◌≡◌, ℕ, zero, suc, ◌+◌, ◌<◌, Bool, true, false, List, [], ◌∷◌, length, get_or, map, replicate, refl, sym, subst, ◌∙◌, arith}
+use Rattle.std.proofs.Common.{ap, ◌≡◌, ℕ, zero, suc, ◌+◌, ◌<◌, Bool, true, false, List, [], ◌∷◌, length, get_or, map, replicate, refl, sym, subst, ◌∙◌, arith}
 use Rattle.std.specs.Prelude.{Option, Some, None, ◌==◌, Contains, if◌then◌else◌}
 use Rattle.std.specs.List.{AllByRecursion}
 use Rattle.std.proofs.lemmas.List.{get_or_default}
@@ -12,7 +12,8 @@ use Rattle.lset_words.specs.declared.history.Placed.{Placed}
 use Rattle.lset_words.specs.Log.{Log, Entry, Change, TracedCall, calls_at, calls_after, history_at, record_of, is_under_way, traced_on}
 use Rattle.lset_words.specs.Log.Entry.{began, stepped}
 use Rattle.lset_words.specs.History.{Linearizes, no_call, call_numbered, answered}
-use Rattle.lset_words.specs.SequentialSet.{SetState, IsLegal, after_call, count_of, empty_set, has_key, reply_to}
+use Rattle.lset_words.specs.SequentialSet.{SetState, IsLegal, after_call, count_of, opening_set, has_key, reply_to}
+use Rattle.lset_words.specs.Words.{Opening}
 use Rattle.lset_text.specs.declared.words.Version.{Version}
 use Rattle.lset_text.specs.declared.words.Version.TheVariants.{One, Two}
 use Rattle.lset_text.specs.Spellings.{HasCall, HasReply}
@@ -22,7 +23,7 @@ use Rattle.lset_steps.specs.declared.Event.TheVariants as event
 use Rattle.lset_steps.specs.Steps.{Table, State, event_at, state_at, entry_of, log_of}
 use Rattle.lset_schedule.specs.declared.value.Line.{Line}
 use Rattle.lset_schedule.specs.declared.value.Line.TheVariants as line
-use Rattle.lset_schedule.specs.Plan.{Plan, HasCallOfLine, HasCallsOfVersion, first_event_line}
+use Rattle.lset_schedule.specs.Plan.{Plan, HasCallOfLine, HasCallsOfVersion, first_event_line, opening_in}
 use Rattle.lset_report.specs.Report.{ReportValue}
 use Rattle.lset_report.specs.Texts.{HasEnd, HasWordsIn, HasWordsOfVersion}
 use Rattle.lset_replay.specs.declared.events.LineEvent.{LineEvent}
@@ -102,12 +103,12 @@ calls_are_in v log (suc k) h = calls_more v (suc k) (log k) (calls_at log k) (h 
 abbrev IsRecordIn : Version → CallRecord → Type 0
 IsRecordIn v x = HasCall v x.call
 
-history_is_in : (v : Version) (T : Table) (n q k : ℕ) (es : List LineEvent) → AllByRecursion (BeginsLineIn v) es
-    → AllByRecursion (IsRecordIn v) (history_at (log_of T n q (event_at (only_events es))) k)
-history_is_in v T n q k es h =
+history_is_in : (v : Version) (T : Table) (op : Opening) (k : ℕ) (es : List LineEvent) → AllByRecursion (BeginsLineIn v) es
+    → AllByRecursion (IsRecordIn v) (history_at (log_of T op (event_at (only_events es))) k)
+history_is_in v T op k es h =
     let at : ℕ → Event = event_at (only_events es) in
-    all_map record_of (IsRecordIn v) (calls_at (log_of T n q at) k)
-    (calls_are_in v (log_of T n q at) k (λ j. entry_enters v T (state_at T n q at j) (at j) (event_begins v es j h)))
+    all_map record_of (IsRecordIn v) (calls_at (log_of T op at) k)
+    (calls_are_in v (log_of T op at) k (λ j. entry_enters v T (state_at T op at j) (at j) (event_begins v es j h)))
 
 -- ---- the set gives a call of the first version a reply of it
 
@@ -173,7 +174,10 @@ pub words_of_version : (T : Table) (p : Plan) (r : ReportValue) → IsReplay T p
 words_of_version T p r is explained calls =
     let are : AllByRecursion (IsRecordIn p.version) r.history.calls =
     subst (λ xs. AllByRecursion (IsRecordIn p.version) xs) (sym is.report.history_is)
-    (history_is_in p.version T p.threads p.quota (length (only_events (events_of p))) (events_of p)
+    (history_is_in p.version T (opening_in p) (length (only_events (events_of p))) (events_of p)
     (lines_begin p.version (first_event_line p) p.lines calls)) in
-    subst (λ v. HasWordsIn v r.history.calls r.order) (sym is.version_is)
-    (words_in p.version r.history.quota (empty_set r.history.threads) r.history.calls r.order explained.linearizes are)
+    record {
+      opens = ap (λ (o : Opening). o.keys) is.opening_is;
+      words = subst (λ v. HasWordsIn v r.history.calls r.order) (sym is.version_is)
+          (words_in p.version r.history.opening.quota (opening_set r.history.opening) r.history.calls r.order explained.linearizes are);
+    }

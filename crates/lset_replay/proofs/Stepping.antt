@@ -10,6 +10,7 @@ use Rattle.lset_words.specs.Placement.{traced_at, no_traced, IsLeastFit}
 use Rattle.lset_words.specs.History.{call_numbered, no_call}
 use Rattle.lset_history.specs.History.{ended_with}
 use Rattle.lset_words.proofs.Numbers.{equal_test, unequal_test, same_or_not}
+use Rattle.lset_words.specs.Words.{Opening}
 use Rattle.lset_history.proofs.Lists.{get_or_mapped, all_at}
 use Rattle.lset_history.proofs.Calls.{Run, Traced, EndedBy, OpenAt, open_is, call_is, begun_is, changed_is}
 use Rattle.lset_history.proofs.CallSteps.{run_of, calls_of}
@@ -80,13 +81,13 @@ no_count (Some x) c e = absurd (cc)
 or_nothing : (b : Bool) → b ≡ false → (b || false) ≡ false
 or_nothing b e = rw e refl
 
-module _ (n q last : ℕ) (log : Log) (contents : Contents) (counts : Counts) (account : Account n q last log contents counts)
+module _ (op : Opening) (last : ℕ) (log : Log) (contents : Contents) (counts : Counts) (account : Account op last log contents counts)
     (low : HoldsKeys last contents) (k : ℕ) (below : k ≤ last) (next : suc k ≤ last)
     (t : ℕ) (ch : Option Change) (r : Option Reply) (s : Trace)
-    (at : log k ≡ stepped t ch r) (en : Enters n q log contents counts k (stepped t ch r))
-    (f : Follows n q log contents counts k s) where
+    (at : log k ≡ stepped t ch r) (en : Enters op.threads op.quota log contents counts k (stepped t ch r))
+    (f : Follows op log contents counts k s) where
   abbrev run : Run
-  run = run_of n q log contents counts
+  run = run_of op.threads op.quota log contents counts
 
   -- the number of the call that steps, and the call
   abbrev number_here : ℕ
@@ -103,11 +104,11 @@ module _ (n q last : ℕ) (log : Log) (contents : Contents) (counts : Counts) (a
   kept = ended_on (suc k) t r changed
 
   number : OpenNumber (calls_at log k) t number_here
-  number = open_number n q last log contents counts account k below t en.under_way
+  number = open_number op last log contents counts account k below t en.under_way
 
   traced : Traced run k here
   traced = all_at (Traced run k) (calls_at log k) no_traced number_here number.below
-      (calls_of n q last log contents counts account k below).each
+      (calls_of op last log contents counts account k below).each
 
   told : OpenAt run k here.thread here.call
       here.begun here.changed
@@ -115,7 +116,7 @@ module _ (n q last : ℕ) (log : Log) (contents : Contents) (counts : Counts) (a
       here.begun here.changed) number.open_call.1 traced.ends
 
   calls_next : calls_at log (suc k) ≡ set (calls_at log k) number_here (traced_on (suc k) ch r here)
-  calls_next = calls_are log k (stepped t ch r) at ∙ step_sets n q last log contents counts account k t ch r below en.under_way
+  calls_next = calls_are log k (stepped t ch r) at ∙ step_sets op last log contents counts account k t ch r below en.under_way
 
   abbrev open_now : (o : OpenCall) × (open_call_at s.under_way t ≡ Some o) × IsWatched log contents counts k t o
   open_now = f.busy t en.of_a_thread en.under_way
@@ -160,10 +161,10 @@ module _ (n q last : ℕ) (log : Log) (contents : Contents) (counts : Counts) (a
   step_bounded = subst IsBounded (sym kept_changes) (changed_bounded contents k s.changes f.upto f.keys ch en.content
       (λ j m l c. low m j (omega arith) c) f.bounded)
 
-  in_seats : (u : ℕ) → u < n → u < length s.under_way
-  in_seats u l = let b : length s.under_way ≡ n = f.seats in omega arith
+  in_seats : (u : ℕ) → u < op.threads → u < length s.under_way
+  in_seats u l = let b : length s.under_way ≡ op.threads = f.seats in omega arith
 
-  idle_by : (a : Option Reply) (u : ℕ) → u < n → open_after (stepped t ch a) u (is_open log u k) ≡ false
+  idle_by : (a : Option Reply) (u : ℕ) → u < op.threads → open_after (stepped t ch a) u (is_open log u k) ≡ false
       → open_call_at (ended_on (suc k) t a changed).under_way u ≡ None
   idle_by None u l e = changed_open (suc k) t ch s u None (f.idle u l e)
   idle_by (Some a) u l e = elim (same_or_not t u) [
@@ -186,7 +187,7 @@ module _ (n q last : ℕ) (log : Log) (contents : Contents) (counts : Counts) (a
   open_here (Some a) e = absurd (let g : false ≡ true = sym (pick (t == t) false (is_open log t k) (equal_test t t refl))
       ∙ e in cc)
 
-  step_busy : (u : ℕ) → u < n → is_open log u (suc k) ≡ true
+  step_busy : (u : ℕ) → u < op.threads → is_open log u (suc k) ≡ true
       → (o : OpenCall) × (open_call_at kept.under_way u ≡ Some o) × IsWatched log contents counts (suc k) u o
   step_busy u l e = elim (same_or_not t u) [
     | inl y ↦ subst (λ z. (o : OpenCall) × (open_call_at kept.under_way z ≡ Some o) × IsWatched log contents counts
@@ -209,7 +210,7 @@ module _ (n q last : ℕ) (log : Log) (contents : Contents) (counts : Counts) (a
   ]
 
   fits_first : here.changed ≡ None → ch ≡ None → (a : Reply) → r ≡ Some a
-      → (m : ℕ) × (fit kept.changes watching a (suc k) ≡ Some m) × IsLeastFit q contents counts here (suc k) a m
+      → (m : ℕ) × (fit kept.changes watching a (suc k) ≡ Some m) × IsLeastFit op.quota contents counts here (suc k) a m
   fits_first e g a h =
       let x : TracedCall = traced_at (calls_at log k) number_here in
       let th : here.thread ≡ t = number.open_call.0 in
@@ -218,33 +219,33 @@ module _ (n q last : ℕ) (log : Log) (contents : Contents) (counts : Counts) (a
       let still : has_changed log t (suc k) ≡ false = changed_is log k (stepped t ch r) at t
       ∙ pick (t == t) (has_changed log t k || is_change ch) (has_changed log t k) (equal_test t t refl)
       ∙ ap (λ z. has_changed log t k || is_change z) g ∙ or_nothing (has_changed log t k) unchanged in
-      let sometime : FitsSometime q contents counts (begun_at log t k) (suc k) t (last_call log t k) a =
-      subst (λ z. RightReply z q contents counts (begun_at log t k) (suc k) t (last_call log t k) (Some a)) still
-      (subst (λ z. RightReply (has_changed log t (suc k)) q contents counts (begun_at log t k) (suc k) t
+      let sometime : FitsSometime op.quota contents counts (begun_at log t k) (suc k) t (last_call log t k) a =
+      subst (λ z. RightReply z op.quota contents counts (begun_at log t k) (suc k) t (last_call log t k) (Some a)) still
+      (subst (λ z. RightReply (has_changed log t (suc k)) op.quota contents counts (begun_at log t k) (suc k) t
       (last_call log t k) z) h en.right) in
       let call_same : last_call log t (suc k) ≡ last_call log t k = call_is log k (stepped t ch r) at t in
       let begun_same : begun_at log t (suc k) ≡ begun_at log t k = begun_is log k (stepped t ch r) at t in
       let oc : watching.call ≡ last_call log t k = watched_here.call_is ∙ call_same in
-      let sometime' : FitsSometime q contents counts (begun_at log t (suc k)) (suc k) t watching.call a =
-      subst (λ z. FitsSometime q contents counts z (suc k) t watching.call a) (sym begun_same)
-      (subst (λ z. FitsSometime q contents counts (begun_at log t k) (suc k) t z a) (sym oc) sometime) in
+      let sometime' : FitsSometime op.quota contents counts (begun_at log t (suc k)) (suc k) t watching.call a =
+      subst (λ z. FitsSometime op.quota contents counts z (suc k) t watching.call a) (sym begun_same)
+      (subst (λ z. FitsSometime op.quota contents counts (begun_at log t k) (suc k) t z a) (sym oc) sometime) in
       let since : begun_at log t (suc k) ≤ suc k = watched_here.since in
-      let w = fit_least q contents counts (begun_at log t (suc k)) (suc k) t kept.changes watching.call a
+      let w = fit_least op.quota contents counts (begun_at log t (suc k)) (suc k) t kept.changes watching.call a
       (fit kept.changes watching a (suc k)) step_bounded step_keys
-      (subst (λ z. IsFirst (λ m. Passes q contents counts z (suc k) t kept.changes watching.call a m) z (suc k)
+      (subst (λ z. IsFirst (λ m. Passes op.quota contents counts z (suc k) t kept.changes watching.call a m) z (suc k)
       (fit_by kept.changes watching.call a watching.begun (suc k - watching.begun))) watched_here.begun_is
-      (fit_is_first q contents counts watching.begun (suc k) t kept.changes watching.call a (suc k - watching.begun)
+      (fit_is_first op.quota contents counts watching.begun (suc k) t kept.changes watching.call a (suc k - watching.begun)
       (let e : watching.begun ≡ begun_at log t (suc k) = watched_here.begun_is in omega arith)))
       (watched_here.steady still) sometime' in (
         w.0,
         w.1,
-        least_of q contents counts here (begun_at log t (suc k)) (suc k) t watching.call a w.0
+        least_of op.quota contents counts here (begun_at log t (suc k)) (suc k) t watching.call a w.0
             (subst (λ z. here.begun ≡ begun_at log z k) th (sym told.begun_is) ∙ sym begun_same)
             th (subst (λ z. here.call ≡ last_call log z k) th (sym told.call_is) ∙ sym oc) w.2,
       )
 
   step_placed : (i : ℕ) → i < length (calls_at log (suc k))
-      → PlaceOf q contents counts (traced_at (calls_at log (suc k)) i) (place_at kept.places i)
+      → PlaceOf op.quota contents counts (traced_at (calls_at log (suc k)) i) (place_at kept.places i)
   step_placed i l =
       let long : length (calls_at log (suc k)) ≡ length (calls_at log k) = length_stepped log k t ch r at in
       let o : OpenCall = open_now.0 in
@@ -254,11 +255,11 @@ module _ (n q last : ℕ) (log : Log) (contents : Contents) (counts : Counts) (a
       let inside : last_number log t k < length (calls_at log k) = number.below in
       let count1 : length changed.places ≡ length s.places = changed_count (suc k) t ch s in
       elim (same_or_not i number_here) [
-        | inl y ↦ subst (λ z. PlaceOf q contents counts (traced_at (calls_at log (suc k)) z) (place_at kept.places z)) (sym y)
-            (subst (λ xs. PlaceOf q contents counts (traced_at xs number_here) (place_at kept.places number_here)) (sym calls_next)
-            (subst (λ z. PlaceOf q contents counts z (place_at kept.places number_here))
+        | inl y ↦ subst (λ z. PlaceOf op.quota contents counts (traced_at (calls_at log (suc k)) z) (place_at kept.places z)) (sym y)
+            (subst (λ xs. PlaceOf op.quota contents counts (traced_at xs number_here) (place_at kept.places number_here)) (sym calls_next)
+            (subst (λ z. PlaceOf op.quota contents counts z (place_at kept.places number_here))
             (sym (get_or-set_same (calls_at log k) number_here (traced_on (suc k) ch r here) no_traced inside))
-            (subst (λ z. PlaceOf q contents counts (traced_on (suc k) ch r here) z)
+            (subst (λ z. PlaceOf op.quota contents counts (traced_on (suc k) ch r here) z)
             (sym (ap (λ z. place_at kept.places z) (sym number_next)
             ∙ ended_here (suc k) t r changed watching open_next
             (let e : watching.number ≡ last_number log t k = number_next in omega arith)
@@ -267,20 +268,20 @@ module _ (n q last : ℕ) (log : Log) (contents : Contents) (counts : Counts) (a
             ∙ ap (λ z. end_place changed.changes (suc k) r watching (change_place ch (suc k) (place_at s.places z))) same_num
             ∙ ap (λ c. end_place c (suc k) r watching (change_place ch (suc k) (place_at s.places (last_number log t k))))
             (sym (ended_changes (suc k) t r changed))))
-            (place_next q contents counts here (suc k) kept.changes watching
+            (place_next op.quota contents counts here (suc k) kept.changes watching
             here.changed (place_at s.places number_here) ch r
-            (subst (λ z. PlaceBy q contents counts here here.changed z (place_at s.places number_here))
+            (subst (λ z. PlaceBy op.quota contents counts here here.changed z (place_at s.places number_here))
             number.open_call.1 (f.placed number_here inside)) fits_first))))
-        | inr d ↦ subst (λ xs. PlaceOf q contents counts (traced_at xs i) (place_at kept.places i)) (sym calls_next)
-            (subst (λ z. PlaceOf q contents counts z (place_at kept.places i))
+        | inr d ↦ subst (λ xs. PlaceOf op.quota contents counts (traced_at xs i) (place_at kept.places i)) (sym calls_next)
+            (subst (λ z. PlaceOf op.quota contents counts z (place_at kept.places i))
             (sym (get_or-set_other (calls_at log k) number_here i (traced_on (suc k) ch r here) no_traced d))
-            (subst (λ z. PlaceOf q contents counts (traced_at (calls_at log k) i) z)
+            (subst (λ z. PlaceOf op.quota contents counts (traced_at (calls_at log k) i) z)
             (sym (ended_other (suc k) t r changed watching i open_next (λ z. d (z ∙ number_next))
             ∙ changed_other (suc k) t ch s i (λ z. d (z ∙ same_num))))
             (f.placed i (omega arith))))
       ]
 
-  pub follows_step : Follows n q log contents counts (suc k) kept
+  pub follows_step : Follows op log contents counts (suc k) kept
   follows_step = record {
     history = step_history;
     seats = ended_seats (suc k) t r changed ∙ ap (λ (xs : List (Option OpenCall)). length xs) (changed_seats (suc k) t ch s)

@@ -8,6 +8,7 @@ use Rattle.lset_words.specs.Log.Entry.{began, stepped}
 use Rattle.lset_words.specs.Account.{Account, Contents, Counts, Enters}
 use Rattle.lset_words.specs.Placement.{StandsAt, traced_at, no_traced}
 use Rattle.lset_words.specs.History.{call_numbered}
+use Rattle.lset_words.specs.Words.{Opening}
 use Rattle.lset_history.proofs.Calls.{new_call}
 use Rattle.lset_history.proofs.Lists.{get_or_mapped}
 use Rattle.lset_history.proofs.OpenCalls.{OpenNumber, open_number, last_number, length_stepped, step_sets}
@@ -27,7 +28,7 @@ use Rattle.lset_replay.specs.declared.traced.Deed.{Deed}
 use Rattle.lset_replay.specs.declared.traced.Deed.TheVariants as deed
 use Rattle.lset_replay.specs.declared.traced.Trace.{Trace}
 use Rattle.lset_replay.specs.declared.traced.TracedEvent.{TracedEvent}
-use Rattle.lset_schedule.specs.Plan.{Plan}
+use Rattle.lset_schedule.specs.Plan.{Plan, opening_in}
 use Rattle.lset_replay.specs.Events.{only_events, events_of, line_at}
 use Rattle.lset_replay.specs.Trace.{trace_of, MayFollow, open_call_at, place_at, changed_at}
 use Rattle.lset_replay.specs.Follows.{HasFollowed}
@@ -48,40 +49,40 @@ has_place q contents counts x None None end p e h = absurd (cc)
 has_place q contents counts x None (Some d) end p e h = (record { moment = h.0; reply = d.1; change = false }, h.1)
 
 -- ONE EVENT, from moment k to the next
-module _ (T : Table) (accounts : TellsKeys T) (n q : ℕ) (events : List LineEvent) (chains : Bool) (k : ℕ) (w w' : WorldState)
+module _ (T : Table) (accounts : TellsKeys T) (op : Opening) (events : List LineEvent) (chains : Bool) (k : ℕ) (w w' : WorldState)
     (r r' : Recorder) (kept kept' : List ChainKey) (next : LineEvent) (x : TracedEvent)
-    (h : HasFollowed T n q events k w r) (h' : HasFollowed T n q events (suc k) w' r')
+    (h : HasFollowed T op events k w r) (h' : HasFollowed T op events (suc k) w' r')
     (made : MadeEvent T next (suc k) chains w r kept x w' r' kept')
     (is : event_at (only_events events) k ≡ next.event) (line_there : next.line ≡ line_at events k) where
   abbrev es : ℕ → Event
   es = event_at (only_events events)
 
-  open shown T n q events use {log, contents, counts}
+  open shown T op events use {log, contents, counts}
 
-  account : Account n q (suc k) log contents counts
-  account = account_then T accounts n q events (suc k) w' r' h'
+  account : Account op (suc k) log contents counts
+  account = account_then T accounts op events (suc k) w' r' h'
 
-  earlier : Follows n q log contents counts k (trace_of r)
-  earlier = kept_then T accounts n q events k w r h
+  earlier : Follows op log contents counts k (trace_of r)
+  earlier = kept_then T accounts op events k w r h
 
-  later : Follows n q log contents counts (suc k) (trace_of r')
-  later = kept_then T accounts n q events (suc k) w' r' h'
+  later : Follows op log contents counts (suc k) (trace_of r')
+  later = kept_then T accounts op events (suc k) w' r' h'
 
-  state_is : w.state ≡ state_at T n q es k
+  state_is : w.state ≡ state_at T op es k
   state_is = ap (λ (z : WorldState). z.state) h.world
 
-  state_later : w'.state ≡ state_at T n q es (suc k)
+  state_later : w'.state ≡ state_at T op es (suc k)
   state_later = ap (λ (z : WorldState). z.state) h'.world
 
-  entry_now : (e : Event) → es k ≡ e → log k ≡ entry_of T (state_at T n q es k) e
-  entry_now e i = ap (λ z. entry_of T (state_at T n q es k) z) i
+  entry_now : (e : Event) → es k ≡ e → log k ≡ entry_of T (state_at T op es k) e
+  entry_now e i = ap (λ z. entry_of T (state_at T op es k) z) i
 
-  entered : (e : Event) → es k ≡ e → Enters n q log contents counts k (entry_of T (state_at T n q es k) e)
-  entered e i = subst (λ z. Enters n q log contents counts k (entry_of T (state_at T n q es k) z)) i
+  entered : (e : Event) → es k ≡ e → Enters op.threads op.quota log contents counts k (entry_of T (state_at T op es k) e)
+  entered e i = subst (λ z. Enters op.threads op.quota log contents counts k (entry_of T (state_at T op es k) z)) i
       (account.enters k (omega arith))
 
   -- what it did
-  did_there : (e : Event) → es k ≡ e → (d : Deed) → d ≡ deed_ahead T w.state (length r.places.items) e → IsDeedAt T n q es k e d
+  did_there : (e : Event) → es k ≡ e → (d : Deed) → d ≡ deed_ahead T w.state (length r.places.items) e → IsDeedAt T op es k e d
   did_there (Begin t call) i d e = (
     length r.places.items,
     e,
@@ -93,116 +94,116 @@ module _ (T : Table) (accounts : TellsKeys T) (n q : ℕ) (events : List LineEve
 
   -- the end of a call
   ended_there : (t : ℕ) (change : Option Change) (reply : Reply) → log k ≡ stepped t change (Some reply)
-      → Enters n q log contents counts k (stepped t change (Some reply)) → (end : Option CallEnd)
+      → Enters op.threads op.quota log contents counts k (stepped t change (Some reply)) → (end : Option CallEnd)
       → end ≡ end_with (Some reply) (open_number_of (open_call_at r.under_way.items t)) r'.places.items
-      → IsSomeAnd end (λ c. EndsCall T n q es k t reply c)
+      → IsSomeAnd end (λ c. EndsCall T op es k t reply c)
   ended_there t change reply at en end e =
       let o : (o : OpenCall) × (open_call_at r.under_way.items t ≡ Some o) × IsWatched log contents counts k t o =
       earlier.busy t en.of_a_thread en.under_way in
       let num : ℕ = last_number log t k in
       let number : OpenNumber (calls_at log k) t (last_number log t k) =
-      open_number n q (suc k) log contents counts account k (omega arith) t en.under_way in
+      open_number op (suc k) log contents counts account k (omega arith) t en.under_way in
       let here : TracedCall = traced_at (calls_at log k) (last_number log t k) in
       let inside : last_number log t k < length (calls_at log k) = number.below in
       let long : length (calls_at log (suc k)) ≡ length (calls_at log k) = length_stepped log k t change (Some reply) at in
       let call : traced_at (calls_at log (suc k)) (last_number log t k)
       ≡ traced_on (suc k) change (Some reply) (traced_at (calls_at log k) (last_number log t k)) =
       ap (λ xs. traced_at xs (last_number log t k)) (calls_are log k (stepped t change (Some reply)) at
-      ∙ step_sets n q (suc k) log contents counts account k t change (Some reply) (omega arith) en.under_way)
+      ∙ step_sets op (suc k) log contents counts account k t change (Some reply) (omega arith) en.under_way)
       ∙ get_or-set_same (calls_at log k) (last_number log t k)
       (traced_on (suc k) change (Some reply) (traced_at (calls_at log k) (last_number log t k))) no_traced number.below in
       let ended : (traced_at (calls_at log (suc k)) (last_number log t k)).ended ≡ Some (suc k, reply) =
       ap (λ (z : TracedCall). z.ended) call in
-      let placed : PlaceOf q contents counts (traced_at (calls_at log (suc k)) (last_number log t k))
+      let placed : PlaceOf op.quota contents counts (traced_at (calls_at log (suc k)) (last_number log t k))
       (place_at r'.places.items (last_number log t k)) =
       later.placed (last_number log t k) (omega arith) in
       let there : (p : Place) × (place_at r'.places.items (last_number log t k) ≡ Some p) =
-      has_place q contents counts (traced_at (calls_at log (suc k)) (last_number log t k))
+      has_place op.quota contents counts (traced_at (calls_at log (suc k)) (last_number log t k))
       (traced_at (calls_at log (suc k)) (last_number log t k)).changed (traced_at (calls_at log (suc k)) (last_number log t k)).ended
       (suc k, reply) (place_at r'.places.items (last_number log t k)) ended placed in
       let end_is : end ≡ Some (record { call = last_number log t k; reply = reply; moment = there.0.moment }) =
       e ∙ ap (λ z. end_with (Some reply) (open_number_of z) r'.places.items) o.1
       ∙ ap (λ z. end_with (Some reply) (Some z) r'.places.items) o.2.number_is
       ∙ ap (λ z. end_there (last_number log t k) reply z) there.1 in
-      subst (λ z. IsSomeAnd z (λ c. EndsCall T n q es k t reply c)) (sym end_is) (record {
+      subst (λ z. IsSomeAnd z (λ c. EndsCall T op es k t reply c)) (sym end_is) (record {
         of_thread = ap (λ (z : TracedCall). z.thread) call ∙ number.open_call.0;
         ended = ended;
         reply_is = refl;
-        stands = subst (λ z. StandsAt q contents counts (traced_at (calls_at log (suc k)) (last_number log t k)) (moment_of z)) there.1
-            (stands_there q contents counts (traced_at (calls_at log (suc k)) (last_number log t k))
+        stands = subst (λ z. StandsAt op.quota contents counts (traced_at (calls_at log (suc k)) (last_number log t k)) (moment_of z)) there.1
+            (stands_there op.quota contents counts (traced_at (calls_at log (suc k)) (last_number log t k))
             (traced_at (calls_at log (suc k)) (last_number log t k)).changed
             (traced_at (calls_at log (suc k)) (last_number log t k)).ended
             (place_at r'.places.items (last_number log t k)) placed);
       })
 
-  by_answer : (t : ℕ) → es k ≡ Go t → (a : Option Reply) → (told T (state_at T n q es k) (Go t)).answer ≡ a → (end : Option CallEnd)
+  by_answer : (t : ℕ) → es k ≡ Go t → (a : Option Reply) → (told T (state_at T op es k) (Go t)).answer ≡ a → (end : Option CallEnd)
       → end ≡ end_with a (open_number_of (open_call_at r.under_way.items t)) r'.places.items
-      → TellsEnd T n q es k t a end
+      → TellsEnd T op es k t a end
   by_answer t i None says end e = e
   by_answer t i (Some reply) says end e =
-      ended_there t (told T (state_at T n q es k) (Go t)).change reply
-      (entry_now (Go t) i ∙ ap (λ z. stepped t (told T (state_at T n q es k) (Go t)).change z) says)
-      (subst (λ z. Enters n q log contents counts k (stepped t (told T (state_at T n q es k) (Go t)).change z)) says (entered (Go t) i))
+      ended_there t (told T (state_at T op es k) (Go t)).change reply
+      (entry_now (Go t) i ∙ ap (λ z. stepped t (told T (state_at T op es k) (Go t)).change z) says)
+      (subst (λ z. Enters op.threads op.quota log contents counts k (stepped t (told T (state_at T op es k) (Go t)).change z)) says (entered (Go t) i))
       end e
 
   end_there_is : (e : Event) → es k ≡ e → (end : Option CallEnd)
       → end ≡ end_with (told T w.state e).answer (open_number_of (open_call_at r.under_way.items (thread_of e))) r'.places.items
-      → TellsEnd T n q es k (thread_of e) (told T (state_at T n q es k) e).answer end
+      → TellsEnd T op es k (thread_of e) (told T (state_at T op es k) e).answer end
   end_there_is (Begin t call) i end e = e
-  end_there_is (Go t) i end e = by_answer t i (told T (state_at T n q es k) (Go t)).answer refl end
+  end_there_is (Go t) i end e = by_answer t i (told T (state_at T op es k) (Go t)).answer refl end
       (e ∙ ap (λ s. end_with (told T s (Go t)).answer (open_number_of (open_call_at r.under_way.items t)) r'.places.items) state_is)
 
   -- the chain
-  chain_there : (c : Bool) → KeepsChain c (view_of w.threads w.quota w.state) kept
-      → NotesChain c (view_of w'.threads w'.quota w'.state) kept x.chain kept'
-      → TellsChain c (views T n q es k) (views T n q es (suc k)) x.chain
+  chain_there : (c : Bool) → KeepsChain c (view_of w.sizes w.state) kept
+      → NotesChain c (view_of w'.sizes w'.state) kept x.chain kept'
+      → TellsChain c (views T op es k) (views T op es (suc k)) x.chain
   chain_there false a b = b
   chain_there true a b = (
     kept,
     kept',
-    subst (λ (z : WorldState). AreChainKeys (view_of z.threads z.quota z.state) kept) h.world a,
-    subst (λ (z : WorldState). AreChainKeys (view_of z.threads z.quota z.state) kept') h'.world b.0,
+    subst (λ (z : WorldState). AreChainKeys (view_of z.sizes z.state) kept) h.world a,
+    subst (λ (z : WorldState). AreChainKeys (view_of z.sizes z.state) kept') h'.world b.0,
     b.1,
   )
 
-  pub event_told : KeepsChain chains (view_of w.threads w.quota w.state) kept → TellsEvent T n q events es chains k x
+  pub event_told : KeepsChain chains (view_of w.sizes w.state) kept → TellsEvent T op events es chains k x
   event_told c = record {
     line_is = made.line ∙ line_there;
     thread_is = made.thread ∙ ap thread_of (sym is);
     before_is = made.before ∙ ap (λ s. local_of s (thread_of next.event)) state_is
-        ∙ ap (λ e. local_of (state_at T n q es k) (thread_of e)) (sym is);
+        ∙ ap (λ e. local_of (state_at T op es k) (thread_of e)) (sym is);
     after_is = made.later ∙ ap (λ s. local_of s (thread_of next.event)) state_later
-        ∙ ap (λ e. local_of (state_at T n q es (suc k)) (thread_of e)) (sym is);
-    did = subst (λ e. IsDeedAt T n q es k e x.deed) (sym is) (did_there next.event is x.deed made.deed);
+        ∙ ap (λ e. local_of (state_at T op es (suc k)) (thread_of e)) (sym is);
+    did = subst (λ e. IsDeedAt T op es k e x.deed) (sym is) (did_there next.event is x.deed made.deed);
     change_is = made.change ∙ ap (λ s. (told T s next.event).change) state_is
-        ∙ ap (λ e. (told T (state_at T n q es k) e).change) (sym is);
-    end_is = subst (λ e. TellsEnd T n q es k (thread_of e) (told T (state_at T n q es k) e).answer x.end) (sym is)
+        ∙ ap (λ e. (told T (state_at T op es k) e).change) (sym is);
+    end_is = subst (λ e. TellsEnd T op es k (thread_of e) (told T (state_at T op es k) e).answer x.end) (sym is)
         (end_there_is next.event is x.end made.end);
     chain_is = chain_there chains c made.chain;
   }
 
 -- AND ALL so far
-module _ (T : Table) (accounts : TellsKeys T) (n q : ℕ) (events : List LineEvent) (chains : Bool) (k : ℕ) (w : WorldState)
+module _ (T : Table) (accounts : TellsKeys T) (op : Opening) (events : List LineEvent) (chains : Bool) (k : ℕ) (w : WorldState)
     (r : Recorder) (kept : List ChainKey) (traced : List TracedEvent)
-    (h : HasTraced T n q events chains k w r kept traced) where
-  pub seats : Lawful T → length w.state.locals ≡ w.threads
-  seats law = subst (λ (z : WorldState). length z.state.locals ≡ z.threads) (sym h.followed.world)
-      (law.states n q k k (event_at (only_events events)) h.followed.run (omega arith)).locals
+    (h : HasTraced T op events chains k w r kept traced) where
+  pub seats : Lawful T → length w.state.locals ≡ w.sizes.threads
+  seats law = subst (λ (z : WorldState). length z.state.locals ≡ z.sizes.threads) (sym h.followed.world)
+      (law.states op k k (event_at (only_events events)) h.followed.run (omega arith)).locals
 
   pub few_begun : length r.places.items ≤ k
-  few_begun = few_places T accounts n q events k w r h.followed
+  few_begun = few_places T accounts op events k w r h.followed
 
   module _ (next : LineEvent) (is : event_at (only_events events) k ≡ next.event) where
     pub may_follow : Enabled w.state next.event → MayFollow r (suc k) next.event (told T w.state next.event)
-    may_follow en = ready T accounts n q events k w r h.followed next.event is en (told T w.state next.event) refl
+    may_follow en = ready T accounts op events k w r h.followed next.event is en (told T w.state next.event) refl
 
     pub traced_more : (w' : WorldState) (r' : Recorder) (kept' : List ChainKey) (x : TracedEvent) → next.line ≡ line_at events k
         → MadeEvent T next (suc k) chains w r kept x w' r' kept'
-        → HasTraced T n q events chains (suc k) w' r' kept' (traced ++ x ∷ [])
+        → HasTraced T op events chains (suc k) w' r' kept' (traced ++ x ∷ [])
     traced_more w' r' kept' x line made =
-        let more : HasFollowed T n q events (suc k) w' r' =
-        followed T accounts n q events k w r h.followed next.event is w' r' (told T w.state next.event) made.enabled made.world refl
-        made.trace made.threads made.quota in
+        let more : HasFollowed T op events (suc k) w' r' =
+        followed T accounts op events k w r h.followed next.event is w' r' (told T w.state next.event) made.enabled made.world refl
+        made.trace made.opening in
         let count : length traced ≡ k = h.count in
         let long : length (traced ++ x ∷ []) ≡ length traced + 1 = length_push traced x in
         record {
@@ -210,46 +211,46 @@ module _ (T : Table) (accounts : TellsKeys T) (n q : ℕ) (events : List LineEve
           count = omega arith;
           chain = keeps chains made.chain;
           each = λ i d l. elim (before_or_last i (length traced) (omega arith)) [
-            | inl below ↦ subst (λ z. TellsEvent T n q events (event_at (only_events events)) chains i z)
+            | inl below ↦ subst (λ z. TellsEvent T op events (event_at (only_events events)) chains i z)
                 (sym (get_or_append_left traced (x ∷ []) d i below)) (h.each i d below)
-            | inr e ↦ subst (λ z. TellsEvent T n q events (event_at (only_events events)) chains i z)
+            | inr e ↦ subst (λ z. TellsEvent T op events (event_at (only_events events)) chains i z)
                 (sym (get_or_push traced x d i (sym e)))
-                (subst (λ j. TellsEvent T n q events (event_at (only_events events)) chains j x) (sym (e ∙ count))
-                (event_told T accounts n q events chains k w w' r r' kept kept' next x h.followed more made is line h.chain))
+                (subst (λ j. TellsEvent T op events (event_at (only_events events)) chains j x) (sym (e ∙ count))
+                (event_told T accounts op events chains k w w' r r' kept kept' next x h.followed more made is line h.chain))
           ];
         }
       where
         before_or_last : (i k : ℕ) → i < suc k → (i < k) ⊎ (i ≡ k)
         before_or_last i k l = grind arith
 
-        keeps : (c : Bool) → NotesChain c (view_of w'.threads w'.quota w'.state) kept x.chain kept'
-            → KeepsChain c (view_of w'.threads w'.quota w'.state) kept'
+        keeps : (c : Bool) → NotesChain c (view_of w'.sizes w'.state) kept x.chain kept'
+            → KeepsChain c (view_of w'.sizes w'.state) kept'
         keeps false b = tt
         keeps true b = b.0
 
     pub told_to_refused : (cause : StepFault) → k < length events → next.line ≡ line_at events k → Refused w next.event cause
-        → TellsEvents T n q events chains traced (Some (next.line, cause))
+        → TellsEvents T op events chains traced (Some (next.line, cause))
     told_to_refused cause below line refused = record {
-      run = subst (λ z. Run T n q (event_at (only_events events)) z) (sym h.count) h.followed.run;
+      run = subst (λ z. Run T op (event_at (only_events events)) z) (sym h.count) h.followed.run;
       each = h.each;
       ends =
-          let first = stopped T accounts n q events k w r h.followed next.event is cause next.line below line refused in
+          let first = stopped T accounts op events k w r h.followed next.event is cause next.line below line refused in
           (first.0, first.1 ∙ sym h.count);
     }
 
-  pub told_all : k ≡ length events → TellsEvents T n q events chains traced None
+  pub told_all : k ≡ length events → TellsEvents T op events chains traced None
   told_all e = record {
-    run = subst (λ z. Run T n q (event_at (only_events events)) z) (sym h.count) h.followed.run;
+    run = subst (λ z. Run T op (event_at (only_events events)) z) (sym h.count) h.followed.run;
     each = h.each;
     ends = h.count ∙ e;
   }
 
 -- nothing has been told
-pub traced_none : (T : Table) (n q : ℕ) (events : List LineEvent) (chains : Bool) (w : WorldState) (r : Recorder)
-    (kept : List ChainKey) (traced : List TracedEvent) → HasFollowed T n q events 0 w r → traced ≡ []
-    → AreChainKeys (view_of w.threads w.quota w.state) kept
-    → HasTraced T n q events chains 0 w r kept traced
-traced_none T n q events chains w r kept traced followed none chain =
+pub traced_none : (T : Table) (op : Opening) (events : List LineEvent) (chains : Bool) (w : WorldState) (r : Recorder)
+    (kept : List ChainKey) (traced : List TracedEvent) → HasFollowed T op events 0 w r → traced ≡ []
+    → AreChainKeys (view_of w.sizes w.state) kept
+    → HasTraced T op events chains 0 w r kept traced
+traced_none T op events chains w r kept traced followed none chain =
     let count : length traced ≡ 0 = ap (λ (xs : List TracedEvent). length xs) none in
     record {
       followed = followed;
@@ -258,19 +259,18 @@ traced_none T n q events chains w r kept traced followed none chain =
       each = λ i d l. absurd (omega arith);
     }
   where
-    keeps : (c : Bool) → KeepsChain c (view_of w.threads w.quota w.state) kept
+    keeps : (c : Bool) → KeepsChain c (view_of w.sizes w.state) kept
     keeps false = tt
     keeps true = chain
 
 -- the trace of a schedule
-pub trace_is : (T : Table) (p : Plan) (chains : Bool) (n q : ℕ) (events : List LineEvent) (t : Trace)
-    → n ≡ p.threads → q ≡ p.quota → events ≡ events_of p → t.kind ≡ p.kind → t.threads ≡ p.threads → t.quota ≡ p.quota
-    → TellsEvents T n q events chains t.events.items t.refused → IsTraceOf T p chains t
-trace_is T p chains n q events t a b d kind threads quota tells = record {
+pub trace_is : (T : Table) (p : Plan) (chains : Bool) (op : Opening) (events : List LineEvent) (t : Trace)
+    → op ≡ opening_in p → events ≡ events_of p → t.kind ≡ p.kind → t.threads ≡ p.threads → t.quota ≡ p.quota
+    → TellsEvents T op events chains t.events.items t.refused → IsTraceOf T p chains t
+trace_is T p chains op events t a d kind threads quota tells = record {
   kind_is = kind;
   threads_are = threads;
   quota_is = quota;
-  tells = subst (λ es. TellsEvents T p.threads p.quota es chains t.events.items t.refused) d
-      (subst (λ z. TellsEvents T z p.quota events chains t.events.items t.refused) a
-      (subst (λ z. TellsEvents T n z events chains t.events.items t.refused) b tells));
+  tells = subst (λ es. TellsEvents T (opening_in p) es chains t.events.items t.refused) d
+      (subst (λ z. TellsEvents T z events chains t.events.items t.refused) a tells);
 }

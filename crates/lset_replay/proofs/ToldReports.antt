@@ -12,6 +12,7 @@ use Rattle.lset_words.specs.Account.{Account, Contents, Counts}
 use Rattle.lset_words.specs.Placement.{StandsBy, StandsAt, IsLeastFit, traced_at, no_traced}
 use Rattle.lset_words.specs.History.{call_numbered}
 use Rattle.lset_words.specs.Points.{place_numbered, point_numbered}
+use Rattle.lset_words.specs.Words.{Opening}
 use Rattle.lset_history.proofs.Lists.{Pairs, all_at, get_or_mapped}
 use Rattle.lset_history.proofs.Calls.{Traced, EndedBy, EndAt, Later, Calls}
 use Rattle.lset_history.proofs.CallSteps.{run_of, calls_of}
@@ -23,7 +24,7 @@ use Rattle.lset_steps.specs.Laws.{views}
 use Rattle.lset_steps.specs.Worlds.{thread_of}
 use Rattle.lset_steps.specs.Promises.{HasAccount}
 use Rattle.lset_headline.specs.Headline.{RunsAreLinearizable}
-use Rattle.lset_schedule.specs.Plan.{Plan}
+use Rattle.lset_schedule.specs.Plan.{Plan, opening_in}
 use Rattle.lset_replay.specs.declared.traced.CallEnd.{CallEnd}
 use Rattle.lset_replay.specs.declared.traced.TracedEvent.{TracedEvent}
 use Rattle.lset_replay.specs.Events.{events_of, only_events}
@@ -90,16 +91,16 @@ pair_at R (x ∷ xs) (suc i) (suc j) p l b = pair_at R xs i j p.1 (omega arith) 
 order : (a b : ℕ) → (a < b) ⊎ ((a ≡ b) ⊎ (b < a))
 order a b = grind arith
 
-module _ (n q last : ℕ) (log : Log) (contents : Contents) (counts : Counts) (account : Account n q last log contents counts) where
-  calls : Calls (run_of n q log contents counts) last (calls_at log last)
-  calls = calls_of n q last log contents counts account last (omega arith)
+module _ (op : Opening) (last : ℕ) (log : Log) (contents : Contents) (counts : Counts) (account : Account op last log contents counts) where
+  calls : Calls (run_of op.threads op.quota log contents counts) last (calls_at log last)
+  calls = calls_of op last log contents counts account last (omega arith)
 
   end_at : (i : ℕ) (e : ℕ × Reply) → (traced_at (calls_at log last) i).ended ≡ Some e
-      → (e.0 ≤ last) × EndAt (run_of n q log contents counts) (traced_at (calls_at log last) i).thread
+      → (e.0 ≤ last) × EndAt (run_of op.threads op.quota log contents counts) (traced_at (calls_at log last) i).thread
       (traced_at (calls_at log last) i).call (traced_at (calls_at log last) i).begun (traced_at (calls_at log last) i).changed e.0 e.1
-  end_at i e h = subst (λ z. EndedBy (run_of n q log contents counts) last (traced_at (calls_at log last) i).thread
+  end_at i e h = subst (λ z. EndedBy (run_of op.threads op.quota log contents counts) last (traced_at (calls_at log last) i).thread
       (traced_at (calls_at log last) i).call (traced_at (calls_at log last) i).begun (traced_at (calls_at log last) i).changed z) h
-      (all_at (Traced (run_of n q log contents counts) last) (calls_at log last) no_traced i
+      (all_at (Traced (run_of op.threads op.quota log contents counts) last) (calls_at log last) no_traced i
       (known_ended (calls_at log last) i e h) calls.each).ends
 
   not_before : (i j m : ℕ) (a b : Reply) → (traced_at (calls_at log last) i).ended ≡ Some (m, a)
@@ -160,15 +161,15 @@ answered : (T : Table) (s : State) (e : Event) (t : ℕ) (change : Option Change
 answered T s (Begin u call) t change a h = absurd (cc)
 answered T s (Go u) t change a h = cc
 
-no_answer : (T : Table) (n q : ℕ) (es : ℕ → Event) (k t : ℕ) (a : Option Reply) (end : Option CallEnd) (c : CallEnd)
-    → TellsEnd T n q es k t a end → end ≡ Some c → (reply : Reply) × EndsCall T n q es k t reply c
-no_answer T n q es k t None end c h e = absurd (cc)
-no_answer T n q es k t (Some reply) end c h e = (reply, subst (λ z. IsSomeAnd z (λ d. EndsCall T n q es k t reply d)) e h)
+no_answer : (T : Table) (op : Opening) (es : ℕ → Event) (k t : ℕ) (a : Option Reply) (end : Option CallEnd) (c : CallEnd)
+    → TellsEnd T op es k t a end → end ≡ Some c → (reply : Reply) × EndsCall T op es k t reply c
+no_answer T op es k t None end c h e = absurd (cc)
+no_answer T op es k t (Some reply) end c h e = (reply, subst (λ z. IsSomeAnd z (λ d. EndsCall T op es k t reply d)) e h)
 
-ended_there : (T : Table) (n q : ℕ) (es : ℕ → Event) (k t : ℕ) (reply : Reply) (end : Option CallEnd)
-    → IsSomeAnd end (λ d. EndsCall T n q es k t reply d) → (c : CallEnd) × (end ≡ Some c) × EndsCall T n q es k t reply c
-ended_there T n q es k t reply None h = absurd h
-ended_there T n q es k t reply (Some c) h = (c, refl, h)
+ended_there : (T : Table) (op : Opening) (es : ℕ → Event) (k t : ℕ) (reply : Reply) (end : Option CallEnd)
+    → IsSomeAnd end (λ d. EndsCall T op es k t reply d) → (c : CallEnd) × (end ≡ Some c) × EndsCall T op es k t reply c
+ended_there T op es k t reply None h = absurd h
+ended_there T op es k t reply (Some c) h = (c, refl, h)
 
 same_moment : (a b : ℕ) (c d : Reply) → (let o : Option (ℕ × Reply) = Some (a, c) in o) ≡ Some (b, d) → a ≡ b
 same_moment a b c d h = let e : (let x : ℕ × Reply = (a, c) in x) ≡ (b, d) = cc in ap (λ (x : ℕ × Reply). x.0) e
@@ -180,8 +181,8 @@ same_end p q r = cc
 -- THE LAW
 module _ (T : Table) (accounts : HasAccount T) (headline : RunsAreLinearizable T) (p : Plan) (r : ReportValue) (points : List Point)
     (chains : Bool) (traced : List TracedEvent)
-    (rep : IsReplay T p r) (pts : ArePointsOf T p.threads p.quota (only_events (events_of p)) r.history.calls r.order points)
-    (tells : TellsEvents T p.threads p.quota (events_of p) chains traced None) where
+    (rep : IsReplay T p r) (pts : ArePointsOf T (opening_in p) (only_events (events_of p)) r.history.calls r.order points)
+    (tells : TellsEvents T (opening_in p) (events_of p) chains traced None) where
   abbrev es : ℕ → Event
   es = event_at (only_events (events_of p))
 
@@ -189,23 +190,23 @@ module _ (T : Table) (accounts : HasAccount T) (headline : RunsAreLinearizable T
   last = length (only_events (events_of p))
 
   abbrev log : Log
-  log = log_of T p.threads p.quota es
+  log = log_of T (opening_in p) es
 
   abbrev contents : Contents
-  contents = contents_of (views T p.threads p.quota es)
+  contents = contents_of (views T (opening_in p) es)
 
   abbrev counts : Counts
-  counts = counts_of (views T p.threads p.quota es)
+  counts = counts_of (views T (opening_in p) es)
 
-  account : Account p.threads p.quota last log contents counts
-  account = accounts p.threads p.quota last es rep.report.run
+  account : Account (opening_in p) last log contents counts
+  account = accounts (opening_in p) last es rep.report.run
 
   as_long : length traced ≡ last
   as_long = tells.ends ∙ sym (as_many (events_of p))
 
   -- what an event tells of an end is so at the last moment too
-  call_then : (k t : ℕ) (reply : Reply) (c : CallEnd) → k < length traced → EndsCall T p.threads p.quota es k t reply c
-      → traced_at (calls_at log last) c.call ≡ traced_call T p.threads p.quota es (suc k) c.call
+  call_then : (k t : ℕ) (reply : Reply) (c : CallEnd) → k < length traced → EndsCall T (opening_in p) es k t reply c
+      → traced_at (calls_at log last) c.call ≡ traced_call T (opening_in p) es (suc k) c.call
   call_then k t reply c l e = stays log last (suc k) c.call (suc k, reply) (let a : length traced ≡ last = as_long in omega arith) e.ended
 
   module _ (number end : ℕ) (reply : Reply) (known : number < length r.history.calls)
@@ -217,8 +218,8 @@ module _ (T : Table) (accounts : HasAccount T) (headline : RunsAreLinearizable T
     ended_here = sym (ap (λ (x : CallRecord). x.ended) (ap (λ xs. call_numbered xs number) rep.report.history_is
         ∙ get_or_mapped record_of (calls_at log last) number no_traced)) ∙ ended
 
-    at_end : (end ≤ last) × EndAt (run_of p.threads p.quota log contents counts) here.thread here.call here.begun here.changed end reply
-    at_end = end_at p.threads p.quota last log contents counts account number (end, reply) ended_here
+    at_end : (end ≤ last) × EndAt (run_of (opening_in p).threads (opening_in p).quota log contents counts) here.thread here.call here.begun here.changed end reply
+    at_end = end_at (opening_in p) last log contents counts account number (end, reply) ended_here
 
     abbrev event : ℕ
     event = at_end.1.before
@@ -227,17 +228,17 @@ module _ (T : Table) (accounts : HasAccount T) (headline : RunsAreLinearizable T
     inside = let a : length traced ≡ last = as_long in let b : end ≡ suc event = at_end.1.is in let c : end ≤ last = at_end.0 in omega arith
 
     told_there : (none : TracedEvent) → (c : CallEnd) × ((get_or traced event none).end ≡ Some c)
-        × EndsCall T p.threads p.quota es event (thread_of (es event)) reply c
-    told_there none = ended_there T p.threads p.quota es event (thread_of (es event)) reply (get_or traced event none).end
-        (subst (λ a. TellsEnd T p.threads p.quota es event (thread_of (es event)) a (get_or traced event none).end)
-        (answered T (state_at T p.threads p.quota es event) (es event) here.thread at_end.1.change (Some reply) at_end.1.entry)
+        × EndsCall T (opening_in p) es event (thread_of (es event)) reply c
+    told_there none = ended_there T (opening_in p) es event (thread_of (es event)) reply (get_or traced event none).end
+        (subst (λ a. TellsEnd T (opening_in p) es event (thread_of (es event)) a (get_or traced event none).end)
+        (answered T (state_at T (opening_in p) es event) (es event) here.thread at_end.1.change (Some reply) at_end.1.entry)
         (tells.each event none inside).end_is)
 
     -- another event that tells of the call is the same
     same_event : (k : ℕ) (c : CallEnd) → TellsItsEnd traced k c → c.call ≡ number → suc k ≡ end
     same_event k c t is =
-        let e = no_answer T p.threads p.quota es k (thread_of (es k))
-        (told T (state_at T p.threads p.quota es k) (es k)).answer (get_or traced k (nothing traced k t.known)).end c
+        let e = no_answer T (opening_in p) es k (thread_of (es k))
+        (told T (state_at T (opening_in p) es k) (es k)).answer (get_or traced k (nothing traced k t.known)).end c
         (tells.each k (nothing traced k t.known) t.known).end_is (t.told (nothing traced k t.known)) in
         let a : (traced_at (calls_at log last) c.call).ended ≡ Some (suc k, e.0) =
         ap (λ (x : TracedCall). x.ended) (call_then k (thread_of (es k)) e.0 c t.known e.1) ∙ e.1.ended in
@@ -251,22 +252,22 @@ module _ (T : Table) (accounts : HasAccount T) (headline : RunsAreLinearizable T
         nothing (x ∷ xs) k l = x
 
     place : Contains r.order (record { call = number; reply = reply })
-    place = (explains T headline p.threads p.quota (only_events (events_of p)) r.history.calls r.order r.keys rep.report).ended
+    place = (explains T headline (opening_in p) (only_events (events_of p)) r.history.calls r.order r.keys rep.report).ended
         number end reply known ended
 
     place_there : place_numbered r.order place.0 ≡ record { call = number; reply = reply }
     place_there = get_or_default r.order place.0 _ _ place.1 ∙ place.2
 
-    moment_there : (c : CallEnd) → EndsCall T p.threads p.quota es event (thread_of (es event)) reply c
+    moment_there : (c : CallEnd) → EndsCall T (opening_in p) es event (thread_of (es event)) reply c
         → c ≡ record { call = number; reply = reply; moment = (point_numbered points place.0).moment }
     moment_there c e =
-        let stayed : traced_at (calls_at log last) c.call ≡ traced_call T p.threads p.quota es (suc event) c.call =
+        let stayed : traced_at (calls_at log last) c.call ≡ traced_call T (opening_in p) es (suc event) c.call =
         call_then event (thread_of (es event)) reply c inside e in
         let a : (traced_at (calls_at log last) c.call).ended ≡ Some (suc event, reply) =
         ap (λ (x : TracedCall). x.ended) stayed ∙ e.ended in
         let b : here.ended ≡ Some (suc event, reply) = ended_here ∙ ap (λ z. Some (z, reply)) at_end.1.is in
         let call : c.call ≡ number =
-        one_end p.threads p.quota last log contents counts account c.call number (suc event) reply reply a b in
+        one_end (opening_in p) last log contents counts account c.call number (suc event) reply reply a b in
         let stands : StandsAt p.quota contents counts here (Some c.moment) =
         subst (λ z. StandsAt p.quota contents counts (traced_at (calls_at log last) z) (Some c.moment)) call
         (subst (λ x. StandsAt p.quota contents counts x (Some c.moment)) (sym stayed) e.stands) in

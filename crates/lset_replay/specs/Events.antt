@@ -5,9 +5,9 @@ use Rattle.lset_steps.specs.declared.Event.TheVariants as event
 use Rattle.lset_schedule.specs.declared.value.Line.{Line}
 use Rattle.lset_schedule.specs.declared.value.Line.TheVariants as line
 use Rattle.std.specs.List.{sum_by}
-use Rattle.lset_words.specs.Words.{IsWithin}
+use Rattle.lset_words.specs.Words.{IsWithin, sizes}
 use Rattle.lset_schedule.specs.declared.TheConstants.{MOST_EVENTS}
-use Rattle.lset_schedule.specs.Plan.{Plan, event_count, first_event_line}
+use Rattle.lset_schedule.specs.Plan.{Plan, event_count, first_event_line, opening_in}
 use Rattle.lset_replay.specs.declared.events.LineEvent.{LineEvent}
 
 -- a line stands for one beginning, or for that many steps
@@ -22,9 +22,9 @@ events_from number (l ∷ ls) = events_of_line number l ++ events_from (number +
 abbrev pub events_of : Plan → List LineEvent
 events_of p = events_from (first_event_line p) p.lines
 
--- what can be replayed: threads and quota within the limits, and no more events than there may be, whatever the calls are
+-- what can be replayed: an opening within the limits, and no more events than there may be, whatever the calls are
 pub record IsInLimits (p : Plan) : Type 0 where
-  pub sizes : IsWithin (record { threads = p.threads; quota = p.quota })
+  pub sizes : IsWithin (sizes (opening_in p))
   pub few : sum_by event_count p.lines ≤ MOST_EVENTS
 
 -- without the numbers of the lines

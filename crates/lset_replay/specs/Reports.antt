@@ -4,7 +4,8 @@ use Rattle.std.specs.List.Sorted.{IsStrictlyIncreasing}
 use Rattle.lset_words.specs.declared.history.CallRecord.{CallRecord}
 use Rattle.lset_words.specs.declared.history.Placed.{Placed}
 use Rattle.lset_words.specs.History.{Linearizes}
-use Rattle.lset_words.specs.SequentialSet.{empty_set}
+use Rattle.lset_words.specs.SequentialSet.{opening_set}
+use Rattle.lset_words.specs.Words.{Opening, sizes}
 use Rattle.lset_steps.specs.declared.Event.{Event}
 use Rattle.lset_steps.specs.declared.world.StepFault.{StepFault}
 use Rattle.lset_steps.specs.declared.world.StepFault.TheVariants as step
@@ -12,7 +13,7 @@ use Rattle.lset_steps.specs.Steps.{Table, Run, event_at, state_at}
 use Rattle.lset_steps.specs.Laws.{views}
 use Rattle.lset_steps.specs.Worlds.{WorldState, Refused, IsContent}
 use Rattle.lset_headline.specs.Headline.{history_of, IsPlacedBy, keys_left}
-use Rattle.lset_schedule.specs.Plan.{Plan}
+use Rattle.lset_schedule.specs.Plan.{Plan, opening_in}
 use Rattle.lset_report.specs.Report.{ReportValue, view}
 use Rattle.lset_replay.specs.declared.events.LineEvent.{LineEvent}
 use Rattle.lset_replay.specs.declared.fault.ReplayFault.{ReplayFault}
@@ -21,30 +22,29 @@ use Rattle.lset_report.specs.declared.report.Report.{Report}
 use Rattle.lset_replay.specs.Events.{events_of, only_events, line_at}
 
 -- The run of these events, and what is told of it:
-pub record IsReportOf (T : Table) (threads quota : ℕ) (events : List Event)
+pub record IsReportOf (T : Table) (op : Opening) (events : List Event)
     (history : List CallRecord) (order : List Placed) (keys : List ℕ) : Type 0 where
   -- every event is enabled,
-  pub run : Run T threads quota (event_at events) (length events)
+  pub run : Run T op (event_at events) (length events)
   -- the history is the run's,
-  pub history_is : history ≡ history_of T threads quota (event_at events) (length events)
+  pub history_is : history ≡ history_of T op (event_at events) (length events)
   -- the order is [Placement], by the contents of the run's worlds,
-  pub placement : IsPlacedBy T threads quota (event_at events) (length events) order
+  pub placement : IsPlacedBy T op (event_at events) (length events) order
   -- and the keys are the content of the last world.
-  pub content : IsContent (views T threads quota (event_at events) (length events)) keys
+  pub content : IsContent (views T op (event_at events) (length events)) keys
 
 -- the world after the first k events
-abbrev pub world_after : Table → ℕ → ℕ → List Event → ℕ → WorldState
-world_after T threads quota events k =
-    record { threads = threads; quota = quota; state = state_at T threads quota (event_at events) k }
+abbrev pub world_after : Table → Opening → List Event → ℕ → WorldState
+world_after T op events k = record { sizes = sizes op; state = state_at T op (event_at events) k }
 
 -- The first event that is not enabled: its line, and the first cause of it
-pub record IsFirstRefused (T : Table) (threads quota : ℕ) (events : List LineEvent)
+pub record IsFirstRefused (T : Table) (op : Opening) (events : List LineEvent)
     (line : ℕ) (cause : StepFault) : Type 0 where
   pub index : ℕ
   pub known : index < length events
   pub line_is : line ≡ line_at events index
-  pub before : Run T threads quota (event_at (only_events events)) index
-  pub refused : Refused (world_after T threads quota (only_events events) index) (event_at (only_events events) index) cause
+  pub before : Run T op (event_at (only_events events)) index
+  pub refused : Refused (world_after T op (only_events events) index) (event_at (only_events events) index) cause
 
 abbrev pub fault_at : ℕ → StepFault → ReplayFault
 fault_at line step.NoThread = fault.NoThread line
@@ -52,27 +52,26 @@ fault_at line step.Busy = fault.Busy line
 fault_at line step.Idle = fault.Idle line
 
 -- what a refused replay answers: that line and cause, or that memory ran out
-abbrev pub IsRefusal : Table → ℕ → ℕ → List LineEvent → ReplayFault → Type 0
-IsRefusal T threads quota events (fault.NoThread line) = IsFirstRefused T threads quota events line step.NoThread
-IsRefusal T threads quota events (fault.Busy line) = IsFirstRefused T threads quota events line step.Busy
-IsRefusal T threads quota events (fault.Idle line) = IsFirstRefused T threads quota events line step.Idle
-IsRefusal T threads quota events fault.Memory = Unit {0}
+abbrev pub IsRefusal : Table → Opening → List LineEvent → ReplayFault → Type 0
+IsRefusal T op events (fault.NoThread line) = IsFirstRefused T op events line step.NoThread
+IsRefusal T op events (fault.Busy line) = IsFirstRefused T op events line step.Busy
+IsRefusal T op events (fault.Idle line) = IsFirstRefused T op events line step.Idle
+IsRefusal T op events fault.Memory = Unit {0}
 
 -- the report of a schedule
 pub record IsReplay (T : Table) (p : Plan) (r : ReportValue) : Type 0 where
   pub version_is : r.version ≡ p.version
   pub kind_is : r.kind ≡ p.kind
-  pub threads_are : r.history.threads ≡ p.threads
-  pub quota_is : r.history.quota ≡ p.quota
-  pub report : IsReportOf T p.threads p.quota (only_events (events_of p)) r.history.calls r.order r.keys
+  pub opening_is : r.history.opening ≡ opening_in p
+  pub report : IsReportOf T (opening_in p) (only_events (events_of p)) r.history.calls r.order r.keys
 
 -- what a replay by a machine answers
 abbrev pub Replays : Table → Plan → Result Report ReplayFault → Type 0
 Replays T p (Ok r) = IsReplay T p (view r)
-Replays T p (Err refusal) = IsRefusal T p.threads p.quota (events_of p) refusal
+Replays T p (Err refusal) = IsRefusal T (opening_in p) (events_of p) refusal
 
 -- [Headline, of a report]: one order explains the history, and leaves the keys.
 pub record IsExplained (r : ReportValue) : Type 0 where
-  pub linearizes : Linearizes r.history.quota (empty_set r.history.threads) r.history.calls r.order
-  pub leaves : keys_left r.history.threads r.history.calls r.order ≡ r.keys
+  pub linearizes : Linearizes r.history.opening.quota (opening_set r.history.opening) r.history.calls r.order
+  pub leaves : keys_left r.history.opening r.history.calls r.order ≡ r.keys
   pub rising : IsStrictlyIncreasing r.keys

@@ -8,8 +8,9 @@ use Rattle.lset_words.specs.declared.history.CallRecord.{CallRecord}
 use Rattle.lset_words.specs.History.{call_numbered}
 use Rattle.lset_words.specs.Log.{Log, Entry, Change}
 use Rattle.lset_words.specs.Log.Entry.{began, stepped}
+use Rattle.lset_words.specs.Words.{Opening}
 use Rattle.lset_history.specs.History.{HistoryValue, MayBegin, MayEnd, ended_with}
-use Rattle.lset_history.specs.Changes.{moments_of, is_present, is_present_now, with_change, IsLaterThanAll}
+use Rattle.lset_history.specs.Changes.{moments_of, opened_moments, is_present, is_present_now, with_change, IsLaterThanAll}
 use Rattle.lset_history.proofs.Firsts.{first_passing}
 use Rattle.lset_history.proofs.CeilingTests.{has_ceiling}
 use Rattle.lset_steps.specs.declared.Event.{Event}
@@ -125,13 +126,13 @@ abbrev pub trace_after : ℕ → Entry → Trace → Trace
 trace_after moment (began thread call) s = begun_on moment thread call s
 trace_after moment (stepped thread change reply) s = ended_on moment thread reply (changed_on moment thread change s)
 
-abbrev pub no_trace : ℕ → Trace
-no_trace threads = record { calls = []; under_way = replicate threads None; places = []; changes = λ k. [] }
+abbrev pub no_trace : Opening → Trace
+no_trace op = record { calls = []; under_way = replicate op.threads None; places = []; changes = opened_moments op.keys }
 
 -- after the first k events
-abbrev pub trace_at : ℕ → Log → ℕ → Trace
-trace_at threads log zero = no_trace threads
-trace_at threads log (suc k) = trace_after (suc k) (log k) (trace_at threads log k)
+abbrev pub trace_at : Opening → Log → ℕ → Trace
+trace_at op log zero = no_trace op
+trace_at op log (suc k) = trace_after (suc k) (log k) (trace_at op log k)
 
 -- ---- what the code keeps
 

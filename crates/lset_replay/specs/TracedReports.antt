@@ -6,7 +6,7 @@ use Rattle.lset_words.specs.declared.history.Point.{Point}
 use Rattle.lset_words.specs.History.{call_numbered}
 use Rattle.lset_words.specs.Points.{place_numbered, point_numbered}
 use Rattle.lset_steps.specs.Steps.{Table}
-use Rattle.lset_schedule.specs.Plan.{Plan}
+use Rattle.lset_schedule.specs.Plan.{Plan, opening_in}
 use Rattle.lset_replay.specs.declared.traced.CallEnd.{CallEnd}
 use Rattle.lset_replay.specs.declared.traced.TracedEvent.{TracedEvent}
 use Rattle.lset_replay.specs.Events.{events_of, only_events}
@@ -35,8 +35,8 @@ pub record IsToldOnce (traced : List TracedEvent) (order : List Placed) (points 
 -- THE REPORT AND THE TRACE of a schedule without a refused event: each ended call of the history is told once.
 abbrev pub TracesTellReports : Table → Type 0
 TracesTellReports T = (p : Plan) (r : ReportValue) (points : List Point) (chains : Bool) (traced : List TracedEvent)
-    → IsReplay T p r → ArePointsOf T p.threads p.quota (only_events (events_of p)) r.history.calls r.order points
-    → TellsEvents T p.threads p.quota (events_of p) chains traced None
+    → IsReplay T p r → ArePointsOf T (opening_in p) (only_events (events_of p)) r.history.calls r.order points
+    → TellsEvents T (opening_in p) (events_of p) chains traced None
     → (number end : ℕ) (reply : Reply) → number < length r.history.calls
     → (call_numbered r.history.calls number).ended ≡ Some (end, reply)
     → IsToldOnce traced r.order points number end reply

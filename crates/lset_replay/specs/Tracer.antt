@@ -2,6 +2,7 @@
 use Rattle.std.specs.Prelude.{◌≡◌, ℕ, ◌%◌, ◌<◌, Bool, true, false, not, nat_lt, ◌==◌, ◌&&◌, List, length, Option, Some, None, Result, Ok, Err, slice_index_or, Vec}
 use Rattle.std.specs.declared.alloc.Global.{Global}
 use Rattle.lset_words.specs.declared.Reply.{Reply}
+use Rattle.lset_words.specs.Words.{Opening}
 use Rattle.lset_steps.specs.declared.Event.{Event}
 use Rattle.lset_steps.specs.declared.Event.TheVariants as event
 use Rattle.lset_steps.specs.declared.Action.TheVariants.{Load, Store, Exchange}
@@ -67,8 +68,7 @@ pub record MadeEvent (T : Table) (next : LineEvent) (moment : ℕ) (chains : Boo
   pub enabled : Enabled w.state next.event
   pub world : w' ≡ record w { state = after T w.state next.event }
   pub trace : trace_of r' ≡ trace_after moment (entry_told next.event (told T w.state next.event)) (trace_of r)
-  pub threads : r'.history.threads ≡ r.history.threads
-  pub quota : r'.history.quota ≡ r.history.quota
+  pub opening : r'.history.opening ≡ r.history.opening
   pub line : x.line ≡ next.line
   pub thread : x.thread ≡ thread_of next.event
   pub before : x.before ≡ local_of w.state (thread_of next.event)
@@ -77,7 +77,7 @@ pub record MadeEvent (T : Table) (next : LineEvent) (moment : ℕ) (chains : Boo
   pub change : x.change ≡ (told T w.state next.event).change
   pub end : x.end ≡ end_with (told T w.state next.event).answer
       (open_number_of (open_call_at r.under_way.items (thread_of next.event))) r'.places.items
-  pub chain : NotesChain chains (view_of w'.threads w'.quota w'.state) kept x.chain kept'
+  pub chain : NotesChain chains (view_of w'.sizes w'.state) kept x.chain kept'
 
 abbrev pub MakesEvent : Table → LineEvent → ℕ → Bool → WorldState → Recorder → List ChainKey → Result TracedEvent Stop
     → WorldState → Recorder → List ChainKey → Type 0
@@ -91,10 +91,10 @@ KeepsChain false v kept = Unit {0}
 KeepsChain true v kept = AreChainKeys v kept
 
 -- The first k events have been followed and told.
-pub record HasTraced (T : Table) (n q : ℕ) (events : List LineEvent) (chains : Bool) (k : ℕ) (w : WorldState) (r : Recorder)
+pub record HasTraced (T : Table) (op : Opening) (events : List LineEvent) (chains : Bool) (k : ℕ) (w : WorldState) (r : Recorder)
     (kept : List ChainKey) (traced : List TracedEvent) : Type 0 where
-  pub followed : HasFollowed T n q events k w r
+  pub followed : HasFollowed T op events k w r
   pub count : length traced ≡ k
-  pub chain : KeepsChain chains (view_of w.threads w.quota w.state) kept
+  pub chain : KeepsChain chains (view_of w.sizes w.state) kept
   pub each : (i : ℕ) (none : TracedEvent) → i < length traced
-      → TellsEvent T n q events (event_at (only_events events)) chains i (slice_index_or traced i none)
+      → TellsEvent T op events (event_at (only_events events)) chains i (slice_index_or traced i none)

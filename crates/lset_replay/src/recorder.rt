@@ -1,4 +1,5 @@
 ghost use Rattle.std.specs.Prelude.{◌≡◌, ◌≢◌, ◌<◌, ◌≤◌, ℕ, [], ◌∷◌, ◌++◌, length, not, IfOk, OnOk, OnErr, Some, None, slice_set, IsSomeAnd};
+ghost use Rattle.std.specs.List.Sorted.{IsStrictlyIncreasing};
 ghost use Rattle.lset_words.specs.Words.{IsWithin};
 ghost use Rattle.lset_words.specs.declared.Key.{Key};
 ghost use Rattle.lset_words.specs.declared.Call.TheVariants.{Ceiling};
@@ -38,17 +39,25 @@ pub struct Recorder {
 }
 
 impl Recorder {
-    /// Before any event.
-    pub fn new(alloc: Global, threads: u32, quota: u32) -> Result<Recorder, AllocError>
-        requires { IsWithin (record { threads = threads; quota = quota }) }
-        ensures trace { IfOk result (λ r. trace_of r ≡ no_trace threads) }
-        ensures limits { IfOk result (λ r. (r.history.threads ≡ threads) × (r.history.quota ≡ quota)) }
+    /// Before any event of a run that opens with these keys, which rise strictly.
+    pub fn new(
+        alloc: Global,
+        threads: u32,
+        quota: u32,
+        opening: Vec<u32>,
+    ) -> Result<Recorder, AllocError>
+        requires within { IsWithin (record { threads = threads; quota = quota; opening = length opening.items }) }
+        requires rising { IsStrictlyIncreasing opening.items }
+        ensures trace { IfOk result (λ r. trace_of r ≡ no_trace r.history.opening) }
+        ensures opening { IfOk result (λ r. r.history.opening
+            ≡ record { threads = threads; quota = quota; keys = opening.items }) }
     {
+        let changes = Changes::opened(alloc, &opening)?;
         Ok(Recorder {
-            history: History::new(alloc, threads, quota),
+            history: History::opened(alloc, threads, quota, opening),
             under_way: vec![in alloc; None; threads as usize]?,
             places: Vec::new(alloc),
-            changes: Changes::new(alloc),
+            changes,
         })
     }
 
@@ -166,8 +175,7 @@ impl Recorder {
     pub fn follow(&mut self, event: Event, told: Told, moment: u32) -> Result<(), AllocError>
         requires { MayFollow self.old moment event told }
         ensures trace { OnOk result (trace_of self.new ≡ trace_after moment (entry_told event told) (trace_of self.old)) }
-        ensures threads { OnOk result (self.new.history.threads ≡ self.old.history.threads) }
-        ensures quota { OnOk result (self.new.history.quota ≡ self.old.history.quota) }
+        ensures opening { OnOk result (self.new.history.opening ≡ self.old.history.opening) }
     {
         match event {
             Event::Begin(thread, call) => self.begin(thread, call, moment),

@@ -42,9 +42,9 @@ fn follow_all<M: Machine>(
 ) -> Result<(), ReplayFault>
     requires header { first ≤ 2 ^ 32 }
     requires few { sum_by event_count lines.now ≤ MOST_EVENTS }
-    requires start { HasFollowed M.table world.old.threads world.old.quota (events_from first lines.now) 0
+    requires start { HasFollowed M.table recorder.old.history.opening (events_from first lines.now) 0
         world.old recorder.old }
-    ensures { FollowsAll M.table world.old.threads world.old.quota (events_from first lines.now) result
+    ensures { FollowsAll M.table recorder.old.history.opening (events_from first lines.now) result
         world.new recorder.new }
 {
     has_account::<M>();
@@ -77,7 +77,7 @@ fn replay_on<M: Machine>(alloc: Global, schedule: &Schedule) -> Result<PlacedRep
         unreachable!();
     };
     let mut world = World::<M>::new(alloc, layout)?;
-    let mut recorder = Recorder::new(alloc, schedule.threads, schedule.quota)?;
+    let mut recorder = Recorder::new(alloc, schedule.threads, schedule.quota, Vec::new(alloc))?;
     follow_all(
         &mut world,
         &mut recorder,

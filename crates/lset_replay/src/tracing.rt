@@ -57,7 +57,7 @@ fn thread_of(event: Event) -> u32
 
 /// The thread's own state before an event that is enabled, and what the event will do.
 fn look<M: Machine>(world: &World<M>, recorder: &Recorder, event: Event) -> Option<(Local, Deed)>
-    requires seats { length world.now.state.locals ≡ world.now.threads }
+    requires seats { length world.now.state.locals ≡ world.now.sizes.threads }
     requires few { length recorder.now.places.items < 2 ^ 32 }
     ensures { Enabled world.now.state event → result ≡ Some (
       local_of world.now.state (thread_of event),
@@ -136,8 +136,8 @@ fn changed_chain<M: Machine>(
     chains: bool,
 ) -> Result<Option<Vec<ChainKey>>, AllocError>
     requires { writes_node deed ≡ false
-        → KeepsChain chains (view_of world.now.threads world.now.quota world.now.state) kept.old.items }
-    ensures { IfOk result (λ chain. NotesChain chains (view_of world.now.threads world.now.quota world.now.state)
+        → KeepsChain chains (view_of world.now.sizes world.now.state) kept.old.items }
+    ensures { IfOk result (λ chain. NotesChain chains (view_of world.now.sizes world.now.state)
         kept.old.items chain kept.new.items) }
 {
     if !chains || !writes_node(deed) {
@@ -161,11 +161,11 @@ fn trace_event<M: Machine>(
     moment: u32,
     chains: bool,
 ) -> Result<TracedEvent, Stop>
-    requires seats { length world.old.state.locals ≡ world.old.threads }
+    requires seats { length world.old.state.locals ≡ world.old.sizes.threads }
     requires few { length recorder.old.places.items < 2 ^ 32 }
     requires may { Enabled world.old.state next.event
         → MayFollow recorder.old moment next.event (told M.table world.old.state next.event) }
-    requires chain { KeepsChain chains (view_of world.old.threads world.old.quota world.old.state) kept.old.items }
+    requires chain { KeepsChain chains (view_of world.old.sizes world.old.state) kept.old.items }
     ensures { MakesEvent M.table next moment chains world.old recorder.old kept.old.items result
         world.new recorder.new kept.new.items }
 {
@@ -207,9 +207,9 @@ fn trace_lines<M: Machine>(
 ) -> Result<Option<(u64, StepFault)>, AllocError>
     requires header { first ≤ 2 ^ 32 }
     requires few { sum_by event_count lines.now ≤ MOST_EVENTS }
-    requires start { HasTraced M.table world.old.threads world.old.quota (events_from first lines.now) chains 0
+    requires start { HasTraced M.table recorder.old.history.opening (events_from first lines.now) chains 0
         world.old recorder.old kept.old.items traced.old.items }
-    ensures { IfOk result (λ refused. TellsEvents M.table world.old.threads world.old.quota
+    ensures { IfOk result (λ refused. TellsEvents M.table recorder.old.history.opening
         (events_from first lines.now) chains traced.new.items refused) }
 {
     has_account::<M>();
@@ -242,7 +242,7 @@ fn trace_on<M: Machine>(
         unreachable!();
     };
     let mut world = World::<M>::new(alloc, layout)?;
-    let mut recorder = Recorder::new(alloc, schedule.threads, schedule.quota)?;
+    let mut recorder = Recorder::new(alloc, schedule.threads, schedule.quota, Vec::new(alloc))?;
     let mut kept = world.chain()?;
     let mut events = Vec::new(alloc);
     let refused = trace_lines(

@@ -11,6 +11,7 @@ use Rattle.lset_words.specs.declared.Reply.{Reply}
 use Rattle.lset_words.specs.declared.history.CallRecord.{CallRecord}
 use Rattle.lset_words.specs.declared.history.Placed.{Placed}
 use Rattle.lset_words.specs.History.{MayFollow, ContinuesHistory}
+use Rattle.lset_words.specs.Words.{empty}
 use Rattle.lset_text.specs.declared.headers.Header.{Header}
 use Rattle.lset_text.specs.Parts.{Lacks}
 use Rattle.lset_text.specs.Results.{◌>>=◌}
@@ -31,7 +32,7 @@ use Rattle.lset_report.specs.declared.report_fault.ReportCause.TheVariants as wr
 use Rattle.lset_report.specs.declared.report_fault.ReportFault.{ReportFault}
 use Rattle.lset_report.specs.Report.{ReportValue, view}
 use Rattle.lset_report.specs.Texts.{title, header_in, call_lines, place_line, key_line, last_line}
-use Rattle.lset_report.specs.Texts.{report_lines, report_text}
+use Rattle.lset_report.specs.Texts.{report_lines, report_text, OpensEmpty}
 use Rattle.lset_report.specs.ReportReading.{IsEnd, IsCall, IsPlace, IsReport, takes_places, takes_keys}
 use Rattle.lset_report.specs.ReportReading.{judged, line_after, section_after, with_line, report_from, no_lines}
 use Rattle.lset_report.specs.ReportReading.{first_line, version_told}
@@ -68,7 +69,7 @@ abbrev value : Version → Header → List CallRecord → List Placed → List �
 value v h cs ps ks = record {
   version = v;
   kind = h.kind;
-  history = record { threads = h.threads; quota = h.quota; calls = cs };
+  history = record { opening = empty h.threads h.quota; calls = cs };
   order = ps;
   keys = ks;
 }
@@ -165,6 +166,13 @@ end_again line s r may = one_goes line s r r told.End ([] ∷ []) (omega arith) 
 abbrev last_lines : List (List ℕ)
 last_lines = last_line ∷ [] ∷ []
 
+-- the same report, of a set that opens empty
+abbrev shut : ReportValue → ReportValue
+shut r = record r { history = record { opening = empty r.history.opening.threads r.history.opening.quota; calls = r.history.calls } }
+
+shut_is : (r : ReportValue) → OpensEmpty r → shut r ≡ r
+shut_is r none = ap (λ (keys : List ℕ). record r { history = record r.history { opening = record r.history.opening { keys = keys } } }) (sym none)
+
 lines_again : (r : ReportValue) → IsReport r
     → report_from first_line section.Calls (no_lines r.version (header_in r))
     (call_lines 0 r.history.calls ++ (map place_line r.order ++ (map key_line r.keys ++ last_lines))) ≡ Ok r
@@ -176,10 +184,10 @@ lines_again r is =
     let after_calls : List (List ℕ) = map place_line r.order ++ after_places in
     let some_keys = some_after (map key_line r.keys) last_lines (omega arith) in
     let some_places = some_after (map place_line r.order) after_places some_keys in
-    calls_again v h r [] cs after_calls first_line is.header.few some_places is.few_calls is.history is.calls (λ i.
-    places_again v h r cs [] r.order after_places i section.Calls some_keys refl is.few_places is.places (λ t may j.
-    keys_again v h r cs r.order [] r.keys last_lines j t (omega arith) (takes_most t may) is.few_keys is.keys (λ u takes_u k.
-    end_again k u r takes_u)))
+    (calls_again v h (shut r) [] cs after_calls first_line is.header.few some_places is.few_calls is.history is.calls (λ i.
+    places_again v h (shut r) cs [] r.order after_places i section.Calls some_keys refl is.few_places is.places (λ t may j.
+    keys_again v h (shut r) cs r.order [] r.keys last_lines j t (omega arith) (takes_most t may) is.few_keys is.keys (λ u takes_u k.
+    end_again k u (shut r) takes_u)))) ∙ ap Ok (shut_is r is.opens)
 
 some_more : (xs : List (List ℕ)) → 0 < length xs → (y : List ℕ) × (more : List (List ℕ)) × (xs ≡ y ∷ more)
 some_more [] some = absurd (omega arith)

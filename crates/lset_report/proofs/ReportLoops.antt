@@ -45,7 +45,7 @@ counted_ok most count l k e =
 abbrev pub IsGood : ReportValue → Line → Type 0
 IsGood r (Call number x) =
     (length r.history.calls < MOST_CALLS) × (number ≡ length r.history.calls)
-    × (may_follow r.history.threads r.history.calls x ≡ true)
+    × (may_follow r.history.opening.threads r.history.calls x ≡ true)
 IsGood r (Place p) = length r.order < MOST_PLACES
 IsGood r (Key k) = length r.keys < MOST_KEYS
 IsGood r End = Unit {0}
@@ -54,7 +54,7 @@ pub judged_ok : (r : ReportValue) (l k : Line) → judged r l ≡ Ok k → (l �
 judged_ok r (Call number x) k e =
     let one = bind_ok (counted MOST_CALLS (length r.history.calls) (Call number x)) (following r number x) k e in
     let room = counted_ok MOST_CALLS (length r.history.calls) (Call number x) one.0 one.1 in
-    let test = kept_if (eqb number (length r.history.calls) && may_follow r.history.threads r.history.calls x) wrong.History
+    let test = kept_if (eqb number (length r.history.calls) && may_follow r.history.opening.threads r.history.calls x) wrong.History
     one.0 k one.2 in
     let parts = and_parts (eqb number (length r.history.calls)) _ test.0 in
     (room.1 ∙ test.1, (room.0, eqb-true _ _ parts.0, parts.1))

@@ -155,7 +155,8 @@ length-one xs x = length-append xs (x ∷ [])
 report_more : (r : ReportValue) (l : Line) → IsReport r → IsLine r.version l → IsGood r l → IsReport (with_line r l)
 report_more r (told.Call n x) is line good = record {
   header = is.header;
-  history = history_more r.history.threads r.history.calls x is.history good.2;
+  opens = is.opens;
+  history = history_more r.history.opening.threads r.history.calls x is.history good.2;
   calls = all_join (IsCall r.version) r.history.calls (x ∷ []) is.calls ((line.4, line.2, is_end r.version x.ended line.5, line.6), tt);
   places = is.places;
   keys = is.keys;
@@ -165,6 +166,7 @@ report_more r (told.Call n x) is line good = record {
 }
 report_more r (told.Place p) is line good = record {
   header = is.header;
+  opens = is.opens;
   history = is.history;
   calls = is.calls;
   places = all_join (IsPlace r.version) r.order (p ∷ []) is.places (line, tt);
@@ -175,6 +177,7 @@ report_more r (told.Place p) is line good = record {
 }
 report_more r (told.Key k) is line good = record {
   header = is.header;
+  opens = is.opens;
   history = is.history;
   calls = is.calls;
   places = is.places;
@@ -233,6 +236,7 @@ lines_found line s r q x (y ∷ more) is reached e =
 empty_report : (v : Version) (h : Header) → IsHeader h → IsReport (no_lines v h)
 empty_report v h is = record {
   header = is;
+  opens = refl;
   history = tt;
   calls = tt;
   places = tt;
@@ -290,7 +294,7 @@ words_in Two calls order are places = tt
 
 -- a report that has a text has the words of its version, so what was read can be written
 pub has_words : (r : ReportValue) → IsReport r → HasWordsOfVersion r
-has_words r is = words_in r.version r.history.calls r.order is.calls is.places
+has_words r is = record { opens = is.opens; words = words_in r.version r.history.calls r.order is.calls is.places }
 
 pub words_found : (bytes : List ℕ) (r : Result Report ReportFault) → Gives view r bytes → IfOk r (λ s. HasWordsOfVersion (view s))
 words_found bytes (Ok s) gives = has_words (view s) (is_found bytes (view s) gives).0

@@ -9,13 +9,14 @@ use Rattle.lset_report.specs.declared.reading.lines.Line.{Line}
 use Rattle.lset_report.specs.declared.reading.lines.Line.TheVariants.{End}
 use Rattle.lset_report.specs.ReportReading.{first_line, fault, line_after, section_after, with_line, RunsOut}
 use Rattle.lset_report.specs.ReportCalls.{Tracks, threads_of}
+use Rattle.lset_words.specs.Words.{empty}
 
 -- the report of the lines that were read
 abbrev pub so_far : Reader → ReportValue
 so_far s = record {
   version = s.version;
   kind = s.header.kind;
-  history = record { threads = s.header.threads; quota = s.header.quota; calls = s.calls.calls.items };
+  history = record { opening = empty s.header.threads s.header.quota; calls = s.calls.calls.items };
   order = s.order.items;
   keys = s.keys.items;
 }

@@ -6,7 +6,7 @@ use Rattle.std.specs.Str.{bytes_eq}
 use Rattle.lset_words.specs.declared.Reply.{Reply}
 use Rattle.lset_words.specs.declared.history.CallRecord.{CallRecord}
 use Rattle.lset_words.specs.declared.history.Placed.{Placed}
-use Rattle.lset_words.specs.Words.{key_of}
+use Rattle.lset_words.specs.Words.{key_of, empty}
 use Rattle.lset_words.specs.History.{IsHistory}
 use Rattle.lset_history.specs.History.{HistoryValue}
 use Rattle.lset_text.specs.declared.words.CallWord.{CallWord}
@@ -30,7 +30,7 @@ use Rattle.lset_report.specs.declared.report_fault.ReportCause.{ReportCause}
 use Rattle.lset_report.specs.declared.report_fault.ReportCause.TheVariants as wrong
 use Rattle.lset_report.specs.declared.report_fault.ReportFault.{ReportFault}
 use Rattle.lset_report.specs.Report.{ReportValue}
-use Rattle.lset_report.specs.Texts.{title, header_in, last_line, report_text}
+use Rattle.lset_report.specs.Texts.{title, header_in, last_line, report_text, OpensEmpty}
 
 -- ---- reports that have a text which is read
 
@@ -49,7 +49,8 @@ IsPlace version p = (p.call < 2 ^ 32) × HasReply version p.reply
 -- too large or too many. The order and the keys are free.
 pub record IsReport (r : ReportValue) : Type 0 where
   pub header : IsHeader (header_in r)
-  pub history : IsHistory r.history.threads r.history.calls
+  pub opens : OpensEmpty r
+  pub history : IsHistory r.history.opening.threads r.history.calls
   pub calls : AllByRecursion (IsCall r.version) r.history.calls
   pub places : AllByRecursion (IsPlace r.version) r.order
   pub keys : AllByRecursion (λ k. k < 2 ^ 32) r.keys
@@ -209,7 +210,7 @@ counted most count l = if nat_lt count most then Ok l else Err wrong.TooMany
 
 abbrev pub following : ReportValue → ℕ → CallRecord → ReportLine → Result ReportLine ReportCause
 following r number x l =
-    if number == length r.history.calls && may_follow r.history.threads r.history.calls x then Ok l else Err wrong.History
+    if number == length r.history.calls && may_follow r.history.opening.threads r.history.calls x then Ok l else Err wrong.History
 
 -- the count of a line, and the history of a call
 abbrev pub judged : ReportValue → ReportLine → Result ReportLine ReportCause
@@ -265,7 +266,7 @@ abbrev pub no_lines : Version → HeaderTold → ReportValue
 no_lines version h = record {
   version = version;
   kind = h.kind;
-  history = record { threads = h.threads; quota = h.quota; calls = [] };
+  history = record { opening = empty h.threads h.quota; calls = [] };
   order = [];
   keys = [];
 }

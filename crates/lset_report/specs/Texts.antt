@@ -1,5 +1,5 @@
 -- [Report text]: the one spelling of each report, in its version.
-use Rattle.std.specs.Prelude.{ℕ, ◌+◌, List, [], ◌∷◌, ◌++◌, map, codes, Option, Some, None}
+use Rattle.std.specs.Prelude.{◌≡◌, ℕ, ◌+◌, List, [], ◌∷◌, ◌++◌, map, codes, Option, Some, None}
 use Rattle.std.specs.Fmt.{decimal}
 use Rattle.std.specs.List.{AllByRecursion}
 use Rattle.lset_words.specs.declared.Reply.{Reply}
@@ -19,7 +19,7 @@ title One = codes "listset-report 1"
 title Two = codes "listset-report 2"
 
 abbrev pub header_in : ReportValue → Header
-header_in r = record { kind = r.kind; threads = r.history.threads; quota = r.history.quota }
+header_in r = record { kind = r.kind; threads = r.history.opening.threads; quota = r.history.opening.quota }
 
 -- the end of a call: its moment and its reply, or that it is open
 abbrev pub end_pieces : Option (ℕ × Reply) → List (List ℕ)
@@ -63,6 +63,11 @@ HasWordsIn One calls order = AllByRecursion (λ (x : CallRecord). HasCall One x.
     × AllByRecursion (λ (p : Placed). HasReply One p.reply) order
 HasWordsIn Two calls order = Unit {0}
 
+-- Texts have no words for opening keys so far.
+abbrev pub OpensEmpty : ReportValue → Type 0
+OpensEmpty r = r.history.opening.keys ≡ []
+
 -- A report of the first version has none of the calls and replies that came with the second, which has words for all.
-abbrev pub HasWordsOfVersion : ReportValue → Type 0
-HasWordsOfVersion r = HasWordsIn r.version r.history.calls r.order
+pub record HasWordsOfVersion (r : ReportValue) : Type 0 where
+  pub opens : OpensEmpty r
+  pub words : HasWordsIn r.version r.history.calls r.order

@@ -152,7 +152,7 @@ impl Reader {
         }
     }
 
-    fn into_report(self) -> Report
+    fn into_report(self, alloc: Global) -> Report
         requires holds { Holds self }
         requires header { IsHeader self.header }
         ensures { view result ≡ so_far self }
@@ -161,7 +161,12 @@ impl Reader {
         Report {
             version: self.version,
             kind: self.header.kind,
-            history: History::from_calls(self.header.threads, self.header.quota, calls.calls),
+            history: History::from_calls(
+                self.header.threads,
+                self.header.quota,
+                Vec::new(alloc),
+                calls.calls,
+            ),
             order: self.order,
             keys: self.keys,
         }
@@ -185,7 +190,7 @@ fn report(alloc: Global, bytes: &[u8]) -> Result<Report, ReportFault>
         return Err(ReportFault::at(LAST_OF_HEADER, ReportCause::Memory));
     };
     reader.read_lines(rest)?;
-    Ok(reader.into_report())
+    Ok(reader.into_report(alloc))
 }
 
 /// The report that the bytes are the text of, or the first fault of the bytes: its line, and the first check

@@ -84,8 +84,8 @@ fn put_end(out: &mut String) -> Result<(), AllocError>
 }
 
 /// The text of a report, in its version: its header, the calls by their numbers, the order, the keys. A report of
-/// version 1 must have no call `ceiling` and none of its replies, for which that version has no words; one that was
-/// read has none. The only error is want of memory. (This project's own format.)
+/// version 1 must have no call `ceiling` and none of its replies, for which that version has no words, and a report of
+/// either version no opening keys; one that was read has none. The only error is want of memory. (This project's own format.)
 pub fn write_report(alloc: Global, report: &Report) -> Result<Vec<u8>, AllocError>
     requires { HasWordsOfVersion (view report.now) }
     ensures { IfOk result (λ v. v.items ≡ report_text (view report.now)) }

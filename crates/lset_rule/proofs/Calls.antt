@@ -98,7 +98,7 @@ pub mid_open : (c : Call) (v w : View) → v.spent ≡ false → IsMid c v w →
 mid_open c v w sp mid = (mid.same.0 ∙ sp, (_, mid.under))
 
 occurs : (m : Table) (w : View) (es : List Event) (l : Local) → IsAt m w.shape es w.thread l → Occurs m l
-occurs m w es l at = (w.shape.threads, w.shape.quota, event_at es, length es, w.thread, at.0, at.1)
+occurs m w es l at = (w.shape, event_at es, length es, w.thread, at.0, at.1)
 
 pub reached : (m : Table) → Lawful m → (c : Call) (v w : View) (f : Fed) → v.spent ≡ false → Comes m c v f w → f.answer ≡ None → Occurs m f.local
 reached m law c v w f sp come none = let mid = is_mid m c v w f come none in

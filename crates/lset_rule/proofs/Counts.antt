@@ -5,14 +5,13 @@ use native.Mathlib.Decide.{ℕ_discrete}
 use Rattle.lset_rule.specs.declared.view.Aside.{Aside}
 use Rattle.lset_rule.specs.declared.view.Past.{Past}
 use Rattle.lset_rule.specs.declared.view.View.{View}
-use Rattle.lset_words.specs.Words.{word_count}
+use Rattle.lset_words.specs.Words.{word_count, Opening, sizes, Sizes}
 use Rattle.lset_steps.specs.Steps.{Table, State, Enabled, event_at, state_at}
 use Rattle.lset_steps.specs.Laws.{Lawful, StateLaws}
 use Rattle.lset_steps.specs.Worlds.{thread_of}
 use Rattle.lset_rule.specs.Runs.{Here, end_of, at_end, IsRunOf}
 use Rattle.lset_steps.specs.declared.Event.{Event}
 use Rattle.lset_steps.specs.declared.Event.TheVariants.{Begin, Go}
-use Rattle.lset_rule.specs.declared.view.Shape.{Shape}
 use Rattle.atomic_table.specs.Table.{Final, Seen}
 use Rattle.lset_rule.specs.Views.{Stands, HasThread, HasAside, AreIdle}
 use Rattle.lset_rule.specs.Rule.{IsQuiet, Holds}
@@ -94,23 +93,23 @@ by_small s (Begin t c) en = en.0
 by_small s (Go t) en = en.0
 
 -- after a run in which a view has all threads there is no event without one of them
-no_more : (m : Table) (law : Lawful m) (k : Shape) (v : View) (es rest : List Event) → ((t : ℕ) → t < k.threads → HasThread v t) → IsRunOf m k (es ++ rest) → IsQuiet v rest → rest ≡ []
+no_more : (m : Table) (law : Lawful m) (k : Opening) (v : View) (es rest : List Event) → ((t : ℕ) → t < k.threads → HasThread v t) → IsRunOf m k (es ++ rest) → IsQuiet v rest → rest ≡ []
 no_more m law k v es [] all r quiet = refl
 no_more m law k v es (e ∷ rest) all r quiet =
     let l = length-append es (e ∷ rest) in
-    let s : State = state_at m k.threads k.quota (event_at (es ++ e ∷ rest)) (length es) in
-    let laws : StateLaws m.marks k.threads k.quota s = law.states k.threads k.quota (length (es ++ e ∷ rest)) (length es) (event_at (es ++ e ∷ rest)) r (omega arith) in
+    let s : State = state_at m k (event_at (es ++ e ∷ rest)) (length es) in
+    let laws : StateLaws m.marks (sizes k) s = law.states k (length (es ++ e ∷ rest)) (length es) (event_at (es ++ e ∷ rest)) r (omega arith) in
     let en : Enabled s e = subst (λ z. Enabled s z) (event_first es rest e) (r.enabled (length es) (omega arith)) in
     absurd (quiet.0 (all (thread_of e) (subst (λ z. thread_of e < z) laws.locals (by_small s e en))))
 
 -- at the end the words are those that the seat with all threads knows
-pub closes : (m : Table) (law : Lawful m) (k : Shape) (id : ℕ) (v : View) (ws : List ℕ) (xs : List (Unit {0})) → v.shape ≡ k → v.spent ≡ false → length v.others + 1 ≡ k.threads → Final (Seen (Holds m k) id v) ws xs
+pub closes : (m : Table) (law : Lawful m) (k : Opening) (id : ℕ) (v : View) (ws : List ℕ) (xs : List (Unit {0})) → v.shape ≡ k → v.spent ≡ false → length v.others + 1 ≡ k.threads → Final (Seen (Holds m k) id v) ws xs
     → ws ≡ (end_of m k v.seen).words
 closes m law k id v ws xs shape sp full (s, seen, words, homes, slots) =
     let h = seen.0 in let f = h.each id v seen.1 sp in
-    let all : (t : ℕ) → t < k.threads → HasThread v t = subst (λ (z : Shape). (t : ℕ) → t < z.threads → HasThread v t) shape (has_all m v f.stands (full ∙ ap (λ (z : Shape). z.threads) (sym shape))) in
+    let all : (t : ℕ) → t < k.threads → HasThread v t = subst (λ (z : Opening). (t : ℕ) → t < z.threads → HasThread v t) shape (has_all m v f.stands (full ∙ ap (λ (z : Opening). z.threads) (sym shape))) in
     let none : f.rest ≡ [] = no_more m law k v v.seen f.rest all (subst (IsRunOf m k) f.is h.ran) f.quiet in
     sym words ∙ (h.words ∙ ap (λ l. (end_of m k l).words) (f.is ∙ (ap (λ l. v.seen ++ l) none ∙ append-nil v.seen)))
 
-pub some_words : (k : Shape) (n : ℕ) → n ≡ word_count k.threads k.quota → 0 < n
-some_words k n is = omega arith
+pub some_words : (sz : Sizes) (n : ℕ) → n ≡ word_count sz → 0 < n
+some_words sz n is = omega arith

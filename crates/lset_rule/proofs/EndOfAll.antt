@@ -4,7 +4,6 @@ use Rattle.std.proofs.Common.{◌≡◌, inl, inr, ⊎_elim, ℕ, false, List, [
 use mathlib.Core.Option.{some}
 use lib.ListN.{get_elem?}
 use Rattle.lset_steps.specs.Steps.{Table}
-use Rattle.lset_rule.specs.declared.view.Shape.{Shape}
 use Rattle.lset_rule.specs.declared.view.Aside.{Aside}
 use Rattle.lset_rule.specs.declared.view.Past.{Past}
 use Rattle.lset_rule.specs.declared.view.View.{View}
@@ -14,13 +13,14 @@ use Rattle.lset_rule.specs.Views.{HasThread, HasAside, AreIdle}
 use Rattle.lset_rule.specs.Rule.{Fits, Holds}
 use Rattle.lset_rule.proofs.Runs.{own_calls, asides_stay, calls_are_own_calls, gathered_in, GatheredHave, gathered_have}
 use Rattle.lset_rule.proofs.Keeps.{St, still}
+use Rattle.lset_words.specs.Words.{Opening}
 
 ended_aside : (ends : ℕ → Here) (t : ℕ) (r : Past) (os : List Aside) → AreIdle ends t r os → (u : ℕ) → HasAside os u → (ends u).done ≡ calls_of u r
 ended_aside ends t r [] idle u has = absurd has
 ended_aside ends t r (o ∷ os) idle u has = ⊎_elim
     (λ (e : u ≡ o.thread). subst (λ z. (ends z).done ≡ calls_of z r) (sym e) (ap (λ (x : Here). x.done) idle.1)) (ended_aside ends t r os idle.3 u) has
 
-module _ (m : Table) (k : Shape) (s : St) (h : Holds m k s) (j : ℕ) (v : View) (at : get_elem? s.views j ≡ some v) (alive : v.spent ≡ false) where
+module _ (m : Table) (k : Opening) (s : St) (h : Holds m k s) (j : ℕ) (v : View) (at : get_elem? s.views j ≡ some v) (alive : v.spent ≡ false) where
   abbrev fit : Fits m k h.log h.seat_of j v
   fit = h.each j v at alive
 

@@ -8,7 +8,6 @@ use lib.Seq.{set-get_or}
 use Rattle.atomic_table.specs.Table.{step, keeps, Allows, Splits, Joins}
 use Rattle.atomic_table.proofs.Lists.{at_set, set_else, at_longer, at_last}
 use Rattle.lset_steps.specs.declared.Event.{Event}
-use Rattle.lset_rule.specs.declared.view.Shape.{Shape}
 use Rattle.lset_rule.specs.declared.view.Aside.{Aside}
 use Rattle.lset_rule.specs.declared.view.Past.{Past, Fresh}
 use Rattle.lset_rule.specs.declared.view.Under.{Under}
@@ -23,6 +22,7 @@ use Rattle.lset_rule.specs.Views.{Stands, HasThread, HasAside, AreIdle, InTime}
 use Rattle.lset_rule.specs.Runs.{StartsWith}
 use Rattle.lset_rule.proofs.Runs.{still_quiet, before_more, none_of_another}
 use Rattle.lset_rule.proofs.Keeps.{M, set_there, stands_still}
+use Rattle.lset_words.specs.Words.{Opening}
 
 module _ {A : Type 0} where
   pub at_tail : (l : List A) (a b : A) (j : ℕ) → get_elem? (l ++ a ∷ []) j ≡ some b → (get_elem? l j ≡ some b) ⊎ ((j ≡ length l) × (a ≡ b))
@@ -46,7 +46,7 @@ quiet_both v w j split (e ∷ es) p q = (λ h. ⊎_elim p.0 q.0 (split (thread_o
 
 module _ (m : Table) where
   -- a view from which threads are taken
-  fits_less : (k : Shape) (log : List Event) (so so' : ℕ → ℕ) (i j : ℕ) (v w : View) (f : Fits m k log so i v) → w.shape ≡ v.shape → w.seen ≡ v.seen → StartsWith log w.ours → StartsWith log w.theirs
+  fits_less : (k : Opening) (log : List Event) (so so' : ℕ → ℕ) (i j : ℕ) (v w : View) (f : Fits m k log so i v) → w.shape ≡ v.shape → w.seen ≡ v.seen → StartsWith log w.ours → StartsWith log w.theirs
       → ((t : ℕ) → HasThread w t → HasThread v t) → Stands m w → ((t : ℕ) → HasThread w t → so' t ≡ j) → Fits m k log so' j w
   fits_less k log so so' i j v w f shape seen ours theirs less stands seat = record {
     shape = shape ∙ f.shape;
@@ -59,7 +59,7 @@ module _ (m : Table) where
     theirs = theirs;
   }
 
-  fits_seat : (k : Shape) (log : List Event) (so so' : ℕ → ℕ) (j : ℕ) (v : View) → ((t : ℕ) → so t ≡ j → HasThread v t → so' t ≡ j) → Fits m k log so j v → Fits m k log so' j v
+  fits_seat : (k : Opening) (log : List Event) (so so' : ℕ → ℕ) (j : ℕ) (v : View) → ((t : ℕ) → so t ≡ j → HasThread v t → so' t ≡ j) → Fits m k log so j v → Fits m k log so' j v
   fits_seat k log so so' j v same f = record { shape = f.shape; rest = f.rest; is = f.is; quiet = f.quiet; stands = f.stands; seat = λ t h. same t (f.seat t h) h; ours = f.ours; theirs = f.theirs }
 
   module _ (v0 : View) (o : Aside) (os : List Aside) where
@@ -83,7 +83,7 @@ module _ (m : Table) where
       before = tt;
     }
 
-    pub splits_at : (k : Shape) (id : ℕ) → Splits (Holds m k) id V (left_view V) (right_view V)
+    pub splits_at : (k : Opening) (id : ℕ) → Splits (Holds m k) id V (left_view V) (right_view V)
     splits_at k id s h at =
         let f : Fits m k h.log h.seat_of id V = h.each id V at refl in
         let n : ℕ = length (set s.views id (left_view V)) in
@@ -114,7 +114,7 @@ module _ (m : Table) where
               (st.0, at_longer (set s.views id (left_view V)) (right_view V ∷ []) (so t) st.0 (ap (get_elem? (set s.views id (left_view V))) (other t ne) ∙ st.1), st.2, st.3));
         }
 
-  pub splits : (k : Shape) (id : ℕ) (v : View) (o : Aside) (os : List Aside) → v.spent ≡ false → v.under ≡ None → v.past ≡ Fresh v.thread → v.others ≡ o ∷ os → Splits (Holds m k) id v (left_view v) (right_view v)
+  pub splits : (k : Opening) (id : ℕ) (v : View) (o : Aside) (os : List Aside) → v.spent ≡ false → v.under ≡ None → v.past ≡ Fresh v.thread → v.others ≡ o ∷ os → Splits (Holds m k) id v (left_view v) (right_view v)
   splits k id v o os sp idle fresh there = subst (λ (z : View). Splits (Holds m k) id z (left_view z) (right_view z))
       (λ i. record v { spent = sym sp i; under = sym idle i; past = sym fresh i; others = sym there i }) (splits_at v o os k id)
 
@@ -173,7 +173,7 @@ not_own w t r [] a h = h
 not_own w t r (o ∷ os) a h = ⊎_elim (λ e. a.0 (sym e)) (λ x. not_own w t r os a.3 x) h
 
 module _ (m : Table) where
-  module _ (k : Shape) (log : List Event) (so : ℕ → ℕ) (i j : ℕ) (apart : j ≢ i) (v w : View) (f : Fits m k log so i v) (g : Fits m k log so j w) (v_idle : v.under ≡ None) (w_idle : w.under ≡ None) where
+  module _ (k : Opening) (log : List Event) (so : ℕ → ℕ) (i j : ℕ) (apart : j ≢ i) (v w : View) (f : Fits m k log so i v) (g : Fits m k log so j w) (v_idle : v.under ≡ None) (w_idle : w.under ≡ None) where
     abbrev J : View
     J = joined v w
 
@@ -207,7 +207,7 @@ module _ (m : Table) where
     longer_than xs d is = let a = ap length is in let b = length-append xs d in omega arith
 
     pub joined_stands : Stands m J
-    joined_stands = subst (λ (z : Shape). Stands m (record J { shape = z })) (sym f.shape) record {
+    joined_stands = subst (λ (z : Opening). Stands m (record J { shape = z })) (sym f.shape) record {
       ran = lo.kept;
       own = on_v v.thread (inl refl) ∙ (f.stands.own ∙ ap (here v.local v.under) (sym (v_calls v.thread (inl refl))));
       others = asides_move (at_end m v.shape v.seen) (at_end m k (longer v.seen w.seen)) v.thread v.thread v.past (gathered v.past w.past) v.others (aside w ∷ w.others)
@@ -219,7 +219,7 @@ module _ (m : Table) where
                 (asides_move (at_end m w.shape w.seen) (at_end m k (longer v.seen w.seen)) w.thread v.thread w.past (gathered v.past w.past) w.others []
                 (λ u h. ((λ e. not_both u (inl e) (inr h)), on_w u (inr h), w_calls u (inr h), (λ x. x))) g.stands.others tt),
           );
-      in_range = λ t h. ⊎_elim (λ x. subst (λ (z : Shape). t < z.threads) f.shape (f.stands.in_range t x)) (λ x. subst (λ (z : Shape). t < z.threads) g.shape (g.stands.in_range t x)) (splits_has t h);
+      in_range = λ t h. ⊎_elim (λ x. subst (λ (z : Opening). t < z.threads) f.shape (f.stands.in_range t x)) (λ x. subst (λ (z : Opening). t < z.threads) g.shape (g.stands.in_range t x)) (splits_has t h);
       of_thread = f.stands.of_thread;
       apart = (f.stands.apart, g.stands.apart, λ u a b. not_both u (f.stands.named u a) (g.stands.named u b));
       named = λ u h. joins_has u (⊎_elim (λ x. inl (f.stands.named u x)) (λ x. inr (g.stands.named u x)) h);
@@ -243,7 +243,7 @@ module _ (m : Table) where
       theirs = (g.rest, g.is);
     }
 
-  pub joins : (k : Shape) (id other : ℕ) (v w : View) → v.spent ≡ false → w.spent ≡ false → v.under ≡ None → w.under ≡ None → Joins (Holds m k) id v other w (joined v w) nobody
+  pub joins : (k : Opening) (id other : ℕ) (v w : View) → v.spent ≡ false → w.spent ≡ false → v.under ≡ None → w.under ≡ None → Joins (Holds m k) id v other w (joined v w) nobody
   joins k id other v w v_sp w_sp v_idle w_idle s h at apart there =
       let there' : get_elem? s.views other ≡ some w = ⊎_elim (λ (t : (other ≡ id) × (joined v w ≡ w)). absurd (apart t.0)) (λ (t : (other ≢ id) × (get_elem? s.views other ≡ some w)). t.1) (at_set s.views id other (joined v w) w there) in
       let f = h.each id v at v_sp in
@@ -282,7 +282,7 @@ module _ (m : Table) where
   kept_stands v o t st = record { ran = st.ran; own = st.own; others = st.others; in_range = st.in_range; of_thread = st.of_thread; apart = st.apart; named = st.named; ordered = st.ordered; ended = st.ended; before = st.before }
 
   -- the load that ends a gathering
-  pub learns : (slots id i : ℕ) (me : M) (k : Shape) → me.0.spent ≡ false → Allows (Holds m k) slots id me i (λ n. n) (learned m (step slots i 0 0 none) me)
+  pub learns : (slots id i : ℕ) (me : M) (k : Opening) → me.0.spent ≡ false → Allows (Holds m k) slots id me i (λ n. n) (learned m (step slots i 0 0 none) me)
   learns slots id i me k sp s h _ at _ = let v : View = me.0 in let w : View = record v { ours = []; theirs = [] } in let f = h.each id v at sp in
       let st : Stands m w = kept_stands v [] [] f.stands in
       let mine : Fits m k h.log h.seat_of id w = fits_less m k h.log h.seat_of h.seat_of id id v w f refl refl (h.log, refl) (h.log, refl) (λ t x. x) st (λ t x. f.seat t x) in (

@@ -12,14 +12,13 @@ use Rattle.lset_steps.specs.declared.Local.{Local}
 use Rattle.lset_steps.specs.declared.Action.{Action}
 use Rattle.lset_steps.specs.declared.Event.{Event}
 use Rattle.lset_steps.specs.declared.Event.TheVariants.{Begin, Go}
-use Rattle.lset_rule.specs.declared.view.Shape.{Shape}
 use Rattle.lset_rule.specs.declared.view.Under.{Under}
 use Rattle.lset_rule.specs.declared.view.Past.{Past}
 use Rattle.lset_rule.specs.declared.view.View.{View}
 use Rattle.lset_steps.specs.Steps.{Table, State, Enabled, event_at, after, local_of, seen_by, seen_next, left_by}
 use Rattle.lset_steps.specs.Laws.{Lawful, StateLaws, UnderWay, word_named}
 use Rattle.lset_steps.proofs.WorldRuns.{named_in}
-use Rattle.lset_words.specs.Words.{word_count, target, tail_word}
+use Rattle.lset_words.specs.Words.{word_count, target, tail_word, Opening, sizes}
 use Rattle.lset_rule.specs.Pasts.{root, calls_of, Before, InOrder, Apart, IsIn}
 use Rattle.lset_steps.specs.Worlds.{thread_of, WorldState, IsRun}
 use Rattle.lset_rule.specs.Runs.{Here, here, under_after, log_by, end_of, at_end, IsRunOf}
@@ -34,8 +33,8 @@ abbrev pub St : Type 0
 St = table.State (Unit {0}) View
 
 -- the thread has a call under way after the run of these events, and holds this
-abbrev pub IsAt : Table → Shape → List Event → ℕ → Local → Type 0
-IsAt m k es t l = UnderWay m k.threads k.quota (event_at es) (length es) t × (local_of (end_of m k es) t ≡ l)
+abbrev pub IsAt : Table → Opening → List Event → ℕ → Local → Type 0
+IsAt m k es t l = UnderWay m k (event_at es) (length es) t × (local_of (end_of m k es) t ≡ l)
 
 -- the view after an event of its thread
 abbrev pub later : View → List Event → Event → Local → Option Under → Past → View
@@ -59,11 +58,11 @@ stands_still views id j t v w at alive more st = dite (ℕ_discrete j id)
 
 module _ (m : Table) where
   -- what the events of all say of a thread of the view
-  pub still : (k : Shape) (log : List Event) (so : ℕ → ℕ) (j : ℕ) (v : View) (f : Fits m k log so j v) (t : ℕ) → HasThread v t → at_end m k log t ≡ at_end m k v.seen t
+  pub still : (k : Opening) (log : List Event) (so : ℕ → ℕ) (j : ℕ) (v : View) (f : Fits m k log so j v) (t : ℕ) → HasThread v t → at_end m k log t ≡ at_end m k v.seen t
   still k log so j v f t h = ap (λ l. at_end m k l t) f.is ∙ still_quiet m k v v.seen f.rest t h f.quiet
 
   -- a view that another thread's event leaves as it is
-  pub others_fit : (k : Shape) (log : List Event) (so : ℕ → ℕ) (j : ℕ) (v : View) (e : Event) → ¬ (HasThread v (thread_of e)) → Fits m k log so j v → Fits m k (log ++ e ∷ []) so j v
+  pub others_fit : (k : Opening) (log : List Event) (so : ℕ → ℕ) (j : ℕ) (v : View) (e : Event) → ¬ (HasThread v (thread_of e)) → Fits m k log so j v → Fits m k (log ++ e ∷ []) so j v
   others_fit k log so j v e other f = record {
     shape = f.shape;
     rest = f.rest ++ e ∷ [];
@@ -186,7 +185,7 @@ module _ (m : Table) where
           (after_apart v.past f.answer v.under now) (after_in v.past f.answer v.under now)
           (after_in_order v.past f.answer v.under now fit.stands.ordered fit.stands.before) (after_before v.past f.answer v.under (length h.log) now (length h.log + 2) begun_so_far (omega arith) (omega arith) (all_ended (length h.log + 2) (omega arith)))
           (after_in_time v.past f.answer v.under now fit.stands.before) in
-          ((h.log, (fit.rest, fit.is), (v.shape.threads, v.shape.quota, event_at h.log, length h.log, v.thread, is_at.0, is_at.1, seen_is), refl, b.0, seen_is), b.1.0)
+          ((h.log, (fit.rest, fit.is), (v.shape, event_at h.log, length h.log, v.thread, is_at.0, is_at.1, seen_is), refl, b.0, seen_is), b.1.0)
 
     -- a call begins
     pub starts : (c : Call) → target c < tail_word → v.under ≡ None → let b = begun_view m h.log c v in Stands m b × ((h' : Holds m v.shape record { words = s.words; homes = s.homes; views = set s.views id b }) × (h'.log ≡ b.seen))
@@ -206,19 +205,19 @@ abbrev pub M : Type 0
 M = Me (Unit {0}) View
 
 -- the step of the row at which the view stands keeps the rule, whatever its kind
-pub goes_on : (m : Table) (law : Lawful m) (slots id : ℕ) (me : M) (k : Shape) (a : Action) → a ≡ m.next me.0.local → me.0.shape ≡ k → IsOpen me.0
+pub goes_on : (m : Table) (law : Lawful m) (slots id : ℕ) (me : M) (k : Opening) (a : Action) → a ≡ m.next me.0.local → me.0.shape ≡ k → IsOpen me.0
     → Allows (Holds m k) slots id me (word_named a) (left a) (λ n me'. Goes m me.0 (found a n) me'.0 × (me'.1 ≡ me.1))
 goes_on m law slots id me k a acts shape is_open = let v : View = me.0 in
-    let P : Shape × Action → Type 0 = λ z. Allows (Holds m z.0) slots id me (word_named z.1) (left z.1) (λ n me'. Goes m me.0 (found z.1 n) me'.0 × (me'.1 ≡ me.1)) in
+    let P : Opening × Action → Type 0 = λ z. Allows (Holds m z.0) slots id me (word_named z.1) (left z.1) (λ n me'. Goes m me.0 (found z.1 n) me'.0 × (me'.1 ≡ me.1)) in
     subst P (λ i. (shape i, sym acts i)) (λ s h _ at _. let r = steps m law s v id h at is_open.0 is_open.1.0 is_open.1.1 in
     (gone_view m h.log (found (m.next v.local) (slice_index s.words (word_named (m.next v.local)))) v, keeps, tt, r.1, (r.0, refl)))
 
 -- and so does the first step of a call
-pub goes_first : (m : Table) (law : Lawful m) (slots id : ℕ) (me : M) (k : Shape) (c : Call) → target c < tail_word → (a : Action) → a ≡ m.next (m.begin c me.0.local) → me.0.shape ≡ k → IsIdle me.0
+pub goes_first : (m : Table) (law : Lawful m) (slots id : ℕ) (me : M) (k : Opening) (c : Call) → target c < tail_word → (a : Action) → a ≡ m.next (m.begin c me.0.local) → me.0.shape ≡ k → IsIdle me.0
     → Allows (Holds m k) slots id me (word_named a) (left a) (λ n me'. Starts m c me.0 (found a n) me'.0 × (me'.1 ≡ me.1))
 unfolding starts steps
 goes_first m law slots id me k c low a acts shape is_idle = let v : View = me.0 in
-    let P : Shape × Action → Type 0 = λ z. Allows (Holds m z.0) slots id me (word_named z.1) (left z.1) (λ n me'. Starts m c me.0 (found z.1 n) me'.0 × (me'.1 ≡ me.1)) in
+    let P : Opening × Action → Type 0 = λ z. Allows (Holds m z.0) slots id me (word_named z.1) (left z.1) (λ n me'. Starts m c me.0 (found z.1 n) me'.0 × (me'.1 ≡ me.1)) in
     subst P (λ i. (shape i, sym acts i)) (λ s h _ at _.
     let b : View = begun_view m h.log c v in
     let st = starts m law s v id h at is_idle.0 c low is_idle.1 in
@@ -271,15 +270,15 @@ module _ (m : Table) (law : Lawful m) (v : View) (st : Stands m v) where
       )
 
 -- the step of a row names a word of the table
-in_table : (m : Table) → Lawful m → (k : Shape) (es : List Event) (t : ℕ) (l : Local) → IsAt m k es t l → word_named (m.next l) < word_count k.threads k.quota
+in_table : (m : Table) → Lawful m → (k : Opening) (es : List Event) (t : ℕ) (l : Local) → IsAt m k es t l → word_named (m.next l) < word_count (sizes k)
 in_table m law k es t l at =
     let s : State = end_of m k es in
-    let laws : StateLaws m.marks k.threads k.quota s = end_laws m law k es at.0.run in
-    let w : WorldState = record { threads = k.threads; quota = k.quota; state = s } in
-    let r : IsRun m w = record { events = es; run = at.0.run; is = refl; words = laws.words; locals = laws.locals } in
+    let laws : StateLaws m.marks (sizes k) s = end_laws m law k es at.0.run in
+    let w : WorldState = record { sizes = sizes k; state = s } in
+    let r : IsRun m w = record { opening = k; of_sizes = refl; events = es; run = at.0.run; is = refl; words = laws.words; locals = laws.locals } in
     let b = named_in m w t law r (in_locals m law k es at.0.run t at.0.thread, at.0.open_call) in
     subst (λ z. word_named (m.next l) < z) laws.words (subst (λ (x : Local). word_named (m.next x) < length s.words) at.1 b)
 
-pub in_words : (m : Table) → Lawful m → (k : Shape) (es : List Event) (t : ℕ) (l : Local) → IsAt m k es t l → (a : Action) → a ≡ m.next l → (key : Shape) → k ≡ key → (n : ℕ) → n ≡ word_count key.threads key.quota → word_named a < n
+pub in_words : (m : Table) → Lawful m → (k : Opening) (es : List Event) (t : ℕ) (l : Local) → IsAt m k es t l → (a : Action) → a ≡ m.next l → (key : Opening) → k ≡ key → (n : ℕ) → n ≡ word_count (sizes key) → word_named a < n
 in_words m law k es t l at a acts key same n count = let b = in_table m law k es t l at in let P : ℕ × ℕ → Type 0 = λ z. z.0 < z.1 in
-    subst P (λ i. (word_named (sym acts i), (ap (λ (q : Shape). word_count q.threads q.quota) same ∙ sym count) i)) b
+    subst P (λ i. (word_named (sym acts i), (ap (λ (q : Opening). word_count (sizes q)) same ∙ sym count) i)) b

@@ -7,13 +7,12 @@ use lib.ListN.{get_elem?}
 use Rattle.atomic_table.specs.Table as T
 use Rattle.lset_rule.specs.declared.slots.Slots.{Slots}
 use Rattle.lset_rule.specs.Slots.{slots_of}
-use Rattle.lset_rule.specs.declared.view.Shape.{Shape}
 use Rattle.lset_rule.specs.declared.view.Aside.{Aside}
 use Rattle.lset_rule.specs.declared.view.Past.{Fresh}
 use Rattle.lset_rule.specs.declared.view.View.{View}
 use Rattle.std.proofs.lemmas.List.FromFn.{get_or-map-range_with_len, length-map-range_with_len}
-use Rattle.lset_words.specs.Words.{word_count}
-use Rattle.lset_steps.specs.Steps.{Table, Limits, opening, opening_word, idle}
+use Rattle.lset_words.specs.Words.{word_count, Opening, sizes, Opens}
+use Rattle.lset_steps.specs.Steps.{Table, opening, opening_word, idle}
 use Rattle.atomic_table.specs.declared.shared.Seat.{Seat}
 use Rattle.atomic_table.specs.Seated.{TableId}
 use Rattle.lset_rule.proofs.Joins.{at_tail}
@@ -23,42 +22,42 @@ use Rattle.lset_rule.specs.Rule.{Holds, Fits, opener, asides_from, left_view, ri
 use Rattle.lset_rule.specs.Views.{Stands, HasThread, HasAside, AreIdle, IsIdle}
 
 -- the view of a seat that was just split off, of thread t alone
-abbrev pub fresh : Shape → ℕ → View
+abbrev pub fresh : Opening → ℕ → View
 fresh k t = record (opener k) { thread = t; local = idle k.quota t; others = []; past = Fresh t }
 
 -- the view of the first seat once the threads below t were split off
-abbrev pub spare : Shape → ℕ → View
+abbrev pub spare : Opening → ℕ → View
 spare k t = record (opener k) { others = asides_from k t (k.threads - 1 - t) }
 
 -- a new seat of thread t
-abbrev pub IsNew : TableId → Shape → ℕ → Seat (Unit {0}) View → Type 0
+abbrev pub IsNew : TableId → Opening → ℕ → Seat (Unit {0}) View → Type 0
 IsNew z k t s = (s.table_id ≡ z) × (s.me ≡ (fresh k t, []))
 
-between : (k : Shape) (t n u : ℕ) → HasAside (asides_from k t n) u → (t ≤ u) × (u < t + n)
+between : (k : Opening) (t n u : ℕ) → HasAside (asides_from k t n) u → (t ≤ u) × (u < t + n)
 between k t zero u h = absurd h
 between k t (suc n) u h = ⊎_elim (λ (e : u ≡ t). (omega arith, omega arith)) (λ x. let b = between k (t + 1) n u x in let p = b.0 in let q = b.1 in (omega arith, omega arith)) h
 
-among : (k : Shape) (t n u : ℕ) → t ≤ u → u < t + n → HasAside (asides_from k t n) u
+among : (k : Opening) (t n u : ℕ) → t ≤ u → u < t + n → HasAside (asides_from k t n) u
 among k t zero u le lt = absurd (omega arith)
 among k t (suc n) u le lt = dite (ℕ_discrete u t) (λ (e : u ≡ t). inl e) (λ (ne : u ≢ t). inr (among k (t + 1) n u (omega arith) (omega arith)))
 
 -- the first seat has all threads
-all_there : (k : Shape) (t : ℕ) → t < k.threads → HasThread (opener k) t
+all_there : (k : Opening) (t : ℕ) → t < k.threads → HasThread (opener k) t
 all_there k t lt = dite (ℕ_discrete t (k.threads - 1)) (λ (e : t ≡ k.threads - 1). inl e) (λ (ne : t ≢ k.threads - 1). inr (among k 0 (k.threads - 1) t (omega arith) (omega arith)))
 
 -- before any event each thread is idle
-at_opening : (m : Table) (k : Shape) (t : ℕ) → t < k.threads → at_end m k [] t ≡ here (idle k.quota t) None []
+at_opening : (m : Table) (k : Opening) (t : ℕ) → t < k.threads → at_end m k [] t ≡ here (idle k.quota t) None []
 at_opening m k t lt = λ i. here (get_or-map-range_with_len (idle k.quota) 0 k.threads t t (idle 0 0) lt (omega arith) i) None []
 
-no_events : (m : Table) (k : Shape) → Limits k.threads k.quota → IsRunOf m k []
-no_events m k lim = (runs_to_opening m k.threads k.quota lim).run
+no_events : (m : Table) (k : Opening) → Opens k → IsRunOf m k []
+no_events m k lim = (runs_to_opening m k lim).run
 
-all_idle : (m : Table) (k : Shape) (t n : ℕ) → t + n < k.threads → AreIdle (at_end m k []) (k.threads - 1) (Fresh (k.threads - 1)) (asides_from k t n)
+all_idle : (m : Table) (k : Opening) (t n : ℕ) → t + n < k.threads → AreIdle (at_end m k []) (k.threads - 1) (Fresh (k.threads - 1)) (asides_from k t n)
 all_idle m k t zero lt = tt
 all_idle m k t (suc n) lt = ((λ (e : t ≡ k.threads - 1). omega arith), at_opening m k t (omega arith), (λ x. let b = between k (t + 1) n t x in let p = b.0 in omega arith), all_idle m k (t + 1) n (omega arith))
 
-pub opener_stands : (m : Table) (k : Shape) → Limits k.threads k.quota → Stands m (opener k)
-opener_stands m k lim = let some_thread : 0 < k.threads = lim.some in record {
+pub opener_stands : (m : Table) (k : Opening) → Opens k → Stands m (opener k)
+opener_stands m k lim = let some_thread : 0 < k.threads = lim.within.some in record {
   ran = no_events m k lim;
   own = at_opening m k (k.threads - 1) (omega arith);
   others = all_idle m k 0 (k.threads - 1) (omega arith);
@@ -75,7 +74,7 @@ one_view : (v x : View) (j : ℕ) → get_elem? (v ∷ []) j ≡ some x → (j �
 one_view v x zero e = (refl, some-injective v x e)
 one_view v x (suc j) e = absurd (some-ne-none x (sym e))
 
-pub opens : (m : Table) (k : Shape) → Limits k.threads k.quota → Holds m k (T.opening (opening k.threads k.quota).words [] (opener k))
+pub opens : (m : Table) (k : Opening) → Opens k → Holds m k (T.opening (opening k).words [] (opener k))
 opens m k lim = record {
   log = [];
   ran = no_events m k lim;
@@ -94,23 +93,23 @@ opens m k lim = record {
   placed = λ t lt. (opener k, refl, refl, all_there k t lt);
 }
 
-next_aside : (k : Shape) (t : ℕ) → t + 1 < k.threads → asides_from k t (k.threads - 1 - t) ≡ record { thread = t; local = idle k.quota t } ∷ asides_from k (t + 1) (k.threads - 1 - (t + 1))
+next_aside : (k : Opening) (t : ℕ) → t + 1 < k.threads → asides_from k t (k.threads - 1 - t) ≡ record { thread = t; local = idle k.quota t } ∷ asides_from k (t + 1) (k.threads - 1 - (t + 1))
 next_aside k t lt = let e : k.threads - 1 - t ≡ suc (k.threads - 1 - (t + 1)) = omega arith in ap (asides_from k t) e
 
-pub cut_left : (k : Shape) (t : ℕ) → t + 1 < k.threads → left_view (spare k t) ≡ spare k (t + 1)
+pub cut_left : (k : Opening) (t : ℕ) → t + 1 < k.threads → left_view (spare k t) ≡ spare k (t + 1)
 cut_left k t lt = ap (λ os. left_view (record (opener k) { others = os })) (next_aside k t lt)
 
-pub cut_right : (k : Shape) (t : ℕ) → t + 1 < k.threads → right_view (spare k t) ≡ fresh k t
+pub cut_right : (k : Opening) (t : ℕ) → t + 1 < k.threads → right_view (spare k t) ≡ fresh k t
 cut_right k t lt = ap (λ os. right_view (record (opener k) { others = os })) (next_aside k t lt)
 
-pub spare_some : (k : Shape) (t : ℕ) → t + 1 < k.threads → 0 < length (spare k t).others
+pub spare_some : (k : Opening) (t : ℕ) → t + 1 < k.threads → 0 < length (spare k t).others
 spare_some k t lt = subst (λ (os : List Aside). 0 < length os) (sym (next_aside k t lt)) (omega arith)
 
-pub spare_none : (k : Shape) (t : ℕ) → t + 1 ≡ k.threads → spare k t ≡ fresh k t
+pub spare_none : (k : Opening) (t : ℕ) → t + 1 ≡ k.threads → spare k t ≡ fresh k t
 spare_none k t is = let e : k.threads - 1 - t ≡ 0 = omega arith in let e' : k.threads - 1 ≡ t = omega arith in
     (λ i. record (opener k) { others = asides_from k t (e i); thread = e' i; local = idle k.quota (e' i); past = Fresh (e' i) })
 
-pub fresh_stands : (m : Table) (k : Shape) (t : ℕ) → Limits k.threads k.quota → t < k.threads → Stands m (fresh k t)
+pub fresh_stands : (m : Table) (k : Opening) (t : ℕ) → Opens k → t < k.threads → Stands m (fresh k t)
 fresh_stands m k t lim lt = record {
   ran = no_events m k lim;
   own = at_opening m k t lt;
@@ -124,11 +123,11 @@ fresh_stands m k t lim lt = record {
   before = tt;
 }
 
-pub spare_all : (k : Shape) → opener k ≡ spare k 0
+pub spare_all : (k : Opening) → opener k ≡ spare k 0
 spare_all k = let e : k.threads - 1 ≡ k.threads - 1 - 0 = omega arith in ap (λ n. record (opener k) { others = asides_from k 0 n }) e
 
 -- what a new seat's fields have to be
-pub new_seat : (m : Table) (k : Shape) (t : ℕ) (me : T.Me (Unit {0}) View) → Limits k.threads k.quota → t < k.threads → me ≡ (fresh k t, []) → (slots : Slots) → slots ≡ slots_of (idle k.quota t)
+pub new_seat : (m : Table) (k : Opening) (t : ℕ) (me : T.Me (Unit {0}) View) → Opens k → t < k.threads → me ≡ (fresh k t, []) → (slots : Slots) → slots ≡ slots_of (idle k.quota t)
     → IsIdle me.0 × Stands m me.0 × (slots ≡ slots_of me.0.local) × (1 ≡ length me.0.others + 1) × (me.1 ≡ [])
 new_seat m k t me lim lt is slots l = (
   (ap (λ z. z.0.spent) is, ap (λ z. z.0.under) is),
@@ -139,12 +138,12 @@ new_seat m k t me lim lt is slots l = (
 )
 
 -- one seat more
-pub each_more : (z : TableId) (k : Shape) (seats : List (Seat (Unit {0}) View)) (s : Seat (Unit {0}) View) (t : ℕ) → length seats ≡ t
+pub each_more : (z : TableId) (k : Opening) (seats : List (Seat (Unit {0}) View)) (s : Seat (Unit {0}) View) (t : ℕ) → length seats ≡ t
     → ((i : ℕ) (x : Seat (Unit {0}) View) → get_elem? seats i ≡ some x → IsNew z k i x) → IsNew z k t s
     → (i : ℕ) (x : Seat (Unit {0}) View) → get_elem? (seats ++ s ∷ []) i ≡ some x → IsNew z k i x
 each_more z k seats s t len each new i x at = ⊎_elim (λ old. each i x old)
     (λ e. subst (λ (y : ℕ × Seat (Unit {0}) View). IsNew z k y.0 y.1) (λ j. (sym (e.0 ∙ len) j, e.1 j)) new)
     (at_tail seats s x i at)
 
-pub opening_length : (n q : ℕ) → length (opening n q).words ≡ word_count n q
-opening_length n q = length-map-range_with_len (opening_word n q) 0 (word_count n q)
+pub opening_length : (op : Opening) → length (opening op).words ≡ word_count (sizes op)
+opening_length op = length-map-range_with_len (opening_word op) 0 (word_count (sizes op))

@@ -5,7 +5,6 @@ use Rattle.lset_words.specs.Log.{Log, Entry}
 use Rattle.lset_words.specs.Log.Entry.{began, stepped}
 use Rattle.lset_steps.specs.declared.Event.{Event}
 use Rattle.lset_rule.specs.declared.view.OwnCall.{OwnCall}
-use Rattle.lset_rule.specs.declared.view.Shape.{Shape}
 use Rattle.lset_rule.specs.declared.view.Under.{Under}
 use Rattle.lset_rule.specs.declared.view.Aside.{Aside}
 use Rattle.lset_rule.specs.declared.view.Past.{Past, Fresh, Called', Gathered'}
@@ -19,8 +18,9 @@ use Rattle.lset_rule.specs.Views.{HasThread, HasAside, AreIdle, InTime}
 use Rattle.lset_rule.specs.Rule.{IsQuiet}
 use Rattle.lset_rule.specs.Runs.{StartsWith}
 use Rattle.lset_rule.specs.Calls.{record_after}
+use Rattle.lset_words.specs.Words.{Opening}
 
-module _ (T : Table) (k : Shape) where
+module _ (T : Table) (k : Opening) where
   -- events of other threads leave a thread as it is
   pub still_quiet : (v : View) (es rest : List Event) (t : ℕ) → HasThread v t → IsQuiet v rest → at_end T k (es ++ rest) t ≡ at_end T k es t
   still_quiet v es [] t h quiet = ap (λ l. at_end T k l t) (append-nil es)

@@ -19,8 +19,8 @@ use Rattle.lset_steps.specs.Worlds.{thread_of}
 use Rattle.lset_steps.proofs.MoreEvents.{state_agree, run_more}
 use Rattle.lset_rule.specs.declared.view.OwnCall.{OwnCall}
 use Rattle.lset_rule.specs.declared.view.Under.{Under}
-use Rattle.lset_rule.specs.declared.view.Shape.{Shape}
 use Rattle.lset_rule.specs.Runs.{Here, here, under_after, ending, under_next, done_next, under_at, done_at, here_at, log_by, end_of, at_end, IsRunOf}
+use Rattle.lset_words.specs.Words.{Opening, sizes}
 
 pick_yes : {A : Type 0} (b : Bool) (x y : A) → b ≡ true → (if b then x else y) ≡ x
 pick_yes b x y e = rw e refl
@@ -75,31 +75,31 @@ done_agree f g t (suc k) h = ap (λ e. done_next (suc k) e t (under_at g t k) (d
     ∙ ap (λ d. done_next (suc k) (f k) t (under_at f t k) d) (done_agree f g t k (λ j l. h j (omega arith))))
 
 -- ONE EVENT of a run
-module _ (T : Table) (n q : ℕ) (es : ℕ → Event) (k t : ℕ) where
-  at_begin : (c : Call) → es k ≡ Begin t c → t < length (state_at T n q es k).locals
-      → here_at T n q es t (suc k) ≡ begins T (here_at T n q es t k) c (suc k)
+module _ (T : Table) (op : Opening) (es : ℕ → Event) (k t : ℕ) where
+  at_begin : (c : Call) → es k ≡ Begin t c → t < length (state_at T op es k).locals
+      → here_at T op es t (suc k) ≡ begins T (here_at T op es t k) c (suc k)
   at_begin c e lt =
-      let s : State = state_at T n q es k in
+      let s : State = state_at T op es k in
       let b : (t == t) ≡ true = equal_test t t refl in
       let l : local_of (after T s (es k)) t ≡ T.begin c (local_of s t) = ap (λ z. local_of (after T s z) t) e ∙ get_or-set_same s.locals t (T.begin c (local_of s t)) (idle 0 0) lt in
-      let u : under_next (suc k) (entry_of T s (es k)) t (under_at (log_of T n q es) t k) ≡ Some (record { call = c; begun = suc k; steps = 0 }) =
-      ap (λ z. under_next (suc k) (entry_of T s z) t (under_at (log_of T n q es) t k)) e ∙ pick_yes (t == t) _ _ b in
-      let d : done_next (suc k) (entry_of T s (es k)) t (under_at (log_of T n q es) t k) (done_at (log_of T n q es) t k) ≡ done_at (log_of T n q es) t k =
-      ap (λ z. done_next (suc k) (entry_of T s z) t (under_at (log_of T n q es) t k) (done_at (log_of T n q es) t k)) e in
+      let u : under_next (suc k) (entry_of T s (es k)) t (under_at (log_of T op es) t k) ≡ Some (record { call = c; begun = suc k; steps = 0 }) =
+      ap (λ z. under_next (suc k) (entry_of T s z) t (under_at (log_of T op es) t k)) e ∙ pick_yes (t == t) _ _ b in
+      let d : done_next (suc k) (entry_of T s (es k)) t (under_at (log_of T op es) t k) (done_at (log_of T op es) t k) ≡ done_at (log_of T op es) t k =
+      ap (λ z. done_next (suc k) (entry_of T s z) t (under_at (log_of T op es) t k) (done_at (log_of T op es) t k)) e in
       λ i. here (l i) (u i) (d i)
 
-  at_go : es k ≡ Go t → t < length (state_at T n q es k).locals
-      → here_at T n q es t (suc k) ≡ gone (here_at T n q es t k) (T.feed (local_of (state_at T n q es k) t) (seen_next T (state_at T n q es k) t)) (suc k)
+  at_go : es k ≡ Go t → t < length (state_at T op es k).locals
+      → here_at T op es t (suc k) ≡ gone (here_at T op es t k) (T.feed (local_of (state_at T op es k) t) (seen_next T (state_at T op es k) t)) (suc k)
   at_go e lt =
-      let s : State = state_at T n q es k in
+      let s : State = state_at T op es k in
       let f : Fed = T.feed (local_of s t) (seen_next T s t) in
       let b : (t == t) ≡ true = equal_test t t refl in
       let l : local_of (after T s (es k)) t ≡ f.local = ap (λ z. local_of (after T s z) t) e ∙ get_or-set_same s.locals t f.local (idle 0 0) lt in
-      let u : under_next (suc k) (entry_of T s (es k)) t (under_at (log_of T n q es) t k) ≡ under_after f.answer (under_at (log_of T n q es) t k) =
-      ap (λ z. under_next (suc k) (entry_of T s z) t (under_at (log_of T n q es) t k)) e ∙ pick_yes (t == t) _ _ b in
-      let d : done_next (suc k) (entry_of T s (es k)) t (under_at (log_of T n q es) t k) (done_at (log_of T n q es) t k)
-      ≡ done_at (log_of T n q es) t k ++ ending f.answer (under_at (log_of T n q es) t k) (suc k) =
-      ap (λ z. done_next (suc k) (entry_of T s z) t (under_at (log_of T n q es) t k) (done_at (log_of T n q es) t k)) e ∙ pick_yes (t == t) _ _ b in
+      let u : under_next (suc k) (entry_of T s (es k)) t (under_at (log_of T op es) t k) ≡ under_after f.answer (under_at (log_of T op es) t k) =
+      ap (λ z. under_next (suc k) (entry_of T s z) t (under_at (log_of T op es) t k)) e ∙ pick_yes (t == t) _ _ b in
+      let d : done_next (suc k) (entry_of T s (es k)) t (under_at (log_of T op es) t k) (done_at (log_of T op es) t k)
+      ≡ done_at (log_of T op es) t k ++ ending f.answer (under_at (log_of T op es) t k) (suc k) =
+      ap (λ z. done_next (suc k) (entry_of T s z) t (under_at (log_of T op es) t k) (done_at (log_of T op es) t k)) e ∙ pick_yes (t == t) _ _ b in
       λ i. here (l i) (u i) (d i)
 
   other_local : (s : State) (e : Event) → t ≢ thread_of e → local_of (after T s e) t ≡ local_of s t
@@ -114,12 +114,12 @@ module _ (T : Table) (n q : ℕ) (es : ℕ → Event) (k t : ℕ) where
   other_done s (Begin u c) o d ne = refl
   other_done s (Go u) o d ne = pick_not (u == t) _ _ (unequal_test u t (λ z. ne (sym z)))
 
-  at_other : t ≢ thread_of (es k) → here_at T n q es t (suc k) ≡ here_at T n q es t k
+  at_other : t ≢ thread_of (es k) → here_at T op es t (suc k) ≡ here_at T op es t k
   at_other ne =
-      let s : State = state_at T n q es k in
+      let s : State = state_at T op es k in
       let l = other_local s (es k) ne in
-      let u = other_under s (es k) (under_at (log_of T n q es) t k) ne in
-      let d = other_done s (es k) (under_at (log_of T n q es) t k) (done_at (log_of T n q es) t k) ne in
+      let u = other_under s (es k) (under_at (log_of T op es) t k) ne in
+      let d = other_done s (es k) (under_at (log_of T op es) t k) (done_at (log_of T op es) t k) ne in
       λ i. here (l i) (u i) (d i)
 
 -- what a thread with a call under way holds, and one without
@@ -127,45 +127,45 @@ abbrev pub Tied : Option Under → Local → Type 0
 Tied None l = l.pc ≡ 0
 Tied (Some u) l = (l.pc ≢ 0) × (l.call ≡ u.call)
 
-module _ (T : Table) (law : Lawful T) (n q : ℕ) (es : ℕ → Event) (last : ℕ) (r : Run T n q es last) where
-  len_locals : (k : ℕ) → k ≤ last → length (state_at T n q es k).locals ≡ n
-  len_locals k l = (law.states n q last k es r l).locals
+module _ (T : Table) (law : Lawful T) (op : Opening) (es : ℕ → Event) (last : ℕ) (r : Run T op es last) where
+  len_locals : (k : ℕ) → k ≤ last → length (state_at T op es k).locals ≡ op.threads
+  len_locals k l = (law.states op last k es r l).locals
 
   tied_answer : (a : Option Reply) (done : Bool) (first now t : ℕ) (c : Call) (l : Local) (u : Under) → l.call ≡ u.call
-      → Answered done q (views T n q es) first now t c l.pc a → Tied (under_after a (Some u)) l
+      → Answered done op.quota (views T op es) first now t c l.pc a → Tied (under_after a (Some u)) l
   tied_answer None done first now t c l u same h = (h, same)
   tied_answer (Some x) done first now t c l u same h = h.0
 
-  tied_go : (t k : ℕ) → k < last → es k ≡ Go t → (u : Under) → under_at (log_of T n q es) t k ≡ Some u → (local_of (state_at T n q es k) t).call ≡ u.call
-      → let f : Fed = T.feed (local_of (state_at T n q es k) t) (seen_next T (state_at T n q es k) t) in
-      Tied (under_after f.answer (under_at (log_of T n q es) t k)) f.local
+  tied_go : (t k : ℕ) → k < last → es k ≡ Go t → (u : Under) → under_at (log_of T op es) t k ≡ Some u → (local_of (state_at T op es k) t).call ≡ u.call
+      → let f : Fed = T.feed (local_of (state_at T op es k) t) (seen_next T (state_at T op es k) t) in
+      Tied (under_after f.answer (under_at (log_of T op es) t k)) f.local
   tied_go t k l e u is same =
-      let st : StepAt T n q es k t = law.steps n q last k t es r l e in
-      let f : Fed = T.feed (local_of (state_at T n q es k) t) (seen_next T (state_at T n q es k) t) in
+      let st : StepAt T op es k t = law.steps op last k t es r l e in
+      let f : Fed = T.feed (local_of (state_at T op es k) t) (seen_next T (state_at T op es k) t) in
       subst (λ o. Tied (under_after f.answer o) f.local) (sym is)
-      (tied_answer f.answer _ _ _ t (local_of (state_at T n q es k) t).call f.local u (st.same_call ∙ same) st.answered)
+      (tied_answer f.answer _ _ _ t (local_of (state_at T op es k) t).call f.local u (st.same_call ∙ same) st.answered)
 
   under_some : (o : Option Under) (l : Local) → Tied o l → l.pc ≢ 0 → (u : Under) × (o ≡ Some u) × (l.call ≡ u.call)
   under_some None l t ne = absurd (ne t)
   under_some (Some u) l t ne = (u, refl, t.1)
 
-  tied_by : (t k : ℕ) → t < n → k < last → (e : Event) → es k ≡ e → Tied (here_at T n q es t k).under (here_at T n q es t k).local
-      → Tied (here_at T n q es t (suc k)).under (here_at T n q es t (suc k)).local
+  tied_by : (t k : ℕ) → t < op.threads → k < last → (e : Event) → es k ≡ e → Tied (here_at T op es t k).under (here_at T op es t k).local
+      → Tied (here_at T op es t (suc k)).under (here_at T op es t (suc k)).local
   tied_by t k th l (Begin u c) e ti = ⊎_elim
-      (λ (y : t ≡ u). let h = at_begin T n q es k t c (e ∙ ap (λ z. Begin z c) (sym y)) (subst (λ z. t < z) (sym (len_locals k (omega arith))) th) in
-      subst (λ (z : Here). Tied z.under z.local) (sym h) ((law.begins c (local_of (state_at T n q es k) t)).opened, (law.begins c (local_of (state_at T n q es k) t)).called))
-      (λ (y : t ≢ u). let h = at_other T n q es k t (λ z. y (z ∙ ap thread_of e)) in
+      (λ (y : t ≡ u). let h = at_begin T op es k t c (e ∙ ap (λ z. Begin z c) (sym y)) (subst (λ z. t < z) (sym (len_locals k (omega arith))) th) in
+      subst (λ (z : Here). Tied z.under z.local) (sym h) ((law.begins c (local_of (state_at T op es k) t)).opened, (law.begins c (local_of (state_at T op es k) t)).called))
+      (λ (y : t ≢ u). let h = at_other T op es k t (λ z. y (z ∙ ap thread_of e)) in
       subst (λ (z : Here). Tied z.under z.local) (sym h) ti) (same_or_not t u)
   tied_by t k th l (Go u) e ti = ⊎_elim
       (λ (y : t ≡ u). let e' : es k ≡ Go t = e ∙ ap (λ z. Go z) (sym y) in
-      let h = at_go T n q es k t e' (subst (λ z. t < z) (sym (len_locals k (omega arith))) th) in
-      let on = under_some (under_at (log_of T n q es) t k) (local_of (state_at T n q es k) t) ti (subst (λ z. Enabled (state_at T n q es k) z) e' (r.enabled k l)).1 in
+      let h = at_go T op es k t e' (subst (λ z. t < z) (sym (len_locals k (omega arith))) th) in
+      let on = under_some (under_at (log_of T op es) t k) (local_of (state_at T op es k) t) ti (subst (λ z. Enabled (state_at T op es k) z) e' (r.enabled k l)).1 in
       subst (λ (z : Here). Tied z.under z.local) (sym h) (tied_go t k l e' on.0 on.1 on.2))
-      (λ (y : t ≢ u). let h = at_other T n q es k t (λ z. y (z ∙ ap thread_of e)) in
+      (λ (y : t ≢ u). let h = at_other T op es k t (λ z. y (z ∙ ap thread_of e)) in
       subst (λ (z : Here). Tied z.under z.local) (sym h) ti) (same_or_not t u)
 
-  pub tied : (t k : ℕ) → t < n → k ≤ last → Tied (here_at T n q es t k).under (here_at T n q es t k).local
-  tied t zero th l = ap (λ (x : Local). x.pc) (get_or-map-range_with_len (idle q) 0 n t t (idle 0 0) th (omega arith))
+  pub tied : (t k : ℕ) → t < op.threads → k ≤ last → Tied (here_at T op es t k).under (here_at T op es t k).local
+  tied t zero th l = ap (λ (x : Local). x.pc) (get_or-map-range_with_len (idle op.quota) 0 op.threads t t (idle 0 0) th (omega arith))
   tied t (suc k) th l = tied_by t k th (omega arith) (es k) refl (tied t k th (omega arith))
 
 -- LISTS OF EVENTS
@@ -182,69 +182,63 @@ pub length_more : (es : List Event) (e : Event) → length (es ++ e ∷ []) ≡ 
 length_more [] e = refl
 length_more (x ∷ es) e = ap (λ k. suc k) (length_more es e)
 
-module _ (T : Table) (k : Shape) (es : List Event) (e : Event) where
-  n : ℕ
-  n = k.threads
-
-  q : ℕ
-  q = k.quota
-
+module _ (T : Table) (k : Opening) (es : List Event) (e : Event) where
   abbrev more : ℕ → Event
   more = event_at (es ++ e ∷ [])
 
-  states_before : (j : ℕ) → j ≤ length es → state_at T k.threads k.quota more j ≡ state_at T k.threads k.quota (event_at es) j
-  states_before j l = state_agree T k.threads k.quota (event_at es) more j (λ i m. event_before es e i (omega arith))
+  states_before : (j : ℕ) → j ≤ length es → state_at T k more j ≡ state_at T k (event_at es) j
+  states_before j l = state_agree T k (event_at es) more j (λ i m. event_before es e i (omega arith))
 
-  logs_before : (j : ℕ) → j < length es → log_of T k.threads k.quota more j ≡ log_of T k.threads k.quota (event_at es) j
-  logs_before j l = ap (λ s. entry_of T s (more j)) (states_before j (omega arith)) ∙ ap (λ x. entry_of T (state_at T k.threads k.quota (event_at es) j) x) (event_before es e j l)
+  logs_before : (j : ℕ) → j < length es → log_of T k more j ≡ log_of T k (event_at es) j
+  logs_before j l = ap (λ s. entry_of T s (more j)) (states_before j (omega arith)) ∙ ap (λ x. entry_of T (state_at T k (event_at es) j) x) (event_before es e j l)
 
-  here_before : (t : ℕ) → here_at T k.threads k.quota more t (length es) ≡ at_end T k es t
+  here_before : (t : ℕ) → here_at T k more t (length es) ≡ at_end T k es t
   here_before t =
-      let l : local_of (state_at T k.threads k.quota more (length es)) t ≡ local_of (end_of T k es) t = ap (λ s. local_of s t) (states_before (length es) (omega arith)) in
-      let u = under_agree (log_by T k es) (log_of T k.threads k.quota more) t (length es) logs_before in
-      let d = done_agree (log_by T k es) (log_of T k.threads k.quota more) t (length es) logs_before in
+      let l : local_of (state_at T k more (length es)) t ≡ local_of (end_of T k es) t = ap (λ s. local_of s t) (states_before (length es) (omega arith)) in
+      let u = under_agree (log_by T k es) (log_of T k more) t (length es) logs_before in
+      let d = done_agree (log_by T k es) (log_of T k more) t (length es) logs_before in
       λ i. here (l i) (u i) (d i)
 
-  here_more : (t : ℕ) → at_end T k (es ++ e ∷ []) t ≡ here_at T k.threads k.quota more t (suc (length es))
-  here_more t = ap (λ j. here_at T k.threads k.quota more t j) (length_more es e)
+  here_more : (t : ℕ) → at_end T k (es ++ e ∷ []) t ≡ here_at T k more t (suc (length es))
+  here_more t = ap (λ j. here_at T k more t j) (length_more es e)
 
   pub end_more : end_of T k (es ++ e ∷ []) ≡ after T (end_of T k es) e
-  end_more = ap (λ j. state_at T k.threads k.quota more j) (length_more es e)
-      ∙ (ap (λ x. after T (state_at T k.threads k.quota more (length es)) x) (event_last es e)
+  end_more = ap (λ j. state_at T k more j) (length_more es e)
+      ∙ (ap (λ x. after T (state_at T k more (length es)) x) (event_last es e)
       ∙ ap (λ s. after T s e) (states_before (length es) (omega arith)))
 
   pub is_run_more : IsRunOf T k es → length (end_of T k es).locals ≡ k.threads → Enabled (end_of T k es) e → IsRunOf T k (es ++ e ∷ [])
-  is_run_more r len en = subst (λ z. Run T k.threads k.quota more z) (sym (length_more es e))
-      (run_more T k.threads k.quota es (end_of T k es) e (record { run = r; is = refl; locals = len }) en)
+  is_run_more r len en = subst (λ z. Run T k more z) (sym (length_more es e))
+      (run_more T k es (end_of T k es) e (record { run = r; is = refl; locals = len }) en)
 
   pub end_other : (t : ℕ) → t ≢ thread_of e → at_end T k (es ++ e ∷ []) t ≡ at_end T k es t
-  end_other t ne = here_more t ∙ (at_other T k.threads k.quota more (length es) t (λ z. ne (z ∙ ap thread_of (event_last es e))) ∙ here_before t)
+  end_other t ne = here_more t ∙ (at_other T k more (length es) t (λ z. ne (z ∙ ap thread_of (event_last es e))) ∙ here_before t)
 
-pub end_begin : (T : Table) (k : Shape) (es : List Event) (t : ℕ) (c : Call) → t < length (end_of T k es).locals
+pub end_begin : (T : Table) (k : Opening) (es : List Event) (t : ℕ) (c : Call) → t < length (end_of T k es).locals
     → at_end T k (es ++ Begin t c ∷ []) t ≡ begins T (at_end T k es t) c (length es + 1)
 end_begin T k es t c lt =
     let e : Event = Begin t c in
     let one : suc (length es) ≡ length es + 1 = omega arith in
-    here_more T k es e t ∙ (at_begin T k.threads k.quota (more T k es e) (length es) t c (event_last es e)
+    here_more T k es e t ∙ (at_begin T k (more T k es e) (length es) t c (event_last es e)
     (subst (λ (s : State). t < length s.locals) (sym (states_before T k es e (length es) (omega arith))) lt)
     ∙ (λ i. begins T (here_before T k es e t i) c (one i)))
 
-pub end_go : (T : Table) (k : Shape) (es : List Event) (t : ℕ) → t < length (end_of T k es).locals
+pub end_go : (T : Table) (k : Opening) (es : List Event) (t : ℕ) → t < length (end_of T k es).locals
     → at_end T k (es ++ Go t ∷ []) t ≡ gone (at_end T k es t) (T.feed (at_end T k es t).local (seen_next T (end_of T k es) t)) (length es + 1)
 end_go T k es t lt =
     let e : Event = Go t in
     let one : suc (length es) ≡ length es + 1 = omega arith in
-    here_more T k es e t ∙ (at_go T k.threads k.quota (more T k es e) (length es) t (event_last es e)
+    here_more T k es e t ∙ (at_go T k (more T k es e) (length es) t (event_last es e)
     (subst (λ (s : State). t < length s.locals) (sym (states_before T k es e (length es) (omega arith))) lt)
     ∙ (λ i. gone (here_before T k es e t i) (T.feed (local_of (states_before T k es e (length es) (omega arith) i) t) (seen_next T (states_before T k es e (length es) (omega arith) i) t)) (one i)))
 
 -- what the law says of the end of a run
-module _ (T : Table) (law : Lawful T) (k : Shape) (es : List Event) (r : IsRunOf T k es) where
-  pub end_laws : StateLaws T.marks k.threads k.quota (end_of T k es)
-  end_laws = law.states k.threads k.quota (length es) (length es) (event_at es) r (omega arith)
+module _ (T : Table) (law : Lawful T) (k : Opening) (es : List Event) (r : IsRunOf T k es) where
+  pub end_laws : StateLaws T.marks (sizes k) (end_of T k es)
+  end_laws = law.states k (length es) (length es) (event_at es) r (omega arith)
 
   pub end_tied : (t : ℕ) → t < k.threads → Tied (at_end T k es t).under (at_end T k es t).local
-  end_tied t th = tied T law k.threads k.quota (event_at es) (length es) r t (length es) th (omega arith)
+  end_tied t th = tied T law k (event_at es) (length es) r t (length es) th (omega arith)
 
   pub in_locals : (t : ℕ) → t < k.threads → t < length (end_of T k es).locals
   in_locals t th = subst (λ z. t < z) (sym end_laws.locals) th

@@ -7,7 +7,6 @@ use lib.ListN.{get_elem?}
 use Rattle.atomic_table.specs.Table as table
 use Rattle.atomic_table.specs.Table.{Me, Step}
 use Rattle.lset_steps.specs.declared.Event.{Event}
-use Rattle.lset_rule.specs.declared.view.Shape.{Shape}
 use Rattle.lset_rule.specs.declared.view.Aside.{Aside}
 use Rattle.lset_rule.specs.declared.view.Past.{Fresh}
 use Rattle.lset_rule.specs.declared.view.View.{View}
@@ -16,6 +15,7 @@ use Rattle.lset_steps.specs.Worlds.{thread_of}
 use Rattle.lset_rule.specs.Pasts.{gathered}
 use Rattle.lset_rule.specs.Runs.{StartsWith, end_of, IsRunOf}
 use Rattle.lset_rule.specs.Views.{HasThread, Stands}
+use Rattle.lset_words.specs.Words.{Opening}
 
 -- no event is by a thread of the view
 abbrev pub IsQuiet : View → List Event → Type 0
@@ -24,7 +24,7 @@ IsQuiet v (e ∷ es) = ¬ (HasThread v (thread_of e)) × IsQuiet v es
 
 -- THE VIEW j FITS L: it has seen the first events of L, those after them are by others, it alone has its threads, and the two
 -- lists that it keeps from a joining begin L too.
-pub record Fits (m : Table) (k : Shape) (log : List Event) (seat_of : ℕ → ℕ) (j : ℕ) (v : View) : Type 0 where
+pub record Fits (m : Table) (k : Opening) (log : List Event) (seat_of : ℕ → ℕ) (j : ℕ) (v : View) : Type 0 where
   pub shape : v.shape ≡ k
   pub rest : List Event
   pub is : log ≡ v.seen ++ rest
@@ -45,7 +45,7 @@ StandsIn views j t = (v : View) × (get_elem? views j ≡ some v) × (v.spent �
 -- What follows from it, at the end of the whole list L (proofs/EndOfAll): the registers of each thread, its call under way and
 -- its ended calls are those of the view that has it; and the ended calls of the thread of a record, of the view's own or of a
 -- gathered one, are the own calls of that record, with these numbers.
-pub record Holds (m : Table) (k : Shape) (s : table.State (Unit {0}) View) : Type 0 where
+pub record Holds (m : Table) (k : Opening) (s : table.State (Unit {0}) View) : Type 0 where
   pub log : List Event
   pub ran : IsRunOf m k log
   pub words : s.words ≡ (end_of m k log).words
@@ -54,11 +54,11 @@ pub record Holds (m : Table) (k : Shape) (s : table.State (Unit {0}) View) : Typ
   pub placed : (t : ℕ) → t < k.threads → StandsIn s.views (seat_of t) t
 
 -- MAKING THE FIRST SEAT: it has all threads, idle, the last one as its own
-abbrev pub asides_from : Shape → ℕ → ℕ → List Aside
+abbrev pub asides_from : Opening → ℕ → ℕ → List Aside
 asides_from k t zero = []
 asides_from k t (suc n) = record { thread = t; local = idle k.quota t } ∷ asides_from k (t + 1) n
 
-abbrev pub opener : Shape → View
+abbrev pub opener : Opening → View
 opener k = record {
   spent = false;
   shape = k;
@@ -114,7 +114,7 @@ joined v w = record v {
 }
 
 abbrev pub nobody : View
-nobody = record (opener (record { threads = 0; quota = 0 })) { spent = true }
+nobody = record (opener (record { threads = 0; quota = 0; keys = [] })) { spent = true }
 
 -- THE LOAD THAT ENDS A JOINING tells that both kept lists begin the events seen, and drops them
 abbrev pub learned : Table → Step (Unit {0}) → Me (Unit {0}) View → ℕ → Me (Unit {0}) View → Type 0

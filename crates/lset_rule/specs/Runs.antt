@@ -11,7 +11,7 @@ use Rattle.lset_steps.specs.declared.Event.{Event}
 use Rattle.lset_steps.specs.Steps.{Table, State, Run, state_at, event_at, local_of, log_of}
 use Rattle.lset_rule.specs.declared.view.OwnCall.{OwnCall}
 use Rattle.lset_rule.specs.declared.view.Under.{Under}
-use Rattle.lset_rule.specs.declared.view.Shape.{Shape}
+use Rattle.lset_words.specs.Words.{Opening, sizes}
 
 -- the list begins with these events
 abbrev pub StartsWith : List Event → List Event → Type 0
@@ -62,23 +62,23 @@ done_at log t zero = []
 done_at log t (suc k) = done_next (suc k) (log k) t (under_at log t k) (done_at log t k)
 
 -- a thread after the first k events of a run
-abbrev pub here_at : Table → ℕ → ℕ → (ℕ → Event) → ℕ → ℕ → Here
-here_at T n q es t k = here (local_of (state_at T n q es k) t) (under_at (log_of T n q es) t k) (done_at (log_of T n q es) t k)
+abbrev pub here_at : Table → Opening → (ℕ → Event) → ℕ → ℕ → Here
+here_at T op es t k = here (local_of (state_at T op es k) t) (under_at (log_of T op es) t k) (done_at (log_of T op es) t k)
 
 -- THE SAME OF A LIST OF EVENTS, of a set with this many threads and slots: its log, its last state, each thread at its end, and
 -- that it is a run (each event may come where it comes)
-abbrev pub log_by : Table → Shape → List Event → Log
-log_by T k es = log_of T k.threads k.quota (event_at es)
+abbrev pub log_by : Table → Opening → List Event → Log
+log_by T k es = log_of T k (event_at es)
 
-abbrev pub end_of : Table → Shape → List Event → State
-end_of T k es = state_at T k.threads k.quota (event_at es) (length es)
+abbrev pub end_of : Table → Opening → List Event → State
+end_of T k es = state_at T k (event_at es) (length es)
 
-abbrev pub at_end : Table → Shape → List Event → ℕ → Here
-at_end T k es t = here_at T k.threads k.quota (event_at es) t (length es)
+abbrev pub at_end : Table → Opening → List Event → ℕ → Here
+at_end T k es t = here_at T k (event_at es) t (length es)
 
-abbrev pub IsRunOf : Table → Shape → List Event → Type 0
-IsRunOf T k es = Run T k.threads k.quota (event_at es) (length es)
+abbrev pub IsRunOf : Table → Opening → List Event → Type 0
+IsRunOf T k es = Run T k (event_at es) (length es)
 
 -- what the run of these events shows
-abbrev pub history_of : Table → Shape → List Event → List CallRecord
+abbrev pub history_of : Table → Opening → List Event → List CallRecord
 history_of T k es = history_at (log_by T k es) (length es)

@@ -4,10 +4,9 @@ use Rattle.atomic_table.specs.declared.shared.Seat.{Seat}
 use Rattle.atomic_table.specs.Seated.{TableId}
 use Rattle.lset_words.specs.declared.Call.{Call}
 use Rattle.lset_words.specs.declared.Reply.{Reply}
-use Rattle.lset_words.specs.Words.{word_count}
+use Rattle.lset_words.specs.Words.{word_count, Opening, sizes}
 use Rattle.lset_steps.specs.Steps.{Table}
 use Rattle.lset_rule.specs.declared.slots.Slots.{Slots}
-use Rattle.lset_rule.specs.declared.view.Shape.{Shape}
 use Rattle.lset_rule.specs.declared.view.View.{View}
 use Rattle.lset_rule.specs.Slots.{slots_of}
 use Rattle.lset_rule.specs.Views.{IsIdle, Stands}
@@ -18,15 +17,15 @@ abbrev pub Place : Type 0
 Place = Seat (Unit {0}) View
 
 -- the seat is of the table z, which has the words of a set of this shape
-abbrev pub IsOf : TableId → Shape → Place → Type 0
-IsOf z k s = (s.table_id ≡ z) × (s.me.0.shape ≡ k) × (z.words ≡ word_count k.threads k.quota)
+abbrev pub IsOf : TableId → Opening → Place → Type 0
+IsOf z k s = (s.table_id ≡ z) × (s.me.0.shape ≡ k) × (z.words ≡ word_count (sizes k))
 
 -- the same seat, at another view
 abbrev pub IsSeat : Place → Place → Type 0
 IsSeat s s' = (s'.table_id ≡ s.table_id) × (s'.id ≡ s.id) × (s'.me.1 ≡ s.me.1)
 
 -- A WHOLE CALL MAY BE MADE from the seat: it is of this table, its thread has no call under way and has these slots.
-pub record MayCall (m : Table) (z : TableId) (k : Shape) (own : Slots) (s : Place) : Type 0 where
+pub record MayCall (m : Table) (z : TableId) (k : Opening) (own : Slots) (s : Place) : Type 0 where
   pub place : IsOf z k s
   pub idle : IsIdle s.me.0
   pub stands : Stands m s.me.0

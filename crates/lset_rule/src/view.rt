@@ -1,15 +1,38 @@
 //! What a seat knows: plain data that contracts alone speak of. No value of these types is made when a program runs.
+ghost use Rattle.std.specs.Prelude.{◌≡◌};
+ghost use Rattle.lset_words.specs.Words.{Opening};
+
 use lset_steps::{Event, Local};
 use lset_words::{Call, Reply};
 use std::collections::LinkedList;
+use std::marker::Model;
 
-/// How large a set is. It is the key of the table, fixed when the set is opened.
-#[derive(Clone, Copy)]
+/// How a set opens: for how many threads, with how many slots for each, and with which keys. It is the key of the table,
+/// fixed when the set is opened.
+#[derive(Drop)]
 pub struct Shape {
-    /// How many threads the set has.
-    pub threads: u32,
-    /// How many slots for new nodes each thread has.
-    pub quota: u32,
+    threads: u32,
+    quota: u32,
+    keys: Vec<u32>,
+}
+
+impl Model for Shape {
+    ghost Value = { Opening };
+
+    ghost view = { λ s. record { threads = s.threads; quota = s.quota; keys = s.keys.items } };
+}
+
+impl Shape {
+    /// A set for so many threads, with so many slots for each, that opens with these keys.
+    pub fn new(threads: u32, quota: u32, keys: Vec<u32>) -> Shape
+        ensures { result ≡ record { threads = threads; quota = quota; keys = keys.items } }
+    {
+        Shape {
+            threads,
+            quota,
+            keys,
+        }
+    }
 }
 
 /// A call that has ended.

@@ -8,6 +8,7 @@ use Rattle.std.proofs.lemmas.List.FromFn.{length-range_with_len}
 use Rattle.std.proofs.lemmas.List.Sums.{sum_by-cons}
 use Rattle.rand_core.specs.Stream.{Stream}
 use Rattle.lset_words.specs.declared.Call.{Call}
+use Rattle.lset_words.specs.Words.{empty}
 use Rattle.lset_live.specs.Records.{Record, fresh}
 use Rattle.lset_live.specs.Seats.{SeatValue, SetValue, IsOpened, new_seat}
 use Rattle.lset_work.specs.declared.fault.WorkCause.{WorkCause}
@@ -48,13 +49,13 @@ new_held set [] = refl
 new_held set (t ∷ ts) = omega (arith, sum_by-cons (λ (s : SeatValue). s.held) (new_seat set t) (map (new_seat set) ts), new_held set ts)
 
 -- the seats of a new set hold all of it, and are as many as its threads
-pub opened_held : (set : SetValue) (threads quota : ℕ) (seats : List SeatValue) → IsOpened set threads quota seats → sum_by (λ (s : SeatValue). s.held) seats ≡ threads
+pub opened_held : (set : SetValue) (threads quota : ℕ) (seats : List SeatValue) → IsOpened set (empty threads quota) seats → sum_by (λ (s : SeatValue). s.held) seats ≡ threads
 opened_held set threads quota seats is = ap (sum_by (λ (s : SeatValue). s.held)) is.1 ∙ new_held set (range_with_len 0 threads) ∙ length-range_with_len 0 threads
 
-pub opened_length : (set : SetValue) (threads quota : ℕ) (seats : List SeatValue) → IsOpened set threads quota seats → length seats ≡ threads
+pub opened_length : (set : SetValue) (threads quota : ℕ) (seats : List SeatValue) → IsOpened set (empty threads quota) seats → length seats ≡ threads
 opened_length set threads quota seats is = ap (λ l. length l) is.1 ∙ length-map (range_with_len 0 threads) (new_seat set) ∙ length-range_with_len 0 threads
 
-pub opened_records : (set : SetValue) (threads quota : ℕ) (seats : List SeatValue) → IsOpened set threads quota seats
+pub opened_records : (set : SetValue) (threads quota : ℕ) (seats : List SeatValue) → IsOpened set (empty threads quota) seats
     → map (λ (s : SeatValue). s.past) seats ≡ map fresh (range_with_len 0 threads)
 opened_records set threads quota seats is = ap (map (λ (s : SeatValue). s.past)) is.1 ∙ new_records set (range_with_len 0 threads)
 

@@ -5,6 +5,7 @@ use Rattle.std.specs.List.{range_with_len}
 use Rattle.lset_words.specs.declared.Call.{Call}
 use Rattle.lset_words.specs.declared.Reply.{Reply}
 use Rattle.lset_words.specs.declared.Reply.TheVariants.{True, False, Full}
+use Rattle.lset_words.specs.Words.{empty}
 use Rattle.lset_text.specs.Parts.{line_of, text_of}
 use Rattle.lset_text.specs.Spellings.{same_reply}
 use Rattle.lset_schedule.specs.Draws.{programs_of}
@@ -48,7 +49,7 @@ programs_for request = programs_of request.threads request.calls request.keys re
 -- calls of its program with these replies, in order, and leaves the keys.
 pub record IsOutcome (request : Request) (replies : List (List Reply)) (keys : List ℕ) : Type 0 where
   pub counted : map (λ (l : List Reply). length l) replies ≡ map (λ (l : List Call). length l) (programs_for request)
-  pub explained : Explains (record { threads = request.threads; quota = request.quota })
+  pub explained : Explains (empty request.threads request.quota)
       (worked (map fresh (range_with_len 0 request.threads)) (programs_for request) replies) keys
 
 -- what ends a run: memory or a thread was refused

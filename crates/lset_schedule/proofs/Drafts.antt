@@ -7,7 +7,8 @@ use Rattle.std.proofs.lemmas.List.Sums.{sum_by-append, sum_by-cons}
 use Rattle.lset_words.specs.declared.TheConstants.{MOST_THREADS}
 use Rattle.lset_schedule.specs.declared.TheConstants.{MOST_GENERATED}
 use Rattle.lset_words.specs.declared.Kind.{Kind}
-use Rattle.lset_words.specs.Words.{IsWithin}
+use Rattle.lset_words.specs.Words.{Sizes, IsWithin, empty, sizes}
+use Rattle.lset_words.proofs.Bounds.{opens_empty}
 use Rattle.lset_text.specs.declared.words.Version.TheVariants.{One}
 use Rattle.lset_steps.specs.declared.Event.{Event}
 use Rattle.lset_steps.specs.declared.Event.TheVariants as event
@@ -35,9 +36,8 @@ pub record IsUnbegun (turns n calls left : ℕ) (lines : List Line) (s : State) 
 
 -- after so many turns, with so many calls left
 pub record IsDraft (T : Table) (n q calls keys turns left : ℕ) (lines : List Line) (w : WorldState) : Type 0 where
-  pub threads : w.threads ≡ n
-  pub quota : w.quota ≡ q
-  pub run : RunsTo T n q (events_of_lines lines) w.state
+  pub sized : w.sizes ≡ sizes (empty n q)
+  pub run : RunsTo T (empty n q) (events_of_lines lines) w.state
   pub each : AllByRecursion (IsGeneratedLine n keys) lines
   pub begun : count_by is_begin lines + left ≡ calls
   pub few : length lines ≤ MOST_GENERATED
@@ -69,18 +69,20 @@ starts_more : (lines : List Line) (l : Line) → StartsWithBegin lines → Start
 starts_more [] l h = absurd h
 starts_more (x ∷ xs) l h = h
 
-pub draft_opening : (T : Table) (n q calls keys : ℕ) → IsWithin (record { threads = n; quota = q })
-    → IsDraft T n q calls keys 0 calls [] (record { threads = n; quota = q; state = opening n q })
-draft_opening T n q calls keys h = record {
-  threads = refl;
-  quota = refl;
-  run = runs_to_opening T n q h;
+pub draft_opening : (T : Table) (s : Sizes) (calls keys : ℕ) → IsWithin s → s.opening ≡ 0
+    → IsDraft T s.threads s.quota calls keys 0 calls [] (record { sizes = s; state = opening (empty s.threads s.quota) })
+draft_opening T s calls keys h none = record {
+  sized = same;
+  run = runs_to_opening T (empty s.threads s.quota) (opens_empty s.threads s.quota (subst IsWithin same h));
   each = tt;
   begun = omega arith;
   few = omega arith;
   alone = λ _. refl;
-  start = inl (record { turn = refl; all_left = refl; none = refl; rest = λ t _. opening_rests n q t });
+  start = inl (record { turn = refl; all_left = refl; none = refl; rest = λ t _. opening_rests s.threads s.quota t });
 }
+  where
+    same : s ≡ sizes (empty s.threads s.quota)
+    same = ap (λ m. record { threads = s.threads; quota = s.quota; opening = m }) none
 
 -- where the test for the end says no
 pub goes_on : (s : State) (events m left : ℕ) → events ≡ m → (IsTrue false ↔ IsOver s events left) → IsOver s m left → ⊥
@@ -96,8 +98,7 @@ pub draft_idle : (T : Table) (n q calls keys turns left t : ℕ) (lines : List L
     → IsDraft T n q calls keys turns left lines w → (IsOver w.state (length lines) left → ⊥) → t < n
     → IsIdle w.state t left → IsDraft T n q calls keys (turns + 1) left lines w
 draft_idle T n q calls keys turns left t lines w d more lt h = record {
-  threads = d.threads;
-  quota = d.quota;
+  sized = d.sized;
   run = d.run;
   each = d.each;
   begun = d.begun;
@@ -148,10 +149,9 @@ pub draft_event : (T : Table) (n q calls keys turns left t : ℕ) (lines : List 
     → IsDraft T n q calls keys (turns + 1) (left_after left e) (lines ++ line_of_event e ∷ [])
     (record w { state = after T w.state e })
 draft_event T n q calls keys turns left t lines w e d more lt h small = record {
-  threads = d.threads;
-  quota = d.quota;
-  run = subst (λ es. RunsTo T n q es (after T w.state e)) (sym (events_more lines e))
-      (runs_to_more T n q (events_of_lines lines) w.state e d.run enabled);
+  sized = d.sized;
+  run = subst (λ es. RunsTo T (empty n q) es (after T w.state e)) (sym (events_more lines e))
+      (runs_to_more T (empty n q) (events_of_lines lines) w.state e d.run enabled);
   each = all_more (IsGeneratedLine n keys) lines (line_of_event e) d.each (line_made w.state n t left keys e lt h);
   begun = begun_more w.state t left keys calls lines e h d.begun;
   few = rw (length_more lines (line_of_event e)) room;
@@ -263,7 +263,7 @@ pub generated_fits : (T : Table) (kind : Kind) (n q calls keys : ℕ) (lines : L
     → length lines ≤ MOST_GENERATED → IsGenerated T n q calls keys lines
     → IsSchedule (record { version = One; kind = kind; threads = n; quota = q; lines = lines })
 generated_fits T kind n q calls keys lines small few made = record {
-  header = made.run.limits;
-  lines = lines_fit n keys lines made.run.limits.few small made.each;
+  header = made.run.opens.within;
+  lines = lines_fit n keys lines made.run.opens.within.few small made.each;
   few = rw (events_counted n keys lines made.each) (omega arith);
 }

@@ -7,6 +7,7 @@ use Rattle.lset_steps.specs.Steps.{Table, State, after, opening}
 use Rattle.lset_schedule.specs.declared.value.Line.{Line}
 use Rattle.lset_schedule.specs.Drawing.{Progress, line_of_event, left_after, event_drawn, progressed, after_turn, before_turns}
 use Rattle.lset_schedule.specs.Drawing.{IsOver, IsEnd, AreDrawn}
+use Rattle.lset_words.specs.Words.{empty}
 
 abbrev pub progress : State → ℕ → List Line → Stream → Progress
 progress s left lines answers = record { state = s; left = left; lines = lines; answers = answers }
@@ -27,7 +28,7 @@ pub made_none : (T : Table) (p : Progress) (made : Option Event) (s : State) (le
 made_none T p made s left lines answers is a b c = rw (is, a, b, c) refl
 
 module _ (T : Table) (threads keys : ℕ) where
-  pub begun_drawn : (turns n q calls : ℕ) (s : State) (made lines : List Line) (answers : Stream) → s ≡ opening n q → made ≡ []
+  pub begun_drawn : (turns n q calls : ℕ) (s : State) (made lines : List Line) (answers : Stream) → s ≡ opening (empty n q) → made ≡ []
       → AreDrawn T threads keys turns (progress s calls made answers) lines
       → AreDrawn T threads keys turns (before_turns n q calls answers) lines
   begun_drawn turns n q calls s made lines answers opens none h =

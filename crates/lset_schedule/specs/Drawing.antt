@@ -8,6 +8,7 @@ use Rattle.lset_steps.specs.Steps.{Table, State, after, local_of, opening}
 use Rattle.lset_schedule.specs.declared.value.Line.{Line}
 use Rattle.lset_schedule.specs.declared.value.Line.TheVariants as line
 use Rattle.lset_schedule.specs.Draws.{drawn_call, seeded}
+use Rattle.lset_words.specs.Words.{empty}
 
 abbrev pub line_of_event : Event → Line
 line_of_event (event.Begin t call) = line.Begin t call
@@ -64,7 +65,7 @@ AreDrawn T threads keys (suc turns) p lines =
     (IsEnd p × (lines ≡ p.lines)) ⊎ ((IsEnd p → ⊥) × AreDrawn T threads keys turns (after_turn T threads keys p) lines)
 
 abbrev pub before_turns : ℕ → ℕ → ℕ → Stream → Progress
-before_turns threads quota calls answers = record { state = opening threads quota; left = calls; lines = []; answers = answers }
+before_turns threads quota calls answers = record { state = opening (empty threads quota); left = calls; lines = []; answers = answers }
 
 -- the lines that a seed stands for
 abbrev pub AreOfSeed : Table → ℕ → ℕ → ℕ → ℕ → ℕ → List Line → Type 0

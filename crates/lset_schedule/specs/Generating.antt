@@ -7,7 +7,7 @@ use Rattle.lset_words.specs.declared.TheConstants.{MOST_THREADS, MOST_QUOTA}
 use Rattle.lset_schedule.specs.declared.TheConstants.{MOST_GENERATED}
 use Rattle.lset_words.specs.declared.fault.LayoutFault.{LayoutFault}
 use Rattle.lset_words.specs.declared.fault.LayoutFault.TheVariants as layout
-use Rattle.lset_words.specs.Words.{IsWithin, key_of}
+use Rattle.lset_words.specs.Words.{IsWithin, key_of, empty}
 use Rattle.lset_steps.specs.declared.Event.{Event}
 use Rattle.lset_steps.specs.declared.Event.TheVariants as event
 use Rattle.lset_steps.specs.Steps.{Table, Run, state_at, event_at, local_of}
@@ -39,14 +39,14 @@ StartsWithBegin (l ∷ ls) = is_begin l ≡ true
 
 -- thread t has no call open after these events
 abbrev pub NoneOpenAfter : Table → ℕ → ℕ → List Event → ℕ → Type 0
-NoneOpenAfter T threads quota es t = (local_of (state_at T threads quota (event_at es) (length es)) t).pc ≡ 0
+NoneOpenAfter T threads quota es t = (local_of (state_at T (empty threads quota) (event_at es) (length es)) t).pc ≡ 0
 
 -- what a generated schedule of these sizes, with at most `calls` calls, has for lines
 pub record IsGenerated (T : Table) (threads quota calls keys : ℕ) (lines : List Line) : Type 0 where
   -- every line is one event
   pub each : AllByRecursion (IsGeneratedLine threads keys) lines
   -- every event is enabled in its run
-  pub run : Run T threads quota (event_at (events_of_lines lines)) (length (events_of_lines lines))
+  pub run : Run T (empty threads quota) (event_at (events_of_lines lines)) (length (events_of_lines lines))
   pub first : 0 < calls → StartsWithBegin lines
   pub few : count_by is_begin lines ≤ calls
   -- with one thread all calls were begun and have ended, or the events are as many as a schedule may have
@@ -54,18 +54,13 @@ pub record IsGenerated (T : Table) (threads quota calls keys : ℕ) (lines : Lis
       → (length lines ≡ MOST_GENERATED)
       ⊎ ((count_by is_begin lines ≡ calls) × NoneOpenAfter T threads quota (events_of_lines lines) 0)
 
--- what is refused by the limits of a layout
-abbrev pub layout_fault : LayoutFault → GenFault
-layout_fault layout.Threads = Threads
-layout_fault layout.Quota = Quota
-
 -- no check fails
 abbrev pub IsAccepted : ℕ → ℕ → ℕ → Type 0
-IsAccepted threads quota keys = IsWithin (record { threads = threads; quota = quota }) × (0 < keys)
+IsAccepted threads quota keys = IsWithin (record { threads = threads; quota = quota; opening = 0 }) × (0 < keys)
 
 -- the first of the checks that fails, and Memory where none does
 abbrev pub Refuses : ℕ → ℕ → ℕ → GenFault → Type 0
 Refuses threads quota keys Threads = (threads ≡ 0) ⊎ (MOST_THREADS < threads)
 Refuses threads quota keys Quota = (0 < threads) × (threads ≤ MOST_THREADS) × (MOST_QUOTA < quota)
-Refuses threads quota keys Keys = IsWithin (record { threads = threads; quota = quota }) × (keys ≡ 0)
+Refuses threads quota keys Keys = IsWithin (record { threads = threads; quota = quota; opening = 0 }) × (keys ≡ 0)
 Refuses threads quota keys Memory = IsAccepted threads quota keys

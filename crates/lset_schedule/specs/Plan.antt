@@ -4,7 +4,7 @@ use Rattle.std.specs.Fmt.{decimal}
 use Rattle.std.specs.List.{sum_by, AllByRecursion}
 use Rattle.lset_schedule.specs.declared.TheConstants.{MOST_EVENTS, MOST_STEPS}
 use Rattle.lset_words.specs.declared.Kind.{Kind}
-use Rattle.lset_words.specs.Words.{key_of}
+use Rattle.lset_words.specs.Words.{Opening, empty, key_of}
 use Rattle.lset_text.specs.declared.headers.Header.{Header}
 use Rattle.lset_text.specs.Parts.{line_of, text_of}
 use Rattle.lset_text.specs.Spellings.{call_text, HasCall}
@@ -32,6 +32,10 @@ view s = planned s.version (record { kind = s.kind; threads = s.threads; quota =
 
 abbrev pub header_in : Plan → Header
 header_in p = record { kind = p.kind; threads = p.threads; quota = p.quota }
+
+-- how its set opens: texts have no opening keys
+abbrev pub opening_in : Plan → Opening
+opening_in p = empty p.threads p.quota
 
 -- ---- its text
 

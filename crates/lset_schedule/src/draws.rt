@@ -6,7 +6,7 @@ ghost use Rattle.lset_schedule.specs.Generating.{IsAccepted, Refuses};
 
 use crate::fault::GenFault;
 use lset_text::Version;
-use lset_words::{Call, Key, layout};
+use lset_words::{Call, Key, Layout, LayoutFault, layout};
 use rand_core::{Rng, SeedableRng};
 use rand_pcg::Pcg32;
 use std::alloc::{AllocError, Global};
@@ -72,6 +72,21 @@ fn program(
     draw_calls(alloc, calls, keys, &mut rng)
 }
 
+/// The layout of a set that opens empty, from which calls of keys below `keys` are drawn.
+pub fn layout_to_draw(threads: u32, quota: u32, keys: u32) -> Result<Layout, GenFault>
+    ensures sizes { IfOk result (λ l. l ≡ record { threads = threads; quota = quota; opening = 0 }) }
+    ensures accepted { IfOk result (λ _. IsAccepted threads quota keys) }
+    ensures refused { IfErr result (Refuses threads quota keys) }
+{
+    match layout(threads, quota) {
+        Ok(_) if keys == 0 => Err(GenFault::Keys),
+        Ok(layout) => Ok(layout),
+        Err(LayoutFault::Threads) => Err(GenFault::Threads),
+        Err(LayoutFault::Quota) => Err(GenFault::Quota),
+        Err(LayoutFault::Opening) => unreachable!(),
+    }
+}
+
 /// A program of `calls` calls for each of `threads` threads, 1 to 64. Each thread has a generator of its
 /// own, made from the wrapping sum of `seed` and the thread; each call draws two numbers from it, which
 /// choose the kind of the call and its key, below `keys`. (This project's own format.)
@@ -89,10 +104,7 @@ pub fn programs(
     ensures accepted { IfOk result (λ _. IsAccepted threads 0 keys) }
     ensures refused { IfErr result (Refuses threads 0 keys) }
 {
-    let _layout = layout(threads, 0)?;
-    if keys == 0 {
-        return Err(GenFault::Keys);
-    }
+    let _layout = layout_to_draw(threads, 0, keys)?;
     let mut all = Vec::new(alloc);
     for thread in 0..threads {
         all.push(program(alloc, thread, calls, keys, seed)?)?;

@@ -1,10 +1,9 @@
 ghost use Rattle.std.specs.Prelude.{◌≡◌};
-ghost use Rattle.lset_schedule.specs.Generating.{layout_fault};
 ghost use Rattle.lset_schedule.specs.ScheduleReading.{fault, cause_of, in_schedule};
 ghost use Rattle.lset_schedule.specs.declared.fault.GenFault.TheVariants.{Memory};
 
 use lset_text::{HeaderCause, HeaderFault};
-use lset_words::{LayoutFault, MOST_QUOTA, MOST_THREADS};
+use lset_words::{MOST_QUOTA, MOST_THREADS};
 use std::alloc::{AllocError, AllocFailed};
 use thiserror::Error;
 
@@ -87,17 +86,6 @@ pub enum GenFault {
     /// There was no memory for it.
     #[error("out of memory")]
     Memory,
-}
-
-impl From<LayoutFault> for GenFault {
-    ghost from_gives = { λ l g. g ≡ layout_fault l };
-
-    fn from(fault: LayoutFault) -> GenFault {
-        match fault {
-            LayoutFault::Threads => GenFault::Threads,
-            LayoutFault::Quota => GenFault::Quota,
-        }
-    }
 }
 
 impl From<AllocError> for GenFault {

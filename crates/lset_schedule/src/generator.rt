@@ -5,13 +5,13 @@ ghost use Rattle.lset_schedule.specs.Generating.{IsAccepted, IsGenerated, Refuse
 ghost use Rattle.lset_schedule.specs.Plan.{IsSchedule, view};
 ghost use Rattle.lset_schedule.specs.GeneratorTurns.{HasOpenCall, IsIdle, IsNextEvent};
 
-use crate::draws::draw_call;
+use crate::draws::{draw_call, layout_to_draw};
 use crate::fault::GenFault;
 use crate::value::{Line, Schedule};
 use crate::{MOST_GENERATED, MOST_TURNS};
 use lset_steps::{Event, Machine, World};
 use lset_text::{Header, Version};
-use lset_words::{Layout, layout};
+use lset_words::Layout;
 use rand_core::{Rng, SeedableRng};
 use rand_pcg::Pcg32;
 use std::alloc::{AllocError, Global};
@@ -38,7 +38,7 @@ fn left_by(left: u32, event: Event) -> u32
 
 /// Whether one of the threads has an open call.
 fn has_open_call<M: Machine>(world: &World<M>, threads: u32) -> bool
-    requires { world.now.threads ≡ threads }
+    requires { world.now.sizes.threads ≡ threads }
     ensures { IsTrue result ↔ ((t : ℕ) × (t < threads) × HasOpenCall world.now.state t) }
 {
     for thread in 0..threads {
@@ -51,7 +51,7 @@ fn has_open_call<M: Machine>(world: &World<M>, threads: u32) -> bool
 
 /// Whether no turn follows after so many events, with `left` calls left.
 fn is_over<M: Machine>(world: &World<M>, threads: u32, events: usize, left: u32) -> bool
-    requires threads { world.now.threads ≡ threads }
+    requires threads { world.now.sizes.threads ≡ threads }
     requires locals { length world.now.state.locals ≡ threads }
     ensures { IsTrue result ↔ IsOver world.now.state events left }
 {
@@ -69,7 +69,7 @@ fn next_event<M: Machine, R: Rng>(
     keys: u32,
     rng: &mut R,
 ) -> Option<Event>
-    requires thread { thread < world.now.threads }
+    requires thread { thread < world.now.sizes.threads }
     requires keys { 0 < keys }
     ensures drawn { (result, R.stream rng.new) ≡ event_drawn world.now.state thread left keys (R.stream rng.old) }
     ensures event { MatchOption result (IsIdle world.now.state thread left) (IsNextEvent world.now.state thread left keys) }
@@ -86,7 +86,7 @@ fn next_event<M: Machine, R: Rng>(
 /// Makes an event that is enabled.
 fn make<M: Machine>(world: &mut World<M>, event: Event)
     requires enabled { Enabled world.old.state event }
-    requires threads { length world.old.state.locals ≡ world.old.threads }
+    requires threads { length world.old.state.locals ≡ world.old.sizes.threads }
     ensures { world.new ≡ record world.old { state = after M.table world.old.state event } }
 {
     let _told = world.step(event).unwrap();
@@ -100,7 +100,8 @@ fn generated_lines<M: Machine, R: Rng>(
     keys: u32,
     rng: &mut R,
 ) -> Result<Vec<Line>, AllocError>
-    requires { 0 < keys }
+    requires keys { 0 < keys }
+    requires empty { layout.opening ≡ 0 }
     ensures made { IfOk result (λ v. IsGenerated M.table layout.threads layout.quota calls keys v.items) }
     ensures few { IfOk result (λ v. length v.items ≤ MOST_GENERATED) }
     ensures drawn { IfOk result (λ v. AreDrawn M.table layout.threads keys MOST_TURNS
@@ -150,10 +151,7 @@ pub fn generate<M: Machine>(
     ensures accepted { IfOk result (λ _. IsAccepted threads quota keys) }
     ensures refused { IfErr result (Refuses threads quota keys) }
 {
-    let layout = layout(threads, quota)?;
-    if keys == 0 {
-        return Err(GenFault::Keys);
-    }
+    let layout = layout_to_draw(threads, quota, keys)?;
     let mut rng = Pcg32::seed_from_u64(seed);
     let lines = generated_lines::<M, Pcg32>(alloc, layout, calls, keys, &mut rng)?;
     let header = Header {

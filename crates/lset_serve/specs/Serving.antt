@@ -4,6 +4,7 @@ use Rattle.std.specs.Fmt.{decimal}
 use Rattle.std.specs.Io.KnownBytes.{Appends, Keeps}
 use Rattle.std.specs.List.{range_with_len}
 use Rattle.lset_words.specs.declared.TheConstants.{MOST_QUOTA, MOST_THREADS}
+use Rattle.lset_words.specs.Words.{empty}
 use Rattle.lset_text.specs.Parts.{line_of, text_of}
 use Rattle.lset_live.specs.Records.{fresh}
 use Rattle.lset_server.specs.Serving.{IsServed}
@@ -68,7 +69,7 @@ Announces (Err t) old new = (port : ℕ) × EndsServer t (first_line port) old n
 abbrev pub Answers : ServeRequest → AnswerValue → Type 0
 Answers request answer =
     (calls : ℕ) × (keys : List ℕ)
-    × IsServed (record { threads = request.seats; quota = request.quota }) (map fresh (range_with_len 0 request.seats)) calls keys
+    × IsServed (empty request.seats request.quota) (map fresh (range_with_len 0 request.seats)) calls keys
     × (answer ≡ record { text = served_text request.sessions calls keys; status = 0 })
 
 -- What is made, and what is written first; a wrong value is named, and nothing is written.

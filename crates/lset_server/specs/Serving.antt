@@ -5,7 +5,7 @@ use Rattle.lset_live.specs.Explained.{Explains}
 use Rattle.lset_live.specs.Seats.{gather_onto}
 use Rattle.lset_server.specs.declared.channel.Tally.{Tally}
 use Rattle.lset_server.specs.Tallies.{ReceivedOnce}
-use Rattle.lset_rule.specs.declared.view.Shape.{Shape}
+use Rattle.lset_words.specs.Words.{Opening, empty}
 
 -- each record, followed by calls
 abbrev pub followed : List Record → List (List CallMade) → List Record
@@ -15,7 +15,7 @@ followed (r ∷ rs) (cs ∷ more) = with_calls r cs ∷ followed rs more
 
 -- ONE LEGAL ORDER of the calls of these records and of further ones, so many in all, has no other call and leaves the keys.
 -- Each record is followed by calls of its own thread.
-pub record IsServed (k : Shape) (records : List Record) (calls : ℕ) (keys : List ℕ) : Type 0 where
+pub record IsServed (k : Opening) (records : List Record) (calls : ℕ) (keys : List ℕ) : Type 0 where
   pub added : List (List CallMade)
   pub each : length added ≡ length records
   pub count : calls ≡ sum_by (λ cs. length cs) added

@@ -4,7 +4,7 @@ use Rattle.std.specs.List.{sum_by}
 use Rattle.std.specs.Option.{IfSome}
 use Rattle.lset_words.specs.declared.history.Point.{Point}
 use Rattle.lset_lists.specs.Tables.{table_of}
-use Rattle.lset_schedule.specs.Plan.{Plan, event_count}
+use Rattle.lset_schedule.specs.Plan.{Plan, event_count, opening_in}
 use Rattle.lset_replay.specs.Events.{events_of, only_events}
 use Rattle.lset_replay.specs.PlacedReports.{ArePointsOf}
 use Rattle.lset_report.specs.Report.{ReportValue}
@@ -36,7 +36,7 @@ report_drawn p r points events e = ap (λ v. report_in v (run_drawn r points eve
 
 pub schedule_picture : (p : Plan) (r : ReportValue) (points : List Point) (events : ℕ)
     → IsReplay (table_of p.kind) p r → IsExplained r
-    → ArePointsOf (table_of p.kind) p.threads p.quota (only_events (events_of p)) r.history.calls r.order points
+    → ArePointsOf (table_of p.kind) (opening_in p) (only_events (events_of p)) r.history.calls r.order points
     → events ≡ sum_by event_count p.lines → BarsAreApart r.history.calls → IsPictureOfSchedule p (run_drawn r points events)
 schedule_picture p r points events replay explained are counted apart =
     let drawn = report_drawn p r points events replay.version_is in record {

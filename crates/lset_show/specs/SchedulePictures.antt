@@ -2,7 +2,7 @@
 use Rattle.std.specs.Prelude.{◌≡◌, Some, None}
 use Rattle.std.specs.List.{sum_by}
 use Rattle.lset_lists.specs.Tables.{table_of}
-use Rattle.lset_schedule.specs.Plan.{Plan, event_count}
+use Rattle.lset_schedule.specs.Plan.{Plan, event_count, opening_in}
 use Rattle.lset_replay.specs.Events.{events_of, only_events}
 use Rattle.lset_replay.specs.PlacedReports.{ArePointsOf}
 use Rattle.lset_replay.specs.Reports.{IsReplay, IsExplained}
@@ -16,7 +16,7 @@ pub record IsPictureOfSchedule (p : Plan) (v : PictureValue) : Type 0 where
   pub replay : IsReplay (table_of p.kind) p (report_in p.version v)
   pub explained : IsExplained (report_in p.version v)
   -- has the points at which the calls of the run stand,
-  pub points_are : ArePointsOf (table_of p.kind) p.threads p.quota (only_events (events_of p)) v.history.calls v.order v.points
+  pub points_are : ArePointsOf (table_of p.kind) (opening_in p) (only_events (events_of p)) v.history.calls v.order v.points
   pub events_are : v.events ≡ Some (sum_by event_count p.lines)
   -- tells no refusal,
   pub accepted : v.refusal ≡ None

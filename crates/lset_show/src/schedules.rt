@@ -43,7 +43,7 @@ fn events(schedule: &Schedule) -> u32
 pub fn picture_of_replay(alloc: Global, schedule: &Schedule) -> Result<Picture, ReplayFault>
     requires { IsSchedule (plan.view schedule.now) }
     ensures drawn { IfOk result (λ p. IsPictureOfSchedule (plan.view schedule.now) (view p)) }
-    ensures refused { IfErr result (IsRefusal (table_of schedule.now.kind) schedule.now.threads schedule.now.quota
+    ensures refused { IfErr result (IsRefusal (table_of schedule.now.kind) (plan.opening_in (plan.view schedule.now))
         (events_of (plan.view schedule.now))) }
 {
     let PlacedReport { report, points } = replay_with_points(alloc, schedule)?;

@@ -3,7 +3,7 @@ use Rattle.std.specs.Prelude.{◌≡◌, ◌≢◌, ℕ, ◌+◌, ◌/◌, ◌%�
 use Rattle.std.proofs.Common.{arith, inl, inr, sym, ◌∙◌, ap, subst, zero, suc, get_or-set_other, get_or-set_same, length-set}
 use Rattle.std.proofs.lemmas.List.FromFn.{get_or-map-range_with_len, length-map-range_with_len}
 use Rattle.lset_words.proofs.Numbers.{same_or_not, equal_test, unequal_test}
-use Rattle.lset_words.specs.Words.{tail_word, word_count, node_count, link_index, target}
+use Rattle.lset_words.specs.Words.{tail_word, IsWithin, Opens, target, Sizes, Opening, sizes}
 use Rattle.lset_words.specs.declared.Call.{Call}
 use Rattle.lset_words.specs.declared.Key.{Key}
 use Rattle.lset_words.specs.declared.Reply.{Reply}
@@ -11,7 +11,7 @@ use Rattle.lset_steps.specs.declared.Local.{Local}
 use Rattle.lset_steps.specs.declared.Action.{Action}
 use Rattle.lset_steps.specs.declared.Event.{Event}
 use Rattle.lset_steps.specs.declared.Event.TheVariants.{Begin, Go}
-use Rattle.lset_steps.specs.Steps.{log_of, entry_of, Table, State, opening, opening_word, idle, local_of, after, left_by, seen_by, seen_next, Enabled, Limits, Run, state_at}
+use Rattle.lset_steps.specs.Steps.{log_of, entry_of, Table, State, opening, opening_word, idle, local_of, after, left_by, seen_by, seen_next, Enabled, Run, state_at}
 use Rattle.lset_words.specs.Log.{is_change, begun_at, has_changed, begun_after, changed_after}
 use Rattle.lset_steps.specs.Chain.{View, view, Published, InChain, IsOrdered, UnmarkedInChain, Changed, UnlinkedStays, node_key, node_link, contents_of, counts_of}
 use Rattle.lset_steps.proofs.Moves.{Move, KeepsNodes, KeepsMarked, Course}
@@ -21,27 +21,28 @@ use Rattle.lset_words.specs.Account.{MayChange, count_after}
 use Rattle.lset_steps.proofs.Memory.{WordStep, Memory, moved, left_is, named_in, lock_use, mine_counted, others_counted, goes_on, memory_after, inside}
 use Rattle.lset_steps.proofs.MoveLaws.{move-changed, marked_stays, later_same, later_more}
 use Rattle.lset_steps.proofs.Hindsight.{hindsight}
+use Rattle.lset_steps.proofs.Openings.{opening_local, none_used, opening_ordered, opening_memory}
 
 -- what a machine says of a thread at a moment: quota, thread, past, first moment of the call, now, the memory now, whether it has
 -- changed, its own
 abbrev pub Outline : Type 1
 Outline = ℕ → ℕ → (ℕ → View) → ℕ → ℕ → View → Bool → Local → Type 0
 
-pub record Here (marks : Bool) (n q : ℕ) (vs : ℕ → View) (now : ℕ) (ws : List ℕ) (used : ℕ → ℕ) : Type 1 where
-  pub limits : Limits n q
-  pub memory : Memory marks n q ws used
+pub record Here (marks : Bool) (sz : Sizes) (vs : ℕ → View) (now : ℕ) (ws : List ℕ) (used : ℕ → ℕ) : Type 1 where
+  pub limits : IsWithin sz
+  pub memory : Memory marks sz ws used
   pub course : Course vs now
-  pub present : vs now ≡ view n q ws used
+  pub present : vs now ≡ view sz ws used
 
-pub record Thread (At : Outline) (n q t : ℕ) (vs : ℕ → View) (first now : ℕ) (ws : List ℕ) (used : ℕ → ℕ)
+pub record Thread (At : Outline) (sz : Sizes) (t : ℕ) (vs : ℕ → View) (first now : ℕ) (ws : List ℕ) (used : ℕ → ℕ)
     (done : Bool) (l : Local) : Type 0 where
-  pub registers : Registers n q t l
+  pub registers : Registers sz t l
   pub counts : l.used ≡ used t
   pub begun : first ≤ now
-  pub at : At q t vs first now (view n q ws used) done l
+  pub at : At sz.quota t vs first now (view sz ws used) done l
 
 -- what one step of thread t with l does
-pub record StepOf (T : Table) (marks : Bool) (At : Outline) (n q t : ℕ) (vs : ℕ → View) (first : ℕ → ℕ) (now : ℕ)
+pub record StepOf (T : Table) (marks : Bool) (At : Outline) (sz : Sizes) (t : ℕ) (vs : ℕ → View) (first : ℕ → ℕ) (now : ℕ)
     (ws : List ℕ) (used : ℕ → ℕ) (done : ℕ → Bool) (locals : ℕ → Local) : Type 0 where
   pub action : Action
   pub words' : List ℕ
@@ -52,115 +53,29 @@ pub record StepOf (T : Table) (marks : Bool) (At : Outline) (n q t : ℕ) (vs : 
   pub acts : T.next (locals t) ≡ action
   pub feeds : T.feed (locals t) (seen_by ws action) ≡ record { local = local'; answer = answer }
   pub tells : T.effect (locals t) (seen_by ws action) ≡ effect
-  pub change : WordStep marks n q t ws used action words' used' effect
-  pub registers : Registers n q t local'
+  pub change : WordStep marks sz t ws used action words' used' effect
+  pub registers : Registers sz t local'
   pub same_call : local'.call ≡ (locals t).call
   pub counts : local'.used ≡ used' t
-  pub by_call : MayChange q (used t) (locals t).call (done t) effect
-  pub answered : Answered (done t || is_change effect) q vs (first t) now t (locals t).call local'.pc answer
-  pub own : At q t vs (first t) (suc now) (view n q words' used') (done t || is_change effect) local'
-  pub others : (u : ℕ) → u < n → u ≢ t → At q u vs (first u) (suc now) (view n q words' used') (done u) (locals u)
+  pub by_call : MayChange sz.quota (used t) (locals t).call (done t) effect
+  pub answered : Answered (done t || is_change effect) sz.quota vs (first t) now t (locals t).call local'.pc answer
+  pub own : At sz.quota t vs (first t) (suc now) (view sz words' used') (done t || is_change effect) local'
+  pub others : (u : ℕ) → u < sz.threads → u ≢ t → At sz.quota u vs (first u) (suc now) (view sz words' used') (done u) (locals u)
 
 pub record Discipline (T : Table) (marks : Bool) (At : Outline) : Type 1 where
   pub idle_at : (q t : ℕ) (vs : ℕ → View) (v : View) → At q t vs 0 0 v false (idle q t)
   pub begun : (call : Call) (l : Local) → BeginLaws T.begin call l
-  pub begin_registers : (n q t : ℕ) (call : Call) (l : Local) → target call < tail_word → Registers n q t l
-      → Registers n q t (T.begin call l)
+  pub begin_registers : (sz : Sizes) (t : ℕ) (call : Call) (l : Local) → target call < tail_word → Registers sz t l
+      → Registers sz t (T.begin call l)
   pub begins : (q t : ℕ) (vs : ℕ → View) (now : ℕ) (v : View) (call : Call) (l : Local) → vs now ≡ v → IsOrdered v
       → v.key 0 ≡ 0 → At q t vs now now v false (T.begin call l)
   pub waits : (q t : ℕ) (vs : ℕ → View) (first now : ℕ) (v : View) (done : Bool) (l : Local) → vs now ≡ v
       → At q t vs first now v done l → At q t vs first (suc now) v done l
-  pub goes : (n q t : ℕ) (vs : ℕ → View) (first : ℕ → ℕ) (now : ℕ) (ws : List ℕ) (used : ℕ → ℕ) (done : ℕ → Bool)
+  pub goes : (sz : Sizes) (t : ℕ) (vs : ℕ → View) (first : ℕ → ℕ) (now : ℕ) (ws : List ℕ) (used : ℕ → ℕ) (done : ℕ → Bool)
       (locals : ℕ → Local)
-      → Here marks n q vs now ws used
-      → ((u : ℕ) → u < n → Thread At n q u vs (first u) now ws used (done u) (locals u)) → t < n → (locals t).pc ≢ 0
-      → StepOf T marks At n q t vs first now ws used done locals
-
--- THE OPENING
-opening_at : (n q i : ℕ) → i < word_count n q → slice_index (opening n q).words i ≡ opening_word n q i
-opening_at n q i h = get_or-map-range_with_len (opening_word n q) 0 (word_count n q) i i 0 h (omega arith)
-
-opening_local : (n q t : ℕ) → t < n → local_of (opening n q) t ≡ idle q t
-opening_local n q t h = get_or-map-range_with_len (idle q) 0 n t t (idle 0 0) h (omega arith)
-
-module _ (n q : ℕ) where
-  none_used : (t : ℕ) → t < n → used_in (opening n q) t ≡ 0
-  none_used t h = ap (λ (l : Local). l.used) (opening_local n q t h)
-
-  only_two : (i : ℕ) → Published n q (used_in (opening n q)) i → (i ≡ 0) ⊎ (i ≡ 1)
-  only_two i (inl l) = grind arith
-  only_two i (inr p) = absurd (let l : p.1 < used_in (opening n q) p.0 = p.3 in
-      let z : used_in (opening n q) p.0 ≡ 0 = none_used p.0 p.2 in omega arith)
-
-  at_ends : (P : ℕ → Type 0) → P 0 → P 1 → (i : ℕ) → Published n q (used_in (opening n q)) i → P i
-  at_ends P a b i m = elim (only_two i m) [ inl e ↦ subst P (sym e) a | inr e ↦ subst P (sym e) b ]
-
-  k0 : node_key (opening n q).words 0 ≡ 0
-  k0 = opening_at n q 3 (omega arith)
-
-  l0 : node_link (opening n q).words 0 ≡ 2
-  l0 = opening_at n q 4 (omega arith)
-
-  k1 : node_key (opening n q).words 1 ≡ tail_word
-  k1 = opening_at n q 6 (omega arith)
-
-  l1 : node_link (opening n q).words 1 ≡ 2
-  l1 = opening_at n q 7 (omega arith)
-
-  head_next : node_link (opening n q).words 0 / 2 ≡ 1
-  head_next = let z : node_link (opening n q).words 0 ≡ 2 = l0 in omega arith
-
-  opening_ordered : IsOrdered (view_of n q (opening n q))
-  opening_ordered = record {
-    head_published = inl (omega arith);
-    tail_published = inl (omega arith);
-    top = λ i m. at_ends (λ x. node_key (opening n q).words x ≤ node_key (opening n q).words 1)
-        (rw (k0, k1) (omega arith)) (omega arith) i m;
-    next_published = λ i m d. inl (elim (only_two i m) [
-      | inl e ↦ (let z : node_link (opening n q).words i / 2 ≡ node_link (opening n q).words 0 / 2 =
-          ap (λ x. node_link (opening n q).words x / 2) e in
-          let y : node_link (opening n q).words 0 / 2 ≡ 1 = head_next in omega arith)
-      | inr e ↦ absurd (d e)
-    ]);
-    rises = λ i m d. elim (only_two i m) [
-      | inl e ↦ subst (λ x. node_key (opening n q).words x < node_key (opening n q).words
-          (node_link (opening n q).words x / 2)) (sym e) (rw (head_next, k0, k1) (omega arith))
-      | inr e ↦ absurd (d e)
-    ];
-  }
-
-  opening_marked : (marks : Bool) → UnmarkedInChain marks (view_of n q (opening n q))
-  opening_marked true = λ i m e. at_ends (λ x. InChain (view_of n q (opening n q)) x) ([], refl)
-      (0 ∷ [], (refl, (λ (x : 0 ≡ 1). absurd (cc)), head_next)) i m
-  opening_marked false = λ i m. at_ends (λ x. node_link (opening n q).words x % 2 ≡ 0) (rw l0 refl) (rw l1 refl) i m
-
-  opening_unmarked : (i : ℕ) → i < node_count n q → node_link (opening n q).words i % 2 ≡ 0
-  opening_unmarked i l = rw (opening_at n q (link_index i) (omega arith)) (elim (same_or_not i 0) [
-    | inl e ↦ rw e refl
-    | inr d ↦ elim (same_or_not i 1) [ inl e ↦ rw e refl | inr f ↦ even_word i d f ]
-  ])
-    where
-      even_word : (i : ℕ) → i ≢ 0 → i ≢ 1 → opening_word n q (link_index i) % 2 ≡ 0
-      even_word i d f =
-          rw (
-            unequal_test (link_index i) 1 (λ e. omega arith),
-            unequal_test (link_index i) 2 (λ e. omega arith),
-            unequal_test (link_index i) 4 (λ e. d (omega arith)),
-            unequal_test (link_index i) 6 (λ e. omega arith),
-            unequal_test (link_index i) 7 (λ e. f (omega arith)),
-          ) refl
-
-  opening_memory : (marks : Bool) → Memory marks n q (opening n q).words (used_in (opening n q))
-  opening_memory marks = record {
-    words = length-map-range_with_len (opening_word n q) 0 (word_count n q);
-    room = λ t h. (let z : used_in (opening n q) t ≡ 0 = none_used t h in omega arith);
-    ordered = opening_ordered;
-    head_key = k0;
-    tail_key = k1;
-    tail_link = l1;
-    marked = opening_marked marks;
-    unmarked = λ bare i l. opening_unmarked i l;
-  }
+      → Here marks sz vs now ws used
+      → ((u : ℕ) → u < sz.threads → Thread At sz u vs (first u) now ws used (done u) (locals u)) → t < sz.threads → (locals t).pc ≢ 0
+      → StepOf T marks At sz t vs first now ws used done locals
 
 -- THE COURSE of a run goes on
 course_more : (vs : ℕ → View) (s : ℕ) → Course vs s → KeepsNodes (vs s) (vs (suc s)) → KeepsMarked (vs s) (vs (suc s))
@@ -212,24 +127,24 @@ pick_not : {A : Type 0} (b : Bool) (x y : A) → b ≡ false → (if b then x el
 pick_not b x y e = rw e refl
 
 -- THE INVARIANT at moment k
-pub record Inv (marks : Bool) (At : Outline) (n q : ℕ) (vs : ℕ → View) (k : ℕ) (s : State) (first : ℕ → ℕ)
+pub record Inv (marks : Bool) (At : Outline) (sz : Sizes) (vs : ℕ → View) (k : ℕ) (s : State) (first : ℕ → ℕ)
     (done : ℕ → Bool) : Type 1 where
-  pub memory : Memory marks n q s.words (used_in s)
-  pub locals : length s.locals ≡ n
+  pub memory : Memory marks sz s.words (used_in s)
+  pub locals : length s.locals ≡ sz.threads
   pub course : Course vs k
-  pub present : vs k ≡ view_of n q s
-  pub threads : (u : ℕ) → u < n → Thread At n q u vs (first u) k s.words (used_in s) (done u) (local_of s u)
+  pub present : vs k ≡ view_of sz s
+  pub threads : (u : ℕ) → u < sz.threads → Thread At sz u vs (first u) k s.words (used_in s) (done u) (local_of s u)
 
-module _ (T : Table) (marks : Bool) (At : Outline) (d : Discipline T marks At) (n q : ℕ) (lim : Limits n q) (vs : ℕ → View) where
+module _ (T : Table) (marks : Bool) (At : Outline) (d : Discipline T marks At) (op : Opening) (lim : Opens op) (vs : ℕ → View) where
   thread_to : (u k : ℕ) {ws ws' : List ℕ} {used used' : ℕ → ℕ} {f f' : ℕ} {b b' : Bool} {l l' : Local} → ws' ≡ ws
       → used' ≡ used → f' ≡ f → b' ≡ b → l' ≡ l
-      → Thread At n q u vs f k ws used b l → Thread At n q u vs f' k ws' used' b' l'
+      → Thread At (sizes op) u vs f k ws used b l → Thread At (sizes op) u vs f' k ws' used' b' l'
   thread_to u k {ws} {ws'} {used} {used'} {f} {f'} {b} {b'} {l} {l'} e1 e2 e3 e4 e5 h =
-      subst (λ x. Thread At n q u vs f' k x used' b' l') (sym e1)
-      (subst (λ x. Thread At n q u vs f' k ws x b' l') (sym e2)
-      (subst (λ x. Thread At n q u vs x k ws used b' l') (sym e3)
-      (subst (λ x. Thread At n q u vs f k ws used x l') (sym e4)
-      (subst (λ x. Thread At n q u vs f k ws used b x) (sym e5) h))))
+      subst (λ x. Thread At (sizes op) u vs f' k x used' b' l') (sym e1)
+      (subst (λ x. Thread At (sizes op) u vs f' k ws x b' l') (sym e2)
+      (subst (λ x. Thread At (sizes op) u vs x k ws used b' l') (sym e3)
+      (subst (λ x. Thread At (sizes op) u vs f k ws used x l') (sym e4)
+      (subst (λ x. Thread At (sizes op) u vs f k ws used b x) (sym e5) h))))
 
   put_same : (s : State) (t : ℕ) (l : Local) → t < length s.locals → slice_index_or (slice_set s.locals t l) t (idle 0 0) ≡ l
   put_same s t l h = get_or-set_same s.locals t l (idle 0 0) h
@@ -237,15 +152,15 @@ module _ (T : Table) (marks : Bool) (At : Outline) (d : Discipline T marks At) (
   put_other : (s : State) (t u : ℕ) (l : Local) → u ≢ t → slice_index_or (slice_set s.locals t l) u (idle 0 0) ≡ local_of s u
   put_other s t u l h = get_or-set_other s.locals t u l (idle 0 0) h
 
-  opens : vs 0 ≡ view_of n q (opening n q) → Inv marks At n q vs 0 (opening n q) (λ u. 0) (λ u. false)
+  opens : vs 0 ≡ view_of (sizes op) (opening op) → Inv marks At (sizes op) vs 0 (opening op) (λ u. 0) (λ u. false)
   opens e = record {
-    memory = opening_memory n q marks;
-    locals = length-map-range_with_len (idle q) 0 n;
-    course = course_zero vs (rw e (opening_ordered n q));
+    memory = opening_memory op lim marks;
+    locals = length-map-range_with_len (idle op.quota) 0 op.threads;
+    course = course_zero vs (rw e (opening_ordered op lim));
     present = e;
     threads = λ u h.
-        let l : local_of (opening n q) u ≡ idle q u = opening_local n q u h in
-        let z : used_in (opening n q) u ≡ 0 = none_used n q u h in
+        let l : local_of (opening op) u ≡ idle op.quota u = opening_local op u h in
+        let z : used_in (opening op) u ≡ 0 = none_used op u h in
         thread_to u 0 refl refl refl refl l (record {
           registers = record {
             thread = refl;
@@ -261,49 +176,49 @@ module _ (T : Table) (marks : Bool) (At : Outline) (d : Discipline T marks At) (
           };
           counts = sym z;
           begun = omega arith;
-          at = d.idle_at q u vs (view_of n q (opening n q));
+          at = d.idle_at op.quota u vs (view_of (sizes op) (opening op));
         });
   }
 
   begin_step : (k : ℕ) (s : State) (first : ℕ → ℕ) (done : ℕ → Bool) (t : ℕ) (call : Call)
-      → Inv marks At n q vs k s first done → Enabled s (Begin t call)
-      → vs (suc k) ≡ view_of n q (after T s (Begin t call))
-      → Inv marks At n q vs (suc k) (after T s (Begin t call)) (λ u. if t == u then suc k else first u)
+      → Inv marks At (sizes op) vs k s first done → Enabled s (Begin t call)
+      → vs (suc k) ≡ view_of (sizes op) (after T s (Begin t call))
+      → Inv marks At (sizes op) vs (suc k) (after T s (Begin t call)) (λ u. if t == u then suc k else first u)
       (λ u. if t == u then false else done u)
   begin_step k s first done t call i en e =
       let l' : Local = T.begin call (local_of s t) in
       let s' : State = after T s (Begin t call) in
       let used_is : used_in s' ≡ used_in s = λ j u. same_used u j in
-      let view_is : view_of n q s' ≡ view_of n q s = ap (λ f. view n q s.words f) used_is in
+      let view_is : view_of (sizes op) s' ≡ view_of (sizes op) s = ap (λ f. view (sizes op) s.words f) used_is in
       let now_is : vs (suc k) ≡ vs k = e ∙ view_is ∙ sym i.present in
-      let th : t < n = rw i.locals at en.0 in
+      let th : t < op.threads = rw i.locals at en.0 in
       record {
-        memory = subst (λ f. Memory marks n q s.words f) (sym used_is) i.memory;
+        memory = subst (λ f. Memory marks (sizes op) s.words f) (sym used_is) i.memory;
         locals = length-set s.locals t l' ∙ i.locals;
         course = course_more vs k i.course (subst (λ x. KeepsNodes (vs k) x) (sym now_is) (goes_same (vs k)))
             (λ b p o. ap (λ x. x.link b) now_is) (subst (λ x. IsOrdered x) (sym now_is) (i.course.ordered k (omega arith)));
         present = e;
         threads = λ u h. elim (same_or_not u t) [
-          | inl y ↦ (let x : Thread At n q t vs (first t) k s.words (used_in s) (done t) (local_of s t) = i.threads t th in
-              let at_t : Thread At n q t vs (suc k) (suc k) s.words (used_in s) false l' = record {
-                registers = d.begin_registers n q t call (local_of s t) en.2 x.registers;
+          | inl y ↦ (let x : Thread At (sizes op) t vs (first t) k s.words (used_in s) (done t) (local_of s t) = i.threads t th in
+              let at_t : Thread At (sizes op) t vs (suc k) (suc k) s.words (used_in s) false l' = record {
+                registers = d.begin_registers (sizes op) t call (local_of s t) en.2 x.registers;
                 counts = (d.begun call (local_of s t)).used ∙ x.counts;
                 begun = omega arith;
-                at = d.begins q t vs (suc k) (view n q s.words (used_in s)) call (local_of s t) (e ∙ view_is)
+                at = d.begins op.quota t vs (suc k) (view (sizes op) s.words (used_in s)) call (local_of s t) (e ∙ view_is)
                     i.memory.ordered i.memory.head_key;
               } in
-              subst (λ z. Thread At n q z vs (if t == z then suc k else first z) (suc k) s'.words (used_in s')
+              subst (λ z. Thread At (sizes op) z vs (if t == z then suc k else first z) (suc k) s'.words (used_in s')
               (if t == z then false else done z) (local_of s' z)) (sym y)
               (thread_to t (suc k) refl used_is (pick_yes (t == t) (suc k) (first t) (equal_test t t refl))
               (pick_yes (t == t) false (done t) (equal_test t t refl)) (put_same s t l' en.0) at_t))
-          | inr y ↦ (let x : Thread At n q u vs (first u) k s.words (used_in s) (done u) (local_of s u) = i.threads u h in
+          | inr y ↦ (let x : Thread At (sizes op) u vs (first u) k s.words (used_in s) (done u) (local_of s u) = i.threads u h in
               let f : (t == u) ≡ false = unequal_test t u (λ z. y (sym z)) in
               thread_to u (suc k) refl used_is (pick_not (t == u) (suc k) (first u) f)
               (pick_not (t == u) false (done u) f) (put_other s t u l' y) (record {
                 registers = x.registers;
                 counts = x.counts;
                 begun = (let b : first u ≤ k = x.begun in omega arith);
-                at = d.waits q u vs (first u) k (view n q s.words (used_in s)) (done u) (local_of s u) i.present x.at;
+                at = d.waits op.quota u vs (first u) k (view (sizes op) s.words (used_in s)) (done u) (local_of s u) i.present x.at;
               }))
         ];
       }
@@ -315,16 +230,16 @@ module _ (T : Table) (marks : Bool) (At : Outline) (d : Discipline T marks At) (
         | inr y ↦ ap (λ (l : Local). l.used) (put_other s t u (T.begin call (local_of s t)) y)
       ]
 
-  moves : (k : ℕ) (s : State) (first : ℕ → ℕ) (done : ℕ → Bool) (t : ℕ) → Inv marks At n q vs k s first done → Enabled s (Go t)
-      → StepOf T marks At n q t vs first k s.words (used_in s) done (local_of s)
-  moves k s first done t i en = d.goes n q t vs first k s.words (used_in s) done (local_of s)
-      (record { limits = lim; memory = i.memory; course = i.course; present = i.present }) i.threads (rw i.locals at en.0) en.1
+  moves : (k : ℕ) (s : State) (first : ℕ → ℕ) (done : ℕ → Bool) (t : ℕ) → Inv marks At (sizes op) vs k s first done → Enabled s (Go t)
+      → StepOf T marks At (sizes op) t vs first k s.words (used_in s) done (local_of s)
+  moves k s first done t i en = d.goes (sizes op) t vs first k s.words (used_in s) done (local_of s)
+      (record { limits = lim.within; memory = i.memory; course = i.course; present = i.present }) i.threads (rw i.locals at en.0) en.1
 
   -- the state after a step
-  module _ (k : ℕ) (s : State) (first : ℕ → ℕ) (done : ℕ → Bool) (t : ℕ) (i : Inv marks At n q vs k s first done)
+  module _ (k : ℕ) (s : State) (first : ℕ → ℕ) (done : ℕ → Bool) (t : ℕ) (i : Inv marks At (sizes op) vs k s first done)
       (en : Enabled s (Go t))
-      (m : StepOf T marks At n q t vs first k s.words (used_in s) done (local_of s)) where
-    th : t < n
+      (m : StepOf T marks At (sizes op) t vs first k s.words (used_in s) done (local_of s)) where
+    th : t < op.threads
     th = rw i.locals at en.0
 
     sees : seen_next T s t ≡ seen_by s.words m.action
@@ -338,7 +253,7 @@ module _ (T : Table) (marks : Bool) (At : Outline) (d : Discipline T marks At) (
 
     words_are : (after T s (Go t)).words ≡ m.words'
     words_are = ap (λ a. left_by s.words a) m.acts
-        ∙ left_is marks n q s.words (used_in s) i.memory t th m.action m.words' m.used' m.effect m.change
+        ∙ left_is marks (sizes op) s.words (used_in s) i.memory t th m.action m.words' m.used' m.effect m.change
 
     local_is : local_of (after T s (Go t)) t ≡ m.local'
     local_is = put_same s t (T.feed (local_of s t) (seen_next T s t)).local en.0 ∙ ap (λ f. f.local) fed
@@ -350,55 +265,55 @@ module _ (T : Table) (marks : Bool) (At : Outline) (d : Discipline T marks At) (
     used_at u = elim (same_or_not u t) [
       | inl y ↦ subst (λ z. used_in (after T s (Go t)) z ≡ m.used' z) (sym y) (ap (λ (l : Local). l.used) local_is ∙ m.counts)
       | inr y ↦ ap (λ (l : Local). l.used) (local_other u y)
-          ∙ sym (others_counted marks n q s.words (used_in s) i.memory t th u y m.action m.words' m.used' m.effect m.change)
+          ∙ sym (others_counted marks (sizes op) s.words (used_in s) i.memory t th u y m.action m.words' m.used' m.effect m.change)
     ]
 
     used_is : used_in (after T s (Go t)) ≡ m.used'
     used_is = λ j u. used_at u j
 
-    view_is : view_of n q (after T s (Go t)) ≡ view n q m.words' m.used'
-    view_is = ap (λ x. view n q x (used_in (after T s (Go t)))) words_are ∙ ap (λ f. view n q m.words' f) used_is
+    view_is : view_of (sizes op) (after T s (Go t)) ≡ view (sizes op) m.words' m.used'
+    view_is = ap (λ x. view (sizes op) x (used_in (after T s (Go t)))) words_are ∙ ap (λ f. view (sizes op) m.words' f) used_is
 
-    memory' : Memory marks n q m.words' m.used'
-    memory' = memory_after marks n q s.words (used_in s) i.memory t th m.action m.words' m.used' m.effect m.change
+    memory' : Memory marks (sizes op) m.words' m.used'
+    memory' = memory_after marks (sizes op) s.words (used_in s) i.memory t th m.action m.words' m.used' m.effect m.change
 
-    move' : Move marks (view_of n q s) (view n q m.words' m.used') m.effect
-    move' = moved marks n q s.words (used_in s) i.memory t th m.action m.words' m.used' m.effect m.change
+    move' : Move marks (view_of (sizes op) s) (view (sizes op) m.words' m.used') m.effect
+    move' = moved marks (sizes op) s.words (used_in s) i.memory t th m.action m.words' m.used' m.effect m.change
 
-    go_step : vs (suc k) ≡ view_of n q (after T s (Go t))
-        → Inv marks At n q vs (suc k) (after T s (Go t)) first
+    go_step : vs (suc k) ≡ view_of (sizes op) (after T s (Go t))
+        → Inv marks At (sizes op) vs (suc k) (after T s (Go t)) first
         (λ u. if t == u then done u || is_change (T.effect (local_of s t) (seen_next T s t)) else done u)
     go_step e =
-        let now_is : vs (suc k) ≡ view n q m.words' m.used' = e ∙ view_is in
-        let g : KeepsNodes (view_of n q s) (view n q m.words' m.used') =
-        goes_on marks n q s.words (used_in s) i.memory t th m.action m.words' m.used' m.effect m.change in
+        let now_is : vs (suc k) ≡ view (sizes op) m.words' m.used' = e ∙ view_is in
+        let g : KeepsNodes (view_of (sizes op) s) (view (sizes op) m.words' m.used') =
+        goes_on marks (sizes op) s.words (used_in s) i.memory t th m.action m.words' m.used' m.effect m.change in
         record {
-          memory = subst (λ x. Memory marks n q x (used_in (after T s (Go t)))) (sym words_are)
-              (subst (λ f. Memory marks n q m.words' f) (sym used_is) memory');
+          memory = subst (λ x. Memory marks (sizes op) x (used_in (after T s (Go t)))) (sym words_are)
+              (subst (λ f. Memory marks (sizes op) m.words' f) (sym used_is) memory');
           locals = length-set s.locals t (T.feed (local_of s t) (seen_next T s t)).local ∙ i.locals;
           course = course_more vs k i.course (subst (λ x. KeepsNodes x (vs (suc k))) (sym i.present)
-              (subst (λ x. KeepsNodes (view_of n q s) x) (sym now_is) g))
-              (subst (λ x. KeepsMarked x (vs (suc k))) (sym i.present) (subst (λ x. KeepsMarked (view_of n q s) x) (sym now_is)
-              (marked_stays marks (view_of n q s) (view n q m.words' m.used') i.memory.ordered m.effect move')))
+              (subst (λ x. KeepsNodes (view_of (sizes op) s) x) (sym now_is) g))
+              (subst (λ x. KeepsMarked x (vs (suc k))) (sym i.present) (subst (λ x. KeepsMarked (view_of (sizes op) s) x) (sym now_is)
+              (marked_stays marks (view_of (sizes op) s) (view (sizes op) m.words' m.used') i.memory.ordered m.effect move')))
               (subst (λ x. IsOrdered x) (sym now_is) memory'.ordered);
           present = e;
           threads = λ u h. elim (same_or_not u t) [
-            | inl y ↦ (let x : Thread At n q t vs (first t) k s.words (used_in s) (done t) (local_of s t) = i.threads t th in
-                let at_t : Thread At n q t vs (first t) (suc k) m.words' m.used' (done t || is_change m.effect)
+            | inl y ↦ (let x : Thread At (sizes op) t vs (first t) k s.words (used_in s) (done t) (local_of s t) = i.threads t th in
+                let at_t : Thread At (sizes op) t vs (first t) (suc k) m.words' m.used' (done t || is_change m.effect)
                 m.local' = record {
                   registers = m.registers;
                   counts = m.counts;
                   begun = (let b : first t ≤ k = x.begun in omega arith);
                   at = m.own;
                 } in
-                subst (λ z. Thread At n q z vs (first z) (suc k) (after T s (Go t)).words (used_in (after T s (Go t)))
+                subst (λ z. Thread At (sizes op) z vs (first z) (suc k) (after T s (Go t)).words (used_in (after T s (Go t)))
                 (if t == z then done z || is_change (T.effect (local_of s t) (seen_next T s t)) else done z)
                 (local_of (after T s (Go t)) z)) (sym y)
                 (thread_to t (suc k) words_are used_is refl
                 (pick_yes (t == t) (done t || is_change (T.effect (local_of s t) (seen_next T s t))) (done t)
                 (equal_test t t refl) ∙ ap (λ c. done t || is_change c) told_is) local_is at_t))
-            | inr y ↦ (let x : Thread At n q u vs (first u) k s.words (used_in s) (done u) (local_of s u) = i.threads u h in
-                let c : m.used' u ≡ used_in s u = others_counted marks n q s.words (used_in s) i.memory t th u y
+            | inr y ↦ (let x : Thread At (sizes op) u vs (first u) k s.words (used_in s) (done u) (local_of s u) = i.threads u h in
+                let c : m.used' u ≡ used_in s u = others_counted marks (sizes op) s.words (used_in s) i.memory t th u y
                 m.action m.words' m.used' m.effect m.change in
                 thread_to u (suc k) words_are used_is refl
                 (pick_not (t == u) (done u || is_change (T.effect (local_of s t) (seen_next T s t))) (done u)
@@ -411,77 +326,77 @@ module _ (T : Table) (marks : Bool) (At : Outline) (d : Discipline T marks At) (
           ];
         }
 
-    pub stepped_by : (es : ℕ → Event) → vs ≡ views T n q es → state_at T n q es k ≡ s → es k ≡ Go t
-        → first t ≡ begun_at (log_of T n q es) t k → done t ≡ has_changed (log_of T n q es) t k
-        → StepLaws T n q es k t s (local_of s t) (T.effect (local_of s t) (seen_next T s t))
+    pub stepped_by : (es : ℕ → Event) → vs ≡ views T op es → state_at T op es k ≡ s → es k ≡ Go t
+        → first t ≡ begun_at (log_of T op es) t k → done t ≡ has_changed (log_of T op es) t k
+        → StepLaws T op es k t s (local_of s t) (T.effect (local_of s t) (seen_next T s t))
     stepped_by es ve se ee fe de =
-        let x : Thread At n q t vs (first t) k s.words (used_in s) (done t) (local_of s t) = i.threads t th in
-        let now_is : views T n q es (suc k) ≡ view n q m.words' m.used' = ap (λ z. view_of n q (after T z (es k))) se
-        ∙ ap (λ z. view_of n q (after T s z)) ee ∙ view_is in
-        let was : views T n q es k ≡ view_of n q s = ap (λ z. view_of n q z) se in
-        let first_is : begun_at (log_of T n q es) t (suc k) ≡ first t = rw ee (sym fe) in
-        let done_is : has_changed (log_of T n q es) t (suc k) ≡ (done t || is_change m.effect) =
-        rw (ee, se) (pick_yes (t == t) (has_changed (log_of T n q es) t k || is_change
-        (T.effect (local_of s t) (seen_next T s t))) (has_changed (log_of T n q es) t k) (equal_test t t refl)
-        ∙ ap (λ c. has_changed (log_of T n q es) t k || is_change c) told_is ∙ ap (λ b. b || is_change m.effect) (sym de)) in
+        let x : Thread At (sizes op) t vs (first t) k s.words (used_in s) (done t) (local_of s t) = i.threads t th in
+        let now_is : views T op es (suc k) ≡ view (sizes op) m.words' m.used' = ap (λ z. view_of (sizes op) (after T z (es k))) se
+        ∙ ap (λ z. view_of (sizes op) (after T s z)) ee ∙ view_is in
+        let was : views T op es k ≡ view_of (sizes op) s = ap (λ z. view_of (sizes op) z) se in
+        let first_is : begun_at (log_of T op es) t (suc k) ≡ first t = rw ee (sym fe) in
+        let done_is : has_changed (log_of T op es) t (suc k) ≡ (done t || is_change m.effect) =
+        rw (ee, se) (pick_yes (t == t) (has_changed (log_of T op es) t k || is_change
+        (T.effect (local_of s t) (seen_next T s t))) (has_changed (log_of T op es) t k) (equal_test t t refl)
+        ∙ ap (λ c. has_changed (log_of T op es) t k || is_change c) told_is ∙ ap (λ b. b || is_change m.effect) (sym de)) in
         record {
-          in_table = rw m.acts (named_in marks n q s.words (used_in s) i.memory t th m.action m.words' m.used' m.effect m.change);
-          lock_use = rw m.acts (lock_use marks n q s.words (used_in s) i.memory t th m.action m.words' m.used' m.effect m.change);
+          in_table = rw m.acts (named_in marks (sizes op) s.words (used_in s) i.memory t th m.action m.words' m.used' m.effect m.change);
+          lock_use = rw m.acts (lock_use marks (sizes op) s.words (used_in s) i.memory t th m.action m.words' m.used' m.effect m.change);
           same_call = ap (λ f. f.local.call) fed ∙ m.same_call;
-          content = subst (λ c. Changed c (views T n q es k) (views T n q es (suc k))) (sym told_is)
-              (subst (λ v. Changed m.effect v (views T n q es (suc k))) (sym was)
-              (subst (λ v. Changed m.effect (view_of n q s) v) (sym now_is)
-              (move-changed marks (view_of n q s) (view n q m.words' m.used') i.memory.ordered m.effect move')));
-          by_call = subst (λ c. MayChange q (local_of s t).used (local_of s t).call
-              (has_changed (log_of T n q es) t k) c) (sym told_is)
-              (subst (λ b. MayChange q (local_of s t).used (local_of s t).call b m.effect) de m.by_call);
+          content = subst (λ c. Changed c (views T op es k) (views T op es (suc k))) (sym told_is)
+              (subst (λ v. Changed m.effect v (views T op es (suc k))) (sym was)
+              (subst (λ v. Changed m.effect (view_of (sizes op) s) v) (sym now_is)
+              (move-changed marks (view_of (sizes op) s) (view (sizes op) m.words' m.used') i.memory.ordered m.effect move')));
+          by_call = subst (λ c. MayChange op.quota (local_of s t).used (local_of s t).call
+              (has_changed (log_of T op es) t k) c) (sym told_is)
+              (subst (λ b. MayChange op.quota (local_of s t).used (local_of s t).call b m.effect) de m.by_call);
           counts = ap (λ f. f.local.used) fed ∙ m.counts
-              ∙ mine_counted marks n q s.words (used_in s) i.memory t th m.action m.words' m.used' m.effect m.change
+              ∙ mine_counted marks (sizes op) s.words (used_in s) i.memory t th m.action m.words' m.used' m.effect m.change
               ∙ ap (λ c. count_after c (used_in s t)) (sym told_is);
-          answered = subst (λ f. Answered (has_changed (log_of T n q es) t (suc k)) q (views T n q es)
-              (begun_at (log_of T n q es) t (suc k)) (suc k) t (local_of s t).call f.local.pc f.answer) (sym fed)
-              (subst (λ b. Answered b q (views T n q es) (begun_at (log_of T n q es) t (suc k)) (suc k) t
+          answered = subst (λ f. Answered (has_changed (log_of T op es) t (suc k)) op.quota (views T op es)
+              (begun_at (log_of T op es) t (suc k)) (suc k) t (local_of s t).call f.local.pc f.answer) (sym fed)
+              (subst (λ b. Answered b op.quota (views T op es) (begun_at (log_of T op es) t (suc k)) (suc k) t
               (local_of s t).call m.local'.pc m.answer) (sym done_is)
-              (subst (λ b. Answered (done t || is_change m.effect) q (views T n q es) b (suc k) t (local_of s t).call
+              (subst (λ b. Answered (done t || is_change m.effect) op.quota (views T op es) b (suc k) t (local_of s t).call
               m.local'.pc m.answer) (sym first_is)
-              (subst (λ w. Answered (done t || is_change m.effect) q w (first t) (suc k) t (local_of s t).call
+              (subst (λ w. Answered (done t || is_change m.effect) op.quota w (first t) (suc k) t (local_of s t).call
               m.local'.pc m.answer) ve
-              (answered_on (done t || is_change m.effect) q vs (first t) k t (local_of s t).call m.local'.pc m.answer
+              (answered_on (done t || is_change m.effect) op.quota vs (first t) k t (local_of s t).call m.local'.pc m.answer
               m.answered))));
         }
 
 -- THE LAWS
-module _ (T : Table) (marks : Bool) (At : Outline) (d : Discipline T marks At) (n q : ℕ) (es : ℕ → Event) (last : ℕ)
-    (r : Run T n q es last) where
+module _ (T : Table) (marks : Bool) (At : Outline) (d : Discipline T marks At) (op : Opening) (es : ℕ → Event) (last : ℕ)
+    (r : Run T op es last) where
   InvAt : ℕ → Type 1
-  InvAt k = Inv marks At n q (views T n q es) k (state_at T n q es k) (λ u. begun_at (log_of T n q es) u k)
-      (λ u. has_changed (log_of T n q es) u k)
+  InvAt k = Inv marks At (sizes op) (views T op es) k (state_at T op es k) (λ u. begun_at (log_of T op es) u k)
+      (λ u. has_changed (log_of T op es) u k)
 
-  next_inv : (k : ℕ) (e : Event) → es k ≡ e → Enabled (state_at T n q es k) e
-      → Inv marks At n q (views T n q es) k (state_at T n q es k) (λ u. begun_at (log_of T n q es) u k)
-      (λ u. has_changed (log_of T n q es) u k)
-      → Inv marks At n q (views T n q es) (suc k) (after T (state_at T n q es k) e)
-      (λ u. begun_after (suc k) (entry_of T (state_at T n q es k) e) u (begun_at (log_of T n q es) u k))
-      (λ u. changed_after (entry_of T (state_at T n q es k) e) u (has_changed (log_of T n q es) u k))
-  next_inv k (Begin t call) ee en i = begin_step T marks At d n q r.limits (views T n q es) k (state_at T n q es k)
-      (λ u. begun_at (log_of T n q es) u k) (λ u. has_changed (log_of T n q es) u k) t call i en
-      (ap (λ z. view_of n q (after T (state_at T n q es k) z)) ee)
-  next_inv k (Go t) ee en i = go_step T marks At d n q r.limits (views T n q es) k (state_at T n q es k)
-      (λ u. begun_at (log_of T n q es) u k) (λ u. has_changed (log_of T n q es) u k) t i en
-      (moves T marks At d n q r.limits (views T n q es) k (state_at T n q es k) (λ u. begun_at (log_of T n q es) u k)
-      (λ u. has_changed (log_of T n q es) u k) t i en)
-      (ap (λ z. view_of n q (after T (state_at T n q es k) z)) ee)
+  next_inv : (k : ℕ) (e : Event) → es k ≡ e → Enabled (state_at T op es k) e
+      → Inv marks At (sizes op) (views T op es) k (state_at T op es k) (λ u. begun_at (log_of T op es) u k)
+      (λ u. has_changed (log_of T op es) u k)
+      → Inv marks At (sizes op) (views T op es) (suc k) (after T (state_at T op es k) e)
+      (λ u. begun_after (suc k) (entry_of T (state_at T op es k) e) u (begun_at (log_of T op es) u k))
+      (λ u. changed_after (entry_of T (state_at T op es k) e) u (has_changed (log_of T op es) u k))
+  next_inv k (Begin t call) ee en i = begin_step T marks At d op r.opens (views T op es) k (state_at T op es k)
+      (λ u. begun_at (log_of T op es) u k) (λ u. has_changed (log_of T op es) u k) t call i en
+      (ap (λ z. view_of (sizes op) (after T (state_at T op es k) z)) ee)
+  next_inv k (Go t) ee en i = go_step T marks At d op r.opens (views T op es) k (state_at T op es k)
+      (λ u. begun_at (log_of T op es) u k) (λ u. has_changed (log_of T op es) u k) t i en
+      (moves T marks At d op r.opens (views T op es) k (state_at T op es k) (λ u. begun_at (log_of T op es) u k)
+      (λ u. has_changed (log_of T op es) u k) t i en)
+      (ap (λ z. view_of (sizes op) (after T (state_at T op es k) z)) ee)
 
   pub inv_at : (k : ℕ) → k ≤ last
-      → Inv marks At n q (views T n q es) k (state_at T n q es k) (λ u. begun_at (log_of T n q es) u k)
-      (λ u. has_changed (log_of T n q es) u k)
-  inv_at zero l = opens T marks At d n q r.limits (views T n q es) refl
+      → Inv marks At (sizes op) (views T op es) k (state_at T op es k) (λ u. begun_at (log_of T op es) u k)
+      (λ u. has_changed (log_of T op es) u k)
+  inv_at zero l = opens T marks At d op r.opens (views T op es) refl
   inv_at (suc k) l = next_inv k (es k) refl (r.enabled k (omega arith)) (inv_at k (omega arith))
 
-  in_order_at : (k : ℕ) → k ≤ last → StateLaws marks n q (state_at T n q es k)
+  in_order_at : (k : ℕ) → k ≤ last → StateLaws marks (sizes op) (state_at T op es k)
   in_order_at k l =
-      let i : Inv marks At n q (views T n q es) k (state_at T n q es k) (λ u. begun_at (log_of T n q es) u k)
-      (λ u. has_changed (log_of T n q es) u k) = inv_at k l in
+      let i : Inv marks At (sizes op) (views T op es) k (state_at T op es k) (λ u. begun_at (log_of T op es) u k)
+      (λ u. has_changed (log_of T op es) u k) = inv_at k l in
       record {
         words = i.memory.words;
         locals = i.locals;
@@ -489,63 +404,63 @@ module _ (T : Table) (marks : Bool) (At : Outline) (d : Discipline T marks At) (
         ordered = i.memory.ordered;
         head_key = i.memory.head_key;
         tail_key = i.memory.tail_key;
-        inside = λ j p. inside marks n q (state_at T n q es k).words (used_in (state_at T n q es k)) i.memory j p;
+        inside = λ j p. inside marks (sizes op) (state_at T op es k).words (used_in (state_at T op es k)) i.memory j p;
         marked = i.memory.marked;
         unmarked = i.memory.unmarked;
       }
 
-  stepped_at : (k t : ℕ) → k < last → es k ≡ Go t → StepAt T n q es k t
+  stepped_at : (k t : ℕ) → k < last → es k ≡ Go t → StepAt T op es k t
   stepped_at k t l ee =
-      let i : Inv marks At n q (views T n q es) k (state_at T n q es k) (λ u. begun_at (log_of T n q es) u k)
-      (λ u. has_changed (log_of T n q es) u k) = inv_at k (omega arith) in
-      let en : Enabled (state_at T n q es k) (Go t) = subst (λ z. Enabled (state_at T n q es k) z) ee (r.enabled k l) in
-      stepped_by T marks At d n q r.limits (views T n q es) k (state_at T n q es k)
-      (λ u. begun_at (log_of T n q es) u k) (λ u. has_changed (log_of T n q es) u k) t i en
-      (moves T marks At d n q r.limits (views T n q es) k (state_at T n q es k) (λ u. begun_at (log_of T n q es) u k)
-      (λ u. has_changed (log_of T n q es) u k) t i en) es refl refl ee refl refl
+      let i : Inv marks At (sizes op) (views T op es) k (state_at T op es k) (λ u. begun_at (log_of T op es) u k)
+      (λ u. has_changed (log_of T op es) u k) = inv_at k (omega arith) in
+      let en : Enabled (state_at T op es k) (Go t) = subst (λ z. Enabled (state_at T op es k) z) ee (r.enabled k l) in
+      stepped_by T marks At d op r.opens (views T op es) k (state_at T op es k)
+      (λ u. begun_at (log_of T op es) u k) (λ u. has_changed (log_of T op es) u k) t i en
+      (moves T marks At d op r.opens (views T op es) k (state_at T op es k) (λ u. begun_at (log_of T op es) u k)
+      (λ u. has_changed (log_of T op es) u k) t i en) es refl refl ee refl refl
 
-  keeps_marks : (k : ℕ) → k < last → (e : Event) → es k ≡ e → (b : ℕ) → (views T n q es k).published b
-      → (views T n q es k).link b % 2 ≡ 1
-      → (view_of n q (after T (state_at T n q es k) e)).link b ≡ (views T n q es k).link b
+  keeps_marks : (k : ℕ) → k < last → (e : Event) → es k ≡ e → (b : ℕ) → (views T op es k).published b
+      → (views T op es k).link b % 2 ≡ 1
+      → (view_of (sizes op) (after T (state_at T op es k) e)).link b ≡ (views T op es k).link b
   keeps_marks k l (Begin t call) ee b p o = refl
   keeps_marks k l (Go t) ee b p o =
-      let i : Inv marks At n q (views T n q es) k (state_at T n q es k) (λ u. begun_at (log_of T n q es) u k)
-      (λ u. has_changed (log_of T n q es) u k) = inv_at k (omega arith) in
-      let en : Enabled (state_at T n q es k) (Go t) = subst (λ z. Enabled (state_at T n q es k) z) ee (r.enabled k l) in
-      let m : StepOf T marks At n q t (views T n q es) (λ u. begun_at (log_of T n q es) u k) k
-      (state_at T n q es k).words (used_in (state_at T n q es k)) (λ u. has_changed (log_of T n q es) u k)
-      (local_of (state_at T n q es k)) =
-      moves T marks At d n q r.limits (views T n q es) k (state_at T n q es k) (λ u. begun_at (log_of T n q es) u k)
-      (λ u. has_changed (log_of T n q es) u k) t i en in
-      let w : (after T (state_at T n q es k) (Go t)).words ≡ m.words' =
-      words_are T marks At d n q r.limits (views T n q es) k (state_at T n q es k)
-      (λ u. begun_at (log_of T n q es) u k) (λ u. has_changed (log_of T n q es) u k) t i en m in
-      ap (λ x. node_link x b) w ∙ marked_stays marks (view_of n q (state_at T n q es k)) (view n q m.words' m.used')
+      let i : Inv marks At (sizes op) (views T op es) k (state_at T op es k) (λ u. begun_at (log_of T op es) u k)
+      (λ u. has_changed (log_of T op es) u k) = inv_at k (omega arith) in
+      let en : Enabled (state_at T op es k) (Go t) = subst (λ z. Enabled (state_at T op es k) z) ee (r.enabled k l) in
+      let m : StepOf T marks At (sizes op) t (views T op es) (λ u. begun_at (log_of T op es) u k) k
+      (state_at T op es k).words (used_in (state_at T op es k)) (λ u. has_changed (log_of T op es) u k)
+      (local_of (state_at T op es k)) =
+      moves T marks At d op r.opens (views T op es) k (state_at T op es k) (λ u. begun_at (log_of T op es) u k)
+      (λ u. has_changed (log_of T op es) u k) t i en in
+      let w : (after T (state_at T op es k) (Go t)).words ≡ m.words' =
+      words_are T marks At d op r.opens (views T op es) k (state_at T op es k)
+      (λ u. begun_at (log_of T op es) u k) (λ u. has_changed (log_of T op es) u k) t i en m in
+      ap (λ x. node_link x b) w ∙ marked_stays marks (view_of (sizes op) (state_at T op es k)) (view (sizes op) m.words' m.used')
       i.memory.ordered m.effect
-      (move' T marks At d n q r.limits (views T n q es) k (state_at T n q es k) (λ u. begun_at (log_of T n q es) u k)
-      (λ u. has_changed (log_of T n q es) u k) t i en m) b p o
+      (move' T marks At d op r.opens (views T op es) k (state_at T op es k) (λ u. begun_at (log_of T op es) u k)
+      (λ u. has_changed (log_of T op es) u k) t i en m) b p o
 
-  later_by : (j i c k : ℕ) → k ≡ j + c → k ≤ last → (views T n q es j).published i
-      → UnlinkedStays marks (views T n q es j) (views T n q es k) i
+  later_by : (j i c k : ℕ) → k ≡ j + c → k ≤ last → (views T op es j).published i
+      → UnlinkedStays marks (views T op es j) (views T op es k) i
   later_by j i zero k e l m = let f : j ≡ k = omega arith in
-      subst (λ z. UnlinkedStays marks (views T n q es j) (views T n q es z) i) f (later_same marks (views T n q es j) i m)
+      subst (λ z. UnlinkedStays marks (views T op es j) (views T op es z) i) f (later_same marks (views T op es j) i m)
   later_by j i (suc c) k e l m =
-      let h : UnlinkedStays marks (views T n q es j) (views T n q es (j + c)) i = later_by j i c (j + c) refl (omega arith) m in
+      let h : UnlinkedStays marks (views T op es j) (views T op es (j + c)) i = later_by j i c (j + c) refl (omega arith) m in
       let f : suc (j + c) ≡ k = omega arith in
       let g : j + c + 1 ≡ suc (j + c) = omega arith in
-      let co : Course (views T n q es) last = (inv_at last (omega arith)).course in
-      subst (λ z. UnlinkedStays marks (views T n q es j) (views T n q es z) i) f
-      (later_more marks (views T n q es j) (views T n q es (j + c)) (views T n q es (suc (j + c))) i
-      (subst (λ z. KeepsNodes (views T n q es (j + c)) (views T n q es z)) g (co.goes (j + c) (omega arith)))
+      let co : Course (views T op es) last = (inv_at last (omega arith)).course in
+      subst (λ z. UnlinkedStays marks (views T op es j) (views T op es z) i) f
+      (later_more marks (views T op es j) (views T op es (j + c)) (views T op es (suc (j + c))) i
+      (subst (λ z. KeepsNodes (views T op es (j + c)) (views T op es z)) g (co.goes (j + c) (omega arith)))
       (λ b p o. keeps_marks (j + c) (omega arith) (es (j + c)) refl b p o) h)
 
 pub lawful_of : (T : Table) (At : Outline) → Discipline T T.marks At → Lawful T
 lawful_of T At d = record {
   begins = d.begun;
-  states = λ n q last k es r l. in_order_at T T.marks At d n q es last r k l;
-  steps = λ n q last k t es r l e. stepped_at T T.marks At d n q es last r k t l e;
-  unlinked_stays = λ n q last j k i es r a l m. later_by T T.marks At d n q es last r j i (k - j) k (omega arith) l m;
-  seen_before = λ n q last j k b es r a l c. hindsight (views T n q es) last j k b
-      (inv_at T T.marks At d n q es last r last (omega arith)).course l
+  states = λ op last k es r l. in_order_at T T.marks At d op es last r k l;
+  steps = λ op last k t es r l e. stepped_at T T.marks At d op es last r k t l e;
+  unlinked_stays = λ op last j k i es r a l m. later_by T T.marks At d op es last r j i (k - j) k (omega arith) l m;
+  seen_before = λ op last j k b es r a l c. hindsight (views T op es) last j k b
+      (inv_at T T.marks At d op es last r last (omega arith)).course l
       (record { at = j; from = omega arith; upto = a; in_chain = c });
 }

@@ -3,7 +3,7 @@
 use Rattle.std.specs.Prelude.{◌≡◌, ◌≢◌, ℕ, ◌+◌, ◌*◌, ◌/◌, ◌%◌, ◌<◌, ◌≤◌, ◌⊎◌, Bool, true, false, Option, Some, None, List, [], ◌==◌, nat_lt, slice_set, refl}
 use Rattle.std.proofs.Common.{arith, inl, inr, sym, ◌∙◌, ap}
 use Rattle.lset_words.proofs.Numbers.{same_number, other_number, lower_number, not_lower_number}
-use Rattle.lset_words.specs.Words.{key_index, link_index, lock_index, tail_word, node_count, word_count, slot_node, target, key_of}
+use Rattle.lset_words.specs.Words.{key_index, link_index, lock_index, tail_word, node_count, word_count, slot_node, target, key_of, Sizes}
 use Rattle.lset_words.specs.declared.Call.{Call}
 use Rattle.lset_words.specs.declared.Key.{Key}
 use Rattle.lset_words.specs.declared.Reply.{Reply}
@@ -107,51 +107,51 @@ module _ {v w : View} {q t : ℕ} (r : Rely v w q t) where
   own_link_on x room e = rw r.used (r.own_link room ∙ e)
 
 -- STEPS: each writes links of the chain under their locks alone
-abbrev pub LockedStep : (marks : Bool) (n q t : ℕ) (ws : List ℕ) (used : ℕ → ℕ) (a : Action) (ws' : List ℕ) (used' : ℕ → ℕ)
+abbrev pub LockedStep : (marks : Bool) (sz : Sizes) (t : ℕ) (ws : List ℕ) (used : ℕ → ℕ) (a : Action) (ws' : List ℕ) (used' : ℕ → ℕ)
     (change : Option (Key × Bool)) → Type 0
-LockedStep marks n q t ws used a ws' used' change =
-    (c : WordStep marks n q t ws used a ws' used' change) × Guarded marks n q t ws used a ws' used' change c
+LockedStep marks sz t ws used a ws' used' change =
+    (c : WordStep marks sz t ws used a ws' used' change) × Guarded marks sz t ws used a ws' used' change c
 
-module _ {marks : Bool} {n q t : ℕ} {ws : List ℕ} {used : ℕ → ℕ} where
-  pub reads_word : (x : ℕ) → x < word_count n q → LockedStep marks n q t ws used (Load x) ws used None
+module _ {marks : Bool} {sz : Sizes} {t : ℕ} {ws : List ℕ} {used : ℕ → ℕ} where
+  pub reads_word : (x : ℕ) → x < word_count sz → LockedStep marks sz t ws used (Load x) ws used None
   reads_word x l = (reads x l, tt)
 
-  pub frees : (a : ℕ) → a < node_count n q → node_lock ws a ≡ t + 1
-      → LockedStep marks n q t ws used (Store (lock_index a) 0) (slice_set ws (lock_index a) 0) used None
+  pub frees : (a : ℕ) → a < node_count sz → node_lock ws a ≡ t + 1
+      → LockedStep marks sz t ws used (Store (lock_index a) 0) (slice_set ws (lock_index a) 0) used None
   frees a l mine = (gives (lock_index a) (omega arith) (inr (a, refl)) mine, tt)
 
-  pub locks_free : (a : ℕ) → a < node_count n q → node_lock ws a ≡ 0
-      → LockedStep marks n q t ws used (Exchange (lock_index a) 0 (t + 1)) (slice_set ws (lock_index a) (t + 1)) used None
+  pub locks_free : (a : ℕ) → a < node_count sz → node_lock ws a ≡ 0
+      → LockedStep marks sz t ws used (Exchange (lock_index a) 0 (t + 1)) (slice_set ws (lock_index a) (t + 1)) used None
   locks_free a l free = (takes (lock_index a) (omega arith) (inr (a, refl)) free, tt)
 
-  pub finds_locked : (a : ℕ) → a < node_count n q → node_lock ws a ≢ 0
-      → LockedStep marks n q t ws used (Exchange (lock_index a) 0 (t + 1)) ws used None
+  pub finds_locked : (a : ℕ) → a < node_count sz → node_lock ws a ≢ 0
+      → LockedStep marks sz t ws used (Exchange (lock_index a) 0 (t + 1)) ws used None
   finds_locked a l taken = (fails (lock_index a) 0 (t + 1) (omega arith) taken (λ k. (refl, refl)), tt)
 
-  pub writes_own_key : (x : ℕ) → used t < q
-      → LockedStep marks n q t ws used (Store (key_index (own_of q t used)) x)
-      (slice_set ws (key_index (own_of q t used)) x) used None
+  pub writes_own_key : (x : ℕ) → used t < sz.quota
+      → LockedStep marks sz t ws used (Store (key_index (own_of sz.quota t used)) x)
+      (slice_set ws (key_index (own_of sz.quota t used)) x) used None
   writes_own_key x room = (own_key x room, tt)
 
-  pub writes_own_link : (c : ℕ) → used t < q
-      → LockedStep marks n q t ws used (Store (link_index (own_of q t used)) (2 * c))
-      (slice_set ws (link_index (own_of q t used)) (2 * c)) used None
+  pub writes_own_link : (c : ℕ) → used t < sz.quota
+      → LockedStep marks sz t ws used (Store (link_index (own_of sz.quota t used)) (2 * c))
+      (slice_set ws (link_index (own_of sz.quota t used)) (2 * c)) used None
   writes_own_link c room = (own_link c room, tt)
 
-  pub puts_between : {pred curr : ℕ} {op : Call} → Between (view n q ws used) t (target op) pred curr
-      → Adding (view n q ws used) t q curr op
-      → node_key ws (own_of q t used) ≡ target op → node_link ws (own_of q t used) ≡ 2 * curr
-      → LockedStep marks n q t ws used (Store (link_index pred) (2 * own_of q t used))
-      (slice_set ws (link_index pred) (2 * own_of q t used)) (one_more used t) (Some (key_of op, true))
+  pub puts_between : {pred curr : ℕ} {op : Call} → Between (view sz ws used) t (target op) pred curr
+      → Adding (view sz ws used) t sz.quota curr op
+      → node_key ws (own_of sz.quota t used) ≡ target op → node_link ws (own_of sz.quota t used) ≡ 2 * curr
+      → LockedStep marks sz t ws used (Store (link_index pred) (2 * own_of sz.quota t used))
+      (slice_set ws (link_index pred) (2 * own_of sz.quota t used)) (one_more used t) (Some (key_of op, true))
   puts_between {pred} {curr} {op} b a key link =
-      let x : ℕ = 2 * own_of q t used in (
+      let x : ℕ = 2 * own_of sz.quota t used in (
         puts (Store (link_index pred) x) pred curr (key_of op)
             (inl refl) b.walk.held.at b.walk.inner b.walk.follows a.room link key b.walk.below a.above,
         b.walk.held.mine,
       )
 
-pub found_no_tail : {marks : Bool} {n q : ℕ} {ws : List ℕ} {used : ℕ → ℕ} (m : Memory marks n q ws used) {curr : ℕ} {op : Call}
-    → Removing (view n q ws used) curr op → target op < tail_word → curr ≢ 1
+pub found_no_tail : {marks : Bool} {sz : Sizes} {ws : List ℕ} {used : ℕ → ℕ} (m : Memory marks sz ws used) {curr : ℕ} {op : Call}
+    → Removing (view sz ws used) curr op → target op < tail_word → curr ≢ 1
 found_no_tail {ws = ws} m {curr} {op} a low e =
     let same : node_key ws curr ≡ node_key ws 1 = ap (node_key ws) e in
     let tail : node_key ws 1 ≡ tail_word = m.tail_key in
@@ -159,25 +159,25 @@ found_no_tail {ws = ws} m {curr} {op} a low e =
     omega arith
 
 -- a write to the link of a node leaves that node in the chain
-pub stays_behind : {marks : Bool} {n q : ℕ} {ws : List ℕ} {used : ℕ → ℕ} (m : Memory marks n q ws used) {a : ℕ} (x : ℕ)
-    (used' : ℕ → ℕ) → InChain (view n q ws used) a → InChain (view n q (slice_set ws (link_index a) x) used') a
-stays_behind {marks} {n} {q} {ws} {used} m {a} x used' i =
-    chain_before (view n q ws used) (view n q (slice_set ws (link_index a) x) used') m.ordered a a
-    (λ b p less. ap (λ y. y / 2) (link_after_link ws a x b (apart marks n q ws used m b a less))) (omega arith) i
+pub stays_behind : {marks : Bool} {sz : Sizes} {ws : List ℕ} {used : ℕ → ℕ} (m : Memory marks sz ws used) {a : ℕ} (x : ℕ)
+    (used' : ℕ → ℕ) → InChain (view sz ws used) a → InChain (view sz (slice_set ws (link_index a) x) used') a
+stays_behind {marks} {sz} {ws} {used} m {a} x used' i =
+    chain_before (view sz ws used) (view sz (slice_set ws (link_index a) x) used') m.ordered a a
+    (λ b p less. ap (λ y. y / 2) (link_after_link ws a x b (apart marks sz ws used m b a less))) (omega arith) i
 
-module _ {marks : Bool} {n q : ℕ} {ws : List ℕ} {used : ℕ → ℕ} (m : Memory marks n q ws used) {t : ℕ} where
-  pub held_from : {a : ℕ} → node_lock ws a ≡ t + 1 → InChain (view n q ws used) a → Held (view n q ws used) t a
-  held_from {a} mine i = record { mine = mine; at = i; published = in_chain_published (view n q ws used) m.ordered a i }
+module _ {marks : Bool} {sz : Sizes} {ws : List ℕ} {used : ℕ → ℕ} (m : Memory marks sz ws used) {t : ℕ} where
+  pub held_from : {a : ℕ} → node_lock ws a ≡ t + 1 → InChain (view sz ws used) a → Held (view sz ws used) t a
+  held_from {a} mine i = record { mine = mine; at = i; published = in_chain_published (view sz ws used) m.ordered a i }
 
   -- from the load of the link of a held node
-  pub behind_from : {pred key : ℕ} → Held (view n q ws used) t pred → node_link ws pred % 2 ≡ 0 → node_key ws pred < key
+  pub behind_from : {pred key : ℕ} → Held (view sz ws used) t pred → node_link ws pred % 2 ≡ 0 → node_key ws pred < key
       → key < tail_word
-      → Behind (view n q ws used) t key pred (node_link ws pred / 2)
+      → Behind (view sz ws used) t key pred (node_link ws pred / 2)
   behind_from {pred} {key} h even below low =
-      let inn : pred ≢ 1 = inner marks n q ws used m pred key below low in
+      let inn : pred ≢ 1 = inner marks sz ws used m pred key below low in
       record { held = h; inner = inn; follows = omega arith; below = below; next = m.ordered.next_published pred h.published inn }
 
-  pub curr_is_not_pred : {key pred curr : ℕ} → Behind (view n q ws used) t key pred curr → curr ≢ pred
+  pub curr_is_not_pred : {key pred curr : ℕ} → Behind (view sz ws used) t key pred curr → curr ≢ pred
   curr_is_not_pred {key} {pred} {curr} b e =
       let rises : node_key ws pred < node_key ws (node_link ws pred / 2) = m.ordered.rises pred b.held.published b.inner in
       let follows : node_link ws pred ≡ 2 * curr = b.follows in
@@ -185,15 +185,15 @@ module _ {marks : Bool} {n q : ℕ} {ws : List ℕ} {used : ℕ → ℕ} (m : Me
       let same : node_key ws (node_link ws pred / 2) ≡ node_key ws pred = ap (node_key ws) half in
       omega arith
 
-  pub found_next : {key pred curr : ℕ} {op : Call} → Behind (view n q ws used) t key pred curr
-      → Removing (view n q ws used) curr op
-      → target op < tail_word → (view n q ws used).published (node_link ws curr / 2)
+  pub found_next : {key pred curr : ℕ} {op : Call} → Behind (view sz ws used) t key pred curr
+      → Removing (view sz ws used) curr op
+      → target op < tail_word → (view sz ws used).published (node_link ws curr / 2)
   found_next {key} {pred} {curr} b a low = m.ordered.next_published curr b.next (found_no_tail m a low)
 
   pub drops_between : {pred curr : ℕ} {op : Call} (next : ℕ) → marks ≡ false
-      → Between (view n q ws used) t (target op) pred curr
-      → Removing (view n q ws used) curr op → node_link ws curr / 2 ≡ next → target op < tail_word
-      → LockedStep marks n q t ws used (Store (link_index pred) (2 * next)) (slice_set ws (link_index pred) (2 * next)) used
+      → Between (view sz ws used) t (target op) pred curr
+      → Removing (view sz ws used) curr op → node_link ws curr / 2 ≡ next → target op < tail_word
+      → LockedStep marks sz t ws used (Store (link_index pred) (2 * next)) (slice_set ws (link_index pred) (2 * next)) used
       (Some (key_of op, false))
   drops_between {pred} {curr} {op} next plain b a leads low = (
     drops (Store (link_index pred) (2 * next)) pred curr next (key_of op) plain (inl refl) b.walk.held.at b.walk.inner
@@ -203,17 +203,17 @@ module _ {marks : Bool} {n q : ℕ} {ws : List ℕ} {used : ℕ → ℕ} (m : Me
   )
 
   -- in a list that marks: the mark, and the node with a mark left out
-  pub marks_between : {pred curr : ℕ} {op : Call} (x : ℕ) → marks ≡ true → Between (view n q ws used) t (target op) pred curr
-      → Removing (view n q ws used) curr op → node_link ws curr % 2 ≡ 0 → x ≡ node_link ws curr + 1 → target op < tail_word
-      → LockedStep marks n q t ws used (Store (link_index curr) x) (slice_set ws (link_index curr) x) used (Some (key_of op, false))
+  pub marks_between : {pred curr : ℕ} {op : Call} (x : ℕ) → marks ≡ true → Between (view sz ws used) t (target op) pred curr
+      → Removing (view sz ws used) curr op → node_link ws curr % 2 ≡ 0 → x ≡ node_link ws curr + 1 → target op < tail_word
+      → LockedStep marks sz t ws used (Store (link_index curr) x) (slice_set ws (link_index curr) x) used (Some (key_of op, false))
   marks_between {pred} {curr} {op} x lists b a even is low = (
     sets_mark (Store (link_index curr) x) curr x (key_of op) lists (inl refl) (in_chain b.walk) (found_no_tail m a low) even is a.found,
     b.mine,
   )
 
-  pub cuts_between : {pred curr : ℕ} {op : Call} (next : ℕ) → Between (view n q ws used) t (target op) pred curr
-      → Removing (view n q ws used) curr op → node_link ws curr ≡ 2 * next + 1 → target op < tail_word
-      → LockedStep marks n q t ws used (Store (link_index pred) (2 * next)) (slice_set ws (link_index pred) (2 * next)) used None
+  pub cuts_between : {pred curr : ℕ} {op : Call} (next : ℕ) → Between (view sz ws used) t (target op) pred curr
+      → Removing (view sz ws used) curr op → node_link ws curr ≡ 2 * next + 1 → target op < tail_word
+      → LockedStep marks sz t ws used (Store (link_index pred) (2 * next)) (slice_set ws (link_index pred) (2 * next)) used None
   cuts_between {pred} {curr} {op} next b a leads low = (
     cuts (Store (link_index pred) (2 * next)) pred curr next (inl refl) b.walk.held.at b.walk.inner (found_no_tail m a low)
         b.walk.follows leads,
@@ -221,30 +221,30 @@ module _ {marks : Bool} {n q : ℕ} {ws : List ℕ} {used : ℕ → ℕ} (m : Me
   )
 
   -- THE DECISION on the key word of curr: a reply that fits now, or what the rows that add or remove need
-  pub decides : {pred curr : ℕ} (rows : Targets) (c : ℕ) (l : Local) → Behind (view n q ws used) t (target l.call) pred curr
+  pub decides : {pred curr : ℕ} (rows : Targets) (c : ℕ) (l : Local) → Behind (view sz ws used) t (target l.call) pred curr
       → node_link ws curr % 2 ≡ 0
-      → c ≡ node_key ws curr → target l.call ≤ c → target l.call < tail_word → used t ≤ q → l.used ≡ used t → l.quota ≡ q
-      → ((r : Reply) × (decided_on rows c l ≡ goes_to rows.leaves (Some r) l) × FitsIn q (view n q ws used) t l.call r)
-      ⊎ ((decided_on rows c l ≡ goes_to rows.adds None l) × Adding (view n q ws used) t q curr l.call)
-      ⊎ ((decided_on rows c l ≡ goes_to rows.removes None l) × Removing (view n q ws used) curr l.call)
+      → c ≡ node_key ws curr → target l.call ≤ c → target l.call < tail_word → used t ≤ sz.quota → l.used ≡ used t → l.quota ≡ sz.quota
+      → ((r : Reply) × (decided_on rows c l ≡ goes_to rows.leaves (Some r) l) × FitsIn sz.quota (view sz ws used) t l.call r)
+      ⊎ ((decided_on rows c l ≡ goes_to rows.adds None l) × Adding (view sz ws used) t sz.quota curr l.call)
+      ⊎ ((decided_on rows c l ≡ goes_to rows.removes None l) × Removing (view sz ws used) curr l.call)
   decides {pred} {curr} rows c l b even is above low most count quota =
-      let v : View = view n q ws used in let k : ℕ = target l.call in
+      let v : View = view sz ws used in let k : ℕ = target l.call in
       let half : node_link ws pred / 2 ≡ curr = (let follows : node_link ws pred ≡ 2 * curr = b.follows in omega arith) in
-      let hit : (c == k) ≡ true → InContent (view n q ws used) (key_of l.call).0 = λ y.
+      let hit : (c == k) ≡ true → InContent (view sz ws used) (key_of l.call).0 = λ y.
       (let z : c ≡ k = same_number c k y in
       let head : node_key ws 0 ≡ 0 = m.head_key in let tail : node_key ws 1 ≡ tail_word = m.tail_key in
       let c0 : curr ≢ 0 = λ f. (let g : node_key ws curr ≡ node_key ws 0 = ap (node_key ws) f in omega arith) in
       let c1 : curr ≢ 1 = λ f. (let g : node_key ws curr ≡ node_key ws 1 = ap (node_key ws) f in omega arith) in
       (curr, in_chain b, omega arith, sym is ∙ z, even)) in
-      let miss : (c == k) ≡ false → InContent (view n q ws used) (key_of l.call).0 → ⊥ = λ y.
+      let miss : (c == k) ≡ false → InContent (view sz ws used) (key_of l.call).0 → ⊥ = λ y.
       (let z : c ≢ k = other_number c k y in
-      absent_between (view n q ws used) m.ordered pred (key_of l.call).0 b.held.at b.inner b.below
+      absent_between (view sz ws used) m.ordered pred (key_of l.call).0 b.held.at b.inner b.below
       (rw half (omega arith))) in
       let full : nat_lt l.used l.quota ≡ false
-      → used t ≡ q = λ y. (let z : l.quota ≤ l.used = not_lower_number l.used l.quota y in omega arith) in
-      let over = ceiling_fits q t (view n q ws used) pred c (key_of l.call) m.ordered m.head_key m.tail_key b.held.at b.inner b.below
+      → used t ≡ sz.quota = λ y. (let z : l.quota ≤ l.used = not_lower_number l.used l.quota y in omega arith) in
+      let over = ceiling_fits sz.quota t (view sz ws used) pred c (key_of l.call) m.ordered m.head_key m.tail_key b.held.at b.inner b.below
       (is ∙ ap (node_key ws) (sym half)) above (λ x. ap (λ a. node_link ws a % 2) half ∙ even) in
-      elim (decided_cases rows.adds rows.removes rows.leaves q t (view n q ws used) l.call (c == k)
+      elim (decided_cases rows.adds rows.removes rows.leaves sz.quota t (view sz ws used) l.call (c == k)
       (nat_lt l.used l.quota) c l hit miss full over) [
         | inl r ↦ inl r
         | inr z ↦ elim z [
@@ -261,9 +261,9 @@ module _ {marks : Bool} {n q : ℕ} {ws : List ℕ} {used : ℕ → ℕ} (m : Me
       ]
 
 -- OWN STEPS that leave what is held
-module _ {marks : Bool} {n q : ℕ} {ws : List ℕ} {used : ℕ → ℕ} (m : Memory marks n q ws used) {t : ℕ} (tn : t < n) where
+module _ {marks : Bool} {sz : Sizes} {ws : List ℕ} {used : ℕ → ℕ} (m : Memory marks sz ws used) {t : ℕ} (tn : t < sz.threads) where
   pub leaves_locked : (a : ℕ) → node_lock ws a ≡ 0
-      → Leaves (view n q ws used) (view n q (slice_set ws (lock_index a) (t + 1)) used) t
+      → Leaves (view sz ws used) (view sz (slice_set ws (lock_index a) (t + 1)) used) t
   leaves_locked a free =
       let k : IsLockWord (lock_index a) = inr (a, refl) in
       record {
@@ -273,40 +273,40 @@ module _ {marks : Bool} {n q : ℕ} {ws : List ℕ} {used : ℕ → ℕ} (m : Me
         locks = λ b z. lock_after_lock ws a (t + 1) b
             (λ e. let f : node_lock ws b ≡ node_lock ws a = ap (node_lock ws) e in omega arith) ∙ z;
         links = λ b p z. link_after_lock ws (lock_index a) (t + 1) b k;
-        chain = λ b z i. quiet_keeps (view n q ws used) (view n q (slice_set ws (lock_index a) (t + 1)) used) m.ordered
-            (at_lock marks n q ws used m t tn (lock_index a) (t + 1) k) b i;
+        chain = λ b z i. quiet_keeps (view sz ws used) (view sz (slice_set ws (lock_index a) (t + 1)) used) m.ordered
+            (at_lock marks sz ws used m t tn (lock_index a) (t + 1) k) b i;
       }
 
   -- a held node stays held where another is freed
-  pub held_past : {a : ℕ} (b : ℕ) → a ≢ b → Held (view n q ws used) t a
-      → Held (view n q (slice_set ws (lock_index b) 0) used) t a
+  pub held_past : {a : ℕ} (b : ℕ) → a ≢ b → Held (view sz ws used) t a
+      → Held (view sz (slice_set ws (lock_index b) 0) used) t a
   held_past {a} b d h = record {
     mine = lock_after_lock ws b 0 a d ∙ h.mine;
-    at = quiet_keeps (view n q ws used) (view n q (slice_set ws (lock_index b) 0) used) m.ordered
-        (at_lock marks n q ws used m t tn (lock_index b) 0 (inr (b, refl))) a h.at;
+    at = quiet_keeps (view sz ws used) (view sz (slice_set ws (lock_index b) 0) used) m.ordered
+        (at_lock marks sz ws used m t tn (lock_index b) 0 (inr (b, refl))) a h.at;
     published = h.published;
   }
 
-  pub leaves_own_key : (x : ℕ) → used t < q
-      → Leaves (view n q ws used) (view n q (slice_set ws (key_index (own_of q t used)) x) used) t
+  pub leaves_own_key : (x : ℕ) → used t < sz.quota
+      → Leaves (view sz ws used) (view sz (slice_set ws (key_index (own_of sz.quota t used)) x) used) t
   leaves_own_key x r = record {
     used = refl;
     grows = λ a p. p;
-    keys = λ a p. key_after_key ws (own_of q t used) x a (no_own marks n q ws used m t a r p);
-    locks = λ a z. lock_after_key ws (own_of q t used) x a ∙ z;
-    links = λ a p z. link_after_key ws (own_of q t used) x a;
-    chain = λ a z i. quiet_keeps (view n q ws used) (view n q (slice_set ws (key_index (own_of q t used)) x) used) m.ordered
-        (at_own_key marks n q ws used m t tn x r) a i;
+    keys = λ a p. key_after_key ws (own_of sz.quota t used) x a (no_own marks sz ws used m t a tn r p);
+    locks = λ a z. lock_after_key ws (own_of sz.quota t used) x a ∙ z;
+    links = λ a p z. link_after_key ws (own_of sz.quota t used) x a;
+    chain = λ a z i. quiet_keeps (view sz ws used) (view sz (slice_set ws (key_index (own_of sz.quota t used)) x) used) m.ordered
+        (at_own_key marks sz ws used m t tn x r) a i;
   }
 
-  pub leaves_own_link : (x : ℕ) → used t < q
-      → Leaves (view n q ws used) (view n q (slice_set ws (link_index (own_of q t used)) x) used) t
+  pub leaves_own_link : (x : ℕ) → used t < sz.quota
+      → Leaves (view sz ws used) (view sz (slice_set ws (link_index (own_of sz.quota t used)) x) used) t
   leaves_own_link x r = record {
     used = refl;
     grows = λ a p. p;
-    keys = λ a p. key_after_link ws (own_of q t used) x a;
-    locks = λ a z. lock_after_link ws (own_of q t used) x a ∙ z;
-    links = λ a p z. link_after_link ws (own_of q t used) x a (no_own marks n q ws used m t a r p);
-    chain = λ a z i. quiet_keeps (view n q ws used) (view n q (slice_set ws (link_index (own_of q t used)) x) used) m.ordered
-        (at_own_link marks n q ws used m t tn x r) a i;
+    keys = λ a p. key_after_link ws (own_of sz.quota t used) x a;
+    locks = λ a z. lock_after_link ws (own_of sz.quota t used) x a ∙ z;
+    links = λ a p z. link_after_link ws (own_of sz.quota t used) x a (no_own marks sz ws used m t a tn r p);
+    chain = λ a z i. quiet_keeps (view sz ws used) (view sz (slice_set ws (link_index (own_of sz.quota t used)) x) used) m.ordered
+        (at_own_link marks sz ws used m t tn x r) a i;
   }

@@ -10,6 +10,7 @@ pub mod Walk
 pub mod Memory
 pub mod Rely
 pub mod Remains
+pub mod Openings
 pub mod Discipline
 pub mod Replies
 pub mod MoreEvents

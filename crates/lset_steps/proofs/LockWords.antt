@@ -3,7 +3,7 @@ use Rattle.std.specs.Prelude.{◌≡◌, ◌≢◌, ℕ, ◌+◌, ◌<◌, ◌�
 use Rattle.std.proofs.Common.{arith, inl, inr, sym, ◌∙◌, ap, subst, zero, suc, get_or-set_other, get_or-set_same}
 use Rattle.std.proofs.lemmas.List.FromFn.{get_or-map-range_with_len}
 use Rattle.lset_words.proofs.Numbers.{same_or_not, if_same, if_other}
-use Rattle.lset_words.specs.Words.{word_count, lock_index}
+use Rattle.lset_words.specs.Words.{word_count, lock_index, Opening, sizes}
 use Rattle.lset_steps.specs.declared.Action.{Action}
 use Rattle.lset_steps.specs.declared.Action.TheVariants.{Load, Store, Exchange}
 use Rattle.lset_steps.specs.declared.Event.{Event}
@@ -11,6 +11,7 @@ use Rattle.lset_steps.specs.declared.Event.TheVariants.{Begin, Go}
 use Rattle.lset_steps.specs.Steps.{Table, Run, state_at, after, left_by, local_of, opening_word}
 use Rattle.lset_steps.specs.Laws.{Lawful, StateLaws, StepAt, IsLockWord, LockUse}
 use Rattle.lset_steps.specs.Promises.{held, held_after, holder}
+use Rattle.lset_steps.proofs.Openings.{lock_word as lock_opens}
 
 lock_left : (ws : List ℕ) (x t : ℕ) (a : Action) → IsLockWord x → x < length ws → LockUse ws t a
     → slice_index (left_by ws a) x ≡ held x t (slice_index ws x) a
@@ -45,28 +46,22 @@ lock_left ws x t (Exchange w o v) i h u = elim (same_or_not w x) [
         ∙ get_or-set_other ws w x v 0 (λ e. d (sym e))
     missed d (inr y) = ap (λ z. slice_index z x) (if_other (slice_index ws w) o y (slice_set ws w v) ws)
 
-opens_free : (n q x : ℕ) → IsLockWord x → opening_word n q x ≡ 0
-opens_free n q x (inl e) = rw e refl
-opens_free n q x (inr i) = let e : x ≡ lock_index i.0 = i.1 in
-    if_other x 1 (omega arith) n (if x == 2 then q else if x == 4 then 2 else if x == 6 then 4294967297
-    else if x == 7 then 2 else 0)
-    ∙ if_other x 2 (omega arith) q (if x == 4 then 2 else if x == 6 then 4294967297 else if x == 7 then 2 else 0)
-    ∙ if_other x 4 (omega arith) 2 (if x == 6 then 4294967297 else if x == 7 then 2 else 0)
-    ∙ if_other x 6 (omega arith) 4294967297 (if x == 7 then 2 else 0)
-    ∙ if_other x 7 (omega arith) 2 0
+opens_free : (op : Opening) (x : ℕ) → IsLockWord x → opening_word op x ≡ 0
+opens_free op x (inl e) = rw e refl
+opens_free op x (inr i) = rw i.1 (lock_opens op i.0)
 
-module _ (T : Table) (law : Lawful T) (n q : ℕ) (es : ℕ → Event) (last x : ℕ) (r : Run T n q es last)
-    (i : IsLockWord x) (h : x < word_count n q) where
+module _ (T : Table) (law : Lawful T) (op : Opening) (es : ℕ → Event) (last x : ℕ) (r : Run T op es last)
+    (i : IsLockWord x) (h : x < word_count (sizes op)) where
   held_step : (k : ℕ) → k < last → (e : Event) → es k ≡ e
-      → slice_index (after T (state_at T n q es k) e).words x
-      ≡ held_after T (state_at T n q es k) x (slice_index (state_at T n q es k).words x) e
+      → slice_index (after T (state_at T op es k) e).words x
+      ≡ held_after T (state_at T op es k) x (slice_index (state_at T op es k).words x) e
   held_step k l (Begin t call) ee = refl
   held_step k l (Go t) ee =
-      let o : StateLaws T.marks n q (state_at T n q es k) = law.states n q last k es r (omega arith) in
-      let st : StepAt T n q es k t = law.steps n q last k t es r l ee in
-      lock_left (state_at T n q es k).words x t (T.next (local_of (state_at T n q es k) t)) i (rw o.words h) st.lock_use
+      let o : StateLaws T.marks (sizes op) (state_at T op es k) = law.states op last k es r (omega arith) in
+      let st : StepAt T op es k t = law.steps op last k t es r l ee in
+      lock_left (state_at T op es k).words x t (T.next (local_of (state_at T op es k) t)) i (rw o.words h) st.lock_use
 
-  pub lock_word : (k : ℕ) → k ≤ last → slice_index (state_at T n q es k).words x ≡ holder T n q es x k
-  lock_word zero l = get_or-map-range_with_len (opening_word n q) 0 (word_count n q) x x 0 h (omega arith) ∙ opens_free n q x i
+  pub lock_word : (k : ℕ) → k ≤ last → slice_index (state_at T op es k).words x ≡ holder T op es x k
+  lock_word zero l = get_or-map-range_with_len (opening_word op) 0 (word_count (sizes op)) x x 0 h (omega arith) ∙ opens_free op x i
   lock_word (suc k) l = held_step k (omega arith) (es k) refl
-      ∙ ap (λ z. held_after T (state_at T n q es k) x z (es k)) (lock_word k (omega arith))
+      ∙ ap (λ z. held_after T (state_at T op es k) x z (es k)) (lock_word k (omega arith))

@@ -4,7 +4,7 @@ use Rattle.std.proofs.Common.{arith, inl, inr, sym, ap, subst}
 use Rattle.lset_words.specs.declared.Call.{Call}
 use Rattle.lset_words.specs.declared.Call.TheVariants as call
 use Rattle.lset_words.specs.declared.Reply.TheVariants.{True}
-use Rattle.lset_words.specs.Words.{word_count}
+use Rattle.lset_words.specs.Words.{word_count, Sizes, Opening, sizes}
 use Rattle.lset_words.specs.Log.{Log, Entry, last_call, begun_at, has_changed}
 use Rattle.lset_words.specs.Log.Entry.{began, stepped}
 use Rattle.lset_words.specs.Account.{Enters, Contents, Counts, RightReply}
@@ -24,49 +24,49 @@ use Rattle.lset_steps.proofs.LockWords.{lock_word}
 use Rattle.lset_steps.specs.Promises.{FrozenNodes, NoLinkIsMarked, InRange, ThreadInRange, SortedChain, ChainIsSorted, LockWords, LockUses, UnlinkedNodesStay, SeenInThePast, UnmarkedNodesInChain, ChangeIsNamed, NamedChange, RepliesFit, IsContains, TrueMeansChange, HasAccount, ContentIsListed, ListedContent}
 
 -- the run goes on with a step of a thread with an open call
-module _ (T : Table) (law : Lawful T) (n q last k t : ℕ) (es : ℕ → Event) (r : Run T n q es last) (l : k ≤ last)
-    (below : t < n) where
+module _ (T : Table) (law : Lawful T) (op : Opening) (last k t : ℕ) (es : ℕ → Event) (r : Run T op es last) (l : k ≤ last)
+    (below : t < op.threads) where
   abbrev more : ℕ → Event
   more j = if j == k then Go t else es j
 
-  same_state : (j : ℕ) → j ≤ k → state_at T n q more j ≡ state_at T n q es j
-  same_state j h = state_agree T n q es more j (λ i g. if_other i k (omega arith) (Go t) (es i))
+  same_state : (j : ℕ) → j ≤ k → state_at T op more j ≡ state_at T op es j
+  same_state j h = state_agree T op es more j (λ i g. if_other i k (omega arith) (Go t) (es i))
 
   goes_now : more k ≡ Go t
   goes_now = if_same k k refl (Go t) (es k)
 
-  enabled_more : (local_of (state_at T n q es k) t).pc ≢ 0 → (j : ℕ) → (j ≡ k) ⊎ (j < k)
-      → Enabled (state_at T n q more j) (more j)
+  enabled_more : (local_of (state_at T op es k) t).pc ≢ 0 → (j : ℕ) → (j ≡ k) ⊎ (j < k)
+      → Enabled (state_at T op more j) (more j)
   enabled_more h j (inl e) =
-      let o : StateLaws T.marks n q (state_at T n q es k) = law.states n q last k es r l in
-      let th : t < length (state_at T n q es k).locals = rw o.locals below in
-      subst (λ i. Enabled (state_at T n q more i) (more i)) (sym e)
-      (subst (λ z. Enabled (state_at T n q more k) z) (sym goes_now)
+      let o : StateLaws T.marks (sizes op) (state_at T op es k) = law.states op last k es r l in
+      let th : t < length (state_at T op es k).locals = rw o.locals below in
+      subst (λ i. Enabled (state_at T op more i) (more i)) (sym e)
+      (subst (λ z. Enabled (state_at T op more k) z) (sym goes_now)
       (subst (λ z. Enabled z (Go t)) (sym (same_state k (omega arith))) (th, h)))
   enabled_more h j (inr g) =
-      subst (λ z. Enabled (state_at T n q more j) z) (sym (if_other j k (omega arith) (Go t) (es j)))
+      subst (λ z. Enabled (state_at T op more j) z) (sym (if_other j k (omega arith) (Go t) (es j)))
       (subst (λ z. Enabled z (es j)) (sym (same_state j (omega arith))) (r.enabled j (omega arith)))
 
   last_or_before : (j : ℕ) → j < suc k → (j ≡ k) ⊎ (j < k)
   last_or_before j h = grind arith
 
-  run_more : (local_of (state_at T n q es k) t).pc ≢ 0 → Run T n q more (suc k)
-  run_more h = record { limits = r.limits; enabled = λ j g. enabled_more h j (last_or_before j g) }
+  run_more : (local_of (state_at T op es k) t).pc ≢ 0 → Run T op more (suc k)
+  run_more h = record { opens = r.opens; enabled = λ j g. enabled_more h j (last_or_before j g) }
 
-  action_in_table : (local_of (state_at T n q es k) t).pc ≢ 0
-      → word_named (T.next (local_of (state_at T n q es k) t)) < word_count n q
+  action_in_table : (local_of (state_at T op es k) t).pc ≢ 0
+      → word_named (T.next (local_of (state_at T op es k) t)) < word_count (sizes op)
   action_in_table h =
-      let st : StepAt T n q more k t = law.steps n q (suc k) k t more (run_more h) (omega arith) goes_now in
-      subst (λ (s : State). word_named (T.next (local_of s t)) < word_count n q) (same_state k (omega arith)) st.in_table
+      let st : StepAt T op more k t = law.steps op (suc k) k t more (run_more h) (omega arith) goes_now in
+      subst (λ (s : State). word_named (T.next (local_of s t)) < word_count (sizes op)) (same_state k (omega arith)) st.in_table
 
-  pub thread_in_range : ThreadInRange T n q t (local_of (state_at T n q es k) t)
+  pub thread_in_range : ThreadInRange T (sizes op) t (local_of (state_at T op es k) t)
   thread_in_range = record {
-    registers = (law.states n q last k es r l).threads t below;
+    registers = (law.states op last k es r l).threads t below;
     action = action_in_table;
   }
 
 pub in_range_of : (T : Table) → Lawful T → InRange T
-in_range_of T law n q last k t es r l below = thread_in_range T law n q last k t es r l below
+in_range_of T law op last k t es r l below = thread_in_range T law op last k t es r l below
 
 chain_rises : (v : View) → IsOrdered v → (i : ℕ) (ns : List ℕ) → v.published i → Segment v i ns 1
     → RisesFrom (v.key i) (map v.key (ns ++ 1 ∷ []))
@@ -86,53 +86,53 @@ sorted_of v ord c = record {
 }
 
 pub sorted_chain_of : (T : Table) → Lawful T → SortedChain T
-sorted_chain_of T law n q last k es r l =
-    let o : StateLaws T.marks n q (state_at T n q es k) = law.states n q last k es r l in
-    sorted_of (views T n q es k) o.ordered (chain_is (views T n q es k) o.ordered)
+sorted_chain_of T law op last k es r l =
+    let o : StateLaws T.marks (sizes op) (state_at T op es k) = law.states op last k es r l in
+    sorted_of (views T op es k) o.ordered (chain_is (views T op es k) o.ordered)
 
 pub lock_words_of : (T : Table) → Lawful T → LockWords T
-lock_words_of T law n q last k x es r l i h = lock_word T law n q es last x r i h k l
+lock_words_of T law op last k x es r l i h = lock_word T law op es last x r i h k l
 
 pub lock_uses_of : (T : Table) → Lawful T → LockUses T
-lock_uses_of T law n q last k t es r l e = (law.steps n q last k t es r l e).lock_use
+lock_uses_of T law op last k t es r l e = (law.steps op last k t es r l e).lock_use
 
 pub unlinked_stays_of : (T : Table) → Lawful T → UnlinkedNodesStay T
-unlinked_stays_of T law n q last j k i es r below l m = law.unlinked_stays n q last j k i es r below l m
+unlinked_stays_of T law op last j k i es r below l m = law.unlinked_stays op last j k i es r below l m
 
 pub seen_before_of : (T : Table) → Lawful T → SeenInThePast T
-seen_before_of T law n q last j k b es r below l c = law.seen_before n q last j k b es r below l c
+seen_before_of T law op last j k b es r below l c = law.seen_before op last j k b es r below l c
 
 pub unmarked_in_chain_of : (T : Table) → Lawful T → UnmarkedNodesInChain T
-unmarked_in_chain_of T law n q last k es r l = (law.states n q last k es r l).marked
+unmarked_in_chain_of T law op last k es r l = (law.states op last k es r l).marked
 
 -- an account says what each entry does
 pub account_is : (T : Table) → Lawful T → HasAccount T
-account_is T law n q last es r = account_of T law n q es last r
+account_is T law op last es r = account_of T law op es last r
 
-change_named : (n q : ℕ) (log : Log) (contents : Contents) (counts : Counts) (k : ℕ) (e : Entry)
-    → Enters n q log contents counts k e
-    → ChangeIsNamed n q log contents counts k e
-change_named n q log contents counts k (began t call) a = (a.content, a.same_counts)
-change_named n q log contents counts k (stepped t change reply) a = (a.content, a.may, a.own_count, a.other_counts)
+change_named : (sz : Sizes) (log : Log) (contents : Contents) (counts : Counts) (k : ℕ) (e : Entry)
+    → Enters sz.threads sz.quota log contents counts k e
+    → ChangeIsNamed sz.threads sz.quota log contents counts k e
+change_named sz log contents counts k (began t call) a = (a.content, a.same_counts)
+change_named sz log contents counts k (stepped t change reply) a = (a.content, a.may, a.own_count, a.other_counts)
 
 pub named_change_of : (T : Table) → Lawful T → NamedChange T
-named_change_of T law n q last k es r l =
-    change_named n q (log_of T n q es) (contents_of (views T n q es)) (counts_of (views T n q es)) k (log_of T n q es k)
-    ((account_is T law n q last es r).enters k l)
+named_change_of T law op last k es r l =
+    change_named (sizes op) (log_of T op es) (contents_of (views T op es)) (counts_of (views T op es)) k (log_of T op es k)
+    ((account_is T law op last es r).enters k l)
 
 pub no_link_is_marked_of : (T : Table) → Lawful T → NoLinkIsMarked T
-no_link_is_marked_of T law n q last k i es r l bare inn = (law.states n q last k es r l).unmarked bare i inn
+no_link_is_marked_of T law op last k i es r l bare inn = (law.states op last k es r l).unmarked bare i inn
 
 pub frozen_nodes_of : (T : Table) → Lawful T → FrozenNodes T
-frozen_nodes_of T law n q last k i es r l p = record {
-  unlinked = λ out later a b. ((law.unlinked_stays n q last k later i es r a b p).unlinked out).0;
-  marked = λ marks odd later a b. (law.unlinked_stays n q last k later i es r a b p).marked marks odd;
+frozen_nodes_of T law op last k i es r l p = record {
+  unlinked = λ out later a b. ((law.unlinked_stays op last k later i es r a b p).unlinked out).0;
+  marked = λ marks odd later a b. (law.unlinked_stays op last k later i es r a b p).marked marks odd;
 }
 
 pub replies_fit_of : (T : Table) → Lawful T → RepliesFit T
-replies_fit_of T law n q last k t es change reply r l e =
-    (subst (λ z. Enters n q (log_of T n q es) (contents_of (views T n q es)) (counts_of (views T n q es)) k z) e
-    ((account_is T law n q last es r).enters k l)).right
+replies_fit_of T law op last k t es change reply r l e =
+    (subst (λ z. Enters op.threads op.quota (log_of T op es) (contents_of (views T op es)) (counts_of (views T op es)) k z) e
+    ((account_is T law op last es r).enters k l)).right
 
 true_or_read : (done : Bool) (q : ℕ) (contents : Contents) (counts : Counts) (first now t : ℕ) (called : Call)
     → RightReply done q contents counts first now t called (Some True) → (done ≡ true) ⊎ IsContains called
@@ -143,10 +143,10 @@ true_or_read false q contents counts first now t (call.Contains k) h = inr tt
 true_or_read false q contents counts first now t (call.Ceiling k) h = absurd h.fits
 
 pub true_means_change_of : (T : Table) → Lawful T → TrueMeansChange T
-true_means_change_of T law n q last k t es change r l e =
-    true_or_read (has_changed (log_of T n q es) t (suc k)) q (contents_of (views T n q es)) (counts_of (views T n q es))
-    (begun_at (log_of T n q es) t k) (suc k) t (last_call (log_of T n q es) t k)
-    (replies_fit_of T law n q last k t es change True r l e)
+true_means_change_of T law op last k t es change r l e =
+    true_or_read (has_changed (log_of T op es) t (suc k)) op.quota (contents_of (views T op es)) (counts_of (views T op es))
+    (begun_at (log_of T op es) t k) (suc k) t (last_call (log_of T op es) t k)
+    (replies_fit_of T law op last k t es change True r l e)
 
 listed : (v : View) → ContentList v → ContentIsListed v
 listed v c = record {
@@ -158,4 +158,4 @@ listed v c = record {
 }
 
 pub listed_content_of : (T : Table) → Lawful T → ListedContent T
-listed_content_of T law n q last k es r l = listed (views T n q es k) (content_at T n q last k es law r l)
+listed_content_of T law op last k es r l = listed (views T op es k) (content_at T op last k es law r l)

@@ -3,7 +3,7 @@ use Rattle.std.specs.Prelude.{◌≡◌, ◌≢◌, ℕ, ◌+◌, ◌*◌, ◌/�
 use Rattle.std.proofs.Common.{arith, inl, inr, sym, ◌∙◌, ap, subst, zero, suc, get_or-set_other, get_or-set_same}
 use Rattle.std.proofs.lemmas.List.FromFn.{get_or-map-range_with_len}
 use Rattle.lset_words.proofs.Numbers.{same_or_not, below_or_not, if_same, if_other, if_below, if_not_below}
-use Rattle.lset_words.specs.Words.{key_index, link_index, node_count, tail_word, target}
+use Rattle.lset_words.specs.Words.{key_index, link_index, node_count, tail_word, target, Opening, sizes}
 use Rattle.lset_words.specs.declared.Call.{Call}
 use Rattle.lset_words.specs.declared.Call.TheVariants.{Add, Remove, Contains, Ceiling}
 use Rattle.lset_words.specs.declared.Reply.TheVariants.{True, False, Nothing}
@@ -159,14 +159,14 @@ no_read (Remove k) h r = r
 no_read (Contains k) h r = h tt
 no_read (Ceiling k) h r = r
 
-module _ (T : Table) (law : Lawful T) (rows : HasReadRows T) (n q : ℕ) where
+module _ (T : Table) (law : Lawful T) (rows : HasReadRows T) (op : Opening) where
   abbrev size : ℕ
-  size = node_count n q
+  size = node_count (sizes op)
 
   -- the own step, in the view before it
-  module _ (s : State) (o : StateLaws T.marks n q s) (t : ℕ) (th : t < n) (steps : ℕ) where
+  module _ (s : State) (o : StateLaws T.marks (sizes op) s) (t : ℕ) (th : t < op.threads) (steps : ℕ) where
     abbrev V : View
-    V = view_of n q s
+    V = view_of (sizes op) s
 
     abbrev L : Local
     L = local_of s t
@@ -259,25 +259,25 @@ module _ (T : Table) (law : Lawful T) (rows : HasReadRows T) (n q : ℕ) where
         ]
 
   -- a begin
-  starts : (s : State) (o : StateLaws T.marks n q s) (call : Call) (l : Local) → Walked (view_of n q s) size 0 (T.begin call l)
+  starts : (s : State) (o : StateLaws T.marks (sizes op) s) (call : Call) (l : Local) → Walked (view_of (sizes op) s) size 0 (T.begin call l)
   starts s o (Add k) l = writing (λ r. subst IsRead (law.begins (Add k) l).called r)
   starts s o (Remove k) l = writing (λ r. subst IsRead (law.begins (Remove k) l).called r)
   starts s o (Contains k) l =
-      let v : View = view_of n q s in
-      let head : (view_of n q s).key 0 ≡ 0 = o.head_key in
-      subst (λ (x : Local). Walked (view_of n q s) size 0 x) (sym (rows.begins (Contains k) l))
+      let v : View = view_of (sizes op) s in
+      let head : (view_of (sizes op) s).key 0 ≡ 0 = o.head_key in
+      subst (λ (x : Local). Walked (view_of (sizes op) s) size 0 x) (sym (rows.begins (Contains k) l))
       (before_link refl o.ordered.head_published (omega arith) 1
-      (tally_more 0 o.ordered.head_published (omega arith) (tally_none (view_of n q s) size ((view_of n q s).key 0))) refl)
+      (tally_more 0 o.ordered.head_published (omega arith) (tally_none (view_of (sizes op) s) size ((view_of (sizes op) s).key 0))) refl)
   starts s o (Ceiling k) l =
-      subst (λ (x : Local). Walked (view_of n q s) size 0 x) (sym (rows.begins (Ceiling k) l)) (searching (λ r. r) (inl refl))
+      subst (λ (x : Local). Walked (view_of (sizes op) s) size 0 x) (sym (rows.begins (Ceiling k) l)) (searching (λ r. r) (inl refl))
 
-  module _ (es : ℕ → Event) (last : ℕ) (r : Run T n q es last) (t : ℕ) (th : t < n) where
-    laws : (k : ℕ) → k ≤ last → StateLaws T.marks n q (state_at T n q es k)
-    laws k l = law.states n q last k es r l
+  module _ (es : ℕ → Event) (last : ℕ) (r : Run T op es last) (t : ℕ) (th : t < op.threads) where
+    laws : (k : ℕ) → k ≤ last → StateLaws T.marks (sizes op) (state_at T op es k)
+    laws k l = law.states op last k es r l
 
-    later : (k : ℕ) → k < last → Later (views T n q es k) (views T n q es (suc k))
+    later : (k : ℕ) → k < last → Later (views T op es k) (views T op es (suc k))
     later k l i p =
-        let u = law.unlinked_stays n q last k (suc k) i es r (omega arith) (omega arith) p in (u.published, u.key)
+        let u = law.unlinked_stays op last k (suc k) i es r (omega arith) (omega arith) p in (u.published, u.key)
 
     local_same : (s : State) (l : Local) → t < length s.locals → slice_index_or (slice_set s.locals t l) t (idle 0 0) ≡ l
     local_same s l h = get_or-set_same s.locals t l (idle 0 0) h
@@ -285,98 +285,98 @@ module _ (T : Table) (law : Lawful T) (rows : HasReadRows T) (n q : ℕ) where
     local_other : (s : State) (u : ℕ) (l : Local) → t ≢ u → slice_index_or (slice_set s.locals u l) t (idle 0 0) ≡ local_of s t
     local_other s u l d = get_or-set_other s.locals u t l (idle 0 0) d
 
-    opening_local : local_of (state_at T n q es 0) t ≡ idle q t
-    opening_local = get_or-map-range_with_len (idle q) 0 n t t (idle 0 0) th (omega arith)
+    opening_local : local_of (state_at T op es 0) t ≡ idle op.quota t
+    opening_local = get_or-map-range_with_len (idle op.quota) 0 op.threads t t (idle 0 0) th (omega arith)
 
     -- one event, in the view before it
-    walked_after : (k : ℕ) → k < last → (e : Event) → es k ≡ e → Enabled (state_at T n q es k) e
-        → Walked (views T n q es k) size (steps_since es t k) (local_of (state_at T n q es k) t)
-        → Walked (views T n q es k) size (steps_after e t (steps_since es t k)) (local_of (after T (state_at T n q es k) e) t)
+    walked_after : (k : ℕ) → k < last → (e : Event) → es k ≡ e → Enabled (state_at T op es k) e
+        → Walked (views T op es k) size (steps_since es t k) (local_of (state_at T op es k) t)
+        → Walked (views T op es k) size (steps_after e t (steps_since es t k)) (local_of (after T (state_at T op es k) e) t)
     walked_after k l (Begin u call) ee en w = elim (same_or_not u t) [
-      | inl y ↦ subst (λ m. Walked (views T n q es k) size m (local_of (after T (state_at T n q es k) (Begin u call)) t))
+      | inl y ↦ subst (λ m. Walked (views T op es k) size m (local_of (after T (state_at T op es k) (Begin u call)) t))
           (sym (if_same u t y 0 (steps_since es t k)))
-          (subst (λ (x : Local). Walked (views T n q es k) size 0 x)
-          (sym (ap (λ z. local_of (after T (state_at T n q es k) (Begin z call)) t) y
-          ∙ local_same (state_at T n q es k) (T.begin call (local_of (state_at T n q es k) t))
-          (subst (λ z. z < length (state_at T n q es k).locals) y en.0)))
-          (starts (state_at T n q es k) (laws k (omega arith)) call (local_of (state_at T n q es k) t)))
-      | inr y ↦ subst (λ m. Walked (views T n q es k) size m (local_of (after T (state_at T n q es k) (Begin u call)) t))
+          (subst (λ (x : Local). Walked (views T op es k) size 0 x)
+          (sym (ap (λ z. local_of (after T (state_at T op es k) (Begin z call)) t) y
+          ∙ local_same (state_at T op es k) (T.begin call (local_of (state_at T op es k) t))
+          (subst (λ z. z < length (state_at T op es k).locals) y en.0)))
+          (starts (state_at T op es k) (laws k (omega arith)) call (local_of (state_at T op es k) t)))
+      | inr y ↦ subst (λ m. Walked (views T op es k) size m (local_of (after T (state_at T op es k) (Begin u call)) t))
           (sym (if_other u t y 0 (steps_since es t k)))
-          (subst (λ (x : Local). Walked (views T n q es k) size (steps_since es t k) x)
-          (sym (local_other (state_at T n q es k) u (T.begin call (local_of (state_at T n q es k) u)) (λ z. y (sym z)))) w)
+          (subst (λ (x : Local). Walked (views T op es k) size (steps_since es t k) x)
+          (sym (local_other (state_at T op es k) u (T.begin call (local_of (state_at T op es k) u)) (λ z. y (sym z)))) w)
     ]
     walked_after k l (Go u) ee en w = elim (same_or_not u t) [
       | inl y ↦
-          (let en' : Enabled (state_at T n q es k) (Go t) = subst (λ z. Enabled (state_at T n q es k) (Go z)) y en in
-          let st = law.steps n q last k t es r l (ee ∙ ap (λ z. Go z) y) in
+          (let en' : Enabled (state_at T op es k) (Go t) = subst (λ z. Enabled (state_at T op es k) (Go z)) y en in
+          let st = law.steps op last k t es r l (ee ∙ ap (λ z. Go z) y) in
           let more : (if u == t then steps_since es t k + 1 else steps_since es t k) ≡ suc (steps_since es t k) =
           if_same u t y (steps_since es t k + 1) (steps_since es t k) ∙ (omega arith) in
-          subst (λ m. Walked (views T n q es k) size m (local_of (after T (state_at T n q es k) (Go u)) t)) (sym more)
-          (subst (λ (x : Local). Walked (views T n q es k) size (suc (steps_since es t k)) x)
-          (sym (ap (λ z. local_of (after T (state_at T n q es k) (Go z)) t) y
-          ∙ local_same (state_at T n q es k)
-          (T.feed (local_of (state_at T n q es k) t) (seen_next T (state_at T n q es k) t)).local en'.0))
-          (own_step (state_at T n q es k) (laws k (omega arith)) t th (steps_since es t k) en'.1 st.same_call w)))
-      | inr y ↦ subst (λ m. Walked (views T n q es k) size m (local_of (after T (state_at T n q es k) (Go u)) t))
+          subst (λ m. Walked (views T op es k) size m (local_of (after T (state_at T op es k) (Go u)) t)) (sym more)
+          (subst (λ (x : Local). Walked (views T op es k) size (suc (steps_since es t k)) x)
+          (sym (ap (λ z. local_of (after T (state_at T op es k) (Go z)) t) y
+          ∙ local_same (state_at T op es k)
+          (T.feed (local_of (state_at T op es k) t) (seen_next T (state_at T op es k) t)).local en'.0))
+          (own_step (state_at T op es k) (laws k (omega arith)) t th (steps_since es t k) en'.1 st.same_call w)))
+      | inr y ↦ subst (λ m. Walked (views T op es k) size m (local_of (after T (state_at T op es k) (Go u)) t))
           (sym (if_other u t y (steps_since es t k + 1) (steps_since es t k)))
-          (subst (λ (x : Local). Walked (views T n q es k) size (steps_since es t k) x)
-          (sym (local_other (state_at T n q es k) u
-          (T.feed (local_of (state_at T n q es k) u) (seen_next T (state_at T n q es k) u)).local (λ z. y (sym z)))) w)
+          (subst (λ (x : Local). Walked (views T op es k) size (steps_since es t k) x)
+          (sym (local_other (state_at T op es k) u
+          (T.feed (local_of (state_at T op es k) u) (seen_next T (state_at T op es k) u)).local (λ z. y (sym z)))) w)
     ]
 
     walked_at : (k : ℕ) → k ≤ last
-        → Walked (views T n q es k) size (steps_since es t k) (local_of (state_at T n q es k) t)
+        → Walked (views T op es k) size (steps_since es t k) (local_of (state_at T op es k) t)
     walked_at zero l = resting (ap (λ (x : Local). x.pc) opening_local)
     walked_at (suc k) l =
         walked_on (later k (omega arith)) (walked_after k (omega arith) (es k) refl (r.enabled k (omega arith)) (walked_at k (omega arith)))
 
-    reads_next : (k : ℕ) (l : k ≤ last) → (local_of (state_at T n q es k) t).pc ≢ 0
-        → IsContains (local_of (state_at T n q es k) t).call
-        → Walked (views T n q es k) size (steps_since es t k) (local_of (state_at T n q es k) t) → ReadsNext T n q es k t
+    reads_next : (k : ℕ) (l : k ≤ last) → (local_of (state_at T op es k) t).pc ≢ 0
+        → IsContains (local_of (state_at T op es k) t).call
+        → Walked (views T op es k) size (steps_since es t k) (local_of (state_at T op es k) t) → ReadsNext T op es k t
     reads_next k l busy reads (resting e) = absurd (busy e)
-    reads_next k l busy reads (writing c) = absurd (no_read (local_of (state_at T n q es k) t).call c reads)
+    reads_next k l busy reads (writing c) = absurd (no_read (local_of (state_at T op es k) t).call c reads)
     reads_next k l busy reads (searching c r) = absurd (c reads)
     reads_next k l busy reads (before_link e p lt met a m) =
-        let o : StateLaws T.marks n q (state_at T n q es k) = laws k l in
-        let low : target (local_of (state_at T n q es k) t).call < tail_word = (o.threads t th).low in
-        let top : (views T n q es k).key 1 ≡ tail_word = o.tail_key in
-        let few : met < node_count n q = tally_few o.ordered.tail_published (omega arith) (omega arith) a in
+        let o : StateLaws T.marks (sizes op) (state_at T op es k) = laws k l in
+        let low : target (local_of (state_at T op es k) t).call < tail_word = (o.threads t th).low in
+        let top : (views T op es k).key 1 ≡ tail_word = o.tail_key in
+        let few : met < node_count (sizes op) = tally_few o.ordered.tail_published (omega arith) (omega arith) a in
         record {
           loads = (
-            link_index (local_of (state_at T n q es k) t).curr,
-            rows.acts (local_of (state_at T n q es k) t) (inl e) ∙ (rw e refl),
+            link_index (local_of (state_at T op es k) t).curr,
+            rows.acts (local_of (state_at T op es k) t) (inl e) ∙ (rw e refl),
           );
           few = omega arith;
         }
     reads_next k l busy reads (before_key e p met a m) =
-        let o : StateLaws T.marks n q (state_at T n q es k) = laws k l in
-        let top : (views T n q es k).key (local_of (state_at T n q es k) t).curr ≤ (views T n q es k).key 1 =
-        o.ordered.top (local_of (state_at T n q es k) t).curr p in
-        let few : met < node_count n q = tally_few o.ordered.tail_published (omega arith) top a in
+        let o : StateLaws T.marks (sizes op) (state_at T op es k) = laws k l in
+        let top : (views T op es k).key (local_of (state_at T op es k) t).curr ≤ (views T op es k).key 1 =
+        o.ordered.top (local_of (state_at T op es k) t).curr p in
+        let few : met < node_count (sizes op) = tally_few o.ordered.tail_published (omega arith) top a in
         record {
           loads = (
-            key_index (local_of (state_at T n q es k) t).curr,
-            rows.acts (local_of (state_at T n q es k) t) (inr (inl e)) ∙ (rw e refl),
+            key_index (local_of (state_at T op es k) t).curr,
+            rows.acts (local_of (state_at T op es k) t) (inr (inl e)) ∙ (rw e refl),
           );
           few = omega arith;
         }
     reads_next k l busy reads (before_mark e p f met a m) =
-        let o : StateLaws T.marks n q (state_at T n q es k) = laws k l in
-        let low : target (local_of (state_at T n q es k) t).call < tail_word = (o.threads t th).low in
-        let top : (views T n q es k).key 1 ≡ tail_word = o.tail_key in
-        let few : suc met < node_count n q = tally_few o.ordered.tail_published (omega arith) (omega arith)
-        (tally_more (local_of (state_at T n q es k) t).curr p (o.inside (local_of (state_at T n q es k) t).curr p) a) in
+        let o : StateLaws T.marks (sizes op) (state_at T op es k) = laws k l in
+        let low : target (local_of (state_at T op es k) t).call < tail_word = (o.threads t th).low in
+        let top : (views T op es k).key 1 ≡ tail_word = o.tail_key in
+        let few : suc met < node_count (sizes op) = tally_few o.ordered.tail_published (omega arith) (omega arith)
+        (tally_more (local_of (state_at T op es k) t).curr p (o.inside (local_of (state_at T op es k) t).curr p) a) in
         record {
           loads = (
-            link_index (local_of (state_at T n q es k) t).curr,
-            rows.acts (local_of (state_at T n q es k) t) (inr (inr (inl e))) ∙ (rw e refl),
+            link_index (local_of (state_at T op es k) t).curr,
+            rows.acts (local_of (state_at T op es k) t) (inr (inr (inl e))) ∙ (rw e refl),
           );
           few = omega arith;
         }
 
 pub bounded_reads : (T : Table) → Lawful T → HasReadRows T → BoundedReads T
-bounded_reads T law rows n q last k t es r l th busy reads =
-    reads_next T law rows n q es last r t th k l busy reads (walked_at T law rows n q es last r t th k l)
+bounded_reads T law rows op last k t es r l th busy reads =
+    reads_next T law rows op es last r t th k l busy reads (walked_at T law rows op es last r t th k l)
 
 -- an open contains or ceiling stands at one of its rows
 row_of : {v : View} {size steps : ℕ} {l : Local} → l.pc ≢ 0 → IsRead l.call → Walked v size steps l → IsReadRow l.pc
@@ -389,7 +389,7 @@ row_of busy reads (before_link e p lt met a m) = inl e
 row_of busy reads (before_key e p met a m) = inr (inl e)
 row_of busy reads (before_mark e p f met a m) = inr (inr (inl e))
 
-pub read_row : (T : Table) → Lawful T → HasReadRows T → (n q last k t : ℕ) (es : ℕ → Event) → Run T n q es last → k ≤ last → t < n
-    → (local_of (state_at T n q es k) t).pc ≢ 0 → IsRead (local_of (state_at T n q es k) t).call
-    → IsReadRow (local_of (state_at T n q es k) t).pc
-read_row T law rows n q last k t es r l th busy reads = row_of busy reads (walked_at T law rows n q es last r t th k l)
+pub read_row : (T : Table) → Lawful T → HasReadRows T → (op : Opening) (last k t : ℕ) (es : ℕ → Event) → Run T op es last → k ≤ last → t < op.threads
+    → (local_of (state_at T op es k) t).pc ≢ 0 → IsRead (local_of (state_at T op es k) t).call
+    → IsReadRow (local_of (state_at T op es k) t).pc
+read_row T law rows op last k t es r l th busy reads = row_of busy reads (walked_at T law rows op es last r t th k l)

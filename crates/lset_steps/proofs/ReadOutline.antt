@@ -8,7 +8,7 @@ use Rattle.lset_words.specs.declared.Call.TheVariants.{Add, Remove, Contains, Ce
 use Rattle.lset_words.specs.declared.Key.{Key}
 use Rattle.lset_words.specs.declared.Reply.TheVariants.{True, False}
 use Rattle.lset_words.specs.declared.Reply.TheVariants as reply
-use Rattle.lset_words.specs.Words.{key_index, link_index, tail_word, node_count, target, key_of}
+use Rattle.lset_words.specs.Words.{key_index, link_index, tail_word, node_count, target, key_of, Sizes}
 use Rattle.lset_words.specs.Account.{FitsSometime}
 use Rattle.lset_steps.specs.declared.Local.{Local}
 use Rattle.lset_steps.specs.declared.Fed.{Fed}
@@ -109,22 +109,22 @@ pub even_or_odd : (x : ℕ) → (x % 2 ≡ 0) ⊎ (x % 2 ≡ 1)
 even_or_odd x = grind arith
 
 -- THE ROWS, in every table that has them at 20 to 25, whatever the protocol
-module _ (T : Table) (P : Protocol T.marks) (At : Outline) (n q t : ℕ) (vs : ℕ → View) (first now : ℕ) (ws : List ℕ)
+module _ (T : Table) (P : Protocol T.marks) (At : Outline) (sz : Sizes) (t : ℕ) (vs : ℕ → View) (first now : ℕ) (ws : List ℕ)
     (used : ℕ → ℕ) (done : Bool) (l : Local)
-    (h : Here T.marks n q vs now ws used) (th : Thread At n q t vs first now ws used done l)
+    (h : Here T.marks sz vs now ws used) (th : Thread At sz t vs first now ws used done l)
     (rows : HasReadRows T)
-    (reading : (l' : Local) → Reading vs first (suc now) done l' → At q t vs first (suc now) (view n q ws used) done l')
-    (idle : (l' : Local) → l'.pc ≡ 0 → At q t vs first (suc now) (view n q ws used) done l') where
+    (reading : (l' : Local) → Reading vs first (suc now) done l' → At sz.quota t vs first (suc now) (view sz ws used) done l')
+    (idle : (l' : Local) → l'.pc ≡ 0 → At sz.quota t vs first (suc now) (view sz ws used) done l') where
   abbrev Goal : Type 0
-  Goal = Turn T P At n q t vs first now ws used done l
+  Goal = Turn T P At sz t vs first now ws used done l
 
   abbrev V : View
-  V = view n q ws used
+  V = view sz ws used
 
-  M : Memory T.marks n q ws used
+  M : Memory T.marks sz ws used
   M = h.memory
 
-  regs : Registers n q t l
+  regs : Registers sz t l
   regs = th.registers
 
   key_now : (a : ℕ) → (vs now).key a ≡ node_key ws a
@@ -158,14 +158,14 @@ module _ (T : Table) (P : Protocol T.marks) (At : Outline) (n q t : ℕ) (vs : �
       (omega arith) (in_chain_published (vs a.past.at) (h.course.ordered a.past.at upto) l.curr a.past.in_chain) in
       let kn : (vs now).key l.curr ≡ node_key ws l.curr = key_now l.curr in
       let low : (vs a.past.at).key l.curr < target l.call = a.low in
-      let user : l.curr ≢ 1 = inner T.marks n q ws used M l.curr (target l.call) (omega arith) regs.low in
-      let inn : s / 2 < node_count n q = inside T.marks n q ws used M (s / 2) (M.ordered.next_published l.curr published user) in
-      let curr : l.curr < node_count n q = regs.curr in
+      let user : l.curr ≢ 1 = inner T.marks sz ws used M l.curr (target l.call) (omega arith) regs.low in
+      let inn : s / 2 < node_count sz = inside T.marks sz ws used M (s / 2) (M.ordered.next_published l.curr published user) in
+      let curr : l.curr < node_count sz = regs.curr in
       let on : At21 vs first now (key_of l.call).0 (s / 2) = subst (λ x. At21 vs first now (key_of l.call).0 (x / 2))
       (link_now l.curr) (from20 vs now first now (key_of l.call).0 l.curr h.course (omega arith) a) in
       passes (Load (link_index l.curr)) ws (record l { pc = 21; curr = s / 2 })
-      (rows.acts l (inl e) ∙ (rw e refl)) (rows.feeds l s (inl e) ∙ (rw e refl)) (rows.tells l s (inl e)) (P.loads n q t ws used (link_index l.curr) (omega arith))
-      (keep_walk n q t 21 l.pred (s / 2) l regs.pred inn regs, refl, refl, λ x. omega arith)
+      (rows.acts l (inl e) ∙ (rw e refl)) (rows.feeds l s (inl e) ∙ (rw e refl)) (rows.tells l s (inl e)) (P.loads sz t ws used (link_index l.curr) (omega arith))
+      (keep_walk sz t 21 l.pred (s / 2) l regs.pred inn regs, refl, refl, λ x. omega arith)
       (reading (record l { pc = 21; curr = s / 2 })
       (reads21 refl d c (at21_on vs first now (suc now) (key_of l.call).0 (s / 2) (omega arith) on)))
 
@@ -174,14 +174,14 @@ module _ (T : Table) (P : Protocol T.marks) (At : Outline) (n q t : ℕ) (vs : �
       let s : ℕ = node_key ws l.curr in
       let k : ℕ = target l.call in
       let kn : (vs now).key l.curr ≡ node_key ws l.curr = key_now l.curr in
-      let curr : l.curr < node_count n q = regs.curr in
-      let loads = P.loads n q t ws used (key_index l.curr) (omega arith) in
+      let curr : l.curr < node_count sz = regs.curr in
+      let loads = P.loads sz t ws used (key_index l.curr) (omega arith) in
       let acts' : T.next l ≡ Load (key_index l.curr) = rows.acts l (inr (inl e)) ∙ (rw e refl) in
       let feeds' : T.feed l s ≡ read_key l s = rows.feeds l s (inr (inl e)) ∙ (rw e refl) in
       elim (below_or_not s k) [
         | inl lt ↦ passes (Load (key_index l.curr)) ws (record l { pc = 20 }) acts'
             (feeds' ∙ if_below s k lt (continued (record l { pc = 20 })) (if s == k then continued (record l { pc = 22 }) else leaves_with False l))
-            (rows.tells l s (inr (inl e))) loads (keep n q t 20 l.reply l regs, refl, refl, λ x. omega arith)
+            (rows.tells l s (inr (inl e))) loads (keep sz t 20 l.reply l regs, refl, refl, λ x. omega arith)
             (reading (record l { pc = 20 }) (reads20 refl d c (at20_on vs first now (suc now) (key_of l.call).0 l.curr (omega arith)
             (from21_less vs now first now (key_of l.call).0 l.curr h.course (omega arith) a top (omega arith)))))
         | inr ge ↦
@@ -189,15 +189,15 @@ module _ (T : Table) (P : Protocol T.marks) (At : Outline) (n q t : ℕ) (vs : �
             elim (same_or_not s k) [
               | inl y ↦ passes (Load (key_index l.curr)) ws (record l { pc = 22 }) acts'
                   (feeds' ∙ skip ∙ if_same s k y (continued (record l { pc = 22 })) (leaves_with False l))
-                  (rows.tells l s (inr (inl e))) loads (keep n q t 22 l.reply l regs, refl, refl, λ x. omega arith)
+                  (rows.tells l s (inr (inl e))) loads (keep sz t 22 l.reply l regs, refl, refl, λ x. omega arith)
                   (reading (record l { pc = 22 }) (reads22 refl d c (at22_on vs first now (suc now) (key_of l.call).0 l.curr (omega arith)
                   (from21_same vs now first now (key_of l.call).0 l.curr h.course (omega arith) a top (omega arith)))))
               | inr y ↦ answers (Load (key_index l.curr)) ws (record l { pc = 0 }) False acts'
                   (feeds' ∙ skip ∙ if_other s k y (continued (record l { pc = 22 })) (leaves_with False l))
                   (rows.tells l s (inr (inl e))) loads
-                  (due_of done q vs first now t l.call False d (fits_lacked q vs first now t l.call c
+                  (due_of done sz.quota vs first now t l.call False d (fits_lacked sz.quota vs first now t l.call c
                   (from21_more vs now first now (key_of l.call).0 l.curr h.course (omega arith) a top (omega arith))))
-                  (keep n q t 0 l.reply l regs) refl refl refl (idle (record l { pc = 0 }) refl)
+                  (keep sz t 0 l.reply l regs) refl refl refl (idle (record l { pc = 0 }) refl)
             ])
       ]
 
@@ -213,22 +213,22 @@ module _ (T : Table) (P : Protocol T.marks) (At : Outline) (n q t : ℕ) (vs : �
       let low : target l.call < tail_word = regs.low in
       let c0 : l.curr ≢ 0 = λ f. (let g : node_key ws l.curr ≡ node_key ws 0 = ap (node_key ws) f in omega arith) in
       let c1 : l.curr ≢ 1 = λ f. (let g : node_key ws l.curr ≡ node_key ws 1 = ap (node_key ws) f in omega arith) in
-      let curr : l.curr < node_count n q = regs.curr in
+      let curr : l.curr < node_count sz = regs.curr in
       let ln : (vs now).link l.curr ≡ node_link ws l.curr = link_now l.curr in
-      let loads = P.loads n q t ws used (link_index l.curr) (omega arith) in
+      let loads = P.loads sz t ws used (link_index l.curr) (omega arith) in
       let acts' : T.next l ≡ Load (link_index l.curr) = rows.acts l (inr (inr (inl e))) ∙ (rw e refl) in
       let feeds' : T.feed l s ≡ read_mark l s = rows.feeds l s (inr (inr (inl e))) ∙ (rw e refl) in
       elim (even_or_odd s) [
         | inl y ↦ answers (Load (link_index l.curr)) ws (record l { pc = 0 }) True acts'
             (feeds' ∙ if_same (s % 2) 0 y (leaves_with True l) (leaves_with False l)) (rows.tells l s (inr (inr (inl e)))) loads
-            (due_of done q vs first now t l.call True d (fits_had q vs first now t l.call c
+            (due_of done sz.quota vs first now t l.call True d (fits_had sz.quota vs first now t l.call c
             (from22_true vs now first now (key_of l.call).0 l.curr h.course (omega arith) a (omega arith) (omega arith))))
-            (keep n q t 0 l.reply l regs) refl refl refl (idle (record l { pc = 0 }) refl)
+            (keep sz t 0 l.reply l regs) refl refl refl (idle (record l { pc = 0 }) refl)
         | inr y ↦ answers (Load (link_index l.curr)) ws (record l { pc = 0 }) False acts'
             (feeds' ∙ if_other (s % 2) 0 (omega arith) (leaves_with True l) (leaves_with False l)) (rows.tells l s (inr (inr (inl e)))) loads
-            (due_of done q vs first now t l.call False d (fits_lacked q vs first now t l.call c
+            (due_of done sz.quota vs first now t l.call False d (fits_lacked sz.quota vs first now t l.call c
             (from22_false vs now first now (key_of l.call).0 l.curr h.course (omega arith) a (omega arith))))
-            (keep n q t 0 l.reply l regs) refl refl refl (idle (record l { pc = 0 }) refl)
+            (keep sz t 0 l.reply l regs) refl refl refl (idle (record l { pc = 0 }) refl)
       ]
 
   from_23 : l.pc ≡ 23 → done ≡ false → l.call ≡ Ceiling (key_of l.call) → At20 vs first now (key_of l.call).0 l.curr → Goal
@@ -240,21 +240,21 @@ module _ (T : Table) (P : Protocol T.marks) (At : Outline) (n q t : ℕ) (vs : �
       (omega arith) (in_chain_published (vs a.past.at) (h.course.ordered a.past.at upto) l.curr a.past.in_chain) in
       let kn : (vs now).key l.curr ≡ node_key ws l.curr = key_now l.curr in
       let low : (vs a.past.at).key l.curr < target l.call = a.low in
-      let user : l.curr ≢ 1 = inner T.marks n q ws used M l.curr (target l.call) (omega arith) regs.low in
-      let inn : s / 2 < node_count n q = inside T.marks n q ws used M (s / 2) (M.ordered.next_published l.curr published user) in
-      let curr : l.curr < node_count n q = regs.curr in
+      let user : l.curr ≢ 1 = inner T.marks sz ws used M l.curr (target l.call) (omega arith) regs.low in
+      let inn : s / 2 < node_count sz = inside T.marks sz ws used M (s / 2) (M.ordered.next_published l.curr published user) in
+      let curr : l.curr < node_count sz = regs.curr in
       let on : At21 vs first now (key_of l.call).0 (s / 2) = subst (λ x. At21 vs first now (key_of l.call).0 (x / 2))
       (link_now l.curr) (from20 vs now first now (key_of l.call).0 l.curr h.course (omega arith) a) in
       passes (Load (link_index l.curr)) ws (record l { pc = 24; curr = s / 2 })
-      (rows.acts l (inr (inr (inr (inl e)))) ∙ (rw e refl)) (rows.feeds l s (inr (inr (inr (inl e)))) ∙ (rw e refl)) (rows.tells l s (inr (inr (inr (inl e))))) (P.loads n q t ws used (link_index l.curr) (omega arith))
-      (keep_walk n q t 24 l.pred (s / 2) l regs.pred inn regs, refl, refl, λ x. omega arith)
+      (rows.acts l (inr (inr (inr (inl e)))) ∙ (rw e refl)) (rows.feeds l s (inr (inr (inr (inl e)))) ∙ (rw e refl)) (rows.tells l s (inr (inr (inr (inl e))))) (P.loads sz t ws used (link_index l.curr) (omega arith))
+      (keep_walk sz t 24 l.pred (s / 2) l regs.pred inn regs, refl, refl, λ x. omega arith)
       (reading (record l { pc = 24; curr = s / 2 })
       (reads24 refl d c (at21_on vs first now (suc now) (key_of l.call).0 (s / 2) (omega arith) on)))
 
   -- the reply of a ceiling that stops at a key word, where the node before led to that node, fits then
   found_then : (a : At21 vs first now (key_of l.call).0 l.curr) (c : ℕ) → l.call ≡ Ceiling (key_of l.call)
       → (vs a.seen.at).key l.curr ≡ c → target l.call ≤ c → (c < tail_word → (vs now).link l.curr % 2 ≡ 0)
-      → FitsSometime q (contents_of vs) (counts_of vs) first now t l.call (ceiling_at c)
+      → FitsSometime sz.quota (contents_of vs) (counts_of vs) first now t l.call (ceiling_at c)
   found_then a c is key above unmarked =
       let upto : a.seen.at ≤ now = a.seen.upto in
       let ord = h.course.ordered a.seen.at upto in
@@ -268,8 +268,8 @@ module _ (T : Table) (P : Protocol T.marks) (At : Outline) (n q t : ℕ) (vs : �
         moment = a.seen.at;
         from = a.seen.from;
         upto = upto;
-        fits = subst (λ x. FitsIn q (vs a.seen.at) t x (ceiling_at c)) (sym is)
-            (ceiling_fits q t (vs a.seen.at) a.from c (key_of l.call) ord head tail a.seen.in_chain
+        fits = subst (λ x. FitsIn sz.quota (vs a.seen.at) t x (ceiling_at c)) (sym is)
+            (ceiling_fits sz.quota t (vs a.seen.at) a.from c (key_of l.call) ord head tail a.seen.in_chain
             (no_tail (vs a.seen.at) ord a.from (key_of l.call).0 (top a.seen.at upto) a.low) a.low
             (sym key ∙ ap (vs a.seen.at).key (sym curr)) above
             (λ lt. ap (λ x. (vs a.seen.at).link x % 2) curr
@@ -281,12 +281,12 @@ module _ (T : Table) (P : Protocol T.marks) (At : Outline) (n q t : ℕ) (vs : �
       let s : ℕ = node_key ws l.curr in
       let k : ℕ = target l.call in
       let kn : (vs now).key l.curr ≡ node_key ws l.curr = key_now l.curr in
-      let curr : l.curr < node_count n q = regs.curr in
+      let curr : l.curr < node_count sz = regs.curr in
       let past : InPast vs first now l.curr = from21_on vs now first now (key_of l.call).0 l.curr h.course (omega arith) a top in
       let most : node_key ws l.curr ≤ node_key ws 1 = M.ordered.top l.curr (past_published l.curr past) in
       let tail : node_key ws 1 ≡ tail_word = M.tail_key in
       let small : s ≤ tail_word = omega arith in
-      let loads = P.loads n q t ws used (key_index l.curr) (omega arith) in
+      let loads = P.loads sz t ws used (key_index l.curr) (omega arith) in
       let acts' : T.next l ≡ Load (key_index l.curr) = rows.acts l (inr (inr (inr (inr (inl e))))) ∙ (rw e refl) in
       let feeds' : T.feed l s ≡ ceiling_key l s = rows.feeds l s (inr (inr (inr (inr (inl e))))) ∙ (rw e refl) in
       let tells' : T.effect l s ≡ None = rows.tells l s (inr (inr (inr (inr (inl e))))) in
@@ -296,7 +296,7 @@ module _ (T : Table) (P : Protocol T.marks) (At : Outline) (n q t : ℕ) (vs : �
       elim (below_or_not s k) [
         | inl lt ↦ passes (Load (key_index l.curr)) ws (record l { pc = 23; ckey = s }) acts'
             (feeds' ∙ if_below s k lt on (if s == tail_word then none else stop)) tells' loads
-            (keep_ckey n q t 23 s l.reply l small regs, refl, refl, λ x. omega arith)
+            (keep_ckey sz t 23 s l.reply l small regs, refl, refl, λ x. omega arith)
             (reading (record l { pc = 23; ckey = s }) (reads23 refl d c (at20_on vs first now (suc now) (key_of l.call).0 l.curr
             (omega arith) (from21_less vs now first now (key_of l.call).0 l.curr h.course (omega arith) a top (omega arith)))))
         | inr ge ↦
@@ -306,13 +306,13 @@ module _ (T : Table) (P : Protocol T.marks) (At : Outline) (n q t : ℕ) (vs : �
             elim (same_or_not s tail_word) [
               | inl y ↦ answers (Load (key_index l.curr)) ws (record l { pc = 0; ckey = s }) reply.Nothing acts'
                   (feeds' ∙ skip ∙ if_same s tail_word y none stop) tells' loads
-                  (due_of done q vs first now t l.call reply.Nothing d
-                  (subst (FitsSometime q (contents_of vs) (counts_of vs) first now t l.call) (none_at s y)
+                  (due_of done sz.quota vs first now t l.call reply.Nothing d
+                  (subst (FitsSometime sz.quota (contents_of vs) (counts_of vs) first now t l.call) (none_at s y)
                   (found_then at.walk s c at.found ge (λ lt. absurd (omega arith)))))
-                  (keep_ckey n q t 0 s l.reply l small regs) refl refl refl (idle (record l { pc = 0; ckey = s }) refl)
+                  (keep_ckey sz t 0 s l.reply l small regs) refl refl refl (idle (record l { pc = 0; ckey = s }) refl)
               | inr y ↦ passes (Load (key_index l.curr)) ws (record l { pc = 25; ckey = s }) acts'
                   (feeds' ∙ skip ∙ if_other s tail_word y none stop) tells' loads
-                  (keep_ckey n q t 25 s l.reply l small regs, refl, refl, λ x. omega arith)
+                  (keep_ckey sz t 25 s l.reply l small regs, refl, refl, λ x. omega arith)
                   (reading (record l { pc = 25; ckey = s }) (reads25 refl d c
                   (at25_on vs first now (suc now) (key_of l.call).0 l.curr s (omega arith) at)))
             ])
@@ -325,10 +325,10 @@ module _ (T : Table) (P : Protocol T.marks) (At : Outline) (n q t : ℕ) (vs : �
       → At25 vs first now (key_of l.call).0 l.curr l.ckey → Goal
   from_25 e d c a =
       let s : ℕ = node_link ws l.curr in
-      let curr : l.curr < node_count n q = regs.curr in
+      let curr : l.curr < node_count sz = regs.curr in
       let ln : (vs now).link l.curr ≡ node_link ws l.curr = link_now l.curr in
       let from : first ≤ now = th.begun in
-      let loads = P.loads n q t ws used (link_index l.curr) (omega arith) in
+      let loads = P.loads sz t ws used (link_index l.curr) (omega arith) in
       let acts' : T.next l ≡ Load (link_index l.curr) = rows.acts l (inr (inr (inr (inr (inr e))))) ∙ (rw e refl) in
       let feeds' : T.feed l s ≡ ceiling_mark l s = rows.feeds l s (inr (inr (inr (inr (inr e))))) ∙ (rw e refl) in
       let tells' : T.effect l s ≡ None = rows.tells l s (inr (inr (inr (inr (inr e))))) in
@@ -337,12 +337,12 @@ module _ (T : Table) (P : Protocol T.marks) (At : Outline) (n q t : ℕ) (vs : �
       elim (even_or_odd s) [
         | inl y ↦ answers (Load (link_index l.curr)) ws (record l { pc = 0 }) (ceiling_at l.ckey) acts'
             (feeds' ∙ if_same (s % 2) 0 y found again) tells' loads
-            (due_of done q vs first now t l.call (ceiling_at l.ckey) d
+            (due_of done sz.quota vs first now t l.call (ceiling_at l.ckey) d
             (found_then a.walk l.ckey c a.found a.above (λ lt. ap (λ x. x % 2) ln ∙ y)))
-            (keep n q t 0 l.reply l regs) refl refl refl (idle (record l { pc = 0 }) refl)
+            (keep sz t 0 l.reply l regs) refl refl refl (idle (record l { pc = 0 }) refl)
         | inr y ↦ passes (Load (link_index l.curr)) ws (record l { pc = 23; curr = 0 }) acts'
             (feeds' ∙ if_other (s % 2) 0 (omega arith) found again) tells' loads
-            (keep_walk n q t 23 l.pred 0 l regs.pred (omega arith) regs, refl, refl, λ x. omega arith)
+            (keep_walk sz t 23 l.pred 0 l regs.pred (omega arith) regs, refl, refl, λ x. omega arith)
             (reading (record l { pc = 23; curr = 0 }) (reads23 refl d c (at20_on vs first now (suc now) (key_of l.call).0 0
             (omega arith) (at_head vs first now V (key_of l.call).0 from h.present M.head_key))))
       ]

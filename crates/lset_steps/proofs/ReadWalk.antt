@@ -2,7 +2,7 @@
 use Rattle.std.specs.Prelude.{◌≡◌, ◌≢◌, ℕ, zero, suc, ◌<◌, ◌≤◌, Bool, if◌then◌else◌, ◌==◌, refl}
 use Rattle.std.proofs.Common.{arith, inl, inr, sym, ◌∙◌, ap, subst}
 use Rattle.lset_words.proofs.Numbers.{same_or_not, if_same, if_other}
-use Rattle.lset_words.specs.Words.{key_index, link_index}
+use Rattle.lset_words.specs.Words.{key_index, link_index, Opening, sizes}
 use Rattle.lset_words.specs.Log.{Log, Entry, begun_at, last_call, has_changed}
 use Rattle.lset_words.specs.Log.Entry.{began, stepped}
 use Rattle.lset_steps.specs.declared.Local.{Local}
@@ -63,18 +63,18 @@ low_row pc row e h (inr (inr (inr (inr (inr f))))) = absurd (omega arith)
 
 -- what a contains or a ceiling is about to load
 loads_seen : (T : Table) (At : Outline) → Discipline T T.marks At → HasReadRows T → ShowsReading At
-    → (n q last k t a : ℕ) (es : ℕ → Event) → Run T n q es last → k ≤ last → t < n
-    → (local_of (state_at T n q es k) t).pc ≢ 0 → IsRead (local_of (state_at T n q es k) t).call
-    → T.next (local_of (state_at T n q es k) t) ≡ Load (link_index a)
-    → Seen (views T n q es) (begun_at (log_of T n q es) t k) k a ((views T n q es k).link a)
-loads_seen T At d rows shows n q last k t a es r l th busy reads next =
-    let i : Inv T.marks At n q (views T n q es) k (state_at T n q es k) (λ u. begun_at (log_of T n q es) u k)
-    (λ u. has_changed (log_of T n q es) u k) = inv_at T T.marks At d n q es last r k l in
-    seen_now T rows (views T n q es) (begun_at (log_of T n q es) t k) k i.course (has_changed (log_of T n q es) t k)
-    (local_of (state_at T n q es k) t) a next
-    (shows q t (views T n q es) (begun_at (log_of T n q es) t k) k (views T n q es k) (has_changed (log_of T n q es) t k)
-    (local_of (state_at T n q es k) t)
-    (read_row T (lawful_of T At d) rows n q last k t es r l th busy reads) (i.threads t th).at)
+    → (op : Opening) (last k t a : ℕ) (es : ℕ → Event) → Run T op es last → k ≤ last → t < op.threads
+    → (local_of (state_at T op es k) t).pc ≢ 0 → IsRead (local_of (state_at T op es k) t).call
+    → T.next (local_of (state_at T op es k) t) ≡ Load (link_index a)
+    → Seen (views T op es) (begun_at (log_of T op es) t k) k a ((views T op es k).link a)
+loads_seen T At d rows shows op last k t a es r l th busy reads next =
+    let i : Inv T.marks At (sizes op) (views T op es) k (state_at T op es k) (λ u. begun_at (log_of T op es) u k)
+    (λ u. has_changed (log_of T op es) u k) = inv_at T T.marks At d op es last r k l in
+    seen_now T rows (views T op es) (begun_at (log_of T op es) t k) k i.course (has_changed (log_of T op es) t k)
+    (local_of (state_at T op es k) t) a next
+    (shows op.quota t (views T op es) (begun_at (log_of T op es) t k) k (views T op es k) (has_changed (log_of T op es) t k)
+    (local_of (state_at T op es k) t)
+    (read_row T (lawful_of T At d) rows op last k t es r l th busy reads) (i.threads t th).at)
 
 -- the last call of a thread at two moments between which it begins none
 record SameCall (log : Log) (t at k : ℕ) : Type 0 where
@@ -106,16 +106,16 @@ same_call log t at (suc k) le from = elim (same_or_not at (suc k)) [
 ]
 
 pub walk_was_in_chain : (T : Table) (At : Outline) → Discipline T T.marks At → HasReadRows T → ShowsReading At → WalkWasInChain T
-walk_was_in_chain T At d rows shows n q last k t a l es r le reads p =
+walk_was_in_chain T At d rows shows op last k t a l es r le reads p =
     let law : Lawful T = lawful_of T At d in
-    let enabled : Enabled (state_at T n q es p.at) (Go t) =
-    subst (λ e. Enabled (state_at T n q es p.at) e) p.own (r.enabled p.at (omega arith)) in
-    let th : t < n = rw (sym (law.states n q last p.at es r (omega arith)).locals) enabled.0 in
-    let same : SameCall (log_of T n q es) t p.at k = same_call (log_of T n q es) t p.at k (omega arith) p.from in
-    let call : (local_of (state_at T n q es p.at) t).call ≡ last_call (log_of T n q es) t p.at =
-    ((tied T law n q es last r t th p.at (omega arith)).opened enabled.1).1 in
-    let word : (views T n q es p.at).link a ≡ l = sym (ap (seen_by (state_at T n q es p.at).words) p.loads) ∙ p.read in
-    subst (λ z. Seen (views T n q es) (begun_at (log_of T n q es) t k) p.at a z) word
-    (subst (λ z. Seen (views T n q es) z p.at a ((views T n q es p.at).link a)) (sym same.begun)
-    (loads_seen T At d rows shows n q last p.at t a es r (omega arith) th enabled.1
+    let enabled : Enabled (state_at T op es p.at) (Go t) =
+    subst (λ e. Enabled (state_at T op es p.at) e) p.own (r.enabled p.at (omega arith)) in
+    let th : t < op.threads = rw (sym (law.states op last p.at es r (omega arith)).locals) enabled.0 in
+    let same : SameCall (log_of T op es) t p.at k = same_call (log_of T op es) t p.at k (omega arith) p.from in
+    let call : (local_of (state_at T op es p.at) t).call ≡ last_call (log_of T op es) t p.at =
+    ((tied T law op es last r t th p.at (omega arith)).opened enabled.1).1 in
+    let word : (views T op es p.at).link a ≡ l = sym (ap (seen_by (state_at T op es p.at).words) p.loads) ∙ p.read in
+    subst (λ z. Seen (views T op es) (begun_at (log_of T op es) t k) p.at a z) word
+    (subst (λ z. Seen (views T op es) z p.at a ((views T op es p.at).link a)) (sym same.begun)
+    (loads_seen T At d rows shows op last p.at t a es r (omega arith) th enabled.1
     (subst (λ c. IsRead c) (same.call ∙ sym call) reads) p.loads))

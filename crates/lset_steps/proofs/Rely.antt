@@ -2,7 +2,7 @@
 use Rattle.std.specs.Prelude.{◌≡◌, ◌≢◌, ℕ, ◌+◌, ◌*◌, ◌<◌, ◌⊎◌, Bool, Option, List, slice_index, slice_set, refl}
 use Rattle.std.proofs.Common.{arith, inl, inr, sym, ◌∙◌, ap}
 use Rattle.lset_words.proofs.Numbers.{same_or_not}
-use Rattle.lset_words.specs.Words.{link_index, lock_index, slot_node}
+use Rattle.lset_words.specs.Words.{link_index, lock_index, slot_node, Sizes}
 use Rattle.lset_words.specs.declared.Key.{Key}
 use Rattle.lset_steps.specs.declared.Action.{Action}
 use Rattle.lset_steps.specs.Chain.{View, view, Published, InChain, node_lock}
@@ -25,40 +25,40 @@ pub record Rely (v w : View) (q u : ℕ) : Type 0 where
   pub own_link : v.used u < q → w.link (slot_node q u (v.used u)) ≡ v.link (slot_node q u (v.used u))
 
 -- links of published nodes are written by the holder of their lock; a node goes out of the chain by the holder of its own
-abbrev pub Guarded : (marks : Bool) (n q t : ℕ) (ws : List ℕ) (used : ℕ → ℕ) (a : Action) (ws' : List ℕ)
+abbrev pub Guarded : (marks : Bool) (sz : Sizes) (t : ℕ) (ws : List ℕ) (used : ℕ → ℕ) (a : Action) (ws' : List ℕ)
     (used' : ℕ → ℕ) (ch : Option (Key × Bool))
-    → WordStep marks n q t ws used a ws' used' ch → Type 0
-Guarded marks n q t ws used a ws' used' ch (reads x i) = Unit {0}
-Guarded marks n q t ws used a ws' used' ch (fails x old new i d k) = Unit {0}
-Guarded marks n q t ws used a ws' used' ch (takes x i k z) = Unit {0}
-Guarded marks n q t ws used a ws' used' ch (gives x i k z) = Unit {0}
-Guarded marks n q t ws used a ws' used' ch (own_key x r) = Unit {0}
-Guarded marks n q t ws used a ws' used' ch (own_link c r) = Unit {0}
-Guarded marks n q t ws used a ws' used' ch (puts b p c k w at nt follows r ready key above under) = node_lock ws p ≡ t + 1
-Guarded marks n q t ws used a ws' used' ch (sets_mark b c x k y w at inn even is key) = node_lock ws c ≡ t + 1
-Guarded marks n q t ws used a ws' used' ch (cuts b p c d w at first inn follows next) = (node_lock ws p ≡ t + 1)
+    → WordStep marks sz t ws used a ws' used' ch → Type 0
+Guarded marks sz t ws used a ws' used' ch (reads x i) = Unit {0}
+Guarded marks sz t ws used a ws' used' ch (fails x old new i d k) = Unit {0}
+Guarded marks sz t ws used a ws' used' ch (takes x i k z) = Unit {0}
+Guarded marks sz t ws used a ws' used' ch (gives x i k z) = Unit {0}
+Guarded marks sz t ws used a ws' used' ch (own_key x r) = Unit {0}
+Guarded marks sz t ws used a ws' used' ch (own_link c r) = Unit {0}
+Guarded marks sz t ws used a ws' used' ch (puts b p c k w at nt follows r ready key above under) = node_lock ws p ≡ t + 1
+Guarded marks sz t ws used a ws' used' ch (sets_mark b c x k y w at inn even is key) = node_lock ws c ≡ t + 1
+Guarded marks sz t ws used a ws' used' ch (cuts b p c d w at first inn follows next) = (node_lock ws p ≡ t + 1)
     × (node_lock ws c ≡ t + 1)
-Guarded marks n q t ws used a ws' used' ch (drops b p c d k y w at first inn follows next key) =
+Guarded marks sz t ws used a ws' used' ch (drops b p c d k y w at first inn follows next key) =
     (node_lock ws p ≡ t + 1) × (node_lock ws c ≡ t + 1)
 
-module _ (marks : Bool) (n q : ℕ) (ws : List ℕ) (used : ℕ → ℕ) (m : Memory marks n q ws used) (t : ℕ) (h : t < n)
-    (u : ℕ) (d : u ≢ t) where
+module _ (marks : Bool) (sz : Sizes) (ws : List ℕ) (used : ℕ → ℕ) (m : Memory marks sz ws used) (t : ℕ) (h : t < sz.threads)
+    (u : ℕ) (k : u < sz.threads) (d : u ≢ t) where
   V : View
-  V = view n q ws used
+  V = view sz ws used
 
   at_word : (x v : ℕ) → IsLockWord x → (slice_index ws x ≡ 0) ⊎ (slice_index ws x ≡ t + 1)
-      → KeepsNodes (view n q ws used) (view n q (slice_set ws x v) used)
-      → Rely (view n q ws used) (view n q (slice_set ws x v) used) q u
+      → KeepsNodes (view sz ws used) (view sz (slice_set ws x v) used)
+      → Rely (view sz ws used) (view sz (slice_set ws x v) used) sz.quota u
   at_word x v i was g = record {
     goes = g;
     used = refl;
     list_lock = λ z. mine 0 z;
     lock = λ a z. mine (lock_index a) z;
     link = λ a p z. link_after_lock ws x v a i;
-    chain = λ a z c. quiet_keeps (view n q ws used) (view n q (slice_set ws x v) used) m.ordered
-        (at_lock marks n q ws used m t h x v i) a c;
-    own_key = λ r. key_after_lock ws x v (own_of q u used) i;
-    own_link = λ r. link_after_lock ws x v (own_of q u used) i;
+    chain = λ a z c. quiet_keeps (view sz ws used) (view sz (slice_set ws x v) used) m.ordered
+        (at_lock marks sz ws used m t h x v i) a c;
+    own_key = λ r. key_after_lock ws x v (own_of sz.quota u used) i;
+    own_link = λ r. link_after_lock ws x v (own_of sz.quota u used) i;
   }
     where
       mine : (y : ℕ) → slice_index ws y ≡ u + 1 → slice_index (slice_set ws x v) y ≡ u + 1
@@ -68,14 +68,14 @@ module _ (marks : Bool) (n q : ℕ) (ws : List ℕ) (used : ℕ → ℕ) (m : Me
         | inr e ↦ set_other ws x v y e ∙ z
       ]
 
-  other_own : used u < q → used t < q → own_of q u used ≢ own_of q t used
-  other_own a b e = d (row_once q u t (used u) (used t) a b (omega arith)).0
+  other_own : used u < sz.quota → used t < sz.quota → own_of sz.quota u used ≢ own_of sz.quota t used
+  other_own a b e = d (row_once sz.quota u t (used u) (used t) a b (omega arith)).0
 
-  at_link : (p x : ℕ) (used' : ℕ → ℕ) → Published n q used p → node_lock ws p ≡ t + 1 → used' u ≡ used u
-      → KeepsNodes (view n q ws used) (view n q (slice_set ws (link_index p) x) used')
-      → ((a : ℕ) → node_lock ws a ≡ u + 1 → InChain (view n q ws used) a
-      → InChain (view n q (slice_set ws (link_index p) x) used') a)
-      → Rely (view n q ws used) (view n q (slice_set ws (link_index p) x) used') q u
+  at_link : (p x : ℕ) (used' : ℕ → ℕ) → Published sz used p → node_lock ws p ≡ t + 1 → used' u ≡ used u
+      → KeepsNodes (view sz ws used) (view sz (slice_set ws (link_index p) x) used')
+      → ((a : ℕ) → node_lock ws a ≡ u + 1 → InChain (view sz ws used) a
+      → InChain (view sz (slice_set ws (link_index p) x) used') a)
+      → Rely (view sz ws used) (view sz (slice_set ws (link_index p) x) used') sz.quota u
   at_link p x used' pm mine us g chain = record {
     goes = g;
     used = us;
@@ -84,19 +84,19 @@ module _ (marks : Bool) (n q : ℕ) (ws : List ℕ) (used : ℕ → ℕ) (m : Me
     link = λ a b z. link_after_link ws p x a
         (λ e. d (let f : node_lock ws a ≡ node_lock ws p = ap (node_lock ws) e in omega arith));
     chain = chain;
-    own_key = λ r. key_after_link ws p x (own_of q u used);
-    own_link = λ r. link_after_link ws p x (own_of q u used) (λ e. no_own marks n q ws used m u p r pm (sym e));
+    own_key = λ r. key_after_link ws p x (own_of sz.quota u used);
+    own_link = λ r. link_after_link ws p x (own_of sz.quota u used) (λ e. no_own marks sz ws used m u p k r pm (sym e));
   }
 
   alien : (c a : ℕ) → node_lock ws c ≡ t + 1 → node_lock ws a ≡ u + 1 → a ≢ c
   alien c a x y e = d (let f : node_lock ws a ≡ node_lock ws c = ap (node_lock ws) e in omega arith)
 
   pub rely_of : (a : Action) (ws' : List ℕ) (used' : ℕ → ℕ) (ch : Option (Key × Bool))
-      (c : WordStep marks n q t ws used a ws' used' ch)
-      → Guarded marks n q t ws used a ws' used' ch c
-      → Rely (view n q ws used) (view n q ws' used') q u
+      (c : WordStep marks sz t ws used a ws' used' ch)
+      → Guarded marks sz t ws used a ws' used' ch c
+      → Rely (view sz ws used) (view sz ws' used') sz.quota u
   rely_of a ws' used' ch (reads x i) g = record {
-    goes = goes_on marks n q ws used m t h a ws used ch (reads x i);
+    goes = goes_on marks sz ws used m t h a ws used ch (reads x i);
     used = refl;
     list_lock = λ z. z;
     lock = λ a z. z;
@@ -106,7 +106,7 @@ module _ (marks : Bool) (n q : ℕ) (ws : List ℕ) (used : ℕ → ℕ) (m : Me
     own_link = λ r. refl;
   }
   rely_of a ws' used' ch (fails x old new i e k) g = record {
-    goes = goes_on marks n q ws used m t h a ws used ch (fails x old new i e k);
+    goes = goes_on marks sz ws used m t h a ws used ch (fails x old new i e k);
     used = refl;
     list_lock = λ z. z;
     lock = λ a z. z;
@@ -116,49 +116,49 @@ module _ (marks : Bool) (n q : ℕ) (ws : List ℕ) (used : ℕ → ℕ) (m : Me
     own_link = λ r. refl;
   }
   rely_of a ws' used' ch (takes x i k z) g =
-      at_word x (t + 1) k (inl z) (goes_on marks n q ws used m t h a ws' used ch (takes x i k z))
-  rely_of a ws' used' ch (gives x i k z) g = at_word x 0 k (inr z) (goes_on marks n q ws used m t h a ws' used ch (gives x i k z))
+      at_word x (t + 1) k (inl z) (goes_on marks sz ws used m t h a ws' used ch (takes x i k z))
+  rely_of a ws' used' ch (gives x i k z) g = at_word x 0 k (inr z) (goes_on marks sz ws used m t h a ws' used ch (gives x i k z))
   rely_of a ws' used' ch (own_key x r) g = record {
-    goes = goes_on marks n q ws used m t h a ws' used ch (own_key x r);
+    goes = goes_on marks sz ws used m t h a ws' used ch (own_key x r);
     used = refl;
-    list_lock = λ z. list_lock_after_key ws (own_of q t used) x ∙ z;
-    lock = λ b z. lock_after_key ws (own_of q t used) x b ∙ z;
-    link = λ b p z. link_after_key ws (own_of q t used) x b;
-    chain = λ b z c. quiet_keeps (view n q ws used) (view n q ws' used) m.ordered (at_own_key marks n q ws used m t h x r) b c;
-    own_key = λ s. key_after_key ws (own_of q t used) x (own_of q u used) (other_own s r);
-    own_link = λ s. link_after_key ws (own_of q t used) x (own_of q u used);
+    list_lock = λ z. list_lock_after_key ws (own_of sz.quota t used) x ∙ z;
+    lock = λ b z. lock_after_key ws (own_of sz.quota t used) x b ∙ z;
+    link = λ b p z. link_after_key ws (own_of sz.quota t used) x b;
+    chain = λ b z c. quiet_keeps (view sz ws used) (view sz ws' used) m.ordered (at_own_key marks sz ws used m t h x r) b c;
+    own_key = λ s. key_after_key ws (own_of sz.quota t used) x (own_of sz.quota u used) (other_own s r);
+    own_link = λ s. link_after_key ws (own_of sz.quota t used) x (own_of sz.quota u used);
   }
   rely_of a ws' used' ch (own_link c r) g = record {
-    goes = goes_on marks n q ws used m t h a ws' used ch (own_link c r);
+    goes = goes_on marks sz ws used m t h a ws' used ch (own_link c r);
     used = refl;
-    list_lock = λ z. list_lock_after_link ws (own_of q t used) (2 * c) ∙ z;
-    lock = λ b z. lock_after_link ws (own_of q t used) (2 * c) b ∙ z;
-    link = λ b p z. link_after_link ws (own_of q t used) (2 * c) b (no_own marks n q ws used m t b r p);
-    chain = λ b z y. quiet_keeps (view n q ws used) (view n q ws' used) m.ordered (at_own_link marks n q ws used m t h (2 * c) r) b y;
-    own_key = λ s. key_after_link ws (own_of q t used) (2 * c) (own_of q u used);
-    own_link = λ s. link_after_link ws (own_of q t used) (2 * c) (own_of q u used) (other_own s r);
+    list_lock = λ z. list_lock_after_link ws (own_of sz.quota t used) (2 * c) ∙ z;
+    lock = λ b z. lock_after_link ws (own_of sz.quota t used) (2 * c) b ∙ z;
+    link = λ b p z. link_after_link ws (own_of sz.quota t used) (2 * c) b (no_own marks sz ws used m t b h r p);
+    chain = λ b z y. quiet_keeps (view sz ws used) (view sz ws' used) m.ordered (at_own_link marks sz ws used m t h (2 * c) r) b y;
+    own_key = λ s. key_after_link ws (own_of sz.quota t used) (2 * c) (own_of sz.quota u used);
+    own_link = λ s. link_after_link ws (own_of sz.quota t used) (2 * c) (own_of sz.quota u used) (other_own s r);
   }
   rely_of a ws' used' ch (puts b p c k w at nt follows r ready key above under) g =
-      at_link p (2 * own_of q t used) used' (in_chain_published (view n q ws used) m.ordered p at) g
-      (others_counted marks n q ws used m t h u d a ws' used' ch
+      at_link p (2 * own_of sz.quota t used) used' (in_chain_published (view sz ws used) m.ordered p at) g
+      (others_counted marks sz ws used m t h u d a ws' used' ch
       (puts b p c k w at nt follows r ready key above under))
-      (goes_on marks n q ws used m t h a ws' used' ch (puts b p c k w at nt follows r ready key above under))
-      (λ i z x. insert_keeps (view n q ws used) (view n q ws' used') m.ordered p (own_of q t used) k.0
-      (at_put marks n q ws used m t h p c k.0 at nt follows r ready key above under) i x)
+      (goes_on marks sz ws used m t h a ws' used' ch (puts b p c k w at nt follows r ready key above under))
+      (λ i z x. insert_keeps (view sz ws used) (view sz ws' used') m.ordered p (own_of sz.quota t used) k.0
+      (at_put marks sz ws used m t h p c k.0 at nt follows r ready key above under) i x)
   rely_of a ws' used' ch (sets_mark b c x k y w at inn even is key) g =
-      at_link c x used (in_chain_published (view n q ws used) m.ordered c at) g refl
-      (goes_on marks n q ws used m t h a ws' used ch (sets_mark b c x k y w at inn even is key))
-      (λ i z j. mark_keeps (view n q ws used) (view n q ws' used) m.ordered c k.0
-      (at_mark marks n q ws used m t h c x k.0 at inn even is key) i j)
+      at_link c x used (in_chain_published (view sz ws used) m.ordered c at) g refl
+      (goes_on marks sz ws used m t h a ws' used ch (sets_mark b c x k y w at inn even is key))
+      (λ i z j. mark_keeps (view sz ws used) (view sz ws' used) m.ordered c k.0
+      (at_mark marks sz ws used m t h c x k.0 at inn even is key) i j)
   rely_of a ws' used' ch (cuts b p c e w at first inn follows next) g =
-      at_link p (2 * e) used (in_chain_published (view n q ws used) m.ordered p at) g.0 refl
-      (goes_on marks n q ws used m t h a ws' used ch (cuts b p c e w at first inn follows next))
-      (λ i z j. elim (unlink_keeps (view n q ws used) (view n q ws' used) m.ordered p c
-      (at_unlink marks n q ws used m t h p c e at first inn follows (omega arith)) i j)
+      at_link p (2 * e) used (in_chain_published (view sz ws used) m.ordered p at) g.0 refl
+      (goes_on marks sz ws used m t h a ws' used ch (cuts b p c e w at first inn follows next))
+      (λ i z j. elim (unlink_keeps (view sz ws used) (view sz ws' used) m.ordered p c
+      (at_unlink marks sz ws used m t h p c e at first inn follows (omega arith)) i j)
       [ inl y ↦ y | inr y ↦ absurd (alien c i g.1 z y) ])
   rely_of a ws' used' ch (drops b p c e k y w at first inn follows next key) g =
-      at_link p (2 * e) used (in_chain_published (view n q ws used) m.ordered p at) g.0 refl
-      (goes_on marks n q ws used m t h a ws' used ch (drops b p c e k y w at first inn follows next key))
-      (λ i z j. elim (unlink_keeps (view n q ws used) (view n q ws' used) m.ordered p c
-      (at_unlink marks n q ws used m t h p c e at first inn follows next) i j)
+      at_link p (2 * e) used (in_chain_published (view sz ws used) m.ordered p at) g.0 refl
+      (goes_on marks sz ws used m t h a ws' used ch (drops b p c e k y w at first inn follows next key))
+      (λ i z j. elim (unlink_keeps (view sz ws used) (view sz ws' used) m.ordered p c
+      (at_unlink marks sz ws used m t h p c e at first inn follows next) i j)
       [ inl x ↦ x | inr x ↦ absurd (alien c i g.1 z x) ])

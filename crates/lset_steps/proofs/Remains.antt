@@ -1,7 +1,7 @@
 -- What the step of one thread leaves to every other, with locks or without.
 use Rattle.std.specs.Prelude.{◌≡◌, ◌≢◌, ℕ, ◌+◌, ◌*◌, ◌%◌, ◌<◌, Bool, Option, List, refl}
 use Rattle.std.proofs.Common.{arith, inl, sym}
-use Rattle.lset_words.specs.Words.{slot_node}
+use Rattle.lset_words.specs.Words.{slot_node, Sizes}
 use Rattle.lset_words.specs.declared.Key.{Key}
 use Rattle.lset_steps.specs.declared.Action.{Action}
 use Rattle.lset_steps.specs.Chain.{View, view, Published, InChain}
@@ -26,55 +26,55 @@ remains_same v q u = record {
   own_link = λ r. refl;
 }
 
-module _ (marks : Bool) (n q : ℕ) (ws : List ℕ) (used : ℕ → ℕ) (m : Memory marks n q ws used) (t : ℕ) (h : t < n)
-    (u : ℕ) (d : u ≢ t) where
-  at_chain : (p : ℕ) → InChain (view n q ws used) p → Published n q used p
-  at_chain p i = in_chain_published (view n q ws used) m.ordered p i
+module _ (marks : Bool) (sz : Sizes) (ws : List ℕ) (used : ℕ → ℕ) (m : Memory marks sz ws used) (t : ℕ) (h : t < sz.threads)
+    (u : ℕ) (k : u < sz.threads) (d : u ≢ t) where
+  at_chain : (p : ℕ) → InChain (view sz ws used) p → Published sz used p
+  at_chain p i = in_chain_published (view sz ws used) m.ordered p i
 
-  other_own : used u < q → used t < q → own_of q u used ≢ own_of q t used
-  other_own a b e = d (row_once q u t (used u) (used t) a b (omega arith)).0
+  other_own : used u < sz.quota → used t < sz.quota → own_of sz.quota u used ≢ own_of sz.quota t used
+  other_own a b e = d (row_once sz.quota u t (used u) (used t) a b (omega arith)).0
 
-  slot_key : (a : Action) (ws' : List ℕ) (used' : ℕ → ℕ) (ch : Option (Key × Bool)) → WordStep marks n q t ws used a ws' used' ch
-      → used u < q → (view n q ws' used').key (own_of q u used) ≡ (view n q ws used).key (own_of q u used)
+  slot_key : (a : Action) (ws' : List ℕ) (used' : ℕ → ℕ) (ch : Option (Key × Bool)) → WordStep marks sz t ws used a ws' used' ch
+      → used u < sz.quota → (view sz ws' used').key (own_of sz.quota u used) ≡ (view sz ws used).key (own_of sz.quota u used)
   slot_key a ws' used' ch (reads x i) r = refl
   slot_key a ws' used' ch (fails x old new i e k) r = refl
-  slot_key a ws' used' ch (takes x i k z) r = key_after_lock ws x (t + 1) (own_of q u used) k
-  slot_key a ws' used' ch (gives x i k z) r = key_after_lock ws x 0 (own_of q u used) k
-  slot_key a ws' used' ch (own_key x s) r = key_after_key ws (own_of q t used) x (own_of q u used) (other_own r s)
-  slot_key a ws' used' ch (own_link c s) r = key_after_link ws (own_of q t used) (2 * c) (own_of q u used)
+  slot_key a ws' used' ch (takes x i k z) r = key_after_lock ws x (t + 1) (own_of sz.quota u used) k
+  slot_key a ws' used' ch (gives x i k z) r = key_after_lock ws x 0 (own_of sz.quota u used) k
+  slot_key a ws' used' ch (own_key x s) r = key_after_key ws (own_of sz.quota t used) x (own_of sz.quota u used) (other_own r s)
+  slot_key a ws' used' ch (own_link c s) r = key_after_link ws (own_of sz.quota t used) (2 * c) (own_of sz.quota u used)
   slot_key a ws' used' ch (puts b p c k w at nt follows s ready key above under) r =
-      key_after_link ws p (2 * own_of q t used) (own_of q u used)
-  slot_key a ws' used' ch (sets_mark b c x k y w at inn even is key) r = key_after_link ws c x (own_of q u used)
-  slot_key a ws' used' ch (cuts b p c e w at first inn follows next) r = key_after_link ws p (2 * e) (own_of q u used)
-  slot_key a ws' used' ch (drops b p c e k y w at first inn follows next key) r = key_after_link ws p (2 * e) (own_of q u used)
+      key_after_link ws p (2 * own_of sz.quota t used) (own_of sz.quota u used)
+  slot_key a ws' used' ch (sets_mark b c x k y w at inn even is key) r = key_after_link ws c x (own_of sz.quota u used)
+  slot_key a ws' used' ch (cuts b p c e w at first inn follows next) r = key_after_link ws p (2 * e) (own_of sz.quota u used)
+  slot_key a ws' used' ch (drops b p c e k y w at first inn follows next key) r = key_after_link ws p (2 * e) (own_of sz.quota u used)
 
-  not_slot : (p : ℕ) → InChain (view n q ws used) p → used u < q → own_of q u used ≢ p
-  not_slot p i r e = no_own marks n q ws used m u p r (at_chain p i) (sym e)
+  not_slot : (p : ℕ) → InChain (view sz ws used) p → used u < sz.quota → own_of sz.quota u used ≢ p
+  not_slot p i r e = no_own marks sz ws used m u p k r (at_chain p i) (sym e)
 
-  slot_link : (a : Action) (ws' : List ℕ) (used' : ℕ → ℕ) (ch : Option (Key × Bool)) → WordStep marks n q t ws used a ws' used' ch
-      → used u < q → (view n q ws' used').link (own_of q u used) ≡ (view n q ws used).link (own_of q u used)
+  slot_link : (a : Action) (ws' : List ℕ) (used' : ℕ → ℕ) (ch : Option (Key × Bool)) → WordStep marks sz t ws used a ws' used' ch
+      → used u < sz.quota → (view sz ws' used').link (own_of sz.quota u used) ≡ (view sz ws used).link (own_of sz.quota u used)
   slot_link a ws' used' ch (reads x i) r = refl
   slot_link a ws' used' ch (fails x old new i e k) r = refl
-  slot_link a ws' used' ch (takes x i k z) r = link_after_lock ws x (t + 1) (own_of q u used) k
-  slot_link a ws' used' ch (gives x i k z) r = link_after_lock ws x 0 (own_of q u used) k
-  slot_link a ws' used' ch (own_key x s) r = link_after_key ws (own_of q t used) x (own_of q u used)
-  slot_link a ws' used' ch (own_link c s) r = link_after_link ws (own_of q t used) (2 * c) (own_of q u used) (other_own r s)
+  slot_link a ws' used' ch (takes x i k z) r = link_after_lock ws x (t + 1) (own_of sz.quota u used) k
+  slot_link a ws' used' ch (gives x i k z) r = link_after_lock ws x 0 (own_of sz.quota u used) k
+  slot_link a ws' used' ch (own_key x s) r = link_after_key ws (own_of sz.quota t used) x (own_of sz.quota u used)
+  slot_link a ws' used' ch (own_link c s) r = link_after_link ws (own_of sz.quota t used) (2 * c) (own_of sz.quota u used) (other_own r s)
   slot_link a ws' used' ch (puts b p c k w at nt follows s ready key above under) r =
-      link_after_link ws p (2 * own_of q t used) (own_of q u used) (not_slot p at r)
+      link_after_link ws p (2 * own_of sz.quota t used) (own_of sz.quota u used) (not_slot p at r)
   slot_link a ws' used' ch (sets_mark b c x k y w at inn even is key) r =
-      link_after_link ws c x (own_of q u used) (not_slot c at r)
+      link_after_link ws c x (own_of sz.quota u used) (not_slot c at r)
   slot_link a ws' used' ch (cuts b p c e w at first inn follows next) r =
-      link_after_link ws p (2 * e) (own_of q u used) (not_slot p at r)
+      link_after_link ws p (2 * e) (own_of sz.quota u used) (not_slot p at r)
   slot_link a ws' used' ch (drops b p c e k y w at first inn follows next key) r =
-      link_after_link ws p (2 * e) (own_of q u used) (not_slot p at r)
+      link_after_link ws p (2 * e) (own_of sz.quota u used) (not_slot p at r)
 
   pub remains_of : (a : Action) (ws' : List ℕ) (used' : ℕ → ℕ) (ch : Option (Key × Bool))
-      → WordStep marks n q t ws used a ws' used' ch → Remains (view n q ws used) (view n q ws' used') q u
+      → WordStep marks sz t ws used a ws' used' ch → Remains (view sz ws used) (view sz ws' used') sz.quota u
   remains_of a ws' used' ch c = record {
-    goes = goes_on marks n q ws used m t h a ws' used' ch c;
-    marked = marked_stays marks (view n q ws used) (view n q ws' used') m.ordered ch
-        (moved marks n q ws used m t h a ws' used' ch c);
-    used = others_counted marks n q ws used m t h u d a ws' used' ch c;
+    goes = goes_on marks sz ws used m t h a ws' used' ch c;
+    marked = marked_stays marks (view sz ws used) (view sz ws' used') m.ordered ch
+        (moved marks sz ws used m t h a ws' used' ch c);
+    used = others_counted marks sz ws used m t h u d a ws' used' ch c;
     own_key = slot_key a ws' used' ch c;
     own_link = slot_link a ws' used' ch c;
   }

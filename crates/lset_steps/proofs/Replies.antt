@@ -5,7 +5,7 @@ use Rattle.lset_words.specs.declared.Call.{Call}
 use Rattle.lset_words.specs.declared.Call.TheVariants.{Add, Remove, Contains, Ceiling}
 use Rattle.lset_words.specs.declared.Reply.{Reply}
 use Rattle.lset_words.specs.declared.Reply.TheVariants.{True, False, Full, At, Nothing}
-use Rattle.lset_words.specs.Words.{key_of, target, tail_word, node_count}
+use Rattle.lset_words.specs.Words.{key_of, target, tail_word, node_count, Sizes}
 use Rattle.lset_steps.specs.declared.Local.{Local}
 use Rattle.lset_steps.specs.declared.Fed.{Fed}
 use Rattle.lset_steps.specs.Chain.{View, InChain, InContent, IsOrdered, FitsIn, contents_of, counts_of}
@@ -107,9 +107,9 @@ pub fed_is : (l m : Local) (a b : Option Reply) → l ≡ m → a ≡ b → fed 
 fed_is l m a b e f = cc
 
 -- what a begin and a step leave of the bounds of the registers
-pub registers_begun : (n q t pc : ℕ) (call : Call) (l : Local) → target call < tail_word → Registers n q t l
-    → Registers n q t (begun pc call l)
-registers_begun n q t pc call l low r = record {
+pub registers_begun : (sz : Sizes) (t pc : ℕ) (call : Call) (l : Local) → target call < tail_word → Registers sz t l
+    → Registers sz t (begun pc call l)
+registers_begun sz t pc call l low r = record {
   thread = r.thread;
   quota = r.quota;
   used = r.used;
@@ -123,9 +123,9 @@ registers_begun n q t pc call l low r = record {
 }
 
 -- a successful add counts one more slot
-pub keep_more : (n q t p : ℕ) (l : Local) → l.used < q → Registers n q t l
-    → Registers n q t (record l { pc = p; reply = Some True; used = l.used + 1 })
-keep_more n q t p l room r = record {
+pub keep_more : (sz : Sizes) (t p : ℕ) (l : Local) → l.used < sz.quota → Registers sz t l
+    → Registers sz t (record l { pc = p; reply = Some True; used = l.used + 1 })
+keep_more sz t p l room r = record {
   thread = r.thread;
   quota = r.quota;
   used = omega arith;
@@ -139,9 +139,9 @@ keep_more n q t p l room r = record {
 }
 
 -- and where it answers at once
-pub keep_used : (n q t p : ℕ) (l : Local) → l.used < q → Registers n q t l
-    → Registers n q t (record l { pc = p; used = l.used + 1 })
-keep_used n q t p l room r = record {
+pub keep_used : (sz : Sizes) (t p : ℕ) (l : Local) → l.used < sz.quota → Registers sz t l
+    → Registers sz t (record l { pc = p; used = l.used + 1 })
+keep_used sz t p l room r = record {
   thread = r.thread;
   quota = r.quota;
   used = omega arith;
@@ -154,9 +154,9 @@ keep_used n q t p l room r = record {
   ckey = r.ckey;
 }
 
-pub keep_curr : (n q t p c : ℕ) (l : Local) → c < node_count n q → Registers n q t l
-    → Registers n q t (record l { pc = p; curr = c })
-keep_curr n q t p c l inn r = record {
+pub keep_curr : (sz : Sizes) (t p c : ℕ) (l : Local) → c < node_count sz → Registers sz t l
+    → Registers sz t (record l { pc = p; curr = c })
+keep_curr sz t p c l inn r = record {
   thread = r.thread;
   quota = r.quota;
   used = r.used;
@@ -170,8 +170,8 @@ keep_curr n q t p c l inn r = record {
 }
 
 -- a step that leaves the registers
-pub keep : (n q t p : ℕ) (y : Option Reply) (l : Local) → Registers n q t l → Registers n q t (record l { pc = p; reply = y })
-keep n q t p y l r = record {
+pub keep : (sz : Sizes) (t p : ℕ) (y : Option Reply) (l : Local) → Registers sz t l → Registers sz t (record l { pc = p; reply = y })
+keep sz t p y l r = record {
   thread = r.thread;
   quota = r.quota;
   used = r.used;
@@ -184,9 +184,9 @@ keep n q t p y l r = record {
   ckey = r.ckey;
 }
 
-pub keep_ckey : (n q t p c : ℕ) (y : Option Reply) (l : Local) → c ≤ tail_word → Registers n q t l
-    → Registers n q t (record l { pc = p; reply = y; ckey = c })
-keep_ckey n q t p c y l le r = record {
+pub keep_ckey : (sz : Sizes) (t p c : ℕ) (y : Option Reply) (l : Local) → c ≤ tail_word → Registers sz t l
+    → Registers sz t (record l { pc = p; reply = y; ckey = c })
+keep_ckey sz t p c y l le r = record {
   thread = r.thread;
   quota = r.quota;
   used = r.used;
@@ -199,9 +199,9 @@ keep_ckey n q t p c y l le r = record {
   ckey = le;
 }
 
-pub keep_succ : (n q t p c : ℕ) (y : Option Reply) (l : Local) → c < node_count n q → Registers n q t l
-    → Registers n q t (record l { pc = p; reply = y; succ = c })
-keep_succ n q t p c y l le r = record {
+pub keep_succ : (sz : Sizes) (t p c : ℕ) (y : Option Reply) (l : Local) → c < node_count sz → Registers sz t l
+    → Registers sz t (record l { pc = p; reply = y; succ = c })
+keep_succ sz t p c y l le r = record {
   thread = r.thread;
   quota = r.quota;
   used = r.used;
@@ -214,9 +214,9 @@ keep_succ n q t p c y l le r = record {
   ckey = r.ckey;
 }
 
-pub keep_walk : (n q t p a b : ℕ) (l : Local) → a < node_count n q → b < node_count n q → Registers n q t l
-    → Registers n q t (record l { pc = p; pred = a; curr = b })
-keep_walk n q t p a b l le ge r = record {
+pub keep_walk : (sz : Sizes) (t p a b : ℕ) (l : Local) → a < node_count sz → b < node_count sz → Registers sz t l
+    → Registers sz t (record l { pc = p; pred = a; curr = b })
+keep_walk sz t p a b l le ge r = record {
   thread = r.thread;
   quota = r.quota;
   used = r.used;
@@ -230,9 +230,9 @@ keep_walk n q t p a b l le ge r = record {
 }
 
 -- a walk that goes on by a node, and keeps the key word of the one behind
-pub keep_passed : (n q t p a b c : ℕ) (l : Local) → a < node_count n q → b ≤ tail_word → c < node_count n q → Registers n q t l
-    → Registers n q t (record l { pc = p; pred = a; pkey = b; curr = c })
-keep_passed n q t p a b c l le small ge r = record {
+pub keep_passed : (sz : Sizes) (t p a b c : ℕ) (l : Local) → a < node_count sz → b ≤ tail_word → c < node_count sz → Registers sz t l
+    → Registers sz t (record l { pc = p; pred = a; pkey = b; curr = c })
+keep_passed sz t p a b c l le small ge r = record {
   thread = r.thread;
   quota = r.quota;
   used = r.used;
@@ -245,9 +245,9 @@ keep_passed n q t p a b c l le small ge r = record {
   ckey = r.ckey;
 }
 
-pub keep_node : (n q t p a : ℕ) (l : Local) → a < node_count n q → Registers n q t l
-    → Registers n q t (record l { pc = p; node = a })
-keep_node n q t p a l le r = record {
+pub keep_node : (sz : Sizes) (t p a : ℕ) (l : Local) → a < node_count sz → Registers sz t l
+    → Registers sz t (record l { pc = p; node = a })
+keep_node sz t p a l le r = record {
   thread = r.thread;
   quota = r.quota;
   used = r.used;

@@ -16,13 +16,15 @@ use Rattle.lset_steps.specs.Steps.{Table, State, Run, Enabled, state_at, after, 
 use Rattle.lset_steps.specs.Chain.{View, view, InContent, Published, contents_of, counts_of}
 use Rattle.lset_steps.proofs.QuietMove.{in_chain_published}
 use Rattle.lset_steps.specs.Laws.{Lawful, StateLaws, StepAt, views, view_of, used_in, Answered}
+use Rattle.lset_words.specs.Words.{Opening, sizes}
+use Rattle.lset_steps.proofs.Openings.{content_opens}
 
 -- the contents and the counts at the moments of a run
-abbrev pub contents_at : Table → ℕ → ℕ → (ℕ → Event) → Contents
-contents_at T n q es = contents_of (views T n q es)
+abbrev pub contents_at : Table → Opening → (ℕ → Event) → Contents
+contents_at T op es = contents_of (views T op es)
 
-abbrev pub counts_at : Table → ℕ → ℕ → (ℕ → Event) → Counts
-counts_at T n q es = counts_of (views T n q es)
+abbrev pub counts_at : Table → Opening → (ℕ → Event) → Counts
+counts_at T op es = counts_of (views T op es)
 
 -- the log and the local of a thread
 pub record Tied (open_now : Bool) (call : Call) (l : Local) : Type 0 where
@@ -53,9 +55,9 @@ open_same : (a : Option Reply) (ch : Option (Key × Bool)) (t : ℕ) (old : Bool
 open_same None ch t old = refl
 open_same (Some r) ch t old = pick_yes (t == t) false old (equal_test t t refl)
 
-module _ (T : Table) (law : Lawful T) (n q : ℕ) (es : ℕ → Event) (last : ℕ) (r : Run T n q es last) where
+module _ (T : Table) (law : Lawful T) (op : Opening) (es : ℕ → Event) (last : ℕ) (r : Run T op es last) where
   S : ℕ → State
-  S k = state_at T n q es k
+  S k = state_at T op es k
 
   local_same : (s : State) (t : ℕ) (l : Local) → t < length s.locals → slice_index_or (slice_set s.locals t l) t (idle 0 0) ≡ l
   local_same s t l h = get_or-set_same s.locals t l (idle 0 0) h
@@ -65,69 +67,69 @@ module _ (T : Table) (law : Lawful T) (n q : ℕ) (es : ℕ → Event) (last : �
 
   after_answer : (a : Option Reply) (done : Bool) (vs : ℕ → View) (first now t : ℕ) (call : Call) (l : Local) (old : Bool)
       → old ≡ true → l.call ≡ call
-      → Answered done q vs first now t call l.pc a → Tied (left_open a old) call l
+      → Answered done op.quota vs first now t call l.pc a → Tied (left_open a old) call l
   after_answer None done vs first now t call l old o c a = record { closed = λ e. absurd (a e); opened = λ e. (o, c) }
   after_answer (Some x) done vs first now t call l old o c a = record { closed = λ e. refl; opened = λ e. absurd (e a.0) }
 
-  go_tied : (t k : ℕ) → t < length (state_at T n q es k).locals
-      → (is_open (log_of T n q es) t k ≡ true) × ((local_of (state_at T n q es k) t).call ≡ last_call (log_of T n q es) t k)
-      → StepAt T n q es k t
-      → Tied (open_after (entry_of T (state_at T n q es k) (Go t)) t (is_open (log_of T n q es) t k))
-      (last_call (log_of T n q es) t k) (local_of (after T (state_at T n q es k) (Go t)) t)
+  go_tied : (t k : ℕ) → t < length (state_at T op es k).locals
+      → (is_open (log_of T op es) t k ≡ true) × ((local_of (state_at T op es k) t).call ≡ last_call (log_of T op es) t k)
+      → StepAt T op es k t
+      → Tied (open_after (entry_of T (state_at T op es k) (Go t)) t (is_open (log_of T op es) t k))
+      (last_call (log_of T op es) t k) (local_of (after T (state_at T op es k) (Go t)) t)
   go_tied t k len was st =
-      let l : Local = local_of (state_at T n q es k) t in
-      let l' : Local = (T.feed l (seen_next T (state_at T n q es k) t)).local in
-      let a : Option Reply = (T.feed l (seen_next T (state_at T n q es k) t)).answer in
-      tied_to (open_same (told T (state_at T n q es k) (Go t)).answer (told T (state_at T n q es k) (Go t)).change t
-      (is_open (log_of T n q es) t k)) (sym was.1)
-      (local_same (state_at T n q es k) t (T.feed (local_of (state_at T n q es k) t)
-      (seen_next T (state_at T n q es k) t)).local len)
-      (after_answer (T.feed (local_of (state_at T n q es k) t) (seen_next T (state_at T n q es k) t)).answer
-      (has_changed (log_of T n q es) t (suc k)) (views T n q es) (begun_at (log_of T n q es) t (suc k)) (suc k) t
-      (local_of (state_at T n q es k) t).call
-      (T.feed (local_of (state_at T n q es k) t) (seen_next T (state_at T n q es k) t)).local
-      (is_open (log_of T n q es) t k) was.0 st.same_call st.answered)
+      let l : Local = local_of (state_at T op es k) t in
+      let l' : Local = (T.feed l (seen_next T (state_at T op es k) t)).local in
+      let a : Option Reply = (T.feed l (seen_next T (state_at T op es k) t)).answer in
+      tied_to (open_same (told T (state_at T op es k) (Go t)).answer (told T (state_at T op es k) (Go t)).change t
+      (is_open (log_of T op es) t k)) (sym was.1)
+      (local_same (state_at T op es k) t (T.feed (local_of (state_at T op es k) t)
+      (seen_next T (state_at T op es k) t)).local len)
+      (after_answer (T.feed (local_of (state_at T op es k) t) (seen_next T (state_at T op es k) t)).answer
+      (has_changed (log_of T op es) t (suc k)) (views T op es) (begun_at (log_of T op es) t (suc k)) (suc k) t
+      (local_of (state_at T op es k) t).call
+      (T.feed (local_of (state_at T op es k) t) (seen_next T (state_at T op es k) t)).local
+      (is_open (log_of T op es) t k) was.0 st.same_call st.answered)
 
-  tied_step : (t : ℕ) → t < n → (k : ℕ) → k < last → (e : Event) → es k ≡ e → Enabled (state_at T n q es k) e
-      → Tied (is_open (log_of T n q es) t k) (last_call (log_of T n q es) t k) (local_of (state_at T n q es k) t)
-      → Tied (open_after (entry_of T (state_at T n q es k) e) t (is_open (log_of T n q es) t k))
-      (call_after (entry_of T (state_at T n q es k) e) t (last_call (log_of T n q es) t k))
-      (local_of (after T (state_at T n q es k) e) t)
+  tied_step : (t : ℕ) → t < op.threads → (k : ℕ) → k < last → (e : Event) → es k ≡ e → Enabled (state_at T op es k) e
+      → Tied (is_open (log_of T op es) t k) (last_call (log_of T op es) t k) (local_of (state_at T op es k) t)
+      → Tied (open_after (entry_of T (state_at T op es k) e) t (is_open (log_of T op es) t k))
+      (call_after (entry_of T (state_at T op es k) e) t (last_call (log_of T op es) t k))
+      (local_of (after T (state_at T op es k) e) t)
   tied_step t th k l (Begin u call) ee en h = elim (same_or_not t u) [
     | inl y ↦ (let b : (u == t) ≡ true = equal_test u t (sym y) in
-        let lo : local_of (after T (state_at T n q es k) (Begin u call)) t
-        ≡ T.begin call (local_of (state_at T n q es k) u) =
-        ap (λ z. local_of (after T (state_at T n q es k) (Begin u call)) z) y
-        ∙ local_same (state_at T n q es k) u (T.begin call (local_of (state_at T n q es k) u)) en.0 in
-        let bg = law.begins call (local_of (state_at T n q es k) u) in
-        tied_to (pick_yes (u == t) true (is_open (log_of T n q es) t k) b)
-        (pick_yes (u == t) call (last_call (log_of T n q es) t k) b) lo
+        let lo : local_of (after T (state_at T op es k) (Begin u call)) t
+        ≡ T.begin call (local_of (state_at T op es k) u) =
+        ap (λ z. local_of (after T (state_at T op es k) (Begin u call)) z) y
+        ∙ local_same (state_at T op es k) u (T.begin call (local_of (state_at T op es k) u)) en.0 in
+        let bg = law.begins call (local_of (state_at T op es k) u) in
+        tied_to (pick_yes (u == t) true (is_open (log_of T op es) t k) b)
+        (pick_yes (u == t) call (last_call (log_of T op es) t k) b) lo
         (record { closed = λ e. absurd (bg.opened e); opened = λ e. (refl, bg.called) }))
     | inr y ↦ (let b : (u == t) ≡ false = unequal_test u t (λ z. y (sym z)) in
-        tied_to (pick_not (u == t) true (is_open (log_of T n q es) t k) b)
-        (pick_not (u == t) call (last_call (log_of T n q es) t k) b)
-        (local_other (state_at T n q es k) u t (T.begin call (local_of (state_at T n q es k) u)) y) h)
+        tied_to (pick_not (u == t) true (is_open (log_of T op es) t k) b)
+        (pick_not (u == t) call (last_call (log_of T op es) t k) b)
+        (local_other (state_at T op es k) u t (T.begin call (local_of (state_at T op es k) u)) y) h)
   ]
   tied_step t th k l (Go u) ee en h = elim (same_or_not t u) [
     | inl y ↦ (let b : (u == t) ≡ true = equal_test u t (sym y) in
-        let en' : Enabled (state_at T n q es k) (Go t) = subst (λ z. Enabled (state_at T n q es k) (Go z)) (sym y) en in
-        let st : StepAt T n q es k t = law.steps n q last k t es r l (ee ∙ ap (λ z. Go z) (sym y)) in
+        let en' : Enabled (state_at T op es k) (Go t) = subst (λ z. Enabled (state_at T op es k) (Go z)) (sym y) en in
+        let st : StepAt T op es k t = law.steps op last k t es r l (ee ∙ ap (λ z. Go z) (sym y)) in
         let was = h.opened en'.1 in
-        subst (λ z. Tied (open_after (entry_of T (state_at T n q es k) (Go z)) t (is_open (log_of T n q es) t k))
-        (last_call (log_of T n q es) t k) (local_of (after T (state_at T n q es k) (Go z)) t)) y
+        subst (λ z. Tied (open_after (entry_of T (state_at T op es k) (Go z)) t (is_open (log_of T op es) t k))
+        (last_call (log_of T op es) t k) (local_of (after T (state_at T op es k) (Go z)) t)) y
         (go_tied t k en'.0 was st))
     | inr y ↦ (let b : (u == t) ≡ false = unequal_test u t (λ z. y (sym z)) in
-        tied_to (open_other (told T (state_at T n q es k) (Go u)).answer (told T (state_at T n q es k) (Go u)).change
-        u t (is_open (log_of T n q es) t k) b) refl
-        (local_other (state_at T n q es k) u t (T.feed (local_of (state_at T n q es k) u)
-        (seen_next T (state_at T n q es k) u)).local y) h)
+        tied_to (open_other (told T (state_at T op es k) (Go u)).answer (told T (state_at T op es k) (Go u)).change
+        u t (is_open (log_of T op es) t k) b) refl
+        (local_other (state_at T op es k) u t (T.feed (local_of (state_at T op es k) u)
+        (seen_next T (state_at T op es k) u)).local y) h)
   ]
 
-  opening_local : (t : ℕ) → t < n → local_of (state_at T n q es 0) t ≡ idle q t
-  opening_local t h = get_or-map-range_with_len (idle q) 0 n t t (idle 0 0) h (omega arith)
+  opening_local : (t : ℕ) → t < op.threads → local_of (state_at T op es 0) t ≡ idle op.quota t
+  opening_local t h = get_or-map-range_with_len (idle op.quota) 0 op.threads t t (idle 0 0) h (omega arith)
 
-  pub tied : (t : ℕ) → t < n → (k : ℕ) → k ≤ last
-      → Tied (is_open (log_of T n q es) t k) (last_call (log_of T n q es) t k) (local_of (state_at T n q es k) t)
+  pub tied : (t : ℕ) → t < op.threads → (k : ℕ) → k ≤ last
+      → Tied (is_open (log_of T op es) t k) (last_call (log_of T op es) t k) (local_of (state_at T op es k) t)
   tied t th zero l = tied_to refl refl (opening_local t th) (record { closed = λ e. refl; opened = λ e. absurd (e refl) })
   tied t th (suc k) l = tied_step t th k (omega arith) (es k) refl (r.enabled k (omega arith)) (tied t th k (omega arith))
 
@@ -139,75 +141,68 @@ right_reply false q vs first now t call pc None h = tt
 right_reply true q vs first now t call pc (Some r) h = h.1
 right_reply false q vs first now t call pc (Some r) h = h.1
 
-module _ (T : Table) (law : Lawful T) (n q : ℕ) (es : ℕ → Event) (last : ℕ) (r : Run T n q es last) where
-  opened : (t : ℕ) → t < n → used_in (state_at T n q es 0) t ≡ 0
-  opened t h = ap (λ (l : Local). l.used) (opening_local T law n q es last r t h)
+module _ (T : Table) (law : Lawful T) (op : Opening) (es : ℕ → Event) (last : ℕ) (r : Run T op es last) where
+  opened : (t : ℕ) → t < op.threads → used_in (state_at T op es 0) t ≡ 0
+  opened t h = ap (λ (l : Local). l.used) (opening_local T law op es last r t h)
 
-  empty_at : (k : ℕ) → contents_at T n q es 0 k → ⊥
-  empty_at k c = nobody c.0 c.2 (in_chain_published (views T n q es 0) (law.states n q last 0 es r (omega arith)).ordered c.0 c.1)
-    where
-      nobody : (b : ℕ) → 1 < b → Published n q (used_in (state_at T n q es 0)) b → ⊥
-      nobody b u (inl l) = omega arith
-      nobody b u (inr p) = let z : used_in (state_at T n q es 0) p.0 ≡ 0 = opened p.0 p.2 in
-          let l : p.1 < used_in (state_at T n q es 0) p.0 = p.3 in omega arith
-
-  enters_at : (k : ℕ) → k < last → (e : Event) → es k ≡ e → Enabled (state_at T n q es k) e
-      → Enters n q (log_of T n q es) (contents_at T n q es) (counts_at T n q es) k (entry_of T (state_at T n q es k) e)
+  enters_at : (k : ℕ) → k < last → (e : Event) → es k ≡ e → Enabled (state_at T op es k) e
+      → Enters op.threads op.quota (log_of T op es) (contents_at T op es) (counts_at T op es) k (entry_of T (state_at T op es k) e)
   enters_at k l (Begin t call) ee en =
-      let o : StateLaws T.marks n q (state_at T n q es k) = law.states n q last k es r (omega arith) in
-      let th : t < n = rw o.locals at en.0 in
-      let ti = tied T law n q es last r t th k (omega arith) in
-      let now : state_at T n q es (suc k) ≡ after T (state_at T n q es k) (Begin t call) =
-      ap (λ z. after T (state_at T n q es k) z) ee in
-      let same : used_in (after T (state_at T n q es k) (Begin t call)) ≡ used_in (state_at T n q es k) = λ j u. same_used u j in
-      let view_is : views T n q es (suc k) ≡ views T n q es k = ap (λ z. view_of n q z) now
-      ∙ ap (λ f. view n q (state_at T n q es k).words f) same in record {
+      let o : StateLaws T.marks (sizes op) (state_at T op es k) = law.states op last k es r (omega arith) in
+      let th : t < op.threads = rw o.locals at en.0 in
+      let ti = tied T law op es last r t th k (omega arith) in
+      let now : state_at T op es (suc k) ≡ after T (state_at T op es k) (Begin t call) =
+      ap (λ z. after T (state_at T op es k) z) ee in
+      let same : used_in (after T (state_at T op es k) (Begin t call)) ≡ used_in (state_at T op es k) = λ j u. same_used u j in
+      let view_is : views T op es (suc k) ≡ views T op es k = ap (λ z. view_of (sizes op) z) now
+      ∙ ap (λ f. view (sizes op) (state_at T op es k).words f) same in record {
         of_a_thread = th;
         idle = ti.closed en.1;
         content = λ j. ((λ c. subst (λ v. InContent v j) (sym view_is) c), (λ c. subst (λ v. InContent v j) view_is c));
         same_counts = λ u h. ap (λ z. used_in z u) now ∙ same_used u;
       }
     where
-      same_used : (u : ℕ) → used_in (after T (state_at T n q es k) (Begin t call)) u ≡ used_in (state_at T n q es k) u
+      same_used : (u : ℕ) → used_in (after T (state_at T op es k) (Begin t call)) u ≡ used_in (state_at T op es k) u
       same_used u = elim (same_or_not u t) [
-        | inl y ↦ (subst (λ z. used_in (after T (state_at T n q es k) (Begin t call)) z ≡ used_in (state_at T n q es k) z) (sym y)
-            (ap (λ (l : Local). l.used) (local_same T law n q es last r (state_at T n q es k) t
-            (T.begin call (local_of (state_at T n q es k) t)) en.0) ∙ (law.begins call (local_of (state_at T n q es k) t)).used))
-        | inr y ↦ ap (λ (l : Local). l.used) (local_other T law n q es last r (state_at T n q es k) t u
-            (T.begin call (local_of (state_at T n q es k) t)) y)
+        | inl y ↦ (subst (λ z. used_in (after T (state_at T op es k) (Begin t call)) z ≡ used_in (state_at T op es k) z) (sym y)
+            (ap (λ (l : Local). l.used) (local_same T law op es last r (state_at T op es k) t
+            (T.begin call (local_of (state_at T op es k) t)) en.0) ∙ (law.begins call (local_of (state_at T op es k) t)).used))
+        | inr y ↦ ap (λ (l : Local). l.used) (local_other T law op es last r (state_at T op es k) t u
+            (T.begin call (local_of (state_at T op es k) t)) y)
       ]
   enters_at k l (Go t) ee en =
-      let o : StateLaws T.marks n q (state_at T n q es k) = law.states n q last k es r (omega arith) in
-      let th : t < n = rw o.locals at en.0 in
-      let ti = tied T law n q es last r t th k (omega arith) in
+      let o : StateLaws T.marks (sizes op) (state_at T op es k) = law.states op last k es r (omega arith) in
+      let th : t < op.threads = rw o.locals at en.0 in
+      let ti = tied T law op es last r t th k (omega arith) in
       let was = ti.opened en.1 in
-      let now : state_at T n q es (suc k) ≡ after T (state_at T n q es k) (Go t) = ap (λ z. after T (state_at T n q es k) z) ee in
-      let st : StepAt T n q es k t = law.steps n q last k t es r l ee in
-      let ch : Option (Key × Bool) = T.effect (local_of (state_at T n q es k) t) (seen_next T (state_at T n q es k) t) in
-      let fl : Local = (T.feed (local_of (state_at T n q es k) t) (seen_next T (state_at T n q es k) t)).local in
-      let fa : Option Reply = (T.feed (local_of (state_at T n q es k) t) (seen_next T (state_at T n q es k) t)).answer in record {
+      let now : state_at T op es (suc k) ≡ after T (state_at T op es k) (Go t) = ap (λ z. after T (state_at T op es k) z) ee in
+      let st : StepAt T op es k t = law.steps op last k t es r l ee in
+      let ch : Option (Key × Bool) = T.effect (local_of (state_at T op es k) t) (seen_next T (state_at T op es k) t) in
+      let fl : Local = (T.feed (local_of (state_at T op es k) t) (seen_next T (state_at T op es k) t)).local in
+      let fa : Option Reply = (T.feed (local_of (state_at T op es k) t) (seen_next T (state_at T op es k) t)).answer in record {
         of_a_thread = th;
         under_way = was.0;
         content = st.content;
         own_count = ap (λ z. used_in z t) now ∙ ap (λ (l : Local). l.used)
-            (local_same T law n q es last r (state_at T n q es k) t fl en.0) ∙ st.counts;
+            (local_same T law op es last r (state_at T op es k) t fl en.0) ∙ st.counts;
         other_counts = λ u h y. ap (λ z. used_in z u) now ∙ ap (λ (l : Local). l.used)
-            (local_other T law n q es last r (state_at T n q es k) t u fl y);
-        may = subst (λ c. MayChange q (counts_at T n q es k t) c (has_changed (log_of T n q es) t k) ch) was.1 st.by_call;
-        right = subst (λ c. RightReply (has_changed (log_of T n q es) t (suc k)) q (contents_at T n q es) (counts_at T n q es)
-            (begun_at (log_of T n q es) t k) (suc k) t c fa) was.1
-            (subst (λ f. RightReply (has_changed (log_of T n q es) t (suc k)) q (contents_at T n q es)
-            (counts_at T n q es) f (suc k) t (local_of (state_at T n q es k) t).call fa) (begun_go k t ee)
-            (right_reply (has_changed (log_of T n q es) t (suc k)) q (views T n q es)
-            (begun_at (log_of T n q es) t (suc k)) (suc k) t (local_of (state_at T n q es k) t).call fl.pc fa st.answered));
+            (local_other T law op es last r (state_at T op es k) t u fl y);
+        may = subst (λ c. MayChange op.quota (counts_at T op es k t) c (has_changed (log_of T op es) t k) ch) was.1 st.by_call;
+        right = subst (λ c. RightReply (has_changed (log_of T op es) t (suc k)) op.quota (contents_at T op es) (counts_at T op es)
+            (begun_at (log_of T op es) t k) (suc k) t c fa) was.1
+            (subst (λ f. RightReply (has_changed (log_of T op es) t (suc k)) op.quota (contents_at T op es)
+            (counts_at T op es) f (suc k) t (local_of (state_at T op es k) t).call fa) (begun_go k t ee)
+            (right_reply (has_changed (log_of T op es) t (suc k)) op.quota (views T op es)
+            (begun_at (log_of T op es) t (suc k)) (suc k) t (local_of (state_at T op es k) t).call fl.pc fa st.answered));
       }
     where
-      begun_go : (k t : ℕ) → es k ≡ Go t → begun_at (log_of T n q es) t (suc k) ≡ begun_at (log_of T n q es) t k
+      begun_go : (k t : ℕ) → es k ≡ Go t → begun_at (log_of T op es) t (suc k) ≡ begun_at (log_of T op es) t k
       begun_go k t ee = rw ee refl
 
-  pub account_of : Account n q last (log_of T n q es) (contents_at T n q es) (counts_at T n q es)
+  pub account_of : Account op last (log_of T op es) (contents_at T op es) (counts_at T op es)
   account_of = record {
-    empty = empty_at;
+    rising = r.opens.rising;
+    opens = content_opens op r.opens;
     none_yet = opened;
     enters = λ k l. enters_at k l (es k) refl (r.enabled k l);
   }

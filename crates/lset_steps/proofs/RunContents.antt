@@ -1,7 +1,7 @@
 -- The content of each moment of a run is one rising list of keys, each below 2^32.
 use Rattle.std.proofs.Common.{◌≡◌, ◌≢◌, ℕ, ◌+◌, ◌/◌, ◌<◌, ◌≤◌, List, arith}
 use Rattle.std.specs.Prelude.{Contains}
-use Rattle.lset_words.specs.Words.{tail_word}
+use Rattle.lset_words.specs.Words.{tail_word, Opening, sizes}
 use Rattle.lset_steps.specs.declared.Event.{Event}
 use Rattle.lset_steps.specs.Steps.{Table, Run, state_at}
 use Rattle.lset_steps.specs.Chain.{View, IsOrdered, IsChain, InContent, InChain}
@@ -26,17 +26,17 @@ key_low v ord e b k i f d =
     let t : v.key (v.link b / 2) ≤ v.key 1 = ord.top (v.link b / 2) (ord.next_published b m d) in
     omega arith
 
-pub content_at : (T : Table) (n q last k : ℕ) (es : ℕ → Event) → Lawful T → Run T n q es last → k ≤ last
-    → ContentList (views T n q es k)
-content_at T n q last k es law r l =
-    let o : StateLaws T.marks n q (state_at T n q es k) = law.states n q last k es r l in
-    let v : View = views T n q es k in
-    let c = chain_is (views T n q es k) o.ordered in
+pub content_at : (T : Table) (op : Opening) (last k : ℕ) (es : ℕ → Event) → Lawful T → Run T op es last → k ≤ last
+    → ContentList (views T op es k)
+content_at T op last k es law r l =
+    let o : StateLaws T.marks (sizes op) (state_at T op es k) = law.states op last k es r l in
+    let v : View = views T op es k in
+    let c = chain_is (views T op es k) o.ordered in
     record {
       nodes = c.0;
       chain = c.1;
-      rises = content_rises (views T n q es k) o.ordered c.0 c.1;
-      have = λ j h. content_have (views T n q es k) c.0 j c.1 h;
-      from = λ j h. content_from (views T n q es k) o.ordered c.0 j c.1 h;
-      low = λ j h. (let u : 1 < h.0 = h.2 in key_low (views T n q es k) o.ordered o.tail_key h.0 j h.1 h.3 (λ e. omega arith));
+      rises = content_rises (views T op es k) o.ordered c.0 c.1;
+      have = λ j h. content_have (views T op es k) c.0 j c.1 h;
+      from = λ j h. content_from (views T op es k) o.ordered c.0 j c.1 h;
+      low = λ j h. (let u : 1 < h.0 = h.2 in key_low (views T op es k) o.ordered o.tail_key h.0 j h.1 h.3 (λ e. omega arith));
     }

@@ -6,7 +6,7 @@ use Rattle.lset_words.specs.declared.Call.{Call}
 use Rattle.lset_words.specs.declared.Key.{Key}
 use Rattle.lset_words.specs.declared.Reply.{Reply}
 use Rattle.lset_words.specs.declared.Reply.TheVariants.{True}
-use Rattle.lset_words.specs.Words.{lock_index, node_count, word_count, target, tail_word}
+use Rattle.lset_words.specs.Words.{lock_index, node_count, word_count, target, tail_word, Sizes}
 use Rattle.lset_words.specs.Account.{MayChange, FitsSometime}
 use Rattle.lset_steps.specs.declared.Local.{Local}
 use Rattle.lset_steps.specs.declared.Action.{Action}
@@ -44,15 +44,15 @@ due_on false q vs first now t call r d = fitted_on q vs first now (suc now) t ca
 
 -- HOW THREADS SHARE THE WORDS: which steps a thread may make, loads among them, and what such a step leaves to another thread
 pub record Protocol (marks : Bool) : Type 1 where
-  pub step : (n q t : ℕ) (ws : List ℕ) (used : ℕ → ℕ) → Action → List ℕ → (ℕ → ℕ) → Option (Key × Bool) → Type 0
+  pub step : (sz : Sizes) (t : ℕ) (ws : List ℕ) (used : ℕ → ℕ) → Action → List ℕ → (ℕ → ℕ) → Option (Key × Bool) → Type 0
   pub rely : View → View → ℕ → ℕ → Type 0
-  pub is_step : (n q t : ℕ) (ws : List ℕ) (used : ℕ → ℕ) (a : Action) (ws' : List ℕ) (used' : ℕ → ℕ)
+  pub is_step : (sz : Sizes) (t : ℕ) (ws : List ℕ) (used : ℕ → ℕ) (a : Action) (ws' : List ℕ) (used' : ℕ → ℕ)
       (change : Option (Key × Bool))
-      → step n q t ws used a ws' used' change → WordStep marks n q t ws used a ws' used' change
-  pub loads : (n q t : ℕ) (ws : List ℕ) (used : ℕ → ℕ) (x : ℕ) → x < word_count n q → step n q t ws used (Load x) ws used None
-  pub leaves : (n q : ℕ) (ws : List ℕ) (used : ℕ → ℕ) → Memory marks n q ws used → (t : ℕ) → t < n → (u : ℕ) → u ≢ t
+      → step sz t ws used a ws' used' change → WordStep marks sz t ws used a ws' used' change
+  pub loads : (sz : Sizes) (t : ℕ) (ws : List ℕ) (used : ℕ → ℕ) (x : ℕ) → x < word_count sz → step sz t ws used (Load x) ws used None
+  pub leaves : (sz : Sizes) (ws : List ℕ) (used : ℕ → ℕ) → Memory marks sz ws used → (t : ℕ) → t < sz.threads → (u : ℕ) → u < sz.threads → u ≢ t
       → (a : Action) (ws' : List ℕ) (used' : ℕ → ℕ) (change : Option (Key × Bool))
-      → step n q t ws used a ws' used' change → rely (view n q ws used) (view n q ws' used') q u
+      → step sz t ws used a ws' used' change → rely (view sz ws used) (view sz ws' used') sz.quota u
   pub still : (v : View) (q u : ℕ) → rely v v q u
 
 -- links are written under node locks,
@@ -60,9 +60,9 @@ abbrev pub node_locks : (marks : Bool) → Protocol marks
 node_locks marks = record {
   step = LockedStep marks;
   rely = Rely;
-  is_step = λ n q t ws used a ws' used' change c. c.0;
-  loads = λ n q t ws used x h. reads_word x h;
-  leaves = λ n q ws used m t tn u d a ws' used' change c. rely_of marks n q ws used m t tn u d a ws' used' change c.0 c.1;
+  is_step = λ sz t ws used a ws' used' change c. c.0;
+  loads = λ sz t ws used x h. reads_word x h;
+  leaves = λ sz ws used m t tn u k d a ws' used' change c. rely_of marks sz ws used m t tn u k d a ws' used' change c.0 c.1;
   still = rely_same;
 }
 
@@ -71,9 +71,9 @@ abbrev pub no_locks : (marks : Bool) → Protocol marks
 no_locks marks = record {
   step = WordStep marks;
   rely = Remains;
-  is_step = λ n q t ws used a ws' used' change c. c;
-  loads = λ n q t ws used x h. reads x h;
-  leaves = λ n q ws used m t tn u d a ws' used' change c. remains_of marks n q ws used m t tn u d a ws' used' change c;
+  is_step = λ sz t ws used a ws' used' change c. c;
+  loads = λ sz t ws used x h. reads x h;
+  leaves = λ sz ws used m t tn u k d a ws' used' change c. remains_of marks sz ws used m t tn u k d a ws' used' change c;
   still = remains_same;
 }
 
@@ -83,41 +83,41 @@ Stands P At = (q t : ℕ) (vs : ℕ → View) (first now : ℕ) (v w : View) (do
     → At q t vs first now v done l → At q t vs first (suc now) w done l
 
 -- what a thread keeps at a step within its call
-abbrev pub Onward : ℕ → ℕ → ℕ → Local → Local → Type 0
-Onward n q t l l' = Registers n q t l' × (l'.call ≡ l.call) × (l'.used ≡ l.used) × (l'.pc ≢ 0)
+abbrev pub Onward : Sizes → ℕ → Local → Local → Type 0
+Onward sz t l l' = Registers sz t l' × (l'.call ≡ l.call) × (l'.used ≡ l.used) × (l'.pc ≢ 0)
 
 -- ONE ROW, for thread t with l: it goes on, or changes the content, or answers, or does both at once. Each of these says what
 -- the table has there, what the step does to the words, what the thread holds after it, and what is then known.
-pub data Turn (T : Table) (P : Protocol T.marks) (At : Outline) (n q t : ℕ) (vs : ℕ → View) (first now : ℕ) (ws : List ℕ)
+pub data Turn (T : Table) (P : Protocol T.marks) (At : Outline) (sz : Sizes) (t : ℕ) (vs : ℕ → View) (first now : ℕ) (ws : List ℕ)
     (used : ℕ → ℕ) (done : Bool) (l : Local) : Type 0 where
   passes : (a : Action) (ws' : List ℕ) (l' : Local)
       → T.next l ≡ a → T.feed l (seen_by ws a) ≡ fed l' None → T.effect l (seen_by ws a) ≡ None
-      → P.step n q t ws used a ws' used None → Onward n q t l l'
-      → At q t vs first (suc now) (view n q ws' used) done l' → Turn T P At n q t vs first now ws used done l
+      → P.step sz t ws used a ws' used None → Onward sz t l l'
+      → At sz.quota t vs first (suc now) (view sz ws' used) done l' → Turn T P At sz t vs first now ws used done l
   changes : (a : Action) (ws' : List ℕ) (used' : ℕ → ℕ) (l' : Local) (k : Key) (b : Bool)
       → T.next l ≡ a → T.feed l (seen_by ws a) ≡ fed l' None → T.effect l (seen_by ws a) ≡ Some (k, b)
-      → P.step n q t ws used a ws' used' (Some (k, b)) → MayChange q (used t) l.call done (Some (k, b))
-      → Registers n q t l' → l'.call ≡ l.call → l'.used ≡ used' t → l'.pc ≢ 0
-      → At q t vs first (suc now) (view n q ws' used') true l' → Turn T P At n q t vs first now ws used done l
+      → P.step sz t ws used a ws' used' (Some (k, b)) → MayChange sz.quota (used t) l.call done (Some (k, b))
+      → Registers sz t l' → l'.call ≡ l.call → l'.used ≡ used' t → l'.pc ≢ 0
+      → At sz.quota t vs first (suc now) (view sz ws' used') true l' → Turn T P At sz t vs first now ws used done l
   answers : (a : Action) (ws' : List ℕ) (l' : Local) (r : Reply)
       → T.next l ≡ a → T.feed l (seen_by ws a) ≡ fed l' (Some r) → T.effect l (seen_by ws a) ≡ None
-      → P.step n q t ws used a ws' used None → Due done q vs first now t l.call r
-      → Registers n q t l' → l'.call ≡ l.call → l'.used ≡ l.used → l'.pc ≡ 0
-      → At q t vs first (suc now) (view n q ws' used) done l' → Turn T P At n q t vs first now ws used done l
+      → P.step sz t ws used a ws' used None → Due done sz.quota vs first now t l.call r
+      → Registers sz t l' → l'.call ≡ l.call → l'.used ≡ l.used → l'.pc ≡ 0
+      → At sz.quota t vs first (suc now) (view sz ws' used) done l' → Turn T P At sz t vs first now ws used done l
   ends : (a : Action) (ws' : List ℕ) (used' : ℕ → ℕ) (l' : Local) (k : Key) (b : Bool)
       → T.next l ≡ a → T.feed l (seen_by ws a) ≡ fed l' (Some True) → T.effect l (seen_by ws a) ≡ Some (k, b)
-      → P.step n q t ws used a ws' used' (Some (k, b)) → MayChange q (used t) l.call done (Some (k, b))
-      → Registers n q t l' → l'.call ≡ l.call → l'.used ≡ used' t → l'.pc ≡ 0
-      → At q t vs first (suc now) (view n q ws' used') true l' → Turn T P At n q t vs first now ws used done l
+      → P.step sz t ws used a ws' used' (Some (k, b)) → MayChange sz.quota (used t) l.call done (Some (k, b))
+      → Registers sz t l' → l'.call ≡ l.call → l'.used ≡ used' t → l'.pc ≡ 0
+      → At sz.quota t vs first (suc now) (view sz ws' used') true l' → Turn T P At sz t vs first now ws used done l
 
 -- the row that tries the lock of node a
-pub tries : {T : Table} {At : Outline} {n q t : ℕ} {vs : ℕ → View} {first now : ℕ} {ws : List ℕ}
+pub tries : {T : Table} {At : Outline} {sz : Sizes} {t : ℕ} {vs : ℕ → View} {first now : ℕ} {ws : List ℕ}
     {used : ℕ → ℕ} {done : Bool} {l : Local}
-    (a : ℕ) (on same : Local) → a < node_count n q → T.next l ≡ Exchange (lock_index a) 0 (t + 1)
+    (a : ℕ) (on same : Local) → a < node_count sz → T.next l ≡ Exchange (lock_index a) 0 (t + 1)
     → T.feed l (node_lock ws a) ≡ fed (if node_lock ws a == 0 then on else same) None → T.effect l (node_lock ws a) ≡ None
-    → Onward n q t l on → Onward n q t l same
-    → (node_lock ws a ≡ 0 → At q t vs first (suc now) (view n q (slice_set ws (lock_index a) (t + 1)) used) done on)
-    → At q t vs first (suc now) (view n q ws used) done same → Turn T (node_locks T.marks) At n q t vs first now ws used done l
+    → Onward sz t l on → Onward sz t l same
+    → (node_lock ws a ≡ 0 → At sz.quota t vs first (suc now) (view sz (slice_set ws (lock_index a) (t + 1)) used) done on)
+    → At sz.quota t vs first (suc now) (view sz ws used) done same → Turn T (node_locks T.marks) At sz t vs first now ws used done l
 tries {t = t} {ws = ws} a on same inn acts feeds tells onward again taken stays = elim (same_or_not (node_lock ws a) 0) [
   | inl free ↦ passes (Exchange (lock_index a) 0 (t + 1)) (slice_set ws (lock_index a) (t + 1)) on acts
       (feeds ∙ ap (λ (x : Local). fed x None) (if_same (node_lock ws a) 0 free on same)) tells
@@ -132,30 +132,30 @@ tries {t = t} {ws = ws} a on same inn acts feeds tells onward again taken stays 
 pub record Follows (T : Table) (P : Protocol T.marks) (At : Outline) : Type 1 where
   pub idle_at : (q t : ℕ) (vs : ℕ → View) (v : View) → At q t vs 0 0 v false (idle q t)
   pub begun : (call : Call) (l : Local) → BeginLaws T.begin call l
-  pub begin_registers : (n q t : ℕ) (call : Call) (l : Local) → target call < tail_word → Registers n q t l
-      → Registers n q t (T.begin call l)
+  pub begin_registers : (sz : Sizes) (t : ℕ) (call : Call) (l : Local) → target call < tail_word → Registers sz t l
+      → Registers sz t (T.begin call l)
   pub begins : (q t : ℕ) (vs : ℕ → View) (now : ℕ) (v : View) (call : Call) (l : Local) → vs now ≡ v → IsOrdered v
       → v.key 0 ≡ 0 → At q t vs now now v false (T.begin call l)
   pub stands : Stands P At
-  pub turn : (n q t : ℕ) (vs : ℕ → View) (first now : ℕ) (ws : List ℕ) (used : ℕ → ℕ) (done : Bool) (l : Local)
-      → Here T.marks n q vs now ws used → Thread At n q t vs first now ws used done l → t < n → l.pc ≢ 0
-      → Turn T P At n q t vs first now ws used done l
+  pub turn : (sz : Sizes) (t : ℕ) (vs : ℕ → View) (first now : ℕ) (ws : List ℕ) (used : ℕ → ℕ) (done : Bool) (l : Local)
+      → Here T.marks sz vs now ws used → Thread At sz t vs first now ws used done l → t < sz.threads → l.pc ≢ 0
+      → Turn T P At sz t vs first now ws used done l
 
 or_true : (b : Bool) → (b || true) ≡ true
 or_true true = refl
 or_true false = refl
 
-module _ (T : Table) (P : Protocol T.marks) (At : Outline) (stands : Stands P At) (n q t : ℕ) (vs : ℕ → View) (first : ℕ → ℕ)
-    (now : ℕ) (ws : List ℕ) (used : ℕ → ℕ) (done : ℕ → Bool) (locals : ℕ → Local) (h : Here T.marks n q vs now ws used)
-    (ths : (u : ℕ) → u < n → Thread At n q u vs (first u) now ws used (done u) (locals u)) (tn : t < n) where
+module _ (T : Table) (P : Protocol T.marks) (At : Outline) (stands : Stands P At) (sz : Sizes) (t : ℕ) (vs : ℕ → View) (first : ℕ → ℕ)
+    (now : ℕ) (ws : List ℕ) (used : ℕ → ℕ) (done : ℕ → Bool) (locals : ℕ → Local) (h : Here T.marks sz vs now ws used)
+    (ths : (u : ℕ) → u < sz.threads → Thread At sz u vs (first u) now ws used (done u) (locals u)) (tn : t < sz.threads) where
   others_on : (a : Action) (ws' : List ℕ) (used' : ℕ → ℕ) (change : Option (Key × Bool))
-      → P.step n q t ws used a ws' used' change
-      → (u : ℕ) → u < n → u ≢ t → At q u vs (first u) (suc now) (view n q ws' used') (done u) (locals u)
-  others_on a ws' used' change c u k d = stands q u vs (first u) now (view n q ws used) (view n q ws' used') (done u) (locals u) h.present
-      (P.leaves n q ws used h.memory t tn u d a ws' used' change c) (ths u k).at
+      → P.step sz t ws used a ws' used' change
+      → (u : ℕ) → u < sz.threads → u ≢ t → At sz.quota u vs (first u) (suc now) (view sz ws' used') (done u) (locals u)
+  others_on a ws' used' change c u k d = stands sz.quota u vs (first u) now (view sz ws used) (view sz ws' used') (done u) (locals u) h.present
+      (P.leaves sz ws used h.memory t tn u k d a ws' used' change c) (ths u k).at
 
-  step_of : Turn T P At n q t vs (first t) now ws used (done t) (locals t)
-      → StepOf T T.marks At n q t vs first now ws used done locals
+  step_of : Turn T P At sz t vs (first t) now ws used (done t) (locals t)
+      → StepOf T T.marks At sz t vs first now ws used done locals
   step_of (passes a ws' l' acts feeds tells c (registers, call, count, pc) at) = record {
     action = a;
     words' = ws';
@@ -166,13 +166,13 @@ module _ (T : Table) (P : Protocol T.marks) (At : Outline) (stands : Stands P At
     acts = acts;
     feeds = feeds;
     tells = tells;
-    change = P.is_step n q t ws used a ws' used None c;
+    change = P.is_step sz t ws used a ws' used None c;
     registers = registers;
     same_call = call;
     counts = count ∙ (ths t tn).counts;
     by_call = tt;
     answered = pc;
-    own = subst (λ b. At q t vs (first t) (suc now) (view n q ws' used) b l') (sym (or_false (done t))) at;
+    own = subst (λ b. At sz.quota t vs (first t) (suc now) (view sz ws' used) b l') (sym (or_false (done t))) at;
     others = others_on a ws' used None c;
   }
   step_of (changes a ws' used' l' k b acts feeds tells c may registers call count pc at) = record {
@@ -185,13 +185,13 @@ module _ (T : Table) (P : Protocol T.marks) (At : Outline) (stands : Stands P At
     acts = acts;
     feeds = feeds;
     tells = tells;
-    change = P.is_step n q t ws used a ws' used' (Some (k, b)) c;
+    change = P.is_step sz t ws used a ws' used' (Some (k, b)) c;
     registers = registers;
     same_call = call;
     counts = count;
     by_call = may;
     answered = pc;
-    own = subst (λ b. At q t vs (first t) (suc now) (view n q ws' used') b l') (sym (or_true (done t))) at;
+    own = subst (λ b. At sz.quota t vs (first t) (suc now) (view sz ws' used') b l') (sym (or_true (done t))) at;
     others = others_on a ws' used' (Some (k, b)) c;
   }
   step_of (answers a ws' l' r acts feeds tells c due registers call count pc at) = record {
@@ -204,13 +204,13 @@ module _ (T : Table) (P : Protocol T.marks) (At : Outline) (stands : Stands P At
     acts = acts;
     feeds = feeds;
     tells = tells;
-    change = P.is_step n q t ws used a ws' used None c;
+    change = P.is_step sz t ws used a ws' used None c;
     registers = registers;
     same_call = call;
     counts = count ∙ (ths t tn).counts;
     by_call = tt;
-    answered = (pc, subst (λ b. Due b q vs (first t) now t (locals t).call r) (sym (or_false (done t))) due);
-    own = subst (λ b. At q t vs (first t) (suc now) (view n q ws' used) b l') (sym (or_false (done t))) at;
+    answered = (pc, subst (λ b. Due b sz.quota vs (first t) now t (locals t).call r) (sym (or_false (done t))) due);
+    own = subst (λ b. At sz.quota t vs (first t) (suc now) (view sz ws' used) b l') (sym (or_false (done t))) at;
     others = others_on a ws' used None c;
   }
   step_of (ends a ws' used' l' k b acts feeds tells c may registers call count pc at) = record {
@@ -223,13 +223,13 @@ module _ (T : Table) (P : Protocol T.marks) (At : Outline) (stands : Stands P At
     acts = acts;
     feeds = feeds;
     tells = tells;
-    change = P.is_step n q t ws used a ws' used' (Some (k, b)) c;
+    change = P.is_step sz t ws used a ws' used' (Some (k, b)) c;
     registers = registers;
     same_call = call;
     counts = count;
     by_call = may;
-    answered = (pc, subst (λ b. Due b q vs (first t) now t (locals t).call True) (sym (or_true (done t))) refl);
-    own = subst (λ b. At q t vs (first t) (suc now) (view n q ws' used') b l') (sym (or_true (done t))) at;
+    answered = (pc, subst (λ b. Due b sz.quota vs (first t) now t (locals t).call True) (sym (or_true (done t))) refl);
+    own = subst (λ b. At sz.quota t vs (first t) (suc now) (view sz ws' used') b l') (sym (or_true (done t))) at;
     others = others_on a ws' used' (Some (k, b)) c;
   }
 
@@ -240,7 +240,7 @@ discipline_of T P At k = record {
   begin_registers = k.begin_registers;
   begins = k.begins;
   waits = λ q t vs first now v done l present. k.stands q t vs first now v v done l present (P.still v q t);
-  goes = λ n q t vs first now ws used done locals h ths tn busy.
-      let turn = k.turn n q t vs (first t) now ws used (done t) (locals t) h (ths t tn) tn busy in
-      step_of T P At k.stands n q t vs first now ws used done locals h ths tn turn;
+  goes = λ sz t vs first now ws used done locals h ths tn busy.
+      let turn = k.turn sz t vs (first t) now ws used (done t) (locals t) h (ths t tn) tn busy in
+      step_of T P At k.stands sz t vs first now ws used done locals h ths tn turn;
 }

@@ -2,7 +2,7 @@
 -- and that the key of the call is between theirs.
 use Rattle.std.specs.Prelude.{◌≡◌, ◌≢◌, ℕ, ◌+◌, ◌/◌, ◌<◌, ◌≤◌, Bool, None, List, slice_set}
 use Rattle.std.proofs.Common.{arith, ◌∙◌, ap}
-use Rattle.lset_words.specs.Words.{lock_index, tail_word, node_count}
+use Rattle.lset_words.specs.Words.{lock_index, tail_word, node_count, Sizes}
 use Rattle.lset_steps.specs.declared.Action.TheVariants.{Exchange}
 use Rattle.lset_steps.specs.Chain.{View, view, node_key, node_link, node_lock}
 use Rattle.lset_steps.proofs.Moves.{KeepsNodes}
@@ -48,27 +48,27 @@ module _ {v w : View} (g : KeepsNodes v w) where
     above = f.above;
   }
 
-module _ {marks : Bool} {n q : ℕ} {ws : List ℕ} {used : ℕ → ℕ} (m : Memory marks n q ws used) where
+module _ {marks : Bool} {sz : Sizes} {ws : List ℕ} {used : ℕ → ℕ} (m : Memory marks sz ws used) where
   -- the load of the link of a node below the key,
-  pub spot_behind : {key : ℕ} (a : ℕ) → (view n q ws used).published a → node_key ws a < key
-      → Spot (view n q ws used) key a (node_link ws a / 2)
-  spot_behind a p below = record { pred_published = p; below = below; curr_published = next_published marks n q ws used m a p }
+  pub spot_behind : {key : ℕ} (a : ℕ) → (view sz ws used).published a → node_key ws a < key
+      → Spot (view sz ws used) key a (node_link ws a / 2)
+  spot_behind a p below = record { pred_published = p; below = below; curr_published = next_published marks sz ws used m a p }
 
   -- of the head first
-  pub spot_behind_head : {key : ℕ} → 0 < key → Spot (view n q ws used) key 0 (node_link ws 0 / 2)
+  pub spot_behind_head : {key : ℕ} → 0 < key → Spot (view sz ws used) key 0 (node_link ws 0 / 2)
   spot_behind_head low = let head : node_key ws 0 ≡ 0 = m.head_key in spot_behind 0 m.ordered.head_published (omega arith)
 
-  pub next_inside : (a : ℕ) → (view n q ws used).published a → node_link ws a / 2 < node_count n q
-  next_inside a p = inside marks n q ws used m (node_link ws a / 2) (next_published marks n q ws used m a p)
+  pub next_inside : (a : ℕ) → (view sz ws used).published a → node_link ws a / 2 < node_count sz
+  next_inside a p = inside marks sz ws used m (node_link ws a / 2) (next_published marks sz ws used m a p)
 
-  pub small_key : (a : ℕ) → (view n q ws used).published a → node_key ws a ≤ tail_word
+  pub small_key : (a : ℕ) → (view sz ws used).published a → node_key ws a ≤ tail_word
   small_key a p =
       let top : node_key ws a ≤ node_key ws 1 = m.ordered.top a p in let tail : node_key ws 1 ≡ tail_word = m.tail_key in
       omega arith
 
   -- what the own try of a lock leaves
-  pub keeps_locked : {t : ℕ} → t < n → (a : ℕ) → a < node_count n q → node_lock ws a ≡ 0
-      → KeepsNodes (view n q ws used) (view n q (slice_set ws (lock_index a) (t + 1)) used)
+  pub keeps_locked : {t : ℕ} → t < sz.threads → (a : ℕ) → a < node_count sz → node_lock ws a ≡ 0
+      → KeepsNodes (view sz ws used) (view sz (slice_set ws (lock_index a) (t + 1)) used)
   keeps_locked {t} tn a inn free =
-      goes_on marks n q ws used m t tn (Exchange (lock_index a) 0 (t + 1)) (slice_set ws (lock_index a) (t + 1)) used None
+      goes_on marks sz ws used m t tn (Exchange (lock_index a) 0 (t + 1)) (slice_set ws (lock_index a) (t + 1)) used None
       (locks_free a inn free).0

@@ -1,10 +1,10 @@
 -- What is promised of every run of a list with open reads, besides the law of all machines: each step of a contains is a load,
--- and there are at most 2nq + 2 of them, whatever the others do; and each node that its walk passes was in the chain.
+-- and there are at most 2(nq + m) + 2 of them, m the number of opening keys, whatever the others do; and each node that its walk passes was in the chain.
 use Rattle.std.specs.Prelude.{◌≡◌, ◌≢◌, ℕ, zero, suc, ◌+◌, ◌*◌, ◌<◌, ◌≤◌, if◌then◌else◌, ◌==◌}
 use Rattle.lset_steps.specs.declared.Action.TheVariants.{Load}
 use Rattle.lset_steps.specs.declared.Event.{Event}
 use Rattle.lset_steps.specs.declared.Event.TheVariants.{Begin, Go}
-use Rattle.lset_words.specs.Words.{link_index}
+use Rattle.lset_words.specs.Words.{link_index, Sizes, Opening, sizes}
 use Rattle.lset_words.specs.Log.{begun_at, last_call}
 use Rattle.lset_steps.specs.Steps.{Table, Run, state_at, local_of, seen_next, log_of}
 use Rattle.lset_steps.specs.Chain.{Seen}
@@ -20,36 +20,36 @@ abbrev pub steps_since : (ℕ → Event) → ℕ → ℕ → ℕ
 steps_since es t zero = 0
 steps_since es t (suc k) = steps_after (es k) t (steps_since es t k)
 
--- the most steps of a contains, for n threads with a quota of q
-abbrev pub most_reads : ℕ → ℕ → ℕ
-most_reads n q = 2 * (n * q) + 2
+-- the most steps of a contains
+abbrev pub most_reads : Sizes → ℕ
+most_reads sz = 2 * (sz.threads * sz.quota + sz.opening) + 2
 
 -- [Bounded contains]: thread t, whose open call is a contains, is about to load a word, and has made fewer steps than the bound.
 -- So with the next one it has made at most that many; and the bound less its steps is above 0 while the call is open, falls by
 -- one with each of them and stays at every event of another thread.
-pub record ReadsNext (T : Table) (n q : ℕ) (es : ℕ → Event) (k t : ℕ) : Type 0 where
-  pub loads : (word : ℕ) × (T.next (local_of (state_at T n q es k) t) ≡ Load word)
-  pub few : steps_since es t k < most_reads n q
+pub record ReadsNext (T : Table) (op : Opening) (es : ℕ → Event) (k t : ℕ) : Type 0 where
+  pub loads : (word : ℕ) × (T.next (local_of (state_at T op es k) t) ≡ Load word)
+  pub few : steps_since es t k < most_reads (sizes op)
 
 abbrev pub BoundedReads : Table → Type 0
-BoundedReads T = (n q last k t : ℕ) (es : ℕ → Event) → Run T n q es last → k ≤ last → t < n
-    → (local_of (state_at T n q es k) t).pc ≢ 0 → IsContains (local_of (state_at T n q es k) t).call
-    → ReadsNext T n q es k t
+BoundedReads T = (op : Opening) (last k t : ℕ) (es : ℕ → Event) → Run T op es last → k ≤ last → t < op.threads
+    → (local_of (state_at T op es k) t).pc ≢ 0 → IsContains (local_of (state_at T op es k) t).call
+    → ReadsNext T op es k t
 
 -- [Walk was in the chain]: the walk of thread t's last call, open or ended at the moment k, has passed node a with the link word
 -- l where the step after some moment since its Begin loaded the node's link word and saw l. (The load of the mark of the node
 -- that has the key is such a step too.)
-pub record HasPassed (T : Table) (n q : ℕ) (es : ℕ → Event) (k t a l : ℕ) : Type 0 where
+pub record HasPassed (T : Table) (op : Opening) (es : ℕ → Event) (k t a l : ℕ) : Type 0 where
   pub at : ℕ
-  pub from : begun_at (log_of T n q es) t k ≤ at
+  pub from : begun_at (log_of T op es) t k ≤ at
   pub before : at < k
   pub own : es at ≡ Go t
-  pub loads : T.next (local_of (state_at T n q es at) t) ≡ Load (link_index a)
-  pub read : seen_next T (state_at T n q es at) t ≡ l
+  pub loads : T.next (local_of (state_at T op es at) t) ≡ Load (link_index a)
+  pub read : seen_next T (state_at T op es at) t ≡ l
 
 -- Each node that the walk of a contains or a ceiling has passed was in the chain with the link that was read, at some moment of the
 -- call, not later than the load.
 abbrev pub WalkWasInChain : Table → Type 0
-WalkWasInChain T = (n q last k t a l : ℕ) (es : ℕ → Event) → Run T n q es last → k ≤ last
-    → IsRead (last_call (log_of T n q es) t k) → (p : HasPassed T n q es k t a l)
-    → Seen (views T n q es) (begun_at (log_of T n q es) t k) p.at a l
+WalkWasInChain T = (op : Opening) (last k t a l : ℕ) (es : ℕ → Event) → Run T op es last → k ≤ last
+    → IsRead (last_call (log_of T op es) t k) → (p : HasPassed T op es k t a l)
+    → Seen (views T op es) (begun_at (log_of T op es) t k) p.at a l

@@ -1,6 +1,6 @@
 -- The chain of a list and its content, as the words and the threads' counts give them (Herlihy and Shavit).
 use Rattle.std.specs.Prelude.{◌≡◌, ◌≢◌, ℕ, ◌+◌, ◌/◌, ◌%◌, ◌<◌, ◌≤◌, ◌⊎◌, Bool, true, false, List, [], ◌∷◌, Option, slice_index}
-use Rattle.lset_words.specs.Words.{key_index, link_index, lock_index, slot_node}
+use Rattle.lset_words.specs.Words.{key_index, link_index, lock_index, slot_node, opening_node, Sizes}
 use Rattle.lset_words.specs.declared.Key.{Key}
 use Rattle.lset_words.specs.declared.Call.{Call}
 use Rattle.lset_words.specs.declared.Reply.{Reply}
@@ -25,18 +25,19 @@ pub record View : Type 1 where
   pub used : ℕ → ℕ
   pub published : ℕ → Type 0
 
--- Published: head, tail, and slot j of a thread t with j below its count.
-abbrev pub Published : ℕ → ℕ → (ℕ → ℕ) → ℕ → Type 0
-Published n q used i = (i < 2) ⊎ ((t : ℕ) × (j : ℕ) × (t < n) × (j < used t) × (i ≡ slot_node q t j))
+-- Published: head, tail, slot j of a thread t with j below its count, and the nodes of the opening keys.
+abbrev pub Published : Sizes → (ℕ → ℕ) → ℕ → Type 0
+Published sz used i = (i < 2) ⊎ ((t : ℕ) × (j : ℕ) × (t < sz.threads) × (j < used t) × (i ≡ slot_node sz.quota t j))
+    ⊎ ((j : ℕ) × (j < sz.opening) × (i ≡ opening_node sz j))
 
-abbrev pub view : ℕ → ℕ → List ℕ → (ℕ → ℕ) → View
-view n q ws used = record {
+abbrev pub view : Sizes → List ℕ → (ℕ → ℕ) → View
+view sz ws used = record {
   key = node_key ws;
   link = node_link ws;
   lock = node_lock ws;
   list_lock = slice_index ws 0;
   used = used;
-  published = Published n q used;
+  published = Published sz used;
 }
 
 -- `ns` are the nodes met by `next(link)` from i up to, and without, j.

@@ -1,6 +1,6 @@
 -- What holds of every run of a machine: the law that each list carries.
 use Rattle.std.specs.Prelude.{◌≡◌, ◌≢◌, ℕ, suc, ◌+◌, ◌<◌, ◌≤◌, ◌⊎◌, ◌%◌, Bool, false, List, Option, Some, None, slice_index, length}
-use Rattle.lset_words.specs.Words.{lock_index, word_count, node_count, tail_word, target}
+use Rattle.lset_words.specs.Words.{lock_index, word_count, node_count, tail_word, target, Sizes, Opening, sizes}
 use Rattle.lset_words.specs.declared.Key.{Key}
 use Rattle.lset_words.specs.declared.Call.{Call}
 use Rattle.lset_words.specs.declared.Reply.{Reply}
@@ -18,11 +18,11 @@ use Rattle.lset_steps.specs.Chain.{View, view, IsOrdered, InChain, UnmarkedInCha
 abbrev pub used_in : State → ℕ → ℕ
 used_in s t = (local_of s t).used
 
-abbrev pub view_of : ℕ → ℕ → State → View
-view_of n q s = view n q s.words (used_in s)
+abbrev pub view_of : Sizes → State → View
+view_of sz s = view sz s.words (used_in s)
 
-abbrev pub views : Table → ℕ → ℕ → (ℕ → Event) → ℕ → View
-views T n q es k = view_of n q (state_at T n q es k)
+abbrev pub views : Table → Opening → (ℕ → Event) → ℕ → View
+views T op es k = view_of (sizes op) (state_at T op es k)
 
 abbrev pub word_named : Action → ℕ
 word_named (Load w) = w
@@ -33,29 +33,29 @@ abbrev pub IsLockWord : ℕ → Type 0
 IsLockWord x = (x ≡ 0) ⊎ ((i : ℕ) × (x ≡ lock_index i))
 
 -- what thread t holds: its own numbers, and registers in range
-pub record Registers (n q t : ℕ) (l : Local) : Type 0 where
+pub record Registers (sz : Sizes) (t : ℕ) (l : Local) : Type 0 where
   pub thread : l.thread ≡ t
-  pub quota : l.quota ≡ q
-  pub used : l.used ≤ q
+  pub quota : l.quota ≡ sz.quota
+  pub used : l.used ≤ sz.quota
   pub low : target l.call < tail_word
-  pub pred : l.pred < node_count n q
-  pub curr : l.curr < node_count n q
-  pub succ : l.succ < node_count n q
-  pub node : l.node < node_count n q
+  pub pred : l.pred < node_count sz
+  pub curr : l.curr < node_count sz
+  pub succ : l.succ < node_count sz
+  pub node : l.node < node_count sz
   pub pkey : l.pkey ≤ tail_word
   pub ckey : l.ckey ≤ tail_word
 
 -- every state
-pub record StateLaws (marks : Bool) (n q : ℕ) (s : State) : Type 0 where
-  pub words : length s.words ≡ word_count n q
-  pub locals : length s.locals ≡ n
-  pub threads : (t : ℕ) → t < n → Registers n q t (local_of s t)
-  pub ordered : IsOrdered (view_of n q s)
-  pub head_key : (view_of n q s).key 0 ≡ 0
-  pub tail_key : (view_of n q s).key 1 ≡ tail_word
-  pub inside : (i : ℕ) → (view_of n q s).published i → i < node_count n q
-  pub marked : UnmarkedInChain marks (view_of n q s)
-  pub unmarked : marks ≡ false → (i : ℕ) → i < node_count n q → (view_of n q s).link i % 2 ≡ 0
+pub record StateLaws (marks : Bool) (sz : Sizes) (s : State) : Type 0 where
+  pub words : length s.words ≡ word_count sz
+  pub locals : length s.locals ≡ sz.threads
+  pub threads : (t : ℕ) → t < sz.threads → Registers sz t (local_of s t)
+  pub ordered : IsOrdered (view_of sz s)
+  pub head_key : (view_of sz s).key 0 ≡ 0
+  pub tail_key : (view_of sz s).key 1 ≡ tail_word
+  pub inside : (i : ℕ) → (view_of sz s).published i → i < node_count sz
+  pub marked : UnmarkedInChain marks (view_of sz s)
+  pub unmarked : marks ≡ false → (i : ℕ) → i < node_count sz → (view_of sz s).link i % 2 ≡ 0
 
 -- a lock word is touched only by a try of a thread, or by its storing of 0 where it has the lock
 abbrev pub LockUse : List ℕ → ℕ → Action → Type 0
@@ -73,27 +73,27 @@ Answered done q vs first now t call pc None = pc ≢ 0
 Answered done q vs first now t call pc (Some r) = (pc ≡ 0) × Due done q vs first now t call r
 
 -- Each step of thread t with l, the one after the first k events; `change` is what it tells:
-pub record StepLaws (T : Table) (n q : ℕ) (es : ℕ → Event) (k t : ℕ) (s : State) (l : Local)
+pub record StepLaws (T : Table) (op : Opening) (es : ℕ → Event) (k t : ℕ) (s : State) (l : Local)
     (change : Option (Key × Bool)) : Type 0 where
   -- its word is one of the table,
-  pub in_table : word_named (T.next l) < word_count n q
+  pub in_table : word_named (T.next l) < word_count (sizes op)
   -- it touches a lock word only as a lock,
   pub lock_use : LockUse s.words t (T.next l)
   pub same_call : (T.feed l (seen_next T s t)).local.call ≡ l.call
   -- the content changes by what it tells, and nothing else,
-  pub content : Changed change (views T n q es k) (views T n q es (suc k))
+  pub content : Changed change (views T op es k) (views T op es (suc k))
   -- a change is that of its call,
-  pub by_call : MayChange q l.used l.call (has_changed (log_of T n q es) t k) change
+  pub by_call : MayChange op.quota l.used l.call (has_changed (log_of T op es) t k) change
   pub counts : (T.feed l (seen_next T s t)).local.used ≡ count_after change l.used
   -- and where it answers, the call ends with a right reply.
-  pub answered : Answered (has_changed (log_of T n q es) t (suc k)) q (views T n q es)
-      (begun_at (log_of T n q es) t (suc k)) (suc k) t l.call
+  pub answered : Answered (has_changed (log_of T op es) t (suc k)) op.quota (views T op es)
+      (begun_at (log_of T op es) t (suc k)) (suc k) t l.call
       (T.feed l (seen_next T s t)).local.pc (T.feed l (seen_next T s t)).answer
 
-abbrev pub StepAt : Table → ℕ → ℕ → (ℕ → Event) → ℕ → ℕ → Type 0
-StepAt T n q es k t =
-    StepLaws T n q es k t (state_at T n q es k) (local_of (state_at T n q es k) t)
-    (T.effect (local_of (state_at T n q es k) t) (seen_next T (state_at T n q es k) t))
+abbrev pub StepAt : Table → Opening → (ℕ → Event) → ℕ → ℕ → Type 0
+StepAt T op es k t =
+    StepLaws T op es k t (state_at T op es k) (local_of (state_at T op es k) t)
+    (T.effect (local_of (state_at T op es k) t) (seen_next T (state_at T op es k) t))
 
 -- What a thread that held l holds when it has begun a call:
 pub record BeginLaws (begin : Call → Local → Local) (call : Call) (l : Local) : Type 0 where
@@ -107,30 +107,30 @@ pub record BeginLaws (begin : Call → Local → Local) (call : Call) (l : Local
 pub record Lawful (T : Table) : Type 0 where
   pub begins : (call : Call) (l : Local) → BeginLaws T.begin call l
   -- what is so in every state of every run,
-  pub states : (n q last k : ℕ) (es : ℕ → Event) → Run T n q es last → k ≤ last → StateLaws T.marks n q (state_at T n q es k)
+  pub states : (op : Opening) (last k : ℕ) (es : ℕ → Event) → Run T op es last → k ≤ last → StateLaws T.marks (sizes op) (state_at T op es k)
   -- at every step,
-  pub steps : (n q last k t : ℕ) (es : ℕ → Event) → Run T n q es last → k < last → es k ≡ Go t → StepAt T n q es k t
+  pub steps : (op : Opening) (last k t : ℕ) (es : ℕ → Event) → Run T op es last → k < last → es k ≡ Go t → StepAt T op es k t
   -- and of a node from a moment to a later one
-  pub unlinked_stays : (n q last j k i : ℕ) (es : ℕ → Event) → Run T n q es last → j ≤ k → k ≤ last
-      → (views T n q es j).published i
-      → UnlinkedStays T.marks (views T n q es j) (views T n q es k) i
+  pub unlinked_stays : (op : Opening) (last j k i : ℕ) (es : ℕ → Event) → Run T op es last → j ≤ k → k ≤ last
+      → (views T op es j).published i
+      → UnlinkedStays T.marks (views T op es j) (views T op es k) i
   -- and what is read at a later moment of a node that was in the chain
-  pub seen_before : (n q last j k b : ℕ) (es : ℕ → Event) → Run T n q es last → j ≤ k → k ≤ last
-      → InChain (views T n q es j) b
-      → Seen (views T n q es) j k b ((views T n q es k).link b)
+  pub seen_before : (op : Opening) (last j k b : ℕ) (es : ℕ → Event) → Run T op es last → j ≤ k → k ≤ last
+      → InChain (views T op es j) b
+      → Seen (views T op es) j k b ((views T op es k).link b)
 
 -- the limits are met, k events have run, and thread t has an open call
-pub record UnderWay (T : Table) (n q : ℕ) (es : ℕ → Event) (k t : ℕ) : Type 0 where
-  pub run : Run T n q es k
-  pub thread : t < n
-  pub open_call : (local_of (state_at T n q es k) t).pc ≢ 0
+pub record UnderWay (T : Table) (op : Opening) (es : ℕ → Event) (k t : ℕ) : Type 0 where
+  pub run : Run T op es k
+  pub thread : t < op.threads
+  pub open_call : (local_of (state_at T op es k) t).pc ≢ 0
 
 -- a thread with an open call has this Local in some run, and sees this value at its next step
 abbrev pub Occurs : Table → Local → Type 0
-Occurs T l = (n : ℕ) × (q : ℕ) × (es : ℕ → Event) × (k : ℕ) × (t : ℕ) × UnderWay T n q es k t
-    × (local_of (state_at T n q es k) t ≡ l)
+Occurs T l = (op : Opening) × (es : ℕ → Event) × (k : ℕ) × (t : ℕ) × UnderWay T op es k t
+    × (local_of (state_at T op es k) t ≡ l)
 
 abbrev pub Sees : Table → Local → ℕ → Type 0
-Sees T l seen = (n : ℕ) × (q : ℕ) × (es : ℕ → Event) × (k : ℕ) × (t : ℕ) × UnderWay T n q es k t
-    × (local_of (state_at T n q es k) t ≡ l)
-    × (seen_next T (state_at T n q es k) t ≡ seen)
+Sees T l seen = (op : Opening) × (es : ℕ → Event) × (k : ℕ) × (t : ℕ) × UnderWay T op es k t
+    × (local_of (state_at T op es k) t ≡ l)
+    × (seen_next T (state_at T op es k) t ≡ seen)

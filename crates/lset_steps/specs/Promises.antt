@@ -1,12 +1,12 @@
--- What is promised of every run of a machine, each promise under its own name. In all of them n is the number of threads, q the
--- quota, es the events of a run of `last` events, and k a moment: k events have happened.
+-- What is promised of every run of a machine, each promise under its own name. In all of them op says how the set
+-- opens, es the events of a run of `last` events, and k a moment: k events have happened.
 use Rattle.std.specs.Prelude.{◌≡◌, ◌≢◌, ℕ, zero, suc, ◌+◌, ◌%◌, ◌^◌, ◌<◌, ◌≤◌, ◌⊎◌, true, false, if◌then◌else◌, ◌==◌, List, [], ◌∷◌, ◌++◌, map, Option, Some, Contains, slice_index}
 use Rattle.std.specs.List.Sorted.{IsStrictlyIncreasing}
 use Rattle.lset_words.specs.declared.Call.{Call}
 use Rattle.lset_words.specs.declared.Call.TheVariants as call
 use Rattle.lset_words.specs.declared.Reply.{Reply}
 use Rattle.lset_words.specs.declared.Reply.TheVariants.{True}
-use Rattle.lset_words.specs.Words.{word_count, node_count}
+use Rattle.lset_words.specs.Words.{word_count, node_count, Sizes, Opening, sizes}
 use Rattle.lset_words.specs.Log.{Log, Entry, Change, last_call, begun_at, has_changed}
 use Rattle.lset_words.specs.Log.Entry.{began, stepped}
 use Rattle.lset_words.specs.Account.{Account, Contents, Counts, Same, Changes, MayChange, RightReply, count_after}
@@ -21,13 +21,13 @@ use Rattle.lset_steps.specs.Laws.{Registers, IsLockWord, LockUse, word_named, vi
 use Rattle.lset_steps.specs.Worlds.{IsContent}
 
 -- [In range]: the registers of each thread are in range, and the next action of an open call names a word of the table.
-pub record ThreadInRange (T : Table) (n q t : ℕ) (l : Local) : Type 0 where
-  pub registers : Registers n q t l
-  pub action : l.pc ≢ 0 → word_named (T.next l) < word_count n q
+pub record ThreadInRange (T : Table) (sz : Sizes) (t : ℕ) (l : Local) : Type 0 where
+  pub registers : Registers sz t l
+  pub action : l.pc ≢ 0 → word_named (T.next l) < word_count sz
 
 abbrev pub InRange : Table → Type 0
-InRange T = (n q last k t : ℕ) (es : ℕ → Event) → Run T n q es last → k ≤ last → t < n
-    → ThreadInRange T n q t (local_of (state_at T n q es k) t)
+InRange T = (op : Opening) (last k t : ℕ) (es : ℕ → Event) → Run T op es last → k ≤ last → t < op.threads
+    → ThreadInRange T (sizes op) t (local_of (state_at T op es k) t)
 
 -- [Sorted chain]: the chain reaches the tail, node 1, and its keys rise strictly, the tail's too.
 pub record ChainIsSorted (v : View) : Type 0 where
@@ -36,7 +36,7 @@ pub record ChainIsSorted (v : View) : Type 0 where
   pub rising : IsStrictlyIncreasing (map v.key (nodes ++ 1 ∷ []))
 
 abbrev pub SortedChain : Table → Type 0
-SortedChain T = (n q last k : ℕ) (es : ℕ → Event) → Run T n q es last → k ≤ last → ChainIsSorted (views T n q es k)
+SortedChain T = (op : Opening) (last k : ℕ) (es : ℕ → Event) → Run T op es last → k ≤ last → ChainIsSorted (views T op es k)
 
 -- [Lock words]: a lock word is t + 1 from the successful try of thread t to its storing of 0, and else 0. What it is, by the
 -- tries and the storings of a run alone: first after one action of thread t,
@@ -51,52 +51,52 @@ held_after T s x old (Begin t call) = old
 held_after T s x old (Go t) = held x t old (T.next (local_of s t))
 
 -- and at each moment of a run.
-abbrev pub holder : Table → ℕ → ℕ → (ℕ → Event) → ℕ → ℕ → ℕ
-holder T n q es x zero = 0
-holder T n q es x (suc k) = held_after T (state_at T n q es k) x (holder T n q es x k) (es k)
+abbrev pub holder : Table → Opening → (ℕ → Event) → ℕ → ℕ → ℕ
+holder T op es x zero = 0
+holder T op es x (suc k) = held_after T (state_at T op es k) x (holder T op es x k) (es k)
 
 abbrev pub LockWords : Table → Type 0
-LockWords T = (n q last k x : ℕ) (es : ℕ → Event) → Run T n q es last → k ≤ last → IsLockWord x → x < word_count n q
-    → slice_index (state_at T n q es k).words x ≡ holder T n q es x k
+LockWords T = (op : Opening) (last k x : ℕ) (es : ℕ → Event) → Run T op es last → k ≤ last → IsLockWord x → x < word_count (sizes op)
+    → slice_index (state_at T op es k).words x ≡ holder T op es x k
 
 -- An exchange of a lock word is a try of its thread, and 0 is stored there only by the thread that has the lock; nothing else is.
 abbrev pub LockUses : Table → Type 0
-LockUses T = (n q last k t : ℕ) (es : ℕ → Event) → Run T n q es last → k < last → es k ≡ Go t
-    → LockUse (state_at T n q es k).words t (T.next (local_of (state_at T n q es k) t))
+LockUses T = (op : Opening) (last k t : ℕ) (es : ℕ → Event) → Run T op es last → k < last → es k ≡ Go t
+    → LockUse (state_at T op es k).words t (T.next (local_of (state_at T op es k) t))
 
 -- [Unlinked stays]: what a node that is published at the moment j keeps up to a later moment k
 abbrev pub UnlinkedNodesStay : Table → Type 0
-UnlinkedNodesStay T = (n q last j k i : ℕ) (es : ℕ → Event) → Run T n q es last → j ≤ k → k ≤ last
-    → (views T n q es j).published i → UnlinkedStays T.marks (views T n q es j) (views T n q es k) i
+UnlinkedNodesStay T = (op : Opening) (last j k i : ℕ) (es : ℕ → Event) → Run T op es last → j ≤ k → k ≤ last
+    → (views T op es j).published i → UnlinkedStays T.marks (views T op es j) (views T op es k) i
 
 -- [Frozen]: from a moment k of a run of `last` events on, the link word of node i is the same.
-abbrev pub IsFrozen : Table → ℕ → ℕ → ℕ → (ℕ → Event) → ℕ → ℕ → Type 0
-IsFrozen T n q last es k i = (later : ℕ) → k ≤ later → later ≤ last → (views T n q es later).link i ≡ (views T n q es k).link i
+abbrev pub IsFrozen : Table → Opening → ℕ → (ℕ → Event) → ℕ → ℕ → Type 0
+IsFrozen T op last es k i = (later : ℕ) → k ≤ later → later ≤ last → (views T op es later).link i ≡ (views T op es k).link i
 
 -- From the moment at which a node is unlinked it is frozen, and in a list that marks from the moment at which it is marked.
-pub record Freezes (T : Table) (n q last : ℕ) (es : ℕ → Event) (k i : ℕ) : Type 0 where
-  pub unlinked : (InChain (views T n q es k) i → ⊥) → IsFrozen T n q last es k i
-  pub marked : T.marks ≡ true → (views T n q es k).link i % 2 ≡ 1 → IsFrozen T n q last es k i
+pub record Freezes (T : Table) (op : Opening) (last : ℕ) (es : ℕ → Event) (k i : ℕ) : Type 0 where
+  pub unlinked : (InChain (views T op es k) i → ⊥) → IsFrozen T op last es k i
+  pub marked : T.marks ≡ true → (views T op es k).link i % 2 ≡ 1 → IsFrozen T op last es k i
 
 abbrev pub FrozenNodes : Table → Type 0
-FrozenNodes T = (n q last k i : ℕ) (es : ℕ → Event) → Run T n q es last → k ≤ last → (views T n q es k).published i
-    → Freezes T n q last es k i
+FrozenNodes T = (op : Opening) (last k i : ℕ) (es : ℕ → Event) → Run T op es last → k ≤ last → (views T op es k).published i
+    → Freezes T op last es k i
 
 -- [Seen in the past]: the link word that is read at a moment k of a node that was in the chain at an earlier moment j, the node
 -- had at some moment between while it was in the chain.
 abbrev pub SeenInThePast : Table → Type 0
-SeenInThePast T = (n q last j k b : ℕ) (es : ℕ → Event) → Run T n q es last → j ≤ k → k ≤ last
-    → InChain (views T n q es j) b → Seen (views T n q es) j k b ((views T n q es k).link b)
+SeenInThePast T = (op : Opening) (last j k b : ℕ) (es : ℕ → Event) → Run T op es last → j ≤ k → k ≤ last
+    → InChain (views T op es j) b → Seen (views T op es) j k b ((views T op es k).link b)
 
 -- [Unmarked in chain]
 abbrev pub UnmarkedNodesInChain : Table → Type 0
-UnmarkedNodesInChain T = (n q last k : ℕ) (es : ℕ → Event) → Run T n q es last → k ≤ last
-    → UnmarkedInChain T.marks (views T n q es k)
+UnmarkedNodesInChain T = (op : Opening) (last k : ℕ) (es : ℕ → Event) → Run T op es last → k ≤ last
+    → UnmarkedInChain T.marks (views T op es k)
 
 -- In a list that does not mark no link is marked, that of a slot that no add has put in neither.
 abbrev pub NoLinkIsMarked : Table → Type 0
-NoLinkIsMarked T = (n q last k i : ℕ) (es : ℕ → Event) → Run T n q es last → k ≤ last → T.marks ≡ false → i < node_count n q
-    → (views T n q es k).link i % 2 ≡ 0
+NoLinkIsMarked T = (op : Opening) (last k i : ℕ) (es : ℕ → Event) → Run T op es last → k ≤ last → T.marks ≡ false → i < node_count (sizes op)
+    → (views T op es k).link i % 2 ≡ 0
 
 -- [Named change]: what the entry k of a log does to the content and to the threads' counts of successful adds, and which call may
 -- do it: the one that its thread has begun last, once a call.
@@ -111,15 +111,15 @@ ChangeIsNamed threads quota log contents counts k (stepped t change reply) =
     × ((u : ℕ) → u < threads → u ≢ t → counts (suc k) u ≡ counts k u)
 
 abbrev pub NamedChange : Table → Type 0
-NamedChange T = (n q last k : ℕ) (es : ℕ → Event) → Run T n q es last → k < last
-    → ChangeIsNamed n q (log_of T n q es) (contents_of (views T n q es)) (counts_of (views T n q es)) k (log_of T n q es k)
+NamedChange T = (op : Opening) (last k : ℕ) (es : ℕ → Event) → Run T op es last → k < last
+    → ChangeIsNamed op.threads op.quota (log_of T op es) (contents_of (views T op es)) (counts_of (views T op es)) k (log_of T op es k)
 
 -- [Replies fit]: a call that ends at the entry k has made a change and answers True, or its reply fits one of its moments.
 abbrev pub RepliesFit : Table → Type 0
-RepliesFit T = (n q last k t : ℕ) (es : ℕ → Event) (change : Option Change) (reply : Reply) → Run T n q es last → k < last
-    → log_of T n q es k ≡ stepped t change (Some reply)
-    → RightReply (has_changed (log_of T n q es) t (suc k)) q (contents_of (views T n q es)) (counts_of (views T n q es))
-    (begun_at (log_of T n q es) t k) (suc k) t (last_call (log_of T n q es) t k) (Some reply)
+RepliesFit T = (op : Opening) (last k t : ℕ) (es : ℕ → Event) (change : Option Change) (reply : Reply) → Run T op es last → k < last
+    → log_of T op es k ≡ stepped t change (Some reply)
+    → RightReply (has_changed (log_of T op es) t (suc k)) op.quota (contents_of (views T op es)) (counts_of (views T op es))
+    (begun_at (log_of T op es) t k) (suc k) t (last_call (log_of T op es) t k) (Some reply)
 
 -- a contains
 abbrev pub IsContains : Call → Type 0
@@ -137,14 +137,14 @@ IsRead (call.Ceiling k) = Unit {0}
 
 -- A call that ends without a change does not answer True, but for a Contains.
 abbrev pub TrueMeansChange : Table → Type 0
-TrueMeansChange T = (n q last k t : ℕ) (es : ℕ → Event) (change : Option Change) → Run T n q es last → k < last
-    → log_of T n q es k ≡ stepped t change (Some True)
-    → (has_changed (log_of T n q es) t (suc k) ≡ true) ⊎ IsContains (last_call (log_of T n q es) t k)
+TrueMeansChange T = (op : Opening) (last k t : ℕ) (es : ℕ → Event) (change : Option Change) → Run T op es last → k < last
+    → log_of T op es k ≡ stepped t change (Some True)
+    → (has_changed (log_of T op es) t (suc k) ≡ true) ⊎ IsContains (last_call (log_of T op es) t k)
 
 -- All of it together, with no word of nodes or locks: every run has an account.
 abbrev pub HasAccount : Table → Type 0
-HasAccount T = (n q last : ℕ) (es : ℕ → Event) → Run T n q es last
-    → Account n q last (log_of T n q es) (contents_of (views T n q es)) (counts_of (views T n q es))
+HasAccount T = (op : Opening) (last : ℕ) (es : ℕ → Event) → Run T op es last
+    → Account op last (log_of T op es) (contents_of (views T op es)) (counts_of (views T op es))
 
 -- The content at each moment is one rising list of keys, each below 2^32.
 pub record ContentIsListed (v : View) : Type 0 where
@@ -155,4 +155,4 @@ pub record ContentIsListed (v : View) : Type 0 where
   pub low : (k : ℕ) → InContent v k → k < 2 ^ 32
 
 abbrev pub ListedContent : Table → Type 0
-ListedContent T = (n q last k : ℕ) (es : ℕ → Event) → Run T n q es last → k ≤ last → ContentIsListed (views T n q es k)
+ListedContent T = (op : Opening) (last k : ℕ) (es : ℕ → Event) → Run T op es last → k ≤ last → ContentIsListed (views T op es k)

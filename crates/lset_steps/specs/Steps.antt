@@ -1,10 +1,10 @@
 -- [Machine] and [Run]: machines as tables of steps, states, one event, and runs of events. (This project's own tables.)
-use Rattle.std.specs.Prelude.{◌≡◌, ◌≢◌, ℕ, ◌<◌, Bool, if◌then◌else◌, List, map, length, Option, None, ◌==◌, slice_index, slice_index_or, slice_set, zero, suc}
+use Rattle.std.specs.Prelude.{◌≡◌, ◌≢◌, ℕ, ◌<◌, ◌*◌, ◌+◌, ◌-◌, ◌/◌, ◌%◌, nat_lt, Bool, if◌then◌else◌, List, map, length, Option, None, ◌==◌, slice_index, slice_index_or, slice_set, zero, suc}
 use Rattle.std.specs.List.{range_with_len}
 use Rattle.lset_words.specs.declared.Key.{Key}
 use Rattle.lset_words.specs.declared.Call.{Call}
 use Rattle.lset_words.specs.declared.Call.TheVariants.{Contains}
-use Rattle.lset_words.specs.Words.{IsWithin, tail_word, word_count, target}
+use Rattle.lset_words.specs.Words.{tail_word, word_count, opening_node, target, Sizes, Opening, Opens, sizes}
 use Rattle.lset_words.specs.Log.{Log, Entry}
 use Rattle.lset_words.specs.Log.Entry.{began, stepped}
 use Rattle.lset_steps.specs.declared.Local.{Local}
@@ -44,15 +44,42 @@ idle q t = record {
   ckey = 0;
 }
 
-abbrev pub opening_word : ℕ → ℕ → ℕ → ℕ
-opening_word n q i =
-    if i == 1 then n else if i == 2 then q else if i == 4 then 2 else if i == 6 then tail_word else if i == 7 then 2 else 0
+-- THE OPENING WORLD: the head leads to the nodes of the opening keys, one after another, and the last of them to the tail.
+-- the node of the opening key i, or the tail where there are no more
+abbrev pub opening_next : Sizes → ℕ → ℕ
+opening_next sz i = if nat_lt i sz.opening then opening_node sz i else 1
 
-abbrev pub opening : ℕ → ℕ → State
-opening n q = record {
-  words = map (opening_word n q) (range_with_len 0 (word_count n q));
-  locals = map (idle q) (range_with_len 0 n);
+abbrev pub opening_link : Sizes → ℕ → ℕ
+opening_link sz a =
+    if a == 0 then 2 * opening_next sz 0
+    else if a == 1 then 2
+    else if nat_lt a (opening_node sz 0) then 0
+    else 2 * opening_next sz (a - opening_node sz 0 + 1)
+
+abbrev pub opening_key : Opening → ℕ → ℕ
+opening_key op a =
+    if a == 1 then tail_word
+    else if nat_lt a (opening_node (sizes op) 0) then 0
+    else slice_index op.keys (a - opening_node (sizes op) 0) + 1
+
+abbrev pub opening_word : Opening → ℕ → ℕ
+opening_word op i =
+    if i == 0 then 0
+    else if i == 1 then op.threads
+    else if i == 2 then op.quota
+    else if i % 3 == 0 then opening_key op (i / 3 - 1)
+    else if i % 3 == 1 then opening_link (sizes op) (i / 3 - 1)
+    else 0
+
+abbrev pub opening : Opening → State
+opening op = record {
+  words = map (opening_word op) (range_with_len 0 (word_count (sizes op)));
+  locals = map (idle op.quota) (range_with_len 0 op.threads);
 }
+
+-- such a layout, opened with as many keys
+abbrev pub opening_of : Sizes → List ℕ → Opening
+opening_of sz keys = record { threads = sz.threads; quota = sz.quota; keys = keys }
 
 abbrev pub local_of : State → ℕ → Local
 local_of s t = slice_index_or s.locals t (idle 0 0)
@@ -91,17 +118,14 @@ Enabled s (Begin t call) = (t < length s.locals) × ((local_of s t).pc ≡ 0) ×
 Enabled s (Go t) = (t < length s.locals) × ((local_of s t).pc ≢ 0)
 
 -- RUNS: the events, as a function of moments, and the state after the first k of them
-abbrev pub state_at : Table → ℕ → ℕ → (ℕ → Event) → ℕ → State
-state_at T n q es zero = opening n q
-state_at T n q es (suc k) = after T (state_at T n q es k) (es k)
-
-abbrev pub Limits : ℕ → ℕ → Type 0
-Limits n q = IsWithin (record { threads = n; quota = q })
+abbrev pub state_at : Table → Opening → (ℕ → Event) → ℕ → State
+state_at T op es zero = opening op
+state_at T op es (suc k) = after T (state_at T op es k) (es k)
 
 -- the events up to `last` are enabled one after another
-pub record Run (T : Table) (n q : ℕ) (es : ℕ → Event) (last : ℕ) : Type 0 where
-  pub limits : Limits n q
-  pub enabled : (k : ℕ) → k < last → Enabled (state_at T n q es k) (es k)
+pub record Run (T : Table) (op : Opening) (es : ℕ → Event) (last : ℕ) : Type 0 where
+  pub opens : Opens op
+  pub enabled : (k : ℕ) → k < last → Enabled (state_at T op es k) (es k)
 
 -- a list of events
 abbrev pub event_at : List Event → ℕ → Event
@@ -112,5 +136,5 @@ abbrev pub entry_of : Table → State → Event → Entry
 entry_of T s (Begin t call) = began t call
 entry_of T s (Go t) = stepped t (told T s (Go t)).change (told T s (Go t)).answer
 
-abbrev pub log_of : Table → ℕ → ℕ → (ℕ → Event) → Log
-log_of T n q es k = entry_of T (state_at T n q es k) (es k)
+abbrev pub log_of : Table → Opening → (ℕ → Event) → Log
+log_of T op es k = entry_of T (state_at T op es k) (es k)

@@ -1,7 +1,7 @@
 -- What a world is, and what a step of it answers.
 use Rattle.std.specs.Prelude.{◌≡◌, ◌≢◌, ℕ, ◌-◌, ◌%◌, ◌<◌, ◌≤◌, Bool, not, List, [], ◌∷◌, map, filter, filter_map, length, Option, Result, Ok, Err, if◌then◌else◌, ◌==◌, nat_lt, ◌&&◌}
 use Rattle.std.specs.List.Sorted.{IsStrictlyIncreasing}
-use Rattle.lset_words.specs.Words.{word_count}
+use Rattle.lset_words.specs.Words.{word_count, Sizes, Opening, sizes}
 use Rattle.lset_steps.specs.declared.Event.{Event}
 use Rattle.lset_steps.specs.declared.Event.TheVariants.{Begin, Go}
 use Rattle.lset_steps.specs.declared.Told.{Told}
@@ -12,17 +12,18 @@ use Rattle.lset_steps.specs.Steps.{Table, State, Run, state_at, event_at, after,
 use Rattle.lset_steps.specs.Chain.{View, IsChain}
 
 pub record WorldState : Type 0 where
-  pub threads : ℕ
-  pub quota : ℕ
+  pub sizes : Sizes
   pub state : State
 
--- the state is the last one of a run of these events
+-- the state is the last one of a run of these events, from some opening of its sizes
 pub record IsRun (T : Table) (w : WorldState) : Type 0 where
+  pub opening : Opening
+  pub of_sizes : sizes opening ≡ w.sizes
   pub events : List Event
-  pub run : Run T w.threads w.quota (event_at events) (length events)
-  pub is : w.state ≡ state_at T w.threads w.quota (event_at events) (length events)
-  pub words : length w.state.words ≡ word_count w.threads w.quota
-  pub locals : length w.state.locals ≡ w.threads
+  pub run : Run T opening (event_at events) (length events)
+  pub is : w.state ≡ state_at T opening (event_at events) (length events)
+  pub words : length w.state.words ≡ word_count w.sizes
+  pub locals : length w.state.locals ≡ w.sizes.threads
 
 abbrev pub thread_of : Event → ℕ
 thread_of (Begin t call) = t
@@ -30,11 +31,11 @@ thread_of (Go t) = t
 
 -- the first cause, in the order NoThread, Busy, Idle, for which an event is not enabled
 abbrev pub Refused : WorldState → Event → StepFault → Type 0
-Refused w e NoThread = w.threads ≤ thread_of e
-Refused w (Begin t call) Busy = (t < w.threads) × ((local_of w.state t).pc ≢ 0)
+Refused w e NoThread = w.sizes.threads ≤ thread_of e
+Refused w (Begin t call) Busy = (t < w.sizes.threads) × ((local_of w.state t).pc ≢ 0)
 Refused w (Go t) Busy = ⊥
 Refused w (Begin t call) Idle = ⊥
-Refused w (Go t) Idle = (t < w.threads) × ((local_of w.state t).pc ≡ 0)
+Refused w (Go t) Idle = (t < w.sizes.threads) × ((local_of w.state t).pc ≡ 0)
 
 -- what a step answers, and the world after it: an enabled event is made, and a refused one changes nothing
 abbrev pub StepResult : Table → WorldState → Event → Result Told StepFault → WorldState → Type 0

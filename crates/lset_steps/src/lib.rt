@@ -130,9 +130,10 @@ pub trait Machine {
 pub trait OpenReads: Machine {
     /// The most steps of a `contains`, whatever the other threads do. Each of them is a load.
     fn bound(layout: &Layout) -> u64
-        ensures { result ≡ most_reads layout.now.threads layout.now.quota }
+        ensures { result ≡ most_reads layout.now }
     {
-        2 * (u64::from(layout.threads()) * u64::from(layout.quota())) + 2
+        2 * (u64::from(layout.threads()) * u64::from(layout.quota()) + u64::from(layout.opening()))
+            + 2
     }
 
     ghost reads: { BoundedReads Self.table };

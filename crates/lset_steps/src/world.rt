@@ -1,13 +1,14 @@
-ghost use Rattle.std.specs.Prelude.{◌≡◌, ◌≢◌, ℕ, ◌+◌, ◌*◌, ◌/◌, ◌%◌, ◌<◌, ◌≤◌, IfOk, OnErr, MatchOption, MatchResult, IsTrue, ◌↔◌, length, slice_index, map, List};
+ghost use Rattle.std.specs.Prelude.{◌≡◌, ◌≢◌, ℕ, ◌+◌, ◌*◌, ◌/◌, ◌%◌, ◌^◌, ◌<◌, ◌≤◌, IfOk, OnErr, MatchOption, MatchResult, IsTrue, ◌↔◌, length, slice_index, map, List, All};
 ghost use Rattle.std.specs.List.{range_with_len};
-ghost use Rattle.lset_words.specs.Words.{word_count, lock_index};
+ghost use Rattle.std.specs.List.Sorted.{IsStrictlyIncreasing};
+ghost use Rattle.lset_words.specs.Words.{word_count, node_count, lock_index, opening_node, empty};
 ghost use Rattle.lset_steps.specs.Chain.{node_key, node_link};
-ghost use Rattle.lset_steps.specs.Steps.{Enabled, Table, idle, opening, opening_word, after, told, local_of, seen_by, seen_next, left_by};
+ghost use Rattle.lset_steps.specs.Steps.{Enabled, Table, idle, opening, opening_of, opening_word, opening_next, opening_link, opening_key, after, told, local_of, seen_by, seen_next, left_by};
 ghost use Rattle.lset_steps.specs.Laws.{Occurs, Sees, StateLaws, word_named, view_of};
 ghost use Rattle.lset_steps.specs.Worlds.{WorldState, IsRun, StepResult, IsContent, AreChainKeys, unmarked_keys, IsPickedFromChain};
 
 use crate::{Action, Event, Local, Machine, Told};
-use lset_words::{Call, Layout, key_index, link_index, unpack};
+use lset_words::{Call, Layout, MOST_NODES, key_index, link_index, unpack};
 use std::alloc::{AllocError, Global};
 use std::marker::{Model, PhantomData};
 use thiserror::Error;
@@ -43,6 +44,7 @@ pub struct World<M: Machine> {
     alloc: Global,
     threads: u32,
     quota: u32,
+    opening: u32,
     words: Vec<u64>,
     locals: Vec<Local>,
     machine: PhantomData<M>,
@@ -52,40 +54,110 @@ impl<M: Machine> Model for World<M> {
     ghost Value = { WorldState };
 
     ghost view = { λ w. record {
-      threads = w.threads;
-      quota = w.quota;
+      sizes = record { threads = w.threads; quota = w.quota; opening = w.opening };
       state = record { words = w.words.items; locals = w.locals.items };
     } };
 
     ghost invariant = { λ w. IsRun M.table (record {
-      threads = w.threads;
-      quota = w.quota;
+      sizes = record { threads = w.threads; quota = w.quota; opening = w.opening };
       state = record { words = w.words.items; locals = w.locals.items };
     }) };
 }
 
-fn opening_word_at(layout: &Layout, i: u64) -> u64
-    ensures { result ≡ opening_word layout.now.threads layout.now.quota i }
+/// The node of the first opening key; with no opening keys the number of nodes.
+fn first_opening_node(layout: &Layout) -> u64
+    ensures node { result ≡ opening_node layout.now 0 }
+    ensures few { result + layout.now.opening ≤ MOST_NODES }
 {
-    match i {
-        1 => u64::from(layout.threads()),
-        2 => u64::from(layout.quota()),
-        4 | 7 => 2,
-        6 => 4_294_967_297,
+    let _nodes = layout.nodes();
+    2 + u64::from(layout.threads()) * u64::from(layout.quota())
+}
+
+/// The node of the opening key `i`, or the tail where there are no more.
+fn opening_next(layout: &Layout, i: u64) -> u64
+    requires { i ≤ layout.now.opening }
+    ensures node { result ≡ opening_next layout.now i }
+    ensures few { result < MOST_NODES }
+{
+    if i < u64::from(layout.opening()) {
+        first_opening_node(layout) + i
+    } else {
+        TAIL
+    }
+}
+
+fn opening_link(layout: &Layout, node: u64) -> u64
+    requires { node < node_count layout.now }
+    ensures { result ≡ opening_link layout.now node }
+{
+    let first = first_opening_node(layout);
+    if node == HEAD {
+        2 * opening_next(layout, 0)
+    } else if node == TAIL {
+        2 * TAIL
+    } else if node < first {
+        0
+    } else {
+        2 * opening_next(layout, node - first + 1)
+    }
+}
+
+fn opening_key(layout: &Layout, keys: &[u32], node: u64) -> u64
+    requires node { node < node_count layout.now }
+    requires keys { length keys.now ≡ layout.now.opening }
+    ensures { result ≡ opening_key (opening_of layout.now keys.now) node }
+{
+    let first = first_opening_node(layout);
+    if node == TAIL {
+        4_294_967_297
+    } else if node < first {
+        0
+    } else {
+        u64::from(keys[(node - first) as usize]) + 1
+    }
+}
+
+/// Keys are numbers of 32 bits.
+fn keys_are_small(keys: &[u32])
+    ensures { All (λ k. k < 2 ^ 32) keys.now }
+{
+    let _keys = keys;
+}
+
+fn opening_word_at(layout: &Layout, keys: &[u32], i: u64) -> u64
+    requires word { i < word_count layout.now }
+    requires keys { length keys.now ≡ layout.now.opening }
+    ensures { result ≡ opening_word (opening_of layout.now keys.now) i }
+{
+    if i == 0 {
+        return 0;
+    }
+    if i == 1 {
+        return u64::from(layout.threads());
+    }
+    if i == 2 {
+        return u64::from(layout.quota());
+    }
+    let node = i / 3 - 1;
+    match i % 3 {
+        0 => opening_key(layout, keys, node),
+        1 => opening_link(layout, node),
         _ => 0,
     }
 }
 
-/// The words of a list before any event, for a table of the threads and quota of `layout`, as many as it has words, at
-/// most 3,145,737: an empty chain from head to tail, free locks, and unused slots of zeros. It fails only where memory was
-/// refused. (This project's own table.)
-pub fn opening_words(alloc: Global, layout: &Layout) -> Result<Vec<u64>, AllocError>
-    ensures { IfOk result (λ v. v.items ≡ map (opening_word layout.now.threads layout.now.quota)
-        (range_with_len 0 (word_count layout.now.threads layout.now.quota))) }
+/// The words of a list before any event, for a table of the sizes of `layout` and as many opening keys, as many as it has
+/// words, at most 6,291,465: a chain from the head over the nodes of these keys to the tail, free locks, and unused slots of
+/// zeros. It fails only where memory was refused. (This project's own table.)
+pub fn opening_words(alloc: Global, layout: &Layout, keys: &[u32]) -> Result<Vec<u64>, AllocError>
+    requires { length keys.now ≡ layout.now.opening }
+    ensures words { IfOk result (λ v. v.items ≡ (opening (opening_of layout.now keys.now)).words) }
+    ensures low { IfOk result (λ v. All (λ k. k < 2 ^ 32) keys.now) }
 {
+    keys_are_small(keys);
     let mut words = Vec::new(alloc);
     for i in 0..layout.words() {
-        words.push(opening_word_at(layout, i))?;
+        words.push(opening_word_at(layout, keys, i))?;
     }
     Ok(words)
 }
@@ -134,21 +206,31 @@ fn sight(words: &[u64], action: Action) -> u64
 }
 
 impl<M: Machine> World<M> {
-    /// The world before any event: the opening words, and every thread idle. It fails only where memory
-    /// was refused.
+    /// The world before any event of a list that opens empty: the opening words, and every thread idle. It fails only
+    /// where memory was refused.
     pub fn new(alloc: Global, layout: Layout) -> Result<World<M>, AllocError>
+        requires { layout.opening ≡ 0 }
         ensures { IfOk result (λ w. w ≡ record {
-          threads = layout.threads;
-          quota = layout.quota;
-          state = opening layout.threads layout.quota;
+          sizes = layout;
+          state = opening (empty layout.threads layout.quota);
         }) }
     {
-        let words = opening_words(alloc, &layout)?;
+        World::opened(alloc, layout, &[])
+    }
+
+    /// The same of a list that opens with these keys, which rise strictly and are as many as the layout says.
+    pub fn opened(alloc: Global, layout: Layout, keys: &[u32]) -> Result<World<M>, AllocError>
+        requires many { length keys.now ≡ layout.opening }
+        requires rising { IsStrictlyIncreasing keys.now }
+        ensures { IfOk result (λ w. w ≡ record { sizes = layout; state = opening (opening_of layout keys.now) }) }
+    {
+        let words = opening_words(alloc, &layout, keys)?;
         let locals = idle_locals(alloc, &layout)?;
         Ok(World {
             alloc,
             threads: layout.threads(),
             quota: layout.quota(),
+            opening: layout.opening(),
             words,
             locals,
             machine: PhantomData,
@@ -157,7 +239,7 @@ impl<M: Machine> World<M> {
 
     /// The word with the index `w`, below the number of words.
     pub fn word(&self, w: u64) -> u64
-        requires { w < word_count self.now.threads self.now.quota }
+        requires { w < word_count self.now.sizes }
         ensures { result ≡ slice_index self.now.state.words w }
     {
         self.words[w as usize]
@@ -165,7 +247,7 @@ impl<M: Machine> World<M> {
 
     /// Whether thread `t`, below the number of threads, has an open call.
     pub fn busy(&self, t: u32) -> bool
-        requires { t < self.now.threads }
+        requires { t < self.now.sizes.threads }
         ensures { IsTrue result ↔ ((local_of self.now.state t).pc ≢ 0) }
     {
         self.locals[t as usize].pc != 0
@@ -173,8 +255,8 @@ impl<M: Machine> World<M> {
 
     /// What thread `t` holds; `None` where there is no such thread.
     pub fn holds(&self, t: u32) -> Option<Local>
-        ensures { MatchOption result (self.now.threads ≤ t) (λ l.
-            (t < self.now.threads) × (l ≡ local_of self.now.state t)) }
+        ensures { MatchOption result (self.now.sizes.threads ≤ t) (λ l.
+            (t < self.now.sizes.threads) × (l ≡ local_of self.now.state t)) }
     {
         if t < self.threads {
             Some(self.local(t))
@@ -198,7 +280,7 @@ impl<M: Machine> World<M> {
     /// The keys of the set, rising: those of the unmarked nodes of the chain between head and tail. It
     /// fails only where memory was refused.
     pub fn content(&self) -> Result<Vec<u32>, AllocError>
-        ensures { IfOk result (λ v. IsContent (view_of self.now.threads self.now.quota self.now.state) v.items) }
+        ensures { IfOk result (λ v. IsContent (view_of self.now.sizes self.now.state) v.items) }
     {
         self.walk(|met| if met.marked { None } else { Some(met.key) })
     }
@@ -206,9 +288,9 @@ impl<M: Machine> World<M> {
     /// The keys of the nodes of the chain between head and tail, from head to tail, each with whether its node is
     /// marked. It fails only where memory was refused. (Herlihy and Shavit's lists; the marks are Harris's.)
     pub fn chain(&self) -> Result<Vec<ChainKey>, AllocError>
-        ensures keys { IfOk result (λ v. AreChainKeys (view_of self.now.threads self.now.quota self.now.state) v.items) }
+        ensures keys { IfOk result (λ v. AreChainKeys (view_of self.now.sizes self.now.state) v.items) }
         ensures content { IfOk result (λ v.
-            IsContent (view_of self.now.threads self.now.quota self.now.state) (unmarked_keys v.items)) }
+            IsContent (view_of self.now.sizes self.now.state) (unmarked_keys v.items)) }
     {
         self.walk(|met| Some(met))
     }
@@ -217,7 +299,7 @@ impl<M: Machine> World<M> {
     fn walk<T: Copy, F: Fn(ChainKey) -> Option<T>>(&self, pick: F) -> Result<Vec<T>, AllocError>
         requires { F.IsAlwaysCallable pick }
         ensures { IfOk result (λ v.
-            IsPickedFromChain (F.post pick) (view_of self.now.threads self.now.quota self.now.state) v.items) }
+            IsPickedFromChain (F.post pick) (view_of self.now.sizes self.now.state) v.items) }
     {
         self.keeps_its_laws();
         let mut picked = Vec::new(self.alloc);
@@ -237,7 +319,7 @@ impl<M: Machine> World<M> {
 
     /// What is so in every state of every run.
     fn keeps_its_laws(&self)
-        ensures { StateLaws M.table.marks self.now.threads self.now.quota self.now.state }
+        ensures { StateLaws M.table.marks self.now.sizes self.now.state }
     {
         let _words = &self.words;
     }
@@ -264,7 +346,7 @@ impl<M: Machine> World<M> {
     }
 
     fn local(&self, t: u32) -> Local
-        requires { t < self.now.threads }
+        requires { t < self.now.sizes.threads }
         ensures { result ≡ local_of self.now.state t }
     {
         self.locals[t as usize]

@@ -29,9 +29,9 @@ dots_of d = dots d.columns d.from d.last d.standings
 
 -- first the thin lines, then the bars, and the circles over them
 abbrev pub row_elements : PictureValue → DrawingValue → List (List ℕ)
-row_elements p d = text_at 8 60 (codes "moment") ∷ (lane_labels p.history.threads 0
-    ++ text_where d.known 8 (lane_y p.history.threads) (codes "set")
-    ++ column_texts 88 p.history.threads d.columns
-    ++ stems p.history.threads (dots_of d)
+row_elements p d = text_at 8 60 (codes "moment") ∷ (lane_labels p.history.opening.threads 0
+    ++ text_where d.known 8 (lane_y p.history.opening.threads) (codes "set")
+    ++ column_texts 88 p.history.opening.threads d.columns
+    ++ stems p.history.opening.threads (dots_of d)
     ++ bars d.columns d.from d.last p.history.calls
     ++ circles (dots_of d))

@@ -55,12 +55,12 @@ abbrev pub title_lines : List ℕ → List (List ℕ)
 title_lines heading = title heading ∷ ground ∷ text_at 8 20 heading ∷ []
 
 unfoldable pub head_lines : PictureValue → DrawingValue → List (List ℕ) → List (List ℕ)
-head_lines p d below = sheet_for d.columns p.history.threads (heading_line p) below
+head_lines p d below = sheet_for d.columns p.history.opening.threads (heading_line p) below
     ∷ (title_lines (heading_line p) ++ text_where (is_cut d) 8 38 (cut_line p d))
 
 abbrev pub svg_elements : PictureValue → DrawingValue → List (List ℕ)
 svg_elements p d =
-    head_lines p d (text_below p d) ++ row_elements p d ++ text_lines p.history.threads 0 (text_below p d) ++ codes "</svg>" ∷ []
+    head_lines p d (text_below p d) ++ row_elements p d ++ text_lines p.history.opening.threads 0 (text_below p d) ++ codes "</svg>" ∷ []
 
 abbrev pub svg_text : PictureValue → Window → List ℕ
 svg_text p w = text_of (svg_elements p (drawing_of p w))

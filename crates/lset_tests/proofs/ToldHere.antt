@@ -4,7 +4,7 @@ use Rattle.std.specs.Option.{is_some}
 use Rattle.lset_words.specs.declared.Kind.TheVariants.{Lazy}
 use Rattle.lset_lazy.specs.Lazy.{lazy}
 use Rattle.lset_lists.specs.Tables.{table_of}
-use Rattle.lset_schedule.specs.Plan.{Plan}
+use Rattle.lset_schedule.specs.Plan.{Plan, opening_in}
 use Rattle.lset_report.specs.Report.{view}
 use Rattle.lset_replay.specs.declared.placed_report.PlacedReport.{PlacedReport}
 use Rattle.lset_replay.specs.declared.traced.Trace.{Trace}
@@ -23,8 +23,8 @@ pub told_ends : TracesTellReports lazy → (p : Plan) (r : PlacedReport) (t : Tr
     → ReplaysWithPoints (table_of p.kind) p (Ok r) → IsTraceOf (table_of p.kind) p false t → t.refused ≡ None → TellsItsEnds r t
 told_ends law p r t lazy_is replayed traced none = law p (view r.report) r.points.items false t.events.items
     (subst (λ kind. IsReplay (table_of kind) p (view r.report)) lazy_is replayed.0)
-    (subst (λ kind. ArePointsOf (table_of kind) p.threads p.quota (only_events (events_of p)) (view r.report).history.calls
+    (subst (λ kind. ArePointsOf (table_of kind) (opening_in p) (only_events (events_of p)) (view r.report).history.calls
     (view r.report).order r.points.items) lazy_is replayed.1)
-    (subst (λ refused. TellsEvents lazy p.threads p.quota (events_of p) false t.events.items refused) none
-    (subst (λ kind. TellsEvents (table_of kind) p.threads p.quota (events_of p) false t.events.items t.refused) lazy_is
+    (subst (λ refused. TellsEvents lazy (opening_in p) (events_of p) false t.events.items refused) none
+    (subst (λ kind. TellsEvents (table_of kind) (opening_in p) (events_of p) false t.events.items t.refused) lazy_is
     traced.tells))

@@ -62,7 +62,7 @@ fn is_lawful<M: Machine>(world: &World<M>)
 
 fn keeps_reads<M: OpenReads>(world: &World<M>)
     requires { IsRun M.table world.now }
-    ensures { HasRun M.table world.now (λ es. KeepsReads M.table world.now.threads world.now.quota (event_at es) (length es) 0) }
+    ensures { HasRun M.table world.now (λ op es. KeepsReads M.table op (event_at es) (length es) 0) }
 {
     bounded_reads::<M>();
     walk_was_in_chain::<M>();
@@ -71,8 +71,8 @@ fn keeps_reads<M: OpenReads>(world: &World<M>)
 
 fn keeps_walks(world: &World<OptimisticList>)
     requires { IsRun optimistic world.now }
-    ensures { HasRun optimistic world.now (λ es.
-        KeepsWalks world.now.threads world.now.quota (event_at es) (length es)) }
+    ensures { HasRun optimistic world.now (λ op es.
+        KeepsWalks op (event_at es) (length es)) }
 {
     validated_walk();
     optimistic_replies_fit();

@@ -26,6 +26,8 @@ mod long_runs;
 #[cfg(test)]
 mod marked;
 #[cfg(test)]
+mod openings;
+#[cfg(test)]
 mod optimistic;
 #[cfg(test)]
 mod replay;

@@ -32,7 +32,7 @@ header_lines title h =
 
 -- 1 to 64 threads, with a quota of 0 to 16,384
 abbrev pub IsHeader : Header → Type 0
-IsHeader h = IsWithin (record { threads = h.threads; quota = h.quota })
+IsHeader h = IsWithin (record { threads = h.threads; quota = h.quota; opening = 0 })
 
 -- ---- the version of a text, whose second version has this title
 

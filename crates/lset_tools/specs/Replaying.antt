@@ -2,7 +2,7 @@
 use Rattle.std.specs.Prelude.{◌≡◌, ℕ, ◌⊎◌, List, Result, Ok, Err}
 use Rattle.lset_lists.specs.Tables.{table_of}
 use Rattle.lset_schedule.specs.declared.fault.ScheduleFault.{ScheduleFault}
-use Rattle.lset_schedule.specs.Plan.{Plan, IsSchedule, schedule_text}
+use Rattle.lset_schedule.specs.Plan.{Plan, IsSchedule, schedule_text, opening_in}
 use Rattle.lset_schedule.specs.ScheduleReading.{reading}
 use Rattle.lset_replay.specs.declared.fault.ReplayFault.{ReplayFault}
 use Rattle.lset_replay.specs.Events.{events_of}
@@ -24,7 +24,7 @@ pub record IsReported (bytes : List ℕ) (p : Plan) (r : ReportValue) : Type 0 w
 abbrev pub IsFirstFault : Result Plan ScheduleFault → Trouble → Type 0
 IsFirstFault (Err fault) t = t ≡ of_schedule fault
 IsFirstFault (Ok p) t =
-    (refusal : ReplayFault) × (t ≡ of_replay refusal) × IsRefusal (table_of p.kind) p.threads p.quota (events_of p) refusal
+    (refusal : ReplayFault) × (t ≡ of_replay refusal) × IsRefusal (table_of p.kind) (opening_in p) (events_of p) refusal
 
 -- what is made of the bytes of an input: the text of the report, or a trouble with the input, or its first fault
 abbrev pub Replays : List ℕ → Made → Type 0

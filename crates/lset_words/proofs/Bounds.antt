@@ -1,20 +1,21 @@
 -- How many nodes and words a table has at most, and that its slots are different nodes.
 use Rattle.std.specs.Prelude.{◌≡◌, ℕ, ◌+◌, ◌*◌, ◌<◌, ◌≤◌}
 use Rattle.std.proofs.Common.{arith, ap}
-use Rattle.lset_words.specs.declared.TheConstants.{MOST_THREADS, MOST_QUOTA, MOST_NODES}
-use Rattle.lset_words.specs.Words.{Sizes, IsWithin, node_count, slot_node}
+use Rattle.lset_words.specs.declared.TheConstants.{MOST_THREADS, MOST_QUOTA, MOST_OPENING, MOST_NODES}
+use Rattle.lset_words.specs.Words.{Sizes, IsWithin, Opens, sizes, empty, node_count, slot_node}
 
-pub few_nodes : (threads quota : ℕ) → threads ≤ MOST_THREADS → quota ≤ MOST_QUOTA → node_count threads quota ≤ MOST_NODES
-few_nodes threads quota few small =
+pub few_nodes : (threads quota opening : ℕ) → threads ≤ MOST_THREADS → quota ≤ MOST_QUOTA → opening ≤ MOST_OPENING
+    → 2 + threads * quota + opening ≤ MOST_NODES
+few_nodes threads quota opening few small opens =
     let most : threads * quota ≤ 64 * quota = grind arith in omega arith
 
-pub nodes_within : (s : Sizes) → IsWithin s → node_count s.threads s.quota ≤ MOST_NODES
-nodes_within s w = few_nodes s.threads s.quota w.few w.small
+pub nodes_within : (s : Sizes) → IsWithin s → node_count s ≤ MOST_NODES
+nodes_within s w = few_nodes s.threads s.quota s.opening w.few w.small w.opens
 
 -- a slot is among the nodes
-pub slot_inside : (threads quota thread slot : ℕ) → thread < threads → slot < quota
-    → slot_node quota thread slot < node_count threads quota
-slot_inside threads quota thread slot below j =
+pub slot_inside : (threads quota opening thread slot : ℕ) → thread < threads → slot < quota
+    → slot_node quota thread slot < 2 + threads * quota + opening
+slot_inside threads quota opening thread slot below j =
     let row : thread * quota + slot < threads * quota = grind arith in omega arith
 
 -- a number has one row and one place in it
@@ -23,3 +24,11 @@ row_once quota t u i j a b e =
     let row : t ≡ u = grind arith in
     let same : t * quota ≡ u * quota = ap (λ x. x * quota) row in
     (row, omega arith)
+
+-- a set that opens with no key
+pub opens_empty : (threads quota : ℕ) → IsWithin (sizes (empty threads quota)) → Opens (empty threads quota)
+opens_empty threads quota within = record {
+  within = within;
+  rising = λ k l. absurd (omega arith);
+  low = λ k d l. absurd (omega arith);
+}

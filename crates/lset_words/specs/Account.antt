@@ -1,6 +1,8 @@
 -- What a run shows of its set, apart from any machine: the contents at its moments, which replies fit them, and what each
 -- event does.
-use Rattle.std.specs.Prelude.{◌≡◌, ◌≢◌, ℕ, suc, ◌+◌, ◌<◌, ◌≤◌, Bool, true, false, Option, Some, None}
+use Rattle.std.specs.Prelude.{◌≡◌, ◌≢◌, ℕ, suc, ◌+◌, ◌<◌, ◌≤◌, Bool, true, false, Option, Some, None, Contains as InList}
+use Rattle.std.specs.List.Sorted.{IsStrictlyIncreasing}
+use Rattle.lset_words.specs.Words.{Opening}
 use Rattle.lset_words.specs.declared.Call.{Call}
 use Rattle.lset_words.specs.declared.Call.TheVariants.{Add, Remove, Contains, Ceiling}
 use Rattle.lset_words.specs.declared.Reply.{Reply}
@@ -114,7 +116,11 @@ Enters threads quota log contents counts k (began t call) = Begins threads log c
 Enters threads quota log contents counts k (stepped t change reply) = Steps threads quota log contents counts k t change reply
 
 -- THE ACCOUNT of a run of `last` events
-pub record Account (threads quota last : ℕ) (log : Log) (contents : Contents) (counts : Counts) : Type 0 where
-  pub empty : (k : ℕ) → contents 0 k → ⊥
-  pub none_yet : (t : ℕ) → t < threads → counts 0 t ≡ 0
-  pub enters : (k : ℕ) → k < last → Enters threads quota log contents counts k (log k)
+pub record Account (o : Opening) (last : ℕ) (log : Log) (contents : Contents) (counts : Counts) : Type 0 where
+  -- it begins with the opening keys, which rise,
+  pub rising : IsStrictlyIncreasing o.keys
+  pub opens : (k : ℕ) → (contents 0 k → InList o.keys k) × (InList o.keys k → contents 0 k)
+  -- no thread has added one yet,
+  pub none_yet : (t : ℕ) → t < o.threads → counts 0 t ≡ 0
+  -- and each entry does to it what it tells.
+  pub enters : (k : ℕ) → k < last → Enters o.threads o.quota log contents counts k (log k)

@@ -1,6 +1,7 @@
 -- The sequential set: Herlihy and Shavit's interface, and this project's quota of successful adds for each thread.
 use Rattle.std.specs.Prelude.{◌≡◌, ℕ, ◌+◌, ◌==◌, ◌||◌, nat_lt, Bool, false, if◌then◌else◌, List, [], ◌∷◌, replicate, slice_index, slice_set}
 use Rattle.lset_words.specs.declared.Call.{Call}
+use Rattle.lset_words.specs.Words.{Opening}
 use Rattle.lset_words.specs.declared.Call.TheVariants.{Add, Remove, Contains, Ceiling}
 use Rattle.lset_words.specs.declared.Reply.{Reply}
 use Rattle.lset_words.specs.declared.Reply.TheVariants.{True, False, Full, At, Nothing}
@@ -9,6 +10,10 @@ use Rattle.lset_words.specs.declared.Reply.TheVariants.{True, False, Full, At, N
 pub record SetState : Type 0 where
   pub keys : List ℕ
   pub counts : List ℕ
+
+-- the set that opens with given keys, for that many threads
+abbrev pub opening_set : Opening → SetState
+opening_set o = record { keys = o.keys; counts = replicate o.threads 0 }
 
 -- the empty set of that many threads
 abbrev pub empty_set : ℕ → SetState

@@ -1,28 +1,51 @@
 -- The words of a list's table: word 0 is the list's lock, words 1 and 2 hold the numbers of threads and slots, and then
 -- each node has three words. (This project's own table.)
-use Rattle.std.specs.Prelude.{◌≡◌, ◌≢◌, ℕ, ◌+◌, ◌*◌, ◌<◌, ◌≤◌, ◌⊎◌, Bool, if◌then◌else◌}
-use Rattle.lset_words.specs.declared.TheConstants.{MOST_THREADS, MOST_QUOTA}
+use Rattle.std.specs.Prelude.{◌≡◌, ◌≢◌, ℕ, ◌+◌, ◌*◌, ◌<◌, ◌≤◌, ◌^◌, ◌⊎◌, All, Bool, if◌then◌else◌, List, [], length}
+use Rattle.std.specs.List.Sorted.{IsStrictlyIncreasing}
+use Rattle.lset_words.specs.declared.TheConstants.{MOST_THREADS, MOST_QUOTA, MOST_OPENING}
 use Rattle.lset_words.specs.declared.Key.{Key}
 use Rattle.lset_words.specs.declared.Call.{Call}
 use Rattle.lset_words.specs.declared.Call.TheVariants.{Add, Remove, Contains, Ceiling}
 use Rattle.lset_words.specs.declared.fault.LayoutFault.{LayoutFault}
-use Rattle.lset_words.specs.declared.fault.LayoutFault.TheVariants.{Threads, Quota}
+use Rattle.lset_words.specs.declared.fault.LayoutFault.TheVariants as fault
 
--- how many threads a list has, and how many slots each thread
+-- how many threads a list has, how many slots each thread, and with how many keys the list opens
 pub record Sizes : Type 0 where
   pub threads : ℕ
   pub quota : ℕ
+  pub opening : ℕ
 
--- the limits of both
+-- the limits of all three
 pub record IsWithin (s : Sizes) : Type 0 where
   pub some : 0 < s.threads
   pub few : s.threads ≤ MOST_THREADS
   pub small : s.quota ≤ MOST_QUOTA
+  pub opens : s.opening ≤ MOST_OPENING
+
+-- HOW A SET OPENS: for so many threads, with so many slots for each, and with these keys
+pub record Opening : Type 0 where
+  pub threads : ℕ
+  pub quota : ℕ
+  pub keys : List ℕ
+
+abbrev pub sizes : Opening → Sizes
+sizes o = record { threads = o.threads; quota = o.quota; opening = length o.keys }
+
+-- with none
+abbrev pub empty : ℕ → ℕ → Opening
+empty threads quota = record { threads = threads; quota = quota; keys = [] }
+
+-- The numbers are within their limits, and the keys are user keys that rise strictly.
+pub record Opens (o : Opening) : Type 0 where
+  pub within : IsWithin (sizes o)
+  pub rising : IsStrictlyIncreasing o.keys
+  pub low : All (λ (k : ℕ). k < 2 ^ 32) o.keys
 
 -- the first limit that is not kept
 abbrev pub RefusesSizes : Sizes → LayoutFault → Type 0
-RefusesSizes s Threads = (s.threads ≡ 0) ⊎ (MOST_THREADS < s.threads)
-RefusesSizes s Quota = (0 < s.threads) × (s.threads ≤ MOST_THREADS) × (MOST_QUOTA < s.quota)
+RefusesSizes s fault.Threads = (s.threads ≡ 0) ⊎ (MOST_THREADS < s.threads)
+RefusesSizes s fault.Quota = (0 < s.threads) × (s.threads ≤ MOST_THREADS) × (MOST_QUOTA < s.quota)
+RefusesSizes s fault.Opening = (0 < s.threads) × (s.threads ≤ MOST_THREADS) × (s.quota ≤ MOST_QUOTA) × (MOST_OPENING < s.opening)
 
 -- the key word of a user key; the head's is 0
 abbrev pub key_word_of : Key → ℕ
@@ -41,15 +64,19 @@ link_index node = 4 + 3 * node
 abbrev pub lock_index : ℕ → ℕ
 lock_index node = 5 + 3 * node
 
--- node 0 is the head, node 1 the tail, and then each thread has its slots
+-- node 0 is the head, node 1 the tail, then each thread has its slots
 abbrev pub slot_node : ℕ → ℕ → ℕ → ℕ
 slot_node quota thread slot = 2 + thread * quota + slot
 
-abbrev pub node_count : ℕ → ℕ → ℕ
-node_count threads quota = 2 + threads * quota
+-- behind the slots each opening key has its node
+abbrev pub opening_node : Sizes → ℕ → ℕ
+opening_node s i = 2 + s.threads * s.quota + i
 
-abbrev pub word_count : ℕ → ℕ → ℕ
-word_count threads quota = 3 + 3 * node_count threads quota
+abbrev pub node_count : Sizes → ℕ
+node_count s = 2 + s.threads * s.quota + s.opening
+
+abbrev pub word_count : Sizes → ℕ
+word_count s = 3 + 3 * node_count s
 
 -- a link word: the next node, and the mark
 abbrev pub packed : ℕ → Bool → ℕ

@@ -1,4 +1,4 @@
-use crate::{MOST_QUOTA, MOST_THREADS};
+use crate::{MOST_OPENING, MOST_QUOTA, MOST_THREADS};
 use thiserror::Error;
 
 /// Why there is no layout for the numbers asked for.
@@ -10,4 +10,7 @@ pub enum LayoutFault {
     /// The quota is above 16,384.
     #[error("quota above {MOST_QUOTA}")]
     Quota,
+    /// The opening keys are more than 1,048,576.
+    #[error("more than {MOST_OPENING} opening keys")]
+    Opening,
 }

@@ -18,8 +18,11 @@ pub const MOST_THREADS: u32 = 64;
 /// The most slots of a thread.
 pub const MOST_QUOTA: u32 = 16_384;
 
-/// The most nodes of a table: head, tail, and every slot of every thread.
-pub const MOST_NODES: u64 = 2 + MOST_THREADS as u64 * MOST_QUOTA as u64;
+/// The most keys with which a list opens.
+pub const MOST_OPENING: u32 = 1_048_576;
+
+/// The most nodes of a table: head, tail, every slot of every thread, and the opening keys.
+pub const MOST_NODES: u64 = 2 + MOST_THREADS as u64 * MOST_QUOTA as u64 + MOST_OPENING as u64;
 
 /// The most words of a table.
 pub const MOST_WORDS: u64 = 3 + 3 * MOST_NODES;
@@ -84,8 +87,17 @@ pub enum Reply {
 /// `LayoutFault::Threads` where the threads are outside their limits, else `LayoutFault::Quota` where
 /// the quota is.
 pub fn layout(threads: u32, quota: u32) -> Result<Layout, LayoutFault>
-    ensures sizes { IfOk result (λ l. l ≡ record { threads = threads; quota = quota }) }
-    ensures refused { IfErr result (RefusesSizes (record { threads = threads; quota = quota })) }
+    ensures sizes { IfOk result (λ l. l ≡ record { threads = threads; quota = quota; opening = 0 }) }
+    ensures refused { IfErr result (RefusesSizes (record { threads = threads; quota = quota; opening = 0 })) }
+{
+    layout_opening(threads, quota, 0)
+}
+
+/// The layout for a list that opens with `opening` keys, at most 1,048,576. `LayoutFault::Threads`, `Quota` and `Opening` in this
+/// order, where one is outside its limits.
+pub fn layout_opening(threads: u32, quota: u32, opening: u32) -> Result<Layout, LayoutFault>
+    ensures sizes { IfOk result (λ l. l ≡ record { threads = threads; quota = quota; opening = opening }) }
+    ensures refused { IfErr result (RefusesSizes (record { threads = threads; quota = quota; opening = opening })) }
 {
     if threads == 0 || threads > MOST_THREADS {
         return Err(LayoutFault::Threads);
@@ -93,7 +105,10 @@ pub fn layout(threads: u32, quota: u32) -> Result<Layout, LayoutFault>
     if quota > MOST_QUOTA {
         return Err(LayoutFault::Quota);
     }
-    Ok(Layout::of(threads, quota))
+    if opening > MOST_OPENING {
+        return Err(LayoutFault::Opening);
+    }
+    Ok(Layout::of(threads, quota, opening))
 }
 
 /// The link word of a node whose next node has the number `next`, below `2^63`. (This project's own

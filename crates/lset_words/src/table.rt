@@ -1,5 +1,5 @@
 ghost use Rattle.std.specs.Prelude.{◌≡◌, ◌≢◌, ℕ, ◌+◌, ◌*◌, ◌^◌, ◌<◌, ◌≤◌};
-ghost use Rattle.lset_words.specs.Words.{Sizes, IsWithin, node_count, word_count, slot_node, key_index, link_index, lock_index, WordsApart, SlotsApart};
+ghost use Rattle.lset_words.specs.Words.{Sizes, IsWithin, node_count, word_count, slot_node, opening_node, key_index, link_index, lock_index, WordsApart, SlotsApart};
 
 use crate::{MOST_NODES, MOST_WORDS};
 use std::marker::Model;
@@ -42,25 +42,30 @@ pub fn slot_node(quota: u32, thread: u32, slot: u32) -> u64
 pub struct Layout {
     threads: u32,
     quota: u32,
+    opening: u32,
 }
 
 impl Model for Layout {
     ghost Value = { Sizes };
 
-    ghost view = { λ l. record { threads = l.threads; quota = l.quota } };
+    ghost view = { λ l. record { threads = l.threads; quota = l.quota; opening = l.opening } };
 
-    ghost invariant = { λ l. IsWithin (record { threads = l.threads; quota = l.quota }) };
+    ghost invariant = { λ l. IsWithin (record { threads = l.threads; quota = l.quota; opening = l.opening }) };
 
-    ghost inverse = { λ s. record { threads = s.threads; quota = s.quota } };
+    ghost inverse = { λ s. record { threads = s.threads; quota = s.quota; opening = s.opening } };
 }
 
 impl Layout {
     /// The layout of sizes that are within their limits.
-    pub(crate) fn of(threads: u32, quota: u32) -> Layout
-        requires { IsWithin (record { threads = threads; quota = quota }) }
-        ensures { result ≡ record { threads = threads; quota = quota } }
+    pub(crate) fn of(threads: u32, quota: u32, opening: u32) -> Layout
+        requires { IsWithin (record { threads = threads; quota = quota; opening = opening }) }
+        ensures { result ≡ record { threads = threads; quota = quota; opening = opening } }
     {
-        Layout { threads, quota }
+        Layout {
+            threads,
+            quota,
+            opening,
+        }
     }
 
     /// The number of threads, 1 to 64.
@@ -79,17 +84,25 @@ impl Layout {
         self.quota
     }
 
-    /// The number of nodes: head, tail and slots.
-    pub fn nodes(&self) -> u64
-        ensures count { result ≡ node_count self.now.threads self.now.quota }
-        ensures few { result ≤ MOST_NODES }
+    /// The keys with which the list opens, 0 to 1,048,576.
+    pub fn opening(&self) -> u32
+        ensures value { result ≡ self.now.opening }
+        ensures within { IsWithin self.now }
     {
-        2 + u64::from(self.threads) * u64::from(self.quota)
+        self.opening
     }
 
-    /// The number of words of the table, at most 3,145,737.
+    /// The number of nodes: head, tail, slots and opening keys.
+    pub fn nodes(&self) -> u64
+        ensures count { result ≡ node_count self.now }
+        ensures few { result ≤ MOST_NODES }
+    {
+        2 + u64::from(self.threads) * u64::from(self.quota) + u64::from(self.opening)
+    }
+
+    /// The number of words of the table, at most 6,291,465.
     pub fn words(&self) -> u64
-        ensures count { result ≡ word_count self.now.threads self.now.quota }
+        ensures count { result ≡ word_count self.now }
         ensures few { result ≤ MOST_WORDS }
     {
         3 + 3 * self.nodes()
@@ -97,9 +110,9 @@ impl Layout {
 
     /// The index of the key word of node `i`, below `nodes`.
     pub fn key_word(&self, i: u64) -> u64
-        requires { i < node_count self.now.threads self.now.quota }
+        requires { i < node_count self.now }
         ensures index { result ≡ key_index i }
-        ensures inside { result < word_count self.now.threads self.now.quota }
+        ensures inside { result < word_count self.now }
     {
         let _nodes = self.nodes();
         key_index(i)
@@ -107,9 +120,9 @@ impl Layout {
 
     /// The index of the link word of node `i`, below `nodes`.
     pub fn link_word(&self, i: u64) -> u64
-        requires { i < node_count self.now.threads self.now.quota }
+        requires { i < node_count self.now }
         ensures index { result ≡ link_index i }
-        ensures inside { result < word_count self.now.threads self.now.quota }
+        ensures inside { result < word_count self.now }
     {
         let _nodes = self.nodes();
         link_index(i)
@@ -117,9 +130,9 @@ impl Layout {
 
     /// The index of the lock word of node `i`, below `nodes`.
     pub fn lock_word(&self, i: u64) -> u64
-        requires { i < node_count self.now.threads self.now.quota }
+        requires { i < node_count self.now }
         ensures index { result ≡ lock_index i }
-        ensures inside { result < word_count self.now.threads self.now.quota }
+        ensures inside { result < word_count self.now }
     {
         let _nodes = self.nodes();
         lock_index(i)
@@ -131,7 +144,7 @@ impl Layout {
         requires slot { j < self.now.quota }
         ensures node { result ≡ slot_node self.now.quota t j }
         ensures user { 1 < result }
-        ensures inside { result < node_count self.now.threads self.now.quota }
+        ensures inside { result < node_count self.now }
     {
         slot_node(self.quota, t, j)
     }

@@ -9,16 +9,17 @@ use Rattle.lset_words.specs.declared.Call.TheVariants.{Add, Remove, Contains, Ce
 use Rattle.lset_words.specs.declared.Reply.{Reply}
 use Rattle.lset_words.specs.declared.Reply.TheVariants.{True, False, Full}
 use Rattle.lset_words.specs.declared.Reply.TheVariants as reply
-use Rattle.lset_words.specs.Words.{tail_word, target, slot_node, node_count}
+use Rattle.lset_words.specs.Words.{tail_word, target, slot_node, node_count, empty, sizes, IsWithin}
 use Rattle.lset_words.specs.Log.{last_call, begun_at, has_changed}
 use Rattle.lset_words.specs.Log.Entry.{stepped}
 use Rattle.lset_words.proofs.Numbers.{same_or_not}
 use Rattle.lset_steps.specs.declared.Event.{Event}
 use Rattle.lset_steps.specs.declared.Event.TheVariants.{Begin, Go}
-use Rattle.lset_steps.specs.Steps.{Table, State, opening, after, state_at, event_at, local_of, Enabled, Limits}
+use Rattle.lset_steps.specs.Steps.{Table, State, opening, after, state_at, event_at, local_of, Enabled}
 use Rattle.lset_steps.specs.Chain.{View, Segment, InChain, InContent, FitsIn}
 use Rattle.lset_wrong_tables.specs.Schedules.{Schedule, Runs, world_at}
 use Rattle.lset_wrong_tables.specs.Findings.{UnlinkedNodeChanges, PublishedKeyChanges, AddedKeyIsLost, OtherKeyIsLost, AbsentKeyIsRemoved, ReplyNeverFits, log_in}
+use Rattle.lset_words.proofs.Bounds.{opens_empty}
 
 -- A RUN, BY ONE WALK OVER ITS EVENTS
 abbrev can : State → Event → Bool
@@ -47,7 +48,7 @@ module _ (T : Table) where
   from_next s e es zero = refl
   from_next s e es (suc k) = ap (λ x. after T x (event_at es k)) (from_next s e es k)
 
-  from_opening : (n q k : ℕ) (es : ℕ → Event) → from T (opening n q) es k ≡ state_at T n q es k
+  from_opening : (n q k : ℕ) (es : ℕ → Event) → from T (opening (empty n q)) es k ≡ state_at T (empty n q) es k
   from_opening n q zero es = refl
   from_opening n q (suc k) es = ap (λ x. after T x (es k)) (from_opening n q k es)
 
@@ -59,25 +60,25 @@ module _ (T : Table) where
       subst (λ x. Enabled x (event_at es k)) (from_next s e es k)
       (enabled_from (after T s e) es k (both (can s e) (can_all T (after T s e) es) c).1 (omega arith))
 
-  runs_by : (s : Schedule) → Limits s.threads s.quota → can_all T (opening s.threads s.quota) s.events ≡ true → Runs T s
+  runs_by : (s : Schedule) → IsWithin (sizes (empty s.threads s.quota)) → can_all T (opening (empty s.threads s.quota)) s.events ≡ true → Runs T s
   runs_by s limits c = record {
-    limits = limits;
+    opens = opens_empty s.threads s.quota limits;
     enabled = λ k h. subst (λ x. Enabled x (event_at s.events k)) (from_opening s.threads s.quota k (event_at s.events))
-        (enabled_from (opening s.threads s.quota) s.events k c h);
+        (enabled_from (opening (empty s.threads s.quota)) s.events k c h);
   }
 
 abbrev few : Schedule → Bool
 few s = nat_lt 0 s.threads && (nat_lt s.threads 65 && nat_lt s.quota 16385)
 
-limits_by : (s : Schedule) → few s ≡ true → Limits s.threads s.quota
-limits_by s e = record { some = search rules; few = search rules; small = search rules }
+limits_by : (s : Schedule) → few s ≡ true → IsWithin (sizes (empty s.threads s.quota))
+limits_by s e = record { some = search rules; few = search rules; small = search rules; opens = omega arith }
 
 abbrev pub is_run : Table → Schedule → Bool
-is_run T s = few s && can_all T (opening s.threads s.quota) s.events
+is_run T s = few s && can_all T (opening (empty s.threads s.quota)) s.events
 
 run_by : (T : Table) (s : Schedule) → is_run T s ≡ true → Runs T s
 run_by T s e =
-    let parts = both (few s) (can_all T (opening s.threads s.quota) s.events) e in
+    let parts = both (few s) (can_all T (opening (empty s.threads s.quota)) s.events) e in
     runs_by T s (limits_by s parts.0) parts.1
 
 -- WHAT A WALK OF A CHAIN DOES NOT MEET: it is at the tail after fewer steps than that, and has passed no node b, or no unmarked user
@@ -171,7 +172,7 @@ module _ (v : View) where
 -- THE FINDINGS
 -- all user nodes of the schedule, and the head and the tail
 abbrev nodes : Schedule → ℕ
-nodes s = node_count s.threads s.quota
+nodes s = node_count (sizes (empty s.threads s.quota))
 
 abbrev pub avoids : Table → Schedule → ℕ → ℕ → Bool
 avoids T s moment node = passes (world_at T s moment) (nodes s) 0 node
@@ -192,7 +193,7 @@ module _ (T : Table) (s : Schedule) where
       → (world_at T s moment).published (slot_node s.quota thread slot)
   published_by moment thread slot e =
       let u = used_by moment thread slot e in
-      inr (thread, slot, u.1, u.2, refl)
+      inr (inl (thread, slot, u.1, u.2, refl))
 
   pub link_changes : (moment thread slot : ℕ) → is_run T s ≡ true → has_used T s moment thread slot ≡ true
       → avoids T s moment (slot_node s.quota thread slot) ≡ true

@@ -14,13 +14,14 @@ use Rattle.lset_steps.specs.Promises.{UnlinkedNodesStay, NamedChange, ChangeIsNa
 use Rattle.lset_steps.proofs.RunAccount.{account_of}
 use Rattle.lset_wrong_tables.specs.Schedules.{Schedule, Runs, world_at}
 use Rattle.lset_wrong_tables.specs.Findings.{Breaks, UnlinkedNodeChanges, PublishedKeyChanges, AddedKeyIsLost, OtherKeyIsLost, AbsentKeyIsRemoved, ReplyNeverFits, log_in}
+use Rattle.lset_words.specs.Words.{empty}
 
 -- UNLINKED STAYS
 module _ (T : Table) (s : Schedule) (moment node : ℕ) where
   link_breaks : UnlinkedNodeChanges T s moment node → UnlinkedNodesStay T → ⊥
   link_breaks f stays =
       let kept : UnlinkedStays T.marks (world_at T s moment) (world_at T s (length s.events)) node =
-      stays s.threads s.quota (length s.events) moment (length s.events) node (event_at s.events) f.runs f.earlier (omega arith)
+      stays (empty s.threads s.quota) (length s.events) moment (length s.events) node (event_at s.events) f.runs f.earlier (omega arith)
       f.published in
       f.changes (kept.unlinked f.unlinked).0
 
@@ -30,7 +31,7 @@ module _ (T : Table) (s : Schedule) (moment node : ℕ) where
   key_breaks : PublishedKeyChanges T s moment node → UnlinkedNodesStay T → ⊥
   key_breaks f stays =
       let kept : UnlinkedStays T.marks (world_at T s moment) (world_at T s (length s.events)) node =
-      stays s.threads s.quota (length s.events) moment (length s.events) node (event_at s.events) f.runs f.earlier (omega arith)
+      stays (empty s.threads s.quota) (length s.events) moment (length s.events) node (event_at s.events) f.runs f.earlier (omega arith)
       f.published in
       f.changes kept.key
 
@@ -49,8 +50,8 @@ module _ (T : Table) (s : Schedule) (moment thread : ℕ) where
       → log_in T s moment ≡ stepped thread change reply
       → Steps s.threads s.quota (log_in T s) contents counts moment thread change reply
   entered law runs h change reply e =
-      let a : Account s.threads s.quota (length s.events) (log_in T s) contents counts =
-      account_of T law s.threads s.quota (event_at s.events) (length s.events) runs in
+      let a : Account (empty s.threads s.quota) (length s.events) (log_in T s) contents counts =
+      account_of T law (empty s.threads s.quota) (event_at s.events) (length s.events) runs in
       subst (Enters s.threads s.quota (log_in T s) contents counts moment) e (a.enters moment h)
 
   changed : NamedChange T → Runs T s → moment < length s.events → (change : Option (Key × Bool)) (reply : Option Reply)
@@ -59,7 +60,7 @@ module _ (T : Table) (s : Schedule) (moment thread : ℕ) where
   changed named runs h change reply e =
       let c : ChangeIsNamed s.threads s.quota (log_in T s) contents counts moment (stepped thread change reply) =
       subst (ChangeIsNamed s.threads s.quota (log_in T s) contents counts moment) e
-      (named s.threads s.quota (length s.events) moment (event_at s.events) runs h) in
+      (named (empty s.threads s.quota) (length s.events) moment (event_at s.events) runs h) in
       c.0
 
   pub by_lost_key : (key : ℕ) → AddedKeyIsLost T s moment thread key → Breaks T NamedChange
@@ -97,6 +98,6 @@ module _ (T : Table) (s : Schedule) (moment thread : ℕ) where
   pub by_reply : (call : Call) (reply : Reply) → ReplyNeverFits T s moment thread call reply → Breaks T RepliesFit
   by_reply call reply f = record {
     not_kept = λ fit. unfit call reply f
-        (fit s.threads s.quota (length s.events) moment thread (event_at s.events) None reply f.runs f.within f.answers);
+        (fit (empty s.threads s.quota) (length s.events) moment thread (event_at s.events) None reply f.runs f.within f.answers);
     no_machine = λ law. unfit call reply f (entered law f.runs f.within None (Some reply) f.answers).right;
   }

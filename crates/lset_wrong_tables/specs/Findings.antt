@@ -8,6 +8,7 @@ use Rattle.lset_steps.specs.Steps.{Table, event_at, log_of}
 use Rattle.lset_steps.specs.Chain.{InChain, InContent, FitsIn}
 use Rattle.lset_steps.specs.Laws.{Lawful}
 use Rattle.lset_wrong_tables.specs.Schedules.{Schedule, Runs, world_at}
+use Rattle.lset_words.specs.Words.{empty}
 
 -- The table does not keep the promise, and no machine has it.
 pub record Breaks (T : Table) (Promise : Table → Type 0) : Type 0 where
@@ -16,7 +17,7 @@ pub record Breaks (T : Table) (Promise : Table → Type 0) : Type 0 where
 
 -- what the schedule's events tell
 abbrev pub log_in : Table → Schedule → Log
-log_in T s = log_of T s.threads s.quota (event_at s.events)
+log_in T s = log_of T (empty s.threads s.quota) (event_at s.events)
 
 -- A node that is published and out of the chain at a moment has another link at the end of the run.
 pub record UnlinkedNodeChanges (T : Table) (s : Schedule) (moment node : ℕ) : Type 0 where

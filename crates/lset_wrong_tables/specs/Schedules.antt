@@ -7,6 +7,7 @@ use Rattle.lset_steps.specs.declared.Event.TheVariants.{Begin, Go}
 use Rattle.lset_steps.specs.Steps.{Table, Run, event_at}
 use Rattle.lset_steps.specs.Chain.{View}
 use Rattle.lset_steps.specs.Laws.{views}
+use Rattle.lset_words.specs.Words.{empty}
 
 -- the numbers of threads and of slots of each thread, and the events in their order
 pub record Schedule : Type 0 where
@@ -35,8 +36,8 @@ ceiling key = Ceiling (record { 0 = key })
 
 -- The table runs the schedule: each event is enabled in its turn.
 abbrev pub Runs : Table → Schedule → Type 0
-Runs T s = Run T s.threads s.quota (event_at s.events) (length s.events)
+Runs T s = Run T (empty s.threads s.quota) (event_at s.events) (length s.events)
 
 -- the world at a moment of the schedule: that many events have happened
 abbrev pub world_at : Table → Schedule → ℕ → View
-world_at T s moment = views T s.threads s.quota (event_at s.events) moment
+world_at T s moment = views T (empty s.threads s.quota) (event_at s.events) moment

@@ -2,7 +2,7 @@
 use Rattle.std.specs.Prelude.{◌≡◌, ◌≢◌, ℕ, suc, ◌+◌, ◌*◌, ◌/◌, ◌%◌, ◌<◌, ◌≤◌, Bool, true, false, Some, None, List, [], slice_index, slice_set, length, refl, if◌then◌else◌, ◌==◌, nat_lt}
 use Rattle.std.proofs.Common.{arith, inl, inr, sym, ◌∙◌, ap, subst}
 use Rattle.lset_words.proofs.Numbers.{same_or_not, below_or_not, if_same, if_other, if_below, if_not_below, same_number, other_number, lower_number, not_lower_number}
-use Rattle.lset_words.specs.Words.{key_index, link_index, tail_word, node_count, word_count, slot_node, target, key_of}
+use Rattle.lset_words.specs.Words.{key_index, link_index, tail_word, node_count, word_count, slot_node, target, key_of, Sizes}
 use Rattle.lset_words.specs.declared.Call.{Call}
 use Rattle.lset_words.specs.declared.Key.{Key}
 use Rattle.lset_words.specs.declared.Reply.{Reply}
@@ -86,35 +86,35 @@ stands q t vs first now v w done l alien (at8 e d x a) = absurd (alien x.mine)
 stands q t vs first now v w done l alien (at9 e d x a h) = absurd (alien x.mine)
 stands q t vs first now v w done l alien (at10 e h r y z) = absurd (alien h)
 
-module _ (n q t : ℕ) (vs : ℕ → View) (first : ℕ → ℕ) (now : ℕ) (ws : List ℕ) (used : ℕ → ℕ) (done : ℕ → Bool) (locals : ℕ → Local)
-    (h : Here false n q vs now ws used) (ths : (u : ℕ) → u < n
-    → Thread At n q u vs (first u) now ws used (done u) (locals u)) (tn : t < n) where
-  M : Memory false n q ws used
+module _ (sz : Sizes) (t : ℕ) (vs : ℕ → View) (first : ℕ → ℕ) (now : ℕ) (ws : List ℕ) (used : ℕ → ℕ) (done : ℕ → Bool) (locals : ℕ → Local)
+    (h : Here false sz vs now ws used) (ths : (u : ℕ) → u < sz.threads
+    → Thread At sz u vs (first u) now ws used (done u) (locals u)) (tn : t < sz.threads) where
+  M : Memory false sz ws used
   M = h.memory
 
   abbrev Goal : Type 0
-  Goal = StepOf coarse false At n q t vs first now ws used done locals
+  Goal = StepOf coarse false At sz t vs first now ws used done locals
 
-  regs : Registers n q t (locals t)
+  regs : Registers sz t (locals t)
   regs = (ths t tn).registers
 
   counts : (locals t).used ≡ used t
   counts = (ths t tn).counts
 
-  own_is : own_slot (locals t) ≡ own_of q t used
+  own_is : own_slot (locals t) ≡ own_of sz.quota t used
   own_is = rw ((ths t tn).registers.thread, (ths t tn).registers.quota, (ths t tn).counts) refl
 
   -- while t has the lock, the others wait
-  alone : (w : View) → slice_index ws 0 ≡ t + 1 → (u : ℕ) → u < n → u ≢ t → At q u vs (first u) (suc now) w (done u) (locals u)
-  alone w mine u k d = stands q u vs (first u) now (view n q ws used) w (done u) (locals u) (λ e. d (omega arith)) (ths u k).at
+  alone : (w : View) → slice_index ws 0 ≡ t + 1 → (u : ℕ) → u < sz.threads → u ≢ t → At sz.quota u vs (first u) (suc now) w (done u) (locals u)
+  alone w mine u k d = stands sz.quota u vs (first u) now (view sz ws used) w (done u) (locals u) (λ e. d (omega arith)) (ths u k).at
 
   -- a step without change or answer
   step : (a : Action) (ws' : List ℕ) (l' : Local) → next_action (locals t) ≡ a
       → local_after (locals t) (seen_by ws a) ≡ l' → effect_of (locals t) (seen_by ws a) ≡ None
-      → (if (locals t).pc == 10 then (locals t).reply else None) ≡ None → WordStep false n q t ws used a ws' used None
-      → Registers n q t l' → l'.call ≡ (locals t).call → l'.used ≡ (locals t).used → l'.pc ≢ 0
-      → At q t vs (first t) (suc now) (view n q ws' used) (done t) l'
-      → ((u : ℕ) → u < n → u ≢ t → At q u vs (first u) (suc now) (view n q ws' used) (done u) (locals u)) → Goal
+      → (if (locals t).pc == 10 then (locals t).reply else None) ≡ None → WordStep false sz t ws used a ws' used None
+      → Registers sz t l' → l'.call ≡ (locals t).call → l'.used ≡ (locals t).used → l'.pc ≢ 0
+      → At sz.quota t vs (first t) (suc now) (view sz ws' used) (done t) l'
+      → ((u : ℕ) → u < sz.threads → u ≢ t → At sz.quota u vs (first u) (suc now) (view sz ws' used) (done u) (locals u)) → Goal
   step a ws' l' an ln kn ne ch re ca us pc at others = record {
     action = a;
     words' = ws';
@@ -131,16 +131,16 @@ module _ (n q t : ℕ) (vs : ℕ → View) (first : ℕ → ℕ) (now : ℕ) (ws
     counts = us ∙ counts;
     by_call = tt;
     answered = pc;
-    own = subst (λ b. At q t vs (first t) (suc now) (view n q ws' used) b l') (sym (or_false (done t))) at;
+    own = subst (λ b. At sz.quota t vs (first t) (suc now) (view sz ws' used) b l') (sym (or_false (done t))) at;
     others = others;
   }
 
   -- a step with a change
   change : (a : Action) (ws' : List ℕ) (used' : ℕ → ℕ) (l' : Local) (k : Key) (b : Bool) → next_action (locals t) ≡ a
       → fed_by (locals t) (seen_by ws a) ≡ fed l' None → effect_of (locals t) (seen_by ws a) ≡ Some (k, b)
-      → WordStep false n q t ws used a ws' used' (Some (k, b)) → Registers n q t l' → l'.call ≡ (locals t).call
+      → WordStep false sz t ws used a ws' used' (Some (k, b)) → Registers sz t l' → l'.call ≡ (locals t).call
       → l'.used ≡ used' t → l'.pc ≡ 10 → l'.reply ≡ Some True
-      → MayChange q (used t) (locals t).call (done t) (Some (k, b)) → done t ≡ false → slice_index ws' 0 ≡ t + 1
+      → MayChange sz.quota (used t) (locals t).call (done t) (Some (k, b)) → done t ≡ false → slice_index ws' 0 ≡ t + 1
       → slice_index ws 0 ≡ t + 1 → Goal
   change a ws' used' l' k b an fn kn ch re ca us pc ry by d mine' mine = record {
     action = a;
@@ -159,97 +159,97 @@ module _ (n q t : ℕ) (vs : ℕ → View) (first : ℕ → ℕ) (now : ℕ) (ws
     by_call = by;
     answered = λ e. omega arith;
     own = rw d (at10 pc mine' True ry refl);
-    others = alone (view n q ws' used') mine;
+    others = alone (view sz ws' used') mine;
   }
 
   go_1 : (locals t).pc ≡ 1 → done t ≡ false → Goal
   go_1 e d =
       let l : Local = locals t in let a = Exchange 0 0 (t + 1) in
       let l1 : Local = record l { pc = 1 } in let l2 : Local = record l { pc = 2 } in
-      let th = regs.thread in let wl : length ws ≡ word_count n q = M.words in
+      let th = regs.thread in let wl : length ws ≡ word_count sz = M.words in
       elim (same_or_not (slice_index ws 0) 0) [
         | inl z ↦ step a (slice_set ws 0 (t + 1)) l2 (rw (e, th) refl) (rw e (if_same (slice_index ws 0) 0 z l2 l1))
             (rw e refl) (rw e refl)
-            (takes 0 (omega arith) (inl refl) z) (keep n q t 2 l.reply l regs) refl refl (λ x. omega arith)
+            (takes 0 (omega arith) (inl refl) z) (keep sz t 2 l.reply l regs) refl refl (λ x. omega arith)
             (at2 refl d (set_same ws 0 (t + 1) (omega arith)))
-            (λ u k y. stands q u vs (first u) now (view n q ws used) (view n q (slice_set ws 0 (t + 1)) used) (done u)
+            (λ u k y. stands sz.quota u vs (first u) now (view sz ws used) (view sz (slice_set ws 0 (t + 1)) used) (done u)
             (locals u) (λ v. omega arith) (ths u k).at)
         | inr z ↦ step a ws l1 (rw (e, th) refl) (rw e (if_other (slice_index ws 0) 0 z l2 l1)) (rw e refl) (rw e refl)
-            (fails 0 0 (t + 1) (omega arith) z (λ x. (refl, refl))) (keep n q t 1 l.reply l regs) refl refl (λ x. omega arith)
-            (at1 refl d) (λ u k y. waits q u vs (first u) now (view n q ws used) (done u) (locals u) (ths u k).at)
+            (fails 0 0 (t + 1) (omega arith) z (λ x. (refl, refl))) (keep sz t 1 l.reply l regs) refl refl (λ x. omega arith)
+            (at1 refl d) (λ u k y. waits sz.quota u vs (first u) now (view sz ws used) (done u) (locals u) (ths u k).at)
       ]
 
-  even_next : (a : ℕ) → InChain (view n q ws used) a → node_link ws a ≡ 2 * (node_link ws a / 2)
-  even_next a i = let z : node_link ws a % 2 ≡ 0 = M.marked a (in_chain_published (view n q ws used) M.ordered a i) in omega arith
+  even_next : (a : ℕ) → InChain (view sz ws used) a → node_link ws a ≡ 2 * (node_link ws a / 2)
+  even_next a i = let z : node_link ws a % 2 ≡ 0 = M.marked a (in_chain_published (view sz ws used) M.ordered a i) in omega arith
 
-  curr_at : (p c k : ℕ) → Walking (view n q ws used) (t + 1) k p c → k < tail_word → InChain (view n q ws used) c
+  curr_at : (p c k : ℕ) → Walking (view sz ws used) (t + 1) k p c → k < tail_word → InChain (view sz ws used) c
   curr_at p c k w low = let f : node_link ws p ≡ 2 * c = w.follows in
-      next_in false n q ws used M p c w.at (inner false n q ws used M p k w.below low) (omega arith)
+      next_in false sz ws used M p c w.at (inner false sz ws used M p k w.below low) (omega arith)
 
   go_2 : (locals t).pc ≡ 2 → done t ≡ false → slice_index ws 0 ≡ t + 1 → Goal
   go_2 e d mine =
       let l : Local = locals t in let s : ℕ = node_link ws 0 in
-      let i0 : InChain (view n q ws used) 0 = ([], refl) in
+      let i0 : InChain (view sz ws used) 0 = ([], refl) in
       let hk : node_key ws 0 ≡ 0 = M.head_key in let low : target l.call < tail_word = regs.low in
-      let w : Walking (view n q ws used) (t + 1) (target l.call) 0 (s / 2) =
+      let w : Walking (view sz ws used) (t + 1) (target l.call) 0 (s / 2) =
       record { mine = mine; at = i0; follows = even_next 0 i0; below = omega arith } in
       step (Load (link_index 0)) ws (record l { pc = 3; pred = 0; curr = s / 2 }) (rw e refl) (rw e refl) (rw e refl) (rw e refl)
       (reads (link_index 0) (omega arith))
-      (keep_walk n q t 3 0 (s / 2) l (omega arith)
-      (chain_in false n q ws used M (s / 2) (curr_at 0 (s / 2) (target l.call) w low)) regs) refl refl (λ x. omega arith)
-      (at3 refl d w) (alone (view n q ws used) mine)
+      (keep_walk sz t 3 0 (s / 2) l (omega arith)
+      (chain_in false sz ws used M (s / 2) (curr_at 0 (s / 2) (target l.call) w low)) regs) refl refl (λ x. omega arith)
+      (at3 refl d w) (alone (view sz ws used) mine)
 
   go_3 : (locals t).pc ≡ 3 → done t ≡ false
-      → Walking (view n q ws used) (t + 1) (target (locals t).call) (locals t).pred (locals t).curr → Goal
+      → Walking (view sz ws used) (t + 1) (target (locals t).call) (locals t).pred (locals t).curr → Goal
   go_3 e d w =
       let l : Local = locals t in let k : ℕ = target l.call in let s : ℕ = node_key ws l.curr in let p : ℕ = l.pred in
-      let v : View = view n q ws used in
+      let v : View = view sz ws used in
       let l0 : Local = record l { pc = 3; ckey = s } in
       let found : Bool = s == k in let room : Bool = nat_lt l.used l.quota in
-      let cn : l.curr < node_count n q = regs.curr in let low : target l.call < tail_word = regs.low in
-      let ci : InChain (view n q ws used) l.curr = curr_at p l.curr k w low in
-      let cm = in_chain_published (view n q ws used) M.ordered l.curr ci in
+      let cn : l.curr < node_count sz = regs.curr in let low : target l.call < tail_word = regs.low in
+      let ci : InChain (view sz ws used) l.curr = curr_at p l.curr k w low in
+      let cm = in_chain_published (view sz ws used) M.ordered l.curr ci in
       let tk : node_key ws 1 ≡ tail_word = M.tail_key in
       let top : node_key ws l.curr ≤ node_key ws 1 = M.ordered.top l.curr cm in
       let small : s ≤ tail_word = omega arith in
       let fo : node_link ws p ≡ 2 * l.curr = w.follows in let be : node_key ws p < k = w.below in
       let a = Load (key_index l.curr) in
-      let ch : WordStep false n q t ws used (Load (key_index l.curr)) ws used None = reads (key_index l.curr) (omega arith) in
+      let ch : WordStep false sz t ws used (Load (key_index l.curr)) ws used None = reads (key_index l.curr) (omega arith) in
       elim (below_or_not s k) [
         | inl lt ↦ step a ws (record l0 { pc = 4 }) (rw e refl)
             (rw e (if_below s k lt (record l0 { pc = 4 }) (decided 5 8 10 l.call found room s l0))) (rw e refl) (rw e refl) ch
-            (keep_ckey n q t 4 s l.reply l small regs) refl refl (λ x. omega arith) (at4 refl d w lt) (alone v w.mine)
+            (keep_ckey sz t 4 s l.reply l small regs) refl refl (λ x. omega arith) (at4 refl d w lt) (alone v w.mine)
         | inr ge ↦
             (let go = if_not_below s k ge (record l0 { pc = 4 }) (decided 5 8 10 l.call found room s l0) in
-            let hit : found ≡ true → InContent (view n q ws used) (key_of l.call).0 = λ y.
+            let hit : found ≡ true → InContent (view sz ws used) (key_of l.call).0 = λ y.
             (let z : s ≡ k = same_number s k y in let hk : node_key ws 0 ≡ 0 = M.head_key in
             let c0 : l.curr ≢ 0 = λ f. (let g : node_key ws l.curr ≡ node_key ws 0 = ap (node_key ws) f in omega arith) in
             let c1 : l.curr ≢ 1 = λ f. (let g : node_key ws l.curr ≡ node_key ws 1 = ap (node_key ws) f in omega arith) in
             (l.curr, ci, omega arith, z, M.marked l.curr cm)) in
-            let miss : found ≡ false → InContent (view n q ws used) (key_of l.call).0 → ⊥ = λ y.
+            let miss : found ≡ false → InContent (view sz ws used) (key_of l.call).0 → ⊥ = λ y.
             (let z : s ≢ k = other_number s k y in let half : node_link ws p / 2 ≡ l.curr = omega arith in
-            absent_between (view n q ws used) M.ordered p (key_of l.call).0 w.at
-            (inner false n q ws used M p k w.below low) w.below (rw half (omega arith))) in
-            let full : room ≡ false → used t ≡ q = λ y.
+            absent_between (view sz ws used) M.ordered p (key_of l.call).0 w.at
+            (inner false sz ws used M p k w.below low) w.below (rw half (omega arith))) in
+            let full : room ≡ false → used t ≡ sz.quota = λ y.
             (let z : l.quota ≤ l.used = not_lower_number l.used l.quota y in let c = counts in let qu = regs.quota in
-            let m : used t ≤ q = M.room t tn in omega arith) in
+            let m : used t ≤ sz.quota = M.room t tn in omega arith) in
             let half : node_link ws p / 2 ≡ l.curr = omega arith in
-            let over = ceiling_fits q t (view n q ws used) p s (key_of l.call) M.ordered M.head_key M.tail_key w.at
-            (inner false n q ws used M p k w.below low) w.below (ap (node_key ws) (sym half)) ge
+            let over = ceiling_fits sz.quota t (view sz ws used) p s (key_of l.call) M.ordered M.head_key M.tail_key w.at
+            (inner false sz ws used M p k w.below low) w.below (ap (node_key ws) (sym half)) ge
             (λ x. ap (λ b. node_link ws b % 2) half ∙ M.marked l.curr cm) in
-            elim (decided_cases 5 8 10 q t (view n q ws used) l.call found room s l0 hit miss full over) [
+            elim (decided_cases 5 8 10 sz.quota t (view sz ws used) l.call found room s l0 hit miss full over) [
               | inl r ↦ step a ws (goes_to 10 (Some r.0) l0) (rw e refl) (rw e (go ∙ r.1)) (rw e refl) (rw e refl) ch
-                  (keep_ckey n q t 10 s (Some r.0) l small regs) refl refl (λ x. omega arith)
+                  (keep_ckey sz t 10 s (Some r.0) l small regs) refl refl (λ x. omega arith)
                   (at10 refl w.mine r.0 refl (rw d (record {
                     moment = now;
                     from = (ths t tn).begun;
                     upto = omega arith;
-                    fits = subst (λ v. FitsIn q v t l.call r.0) (sym h.present) r.2;
+                    fits = subst (λ v. FitsIn sz.quota v t l.call r.0) (sym h.present) r.2;
                   })))
                   (alone v w.mine)
               | inr z ↦ elim z [
                 | inl r ↦ step a ws (goes_to 5 None l0) (rw e refl) (rw e (go ∙ r.0)) (rw e refl) (rw e refl) ch
-                    (keep_ckey n q t 5 s None l small regs) refl refl (λ x. omega arith)
+                    (keep_ckey sz t 5 s None l small regs) refl refl (λ x. omega arith)
                     (at5 refl d w (record {
                       call = r.1;
                       room = (let y = lower_number l.used l.quota r.3 in let c = counts in let qu = regs.quota in omega arith);
@@ -257,7 +257,7 @@ module _ (n q t : ℕ) (vs : ℕ → View) (first : ℕ → ℕ) (now : ℕ) (ws
                     }))
                     (alone v w.mine)
                 | inr r ↦ step a ws (goes_to 8 None l0) (rw e refl) (rw e (go ∙ r.0)) (rw e refl) (rw e refl) ch
-                    (keep_ckey n q t 8 s None l small regs) refl refl (λ x. omega arith)
+                    (keep_ckey sz t 8 s None l small regs) refl refl (λ x. omega arith)
                     (at8 refl d w (record { call = r.1; found = same_number s k r.2 }))
                     (alone v w.mine)
               ]
@@ -265,116 +265,116 @@ module _ (n q t : ℕ) (vs : ℕ → View) (first : ℕ → ℕ) (now : ℕ) (ws
       ]
 
   go_4 : (locals t).pc ≡ 4 → done t ≡ false
-      → Walking (view n q ws used) (t + 1) (target (locals t).call) (locals t).pred (locals t).curr
+      → Walking (view sz ws used) (t + 1) (target (locals t).call) (locals t).pred (locals t).curr
       → node_key ws (locals t).curr < target (locals t).call → Goal
   go_4 e d w lt =
       let l : Local = locals t in let p : ℕ = l.curr in let s : ℕ = node_link ws p in
-      let low : target l.call < tail_word = regs.low in let cn : l.curr < node_count n q = regs.curr in
-      let ci : InChain (view n q ws used) p = curr_at l.pred p (target l.call) w low in
-      let w' : Walking (view n q ws used) (t + 1) (target l.call) p (s / 2) =
+      let low : target l.call < tail_word = regs.low in let cn : l.curr < node_count sz = regs.curr in
+      let ci : InChain (view sz ws used) p = curr_at l.pred p (target l.call) w low in
+      let w' : Walking (view sz ws used) (t + 1) (target l.call) p (s / 2) =
       record { mine = w.mine; at = ci; follows = even_next p ci; below = lt } in
       step (Load (link_index p)) ws (record l { pc = 3; pred = p; curr = s / 2 }) (rw e refl) (rw e refl) (rw e refl) (rw e refl)
       (reads (link_index p) (omega arith))
-      (keep_walk n q t 3 p (s / 2) l regs.curr
-      (chain_in false n q ws used M (s / 2) (curr_at p (s / 2) (target l.call) w' low)) regs) refl refl (λ x. omega arith)
-      (at3 refl d w') (alone (view n q ws used) w.mine)
+      (keep_walk sz t 3 p (s / 2) l regs.curr
+      (chain_in false sz ws used M (s / 2) (curr_at p (s / 2) (target l.call) w' low)) regs) refl refl (λ x. omega arith)
+      (at3 refl d w') (alone (view sz ws used) w.mine)
 
   -- what the walk knows stays when the own slot is written
-  walking_on : (w : View) (p c key : ℕ) → Quiet (view n q ws used) w → w.list_lock ≡ slice_index ws 0
-      → Walking (view n q ws used) (t + 1) key p c → Walking w (t + 1) key p c
+  walking_on : (w : View) (p c key : ℕ) → Quiet (view sz ws used) w → w.list_lock ≡ slice_index ws 0
+      → Walking (view sz ws used) (t + 1) key p c → Walking w (t + 1) key p c
   walking_on w p c key qt g x =
-      let pm = in_chain_published (view n q ws used) M.ordered p x.at in
+      let pm = in_chain_published (view sz ws used) M.ordered p x.at in
       record {
         mine = g ∙ x.mine;
-        at = quiet_keeps (view n q ws used) w M.ordered qt p x.at;
+        at = quiet_keeps (view sz ws used) w M.ordered qt p x.at;
         follows = qt.links p pm ∙ x.follows;
         below = rw (qt.keys p pm) x.below;
       }
 
   go_5 : (locals t).pc ≡ 5 → done t ≡ false
-      → Walking (view n q ws used) (t + 1) (target (locals t).call) (locals t).pred (locals t).curr
-      → Adding (view n q ws used) t q (locals t).curr (locals t).call → Goal
+      → Walking (view sz ws used) (t + 1) (target (locals t).call) (locals t).pred (locals t).curr
+      → Adding (view sz ws used) t sz.quota (locals t).curr (locals t).call → Goal
   go_5 e d w a =
-      let l : Local = locals t in let o : ℕ = own_of q t used in let k : ℕ = target l.call in
+      let l : Local = locals t in let o : ℕ = own_of sz.quota t used in let k : ℕ = target l.call in
       let ws' : List ℕ = slice_set ws (key_index o) k in
       let ci = curr_at l.pred l.curr k w regs.low in
-      let qt = at_own_key false n q ws used M t tn k a.room in
+      let qt = at_own_key false sz ws used M t tn k a.room in
       step (Store (key_index o) k) ws' (record l { pc = 6 }) (rw (e, own_is) refl) (rw e refl) (rw e refl) (rw e refl)
       (own_key k a.room)
-      (keep n q t 6 l.reply l regs) refl refl (λ x. omega arith)
-      (at6 refl d (walking_on (view n q ws' used) l.pred l.curr k qt (list_lock_after_key ws o k) w)
+      (keep sz t 6 l.reply l regs) refl refl (λ x. omega arith)
+      (at6 refl d (walking_on (view sz ws' used) l.pred l.curr k qt (list_lock_after_key ws o k) w)
       (record {
         call = a.call;
         room = a.room;
-        above = rw (qt.keys l.curr (in_chain_published (view n q ws used) M.ordered l.curr ci)) a.above;
+        above = rw (qt.keys l.curr (in_chain_published (view sz ws used) M.ordered l.curr ci)) a.above;
       })
-      (key_wrote false n q ws used M o k (own_in false n q ws used M t tn a.room)))
-      (alone (view n q ws' used) w.mine)
+      (key_wrote false sz ws used M o k (own_in false sz ws used M t tn a.room)))
+      (alone (view sz ws' used) w.mine)
 
   go_6 : (locals t).pc ≡ 6 → done t ≡ false
-      → Walking (view n q ws used) (t + 1) (target (locals t).call) (locals t).pred (locals t).curr
-      → Adding (view n q ws used) t q (locals t).curr (locals t).call
-      → node_key ws (own_of q t used) ≡ target (locals t).call → Goal
+      → Walking (view sz ws used) (t + 1) (target (locals t).call) (locals t).pred (locals t).curr
+      → Adding (view sz ws used) t sz.quota (locals t).curr (locals t).call
+      → node_key ws (own_of sz.quota t used) ≡ target (locals t).call → Goal
   go_6 e d w a key =
-      let l : Local = locals t in let o : ℕ = own_of q t used in let x : ℕ = 2 * l.curr in
+      let l : Local = locals t in let o : ℕ = own_of sz.quota t used in let x : ℕ = 2 * l.curr in
       let ws' : List ℕ = slice_set ws (link_index o) x in
       let ci = curr_at l.pred l.curr (target l.call) w regs.low in
-      let qt = at_own_link false n q ws used M t tn x a.room in
+      let qt = at_own_link false sz ws used M t tn x a.room in
       step (Store (link_index o) x) ws' (record l { pc = 7 }) (rw (e, own_is) refl) (rw e refl) (rw e refl)
       (rw e refl) (own_link l.curr a.room)
-      (keep n q t 7 l.reply l regs) refl refl (λ x. omega arith)
-      (at7 refl d (walking_on (view n q ws' used) l.pred l.curr (target l.call) qt (list_lock_after_link ws o x) w)
+      (keep sz t 7 l.reply l regs) refl refl (λ x. omega arith)
+      (at7 refl d (walking_on (view sz ws' used) l.pred l.curr (target l.call) qt (list_lock_after_link ws o x) w)
       (record {
         call = a.call;
         room = a.room;
-        above = rw (qt.keys l.curr (in_chain_published (view n q ws used) M.ordered l.curr ci)) a.above;
+        above = rw (qt.keys l.curr (in_chain_published (view sz ws used) M.ordered l.curr ci)) a.above;
       })
       (key_after_link ws o x o ∙ key)
-      (link_wrote false n q ws used M o x (own_in false n q ws used M t tn a.room)))
-      (alone (view n q ws' used) w.mine)
+      (link_wrote false sz ws used M o x (own_in false sz ws used M t tn a.room)))
+      (alone (view sz ws' used) w.mine)
 
   go_7 : (locals t).pc ≡ 7 → done t ≡ false
-      → Walking (view n q ws used) (t + 1) (target (locals t).call) (locals t).pred (locals t).curr
-      → Adding (view n q ws used) t q (locals t).curr (locals t).call
-      → node_key ws (own_of q t used) ≡ target (locals t).call → node_link ws (own_of q t used) ≡ 2 * (locals t).curr → Goal
+      → Walking (view sz ws used) (t + 1) (target (locals t).call) (locals t).pred (locals t).curr
+      → Adding (view sz ws used) t sz.quota (locals t).curr (locals t).call
+      → node_key ws (own_of sz.quota t used) ≡ target (locals t).call → node_link ws (own_of sz.quota t used) ≡ 2 * (locals t).curr → Goal
   go_7 e d w a key link =
-      let l : Local = locals t in let o : ℕ = own_of q t used in let p : ℕ = l.pred in let x : ℕ = 2 * o in
+      let l : Local = locals t in let o : ℕ = own_of sz.quota t used in let p : ℕ = l.pred in let x : ℕ = 2 * o in
       let ws' : List ℕ = slice_set ws (link_index p) x in
-      let ch : WordStep false n q t ws used (Store (link_index p) x) ws' (one_more used t) (Some (key_of l.call, true)) =
+      let ch : WordStep false sz t ws used (Store (link_index p) x) ws' (one_more used t) (Some (key_of l.call, true)) =
       puts (Store (link_index p) x) p l.curr (key_of l.call) (inl refl) w.at
-      (inner false n q ws used M p (target l.call) w.below regs.low) w.follows a.room link key w.below a.above in
+      (inner false sz ws used M p (target l.call) w.below regs.low) w.follows a.room link key w.below a.above in
       let more : one_more used t t ≡ used t + 1 =
-      mine_counted false n q ws used M t tn (Store (link_index p) x) ws' (one_more used t) (Some (key_of l.call, true)) ch in
-      let c = counts in let rm : used t < q = a.room in
+      mine_counted false sz ws used M t tn (Store (link_index p) x) ws' (one_more used t) (Some (key_of l.call, true)) ch in
+      let c = counts in let rm : used t < sz.quota = a.room in
       change (Store (link_index p) x) ws' (one_more used t)
       (record l { pc = 10; reply = Some True; used = l.used + 1 }) (key_of l.call) true
       (rw (e, own_is) refl) (rw e refl) (rw e refl) ch
-      (keep_more n q t 10 l (rw counts a.room) regs)
+      (keep_more sz t 10 l (rw counts a.room) regs)
       refl (omega arith) refl refl (a.call, d, a.room) d (list_lock_after_link ws p x ∙ w.mine) w.mine
 
   go_8 : (locals t).pc ≡ 8 → done t ≡ false
-      → Walking (view n q ws used) (t + 1) (target (locals t).call) (locals t).pred (locals t).curr
-      → Removing (view n q ws used) (locals t).curr (locals t).call → Goal
+      → Walking (view sz ws used) (t + 1) (target (locals t).call) (locals t).pred (locals t).curr
+      → Removing (view sz ws used) (locals t).curr (locals t).call → Goal
   go_8 e d w a =
-      let l : Local = locals t in let s : ℕ = node_link ws l.curr in let cn : l.curr < node_count n q = regs.curr in
+      let l : Local = locals t in let s : ℕ = node_link ws l.curr in let cn : l.curr < node_count sz = regs.curr in
       let ci = curr_at l.pred l.curr (target l.call) w regs.low in
       step (Load (link_index l.curr)) ws (record l { pc = 9; succ = s / 2 }) (rw e refl) (rw e refl) (rw e refl) (rw e refl)
       (reads (link_index l.curr) (omega arith))
-      (keep_succ n q t 9 (s / 2) l.reply l (inside false n q ws used M (s / 2)
-      (M.ordered.next_published l.curr (in_chain_published (view n q ws used) M.ordered l.curr ci)
+      (keep_succ sz t 9 (s / 2) l.reply l (inside false sz ws used M (s / 2)
+      (M.ordered.next_published l.curr (in_chain_published (view sz ws used) M.ordered l.curr ci)
       (curr_no_tail w a))) regs) refl refl (λ x. omega arith)
-      (at9 refl d w a refl) (alone (view n q ws used) w.mine)
+      (at9 refl d w a refl) (alone (view sz ws used) w.mine)
     where
-      curr_no_tail : Walking (view n q ws used) (t + 1) (target (locals t).call) (locals t).pred (locals t).curr
-          → Removing (view n q ws used) (locals t).curr (locals t).call → (locals t).curr ≢ 1
+      curr_no_tail : Walking (view sz ws used) (t + 1) (target (locals t).call) (locals t).pred (locals t).curr
+          → Removing (view sz ws used) (locals t).curr (locals t).call → (locals t).curr ≢ 1
       curr_no_tail w a f = let g : node_key ws (locals t).curr ≡ node_key ws 1 = ap (node_key ws) f in
           let tk : node_key ws 1 ≡ tail_word = M.tail_key in
           let k : node_key ws (locals t).curr ≡ target (locals t).call = a.found in
           let low : target (locals t).call < tail_word = regs.low in omega arith
 
   go_9 : (locals t).pc ≡ 9 → done t ≡ false
-      → Walking (view n q ws used) (t + 1) (target (locals t).call) (locals t).pred (locals t).curr
-      → Removing (view n q ws used) (locals t).curr (locals t).call
+      → Walking (view sz ws used) (t + 1) (target (locals t).call) (locals t).pred (locals t).curr
+      → Removing (view sz ws used) (locals t).curr (locals t).call
       → node_link ws (locals t).curr / 2 ≡ (locals t).succ → Goal
   go_9 e d w a next =
       let l : Local = locals t in let p : ℕ = l.pred in let x : ℕ = 2 * l.succ in
@@ -385,12 +385,12 @@ module _ (n q t : ℕ) (vs : ℕ → View) (first : ℕ → ℕ) (now : ℕ) (ws
       change (Store (link_index p) x) ws' used (record l { pc = 10; reply = Some True }) (key_of l.call) false
       (rw e refl) (rw e refl) (rw e refl)
       (drops (Store (link_index p) x) p l.curr l.succ (key_of l.call) refl (inl refl) w.at
-      (inner false n q ws used M p (target l.call) w.below regs.low) c1 w.follows next a.found)
-      (keep n q t 10 (Some True) l regs)
+      (inner false sz ws used M p (target l.call) w.below regs.low) c1 w.follows next a.found)
+      (keep sz t 10 (Some True) l regs)
       refl counts refl refl (a.call, d) d (list_lock_after_link ws p x ∙ w.mine) w.mine
 
   go_10 : (locals t).pc ≡ 10 → slice_index ws 0 ≡ t + 1 → (r : Reply) → (locals t).reply ≡ Some r
-      → Due (done t) q vs (first t) now t (locals t).call r → Goal
+      → Due (done t) sz.quota vs (first t) now t (locals t).call r → Goal
   go_10 e mine r ry due =
       let l : Local = locals t in record {
         action = Store 0 0;
@@ -403,16 +403,16 @@ module _ (n q t : ℕ) (vs : ℕ → View) (first : ℕ → ℕ) (now : ℕ) (ws
         feeds = rw (e, ry) refl;
         tells = rw e refl;
         change = gives 0 (omega arith) (inl refl) mine;
-        registers = keep n q t 0 l.reply l regs;
+        registers = keep sz t 0 l.reply l regs;
         same_call = refl;
         counts = counts;
         by_call = tt;
-        answered = (refl, subst (λ b. Due b q vs (first t) now t l.call r) (sym (or_false (done t))) due);
+        answered = (refl, subst (λ b. Due b sz.quota vs (first t) now t l.call r) (sym (or_false (done t))) due);
         own = at0 refl;
-        others = alone (view n q (slice_set ws 0 0) used) mine;
+        others = alone (view sz (slice_set ws 0 0) used) mine;
       }
 
-  go_by : At q t vs (first t) now (view n q ws used) (done t) (locals t) → (locals t).pc ≢ 0 → Goal
+  go_by : At sz.quota t vs (first t) now (view sz ws used) (done t) (locals t) → (locals t).pc ≢ 0 → Goal
   go_by (at0 e) busy = absurd (busy e)
   go_by (at1 e d) busy = go_1 e d
   go_by (at2 e d m) busy = go_2 e d m
@@ -429,9 +429,9 @@ pub coarse_discipline : Discipline coarse false At
 coarse_discipline = record {
   idle_at = λ q t vs v. at0 refl;
   begun = λ call l. record { called = refl; used = refl; opened = λ e. omega arith; alike = refl };
-  begin_registers = λ n q t call l low r. registers_begun n q t 1 call l low r;
+  begin_registers = λ sz t call l low r. registers_begun sz t 1 call l low r;
   begins = λ q t vs now v call l e s k. at1 refl refl;
   waits = λ q t vs first now v done l e. waits q t vs first now v done l;
-  goes = λ n q t vs first now ws used done locals h ths tn busy. go_by n q t vs first now ws used done locals h ths tn
+  goes = λ sz t vs first now ws used done locals h ths tn busy. go_by sz t vs first now ws used done locals h ths tn
       (ths t tn).at busy;
 }

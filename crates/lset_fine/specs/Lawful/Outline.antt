@@ -2,7 +2,7 @@
 use Rattle.std.specs.Prelude.{◌≡◌, ◌≢◌, ℕ, suc, ◌+◌, ◌*◌, ◌/◌, ◌%◌, ◌<◌, ◌≤◌, Bool, true, false, Some, None, List, slice_set, refl}
 use Rattle.std.proofs.Common.{arith, inl, inr, sym, ◌∙◌, subst}
 use Rattle.lset_words.proofs.Numbers.{if_below, if_not_below, below_or_not}
-use Rattle.lset_words.specs.Words.{key_index, link_index, lock_index, tail_word, node_count, slot_node, target, key_of}
+use Rattle.lset_words.specs.Words.{key_index, link_index, lock_index, tail_word, node_count, slot_node, target, key_of, Sizes}
 use Rattle.lset_words.specs.declared.Reply.{Reply}
 use Rattle.lset_words.specs.declared.Reply.TheVariants.{True}
 use Rattle.lset_steps.specs.declared.Local.{Local}
@@ -68,21 +68,21 @@ module _ (q t : ℕ) (vs : ℕ → View) (first now : ℕ) (v w : View) (done : 
   stays (at12 e p c d y z due) = at12 e (s.locks l.pred p) (s.locks l.curr c) d y z (due_on done q vs first now t l.call y due)
   stays (at13 e p y z due) = at13 e (s.locks l.pred p) y z (due_on done q vs first now t l.call y due)
 
-module _ (n q t : ℕ) (vs : ℕ → View) (first now : ℕ) (ws : List ℕ) (used : ℕ → ℕ) (done : Bool) (l : Local)
-    (h : Here false n q vs now ws used) (th : Thread At n q t vs first now ws used done l) (tn : t < n) where
+module _ (sz : Sizes) (t : ℕ) (vs : ℕ → View) (first now : ℕ) (ws : List ℕ) (used : ℕ → ℕ) (done : Bool) (l : Local)
+    (h : Here false sz vs now ws used) (th : Thread At sz t vs first now ws used done l) (tn : t < sz.threads) where
   abbrev Goal : Type 0
-  Goal = Turn fine (node_locks false) At n q t vs first now ws used done l
+  Goal = Turn fine (node_locks false) At sz t vs first now ws used done l
 
   abbrev V : View
-  V = view n q ws used
+  V = view sz ws used
 
-  M : Memory false n q ws used
+  M : Memory false sz ws used
   M = h.memory
 
-  regs : Registers n q t l
+  regs : Registers sz t l
   regs = th.registers
 
-  own_is : own_slot l ≡ own_of q t used
+  own_is : own_slot l ≡ own_of sz.quota t used
   own_is = rw (th.registers.thread, th.registers.quota, th.counts) refl
 
   even : (a : ℕ) → Held V t a → node_link ws a % 2 ≡ 0
@@ -91,9 +91,9 @@ module _ (n q t : ℕ) (vs : ℕ → View) (first now : ℕ) (ws : List ℕ) (us
   go_1 : l.pc ≡ 1 → done ≡ false → Goal
   go_1 e d = tries 0 (record l { pc = 2; pred = 0 }) (record l { pc = 1 }) (omega arith)
       (rw (e, regs.thread) refl) (rw e refl) (rw e refl)
-      (keep_walk n q t 2 0 l.curr l (omega arith) regs.curr regs, refl, refl, λ x. omega arith)
-      (keep n q t 1 l.reply l regs, refl, refl, λ x. omega arith)
-      (λ free. at2 refl d refl (head_held (inl (omega arith)) (lock_wrote false n q ws used M 0 (t + 1) (omega arith))))
+      (keep_walk sz t 2 0 l.curr l (omega arith) regs.curr regs, refl, refl, λ x. omega arith)
+      (keep sz t 1 l.reply l regs, refl, refl, λ x. omega arith)
+      (λ free. at2 refl d refl (head_held (inl (omega arith)) (lock_wrote false sz ws used M 0 (t + 1) (omega arith))))
       (at1 refl d)
 
   go_2 : l.pc ≡ 2 → done ≡ false → l.pred ≡ 0 → Held V t 0 → Goal
@@ -101,20 +101,20 @@ module _ (n q t : ℕ) (vs : ℕ → View) (first now : ℕ) (ws : List ℕ) (us
       let s : ℕ = node_link ws 0 in
       let head : node_key ws 0 ≡ 0 = M.head_key in
       let b : Behind V t (target l.call) 0 (s / 2) = behind_from M x (even 0 x) (omega arith) regs.low in
-      let inn : s / 2 < node_count n q = inside false n q ws used M (s / 2) b.next in
+      let inn : s / 2 < node_count sz = inside false sz ws used M (s / 2) b.next in
       passes (Load (link_index 0)) ws (record l { pc = 3; curr = s / 2 })
       (rw e refl) (rw e refl) (rw e refl) (reads_word (link_index 0) (omega arith))
-      (keep_walk n q t 3 l.pred (s / 2) l regs.pred inn regs, refl, refl, λ x. omega arith)
+      (keep_walk sz t 3 l.pred (s / 2) l regs.pred inn regs, refl, refl, λ x. omega arith)
       (at3 refl d (subst (λ y. Behind V t (target l.call) y (s / 2)) (sym p) b))
 
   go_3 : l.pc ≡ 3 → done ≡ false → Behind V t (target l.call) l.pred l.curr → Goal
   go_3 e d b = tries l.curr (record l { pc = 4 }) (record l { pc = 3 }) regs.curr
       (rw (e, regs.thread) refl) (rw e refl) (rw e refl)
-      (keep n q t 4 l.reply l regs, refl, refl, λ x. omega arith)
-      (keep n q t 3 l.reply l regs, refl, refl, λ x. omega arith)
+      (keep sz t 4 l.reply l regs, refl, refl, λ x. omega arith)
+      (keep sz t 3 l.reply l regs, refl, refl, λ x. omega arith)
       (λ free. at4 refl d (record {
         walk = behind_on (leaves_locked M tn l.curr free) b;
-        mine = lock_wrote false n q ws used M l.curr (t + 1) regs.curr;
+        mine = lock_wrote false sz ws used M l.curr (t + 1) regs.curr;
       }))
       (at3 refl d b)
 
@@ -122,31 +122,31 @@ module _ (n q t : ℕ) (vs : ℕ → View) (first now : ℕ) (ws : List ℕ) (us
   go_4 e d b =
       let k : ℕ = target l.call in let s : ℕ = node_key ws l.curr in
       let l0 : Local = record l { pc = 4; ckey = s } in
-      let inn : l.curr < node_count n q = regs.curr in
+      let inn : l.curr < node_count sz = regs.curr in
       let top : node_key ws l.curr ≤ node_key ws 1 = M.ordered.top l.curr b.walk.next in
       let tail : node_key ws 1 ≡ tail_word = M.tail_key in
       let small : s ≤ tail_word = omega arith in
       let a = Load (key_index l.curr) in
-      let read : LockedStep false n q t ws used (Load (key_index l.curr)) ws used None =
+      let read : LockedStep false sz t ws used (Load (key_index l.curr)) ws used None =
       reads_word (key_index l.curr) (omega arith) in
       elim (below_or_not s k) [
         | inl lt ↦
             (let on = if_below s k lt (record l0 { pc = 5 }) (decided_on targets s l0) in
             passes a ws (record l0 { pc = 5 }) (rw e refl) (rw (e, on) refl) (rw e refl) read
-            (keep_ckey n q t 5 s l.reply l small regs, refl, refl, λ x. omega arith) (at5 refl d b lt))
+            (keep_ckey sz t 5 s l.reply l small regs, refl, refl, λ x. omega arith) (at5 refl d b lt))
         | inr ge ↦
             (let on = if_not_below s k ge (record l0 { pc = 5 }) (decided_on targets s l0) in
             let plain = M.marked l.curr b.walk.next in
             elim (decides M targets s l0 b.walk plain refl ge regs.low (M.room t tn) th.counts regs.quota) [
               | inl r ↦ passes a ws (goes_to 12 (Some r.0) l0) (rw e refl) (rw (e, on ∙ r.1) refl) (rw e refl) read
-                  (keep_ckey n q t 12 s (Some r.0) l small regs, refl, refl, λ x. omega arith)
+                  (keep_ckey sz t 12 s (Some r.0) l small regs, refl, refl, λ x. omega arith)
                   (at12 refl b.walk.held.mine b.mine (curr_is_not_pred M b.walk) r.0 refl
-                  (due_now done q vs first now t V l.call r.0 d th.begun h.present r.2))
+                  (due_now done sz.quota vs first now t V l.call r.0 d th.begun h.present r.2))
               | inr z ↦ elim z [
                 | inl r ↦ passes a ws (goes_to 7 None l0) (rw e refl) (rw (e, on ∙ r.0) refl) (rw e refl) read
-                    (keep_ckey n q t 7 s None l small regs, refl, refl, λ x. omega arith) (at7 refl d b r.1)
+                    (keep_ckey sz t 7 s None l small regs, refl, refl, λ x. omega arith) (at7 refl d b r.1)
                 | inr r ↦ passes a ws (goes_to 10 None l0) (rw e refl) (rw (e, on ∙ r.0) refl) (rw e refl) read
-                    (keep_ckey n q t 10 s None l small regs, refl, refl, λ x. omega arith) (at10 refl d b r.1)
+                    (keep_ckey sz t 10 s None l small regs, refl, refl, λ x. omega arith) (at10 refl d b r.1)
               ]
             ])
       ]
@@ -155,62 +155,62 @@ module _ (n q t : ℕ) (vs : ℕ → View) (first now : ℕ) (ws : List ℕ) (us
   go_5 e d b lt =
       passes (Store (lock_index l.pred) 0) (slice_set ws (lock_index l.pred) 0) (record l { pc = 6 })
       (rw e refl) (rw e refl) (rw e refl) (frees l.pred regs.pred b.walk.held.mine)
-      (keep n q t 6 l.reply l regs, refl, refl, λ x. omega arith)
+      (keep sz t 6 l.reply l regs, refl, refl, λ x. omega arith)
       (at6 refl d (held_past M tn l.pred (curr_is_not_pred M b.walk) (held_from M b.mine (in_chain b.walk)))
       (rw (key_after_lock ws (lock_index l.pred) 0 l.curr (inr (l.pred, refl))) lt))
 
   go_6 : l.pc ≡ 6 → done ≡ false → Held V t l.curr → node_key ws l.curr < target l.call → Goal
   go_6 e d x lt =
-      let s : ℕ = node_link ws l.curr in let cn : l.curr < node_count n q = regs.curr in
+      let s : ℕ = node_link ws l.curr in let cn : l.curr < node_count sz = regs.curr in
       let b : Behind V t (target l.call) l.curr (s / 2) = behind_from M x (even l.curr x) lt regs.low in
-      let inn : s / 2 < node_count n q = inside false n q ws used M (s / 2) b.next in
+      let inn : s / 2 < node_count sz = inside false sz ws used M (s / 2) b.next in
       passes (Load (link_index l.curr)) ws (record l { pc = 3; pred = l.curr; curr = s / 2 })
       (rw e refl) (rw e refl) (rw e refl) (reads_word (link_index l.curr) (omega arith))
-      (keep_walk n q t 3 l.curr (s / 2) l regs.curr inn regs, refl, refl, λ x. omega arith)
+      (keep_walk sz t 3 l.curr (s / 2) l regs.curr inn regs, refl, refl, λ x. omega arith)
       (at3 refl d b)
 
-  go_7 : l.pc ≡ 7 → done ≡ false → Window V t l → Adding V t q l.curr l.call → Goal
+  go_7 : l.pc ≡ 7 → done ≡ false → Window V t l → Adding V t sz.quota l.curr l.call → Goal
   go_7 e d b a =
-      let o : ℕ = own_of q t used in let k : ℕ = target l.call in
+      let o : ℕ = own_of sz.quota t used in let k : ℕ = target l.call in
       let s = leaves_own_key M tn k a.room in
-      let own = own_in false n q ws used M t tn a.room in
+      let own = own_in false sz ws used M t tn a.room in
       passes (Store (key_index o) k) (slice_set ws (key_index o) k) (record l { pc = 8 })
       (rw (e, own_is) refl) (rw e refl) (rw e refl) (writes_own_key k a.room)
-      (keep n q t 8 l.reply l regs, refl, refl, λ x. omega arith)
-      (at8 refl d (between_on s b) (adding_on s b.walk.next a) (key_wrote false n q ws used M o k own))
+      (keep sz t 8 l.reply l regs, refl, refl, λ x. omega arith)
+      (at8 refl d (between_on s b) (adding_on s b.walk.next a) (key_wrote false sz ws used M o k own))
 
-  go_8 : l.pc ≡ 8 → done ≡ false → Window V t l → Adding V t q l.curr l.call → node_key ws (own_of q t used) ≡ target l.call
+  go_8 : l.pc ≡ 8 → done ≡ false → Window V t l → Adding V t sz.quota l.curr l.call → node_key ws (own_of sz.quota t used) ≡ target l.call
       → Goal
   go_8 e d b a key =
-      let o : ℕ = own_of q t used in let x : ℕ = 2 * l.curr in
+      let o : ℕ = own_of sz.quota t used in let x : ℕ = 2 * l.curr in
       let s = leaves_own_link M tn x a.room in
-      let own = own_in false n q ws used M t tn a.room in
+      let own = own_in false sz ws used M t tn a.room in
       passes (Store (link_index o) x) (slice_set ws (link_index o) x) (record l { pc = 9 })
       (rw (e, own_is) refl) (rw e refl) (rw e refl) (writes_own_link l.curr a.room)
-      (keep n q t 9 l.reply l regs, refl, refl, λ x. omega arith)
+      (keep sz t 9 l.reply l regs, refl, refl, λ x. omega arith)
       (at9 refl d (between_on s b) (adding_on s b.walk.next a) (key_after_link ws o x o ∙ key)
-      (link_wrote false n q ws used M o x own))
+      (link_wrote false sz ws used M o x own))
 
-  go_9 : l.pc ≡ 9 → done ≡ false → Window V t l → Adding V t q l.curr l.call → node_key ws (own_of q t used) ≡ target l.call
-      → node_link ws (own_of q t used) ≡ 2 * l.curr → Goal
+  go_9 : l.pc ≡ 9 → done ≡ false → Window V t l → Adding V t sz.quota l.curr l.call → node_key ws (own_of sz.quota t used) ≡ target l.call
+      → node_link ws (own_of sz.quota t used) ≡ 2 * l.curr → Goal
   go_9 e d b a key link =
-      let x : ℕ = 2 * own_of q t used in
+      let x : ℕ = 2 * own_of sz.quota t used in
       let count : l.used ≡ used t = th.counts in
       let more : one_more used t t ≡ used t + 1 = one_more_same used t in
       changes (Store (link_index l.pred) x) (slice_set ws (link_index l.pred) x) (one_more used t)
       (record l { pc = 12; reply = Some True; used = l.used + 1 }) (key_of l.call) true
       (rw (e, own_is) refl) (rw e refl) (rw e refl) (puts_between b a key link) (a.call, d, a.room)
-      (keep_more n q t 12 l (rw count a.room) regs) refl (omega arith) (λ x. omega arith)
+      (keep_more sz t 12 l (rw count a.room) regs) refl (omega arith) (λ x. omega arith)
       (at12 refl (lock_after_link ws l.pred x l.pred ∙ b.walk.held.mine) (lock_after_link ws l.pred x l.curr ∙ b.mine)
       (curr_is_not_pred M b.walk) True refl refl)
 
   go_10 : l.pc ≡ 10 → done ≡ false → Window V t l → Removing V l.curr l.call → Goal
   go_10 e d b a =
-      let s : ℕ = node_link ws l.curr in let cn : l.curr < node_count n q = regs.curr in
-      let inn : s / 2 < node_count n q = inside false n q ws used M (s / 2) (found_next M b.walk a regs.low) in
+      let s : ℕ = node_link ws l.curr in let cn : l.curr < node_count sz = regs.curr in
+      let inn : s / 2 < node_count sz = inside false sz ws used M (s / 2) (found_next M b.walk a regs.low) in
       passes (Load (link_index l.curr)) ws (record l { pc = 11; succ = s / 2 })
       (rw e refl) (rw e refl) (rw e refl) (reads_word (link_index l.curr) (omega arith))
-      (keep_succ n q t 11 (s / 2) l.reply l inn regs, refl, refl, λ x. omega arith)
+      (keep_succ sz t 11 (s / 2) l.reply l inn regs, refl, refl, λ x. omega arith)
       (at11 refl d b a refl)
 
   go_11 : l.pc ≡ 11 → done ≡ false → Window V t l → Removing V l.curr l.call → node_link ws l.curr / 2 ≡ l.succ → Goal
@@ -219,27 +219,27 @@ module _ (n q t : ℕ) (vs : ℕ → View) (first now : ℕ) (ws : List ℕ) (us
       changes (Store (link_index l.pred) x) (slice_set ws (link_index l.pred) x) used
       (record l { pc = 12; reply = Some True }) (key_of l.call) false
       (rw e refl) (rw e refl) (rw e refl) (drops_between M l.succ refl b a next regs.low) (a.call, d)
-      (keep n q t 12 (Some True) l regs) refl th.counts (λ x. omega arith)
+      (keep sz t 12 (Some True) l regs) refl th.counts (λ x. omega arith)
       (at12 refl (lock_after_link ws l.pred x l.pred ∙ b.walk.held.mine) (lock_after_link ws l.pred x l.curr ∙ b.mine)
       (curr_is_not_pred M b.walk) True refl refl)
 
   go_12 : l.pc ≡ 12 → node_lock ws l.pred ≡ t + 1 → node_lock ws l.curr ≡ t + 1 → l.curr ≢ l.pred
-      → (r : Reply) → l.reply ≡ Some r → Due done q vs first now t l.call r → Goal
+      → (r : Reply) → l.reply ≡ Some r → Due done sz.quota vs first now t l.call r → Goal
   go_12 e pred curr apart r ry due =
       passes (Store (lock_index l.curr) 0) (slice_set ws (lock_index l.curr) 0) (record l { pc = 13 })
       (rw e refl) (rw e refl) (rw e refl) (frees l.curr regs.curr curr)
-      (keep n q t 13 l.reply l regs, refl, refl, λ x. omega arith)
+      (keep sz t 13 l.reply l regs, refl, refl, λ x. omega arith)
       (at13 refl (lock_after_lock ws l.curr 0 l.pred (λ f. apart (sym f)) ∙ pred) r ry
-      (due_on done q vs first now t l.call r due))
+      (due_on done sz.quota vs first now t l.call r due))
 
-  go_13 : l.pc ≡ 13 → node_lock ws l.pred ≡ t + 1 → (r : Reply) → l.reply ≡ Some r → Due done q vs first now t l.call r → Goal
+  go_13 : l.pc ≡ 13 → node_lock ws l.pred ≡ t + 1 → (r : Reply) → l.reply ≡ Some r → Due done sz.quota vs first now t l.call r → Goal
   go_13 e mine r ry due =
       answers (Store (lock_index l.pred) 0) (slice_set ws (lock_index l.pred) 0) (record l { pc = 0 }) r
       (rw e refl) (rw (e, ry) refl) (rw e refl) (frees l.pred regs.pred mine) due
-      (keep n q t 0 l.reply l regs) refl refl refl
+      (keep sz t 0 l.reply l regs) refl refl refl
       (at0 refl)
 
-  go : At q t vs first now (view n q ws used) done l → l.pc ≢ 0 → Goal
+  go : At sz.quota t vs first now (view sz ws used) done l → l.pc ≢ 0 → Goal
   go (at0 e) busy = absurd (busy e)
   go (at1 e d) busy = go_1 e d
   go (at2 e d p x) busy = go_2 e d p x
@@ -259,8 +259,8 @@ pub fine_follows : Follows fine (node_locks false) At
 fine_follows = record {
   idle_at = λ q t vs v. at0 refl;
   begun = λ call l. record { called = refl; used = refl; opened = λ e. omega arith; alike = refl };
-  begin_registers = λ n q t call l low r. registers_begun n q t 1 call l low r;
+  begin_registers = λ sz t call l low r. registers_begun sz t 1 call l low r;
   begins = λ q t vs now v call l e s k. at1 refl refl;
   stands = λ q t vs first now v w done l present r at. stays q t vs first now v w done l r at;
-  turn = λ n q t vs first now ws used done l h th tn busy. go n q t vs first now ws used done l h th tn th.at busy;
+  turn = λ sz t vs first now ws used done l h th tn busy. go sz t vs first now ws used done l h th tn th.at busy;
 }

@@ -2,7 +2,7 @@
 use Rattle.std.specs.Prelude.{◌≡◌, ◌≢◌, ℕ, suc, ◌+◌, ◌*◌, ◌/◌, ◌%◌, ◌<◌, ◌≤◌, Bool, true, false, Some, None, List, slice_set, refl}
 use Rattle.std.proofs.Common.{arith, inl, inr, sym, ◌∙◌, ap}
 use Rattle.lset_words.proofs.Numbers.{same_or_not, below_or_not, if_below, if_not_below, if_same, if_other}
-use Rattle.lset_words.specs.Words.{key_index, link_index, lock_index, tail_word, node_count, slot_node, target, key_of}
+use Rattle.lset_words.specs.Words.{key_index, link_index, lock_index, tail_word, node_count, slot_node, target, key_of, Sizes}
 use Rattle.lset_words.specs.declared.Reply.{Reply}
 use Rattle.lset_words.specs.declared.Reply.TheVariants.{True}
 use Rattle.lset_steps.specs.declared.Local.{Local}
@@ -134,21 +134,21 @@ has_read_rows = record { begins = λ call l. refl; acts = acts; feeds = feeds; t
     tells l seen (inr (inr (inr (inr (inr e))))) = rw e refl
 
 -- THE ROWS
-module _ (n q t : ℕ) (vs : ℕ → View) (first now : ℕ) (ws : List ℕ) (used : ℕ → ℕ) (done : Bool) (l : Local)
-    (h : Here true n q vs now ws used) (th : Thread At n q t vs first now ws used done l) (tn : t < n) where
+module _ (sz : Sizes) (t : ℕ) (vs : ℕ → View) (first now : ℕ) (ws : List ℕ) (used : ℕ → ℕ) (done : Bool) (l : Local)
+    (h : Here true sz vs now ws used) (th : Thread At sz t vs first now ws used done l) (tn : t < sz.threads) where
   abbrev Goal : Type 0
-  Goal = Turn lazy (node_locks true) At n q t vs first now ws used done l
+  Goal = Turn lazy (node_locks true) At sz t vs first now ws used done l
 
   abbrev V : View
-  V = view n q ws used
+  V = view sz ws used
 
-  M : Memory true n q ws used
+  M : Memory true sz ws used
   M = h.memory
 
-  regs : Registers n q t l
+  regs : Registers sz t l
   regs = th.registers
 
-  own_is : own_slot l ≡ own_of q t used
+  own_is : own_slot l ≡ own_of sz.quota t used
   own_is = rw (th.registers.thread, th.registers.quota, th.counts) refl
 
   go_1 : l.pc ≡ 1 → done ≡ false → Goal
@@ -156,68 +156,68 @@ module _ (n q t : ℕ) (vs : ℕ → View) (first now : ℕ) (ws : List ℕ) (us
       let s : ℕ = node_link ws 0 in
       passes (Load (link_index 0)) ws (record l { pc = 2; pred = 0; curr = s / 2 })
       (rw e refl) (rw e refl) (rw e refl) (reads_word (link_index 0) (omega arith))
-      (keep_walk n q t 2 0 (s / 2) l (omega arith) (next_inside M 0 M.ordered.head_published) regs, refl, refl, λ x. omega arith)
+      (keep_walk sz t 2 0 (s / 2) l (omega arith) (next_inside M 0 M.ordered.head_published) regs, refl, refl, λ x. omega arith)
       (at2 refl d (spot_behind_head M (omega arith)))
 
   go_2 : l.pc ≡ 2 → done ≡ false → Spot V (target l.call) l.pred l.curr → Goal
   go_2 e d x =
       let s : ℕ = node_key ws l.curr in let k : ℕ = target l.call in
-      let inn : l.curr < node_count n q = regs.curr in
+      let inn : l.curr < node_count sz = regs.curr in
       let small : s ≤ tail_word = small_key M l.curr x.curr_published in
-      let read : LockedStep true n q t ws used (Load (key_index l.curr)) ws used None =
+      let read : LockedStep true sz t ws used (Load (key_index l.curr)) ws used None =
       reads_word (key_index l.curr) (omega arith) in
       let feeds : fed_by l s ≡ continued (at_key s l) = rw e refl in
       elim (below_or_not s k) [
         | inl lt ↦ passes (Load (key_index l.curr)) ws (record l { pc = 3; ckey = s }) (rw e refl)
             (feeds ∙ ap continued (if_below s k lt (record l { pc = 3; ckey = s }) (record l { pc = 4; ckey = s })))
             (rw e refl) read
-            (keep_ckey n q t 3 s l.reply l small regs, refl, refl, λ y. omega arith) (at3 refl d x lt)
+            (keep_ckey sz t 3 s l.reply l small regs, refl, refl, λ y. omega arith) (at3 refl d x lt)
         | inr ge ↦ passes (Load (key_index l.curr)) ws (record l { pc = 4; ckey = s }) (rw e refl)
             (feeds ∙ ap continued (if_not_below s k ge (record l { pc = 3; ckey = s }) (record l { pc = 4; ckey = s })))
             (rw e refl) read
-            (keep_ckey n q t 4 s l.reply l small regs, refl, refl, λ y. omega arith)
+            (keep_ckey sz t 4 s l.reply l small regs, refl, refl, λ y. omega arith)
             (at4 refl d (record { spot = x; is = refl; above = ge }))
       ]
 
   go_3 : l.pc ≡ 3 → done ≡ false → Spot V (target l.call) l.pred l.curr → node_key ws l.curr < target l.call → Goal
   go_3 e d x lt =
-      let s : ℕ = node_link ws l.curr in let inn : l.curr < node_count n q = regs.curr in
+      let s : ℕ = node_link ws l.curr in let inn : l.curr < node_count sz = regs.curr in
       passes (Load (link_index l.curr)) ws (record l { pc = 2; pred = l.curr; curr = s / 2 })
       (rw e refl) (rw e refl) (rw e refl) (reads_word (link_index l.curr) (omega arith))
-      (keep_walk n q t 2 l.curr (s / 2) l regs.curr (next_inside M l.curr x.curr_published) regs, refl, refl, λ y. omega arith)
+      (keep_walk sz t 2 l.curr (s / 2) l regs.curr (next_inside M l.curr x.curr_published) regs, refl, refl, λ y. omega arith)
       (at2 refl d (spot_behind M l.curr x.curr_published lt))
 
   go_4 : l.pc ≡ 4 → done ≡ false → Found V (target l.call) l.pred l.curr l.ckey → Goal
   go_4 e d x = tries l.pred (record l { pc = 5 }) (record l { pc = 4 }) regs.pred
       (rw (e, regs.thread) refl) (rw e refl) (rw e refl)
-      (keep n q t 5 l.reply l regs, refl, refl, λ y. omega arith)
-      (keep n q t 4 l.reply l regs, refl, refl, λ y. omega arith)
+      (keep sz t 5 l.reply l regs, refl, refl, λ y. omega arith)
+      (keep sz t 4 l.reply l regs, refl, refl, λ y. omega arith)
       (λ free. at5 refl d (found_kept (keeps_locked M tn l.pred regs.pred free) x)
-      (lock_wrote true n q ws used M l.pred (t + 1) regs.pred))
+      (lock_wrote true sz ws used M l.pred (t + 1) regs.pred))
       (at4 refl d x)
 
   go_5 : l.pc ≡ 5 → done ≡ false → Found V (target l.call) l.pred l.curr l.ckey → node_lock ws l.pred ≡ t + 1 → Goal
   go_5 e d x mine = tries l.curr (record l { pc = 6 }) (record l { pc = 5 }) regs.curr
       (rw (e, regs.thread) refl) (rw e refl) (rw e refl)
-      (keep n q t 6 l.reply l regs, refl, refl, λ y. omega arith)
-      (keep n q t 5 l.reply l regs, refl, refl, λ y. omega arith)
+      (keep sz t 6 l.reply l regs, refl, refl, λ y. omega arith)
+      (keep sz t 5 l.reply l regs, refl, refl, λ y. omega arith)
       (λ free. at6 refl d (found_kept (keeps_locked M tn l.curr regs.curr free) x) (record {
         pred_mine = lock_after_lock ws l.curr (t + 1) l.pred (λ f. found_apart x (sym f)) ∙ mine;
-        curr_mine = lock_wrote true n q ws used M l.curr (t + 1) regs.curr;
+        curr_mine = lock_wrote true sz ws used M l.curr (t + 1) regs.curr;
         distinct = found_apart x;
       }))
       (at5 refl d x mine)
 
   go_6 : l.pc ≡ 6 → done ≡ false → Found V (target l.call) l.pred l.curr l.ckey → Both V t l.pred l.curr → Goal
   go_6 e d x b =
-      let s : ℕ = node_link ws l.pred in let inn : l.pred < node_count n q = regs.pred in
-      let read : LockedStep true n q t ws used (Load (link_index l.pred)) ws used None =
+      let s : ℕ = node_link ws l.pred in let inn : l.pred < node_count sz = regs.pred in
+      let read : LockedStep true sz t ws used (Load (link_index l.pred)) ws used None =
       reads_word (link_index l.pred) (omega arith) in
       let feeds : fed_by l s ≡ continued (at_pred s l) = rw e refl in
       elim (same_or_not s (2 * l.curr)) [
         | inl y ↦ passes (Load (link_index l.pred)) ws (record l { pc = 7 }) (rw e refl)
             (feeds ∙ ap continued (if_same s (2 * l.curr) y (record l { pc = 7 }) (gives_up l))) (rw e refl) read
-            (keep n q t 7 l.reply l regs, refl, refl, λ z. omega arith)
+            (keep sz t 7 l.reply l regs, refl, refl, λ z. omega arith)
             (at7 refl d x (record {
               walk = record {
                 held = record {
@@ -225,7 +225,7 @@ module _ (n q t : ℕ) (vs : ℕ → View) (first now : ℕ) (ws : List ℕ) (us
                   at = M.marked l.pred x.spot.pred_published (omega arith);
                   published = x.spot.pred_published;
                 };
-                inner = inner true n q ws used M l.pred (target l.call) x.spot.below regs.low;
+                inner = inner true sz ws used M l.pred (target l.call) x.spot.below regs.low;
                 follows = y;
                 below = x.spot.below;
                 next = x.spot.curr_published;
@@ -234,17 +234,17 @@ module _ (n q t : ℕ) (vs : ℕ → View) (first now : ℕ) (ws : List ℕ) (us
             }))
         | inr y ↦ passes (Load (link_index l.pred)) ws (record l { pc = 13; reply = None }) (rw e refl)
             (feeds ∙ ap continued (if_other s (2 * l.curr) y (record l { pc = 7 }) (gives_up l))) (rw e refl) read
-            (keep n q t 13 None l regs, refl, refl, λ z. omega arith)
+            (keep sz t 13 None l regs, refl, refl, λ z. omega arith)
             (at13_again refl d b refl)
       ]
 
   go_7 : l.pc ≡ 7 → done ≡ false → Found V (target l.call) l.pred l.curr l.ckey → Window V t l → Goal
   go_7 e d x b =
-      let s : ℕ = node_link ws l.curr in let inn : l.curr < node_count n q = regs.curr in
+      let s : ℕ = node_link ws l.curr in let inn : l.curr < node_count sz = regs.curr in
       let l0 : Local = record l { succ = s / 2 } in
-      let next : s / 2 < node_count n q = next_inside M l.curr b.walk.next in
+      let next : s / 2 < node_count sz = next_inside M l.curr b.walk.next in
       let a = Load (link_index l.curr) in
-      let read : LockedStep true n q t ws used (Load (link_index l.curr)) ws used None =
+      let read : LockedStep true sz t ws used (Load (link_index l.curr)) ws used None =
       reads_word (link_index l.curr) (omega arith) in
       let feeds : fed_by l s ≡ continued (at_curr s l) = rw e refl in
       let is : l.ckey ≡ node_key ws l.curr = sym x.is in
@@ -254,62 +254,62 @@ module _ (n q t : ℕ) (vs : ℕ → View) (first now : ℕ) (ws : List ℕ) (us
             (let on = feeds ∙ ap continued (if_same (s % 2) 0 even (decided_on targets l.ckey l0) (gives_up l)) in
             elim (decides M targets l.ckey l0 b.walk even is (omega arith) regs.low (M.room t tn) th.counts regs.quota) [
               | inl r ↦ passes a ws (goes_to 13 (Some r.0) l0) (rw e refl) (on ∙ ap continued r.1) (rw e refl) read
-                  (keep_succ n q t 13 (s / 2) (Some r.0) l next regs, refl, refl, λ z. omega arith)
+                  (keep_succ sz t 13 (s / 2) (Some r.0) l next regs, refl, refl, λ z. omega arith)
                   (at13 refl (both_of (found_apart x) b) r.0 refl
-                  (due_now done q vs first now t V l.call r.0 d th.begun h.present r.2))
+                  (due_now done sz.quota vs first now t V l.call r.0 d th.begun h.present r.2))
               | inr z ↦ elim z [
                 | inl r ↦ passes a ws (goes_to 8 None l0) (rw e refl) (on ∙ ap continued r.0) (rw e refl) read
-                    (keep_succ n q t 8 (s / 2) None l next regs, refl, refl, λ y. omega arith) (at8 refl d b r.1)
+                    (keep_succ sz t 8 (s / 2) None l next regs, refl, refl, λ y. omega arith) (at8 refl d b r.1)
                 | inr r ↦ passes a ws (goes_to 11 None l0) (rw e refl) (on ∙ ap continued r.0) (rw e refl) read
-                    (keep_succ n q t 11 (s / 2) None l next regs, refl, refl, λ y. omega arith) (at11 refl d b r.1 (omega arith))
+                    (keep_succ sz t 11 (s / 2) None l next regs, refl, refl, λ y. omega arith) (at11 refl d b r.1 (omega arith))
               ]
             ])
         | inr odd ↦ passes a ws (record l { pc = 13; reply = None }) (rw e refl)
             (feeds ∙ ap continued (if_other (s % 2) 0 (omega arith) (decided_on targets l.ckey l0) (gives_up l))) (rw e refl) read
-            (keep n q t 13 None l regs, refl, refl, λ z. omega arith)
+            (keep sz t 13 None l regs, refl, refl, λ z. omega arith)
             (at13_again refl d (both_of (found_apart x) b) refl)
       ]
 
-  go_8 : l.pc ≡ 8 → done ≡ false → Window V t l → Adding V t q l.curr l.call → Goal
+  go_8 : l.pc ≡ 8 → done ≡ false → Window V t l → Adding V t sz.quota l.curr l.call → Goal
   go_8 e d b a =
-      let o : ℕ = own_of q t used in let k : ℕ = target l.call in
+      let o : ℕ = own_of sz.quota t used in let k : ℕ = target l.call in
       let s = leaves_own_key M tn k a.room in
-      let own = own_in true n q ws used M t tn a.room in
+      let own = own_in true sz ws used M t tn a.room in
       passes (Store (key_index o) k) (slice_set ws (key_index o) k) (record l { pc = 9 })
       (rw (e, own_is) refl) (rw e refl) (rw e refl) (writes_own_key k a.room)
-      (keep n q t 9 l.reply l regs, refl, refl, λ x. omega arith)
-      (at9 refl d (between_on s b) (adding_on s b.walk.next a) (key_wrote true n q ws used M o k own))
+      (keep sz t 9 l.reply l regs, refl, refl, λ x. omega arith)
+      (at9 refl d (between_on s b) (adding_on s b.walk.next a) (key_wrote true sz ws used M o k own))
 
-  go_9 : l.pc ≡ 9 → done ≡ false → Window V t l → Adding V t q l.curr l.call → node_key ws (own_of q t used) ≡ target l.call
+  go_9 : l.pc ≡ 9 → done ≡ false → Window V t l → Adding V t sz.quota l.curr l.call → node_key ws (own_of sz.quota t used) ≡ target l.call
       → Goal
   go_9 e d b a key =
-      let o : ℕ = own_of q t used in let x : ℕ = 2 * l.curr in
+      let o : ℕ = own_of sz.quota t used in let x : ℕ = 2 * l.curr in
       let s = leaves_own_link M tn x a.room in
-      let own = own_in true n q ws used M t tn a.room in
+      let own = own_in true sz ws used M t tn a.room in
       passes (Store (link_index o) x) (slice_set ws (link_index o) x) (record l { pc = 10 })
       (rw (e, own_is) refl) (rw e refl) (rw e refl) (writes_own_link l.curr a.room)
-      (keep n q t 10 l.reply l regs, refl, refl, λ x. omega arith)
+      (keep sz t 10 l.reply l regs, refl, refl, λ x. omega arith)
       (at10 refl d (between_on s b) (adding_on s b.walk.next a) (key_after_link ws o x o ∙ key)
-      (link_wrote true n q ws used M o x own))
+      (link_wrote true sz ws used M o x own))
 
   -- a write of a link leaves the locks
-  both_after : (p x : ℕ) (used' : ℕ → ℕ) → Window V t l → Both (view n q (slice_set ws (link_index p) x) used') t l.pred l.curr
+  both_after : (p x : ℕ) (used' : ℕ → ℕ) → Window V t l → Both (view sz (slice_set ws (link_index p) x) used') t l.pred l.curr
   both_after p x used' b = record {
     pred_mine = lock_after_link ws p x l.pred ∙ b.walk.held.mine;
     curr_mine = lock_after_link ws p x l.curr ∙ b.mine;
     distinct = curr_is_not_pred M b.walk;
   }
 
-  go_10 : l.pc ≡ 10 → done ≡ false → Window V t l → Adding V t q l.curr l.call → node_key ws (own_of q t used) ≡ target l.call
-      → node_link ws (own_of q t used) ≡ 2 * l.curr → Goal
+  go_10 : l.pc ≡ 10 → done ≡ false → Window V t l → Adding V t sz.quota l.curr l.call → node_key ws (own_of sz.quota t used) ≡ target l.call
+      → node_link ws (own_of sz.quota t used) ≡ 2 * l.curr → Goal
   go_10 e d b a key link =
-      let x : ℕ = 2 * own_of q t used in
+      let x : ℕ = 2 * own_of sz.quota t used in
       let count : l.used ≡ used t = th.counts in
       let more : one_more used t t ≡ used t + 1 = one_more_same used t in
       changes (Store (link_index l.pred) x) (slice_set ws (link_index l.pred) x) (one_more used t)
       (record l { pc = 13; reply = Some True; used = l.used + 1 }) (key_of l.call) true
       (rw (e, own_is) refl) (rw e refl) (rw e refl) (puts_between b a key link) (a.call, d, a.room)
-      (keep_more n q t 13 l (rw count a.room) regs) refl (omega arith) (λ x. omega arith)
+      (keep_more sz t 13 l (rw count a.room) regs) refl (omega arith) (λ x. omega arith)
       (at13 refl (both_after l.pred x (one_more used t) b) True refl refl)
 
   go_11 : l.pc ≡ 11 → done ≡ false → Window V t l → Removing V l.curr l.call → node_link ws l.curr ≡ 2 * l.succ → Goal
@@ -317,22 +317,22 @@ module _ (n q t : ℕ) (vs : ℕ → View) (first now : ℕ) (ws : List ℕ) (us
       let x : ℕ = 2 * l.succ + 1 in
       let even : node_link ws l.curr % 2 ≡ 0 = omega arith in
       let is : 2 * l.succ + 1 ≡ node_link ws l.curr + 1 = omega arith in
-      let c : LockedStep true n q t ws used (Store (link_index l.curr) x) (slice_set ws (link_index l.curr) x) used
+      let c : LockedStep true sz t ws used (Store (link_index l.curr) x) (slice_set ws (link_index l.curr) x) used
       (Some (key_of l.call, false)) =
       marks_between M x refl b a even is regs.low in
-      let g = goes_on true n q ws used M t tn (Store (link_index l.curr) x) (slice_set ws (link_index l.curr) x) used
+      let g = goes_on true sz ws used M t tn (Store (link_index l.curr) x) (slice_set ws (link_index l.curr) x) used
       (Some (key_of l.call, false)) c.0 in
       let apart : l.curr ≢ l.pred = curr_is_not_pred M b.walk in
       changes (Store (link_index l.curr) x) (slice_set ws (link_index l.curr) x) used (record l { pc = 12 })
       (key_of l.call) false
       (rw e refl) (rw e refl) (rw e refl) c (a.call, d)
-      (keep n q t 12 l.reply l regs) refl th.counts (λ x. omega arith)
+      (keep sz t 12 l.reply l regs) refl th.counts (λ x. omega arith)
       (at12 refl refl (record {
         walk = record {
           held = record {
             mine = lock_after_link ws l.curr x l.pred ∙ b.walk.held.mine;
-            at = mark_keeps V (view n q (slice_set ws (link_index l.curr) x) used) M.ordered l.curr (key_of l.call).0
-                (at_mark true n q ws used M t tn l.curr x (key_of l.call).0 (in_chain b.walk) (found_no_tail M a regs.low)
+            at = mark_keeps V (view sz (slice_set ws (link_index l.curr) x) used) M.ordered l.curr (key_of l.call).0
+                (at_mark true sz ws used M t tn l.curr x (key_of l.call).0 (in_chain b.walk) (found_no_tail M a regs.low)
                 even is a.found)
                 l.pred b.walk.held.at;
             published = b.walk.held.published;
@@ -343,49 +343,49 @@ module _ (n q t : ℕ) (vs : ℕ → View) (first now : ℕ) (ws : List ℕ) (us
           next = b.walk.next;
         };
         mine = lock_after_link ws l.curr x l.curr ∙ b.mine;
-      }) (removing_kept g b.walk.next a) (link_wrote true n q ws used M l.curr x regs.curr))
+      }) (removing_kept g b.walk.next a) (link_wrote true sz ws used M l.curr x regs.curr))
 
   go_12 : l.pc ≡ 12 → done ≡ true → Window V t l → Removing V l.curr l.call → node_link ws l.curr ≡ 2 * l.succ + 1 → Goal
   go_12 e d b a next =
       let x : ℕ = 2 * l.succ in
-      let due : Due done q vs first (suc now) t l.call True = rw d refl in
+      let due : Due done sz.quota vs first (suc now) t l.call True = rw d refl in
       passes (Store (link_index l.pred) x) (slice_set ws (link_index l.pred) x) (record l { pc = 13; reply = Some True })
       (rw e refl) (rw e refl) (rw e refl) (cuts_between M l.succ b a next regs.low)
-      (keep n q t 13 (Some True) l regs, refl, refl, λ x. omega arith)
+      (keep sz t 13 (Some True) l regs, refl, refl, λ x. omega arith)
       (at13 refl (both_after l.pred x used b) True refl due)
 
   freed : Both V t l.pred l.curr → node_lock (slice_set ws (lock_index l.curr) 0) l.pred ≡ t + 1
   freed b = lock_after_lock ws l.curr 0 l.pred (λ f. b.distinct (sym f)) ∙ b.pred_mine
 
-  go_13 : l.pc ≡ 13 → Both V t l.pred l.curr → (r : Reply) → l.reply ≡ Some r → Due done q vs first now t l.call r → Goal
+  go_13 : l.pc ≡ 13 → Both V t l.pred l.curr → (r : Reply) → l.reply ≡ Some r → Due done sz.quota vs first now t l.call r → Goal
   go_13 e b r ry due =
       passes (Store (lock_index l.curr) 0) (slice_set ws (lock_index l.curr) 0) (record l { pc = 14 })
       (rw e refl) (rw e refl) (rw e refl) (frees l.curr regs.curr b.curr_mine)
-      (keep n q t 14 l.reply l regs, refl, refl, λ x. omega arith)
-      (at14 refl (freed b) r ry (due_on done q vs first now t l.call r due))
+      (keep sz t 14 l.reply l regs, refl, refl, λ x. omega arith)
+      (at14 refl (freed b) r ry (due_on done sz.quota vs first now t l.call r due))
 
   go_13_again : l.pc ≡ 13 → done ≡ false → Both V t l.pred l.curr → l.reply ≡ None → Goal
   go_13_again e d b ry =
       passes (Store (lock_index l.curr) 0) (slice_set ws (lock_index l.curr) 0) (record l { pc = 14 })
       (rw e refl) (rw e refl) (rw e refl) (frees l.curr regs.curr b.curr_mine)
-      (keep n q t 14 l.reply l regs, refl, refl, λ x. omega arith)
+      (keep sz t 14 l.reply l regs, refl, refl, λ x. omega arith)
       (at14_again refl d (freed b) ry)
 
-  go_14 : l.pc ≡ 14 → node_lock ws l.pred ≡ t + 1 → (r : Reply) → l.reply ≡ Some r → Due done q vs first now t l.call r → Goal
+  go_14 : l.pc ≡ 14 → node_lock ws l.pred ≡ t + 1 → (r : Reply) → l.reply ≡ Some r → Due done sz.quota vs first now t l.call r → Goal
   go_14 e mine r ry due =
       let feeds : fed_by l 0 ≡ released l.reply l = rw e refl in
       answers (Store (lock_index l.pred) 0) (slice_set ws (lock_index l.pred) 0) (record l { pc = 0 }) r
       (rw e refl) (feeds ∙ ap (λ y. released y l) ry) (rw e refl) (frees l.pred regs.pred mine) due
-      (keep n q t 0 l.reply l regs) refl refl refl (at0 refl)
+      (keep sz t 0 l.reply l regs) refl refl refl (at0 refl)
 
   go_14_again : l.pc ≡ 14 → done ≡ false → node_lock ws l.pred ≡ t + 1 → l.reply ≡ None → Goal
   go_14_again e d mine ry =
       let feeds : fed_by l 0 ≡ released l.reply l = rw e refl in
       passes (Store (lock_index l.pred) 0) (slice_set ws (lock_index l.pred) 0) (record l { pc = 1 })
       (rw e refl) (feeds ∙ ap (λ y. released y l) ry) (rw e refl) (frees l.pred regs.pred mine)
-      (keep n q t 1 l.reply l regs, refl, refl, λ x. omega arith) (at1 refl d)
+      (keep sz t 1 l.reply l regs, refl, refl, λ x. omega arith) (at1 refl d)
 
-  go : At q t vs first now (view n q ws used) done l → l.pc ≢ 0 → Goal
+  go : At sz.quota t vs first now (view sz ws used) done l → l.pc ≢ 0 → Goal
   go (at0 e) busy = absurd (busy e)
   go (at1 e d) busy = go_1 e d
   go (at2 e d x) busy = go_2 e d x
@@ -404,7 +404,7 @@ module _ (n q t : ℕ) (vs : ℕ → View) (first now : ℕ) (ws : List ℕ) (us
   go (at14 e p r ry due) busy = go_14 e p r ry due
   go (at14_again e d p ry) busy = go_14_again e d p ry
   go (at_read a) busy =
-      reads_on lazy (node_locks true) At n q t vs first now ws used done l h th has_read_rows (λ l' b. at_read b)
+      reads_on lazy (node_locks true) At sz t vs first now ws used done l h th has_read_rows (λ l' b. at_read b)
       (λ l' b. at0 b) a
 
 -- what it says of a contains and of a ceiling
@@ -432,8 +432,8 @@ pub lazy_follows : Follows lazy (node_locks true) At
 lazy_follows = record {
   idle_at = λ q t vs v. at0 refl;
   begun = begun_reading_is;
-  begin_registers = λ n q t call l low r. registers_begun n q t (first_row call) call l low r;
+  begin_registers = λ sz t call l low r. registers_begun sz t (first_row call) call l low r;
   begins = λ q t vs now v call l e s k. call_begins At q t vs now v call l e k (λ l' e. at1 e refl) (λ l' r. at_read r);
   stands = λ q t vs first now v w done l present r at. stays q t vs first now v w done l r at;
-  turn = λ n q t vs first now ws used done l h th tn busy. go n q t vs first now ws used done l h th tn th.at busy;
+  turn = λ sz t vs first now ws used done l h th tn busy. go sz t vs first now ws used done l h th tn th.at busy;
 }

@@ -2,7 +2,7 @@
 use Rattle.std.specs.Prelude.{◌≡◌, ◌≢◌, ℕ, suc, ◌+◌, ◌-◌, ◌*◌, ◌/◌, ◌%◌, ◌<◌, ◌≤◌, ◌⊎◌, Bool, true, false, Some, None, List, [], slice_set, refl, ◌==◌, nat_lt}
 use Rattle.std.proofs.Common.{arith, inl, inr, sym, ◌∙◌, ap, subst}
 use Rattle.lset_words.proofs.Numbers.{same_or_not, below_or_not, if_below, if_not_below, if_same, if_other, same_number, other_number, lower_number, not_lower_number}
-use Rattle.lset_words.specs.Words.{key_index, link_index, tail_word, node_count, slot_node, target, key_of}
+use Rattle.lset_words.specs.Words.{key_index, link_index, tail_word, node_count, slot_node, target, key_of, Sizes}
 use Rattle.lset_words.specs.Account.{FitsSometime}
 use Rattle.lset_words.specs.declared.Call.TheVariants.{Add, Remove, Ceiling}
 use Rattle.lset_words.specs.declared.Reply.{Reply}
@@ -191,21 +191,21 @@ has_read_rows = record { begins = λ call l. refl; acts = acts; feeds = feeds; t
     tells l seen (inr (inr (inr (inr (inr e))))) = rw e refl
 
 -- THE ROWS
-module _ (n q t : ℕ) (vs : ℕ → View) (first now : ℕ) (ws : List ℕ) (used : ℕ → ℕ) (done : Bool) (l : Local)
-    (h : Here true n q vs now ws used) (th : Thread At n q t vs first now ws used done l) (tn : t < n) where
+module _ (sz : Sizes) (t : ℕ) (vs : ℕ → View) (first now : ℕ) (ws : List ℕ) (used : ℕ → ℕ) (done : Bool) (l : Local)
+    (h : Here true sz vs now ws used) (th : Thread At sz t vs first now ws used done l) (tn : t < sz.threads) where
   abbrev Goal : Type 0
-  Goal = Turn lock_free (no_locks true) At n q t vs first now ws used done l
+  Goal = Turn lock_free (no_locks true) At sz t vs first now ws used done l
 
   abbrev V : View
-  V = view n q ws used
+  V = view sz ws used
 
-  M : Memory true n q ws used
+  M : Memory true sz ws used
   M = h.memory
 
-  regs : Registers n q t l
+  regs : Registers sz t l
   regs = th.registers
 
-  own_is : own_slot l ≡ own_of q t used
+  own_is : own_slot l ≡ own_of sz.quota t used
   own_is = rw (th.registers.thread, th.registers.quota, th.counts) refl
 
   -- a published node without a mark is in the chain
@@ -213,22 +213,22 @@ module _ (n q t : ℕ) (vs : ℕ → View) (first now : ℕ) (ws : List ℕ) (us
   live a p e = M.marked a p e
 
   below_tail : (a : ℕ) → node_key ws a < target l.call → a ≢ 1
-  below_tail a lt = inner true n q ws used M a (target l.call) lt regs.low
+  below_tail a lt = inner true sz ws used M a (target l.call) lt regs.low
 
   next_published : (a : ℕ) → V.published a → V.published (node_link ws a / 2)
-  next_published a p = next_of true n q ws used M a p
+  next_published a p = next_of true sz ws used M a p
 
   -- an exchange that fails, and the walk starts again
-  fails_at : (a old new : ℕ) → a < node_count n q → node_link ws a ≢ old
-      → WordStep true n q t ws used (Exchange (link_index a) old new) ws used None
+  fails_at : (a old new : ℕ) → a < node_count sz → node_link ws a ≢ old
+      → WordStep true sz t ws used (Exchange (link_index a) old new) ws used None
   fails_at a old new inn d = fails (link_index a) old new (omega arith) d (λ k. absurd (not_link a k))
 
   -- one that succeeds writes
   writes_at : (a old new : ℕ) → node_link ws a ≡ old → Writes ws (Exchange (link_index a) old new) (link_index a) new
   writes_at a old new e = inr (ap (λ x. Exchange (link_index a) x new) (sym e))
 
-  restarts : Registers n q t (record l { pc = 1 })
-  restarts = keep n q t 1 l.reply l regs
+  restarts : Registers sz t (record l { pc = 1 })
+  restarts = keep sz t 1 l.reply l regs
 
   go_1 : l.pc ≡ 1 → done ≡ false → Goal
   go_1 e d =
@@ -236,28 +236,28 @@ module _ (n q t : ℕ) (vs : ℕ → View) (first now : ℕ) (ws : List ℕ) (us
       let x : Spot V (target l.call) 0 (s / 2) = spot_behind_head M (omega arith) in
       passes (Load (link_index 0)) ws (record l { pc = 2; pred = 0; curr = s / 2 })
       (rw e refl) (rw e refl) (rw e refl) (reads (link_index 0) (omega arith))
-      (keep_walk n q t 2 0 (s / 2) l (omega arith) (next_inside M 0 M.ordered.head_published) regs, refl, refl, λ y. omega arith)
+      (keep_walk sz t 2 0 (s / 2) l (omega arith) (next_inside M 0 M.ordered.head_published) regs, refl, refl, λ y. omega arith)
       (at2 refl d x (link_on refl (link_now h.present th.begun ([], refl) refl x.below)))
 
   go_2 : l.pc ≡ 2 → done ≡ false → Spot V (target l.call) l.pred l.curr
       → Link vs first now (target l.call) l.pred l.curr t (used t) → Goal
   unfolding link_on open_on open_now
   go_2 e d s k =
-      let x : ℕ = node_link ws l.curr in let curr : l.curr < node_count n q = regs.curr in
+      let x : ℕ = node_link ws l.curr in let curr : l.curr < node_count sz = regs.curr in
       let next : V.published (x / 2) = next_published l.curr s.curr_published in
-      let read : WordStep true n q t ws used (Load (link_index l.curr)) ws used None = reads (link_index l.curr) (omega arith) in
+      let read : WordStep true sz t ws used (Load (link_index l.curr)) ws used None = reads (link_index l.curr) (omega arith) in
       let open_at : Fed = continued (record l { pc = 4; succ = x / 2 }) in
       let marked_at : Fed = continued (record l { pc = 3; succ = x / 2 }) in
       let feeds : fed_by l x ≡ at_link x l = rw e refl in
       elim (even_or_odd x) [
         | inl even ↦ passes (Load (link_index l.curr)) ws (record l { pc = 4; succ = x / 2 })
             (rw e refl) (feeds ∙ if_same (x % 2) 0 even open_at marked_at) (rw e refl) read
-            (keep_succ n q t 4 (x / 2) l.reply l (next_inside M l.curr s.curr_published) regs, refl, refl, λ y. omega arith)
+            (keep_succ sz t 4 (x / 2) l.reply l (next_inside M l.curr s.curr_published) regs, refl, refl, λ y. omega arith)
             (at4 refl d s next (link_on refl k)
             (open_on refl (open_now h.present th.begun (live l.curr s.curr_published even) even refl)) k.upto)
         | inr odd ↦ passes (Load (link_index l.curr)) ws (record l { pc = 3; succ = x / 2 })
             (rw e refl) (feeds ∙ if_other (x % 2) 0 (omega arith) open_at marked_at) (rw e refl) read
-            (keep_succ n q t 3 (x / 2) l.reply l (next_inside M l.curr s.curr_published) regs, refl, refl, λ y. omega arith)
+            (keep_succ sz t 3 (x / 2) l.reply l (next_inside M l.curr s.curr_published) regs, refl, refl, λ y. omega arith)
             (at3 refl d s next (omega arith))
       ]
 
@@ -270,17 +270,17 @@ module _ (n q t : ℕ) (vs : ℕ → View) (first now : ℕ) (ws : List ℕ) (us
         | inl y ↦
             (let tail : node_link ws 1 ≡ 2 = M.tail_link in
             let user : l.curr ≢ 1 = λ f. (let g : node_link ws l.curr ≡ node_link ws 1 = ap (node_link ws) f in omega arith) in
-            let c : WordStep true n q t ws used (Exchange (link_index l.pred) old new) (slice_set ws (link_index l.pred) new)
+            let c : WordStep true sz t ws used (Exchange (link_index l.pred) old new) (slice_set ws (link_index l.pred) new)
             used None =
             cuts (Exchange (link_index l.pred) old new) l.pred l.curr l.succ (writes_at l.pred old new y)
             (live l.pred s.pred_published (omega arith)) (below_tail l.pred s.below) user y m in
-            let g = goes_on true n q ws used M t tn (Exchange (link_index l.pred) old new)
+            let g = goes_on true sz ws used M t tn (Exchange (link_index l.pred) old new)
             (slice_set ws (link_index l.pred) new) used None c in
-            let M' = memory_after true n q ws used M t tn (Exchange (link_index l.pred) old new)
+            let M' = memory_after true sz ws used M t tn (Exchange (link_index l.pred) old new)
             (slice_set ws (link_index l.pred) new) used None c in
             let wrote : node_link (slice_set ws (link_index l.pred) new) l.pred ≡ new =
-            link_wrote true n q ws used M l.pred new regs.pred in
-            let at : Spot (view n q (slice_set ws (link_index l.pred) new) used) (target l.call) l.pred l.succ = record {
+            link_wrote true sz ws used M l.pred new regs.pred in
+            let at : Spot (view sz (slice_set ws (link_index l.pred) new) used) (target l.call) l.pred l.succ = record {
               pred_published = s.pred_published;
               below = (spot_kept g s).below;
               curr_published = p;
@@ -289,7 +289,7 @@ module _ (n q t : ℕ) (vs : ℕ → View) (first now : ℕ) (ws : List ℕ) (us
             passes (Exchange (link_index l.pred) old new) (slice_set ws (link_index l.pred) new)
             (record l { pc = 2; curr = l.succ })
             (rw e refl) (rw e (if_same (node_link ws l.pred) old y on (again l))) (rw e refl) c
-            (keep_curr n q t 2 l.succ l regs.succ regs, refl, refl, λ x. omega arith)
+            (keep_curr sz t 2 l.succ l regs.succ regs, refl, refl, λ x. omega arith)
             (at2_now refl d at (omega arith) (M'.marked l.pred s.pred_published (omega arith)) (omega arith)))
         | inr y ↦ passes (Exchange (link_index l.pred) old new) ws (record l { pc = 1 })
             (rw e refl) (rw e (if_other (node_link ws l.pred) old y on (again l))) (rw e refl)
@@ -297,21 +297,21 @@ module _ (n q t : ℕ) (vs : ℕ → View) (first now : ℕ) (ws : List ℕ) (us
       ]
 
   abbrev Fitting : Reply → Type 0
-  Fitting r = FitsSometime q (contents_of vs) (counts_of vs) first now t l.call r
+  Fitting r = FitsSometime sz.quota (contents_of vs) (counts_of vs) first now t l.call r
 
   -- the decision, at a moment of the call at which the key is known to be there, or not
   decided_at : (s at : ℕ) → first ≤ at → at ≤ now → (vs at).used t ≡ used t
       → ((s == target l.call) ≡ true → InContent (vs at) (key_of l.call).0)
       → ((s == target l.call) ≡ false → InContent (vs at) (key_of l.call).0 → ⊥)
-      → FitsIn q (vs at) t (Ceiling (key_of l.call)) (ceiling_at s)
+      → FitsIn sz.quota (vs at) t (Ceiling (key_of l.call)) (ceiling_at s)
       → ((r : Reply) × (decided_on targets s l ≡ goes_to 0 (Some r) l) × Fitting r)
-      ⊎ ((decided_on targets s l ≡ goes_to 5 None l) × (l.call ≡ Add (key_of l.call)) × (s ≢ target l.call) × (used t < q))
+      ⊎ ((decided_on targets s l ≡ goes_to 5 None l) × (l.call ≡ Add (key_of l.call)) × (s ≢ target l.call) × (used t < sz.quota))
       ⊎ ((decided_on targets s l ≡ goes_to 8 None l) × (l.call ≡ Remove (key_of l.call)) × (s ≡ target l.call))
   decided_at s at from upto same hit miss over =
-      let quota : l.quota ≡ q = regs.quota in let count : l.used ≡ used t = th.counts in let most : used t ≤ q = M.room t tn in
-      let full : nat_lt l.used l.quota ≡ false → (vs at).used t ≡ q = λ y.
+      let quota : l.quota ≡ sz.quota = regs.quota in let count : l.used ≡ used t = th.counts in let most : used t ≤ sz.quota = M.room t tn in
+      let full : nat_lt l.used l.quota ≡ false → (vs at).used t ≡ sz.quota = λ y.
       (let z : l.quota ≤ l.used = not_lower_number l.used l.quota y in omega arith) in
-      elim (decided_cases 5 8 0 q t (vs at) l.call (s == target l.call) (nat_lt l.used l.quota) s l hit miss full over) [
+      elim (decided_cases 5 8 0 sz.quota t (vs at) l.call (s == target l.call) (nat_lt l.used l.quota) s l hit miss full over) [
         | inl r ↦ inl (r.0, r.1, record { moment = at; from = from; upto = upto; fits = r.2 })
         | inr z ↦ elim z [
           | inl r ↦ inr (inl (
@@ -338,8 +338,8 @@ module _ (n q t : ℕ) (vs : ℕ → View) (first now : ℕ) (ws : List ℕ) (us
 
   -- a ceiling of a key that is there
   own_ceiling : (v : View) (s : ℕ) → s ≡ target l.call → target l.call < tail_word → InContent v (key_of l.call).0
-      → FitsIn q v t (Ceiling (key_of l.call)) (ceiling_at s)
-  own_ceiling v s e low c = subst (FitsIn q v t (Ceiling (key_of l.call)))
+      → FitsIn sz.quota v t (Ceiling (key_of l.call)) (ceiling_at s)
+  own_ceiling v s e low c = subst (FitsIn sz.quota v t (Ceiling (key_of l.call)))
       (sym (if_below s tail_word (omega arith) (reply.At (record { 0 = s - 1 })) reply.Nothing))
       (omega arith, subst (InContent v) (omega arith) c, λ j lo hi. absurd (omega arith))
 
@@ -347,7 +347,7 @@ module _ (n q t : ℕ) (vs : ℕ → View) (first now : ℕ) (ws : List ℕ) (us
       → (k : Link vs first now (target l.call) l.pred l.curr t (used t)) → (o : Open vs first now l.curr l.succ t (used t))
       → k.at ≤ o.at
       → ((r : Reply) × (decided_on targets s l ≡ goes_to 0 (Some r) l) × Fitting r)
-      ⊎ ((decided_on targets s l ≡ goes_to 5 None l) × (l.call ≡ Add (key_of l.call)) × (s ≢ target l.call) × (used t < q))
+      ⊎ ((decided_on targets s l ≡ goes_to 5 None l) × (l.call ≡ Add (key_of l.call)) × (s ≢ target l.call) × (used t < sz.quota))
       ⊎ ((decided_on targets s l ≡ goes_to 8 None l) × (l.call ≡ Remove (key_of l.call)) × (s ≡ target l.call))
   decides s is above k o before = elim (same_or_not s (target l.call)) [
     | inl y ↦
@@ -370,7 +370,7 @@ module _ (n q t : ℕ) (vs : ℕ → View) (first now : ℕ) (ws : List ℕ) (us
         decided_at s k.at k.from k.upto k.same_count
         (λ z. absurd (y (same_number s (target l.call) z)))
         (λ z. absent_between (vs k.at) ord l.pred (key_of l.call).0 k.in_chain user below (rw k.next (omega arith)))
-        (ceiling_fits q t (vs k.at) l.pred s (key_of l.call) ord (end_then 0 k.at k.upto ord.head_published ∙ M.head_key)
+        (ceiling_fits sz.quota t (vs k.at) l.pred s (key_of l.call) ord (end_then 0 k.at k.upto ord.head_published ∙ M.head_key)
         (end_then 1 k.at k.upto ord.tail_published ∙ M.tail_key) k.in_chain user below
         (is ∙ curr ∙ ap (vs k.at).key (sym k.next)) above
         (λ lt. ap (λ x. (vs k.at).link x % 2) k.next ∙ unmarked_before vs now l.curr k.at o.at h.course before o.upto
@@ -381,15 +381,15 @@ module _ (n q t : ℕ) (vs : ℕ → View) (first now : ℕ) (ws : List ℕ) (us
       → (k : Link vs first now (target l.call) l.pred l.curr t (used t)) → (o : Open vs first now l.curr l.succ t (used t))
       → k.at ≤ o.at → Goal
   go_4 e d s p k o b =
-      let x : ℕ = node_key ws l.curr in let key : ℕ = target l.call in let curr : l.curr < node_count n q = regs.curr in
-      let read : WordStep true n q t ws used (Load (key_index l.curr)) ws used None = reads (key_index l.curr) (omega arith) in
+      let x : ℕ = node_key ws l.curr in let key : ℕ = target l.call in let curr : l.curr < node_count sz = regs.curr in
+      let read : WordStep true sz t ws used (Load (key_index l.curr)) ws used None = reads (key_index l.curr) (omega arith) in
       let on : Fed = continued (record l { pc = 2; pred = l.curr; curr = l.succ }) in
       let stop : Fed = decision_of (decided_on targets x l) in
       let feeds : fed_by l x ≡ at_key x l = rw e refl in
       elim (below_or_not x key) [
         | inl lt ↦ passes (Load (key_index l.curr)) ws (record l { pc = 2; pred = l.curr; curr = l.succ })
             (rw e refl) (feeds ∙ if_below x key lt on stop) (rw e refl) read
-            (keep_walk n q t 2 l.curr l.succ l regs.curr regs.succ regs, refl, refl, λ y. omega arith)
+            (keep_walk sz t 2 l.curr l.succ l regs.curr regs.succ regs, refl, refl, λ y. omega arith)
             (at2 refl d (record { pred_published = s.curr_published; below = lt; curr_published = p })
             (record {
               at = o.at;
@@ -403,47 +403,47 @@ module _ (n q t : ℕ) (vs : ℕ → View) (first now : ℕ) (ws : List ℕ) (us
         | inr ge ↦ elim (decides x refl ge k o b) [
           | inl r ↦ answers (Load (key_index l.curr)) ws (goes_to 0 (Some r.0) l) r.0
               (rw e refl) (feeds ∙ if_not_below x key ge on stop ∙ ap decision_of r.1) (rw e refl) read
-              (due_of done q vs first now t l.call r.0 d r.2) (keep n q t 0 (Some r.0) l regs) refl refl refl (at0 refl)
+              (due_of done sz.quota vs first now t l.call r.0 d r.2) (keep sz t 0 (Some r.0) l regs) refl refl refl (at0 refl)
           | inr z ↦ elim z [
             | inl r ↦ passes (Load (key_index l.curr)) ws (goes_to 5 None l)
                 (rw e refl) (feeds ∙ if_not_below x key ge on stop ∙ ap decision_of r.0) (rw e refl) read
-                (keep n q t 5 None l regs, refl, refl, λ y. omega arith)
+                (keep sz t 5 None l regs, refl, refl, λ y. omega arith)
                 (at5 refl d s (record { call = r.1; room = r.3; above = (let y : x ≢ key = r.2 in omega arith) }))
             | inr r ↦ passes (Load (key_index l.curr)) ws (goes_to 8 None l)
                 (rw e refl) (feeds ∙ if_not_below x key ge on stop ∙ ap decision_of r.0) (rw e refl) read
-                (keep n q t 8 None l regs, refl, refl, λ y. omega arith)
+                (keep sz t 8 None l regs, refl, refl, λ y. omega arith)
                 (at8 refl d s (record { call = r.1; found = r.2 }))
           ]
         ]
       ]
 
-  go_5 : l.pc ≡ 5 → done ≡ false → Spot V (target l.call) l.pred l.curr → Adding V t q l.curr l.call → Goal
+  go_5 : l.pc ≡ 5 → done ≡ false → Spot V (target l.call) l.pred l.curr → Adding V t sz.quota l.curr l.call → Goal
   go_5 e d s a =
-      let own : ℕ = own_of q t used in let k : ℕ = target l.call in
-      let c : WordStep true n q t ws used (Store (key_index own) k) (slice_set ws (key_index own) k) used None =
+      let own : ℕ = own_of sz.quota t used in let k : ℕ = target l.call in
+      let c : WordStep true sz t ws used (Store (key_index own) k) (slice_set ws (key_index own) k) used None =
       own_key k a.room in
-      let g = goes_on true n q ws used M t tn (Store (key_index own) k) (slice_set ws (key_index own) k) used None c in
+      let g = goes_on true sz ws used M t tn (Store (key_index own) k) (slice_set ws (key_index own) k) used None c in
       passes (Store (key_index own) k) (slice_set ws (key_index own) k) (record l { pc = 6 })
-      (rw (e, own_is) refl) (rw e refl) (rw e refl) c (keep n q t 6 l.reply l regs, refl, refl, λ x. omega arith)
+      (rw (e, own_is) refl) (rw e refl) (rw e refl) c (keep sz t 6 l.reply l regs, refl, refl, λ x. omega arith)
       (at6 refl d (spot_kept g s) (adding_kept g refl s.curr_published a)
-      (key_wrote true n q ws used M own k (own_in true n q ws used M t tn a.room)))
+      (key_wrote true sz ws used M own k (own_in true sz ws used M t tn a.room)))
 
-  go_6 : l.pc ≡ 6 → done ≡ false → Spot V (target l.call) l.pred l.curr → Adding V t q l.curr l.call
-      → node_key ws (own_of q t used) ≡ target l.call → Goal
+  go_6 : l.pc ≡ 6 → done ≡ false → Spot V (target l.call) l.pred l.curr → Adding V t sz.quota l.curr l.call
+      → node_key ws (own_of sz.quota t used) ≡ target l.call → Goal
   go_6 e d s a key =
-      let own : ℕ = own_of q t used in let x : ℕ = 2 * l.curr in
-      let c : WordStep true n q t ws used (Store (link_index own) x) (slice_set ws (link_index own) x) used None =
+      let own : ℕ = own_of sz.quota t used in let x : ℕ = 2 * l.curr in
+      let c : WordStep true sz t ws used (Store (link_index own) x) (slice_set ws (link_index own) x) used None =
       own_link l.curr a.room in
-      let g = goes_on true n q ws used M t tn (Store (link_index own) x) (slice_set ws (link_index own) x) used None c in
+      let g = goes_on true sz ws used M t tn (Store (link_index own) x) (slice_set ws (link_index own) x) used None c in
       passes (Store (link_index own) x) (slice_set ws (link_index own) x) (record l { pc = 7 })
-      (rw (e, own_is) refl) (rw e refl) (rw e refl) c (keep n q t 7 l.reply l regs, refl, refl, λ y. omega arith)
+      (rw (e, own_is) refl) (rw e refl) (rw e refl) c (keep sz t 7 l.reply l regs, refl, refl, λ y. omega arith)
       (at7 refl d (spot_kept g s) (adding_kept g refl s.curr_published a) (key_after_link ws own x own ∙ key)
-      (link_wrote true n q ws used M own x (own_in true n q ws used M t tn a.room)))
+      (link_wrote true sz ws used M own x (own_in true sz ws used M t tn a.room)))
 
-  go_7 : l.pc ≡ 7 → done ≡ false → Spot V (target l.call) l.pred l.curr → Adding V t q l.curr l.call
-      → node_key ws (own_of q t used) ≡ target l.call → node_link ws (own_of q t used) ≡ 2 * l.curr → Goal
+  go_7 : l.pc ≡ 7 → done ≡ false → Spot V (target l.call) l.pred l.curr → Adding V t sz.quota l.curr l.call
+      → node_key ws (own_of sz.quota t used) ≡ target l.call → node_link ws (own_of sz.quota t used) ≡ 2 * l.curr → Goal
   go_7 e d s a key link =
-      let old : ℕ = 2 * l.curr in let new : ℕ = 2 * own_of q t used in let count : l.used ≡ used t = th.counts in
+      let old : ℕ = 2 * l.curr in let new : ℕ = 2 * own_of sz.quota t used in let count : l.used ≡ used t = th.counts in
       let more : one_more used t t ≡ used t + 1 = one_more_same used t in
       let on : Fed = leaves_with True (record l { used = l.used + 1 }) in
       elim (same_or_not (node_link ws l.pred) old) [
@@ -453,7 +453,7 @@ module _ (n q t : ℕ) (vs : ℕ → View) (first now : ℕ) (ws : List ℕ) (us
             (rw e (if_same (node_link ws l.pred) old y (Some (key_of l.call, true)) None))
             (puts (Exchange (link_index l.pred) old new) l.pred l.curr (key_of l.call) (writes_at l.pred old new y)
             (live l.pred s.pred_published (omega arith)) (below_tail l.pred s.below) y a.room link key s.below a.above)
-            (a.call, d, a.room) (keep_used n q t 0 l (rw count a.room) regs) refl (omega arith) refl (at0 refl)
+            (a.call, d, a.room) (keep_used sz t 0 l (rw count a.room) regs) refl (omega arith) refl (at0 refl)
         | inr y ↦ passes (Exchange (link_index l.pred) old new) ws (record l { pc = 1 })
             (rw (e, own_is) refl) (rw e (if_other (node_link ws l.pred) old y on (again l)))
             (rw e (if_other (node_link ws l.pred) old y (Some (key_of l.call, true)) None))
@@ -467,11 +467,11 @@ module _ (n q t : ℕ) (vs : ℕ → View) (first now : ℕ) (ws : List ℕ) (us
 
   go_8 : l.pc ≡ 8 → done ≡ false → Spot V (target l.call) l.pred l.curr → Removing V l.curr l.call → Goal
   go_8 e d s a =
-      let x : ℕ = node_link ws l.curr in let curr : l.curr < node_count n q = regs.curr in
+      let x : ℕ = node_link ws l.curr in let curr : l.curr < node_count sz = regs.curr in
       let next : V.published (x / 2) = next_published l.curr s.curr_published in
       passes (Load (link_index l.curr)) ws (record l { pc = 9; succ = x / 2 })
       (rw e refl) (rw e refl) (rw e refl) (reads (link_index l.curr) (omega arith))
-      (keep_succ n q t 9 (x / 2) l.reply l (next_inside M l.curr s.curr_published) regs, refl, refl, λ y. omega arith)
+      (keep_succ sz t 9 (x / 2) l.reply l (next_inside M l.curr s.curr_published) regs, refl, refl, λ y. omega arith)
       (at9 refl d s a next)
 
   go_9 : l.pc ≡ 9 → done ≡ false → Spot V (target l.call) l.pred l.curr → Removing V l.curr l.call → V.published l.succ → Goal
@@ -480,21 +480,21 @@ module _ (n q t : ℕ) (vs : ℕ → View) (first now : ℕ) (ws : List ℕ) (us
       let on : Fed = continued (record l { pc = 10 }) in
       elim (same_or_not (node_link ws l.curr) old) [
         | inl y ↦
-            (let c : WordStep true n q t ws used (Exchange (link_index l.curr) old new) (slice_set ws (link_index l.curr) new)
+            (let c : WordStep true sz t ws used (Exchange (link_index l.curr) old new) (slice_set ws (link_index l.curr) new)
             used
             (Some (key_of l.call, false)) =
             sets_mark (Exchange (link_index l.curr) old new) l.curr new (key_of l.call) refl (writes_at l.curr old new y)
             (live l.curr s.curr_published (omega arith)) (found_inner a) (omega arith) (omega arith) a.found in
-            let g = goes_on true n q ws used M t tn (Exchange (link_index l.curr) old new)
+            let g = goes_on true sz ws used M t tn (Exchange (link_index l.curr) old new)
             (slice_set ws (link_index l.curr) new) used
             (Some (key_of l.call, false)) c in
             changes (Exchange (link_index l.curr) old new) (slice_set ws (link_index l.curr) new) used (record l { pc = 10 })
             (key_of l.call) false
             (rw e refl) (rw e (if_same (node_link ws l.curr) old y on (again l)))
             (rw e (if_same (node_link ws l.curr) old y (Some (key_of l.call, false)) None)) c (a.call, d)
-            (keep n q t 10 l.reply l regs) refl th.counts (λ x. omega arith)
+            (keep sz t 10 l.reply l regs) refl th.counts (λ x. omega arith)
             (at10 refl refl (spot_kept g s) (removing_kept g s.curr_published a)
-            (link_wrote true n q ws used M l.curr new regs.curr)))
+            (link_wrote true sz ws used M l.curr new regs.curr)))
         | inr y ↦ passes (Exchange (link_index l.curr) old new) ws (record l { pc = 1 })
             (rw e refl) (rw e (if_other (node_link ws l.curr) old y on (again l)))
             (rw e (if_other (node_link ws l.curr) old y (Some (key_of l.call, false)) None))
@@ -505,19 +505,19 @@ module _ (n q t : ℕ) (vs : ℕ → View) (first now : ℕ) (ws : List ℕ) (us
       → node_link ws l.curr ≡ 2 * l.succ + 1 → Goal
   go_10 e d s a m =
       let old : ℕ = 2 * l.curr in let new : ℕ = 2 * l.succ in
-      let due : Due done q vs first now t l.call True = rw d refl in
+      let due : Due done sz.quota vs first now t l.call True = rw d refl in
       elim (same_or_not (node_link ws l.pred) old) [
         | inl y ↦ answers (Exchange (link_index l.pred) old new) (slice_set ws (link_index l.pred) new) (record l { pc = 0 }) True
             (rw e refl) (rw e refl) (rw e refl)
             (cuts (Exchange (link_index l.pred) old new) l.pred l.curr l.succ (writes_at l.pred old new y)
             (live l.pred s.pred_published (omega arith)) (below_tail l.pred s.below) (found_inner a) y m)
-            due (keep n q t 0 l.reply l regs) refl refl refl (at0 refl)
+            due (keep sz t 0 l.reply l regs) refl refl refl (at0 refl)
         | inr y ↦ answers (Exchange (link_index l.pred) old new) ws (record l { pc = 0 }) True
             (rw e refl) (rw e refl) (rw e refl) (fails_at l.pred old new regs.pred y)
-            due (keep n q t 0 l.reply l regs) refl refl refl (at0 refl)
+            due (keep sz t 0 l.reply l regs) refl refl refl (at0 refl)
       ]
 
-  go : At q t vs first now (view n q ws used) done l → l.pc ≢ 0 → Goal
+  go : At sz.quota t vs first now (view sz ws used) done l → l.pc ≢ 0 → Goal
   go (at0 e) busy = absurd (busy e)
   go (at1 e d) busy = go_1 e d
   go (at2 e d s k) busy = go_2 e d s k
@@ -531,7 +531,7 @@ module _ (n q t : ℕ) (vs : ℕ → View) (first now : ℕ) (ws : List ℕ) (us
   go (at9 e d s a p) busy = go_9 e d s a p
   go (at10 e d s a m) busy = go_10 e d s a m
   go (at_read a) busy =
-      reads_on lock_free (no_locks true) At n q t vs first now ws used done l h th has_read_rows (λ l' b. at_read b)
+      reads_on lock_free (no_locks true) At sz t vs first now ws used done l h th has_read_rows (λ l' b. at_read b)
       (λ l' b. at0 b) a
 
 -- what it says of a contains and of a ceiling
@@ -554,8 +554,8 @@ pub lock_free_follows : Follows lock_free (no_locks true) At
 lock_free_follows = record {
   idle_at = λ q t vs v. at0 refl;
   begun = begun_reading_is;
-  begin_registers = λ n q t call l low r. registers_begun n q t (first_row call) call l low r;
+  begin_registers = λ sz t call l low r. registers_begun sz t (first_row call) call l low r;
   begins = λ q t vs now v call l e s k. call_begins At q t vs now v call l e k (λ l' e. at1 e refl) (λ l' r. at_read r);
   stands = λ q t vs first now v w done l present r at. stays q t vs first now v w done l present r at;
-  turn = λ n q t vs first now ws used done l h th tn busy. go n q t vs first now ws used done l h th tn th.at busy;
+  turn = λ sz t vs first now ws used done l h th tn busy. go sz t vs first now ws used done l h th tn th.at busy;
 }

@@ -2,7 +2,7 @@
 use Rattle.std.specs.Prelude.{◌≡◌, ◌≢◌, ℕ, suc, ◌+◌, ◌*◌, ◌/◌, ◌<◌, ◌≤◌, ◌⊎◌, Bool, true, false, Option, Some, None, List, if◌then◌else◌, ◌==◌, slice_set, refl}
 use Rattle.std.proofs.Common.{arith, inl, inr, sym, ◌∙◌, ap, subst}
 use Rattle.lset_words.proofs.Numbers.{same_or_not, if_same, if_other, if_below, if_not_below, below_or_not}
-use Rattle.lset_words.specs.Words.{key_index, link_index, lock_index, node_count, slot_node, target, key_of}
+use Rattle.lset_words.specs.Words.{key_index, link_index, lock_index, node_count, slot_node, target, key_of, Sizes}
 use Rattle.lset_words.specs.declared.Call.{Call}
 use Rattle.lset_words.specs.declared.Reply.{Reply}
 use Rattle.lset_words.specs.declared.Reply.TheVariants.{True}
@@ -115,16 +115,16 @@ module _ (q t : ℕ) (vs : ℕ → View) (first now : ℕ) (v w : View) (done : 
   stays (at15 e c o) = at15 e (s.locks l.curr c) (outcome_on done q vs first now t l.call l.reply o)
 
 -- the decision, where the second walk has come to pred, and pred leads to curr
-pub decision : {n q t : ℕ} {ws : List ℕ} {used : ℕ → ℕ} (m : Memory false n q ws used) (l : Local) → t < n → Registers n q t l
-    → l.used ≡ used t → Window (view n q ws used) l → node_lock ws l.curr ≡ t + 1 → Held (view n q ws used) t l.pred
+pub decision : {sz : Sizes} {t : ℕ} {ws : List ℕ} {used : ℕ → ℕ} (m : Memory false sz ws used) (l : Local) → t < sz.threads → Registers sz t l
+    → l.used ≡ used t → Window (view sz ws used) l → node_lock ws l.curr ≡ t + 1 → Held (view sz ws used) t l.pred
     → node_link ws l.pred / 2 ≡ l.curr
-    → Between (view n q ws used) t (target l.call) l.pred l.curr
-    × (((r : Reply) × (decided_on targets l.ckey l ≡ goes_to 14 (Some r) l) × FitsIn q (view n q ws used) t l.call r)
-    ⊎ ((decided_on targets l.ckey l ≡ goes_to 9 None l) × Adding (view n q ws used) t q l.curr l.call)
-    ⊎ ((decided_on targets l.ckey l ≡ goes_to 12 None l) × Removing (view n q ws used) l.curr l.call))
-decision {n} {q} {t} {ws} {used} m l tn regs count f c x leads =
-    let walk : Behind (view n q ws used) t (target l.call) l.pred l.curr =
-    subst (Behind (view n q ws used) t (target l.call) l.pred) leads
+    → Between (view sz ws used) t (target l.call) l.pred l.curr
+    × (((r : Reply) × (decided_on targets l.ckey l ≡ goes_to 14 (Some r) l) × FitsIn sz.quota (view sz ws used) t l.call r)
+    ⊎ ((decided_on targets l.ckey l ≡ goes_to 9 None l) × Adding (view sz ws used) t sz.quota l.curr l.call)
+    ⊎ ((decided_on targets l.ckey l ≡ goes_to 12 None l) × Removing (view sz ws used) l.curr l.call))
+decision {sz} {t} {ws} {used} m l tn regs count f c x leads =
+    let walk : Behind (view sz ws used) t (target l.call) l.pred l.curr =
+    subst (Behind (view sz ws used) t (target l.call) l.pred) leads
     (behind_from m x (m.marked l.pred x.published) f.found.spot.below regs.low) in (
       record { walk = walk; mine = c },
       decides m targets l.ckey l walk (m.marked l.curr f.found.spot.curr_published) (sym f.found.is) f.found.above regs.low
@@ -132,21 +132,21 @@ decision {n} {q} {t} {ws} {used} m l tn regs count f c x leads =
           count regs.quota,
     )
 
-module _ (n q t : ℕ) (vs : ℕ → View) (first now : ℕ) (ws : List ℕ) (used : ℕ → ℕ) (done : Bool) (l : Local)
-    (h : Here false n q vs now ws used) (th : Thread At n q t vs first now ws used done l) (tn : t < n) where
+module _ (sz : Sizes) (t : ℕ) (vs : ℕ → View) (first now : ℕ) (ws : List ℕ) (used : ℕ → ℕ) (done : Bool) (l : Local)
+    (h : Here false sz vs now ws used) (th : Thread At sz t vs first now ws used done l) (tn : t < sz.threads) where
   abbrev Goal : Type 0
-  Goal = Turn optimistic (node_locks false) At n q t vs first now ws used done l
+  Goal = Turn optimistic (node_locks false) At sz t vs first now ws used done l
 
   abbrev V : View
-  V = view n q ws used
+  V = view sz ws used
 
-  M : Memory false n q ws used
+  M : Memory false sz ws used
   M = h.memory
 
-  regs : Registers n q t l
+  regs : Registers sz t l
   regs = th.registers
 
-  own_is : own_slot l ≡ own_of q t used
+  own_is : own_slot l ≡ own_of sz.quota t used
   own_is = rw (th.registers.thread, th.registers.quota, th.counts) refl
 
   go_1 : l.pc ≡ 1 → done ≡ false → Goal
@@ -154,7 +154,7 @@ module _ (n q t : ℕ) (vs : ℕ → View) (first now : ℕ) (ws : List ℕ) (us
       let s : ℕ = node_link ws 0 in
       passes (Load (link_index 0)) ws (record l { pc = 2; pred = 0; pkey = 0; curr = s / 2 })
       (rw e refl) (rw e refl) (rw e refl) (reads_word (link_index 0) (omega arith)) (
-        keep_passed n q t 2 0 0 (s / 2) l (omega arith) (omega arith) (next_inside M 0 M.ordered.head_published) regs,
+        keep_passed sz t 2 0 0 (s / 2) l (omega arith) (omega arith) (next_inside M 0 M.ordered.head_published) regs,
         refl,
         refl,
         λ x. omega arith,
@@ -164,32 +164,32 @@ module _ (n q t : ℕ) (vs : ℕ → View) (first now : ℕ) (ws : List ℕ) (us
   go_2 : l.pc ≡ 2 → done ≡ false → Spot V (target l.call) l.pred l.curr → node_key ws l.pred ≡ l.pkey → Goal
   go_2 e d x k =
       let key : ℕ = target l.call in let s : ℕ = node_key ws l.curr in
-      let inn : l.curr < node_count n q = regs.curr in
+      let inn : l.curr < node_count sz = regs.curr in
       let on : Local = record l { pc = 3; ckey = s } in let found : Local = record l { pc = 4; ckey = s } in
       let c : V.published l.curr = x.curr_published in
-      let read : LockedStep false n q t ws used (Load (key_index l.curr)) ws used None =
+      let read : LockedStep false sz t ws used (Load (key_index l.curr)) ws used None =
       reads_word (key_index l.curr) (omega arith) in
       elim (below_or_not s key) [
         | inl lt ↦
             (let is = if_below s key lt on found in
             passes (Load (key_index l.curr)) ws on (rw e refl) (rw (e, is) refl) (rw e refl) read
-            (keep_ckey n q t 3 s l.reply l (small_key M l.curr c) regs, refl, refl, λ x. omega arith)
+            (keep_ckey sz t 3 s l.reply l (small_key M l.curr c) regs, refl, refl, λ x. omega arith)
             (at3 refl d c refl lt))
         | inr ge ↦
             (let is = if_not_below s key ge on found in
             passes (Load (key_index l.curr)) ws found (rw e refl) (rw (e, is) refl) (rw e refl) read
-            (keep_ckey n q t 4 s l.reply l (small_key M l.curr c) regs, refl, refl, λ x. omega arith)
+            (keep_ckey sz t 4 s l.reply l (small_key M l.curr c) regs, refl, refl, λ x. omega arith)
             (at4 refl d (record { found = record { spot = x; is = refl; above = ge }; low = k })))
       ]
 
   go_3 : l.pc ≡ 3 → done ≡ false → V.published l.curr → node_key ws l.curr ≡ l.ckey → l.ckey < target l.call → Goal
   go_3 e d c k lt =
       let s : ℕ = node_link ws l.curr in
-      let inn : l.curr < node_count n q = regs.curr in
+      let inn : l.curr < node_count sz = regs.curr in
       let below : node_key ws l.curr < target l.call = omega arith in
       passes (Load (link_index l.curr)) ws (record l { pc = 2; pred = l.curr; pkey = l.ckey; curr = s / 2 })
       (rw e refl) (rw e refl) (rw e refl) (reads_word (link_index l.curr) (omega arith)) (
-        keep_passed n q t 2 l.curr l.ckey (s / 2) l regs.curr regs.ckey (next_inside M l.curr c) regs,
+        keep_passed sz t 2 l.curr l.ckey (s / 2) l regs.curr regs.ckey (next_inside M l.curr c) regs,
         refl,
         refl,
         λ x. omega arith,
@@ -199,17 +199,17 @@ module _ (n q t : ℕ) (vs : ℕ → View) (first now : ℕ) (ws : List ℕ) (us
   go_4 : l.pc ≡ 4 → done ≡ false → Window V l → Goal
   go_4 e d f = tries l.pred (record l { pc = 5 }) (record l { pc = 4 }) regs.pred
       (rw (e, regs.thread) refl) (rw e refl) (rw e refl)
-      (keep n q t 5 l.reply l regs, refl, refl, λ x. omega arith)
-      (keep n q t 4 l.reply l regs, refl, refl, λ x. omega arith)
+      (keep sz t 5 l.reply l regs, refl, refl, λ x. omega arith)
+      (keep sz t 4 l.reply l regs, refl, refl, λ x. omega arith)
       (λ free.
       at5 refl d (reached_kept (keeps_locked M tn l.pred regs.pred free) f)
-      (lock_wrote false n q ws used M l.pred (t + 1) regs.pred))
+      (lock_wrote false sz ws used M l.pred (t + 1) regs.pred))
       (at4 refl d f)
 
   go_5 : l.pc ≡ 5 → done ≡ false → Window V l → node_lock ws l.pred ≡ t + 1 → Goal
   go_5 e d f p =
       let key : ℕ = target l.call in
-      let mine = lock_wrote false n q ws used M l.curr (t + 1) regs.curr in
+      let mine = lock_wrote false sz ws used M l.curr (t + 1) regs.curr in
       let low : node_key ws l.pred < key = f.found.spot.below in
       let again : Local = record l { pc = 5 } in
       let head : node_key ws 0 ≡ 0 = M.head_key in
@@ -218,8 +218,8 @@ module _ (n q t : ℕ) (vs : ℕ → View) (first now : ℕ) (ws : List ℕ) (us
             (let is = if_same l.pred 0 z (record l { pc = 8; node = 0 }) (record l { pc = 6; node = 0 }) in
             tries l.curr (record l { pc = 8; node = 0 }) again regs.curr
             (rw (e, regs.thread) refl) (rw (e, is) refl) (rw e refl)
-            (keep_node n q t 8 0 l (omega arith) regs, refl, refl, λ x. omega arith)
-            (keep n q t 5 l.reply l regs, refl, refl, λ x. omega arith)
+            (keep_node sz t 8 0 l (omega arith) regs, refl, refl, λ x. omega arith)
+            (keep sz t 5 l.reply l regs, refl, refl, λ x. omega arith)
             (λ free.
             let s = leaves_locked M tn l.curr free in
             let g = keeps_locked M tn l.curr regs.curr free in
@@ -231,8 +231,8 @@ module _ (n q t : ℕ) (vs : ℕ → View) (first now : ℕ) (ws : List ℕ) (us
             (let is = if_other l.pred 0 z (record l { pc = 8; node = 0 }) (record l { pc = 6; node = 0 }) in
             tries l.curr (record l { pc = 6; node = 0 }) again regs.curr
             (rw (e, regs.thread) refl) (rw (e, is) refl) (rw e refl)
-            (keep_node n q t 6 0 l (omega arith) regs, refl, refl, λ x. omega arith)
-            (keep n q t 5 l.reply l regs, refl, refl, λ x. omega arith)
+            (keep_node sz t 6 0 l (omega arith) regs, refl, refl, λ x. omega arith)
+            (keep sz t 5 l.reply l regs, refl, refl, λ x. omega arith)
             (λ free.
             let s = leaves_locked M tn l.curr free in
             let g = keeps_locked M tn l.curr regs.curr free in
@@ -247,31 +247,31 @@ module _ (n q t : ℕ) (vs : ℕ → View) (first now : ℕ) (ws : List ℕ) (us
       → (start : ℕ) → first ≤ start → SecondWalk vs start now V t l.pred l.node → Goal
   go_6 e d f c k start g x =
       let s : ℕ = node_link ws l.node in
-      let inn : l.node < node_count n q = regs.node in
+      let inn : l.node < node_count sz = regs.node in
       let pkey : node_key ws l.pred ≡ l.pkey = f.low in let pred : node_key ws l.pred < target l.call = f.found.spot.below in
       let below : node_key ws l.node < target l.call = omega arith in
       passes (Load (link_index l.node)) ws (record l { pc = 7; node = s / 2 })
       (rw e refl) (rw e refl) (rw e refl) (reads_word (link_index l.node) (omega arith))
-      (keep_node n q t 7 (s / 2) l (next_inside M l.node x.node_published) regs, refl, refl, λ y. omega arith)
+      (keep_node sz t 7 (s / 2) l (next_inside M l.node x.node_published) regs, refl, refl, λ y. omega arith)
       (at7 refl d f c start g
-      (second_walk_goes vs h.present h.course M.ordered (inner false n q ws used M l.node (target l.call) below regs.low) x))
+      (second_walk_goes vs h.present h.course M.ordered (inner false sz ws used M l.node (target l.call) below regs.low) x))
 
   go_7 : l.pc ≡ 7 → done ≡ false → Window V l → node_lock ws l.curr ≡ t + 1
       → (start : ℕ) → first ≤ start → SecondWalk vs start now V t l.pred l.node → Goal
   go_7 e d f c start g x =
       let s : ℕ = node_key ws l.node in
-      let inn : l.node < node_count n q = regs.node in
+      let inn : l.node < node_count sz = regs.node in
       let past : Local = record l { pc = 14; reply = None } in
       let there : Local = record l { pc = 8 } in let on : Local = record l { pc = 6 } in
-      let read : LockedStep false n q t ws used (Load (key_index l.node)) ws used None =
+      let read : LockedStep false sz t ws used (Load (key_index l.node)) ws used None =
       reads_word (key_index l.node) (omega arith) in
       let pkey : node_key ws l.pred ≡ l.pkey = f.low in
-      let walks : SecondWalk vs start (suc now) V t l.pred l.node = second_walk_on vs h.present (leaves_of (rely_same V q t)) x in
+      let walks : SecondWalk vs start (suc now) V t l.pred l.node = second_walk_on vs h.present (leaves_of (rely_same V sz.quota t)) x in
       elim (below_or_not l.pkey s) [
         | inl lt ↦
             (let is = if_below l.pkey s lt past (if l.node == l.pred then there else on) in
             passes (Load (key_index l.node)) ws past (rw e refl) (rw (e, is) refl) (rw e refl) read
-            (keep n q t 14 None l regs, refl, refl, λ y. omega arith)
+            (keep sz t 14 None l regs, refl, refl, λ y. omega arith)
             (at14 refl x.mine c (found_apart f.found)
             (λ a. absurd (let same : node_key ws l.node ≡ node_key ws l.pred = ap (node_key ws) a in omega arith)) d))
         | inr ge ↦
@@ -280,13 +280,13 @@ module _ (n q t : ℕ) (vs : ℕ → View) (first now : ℕ) (ws : List ℕ) (us
               | inl a ↦
                   (let at = if_same l.node l.pred a there on in
                   passes (Load (key_index l.node)) ws there (rw e refl) (rw (e, is, at) refl) (rw e refl) read
-                  (keep n q t 8 l.reply l regs, refl, refl, λ y. omega arith)
+                  (keep sz t 8 l.reply l regs, refl, refl, λ y. omega arith)
                   (at8 refl d f c
                   (held_from M x.mine (second_walk_arrives vs h.present a x)) a))
               | inr a ↦
                   (let at = if_other l.node l.pred a there on in
                   passes (Load (key_index l.node)) ws on (rw e refl) (rw (e, is, at) refl) (rw e refl) read
-                  (keep n q t 6 l.reply l regs, refl, refl, λ y. omega arith)
+                  (keep sz t 6 l.reply l regs, refl, refl, λ y. omega arith)
                   (at6 refl d f c ge start g walks))
             ])
       ]
@@ -294,81 +294,81 @@ module _ (n q t : ℕ) (vs : ℕ → View) (first now : ℕ) (ws : List ℕ) (us
   go_8 : l.pc ≡ 8 → done ≡ false → Window V l → node_lock ws l.curr ≡ t + 1 → Held V t l.pred → l.node ≡ l.pred → Goal
   go_8 e d f c x a =
       let s : ℕ = node_link ws l.pred in
-      let inn : l.pred < node_count n q = regs.pred in
+      let inn : l.pred < node_count sz = regs.pred in
       let past : Local = record l { pc = 14; reply = None } in
       let l8 : Local = record l { pc = 8 } in
       let decided : Local = decided_on targets l.ckey l8 in
-      let read : LockedStep false n q t ws used (Load (link_index l.pred)) ws used None =
+      let read : LockedStep false sz t ws used (Load (link_index l.pred)) ws used None =
       reads_word (link_index l.pred) (omega arith) in
       let apart = found_apart f.found in
       elim (same_or_not (s / 2) l.curr) [
         | inr z ↦
             (let is = if_other (s / 2) l.curr z decided past in
             passes (Load (link_index l.pred)) ws past (rw e refl) (rw (e, is) refl) (rw e refl) read
-            (keep n q t 14 None l regs, refl, refl, λ y. omega arith)
+            (keep sz t 14 None l regs, refl, refl, λ y. omega arith)
             (at14 refl x.mine c apart (λ y. x.at) d))
         | inl z ↦
             (let is = if_same (s / 2) l.curr z decided past in
-            let made = decision M l8 tn (keep n q t 8 l.reply l regs) th.counts f c x z in
+            let made = decision M l8 tn (keep sz t 8 l.reply l regs) th.counts f c x z in
             elim made.1 [
               | inl r ↦ passes (Load (link_index l.pred)) ws (goes_to 14 (Some r.0) l8)
                   (rw e refl) (rw (e, is ∙ r.1) refl) (rw e refl) read
-                  (keep n q t 14 (Some r.0) l regs, refl, refl, λ y. omega arith)
+                  (keep sz t 14 (Some r.0) l regs, refl, refl, λ y. omega arith)
                   (at14 refl x.mine c apart (λ y. x.at)
-                  (due_now done q vs first now t V l.call r.0 d th.begun h.present r.2))
+                  (due_now done sz.quota vs first now t V l.call r.0 d th.begun h.present r.2))
               | inr y ↦ elim y [
                 | inl r ↦ passes (Load (link_index l.pred)) ws (goes_to 9 None l8)
                     (rw e refl) (rw (e, is ∙ r.0) refl) (rw e refl) read
-                    (keep n q t 9 None l regs, refl, refl, λ y. omega arith) (at9 refl d (made.0, a) r.1)
+                    (keep sz t 9 None l regs, refl, refl, λ y. omega arith) (at9 refl d (made.0, a) r.1)
                 | inr r ↦ passes (Load (link_index l.pred)) ws (goes_to 12 None l8)
                     (rw e refl) (rw (e, is ∙ r.0) refl) (rw e refl) read
-                    (keep n q t 12 None l regs, refl, refl, λ y. omega arith) (at12 refl d (made.0, a) r.1)
+                    (keep sz t 12 None l regs, refl, refl, λ y. omega arith) (at12 refl d (made.0, a) r.1)
               ]
             ])
       ]
 
-  go_9 : l.pc ≡ 9 → done ≡ false → Neighbours V t l → Adding V t q l.curr l.call → Goal
+  go_9 : l.pc ≡ 9 → done ≡ false → Neighbours V t l → Adding V t sz.quota l.curr l.call → Goal
   go_9 e d b a =
-      let o : ℕ = own_of q t used in let k : ℕ = target l.call in
+      let o : ℕ = own_of sz.quota t used in let k : ℕ = target l.call in
       let s = leaves_own_key M tn k a.room in
-      let own = own_in false n q ws used M t tn a.room in
+      let own = own_in false sz ws used M t tn a.room in
       passes (Store (key_index o) k) (slice_set ws (key_index o) k) (record l { pc = 10 })
       (rw (e, own_is) refl) (rw e refl) (rw e refl) (writes_own_key k a.room)
-      (keep n q t 10 l.reply l regs, refl, refl, λ x. omega arith)
-      (at10 refl d (between_on s b.0, b.1) (adding_on s b.0.walk.next a) (key_wrote false n q ws used M o k own))
+      (keep sz t 10 l.reply l regs, refl, refl, λ x. omega arith)
+      (at10 refl d (between_on s b.0, b.1) (adding_on s b.0.walk.next a) (key_wrote false sz ws used M o k own))
 
-  go_10 : l.pc ≡ 10 → done ≡ false → Neighbours V t l → Adding V t q l.curr l.call
-      → node_key ws (own_of q t used) ≡ target l.call → Goal
+  go_10 : l.pc ≡ 10 → done ≡ false → Neighbours V t l → Adding V t sz.quota l.curr l.call
+      → node_key ws (own_of sz.quota t used) ≡ target l.call → Goal
   go_10 e d b a key =
-      let o : ℕ = own_of q t used in let x : ℕ = 2 * l.curr in
+      let o : ℕ = own_of sz.quota t used in let x : ℕ = 2 * l.curr in
       let s = leaves_own_link M tn x a.room in
-      let own = own_in false n q ws used M t tn a.room in
+      let own = own_in false sz ws used M t tn a.room in
       passes (Store (link_index o) x) (slice_set ws (link_index o) x) (record l { pc = 11 })
       (rw (e, own_is) refl) (rw e refl) (rw e refl) (writes_own_link l.curr a.room)
-      (keep n q t 11 l.reply l regs, refl, refl, λ x. omega arith)
+      (keep sz t 11 l.reply l regs, refl, refl, λ x. omega arith)
       (at11 refl d (between_on s b.0, b.1) (adding_on s b.0.walk.next a) (key_after_link ws o x o ∙ key)
-      (link_wrote false n q ws used M o x own))
+      (link_wrote false sz ws used M o x own))
 
-  go_11 : l.pc ≡ 11 → done ≡ false → Neighbours V t l → Adding V t q l.curr l.call
-      → node_key ws (own_of q t used) ≡ target l.call → node_link ws (own_of q t used) ≡ 2 * l.curr → Goal
+  go_11 : l.pc ≡ 11 → done ≡ false → Neighbours V t l → Adding V t sz.quota l.curr l.call
+      → node_key ws (own_of sz.quota t used) ≡ target l.call → node_link ws (own_of sz.quota t used) ≡ 2 * l.curr → Goal
   go_11 e d b a key link =
-      let x : ℕ = 2 * own_of q t used in
+      let x : ℕ = 2 * own_of sz.quota t used in
       let count : l.used ≡ used t = th.counts in
       let more : one_more used t t ≡ used t + 1 = one_more_same used t in
       changes (Store (link_index l.pred) x) (slice_set ws (link_index l.pred) x) (one_more used t)
       (record l { pc = 14; reply = Some True; used = l.used + 1 }) (key_of l.call) true
       (rw (e, own_is) refl) (rw e refl) (rw e refl) (puts_between b.0 a key link) (a.call, d, a.room)
-      (keep_more n q t 14 l (rw count a.room) regs) refl (omega arith) (λ x. omega arith)
+      (keep_more sz t 14 l (rw count a.room) regs) refl (omega arith) (λ x. omega arith)
       (at14 refl (lock_after_link ws l.pred x l.pred ∙ b.0.walk.held.mine) (lock_after_link ws l.pred x l.curr ∙ b.0.mine)
       (curr_is_not_pred M b.0.walk) (λ y. stays_behind M x (one_more used t) b.0.walk.held.at) refl)
 
   go_12 : l.pc ≡ 12 → done ≡ false → Neighbours V t l → Removing V l.curr l.call → Goal
   go_12 e d b a =
-      let s : ℕ = node_link ws l.curr in let cn : l.curr < node_count n q = regs.curr in
-      let inn : s / 2 < node_count n q = inside false n q ws used M (s / 2) (found_next M b.0.walk a regs.low) in
+      let s : ℕ = node_link ws l.curr in let cn : l.curr < node_count sz = regs.curr in
+      let inn : s / 2 < node_count sz = inside false sz ws used M (s / 2) (found_next M b.0.walk a regs.low) in
       passes (Load (link_index l.curr)) ws (record l { pc = 13; succ = s / 2 })
       (rw e refl) (rw e refl) (rw e refl) (reads_word (link_index l.curr) (omega arith))
-      (keep_succ n q t 13 (s / 2) l.reply l inn regs, refl, refl, λ x. omega arith)
+      (keep_succ sz t 13 (s / 2) l.reply l inn regs, refl, refl, λ x. omega arith)
       (at13 refl d b a refl)
 
   go_13 : l.pc ≡ 13 → done ≡ false → Neighbours V t l → Removing V l.curr l.call → node_link ws l.curr / 2 ≡ l.succ → Goal
@@ -377,32 +377,32 @@ module _ (n q t : ℕ) (vs : ℕ → View) (first now : ℕ) (ws : List ℕ) (us
       changes (Store (link_index l.pred) x) (slice_set ws (link_index l.pred) x) used
       (record l { pc = 14; reply = Some True }) (key_of l.call) false
       (rw e refl) (rw e refl) (rw e refl) (drops_between M l.succ refl b.0 a next regs.low) (a.call, d)
-      (keep n q t 14 (Some True) l regs) refl th.counts (λ x. omega arith)
+      (keep sz t 14 (Some True) l regs) refl th.counts (λ x. omega arith)
       (at14 refl (lock_after_link ws l.pred x l.pred ∙ b.0.walk.held.mine) (lock_after_link ws l.pred x l.curr ∙ b.0.mine)
       (curr_is_not_pred M b.0.walk) (λ y. stays_behind M x used b.0.walk.held.at) refl)
 
   go_14 : l.pc ≡ 14 → node_lock ws l.pred ≡ t + 1 → node_lock ws l.curr ≡ t + 1 → l.curr ≢ l.pred
-      → Outcome done q vs first now t l.call l.reply → Goal
+      → Outcome done sz.quota vs first now t l.call l.reply → Goal
   go_14 e pred curr apart o =
       passes (Store (lock_index l.pred) 0) (slice_set ws (lock_index l.pred) 0) (record l { pc = 15 })
       (rw e refl) (rw e refl) (rw e refl) (frees l.pred regs.pred pred)
-      (keep n q t 15 l.reply l regs, refl, refl, λ x. omega arith)
-      (at15 refl (lock_after_lock ws l.pred 0 l.curr apart ∙ curr) (outcome_on done q vs first now t l.call l.reply o))
+      (keep sz t 15 l.reply l regs, refl, refl, λ x. omega arith)
+      (at15 refl (lock_after_lock ws l.pred 0 l.curr apart ∙ curr) (outcome_on done sz.quota vs first now t l.call l.reply o))
 
   go_15 : l.pc ≡ 15 → node_lock ws l.curr ≡ t + 1 → (r : Option Reply) → l.reply ≡ r
-      → Outcome done q vs first now t l.call r → Goal
+      → Outcome done sz.quota vs first now t l.call r → Goal
   go_15 e mine None y o =
       passes (Store (lock_index l.curr) 0) (slice_set ws (lock_index l.curr) 0) (record l { pc = 1 })
       (rw e refl) (rw (e, y) refl) (rw e refl) (frees l.curr regs.curr mine)
-      (keep n q t 1 l.reply l regs, refl, refl, λ x. omega arith)
+      (keep sz t 1 l.reply l regs, refl, refl, λ x. omega arith)
       (at1 refl o)
   go_15 e mine (Some r) y o =
       answers (Store (lock_index l.curr) 0) (slice_set ws (lock_index l.curr) 0) (record l { pc = 0 }) r
       (rw e refl) (rw (e, y) refl) (rw e refl) (frees l.curr regs.curr mine) o
-      (keep n q t 0 l.reply l regs) refl refl refl
+      (keep sz t 0 l.reply l regs) refl refl refl
       (at0 refl)
 
-  go : At q t vs first now (view n q ws used) done l → l.pc ≢ 0 → Goal
+  go : At sz.quota t vs first now (view sz ws used) done l → l.pc ≢ 0 → Goal
   go (at0 e) busy = absurd (busy e)
   go (at1 e d) busy = go_1 e d
   go (at2 e d x k) busy = go_2 e d x k
@@ -424,8 +424,8 @@ pub optimistic_follows : Follows optimistic (node_locks false) At
 optimistic_follows = record {
   idle_at = λ q t vs v. at0 refl;
   begun = λ call l. record { called = refl; used = refl; opened = λ e. omega arith; alike = refl };
-  begin_registers = λ n q t call l low r. registers_begun n q t 1 call l low r;
+  begin_registers = λ sz t call l low r. registers_begun sz t 1 call l low r;
   begins = λ q t vs now v call l e s k. at1 refl refl;
   stands = λ q t vs first now v w done l present r at. stays q t vs first now v w done l present r at;
-  turn = λ n q t vs first now ws used done l h th tn busy. go n q t vs first now ws used done l h th tn th.at busy;
+  turn = λ sz t vs first now ws used done l h th tn busy. go sz t vs first now ws used done l h th tn th.at busy;
 }

@@ -74,7 +74,7 @@ pub fn picture_of(
 
 /// The history of no call of a list for so many threads, with a quota of 4.
 pub fn no_calls(alloc: Global, threads: u32) -> History
-    requires { IsWithin (record { threads = threads; quota = 4 }) }
+    requires { IsWithin (record { threads = threads; quota = 4; opening = 0 }) }
 {
     History::new(alloc, threads, 4)
 }

@@ -24,8 +24,8 @@ returns-in-Some-first_missing-clause-not_explained c =
 
 pub first_wrong_reply-requires-clause-threads : goal.first_wrong_reply-requires-clause-threads
 first_wrong_reply-requires-clause-threads c =
-    threads_below c.args.history.now c.calls-calls.result.now c.in_ok-oracle.oracle c.threads.result c.quota.result
-    c.calls-calls.ensures.value c.calls-calls.ensures.history c.in_ok-oracle.ensures c.threads.ensures.value
+    threads_below c.args.history.now c.calls-calls.result.now c.in_ok-oracle.oracle
+    c.calls-calls.ensures.value c.calls-calls.ensures.history c.in_ok-oracle.ensures
 
 pub returns-in-Some-3-clause-first_fault : goal.returns-in-Some-3-clause-first_fault
 returns-in-Some-3-clause-first_fault c =
@@ -34,10 +34,10 @@ returns-in-Some-3-clause-first_fault c =
     let calls = c.calls-calls.result.now in
     let tree = c.first_twice.new.placed.keys in
     let oracle = c.in_ok-oracle.oracle in
-    let left = leaves_none_out h calls order tree oracle _ _
+    let left = leaves_none_out h calls order tree oracle
     (stands_once h calls order tree _ c.calls-calls.ensures.value c.in_default.ensures c.in_default-2.is
     c.in_ok-number.ensures.once c.in_ok-number.ensures.calls)
-    c.in_default-first_missing.ensures c.in_ok-oracle.ensures c.threads.ensures.value c.quota.ensures.value in
+    c.in_default-first_missing.ensures c.in_ok-oracle.ensures in
     let wrong = MatchOption-at_some _ (RefusesFirst (HasWrongReply oracle.quota oracle.state calls order) order) _
     c.in-Some-3.is c.in_ok-number-2.ensures in
     wrong_reply_fault h calls order c.args.keys.now tree oracle c.in-Some-3.number left wrong
@@ -53,10 +53,10 @@ returns-in-Some-first_too_early-clause-first_fault c =
     let calls = c.calls-calls.result.now in
     let tree = c.first_twice.new.placed.keys in
     let oracle = c.in_ok-oracle.oracle in
-    let left = leaves_none_out h calls order tree oracle _ _
+    let left = leaves_none_out h calls order tree oracle
     (stands_once h calls order tree _ c.calls-calls.ensures.value c.in_default.ensures c.in_default-2.is
     c.in_ok-number.ensures.once c.in_ok-number.ensures.calls)
-    c.in_default-first_missing.ensures c.in_ok-oracle.ensures c.threads.ensures.value c.quota.ensures.value in
+    c.in_default-first_missing.ensures c.in_ok-oracle.ensures in
     let replies = MatchOption-at_none
     (HasReplies oracle calls order × (c.first_wrong_reply.new.oracle ≡ after_order oracle calls order)) _
     c.in_default-3.is c.in_ok-number-2.ensures in
@@ -70,10 +70,10 @@ returns-then-ne-clause-first_fault c =
     let calls = c.calls-calls.result.now in
     let tree = c.first_twice.new.placed.keys in
     let oracle = c.in_ok-oracle.oracle in
-    let left = leaves_none_out h calls order tree oracle _ _
+    let left = leaves_none_out h calls order tree oracle
     (stands_once h calls order tree _ c.calls-calls.ensures.value c.in_default.ensures c.in_default-2.is
     c.in_ok-number.ensures.once c.in_ok-number.ensures.calls)
-    c.in_default-first_missing.ensures c.in_ok-oracle.ensures c.threads.ensures.value c.quota.ensures.value in
+    c.in_default-first_missing.ensures c.in_ok-oracle.ensures in
     let replies = MatchOption-at_none
     (HasReplies oracle calls order × (c.first_wrong_reply.new.oracle ≡ after_order oracle calls order)) _
     c.in_default-3.is c.in_ok-number-2.ensures in
@@ -88,10 +88,10 @@ returns-clause-explained c =
     let calls = c.calls-calls.result.now in
     let tree = c.first_twice.new.placed.keys in
     let oracle = c.in_ok-oracle.oracle in
-    let left = leaves_none_out h calls order tree oracle _ _
+    let left = leaves_none_out h calls order tree oracle
     (stands_once h calls order tree _ c.calls-calls.ensures.value c.in_default.ensures c.in_default-2.is
     c.in_ok-number.ensures.once c.in_ok-number.ensures.calls)
-    c.in_default-first_missing.ensures c.in_ok-oracle.ensures c.threads.ensures.value c.quota.ensures.value in
+    c.in_default-first_missing.ensures c.in_ok-oracle.ensures in
     let replies = MatchOption-at_none
     (HasReplies oracle calls order × (c.first_wrong_reply.new.oracle ≡ after_order oracle calls order)) _
     c.in_default-3.is c.in_ok-number-2.ensures in

@@ -3,4 +3,4 @@ use Rattle.lset_history.proofs.Placing.{has_placement}
 use Rattle.lset_history.proofs.placement.every_call_has_a_place.Goals as goal
 
 pub returns : goal.returns
-returns c = λ threads quota last log lists counts a. has_placement threads quota last log (contents_of_lists lists) counts a
+returns c = λ op last log lists counts a. has_placement op last log (contents_of_lists lists) counts a

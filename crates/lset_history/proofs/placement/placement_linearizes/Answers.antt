@@ -8,20 +8,21 @@ use Rattle.lset_words.proofs.RisingLists.{increasing_from_rises}
 use Rattle.lset_history.proofs.States.{Shows}
 use Rattle.lset_history.proofs.Linearizing.{linearizes, leaves_set, leaves_keys}
 use Rattle.lset_history.proofs.placement.placement_linearizes.Goals as goal
+use Rattle.lset_words.specs.Words.{Opening}
 
-has_keys : (threads quota last : ℕ) (log : Log) (lists : ℕ → List ℕ) (counts : Counts) (order : List Placed)
-    → Account threads quota last log (contents_of_lists lists) counts
-    → IsPlacement quota last (calls_at log last) (contents_of_lists lists) counts order
-    → HasKeysOf (set_of_order threads log last order) (lists last)
-has_keys threads quota last log lists counts order a p =
-    let w : Shows threads (contents_of_lists lists last) (counts last) (set_of_order threads log last order) =
-    leaves_set threads quota last log (contents_of_lists lists) counts order a p in
+has_keys : (op : Opening) (last : ℕ) (log : Log) (lists : ℕ → List ℕ) (counts : Counts) (order : List Placed)
+    → Account op last log (contents_of_lists lists) counts
+    → IsPlacement op.quota last (calls_at log last) (contents_of_lists lists) counts order
+    → HasKeysOf (set_of_order op log last order) (lists last)
+has_keys op last log lists counts order a p =
+    let w : Shows op.threads (contents_of_lists lists last) (counts last) (set_of_order op log last order) =
+    leaves_set op last log (contents_of_lists lists) counts order a p in
     record {
-      rising = increasing_from_rises 0 (set_of_order threads log last order).keys w.rising;
+      rising = increasing_from_rises 0 (set_of_order op log last order).keys w.rising;
       members = w.keys;
-      alone = leaves_keys threads quota last log (contents_of_lists lists) counts order a p;
+      alone = leaves_keys op last log (contents_of_lists lists) counts order a p;
     }
 
 pub returns : goal.returns
-returns c = λ threads quota last log lists counts order a p.
-    (linearizes threads quota last log (contents_of_lists lists) counts order a p, has_keys threads quota last log lists counts order a p)
+returns c = λ op last log lists counts order a p.
+    (linearizes op last log (contents_of_lists lists) counts order a p, has_keys op last log lists counts order a p)

@@ -3,5 +3,5 @@ use Rattle.lset_history.proofs.refusal.set_after.Goals as goal
 
 pub first_wrong_reply-requires-clause-threads : goal.first_wrong_reply-requires-clause-threads
 first_wrong_reply-requires-clause-threads c =
-    threads_below c.args.history.now c.calls.result.now c.in_ok-oracle.oracle c.threads.result c.quota.result
-    c.calls.ensures.value c.calls.ensures.history c.in_ok-oracle.ensures c.threads.ensures.value
+    threads_below c.args.history.now c.calls.result.now c.in_ok-oracle.oracle
+    c.calls.ensures.value c.calls.ensures.history c.in_ok-oracle.ensures

@@ -16,7 +16,7 @@ set_after-requires-clause-replies c =
     let h = c.args.history.now in
     let order = c.args.order.now in
     let here = c.in-Some.ensures in
-    replies_before h.quota _ h.calls order c.in-Some.index
+    replies_before h.opening.quota _ h.calls order c.in-Some.index
     (wrong_here h order c.args.call c.in-Some.index c.requires.once c.requires.wrong here.1 here.2 here.3).1
 
 pub apply-requires : goal.apply-requires

@@ -1,7 +1,8 @@
+use Rattle.std.specs.Prelude.{All, ◌^◌}
+use Rattle.std.specs.List.Sorted.{IsStrictlyIncreasing}
 use Rattle.std.proofs.Common.{rules, ◌≡◌, ℕ, ◌+◌, ◌-◌, ◌<◌, ◌≤◌, List, [], ◌∷◌, ◌++◌, map, length, refl, sym, ap, ◌∙◌, subst, arith}
-use Rattle.lset_words.specs.Words.{Sizes, IsWithin, word_count}
-use Rattle.lset_steps.specs.Steps.{Limits, opening, idle}
-use Rattle.lset_rule.specs.declared.view.Shape.{Shape}
+use Rattle.lset_words.specs.Words.{Sizes, IsWithin, word_count, Opening, Opens, sizes}
+use Rattle.lset_steps.specs.Steps.{opening, opening_of, idle}
 use Rattle.lset_rule.specs.declared.view.View.{View}
 use Rattle.lset_rule.specs.declared.view.Past.{Fresh}
 use Rattle.atomic_table.specs.Table as T
@@ -14,14 +15,30 @@ use Rattle.lset_live.specs.Seats.{new_seat as seat_of_thread}
 use Rattle.lset_live.proofs.NewSeats.{value_of, opened, seats_more}
 use Rattle.lset_live.proofs.opening.open_on.Goals as goal
 
-limits : (n q m p : ℕ) → n ≡ m → q ≡ p → Limits m p → Limits n q
-limits n q m p a b lim = subst (λ (z : Sizes). IsWithin z) (λ i. record { threads = sym a i; quota = sym b i }) lim
+opens_so : (sz : Sizes) (keys : List ℕ) → length keys ≡ sz.opening → IsWithin sz → IsStrictlyIncreasing keys
+    → All (λ (k : ℕ). k < 2 ^ 32) keys → Opens (opening_of sz keys)
+opens_so sz keys many within rising low = record {
+  within = subst (λ (z : Sizes). IsWithin z) (λ i. record { threads = sz.threads; quota = sz.quota; opening = sym many i }) within;
+  rising = rising;
+  low = low;
+}
+
+-- the key of the table
+shape_so : (sz : Sizes) (keys : List ℕ) (n q : ℕ) (v : List ℕ) → n ≡ sz.threads → q ≡ sz.quota → v ≡ keys
+    → record { threads = n; quota = q; keys = v } ≡ opening_of sz keys
+shape_so sz keys n q v a b e = λ i. record { threads = a i; quota = b i; keys = e i }
+
+sizes_so : (sz : Sizes) (keys : List ℕ) (n q m : ℕ) → n ≡ sz.threads → q ≡ sz.quota → m ≡ sz.opening → length keys ≡ sz.opening
+    → sizes (opening_of sz keys) ≡ record { threads = n; quota = q; opening = m }
+sizes_so sz keys n q m a b e many = λ i. record { threads = sym a i; quota = sym b i; opening = (many ∙ sym e) i }
 
 pub of_words-requires : goal.of_words-requires
-of_words-requires g c = let k : Shape = record { threads = c.threads-threads.result; quota = c.quota-quota.result } in
-    let lim = limits c.threads-threads.result c.quota-quota.result c.args.layout.threads c.args.layout.quota c.threads-threads.ensures.value c.quota-quota.ensures.value c.threads-threads.ensures.within in
-    let is : c.as_slice.result.now ≡ (opening c.args.layout.threads c.args.layout.quota).words = c.as_slice.ensures.value ∙ c.in_ok-words.ensures in
-    subst (λ (ws : List ℕ). Holds g.M.Machine.table k (T.opening ws [] (opener k))) (sym (is ∙ (λ i. (opening (sym c.threads-threads.ensures.value i) (sym c.quota-quota.ensures.value i)).words))) (opens g.M.Machine.table k lim)
+of_words-requires g c =
+    let k : Opening = opening_of c.args.layout c.args.keys.now in
+    let so : Opens k = opens_so c.args.layout c.args.keys.now c.requires.many c.threads-threads.ensures.within c.requires.rising c.in_ok-words.ensures.low in
+    let shape : c.new-shape.result ≡ k = c.new-shape.ensures ∙ shape_so c.args.layout c.args.keys.now c.threads-threads.result c.quota-quota.result _ c.threads-threads.ensures.value c.quota-quota.ensures.value c.in_ok-copied.ensures.items in
+    let is : c.as_slice.result.now ≡ (opening k).words = c.as_slice.ensures.value ∙ c.in_ok-words.ensures.words in
+    subst (λ (z : Opening × List ℕ). Holds g.M.Machine.table z.0 (T.opening z.1 [] (opener z.0))) (λ i. (sym shape i, sym is i)) (opens g.M.Machine.table k so)
 
 pub overflow_sub-last : goal.overflow_sub-last
 overflow_sub-last g c = let a = c.threads-threads.ensures.value in let b = c.threads-threads.ensures.within.some in omega (arith, a, b)
@@ -34,45 +51,65 @@ loop-t-init g c = let e = c.in_ok-table.ensures in (
 )
 
 pub invariant_of-set-inside : goal.invariant_of-set-inside
-invariant_of-set-inside g c = let e = c.in_ok-table.ensures in
-    let lim = limits c.threads-threads.result c.quota-quota.result c.args.layout.threads c.args.layout.quota c.threads-threads.ensures.value c.quota-quota.ensures.value c.threads-threads.ensures.within in
-    let is : c.as_slice.result.now ≡ (opening c.args.layout.threads c.args.layout.quota).words = c.as_slice.ensures.value ∙ c.in_ok-words.ensures in (
-      (e.0 ∙ (ap length is ∙ (opening_length c.args.layout.threads c.args.layout.quota ∙ (λ i. word_count (sym c.threads-threads.ensures.value i) (sym c.quota-quota.ensures.value i)))), e.1),
-      (e.5, ((lim.some, lim.few, lim.small), tt)),
+invariant_of-set-inside g c =
+    let k : Opening = opening_of c.args.layout c.args.keys.now in
+    let so : Opens k = opens_so c.args.layout c.args.keys.now c.requires.many c.threads-threads.ensures.within c.requires.rising c.in_ok-words.ensures.low in
+    let shape : c.new-shape.result ≡ k = c.new-shape.ensures ∙ shape_so c.args.layout c.args.keys.now c.threads-threads.result c.quota-quota.result _ c.threads-threads.ensures.value c.quota-quota.ensures.value c.in_ok-copied.ensures.items in
+    let is : c.as_slice.result.now ≡ (opening k).words = c.as_slice.ensures.value ∙ c.in_ok-words.ensures.words in
+    let e = c.in_ok-table.ensures in
+    let key = c.in_ok-table.table.shared.key in
+    let key_is : c.in_ok-table.table.shared.key ≡ k = e.5 ∙ shape in
+    let sz = sizes_so c.args.layout c.args.keys.now c.threads-threads.result c.quota-quota.result c.opening-opening.result c.threads-threads.ensures.value c.quota-quota.ensures.value c.opening-opening.ensures.value c.requires.many in
+    let lim = subst (λ (z : Sizes). IsWithin z) sz so.within in (
+      (e.0 ∙ (ap length is ∙ (opening_length k ∙ ap word_count sz)), e.1),
+      (ap sizes key_is ∙ sz, ((lim.some, lim.few, lim.small), tt)),
     )
 
 pub split_off-place-requires-clause-place : goal.split_off-place-requires-clause-place
-split_off-place-requires-clause-place g c = let i = c.loop-t.invariant in let e = c.in_ok-table.ensures in
-    let is : c.as_slice.result.now ≡ (opening c.args.layout.threads c.args.layout.quota).words = c.as_slice.ensures.value ∙ c.in_ok-words.ensures in
-    let n : c.in_ok-table.table.shared.table_id.words ≡ word_count c.args.layout.threads c.args.layout.quota = e.0 ∙ (ap length is ∙ opening_length c.args.layout.threads c.args.layout.quota) in
-    let key : c.in_ok-table.table.shared.key ≡ record { threads = c.args.layout.threads; quota = c.args.layout.quota } = e.5 ∙ (λ i. record { threads = c.threads-threads.ensures.value i; quota = c.quota-quota.ensures.value i }) in
-    ((i.1, ap (λ z. z.0.shape) i.0, n ∙ ap (λ (k : Shape). word_count k.threads k.quota) (sym key)), (ap (λ z. z.0.spent) i.0, ap (λ z. z.0.under) i.0))
+split_off-place-requires-clause-place g c = let i = c.loop-t.invariant in
+    let k : Opening = opening_of c.args.layout c.args.keys.now in
+    let so : Opens k = opens_so c.args.layout c.args.keys.now c.requires.many c.threads-threads.ensures.within c.requires.rising c.in_ok-words.ensures.low in
+    let shape : c.new-shape.result ≡ k = c.new-shape.ensures ∙ shape_so c.args.layout c.args.keys.now c.threads-threads.result c.quota-quota.result _ c.threads-threads.ensures.value c.quota-quota.ensures.value c.in_ok-copied.ensures.items in
+    let is : c.as_slice.result.now ≡ (opening k).words = c.as_slice.ensures.value ∙ c.in_ok-words.ensures.words in
+    let e = c.in_ok-table.ensures in
+    let key = c.in_ok-table.table.shared.key in
+    let key_is : c.in_ok-table.table.shared.key ≡ k = e.5 ∙ shape in
+    let n : c.in_ok-table.table.shared.table_id.words ≡ word_count (sizes k) = e.0 ∙ (ap length is ∙ opening_length k) in
+    ((i.1, ap (λ z. z.0.shape) i.0, n ∙ ap (λ (z : Opening). word_count (sizes z)) (sym key_is)), (ap (λ z. z.0.spent) i.0, ap (λ z. z.0.under) i.0))
 
 pub split_off-place-requires-clause-fresh : goal.split_off-place-requires-clause-fresh
 split_off-place-requires-clause-fresh g c =
     let i = c.loop-t.invariant in
+    let e = c.in_ok-table.ensures in
     let key = c.in_ok-table.table.shared.key in
-    let threads : key.threads ≡ c.threads-threads.result = ap (λ (k : Shape). k.threads) c.in_ok-table.ensures.5 in
+    let threads : key.threads ≡ c.threads-threads.result = ap (λ (z : Opening). z.threads) (e.5 ∙ c.new-shape.ensures) in
     let small : c.loop-t.t + 1 < key.threads = let lt = c.loop-t-test.true in omega (arith, threads, lt) in
     subst (λ (z : View). (z.past ≡ Fresh z.thread) × (0 < length z.others)) (ap (λ z. z.0) (sym i.0)) (refl, spare_some key c.loop-t.t small)
 
 pub invariant_of-push : goal.invariant_of-push
 invariant_of-push g c =
     let i = c.loop-t.invariant in
+    let k : Opening = opening_of c.args.layout c.args.keys.now in
+    let so : Opens k = opens_so c.args.layout c.args.keys.now c.requires.many c.threads-threads.ensures.within c.requires.rising c.in_ok-words.ensures.low in
+    let shape : c.new-shape.result ≡ k = c.new-shape.ensures ∙ shape_so c.args.layout c.args.keys.now c.threads-threads.result c.quota-quota.result _ c.threads-threads.ensures.value c.quota-quota.ensures.value c.in_ok-copied.ensures.items in
+    let is : c.as_slice.result.now ≡ (opening k).words = c.as_slice.ensures.value ∙ c.in_ok-words.ensures.words in
+    let e = c.in_ok-table.ensures in
     let key = c.in_ok-table.table.shared.key in
-    let lim = limits key.threads key.quota c.args.layout.threads c.args.layout.quota (ap (λ (k : Shape). k.threads) c.in_ok-table.ensures.5 ∙ c.threads-threads.ensures.value) (ap (λ (k : Shape). k.quota) c.in_ok-table.ensures.5 ∙ c.quota-quota.ensures.value) c.threads-threads.ensures.within in
-    let threads : key.threads ≡ c.threads-threads.result = ap (λ (k : Shape). k.threads) c.in_ok-table.ensures.5 in
+    let key_is : c.in_ok-table.table.shared.key ≡ k = e.5 ∙ shape in
+    let lim : Opens key = subst (λ (z : Opening). Opens z) (sym key_is) so in
+    let threads : key.threads ≡ c.threads-threads.result = ap (λ (z : Opening). z.threads) (e.5 ∙ c.new-shape.ensures) in
     let small : c.loop-t.t + 1 < key.threads = let lt = c.loop-t-test.true in omega (arith, threads, lt) in
     new_seat g.M.Machine.table key c.loop-t.t c.split_off-place.result.me lim (omega (arith, small))
     (c.split_off-place.ensures.new.1 ∙ (ap (λ z. (right_view z.0, [])) i.0 ∙ ap (λ v. (v, [])) (cut_right key c.loop-t.t small))) c.unused-slots.result
-    (c.unused-slots.ensures ∙ ap (λ q. slots_of (idle q c.loop-t.t)) (sym (ap (λ (k : Shape). k.quota) c.in_ok-table.ensures.5 ∙ c.quota-quota.ensures.value)))
+    (c.unused-slots.ensures ∙ ap (λ q. slots_of (idle q c.loop-t.t)) (sym (ap (λ (z : Opening). z.quota) (e.5 ∙ c.new-shape.ensures) ∙ c.quota-quota.ensures.value)))
 
 pub loop-t-preserved : goal.loop-t-preserved
 loop-t-preserved g c =
     let i = c.loop-t.invariant in
     let z = c.in_ok-table.table.shared.table_id in
+    let e = c.in_ok-table.ensures in
     let key = c.in_ok-table.table.shared.key in
-    let threads : key.threads ≡ c.threads-threads.result = ap (λ (k : Shape). k.threads) c.in_ok-table.ensures.5 in
+    let threads : key.threads ≡ c.threads-threads.result = ap (λ (z : Opening). z.threads) (e.5 ∙ c.new-shape.ensures) in
     let small : c.loop-t.t + 1 < key.threads = let lt = c.loop-t-test.true in omega (arith, threads, lt) in
     let more : c.push.new.self.items ≡ c.loop-t.seats.items ++ value_of c.split_off-place.result ∷ [] = search rules in
     let new : IsNew z key c.loop-t.t c.split_off-place.result =
@@ -85,33 +122,51 @@ loop-t-preserved g c =
 pub invariant_of-push-2 : goal.invariant_of-push-2
 invariant_of-push-2 g c =
     let i = c.loop-t.invariant in
+    let k : Opening = opening_of c.args.layout c.args.keys.now in
+    let so : Opens k = opens_so c.args.layout c.args.keys.now c.requires.many c.threads-threads.ensures.within c.requires.rising c.in_ok-words.ensures.low in
+    let shape : c.new-shape.result ≡ k = c.new-shape.ensures ∙ shape_so c.args.layout c.args.keys.now c.threads-threads.result c.quota-quota.result _ c.threads-threads.ensures.value c.quota-quota.ensures.value c.in_ok-copied.ensures.items in
+    let is : c.as_slice.result.now ≡ (opening k).words = c.as_slice.ensures.value ∙ c.in_ok-words.ensures.words in
+    let e = c.in_ok-table.ensures in
     let key = c.in_ok-table.table.shared.key in
-    let lim = limits key.threads key.quota c.args.layout.threads c.args.layout.quota (ap (λ (k : Shape). k.threads) c.in_ok-table.ensures.5 ∙ c.threads-threads.ensures.value) (ap (λ (k : Shape). k.quota) c.in_ok-table.ensures.5 ∙ c.quota-quota.ensures.value) c.threads-threads.ensures.within in
-    let threads : key.threads ≡ c.threads-threads.result = ap (λ (k : Shape). k.threads) c.in_ok-table.ensures.5 in
-    let some : 1 ≤ key.threads = lim.some in
+    let key_is : c.in_ok-table.table.shared.key ≡ k = e.5 ∙ shape in
+    let lim : Opens key = subst (λ (z : Opening). Opens z) (sym key_is) so in
+    let threads : key.threads ≡ c.threads-threads.result = ap (λ (z : Opening). z.threads) (e.5 ∙ c.new-shape.ensures) in
+    let some : 1 ≤ key.threads = lim.within.some in
     let last : c.threads-threads.result - 1 + 1 ≡ key.threads = omega (arith, threads, some) in
     let end : c.loop-t.t ≡ c.threads-threads.result - 1 = search rules in
     new_seat g.M.Machine.table key (c.threads-threads.result - 1) c.loop-t.place.me lim (omega (arith, last))
     (i.0 ∙ (ap (λ n. (spare key n, [])) end ∙ ap (λ v. (v, [])) (spare_none key (c.threads-threads.result - 1) last))) c.unused-slots-2.result
-    (c.unused-slots-2.ensures ∙ ap (λ q. slots_of (idle q (c.threads-threads.result - 1))) (sym (ap (λ (k : Shape). k.quota) c.in_ok-table.ensures.5 ∙ c.quota-quota.ensures.value)))
+    (c.unused-slots-2.ensures ∙ ap (λ q. slots_of (idle q (c.threads-threads.result - 1))) (sym (ap (λ (z : Opening). z.quota) (e.5 ∙ c.new-shape.ensures) ∙ c.quota-quota.ensures.value)))
 
 pub invariant_of-set-inside-2 : goal.invariant_of-set-inside-2
-invariant_of-set-inside-2 g c = let e = c.in_ok-table.ensures in
-    let lim = limits c.threads-threads.result c.quota-quota.result c.args.layout.threads c.args.layout.quota c.threads-threads.ensures.value c.quota-quota.ensures.value c.threads-threads.ensures.within in
-    let is : c.as_slice.result.now ≡ (opening c.args.layout.threads c.args.layout.quota).words = c.as_slice.ensures.value ∙ c.in_ok-words.ensures in (
-      (e.0 ∙ (ap length is ∙ (opening_length c.args.layout.threads c.args.layout.quota ∙ (λ i. word_count (sym c.threads-threads.ensures.value i) (sym c.quota-quota.ensures.value i)))), e.1),
-      (e.5, ((lim.some, lim.few, lim.small), tt)),
+invariant_of-set-inside-2 g c =
+    let k : Opening = opening_of c.args.layout c.args.keys.now in
+    let so : Opens k = opens_so c.args.layout c.args.keys.now c.requires.many c.threads-threads.ensures.within c.requires.rising c.in_ok-words.ensures.low in
+    let shape : c.new-shape.result ≡ k = c.new-shape.ensures ∙ shape_so c.args.layout c.args.keys.now c.threads-threads.result c.quota-quota.result _ c.threads-threads.ensures.value c.quota-quota.ensures.value c.in_ok-copied.ensures.items in
+    let is : c.as_slice.result.now ≡ (opening k).words = c.as_slice.ensures.value ∙ c.in_ok-words.ensures.words in
+    let e = c.in_ok-table.ensures in
+    let key = c.in_ok-table.table.shared.key in
+    let key_is : c.in_ok-table.table.shared.key ≡ k = e.5 ∙ shape in
+    let sz = sizes_so c.args.layout c.args.keys.now c.threads-threads.result c.quota-quota.result c.opening-opening.result c.threads-threads.ensures.value c.quota-quota.ensures.value c.opening-opening.ensures.value c.requires.many in
+    let lim = subst (λ (z : Sizes). IsWithin z) sz so.within in (
+      (e.0 ∙ (ap length is ∙ (opening_length k ∙ ap word_count sz)), e.1),
+      (ap sizes key_is ∙ sz, ((lim.some, lim.few, lim.small), tt)),
     )
 
 pub returns : goal.returns
 returns g c =
-    let e = c.in_ok-table.ensures in
     let i = c.loop-t.invariant in
     let z = c.in_ok-table.table.shared.table_id in
+    let k : Opening = opening_of c.args.layout c.args.keys.now in
+    let so : Opens k = opens_so c.args.layout c.args.keys.now c.requires.many c.threads-threads.ensures.within c.requires.rising c.in_ok-words.ensures.low in
+    let shape : c.new-shape.result ≡ k = c.new-shape.ensures ∙ shape_so c.args.layout c.args.keys.now c.threads-threads.result c.quota-quota.result _ c.threads-threads.ensures.value c.quota-quota.ensures.value c.in_ok-copied.ensures.items in
+    let is : c.as_slice.result.now ≡ (opening k).words = c.as_slice.ensures.value ∙ c.in_ok-words.ensures.words in
+    let e = c.in_ok-table.ensures in
     let key = c.in_ok-table.table.shared.key in
-    let threads : key.threads ≡ c.threads-threads.result = ap (λ (k : Shape). k.threads) e.5 in
-    let lim = limits key.threads key.quota c.args.layout.threads c.args.layout.quota (ap (λ (k : Shape). k.threads) e.5 ∙ c.threads-threads.ensures.value) (ap (λ (k : Shape). k.quota) e.5 ∙ c.quota-quota.ensures.value) c.threads-threads.ensures.within in
-    let some : 1 ≤ key.threads = lim.some in
+    let key_is : c.in_ok-table.table.shared.key ≡ k = e.5 ∙ shape in
+    let lim : Opens key = subst (λ (z : Opening). Opens z) (sym key_is) so in
+    let threads : key.threads ≡ c.threads-threads.result = ap (λ (z : Opening). z.threads) (e.5 ∙ c.new-shape.ensures) in
+    let some : 1 ≤ key.threads = lim.within.some in
     let last : c.threads-threads.result - 1 + 1 ≡ key.threads = omega (arith, threads, some) in
     let end : c.loop-t.t ≡ c.threads-threads.result - 1 = search rules in
     let more : c.push-2.new.self.items ≡ c.loop-t.seats.items ++ value_of c.loop-t.place ∷ [] = search rules in
@@ -119,6 +174,6 @@ returns g c =
     (i.1, i.0 ∙ (ap (λ n. (spare key n, [])) end ∙ ap (λ v. (v, [])) (spare_none key (c.threads-threads.result - 1) last))) in
     let all = seats_more z key (c.threads-threads.result - 1) c.loop-t.place c.loop-t.seats.items c.push-2.new.self.items
     (i.2 ∙ ap (λ n. map (seat_of_thread (opened z key)) (range_with_len 0 n)) end) new more in (
-      e.5 ∙ (λ j. record { threads = c.threads-threads.ensures.value j; quota = c.quota-quota.ensures.value j }),
+      key_is,
       all ∙ ap (λ n. map (seat_of_thread (opened z key)) (range_with_len 0 n)) (last ∙ (threads ∙ c.threads-threads.ensures.value)),
     )

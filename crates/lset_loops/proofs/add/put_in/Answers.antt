@@ -9,7 +9,7 @@ use Rattle.lset_loops.proofs.add.put_in.Goals as goal
 
 pub key_index-requires : goal.key_index-requires
 key_index-requires g c = let C = g.O.Origin.call in let v = g.O.Origin.from in let sp = c.requires.seat in let p = c.args.window.pred in let x = c.args.window.curr in let s = c.requires.at.0 in let at0 = c.requires.at.1 in
-    let node_is : c.slot_node-node.result ≡ slot v = slot_of v c.args.slots c.slot_node-node.result c.requires.slots c.slot_node-node.ensures in let q : slot v ≤ 1048578 = few_slots C v 5 p x s c.args.place.now.me.0 sp at0 in omega arith
+    let node_is : c.slot_node-node.result ≡ slot v = slot_of v c.args.slots c.slot_node-node.result c.requires.slots c.slot_node-node.ensures in let q : slot v ≤ 2097154 = few_slots C v 5 p x s c.args.place.now.me.0 sp at0 in omega arith
 
 pub store_on-requires-clause-open : goal.store_on-requires-clause-open
 store_on-requires-clause-open g c = let C = g.O.Origin.call in let v = g.O.Origin.from in let sp = c.requires.seat in let p = c.args.window.pred in let x = c.args.window.curr in let s = c.requires.at.0 in let at0 = c.requires.at.1 in
@@ -22,11 +22,11 @@ store_on-requires-clause-row g c = let C = g.O.Origin.call in let v = g.O.Origin
 pub overflow_mul-before : goal.overflow_mul-before
 overflow_mul-before g c = let C = g.O.Origin.call in let v = g.O.Origin.from in let sp = c.requires.seat in let p = c.args.window.pred in let x = c.args.window.curr in let s = c.requires.at.0 in let at0 = c.requires.at.1 in
     let at1 : At C v 6 p x s c.store_on.new.place.me.0 = goes_5 C v p x s c.args.place.now.me.0 c.word.result c.store_on.new.place.me.0 at0 c.store_on.ensures.goes in
-    let q : x < 1048578 = (small C v 6 p x s c.store_on.new.place.me.0 sp at1).curr in search rules
+    let q : x < 2097154 = (small C v 6 p x s c.store_on.new.place.me.0 sp at1).curr in search rules
 
 pub link_index-requires : goal.link_index-requires
 link_index-requires g c = let C = g.O.Origin.call in let v = g.O.Origin.from in let sp = c.requires.seat in let p = c.args.window.pred in let x = c.args.window.curr in let s = c.requires.at.0 in let at0 = c.requires.at.1 in
-    let node_is : c.slot_node-node.result ≡ slot v = slot_of v c.args.slots c.slot_node-node.result c.requires.slots c.slot_node-node.ensures in let q : slot v ≤ 1048578 = few_slots C v 5 p x s c.args.place.now.me.0 sp at0 in omega arith
+    let node_is : c.slot_node-node.result ≡ slot v = slot_of v c.args.slots c.slot_node-node.result c.requires.slots c.slot_node-node.ensures in let q : slot v ≤ 2097154 = few_slots C v 5 p x s c.args.place.now.me.0 sp at0 in omega arith
 
 pub store_on-requires-2-clause-place : goal.store_on-requires-2-clause-place
 store_on-requires-2-clause-place g c = let C = g.O.Origin.call in let v = g.O.Origin.from in let sp = c.requires.seat in let p = c.args.window.pred in let x = c.args.window.curr in let s = c.requires.at.0 in let at0 = c.requires.at.1 in
@@ -47,11 +47,11 @@ pub link_index-requires-2 : goal.link_index-requires-2
 link_index-requires-2 g c = let C = g.O.Origin.call in let v = g.O.Origin.from in let sp = c.requires.seat in let p = c.args.window.pred in let x = c.args.window.curr in let s = c.requires.at.0 in let at0 = c.requires.at.1 in
     let at1 : At C v 6 p x s c.store_on.new.place.me.0 = goes_5 C v p x s c.args.place.now.me.0 c.word.result c.store_on.new.place.me.0 at0 c.store_on.ensures.goes in
     let at2 : At C v 7 p x s c.store_on-2.new.place.me.0 = goes_6 C v p x s c.store_on.new.place.me.0 (2 * x) c.store_on-2.new.place.me.0 at1 c.store_on-2.ensures.goes in
-    let q : p < 1048578 = (small C v 7 p x s c.store_on-2.new.place.me.0 sp at2).pred in omega arith
+    let q : p < 2097154 = (small C v 7 p x s c.store_on-2.new.place.me.0 sp at2).pred in omega arith
 
 pub overflow_mul-node : goal.overflow_mul-node
 overflow_mul-node g c = let C = g.O.Origin.call in let v = g.O.Origin.from in let sp = c.requires.seat in let p = c.args.window.pred in let x = c.args.window.curr in let s = c.requires.at.0 in let at0 = c.requires.at.1 in
-    let node_is : c.slot_node-node.result ≡ slot v = slot_of v c.args.slots c.slot_node-node.result c.requires.slots c.slot_node-node.ensures in let q : slot v ≤ 1048578 = few_slots C v 5 p x s c.args.place.now.me.0 sp at0 in search rules
+    let node_is : c.slot_node-node.result ≡ slot v = slot_of v c.args.slots c.slot_node-node.result c.requires.slots c.slot_node-node.ensures in let q : slot v ≤ 2097154 = few_slots C v 5 p x s c.args.place.now.me.0 sp at0 in search rules
 
 pub exchange_on-seen-requires-clause-place : goal.exchange_on-seen-requires-clause-place
 exchange_on-seen-requires-clause-place g c = let C = g.O.Origin.call in let v = g.O.Origin.from in let sp = c.requires.seat in let p = c.args.window.pred in let x = c.args.window.curr in let s = c.requires.at.0 in let at0 = c.requires.at.1 in

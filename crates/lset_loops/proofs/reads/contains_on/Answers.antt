@@ -15,7 +15,7 @@ loop-slots-init g c = (starts g.M.Machine.table g.met.M.ReadsByRows.reading c.ar
 
 pub key_index-requires : goal.key_index-requires
 key_index-requires g c = let T = g.M.Machine.table in let laws = g.met.M.ReadsByRows.reading in let k = c.args.key in let v = c.args.place.now.me.0 in let sp = c.requires.idle.0 in let x = c.loop-slots.link / 2 in let w = c.loop-slots.place.me.0 in let at0 = c.loop-slots.invariant.0 in
-    let q : x ≤ 1048578 = small T g.met.M.Machine.lawful k v 21 x w sp at0 in omega arith
+    let q : x ≤ 2097154 = small T g.met.M.Machine.lawful k v 21 x w sp at0 in omega arith
 
 pub load_on-word-requires-clause-place : goal.load_on-word-requires-clause-place
 load_on-word-requires-clause-place g c = let T = g.M.Machine.table in let laws = g.met.M.ReadsByRows.reading in let k = c.args.key in let v = c.args.place.now.me.0 in let sp = c.requires.idle.0 in let x = c.loop-slots.link / 2 in let w = c.loop-slots.place.me.0 in let at0 = c.loop-slots.invariant.0 in
@@ -42,7 +42,7 @@ pub link_index-requires-in-loop-slots : goal.link_index-requires-in-loop-slots
 link_index-requires-in-loop-slots g c = let T = g.M.Machine.table in let laws = g.met.M.ReadsByRows.reading in let k = c.args.key in let v = c.args.place.now.me.0 in let sp = c.requires.idle.0 in let x = c.loop-slots.link / 2 in let w = c.loop-slots.place.me.0 in let at0 = c.loop-slots.invariant.0 in
     let n = c.load_on-word.result in let w1 = c.load_on-word.new.place.me.0 in let t = c.word-target.ensures in let b = c.if-word-target.false in let le : n ≤ target (Contains k) = omega (arith, t, b) in
     let at1 : AtRead T k v (link_row k n) x w1 = at_link T laws k v x w n w1 le at0 c.load_on-word.ensures.goes in
-    let q : x ≤ 1048578 = small T g.met.M.Machine.lawful k v (link_row k n) x w1 sp at1 in omega arith
+    let q : x ≤ 2097154 = small T g.met.M.Machine.lawful k v (link_row k n) x w1 sp at1 in omega arith
 
 pub load_on-link-requires-clause-place : goal.load_on-link-requires-clause-place
 load_on-link-requires-clause-place g c = let T = g.M.Machine.table in let laws = g.met.M.ReadsByRows.reading in let k = c.args.key in let v = c.args.place.now.me.0 in let sp = c.requires.idle.0 in let x = c.loop-slots.link / 2 in let w = c.loop-slots.place.me.0 in let at0 = c.loop-slots.invariant.0 in

@@ -1,4 +1,5 @@
 use Rattle.std.proofs.Common.{◌/◌, ◌-◌}
+use Rattle.lset_words.specs.Words.{sizes}
 use Rattle.lset_steps.specs.BoundedReads.{most_reads}
 use Rattle.lset_rule.specs.Seats.{IsSeat}
 use Rattle.lset_rule.proofs.Ending.{steps_of}
@@ -12,4 +13,4 @@ abbrev pub invariant-loop-slots : goal.invariant-loop-slots
 invariant-loop-slots g l = AtRead g.M.Machine.table l.fn.key l.fn.place.me.0 21 (l.link / 2) l.place.me.0 × IsSeat l.fn.place l.place
 
 abbrev pub decreases-loop-slots : goal.decreases-loop-slots
-decreases-loop-slots g l = most_reads l.fn.place.me.0.shape.threads l.fn.place.me.0.shape.quota - steps_of l.place.me.0.under
+decreases-loop-slots g l = most_reads (sizes l.fn.place.me.0.shape) - steps_of l.place.me.0.under

@@ -8,7 +8,7 @@ use Rattle.lset_loops.proofs.remove.mark.Goals as goal
 
 pub link_index-own_link-requires : goal.link_index-own_link-requires
 link_index-own_link-requires g c = let C = g.O.Origin.call in let v = g.O.Origin.from in let sp = c.requires.seat in let p = c.args.window.pred in let x = c.args.window.curr in let s = c.requires.at.0 in let at0 = c.requires.at.1 in
-    let q : x < 1048578 = (small C v 8 p x s c.args.place.now.me.0 sp at0).curr in omega arith
+    let q : x < 2097154 = (small C v 8 p x s c.args.place.now.me.0 sp at0).curr in omega arith
 
 pub load_on-link-requires-clause-open : goal.load_on-link-requires-clause-open
 load_on-link-requires-clause-open g c = let C = g.O.Origin.call in let v = g.O.Origin.from in let sp = c.requires.seat in let p = c.args.window.pred in let x = c.args.window.curr in let s = c.requires.at.0 in let at0 = c.requires.at.1 in
@@ -21,12 +21,12 @@ load_on-link-requires-clause-row g c = let C = g.O.Origin.call in let v = g.O.Or
 pub overflow_mul-unmarked : goal.overflow_mul-unmarked
 overflow_mul-unmarked g c = let C = g.O.Origin.call in let v = g.O.Origin.from in let sp = c.requires.seat in let p = c.args.window.pred in let x = c.args.window.curr in let s = c.requires.at.0 in let at0 = c.requires.at.1 in
     let at1 : At C v 9 p x (c.load_on-link.result / 2) c.load_on-link.new.place.me.0 = goes_8 C v p x s c.args.place.now.me.0 c.load_on-link.result c.load_on-link.new.place.me.0 at0 c.load_on-link.ensures.goes in
-    let q : (c.load_on-link.result / 2) < 1048578 = (small C v 9 p x (c.load_on-link.result / 2) c.load_on-link.new.place.me.0 sp at1).succ in search rules
+    let q : (c.load_on-link.result / 2) < 2097154 = (small C v 9 p x (c.load_on-link.result / 2) c.load_on-link.new.place.me.0 sp at1).succ in search rules
 
 pub overflow_add-unmarked : goal.overflow_add-unmarked
 overflow_add-unmarked g c = let C = g.O.Origin.call in let v = g.O.Origin.from in let sp = c.requires.seat in let p = c.args.window.pred in let x = c.args.window.curr in let s = c.requires.at.0 in let at0 = c.requires.at.1 in
     let at1 : At C v 9 p x (c.load_on-link.result / 2) c.load_on-link.new.place.me.0 = goes_8 C v p x s c.args.place.now.me.0 c.load_on-link.result c.load_on-link.new.place.me.0 at0 c.load_on-link.ensures.goes in
-    let q : (c.load_on-link.result / 2) < 1048578 = (small C v 9 p x (c.load_on-link.result / 2) c.load_on-link.new.place.me.0 sp at1).succ in search rules
+    let q : (c.load_on-link.result / 2) < 2097154 = (small C v 9 p x (c.load_on-link.result / 2) c.load_on-link.new.place.me.0 sp at1).succ in search rules
 
 pub exchange_on-seen-requires-clause-place : goal.exchange_on-seen-requires-clause-place
 exchange_on-seen-requires-clause-place g c = let C = g.O.Origin.call in let v = g.O.Origin.from in let sp = c.requires.seat in let p = c.args.window.pred in let x = c.args.window.curr in let s = c.requires.at.0 in let at0 = c.requires.at.1 in

@@ -7,15 +7,15 @@ use Rattle.lset_loops.proofs.remove.unlink.Goals as goal
 
 pub link_index-requires : goal.link_index-requires
 link_index-requires g c = let C = g.O.Origin.call in let v = g.O.Origin.from in let sp = c.requires.seat in let p = c.args.window.pred in let x = c.args.window.curr in let s = c.args.succ in let at0 = c.requires.at in
-    let q : p < 1048578 = (small C v 10 p x s c.args.place.now.me.0 sp at0).pred in omega arith
+    let q : p < 2097154 = (small C v 10 p x s c.args.place.now.me.0 sp at0).pred in omega arith
 
 pub overflow_mul-window : goal.overflow_mul-window
 overflow_mul-window g c = let C = g.O.Origin.call in let v = g.O.Origin.from in let sp = c.requires.seat in let p = c.args.window.pred in let x = c.args.window.curr in let s = c.args.succ in let at0 = c.requires.at in
-    let q : x < 1048578 = (small C v 10 p x s c.args.place.now.me.0 sp at0).curr in search rules
+    let q : x < 2097154 = (small C v 10 p x s c.args.place.now.me.0 sp at0).curr in search rules
 
 pub overflow_mul-after : goal.overflow_mul-after
 overflow_mul-after g c = let C = g.O.Origin.call in let v = g.O.Origin.from in let sp = c.requires.seat in let p = c.args.window.pred in let x = c.args.window.curr in let s = c.args.succ in let at0 = c.requires.at in
-    let q : s < 1048578 = (small C v 10 p x s c.args.place.now.me.0 sp at0).succ in search rules
+    let q : s < 2097154 = (small C v 10 p x s c.args.place.now.me.0 sp at0).succ in search rules
 
 pub exchange_on-requires-clause-open : goal.exchange_on-requires-clause-open
 exchange_on-requires-clause-open g c = let C = g.O.Origin.call in let v = g.O.Origin.from in let sp = c.requires.seat in let p = c.args.window.pred in let x = c.args.window.curr in let s = c.args.succ in let at0 = c.requires.at in

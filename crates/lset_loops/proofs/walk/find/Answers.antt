@@ -9,7 +9,7 @@ use Rattle.lset_loops.proofs.walk.find.Goals as goal
 
 pub link_index-requires : goal.link_index-requires
 link_index-requires g c = let C = g.O.Origin.call in let v = g.O.Origin.from in let sp = c.requires.seat in let p = c.loop.window.pred in let x = c.loop.window.curr in let s = c.loop.invariant.0.0 in let at0 = c.loop.invariant.0.1 in
-    let q : x < 1048578 = (small C v 2 p x s c.loop.place.me.0 sp at0).curr in omega arith
+    let q : x < 2097154 = (small C v 2 p x s c.loop.place.me.0 sp at0).curr in omega arith
 
 pub load_on-link-requires-clause-place : goal.load_on-link-requires-clause-place
 load_on-link-requires-clause-place g c = let C = g.O.Origin.call in let v = g.O.Origin.from in let sp = c.requires.seat in let p = c.loop.window.pred in let x = c.loop.window.curr in let s = c.loop.invariant.0.0 in let at0 = c.loop.invariant.0.1 in
@@ -41,7 +41,7 @@ loop-preserved-then-link-ne0 g c = let C = g.O.Origin.call in let v = g.O.Origin
 pub key_index-requires : goal.key_index-requires
 key_index-requires g c = let C = g.O.Origin.call in let v = g.O.Origin.from in let sp = c.requires.seat in let p = c.loop.window.pred in let x = c.loop.window.curr in let s = c.loop.invariant.0.0 in let at0 = c.loop.invariant.0.1 in
     let at1 : At C v 4 p x (c.load_on-link.result / 2) c.load_on-link.new.place.me.0 = even_2 C v p x s c.loop.place.me.0 c.load_on-link.result c.load_on-link.new.place.me.0 c.if-link-ne0.false at0 c.load_on-link.ensures.goes in
-    let q : x < 1048578 = (small C v 4 p x (c.load_on-link.result / 2) c.load_on-link.new.place.me.0 sp at1).curr in omega arith
+    let q : x < 2097154 = (small C v 4 p x (c.load_on-link.result / 2) c.load_on-link.new.place.me.0 sp at1).curr in omega arith
 
 pub load_on-word-requires-clause-place : goal.load_on-word-requires-clause-place
 load_on-word-requires-clause-place g c = let C = g.O.Origin.call in let v = g.O.Origin.from in let sp = c.requires.seat in let p = c.loop.window.pred in let x = c.loop.window.curr in let s = c.loop.invariant.0.0 in let at0 = c.loop.invariant.0.1 in

@@ -8,15 +8,15 @@ use Rattle.lset_loops.proofs.walk.take_out.Goals as goal
 
 pub overflow_mul-before : goal.overflow_mul-before
 overflow_mul-before g c = let C = g.O.Origin.call in let v = g.O.Origin.from in let sp = c.requires.seat in let p = c.args.window.pred in let x = c.args.window.curr in let s = c.args.succ in let at0 = c.requires.at in
-    let q : x < 1048578 = (small C v 3 p x s c.args.place.now.me.0 sp at0).curr in search rules
+    let q : x < 2097154 = (small C v 3 p x s c.args.place.now.me.0 sp at0).curr in search rules
 
 pub link_index-pred_link-requires : goal.link_index-pred_link-requires
 link_index-pred_link-requires g c = let C = g.O.Origin.call in let v = g.O.Origin.from in let sp = c.requires.seat in let p = c.args.window.pred in let x = c.args.window.curr in let s = c.args.succ in let at0 = c.requires.at in
-    let q : p < 1048578 = (small C v 3 p x s c.args.place.now.me.0 sp at0).pred in omega arith
+    let q : p < 2097154 = (small C v 3 p x s c.args.place.now.me.0 sp at0).pred in omega arith
 
 pub overflow_mul-succ : goal.overflow_mul-succ
 overflow_mul-succ g c = let C = g.O.Origin.call in let v = g.O.Origin.from in let sp = c.requires.seat in let p = c.args.window.pred in let x = c.args.window.curr in let s = c.args.succ in let at0 = c.requires.at in
-    let q : s < 1048578 = (small C v 3 p x s c.args.place.now.me.0 sp at0).succ in search rules
+    let q : s < 2097154 = (small C v 3 p x s c.args.place.now.me.0 sp at0).succ in search rules
 
 pub exchange_on-seen-requires-clause-open : goal.exchange_on-seen-requires-clause-open
 exchange_on-seen-requires-clause-open g c = let C = g.O.Origin.call in let v = g.O.Origin.from in let sp = c.requires.seat in let p = c.args.window.pred in let x = c.args.window.curr in let s = c.args.succ in let at0 = c.requires.at in

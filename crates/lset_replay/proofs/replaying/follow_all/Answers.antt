@@ -21,7 +21,7 @@ follow-requires g c =
     let there = comes_next c.args.first c.args.lines.now c.loop-index.index c.loop-done._done c.loop-done.moment c.event_of-times.result.1
     c.event_of-times.result.0 c.loop-index-test.true c.event_of-times.ensures c.loop-done-test.true c.loop-done.invariant.count in
     subst (λ m. MayFollow c.loop-done.recorder m c.event_of-times.result.0.event c.in-Ok.told) (sym (add-one c.loop-done.moment))
-    (ready g.M.Machine.table (tells_keys g.M.Machine.table c.has_account.ensures c.listed_content.ensures) c.args.world.now.threads c.args.world.now.quota (events_from c.args.first c.args.lines.now)
+    (ready g.M.Machine.table (tells_keys g.M.Machine.table c.has_account.ensures c.listed_content.ensures) c.args.recorder.now.history.opening (events_from c.args.first c.args.lines.now)
     c.loop-done.moment c.loop-done.world c.loop-done.recorder c.loop-done.invariant.followed c.event_of-times.result.0.event
     there.event_is c.in-Ok.ensures.0 c.in-Ok.told c.in-Ok.ensures.2)
 
@@ -29,9 +29,9 @@ pub returns-in-Err : goal.returns-in-Err
 returns-in-Err g c =
     let there = comes_next c.args.first c.args.lines.now c.loop-index.index c.loop-done._done c.loop-done.moment c.event_of-times.result.1
     c.event_of-times.result.0 c.loop-index-test.true c.event_of-times.ensures c.loop-done-test.true c.loop-done.invariant.count in
-    refusal_is g.M.Machine.table c.args.world.now.threads c.args.world.now.quota (events_from c.args.first c.args.lines.now)
+    refusal_is g.M.Machine.table c.args.recorder.now.history.opening (events_from c.args.first c.args.lines.now)
     c.event_of-times.result.0.line c.in-Err.cause c.refusal.result c.refusal.ensures
-    (stopped g.M.Machine.table (tells_keys g.M.Machine.table c.has_account.ensures c.listed_content.ensures) c.args.world.now.threads c.args.world.now.quota (events_from c.args.first c.args.lines.now)
+    (stopped g.M.Machine.table (tells_keys g.M.Machine.table c.has_account.ensures c.listed_content.ensures) c.args.recorder.now.history.opening (events_from c.args.first c.args.lines.now)
     c.loop-done.moment c.loop-done.world c.loop-done.recorder c.loop-done.invariant.followed c.event_of-times.result.0.event
     there.event_is c.in-Err.cause c.event_of-times.result.0.line there.known there.line_is c.in-Err.ensures.0).0
 
@@ -41,15 +41,15 @@ loop-done-preserved g c =
     c.event_of-times.result.0 c.loop-index-test.true c.event_of-times.ensures c.loop-done-test.true c.loop-done.invariant.count in
     record {
       count = omega (arith, c.loop-done.invariant.count);
-      followed = subst (λ m. HasFollowed g.M.Machine.table c.args.world.now.threads c.args.world.now.quota
+      followed = subst (λ m. HasFollowed g.M.Machine.table c.args.recorder.now.history.opening
           (events_from c.args.first c.args.lines.now) m c.step.new.self c.follow.new.self) (sym (add-one c.loop-done.moment))
-          (followed g.M.Machine.table (tells_keys g.M.Machine.table c.has_account.ensures c.listed_content.ensures) c.args.world.now.threads c.args.world.now.quota
+          (followed g.M.Machine.table (tells_keys g.M.Machine.table c.has_account.ensures c.listed_content.ensures) c.args.recorder.now.history.opening
           (events_from c.args.first c.args.lines.now) c.loop-done.moment c.loop-done.world c.loop-done.recorder c.loop-done.invariant.followed
           c.event_of-times.result.0.event there.event_is
           c.step.new.self c.follow.new.self c.in-Ok.told c.in-Ok.ensures.0 c.in-Ok.ensures.1 c.in-Ok.ensures.2
           (subst (λ m. trace_of c.follow.new.self ≡ trace_after m (entry_told c.event_of-times.result.0.event c.in-Ok.told)
           (trace_of c.loop-done.recorder)) (add-one c.loop-done.moment) c.in_ok-follow-in-Ok.ensures.trace)
-          c.in_ok-follow-in-Ok.ensures.threads c.in_ok-follow-in-Ok.ensures.quota);
+          c.in_ok-follow-in-Ok.ensures.opening);
     }
 
 pub loop-index-preserved : goal.loop-index-preserved

@@ -8,12 +8,12 @@ use Rattle.lset_replay.proofs.replaying.follow_all.Given as goal
 abbrev pub invariant-loop-index : goal.invariant-loop-index
 invariant-loop-index g l = record {
   count : l.moment ≡ length (events_from l.first (take l.index l.lines));
-  followed : HasFollowed g.M.Machine.table l.fn.world.threads l.fn.world.quota (events_from l.first l.lines) l.moment l.world l.recorder;
+  followed : HasFollowed g.M.Machine.table l.fn.recorder.history.opening (events_from l.first l.lines) l.moment l.world l.recorder;
 }
 
 -- and some of the next line
 abbrev pub invariant-loop-done : goal.invariant-loop-done
 invariant-loop-done g l = record {
   count : AreBehind l.first l.lines l.index l._done l.moment;
-  followed : HasFollowed g.M.Machine.table l.fn.world.threads l.fn.world.quota (events_from l.first l.lines) l.moment l.world l.recorder;
+  followed : HasFollowed g.M.Machine.table l.fn.recorder.history.opening (events_from l.first l.lines) l.moment l.world l.recorder;
 }

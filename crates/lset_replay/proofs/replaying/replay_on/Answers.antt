@@ -9,7 +9,7 @@ use Rattle.lset_steps.specs.Worlds.{WorldState}
 use Rattle.lset_report.specs.Report.{ReportValue}
 use Rattle.lset_schedule.specs.declared.TheConstants.{MOST_EVENTS}
 use Rattle.lset_schedule.specs.declared.value.Line.{Line}
-use Rattle.lset_schedule.specs.Plan.{view, event_count}
+use Rattle.lset_schedule.specs.Plan.{view, event_count, opening_in}
 use Rattle.lset_replay.specs.declared.places.Place.{Place}
 use Rattle.lset_replay.specs.Blocks.{ArePointsAt, StandUpTo, blocks_upto}
 use Rattle.lset_replay.specs.Events.{events_from, events_of}
@@ -29,7 +29,7 @@ few_events n ls lines e few = subst (λ z. z ≤ MOST_EVENTS) (sym (length_of_ev
 pub in_order-requires-clause-few : goal.in_order-requires-clause-few
 in_order-requires-clause-few g c =
     let places : length c.follow_all.new.recorder.places.items ≤ length (events_from c.first_event_line.result c.deref.result.now) =
-    few_places g.M.Machine.table (tells_keys g.M.Machine.table c.has_account.ensures c.listed_content.ensures) c.in_ok-world.world.threads c.in_ok-world.world.quota
+    few_places g.M.Machine.table (tells_keys g.M.Machine.table c.has_account.ensures c.listed_content.ensures) c.in_ok-recorder.recorder.history.opening
     (events_from c.first_event_line.result c.deref.result.now) (length (events_from c.first_event_line.result c.deref.result.now))
     c.follow_all.new.world c.follow_all.new.recorder c.in_ok-follow_all.ensures in
     let few : length (events_from c.first_event_line.result c.deref.result.now) ≤ MOST_EVENTS =
@@ -42,34 +42,30 @@ pub in_order-requires-clause-inside : goal.in_order-requires-clause-inside
 in_order-requires-clause-inside g c =
     stand_upto_later (length (events_from c.first_event_line.result c.deref.result.now)) MOST_EVENTS c.deref-2.result.now
     (subst (λ xs. StandUpTo (length (events_from c.first_event_line.result c.deref.result.now)) xs) (sym c.deref-2.ensures.value)
-    (places_upto g.M.Machine.table (tells_keys g.M.Machine.table c.has_account.ensures c.listed_content.ensures) c.in_ok-world.world.threads c.in_ok-world.world.quota
+    (places_upto g.M.Machine.table (tells_keys g.M.Machine.table c.has_account.ensures c.listed_content.ensures) c.in_ok-recorder.recorder.history.opening
     (events_from c.first_event_line.result c.deref.result.now) (length (events_from c.first_event_line.result c.deref.result.now))
     c.follow_all.new.world c.follow_all.new.recorder c.in_ok-follow_all.ensures))
     (few_events c.first_event_line.result c.deref.result.now c.args.schedule.now.lines.items c.deref.ensures.value c.requires.few)
 
 pub returns-clause-replays : goal.returns-clause-replays
 returns-clause-replays g c =
-    let threads : c.in_ok-world.world.threads ≡ c.args.schedule.now.threads =
-    ap (λ (w : WorldState). w.threads) c.in_ok-world.ensures ∙ ap (λ (s : Sizes). s.threads) c.in-Ok.ensures.sizes in
-    let quota : c.in_ok-world.world.quota ≡ c.args.schedule.now.quota =
-    ap (λ (w : WorldState). w.quota) c.in_ok-world.ensures ∙ ap (λ (s : Sizes). s.quota) c.in-Ok.ensures.sizes in
+    let opens : c.in_ok-recorder.recorder.history.opening ≡ opening_in (view c.args.schedule.now) = c.in_ok-recorder.ensures.opening
+    ∙ ap (λ keys. record { threads = c.args.schedule.now.threads; quota = c.args.schedule.now.quota; keys = keys }) c.new-2.ensures.items in
     let events : events_from c.first_event_line.result c.deref.result.now ≡ events_of (view c.args.schedule.now) =
     same_events c.first_event_line.result _ c.deref.result.now _ c.first_event_line.ensures c.deref.ensures.value in (
-      replay_is g.M.Machine.table (tells_keys g.M.Machine.table c.has_account.ensures c.listed_content.ensures) (view c.args.schedule.now) c.in_ok-world.world.threads
-          c.in_ok-world.world.quota (events_from c.first_event_line.result c.deref.result.now)
+      replay_is g.M.Machine.table (tells_keys g.M.Machine.table c.has_account.ensures c.listed_content.ensures) (view c.args.schedule.now) c.in_ok-recorder.recorder.history.opening (events_from c.first_event_line.result c.deref.result.now)
           c.follow_all.new.world c.follow_all.new.recorder c.in_ok-ordered.ordered.order.items c.in_ok-keys.keys.items
-          c.in_ok-follow_all.ensures threads quota events
+          c.in_ok-follow_all.ensures opens events
           (c.in_ok-ordered.ensures.order (length (events_from c.first_event_line.result c.deref.result.now))
           (subst (λ xs. StandUpTo (length (events_from c.first_event_line.result c.deref.result.now)) xs) (sym c.deref-2.ensures.value)
-          (places_upto g.M.Machine.table (tells_keys g.M.Machine.table c.has_account.ensures c.listed_content.ensures) c.in_ok-world.world.threads c.in_ok-world.world.quota
+          (places_upto g.M.Machine.table (tells_keys g.M.Machine.table c.has_account.ensures c.listed_content.ensures) c.in_ok-recorder.recorder.history.opening
           (events_from c.first_event_line.result c.deref.result.now) (length (events_from c.first_event_line.result c.deref.result.now))
           c.follow_all.new.world c.follow_all.new.recorder c.in_ok-follow_all.ensures))
           ∙ ap (λ xs. blocks_upto xs (length (events_from c.first_event_line.result c.deref.result.now))) c.deref-2.ensures.value)
           c.in_ok-keys.ensures,
-      points_are_of g.M.Machine.table (tells_keys g.M.Machine.table c.has_account.ensures c.listed_content.ensures) (view c.args.schedule.now) c.in_ok-world.world.threads
-          c.in_ok-world.world.quota (events_from c.first_event_line.result c.deref.result.now)
+      points_are_of g.M.Machine.table (tells_keys g.M.Machine.table c.has_account.ensures c.listed_content.ensures) (view c.args.schedule.now) c.in_ok-recorder.recorder.history.opening (events_from c.first_event_line.result c.deref.result.now)
           c.follow_all.new.world c.follow_all.new.recorder c.in_ok-ordered.ordered.order.items
-          c.in_ok-ordered.ordered.points.items c.in_ok-follow_all.ensures threads quota events
+          c.in_ok-ordered.ordered.points.items c.in_ok-follow_all.ensures opens events
           (subst (λ ps. ArePointsAt ps c.in_ok-ordered.ordered.order.items c.in_ok-ordered.ordered.points.items)
           c.deref-2.ensures.value c.in_ok-ordered.ensures.points),
     )

@@ -28,7 +28,7 @@ trace_event-requires-clause-few g c =
     let few : c.loop-done.moment < MOST_EVENTS =
     few_behind c.args.first c.args.lines.now c.loop-done.moment MOST_EVENTS c.event_of-times.result.0 c.requires.few there in
     let begun : length c.loop-done.recorder.places.items ≤ c.loop-done.moment =
-    few_begun g.M.Machine.table (tells_keys g.M.Machine.table c.has_account.ensures c.listed_content.ensures) c.args.world.now.threads c.args.world.now.quota (events_from c.args.first c.args.lines.now)
+    few_begun g.M.Machine.table (tells_keys g.M.Machine.table c.has_account.ensures c.listed_content.ensures) c.args.recorder.now.history.opening (events_from c.args.first c.args.lines.now)
     c.args.chains c.loop-done.moment c.loop-done.world c.loop-done.recorder c.loop-done.kept.items c.loop-done.traced.items
     c.loop-done.invariant.told in
     omega arith
@@ -39,7 +39,7 @@ trace_event-requires-clause-may g c =
     c.event_of-times.result.0 c.loop-index-test.true c.event_of-times.ensures c.loop-done-test.true c.loop-done.invariant.count in
     λ enabled. subst (λ m. MayFollow c.loop-done.recorder m c.event_of-times.result.0.event
     (told g.M.Machine.table c.loop-done.world.state c.event_of-times.result.0.event)) (sym (add-one c.loop-done.moment))
-    (may_follow g.M.Machine.table (tells_keys g.M.Machine.table c.has_account.ensures c.listed_content.ensures) c.args.world.now.threads c.args.world.now.quota (events_from c.args.first c.args.lines.now)
+    (may_follow g.M.Machine.table (tells_keys g.M.Machine.table c.has_account.ensures c.listed_content.ensures) c.args.recorder.now.history.opening (events_from c.args.first c.args.lines.now)
     c.args.chains c.loop-done.moment c.loop-done.world c.loop-done.recorder c.loop-done.kept.items c.loop-done.traced.items
     c.loop-done.invariant.told c.event_of-times.result.0
     there.event_is enabled)
@@ -49,14 +49,14 @@ returns-in-Err-Refused g c =
     let there = comes_next c.args.first c.args.lines.now c.loop-index.index c.loop-done._done c.loop-done.moment c.event_of-times.result.1
     c.event_of-times.result.0 c.loop-index-test.true c.event_of-times.ensures c.loop-done-test.true c.loop-done.invariant.count in
     let refused = rw c.in-Err-Refused.field-0-is at c.in-Err-Refused.ensures in
-    let t : TellsEvents g.M.Machine.table c.args.world.now.threads c.args.world.now.quota (events_from c.args.first c.args.lines.now) c.args.chains
+    let t : TellsEvents g.M.Machine.table c.args.recorder.now.history.opening (events_from c.args.first c.args.lines.now) c.args.chains
     c.loop-done.traced.items (Some (c.event_of-times.result.0.line, c.in-Err-Refused.cause)) =
-    told_to_refused g.M.Machine.table (tells_keys g.M.Machine.table c.has_account.ensures c.listed_content.ensures) c.args.world.now.threads c.args.world.now.quota
+    told_to_refused g.M.Machine.table (tells_keys g.M.Machine.table c.has_account.ensures c.listed_content.ensures) c.args.recorder.now.history.opening
     (events_from c.args.first c.args.lines.now) c.args.chains c.loop-done.moment c.loop-done.world c.loop-done.recorder c.loop-done.kept.items
     c.loop-done.traced.items c.loop-done.invariant.told c.event_of-times.result.0
     there.event_is c.in-Err-Refused.cause there.known
     there.line_is refused in
-    subst (λ (z : StepFault). TellsEvents g.M.Machine.table c.args.world.now.threads c.args.world.now.quota
+    subst (λ (z : StepFault). TellsEvents g.M.Machine.table c.args.recorder.now.history.opening
     (events_from c.args.first c.args.lines.now) c.args.chains c.loop-done.traced.items (Some (c.event_of-times.result.0.line, z)))
     (sym c.in-Err-Refused.cause-is) t
 
@@ -66,13 +66,13 @@ loop-done-preserved g c =
     c.event_of-times.result.0 c.loop-index-test.true c.event_of-times.ensures c.loop-done-test.true c.loop-done.invariant.count in
     record {
       count = omega (arith, c.loop-done.invariant.count);
-      told = subst (λ m. HasTraced g.M.Machine.table c.args.world.now.threads c.args.world.now.quota (events_from c.args.first c.args.lines.now)
+      told = subst (λ m. HasTraced g.M.Machine.table c.args.recorder.now.history.opening (events_from c.args.first c.args.lines.now)
           c.args.chains m c.trace_event.new.world c.trace_event.new.recorder c.trace_event.new.kept.items c.push.new.self.items)
           (sym (add-one c.loop-done.moment))
-          (subst (λ (xs : List TracedEvent). HasTraced g.M.Machine.table c.args.world.now.threads c.args.world.now.quota
+          (subst (λ (xs : List TracedEvent). HasTraced g.M.Machine.table c.args.recorder.now.history.opening
           (events_from c.args.first c.args.lines.now) c.args.chains (suc c.loop-done.moment) c.trace_event.new.world c.trace_event.new.recorder
           c.trace_event.new.kept.items xs) (sym c.in_ok-push-in-Ok.ensures.items)
-          (traced_more g.M.Machine.table (tells_keys g.M.Machine.table c.has_account.ensures c.listed_content.ensures) c.args.world.now.threads c.args.world.now.quota
+          (traced_more g.M.Machine.table (tells_keys g.M.Machine.table c.has_account.ensures c.listed_content.ensures) c.args.recorder.now.history.opening
           (events_from c.args.first c.args.lines.now) c.args.chains c.loop-done.moment c.loop-done.world c.loop-done.recorder
           c.loop-done.kept.items c.loop-done.traced.items c.loop-done.invariant.told c.event_of-times.result.0
           there.event_is

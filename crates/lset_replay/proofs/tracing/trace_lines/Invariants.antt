@@ -8,7 +8,7 @@ use Rattle.lset_replay.proofs.tracing.trace_lines.Given as goal
 abbrev pub invariant-loop-index : goal.invariant-loop-index
 invariant-loop-index g l = record {
   count : l.moment ≡ length (events_from l.first (take l.index l.lines));
-  told : HasTraced g.M.Machine.table l.fn.world.threads l.fn.world.quota (events_from l.first l.lines) l.chains l.moment l.world
+  told : HasTraced g.M.Machine.table l.fn.recorder.history.opening (events_from l.first l.lines) l.chains l.moment l.world
       l.recorder l.kept.items l.traced.items;
 }
 
@@ -16,6 +16,6 @@ invariant-loop-index g l = record {
 abbrev pub invariant-loop-done : goal.invariant-loop-done
 invariant-loop-done g l = record {
   count : AreBehind l.first l.lines l.index l._done l.moment;
-  told : HasTraced g.M.Machine.table l.fn.world.threads l.fn.world.quota (events_from l.first l.lines) l.chains l.moment l.world
+  told : HasTraced g.M.Machine.table l.fn.recorder.history.opening (events_from l.first l.lines) l.chains l.moment l.world
       l.recorder l.kept.items l.traced.items;
 }

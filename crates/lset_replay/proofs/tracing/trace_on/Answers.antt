@@ -10,17 +10,17 @@ use Rattle.lset_replay.proofs.tracing.trace_on.Goals as goal
 
 pub trace_lines-requires-clause-start : goal.trace_lines-requires-clause-start
 trace_lines-requires-clause-start g c =
-    let followed : HasFollowed g.M.Machine.table c.in_ok-world.world.threads c.in_ok-world.world.quota
+    let followed : HasFollowed g.M.Machine.table c.in_ok-recorder.recorder.history.opening
     (events_from c.first_event_line.result c.deref.result.now) 0 c.in_ok-world.world c.in_ok-recorder.recorder = search rules in
-    traced_none g.M.Machine.table c.in_ok-world.world.threads c.in_ok-world.world.quota (events_from c.first_event_line.result c.deref.result.now)
+    traced_none g.M.Machine.table c.in_ok-recorder.recorder.history.opening (events_from c.first_event_line.result c.deref.result.now)
     c.args.chains c.in_ok-world.world c.in_ok-recorder.recorder c.in_ok-kept.kept.items c.new-events.result.items
     followed c.new-events.ensures.items c.in_ok-kept.ensures.keys
 
 pub returns : goal.returns
 returns g c =
-    trace_is g.M.Machine.table (view c.args.schedule.now) c.args.chains c.in_ok-world.world.threads c.in_ok-world.world.quota
+    trace_is g.M.Machine.table (view c.args.schedule.now) c.args.chains c.in_ok-recorder.recorder.history.opening
     (events_from c.first_event_line.result c.deref.result.now) _
-    (ap (λ (w : WorldState). w.threads) c.in_ok-world.ensures ∙ ap (λ (s : Sizes). s.threads) c.in-Ok.ensures.sizes)
-    (ap (λ (w : WorldState). w.quota) c.in_ok-world.ensures ∙ ap (λ (s : Sizes). s.quota) c.in-Ok.ensures.sizes)
+    (c.in_ok-recorder.ensures.opening
+    ∙ ap (λ keys. record { threads = c.args.schedule.now.threads; quota = c.args.schedule.now.quota; keys = keys }) c.new-2.ensures.items)
     (same_events c.first_event_line.result _ c.deref.result.now _ c.first_event_line.ensures c.deref.ensures.value)
     refl refl refl c.in_ok-refused.ensures

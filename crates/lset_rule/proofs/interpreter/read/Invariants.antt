@@ -3,6 +3,7 @@ use Rattle.lset_rule.proofs.Calls.{Comes}
 use Rattle.lset_rule.specs.Seats.{IsSeat}
 use Rattle.lset_rule.proofs.Ending.{steps_of}
 use Rattle.lset_rule.proofs.Ending.{steps_left}
+use Rattle.lset_words.specs.Words.{sizes}
 use Rattle.lset_steps.specs.BoundedReads.{most_reads}
 use Rattle.lset_rule.proofs.interpreter.read.Given as goal
 
@@ -13,4 +14,4 @@ abbrev pub invariant-loop-fed : goal.invariant-loop-fed
 invariant-loop-fed g l = Comes g.M.Machine.table (Contains l.fn.key) l.fn.place.me.0 l.fed l.place.me.0 × IsSeat l.fn.place l.place
 
 abbrev pub decreases-loop-fed : goal.decreases-loop-fed
-decreases-loop-fed g l = steps_left l.fed.answer (most_reads l.fn.place.me.0.shape.threads l.fn.place.me.0.shape.quota) (steps_of l.place.me.0.under)
+decreases-loop-fed g l = steps_left l.fed.answer (most_reads (sizes l.fn.place.me.0.shape)) (steps_of l.place.me.0.under)

@@ -10,7 +10,7 @@ use Rattle.lset_run.proofs.RunLaws.{opened_held, opened_length, opened_records, 
 use Rattle.lset_run.proofs.programs.run_on.Goals as goal
 
 pub work-requires-clause-seats : goal.work-requires-clause-seats
-work-requires-clause-seats g c κs within = opened_of _ _ _ _ c.in-Ok-open.ensures.opened
+work-requires-clause-seats g c κs within = opened_of _ _ _ c.in-Ok-open.ensures.opened
 
 pub work-requires-clause-short : goal.work-requires-clause-short
 work-requires-clause-short g c κs within =

@@ -14,8 +14,7 @@ loop-init g c = record {
       (ap (λ (w : WorldState). w.state) c.in_ok-world.ensures) c.new-lines.ensures.items h;
   draft =
       draft_along _ _ _ _ _ _ c.args.calls _ _ _ _ _ refl c.new-lines.ensures.items c.in_ok-world.ensures
-      (draft_opening g.M.Machine.table c.args.layout.threads c.args.layout.quota c.args.calls c.args.keys
-      c.threads-threads.ensures.within);
+      (draft_opening g.M.Machine.table c.args.layout c.args.calls c.args.keys c.threads-threads.ensures.within c.requires.empty);
 }
 
 pub loop-preserved : goal.loop-preserved

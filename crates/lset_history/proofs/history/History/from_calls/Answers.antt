@@ -1,4 +1,5 @@
-use Rattle.std.proofs.Common.{◌≤◌, false, not, None, is_none, is_some, refl, sym, ap, ◌∙◌, arith, length}
+use Rattle.std.specs.Prelude.{All}
+use Rattle.std.proofs.Common.{subst, ◌<◌, ◌^◌, ◌≤◌, false, not, None, is_none, is_some, refl, sym, ap, ◌∙◌, arith, length}
 use Rattle.std.proofs.lemmas.List.{get_or-replicate, get_or_default, length-set}
 use Rattle.lset_words.specs.declared.TheConstants.{MOST_THREADS}
 use Rattle.lset_words.specs.declared.Call.TheVariants.{Add}
@@ -49,5 +50,6 @@ invariant_of-result c =
     let e = c.deref-call_record-items.ensures.value in
     let all : length c.args.calls.items ≤ c.loop-call_record.call_record-index = omega (arith, ap length e) in
     let kept = c.loop-call_record.invariant in
-    kept_of c.args.threads c.args.quota c.args.calls.items c.loop-call_record.busy c.loop-call_record.latest _
-    c.requires.within c.requires.history kept.long all (rw (← e) kept.latest) (rw (← e) kept.open_ones) kept.fits
+    kept_of (record { threads = c.args.threads; quota = c.args.quota; keys = c.args.opening.items }) c.args.calls.items
+    c.loop-call_record.busy c.loop-call_record.latest _
+    (record { within = c.requires.within; rising = c.requires.rising; low = subst (λ ks. All (λ k. k < 2 ^ 32) ks) c.deref.ensures.value c.keys_are_small.ensures }) c.requires.history kept.long all (rw (← e) kept.latest) (rw (← e) kept.open_ones) kept.fits

@@ -6,5 +6,5 @@ use Rattle.lset_steps.proofs.world.World.content.Goals as goal
 
 pub returns : goal.returns
 returns g c =
-    IfOk-weaker c.walk.result _ _ (λ v w. content_picked _ (view_of c.args.self.now.threads c.args.self.now.quota c.args.self.now.state)
+    IfOk-weaker c.walk.result _ _ (λ v w. content_picked _ (view_of c.args.self.now.sizes c.args.self.now.state)
     v.items (λ met answer says. search rules) w) c.walk.ensures

@@ -13,14 +13,14 @@ none_listed (Some x) h = absurd (h x refl)
 
 pub loop-node-init : goal.loop-node-init
 loop-node-init g c =
-    let v : View = view_of c.args.self.now.threads c.args.self.now.quota c.args.self.now.state in
+    let v : View = view_of c.args.self.now.sizes c.args.self.now.state in
     let laws = c.keeps_its_laws.ensures in
     rw (c.new-picked.ensures.items, c.next_node-node.ensures)
     (none_picked (goal.F-post g c.args.pick) v laws.ordered (omega (arith, laws.head_key, laws.tail_key)))
 
 pub overflow_cast-met : goal.overflow_cast-met
 overflow_cast-met g c =
-    let v : View = view_of c.args.self.now.threads c.args.self.now.quota c.args.self.now.state in
+    let v : View = view_of c.args.self.now.sizes c.args.self.now.state in
     let laws = c.keeps_its_laws.ensures in
     let low = fits (goal.F-post g c.args.pick) v laws.ordered c.loop-node.picked.items c.loop-node.node laws.tail_key
     c.loop-node-test.true c.loop-node.invariant in
@@ -28,13 +28,13 @@ overflow_cast-met g c =
 
 pub loop-node-smaller : goal.loop-node-smaller
 loop-node-smaller g c =
-    let v : View = view_of c.args.self.now.threads c.args.self.now.quota c.args.self.now.state in
+    let v : View = view_of c.args.self.now.sizes c.args.self.now.state in
     falls (goal.F-post g c.args.pick) v c.keeps_its_laws.ensures.ordered c.loop-node.picked.items c.loop-node.node
     c.next_node-node-in-loop-node.result c.loop-node-test.true c.next_node-node-in-loop-node.ensures c.loop-node.invariant
 
 pub loop-node-preserved : goal.loop-node-preserved
 loop-node-preserved g c =
-    let v : View = view_of c.args.self.now.threads c.args.self.now.quota c.args.self.now.state in
+    let v : View = view_of c.args.self.now.sizes c.args.self.now.state in
     let laws = c.keeps_its_laws.ensures in
     let next : ℕ = c.next_node-node-in-loop-node.result in
     let met : ChainKey = record { key = c.node_key.result - 1; marked = c.is_marked.result } in
@@ -56,5 +56,5 @@ loop-node-preserved g c =
 
 pub returns : goal.returns
 returns g c =
-    all_picked (goal.F-post g c.args.pick) (view_of c.args.self.now.threads c.args.self.now.quota c.args.self.now.state)
+    all_picked (goal.F-post g c.args.pick) (view_of c.args.self.now.sizes c.args.self.now.state)
     c.keeps_its_laws.ensures.ordered c.loop-node.picked.items c.loop-node.node (omega arith) c.loop-node.invariant

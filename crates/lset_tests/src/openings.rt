@@ -1,0 +1,134 @@
+//! Layouts, worlds, oracles, changes and histories of sets that open with given keys.
+ghost use Rattle.std.specs.Prelude.{◌≡◌, IfOk};
+
+use lset_coarse::CoarseList;
+use lset_history::{Changes, History, Oracle, OrderFault, check_order};
+use lset_lock_free::LockFreeList;
+use lset_steps::{Event, Machine, World};
+use lset_words::{Call, Key, LayoutFault, Placed, Reply, layout_opening};
+use std::alloc::{AllocError, Global};
+use std::process::Abort;
+use std::test::Fail;
+
+#[test]
+fn a_layout_of_three_opening_keys(rt: HostRuntime) -> Result<(), Fail> {
+    let layout = layout_opening(2, 4, 3)?;
+    assert_eq!(rt; layout.opening(), 3);
+    assert_eq!(rt; layout.nodes(), 13);
+    assert_eq!(rt; layout.words(), 42);
+    Ok(())
+}
+
+#[test]
+fn opening_keys_have_a_limit(rt: HostRuntime) -> Result<(), Fail> {
+    let most = layout_opening(64, 16_384, 1_048_576)?;
+    assert_eq!(rt; most.words(), 6_291_465);
+    let rows = [
+        (1, 1, 1_048_577, LayoutFault::Opening),
+        (1, 16_385, 1_048_577, LayoutFault::Quota),
+        (0, 16_385, 1_048_577, LayoutFault::Threads),
+        (65, 1, 0, LayoutFault::Threads),
+    ];
+    for (threads, quota, opening, fault) in rows {
+        assert_eq!(rt; layout_opening(threads, quota, opening).err(), Some(fault));
+    }
+    Ok(())
+}
+
+/// A world of one thread with one slot, and the keys 0, 7 and 4294967295.
+fn with_three_keys<M: Machine>(alloc: Global) -> Result<World<M>, Fail> {
+    let layout = layout_opening(1, 1, 3)?;
+    Ok(World::opened(alloc, layout, &[0, 7, u32::MAX])?)
+}
+
+/// The thread makes a call to its end; the reply.
+fn made<M: Machine, R: Abort>(rt: &R, world: &mut World<M>, call: Call) -> Result<Reply, Fail> {
+    world.step(Event::Begin(0, call))?;
+    for _ in 0..40 {
+        if let Some(reply) = world.step(Event::Go(0))?.answer {
+            return Ok(reply);
+        }
+    }
+    assert!(rt; false, "the call does not end");
+    Err(Fail::new("the call does not end"))
+}
+
+/// An opening key goes out as any other and comes in again in a slot; the head's first key and the last before the tail too.
+fn keys_come_and_go<M: Machine, R: Abort>(rt: &R, alloc: Global) -> Result<(), Fail> {
+    let mut world = with_three_keys::<M>(alloc)?;
+    assert_eq!(rt; world.content()?.as_slice(), [0, 7, u32::MAX].as_slice());
+    assert_eq!(rt; made(rt, &mut world, Call::Add(Key(7)))?, Reply::False);
+    assert_eq!(rt; made(rt, &mut world, Call::Remove(Key(0)))?, Reply::True);
+    assert_eq!(rt;
+        made(rt, &mut world, Call::Ceiling(Key(8)))?,
+        Reply::At(Key(u32::MAX))
+    );
+    assert_eq!(rt;
+        made(rt, &mut world, Call::Remove(Key(u32::MAX)))?,
+        Reply::True
+    );
+    assert_eq!(rt; made(rt, &mut world, Call::Add(Key(0)))?, Reply::True);
+    assert_eq!(rt; made(rt, &mut world, Call::Add(Key(8)))?, Reply::Full);
+    assert_eq!(rt; world.content()?.as_slice(), [0, 7].as_slice());
+    Ok(())
+}
+
+#[test]
+fn opening_keys_come_and_go(rt: HostRuntime) -> Result<(), Fail> {
+    keys_come_and_go::<CoarseList, HostRuntime>(&rt, rt.alloc())?;
+    keys_come_and_go::<LockFreeList, HostRuntime>(&rt, rt.alloc())
+}
+
+#[test]
+fn opening_keys_are_nobodys_adds(rt: HostRuntime) -> Result<(), Fail> {
+    let mut oracle = Oracle::opened(rt.alloc(), 1, 0, &[9])?;
+    assert_eq!(rt; oracle.apply(0, Call::Add(Key(9)))?, Reply::False);
+    assert_eq!(rt; oracle.apply(0, Call::Add(Key(4)))?, Reply::Full);
+    assert_eq!(rt; oracle.apply(0, Call::Remove(Key(9)))?, Reply::True);
+    assert!(rt; oracle.keys()?.is_empty());
+    Ok(())
+}
+
+#[test]
+fn opening_keys_are_there_from_moment_0(rt: HostRuntime) -> Result<(), Fail> {
+    let changes = Changes::opened(rt.alloc(), &[9])?;
+    assert_eq!(rt; changes.first(9, true, 0, 5).0, Some(0));
+    assert_eq!(rt; changes.first(9, false, 0, 5).0, None);
+    assert_eq!(rt; changes.first(8, true, 0, 5).0, None);
+    assert_eq!(rt; changes.first_ceiling(4, Some(9), 0, 5), Some(0));
+    assert_eq!(rt; changes.first_ceiling(10, None, 0, 5), Some(0));
+    Ok(())
+}
+
+fn vector_of(alloc: Global, keys: &[u32]) -> Result<Vec<u32>, AllocError>
+    ensures { IfOk result (λ v. v.items ≡ keys.now) }
+{
+    Vec::from_slice(alloc, keys)
+}
+
+/// One call that takes the key 9 out is legal from that key alone.
+#[test]
+fn an_order_is_judged_from_the_opening_keys(rt: HostRuntime) -> Result<(), Fail> {
+    let alloc = rt.alloc();
+    let order = [Placed {
+        call: 0,
+        reply: Reply::True,
+    }];
+    let mut opened = History::opened(alloc, 1, 0, vector_of(alloc, &[9, 11])?);
+    opened.begin(0, Call::Remove(Key(9)), 1)?;
+    opened.end(0, Reply::True, 2)?;
+    assert_eq!(rt; opened.opening(), [9, 11].as_slice());
+    assert_eq!(rt; check_order(alloc, &opened, &order, &[11]), Ok(()));
+    assert_eq!(rt;
+        check_order(alloc, &opened, &order, &[]),
+        Err(OrderFault::WrongSet)
+    );
+    let mut empty = History::new(alloc, 1, 0);
+    empty.begin(0, Call::Remove(Key(9)), 1)?;
+    empty.end(0, Reply::True, 2)?;
+    assert_eq!(rt;
+        check_order(alloc, &empty, &order, &[]),
+        Err(OrderFault::WrongReply(0))
+    );
+    Ok(())
+}
