@@ -23,7 +23,7 @@ function comparedTrace(engine, trace) {
   const given = trace.text.split("\n").filter((line) => !/^chain( |$)/.test(line));
   const line = own.text.split("\n").findIndex((text, index) => text !== given[index]);
   if (line === -1) return "a trace from a file, and the proved replayer gives the same for its schedule";
-  return `a trace from a file; the proved replayer gives another, from its event ${Math.max(line - 3, 1)} on`;
+  return `a trace from a file; the proved replayer gives another, from its event ${Math.max(line - 3 - trace.opening.length, 1)} on`;
 }
 
 const checkedText = (answer) => answer.text.trim();

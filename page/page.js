@@ -3,13 +3,14 @@
 
 const LINE_HEIGHT = 21;
 const CAUSES = {
-  Header: 'line 1 is to be "listset-schedule 1", or "listset-schedule 2", which has ceilings',
+  Header: 'line 1 is to be "listset-schedule 1", or "listset-schedule 2", which has ceilings and opening keys',
   Kind: 'line 2 is to be "list" and one of coarse, fine, optimistic, lazy, lock-free',
   Threads: 'line 3 is to be "threads" and a number from 1 to 64',
   Quota: 'line 4 is to be "quota" and a number from 0 to 16384',
-  Event: 'a line is to be "begin T CALL K" or "go T N", with one space between; a ceiling is of version 2 alone',
+  Event: 'a line is to be "begin T CALL K" or "go T N", with one space between; a ceiling and, above all events, "opening K" are of version 2 alone',
   Number: "a number is none, has a leading zero, or is out of its range",
-  TooMany: "the events up to this line are more than 1,000,000",
+  TooMany: "the events up to this line are more than 1,000,000, or the opening keys more than 1,048,576",
+  Opening: "an opening key is to be above the one before",
   NotEnded: "the line has no newline at its end",
   NoThread: "there is no such thread",
   Busy: "the thread has a call open",
@@ -163,6 +164,7 @@ function takeTrace(text, count, source, version) {
 function runText(text, count) {
   page.text = text;
   byId("schedule").value = text;
+  byId("opening").value = openingIn(text).join(" ");
   if (page.engine === null) {
     tellFault(null, "", NO_ENGINE);
     return;
@@ -178,6 +180,13 @@ function runText(text, count) {
   else tellLine(answer.text.trim());
   showMarks();
   refreshReport();
+}
+
+// Runs the text of the box with the keys of the opening field in it: as they are typed, so that the engine names what is wrong.
+function runWithOpening() {
+  const keys = byId("opening").value.split(/[\s,]+/).filter((key) => key !== "");
+  byId("schedule").value = withOpening(byId("schedule").value, keys);
+  runBox();
 }
 
 // Runs the text of the box. Its last line gets its newline where it has none.
@@ -268,6 +277,7 @@ async function openFile(file) {
   if (kind === "schedule") return runText(text, 0);
   if (!takeTrace(text, 0, "a trace from a file")) return;
   page.text = byId("schedule").value = scheduleLines(page.trace, page.trace.events.length).join("\n") + "\n";
+  byId("opening").value = page.trace.opening.join(" ");
   page.source = comparedTrace(page.engine, page.trace);
   show();
 }
@@ -306,6 +316,7 @@ function clickHistory(event) {
 function listen() {
   byId("examples").onchange = () => pickExample(byId("examples").value, 0);
   byId("run").onclick = runBox;
+  byId("opening").onchange = runWithOpening;
   byId("undo").onclick = goBack;
   byId("first").onclick = () => goTo(0);
   byId("back").onclick = () => goTo(page.count - 1);

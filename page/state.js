@@ -11,10 +11,7 @@ class State {
     this.trace = trace;
     this.count = 0;
     this.lock = "free"; // the list's own lock
-    this.nodes = {
-      head: { key: "-inf", link: "tail", lock: "free", reached: true },
-      tail: { key: "+inf", link: "tail", lock: "free", reached: true },
-    };
+    this.nodes = openingNodes(trace);
     this.threads = Array.from({ length: trace.threads }, () => ({ ...AT_REST }));
     this.undo = [];
   }
@@ -66,6 +63,20 @@ class State {
   }
 }
 
+// The nodes of the opening keys, from the head to the tail.
+function openingNodes(trace) {
+  const first = firstOpeningNode(trace);
+  const nameOf = (index) => (index < trace.opening.length ? `n${first + index}` : "tail");
+  const nodes = {
+    head: { key: "-inf", link: nameOf(0), lock: "free", reached: true },
+    tail: { key: "+inf", link: "tail", lock: "free", reached: true },
+  };
+  trace.opening.forEach((key, index) => {
+    nodes[nameOf(index)] = { key: String(key), link: nameOf(index + 1), lock: "free", reached: true };
+  });
+  return nodes;
+}
+
 // A slot in the beginning. It is `reached` once a node that is reached has led to it: up to then it is a thread's own.
 const newNode = () => ({ key: "-inf", link: "head", lock: "free", reached: false });
 const isWritten = (node) => node.key !== "-inf" || node.link !== "head" || node.lock !== "free";
@@ -73,7 +84,7 @@ const ownerOf = (trace, name) => Math.floor((Number(name.slice(1)) - 2) / trace.
 
 // The contents of the set from event `first` to `last`: the keys, rising, and the events from which and up to which they stand.
 function contentsIn(trace, first, last) {
-  const keys = new Set();
+  const keys = new Set(trace.opening);
   const part = (from) => ({ from, to: last + 1, keys: [...keys].sort((one, other) => one - other) });
   const toggle = (event) => (event.put !== undefined ? keys.add(event.put) : keys.delete(event.took));
   const before = trace.changes.filter((event) => event.number < first);

@@ -3,7 +3,9 @@
 
 const MOST_THREADS = 64;
 const MOST_QUOTA = 16384;
+const MOST_OPENING = 1048576;
 const MOST_NUMBER = 4294967295;
+const HEADER_LINES = 4;
 const CALL_WORDS = ["add", "remove", "contains", "ceiling"];
 const REPLY_WORDS = ["true", "false", "full", "nothing"]; // and at-X of a key X
 const REFUSALS = ["NoThread", "Busy", "Idle"];
@@ -63,10 +65,13 @@ class Pieces {
   }
 }
 
+// The nodes of the opening keys come after the slots of all threads.
+const firstOpeningNode = (trace) => 2 + trace.threads * trace.quota;
+
 function isNode(name, trace) {
   if (name === "head" || name === "tail") return true;
   const number = /^n(0|[1-9][0-9]{0,7})$/.exec(name);
-  return number !== null && Number(number[1]) >= 2 && Number(number[1]) < 2 + trace.threads * trace.quota;
+  return number !== null && Number(number[1]) >= 2 && Number(number[1]) < firstOpeningNode(trace) + trace.opening.length;
 }
 
 const isThread = (word, trace) => /^t(0|[1-9][0-9]?)$/.test(word) && Number(word.slice(1)) < trace.threads;
@@ -182,9 +187,10 @@ function takeTold(pieces, event, trace) {
 
 function takeEvent(pieces, trace) {
   const event = { number: pieces.number(trace.events.length + 1, trace.events.length + 1, "number of the next event") };
-  const before = trace.events.length === 0 ? 4 : trace.events[trace.events.length - 1].line;
+  const head = HEADER_LINES + trace.opening.length;
+  const before = trace.events.length === 0 ? head : trace.events[trace.events.length - 1].line;
   pieces.expect("line");
-  event.line = pieces.number(Math.max(before, 5), before + 1, "line of the schedule");
+  event.line = pieces.number(Math.max(before, head + 1), before + 1, "line of the schedule");
   pieces.expect("thread");
   event.thread = pieces.number(0, trace.threads - 1, "thread");
   event.deed = pieces.oneOf(["begin", "load", "store", "exchange"], "deed");
@@ -203,9 +209,9 @@ function takeChain(pieces) {
   }
 }
 
-function takeRefusal(pieces) {
+function takeRefusal(pieces, trace) {
   pieces.expect("line");
-  const line = pieces.number(5, MOST_NUMBER, "line of the schedule");
+  const line = pieces.number(HEADER_LINES + trace.opening.length + 1, MOST_NUMBER, "line of the schedule");
   const cause = pieces.oneOf(REFUSALS, "cause");
   pieces.end();
   return { line, cause };
@@ -235,20 +241,36 @@ function readHeader(lines) {
   return trace;
 }
 
+// The keys with which the set opens, rising: a line of its own for each, after the header.
+function readOpening(lines) {
+  const keys = [];
+  for (let number = HEADER_LINES + 1; lines[number - 1]?.startsWith("opening "); number++) {
+    const pieces = new Pieces(lines[number - 1], number);
+    pieces.expect("opening");
+    const least = keys.length === 0 ? 0 : keys[keys.length - 1] + 1;
+    keys.push(pieces.number(least, MOST_NUMBER, "opening key above the one before"));
+    pieces.end();
+    if (keys.length > MOST_OPENING) pieces.fail(`at most ${MOST_OPENING} opening keys are due`);
+  }
+  return keys;
+}
+
 // The trace whose text this is. Its `version` is that of its schedule's text: the one that is given, and the second where it
-// begins a ceiling. Throws a TraceFault that names the first line that is wrong.
+// has opening keys or begins a ceiling. Throws a TraceFault that names the first line that is wrong.
 function readTrace(text, version = 1) {
   const lines = text.split("\n");
-  const trace = { ...readHeader(lines), version, events: [], calls: [], changes: [], refused: null, text };
+  const opening = readOpening(lines);
+  const trace = { ...readHeader(lines), version, opening, events: [], calls: [], changes: [], refused: null, text };
+  if (opening.length > 0) trace.version = 2;
   trace.open = Array(trace.threads).fill(null);
-  let number = 5;
+  let number = HEADER_LINES + opening.length + 1;
   for (; lines[number - 1] !== "end"; number++) {
     const pieces = new Pieces(lines[number - 1] ?? "", number);
     const word = pieces.oneOf(["event", "chain", "refused"], 'line of a trace ("event", "chain", "refused" or "end")');
     if (word === "event") takeEvent(pieces, trace);
     else if (word === "chain") takeChain(pieces);
     else {
-      trace.refused = takeRefusal(pieces);
+      trace.refused = takeRefusal(pieces, trace);
       break;
     }
   }
@@ -272,6 +294,7 @@ const versionOf = (schedule) => (schedule.startsWith(`${titleOf(2)}\n`) ? 2 : 1)
 // The lines of the schedule of the first `count` events, as the lines of the trace have them.
 function scheduleLines(trace, count) {
   const lines = [titleOf(trace.version), `list ${trace.kind}`, `threads ${trace.threads}`, `quota ${trace.quota}`];
+  for (const key of trace.opening) lines.push(`opening ${key}`);
   let steps = 0;
   for (let index = 0; index < count; index++) {
     const event = trace.events[index];
@@ -295,4 +318,19 @@ function scheduleAndLine(trace, count, line) {
   if (joins) lines[lines.length - 1] = `go ${last[1]} ${Number(last[2]) + Number(added[2])}`;
   else lines.push(line);
   return lines.join("\n") + "\n";
+}
+
+// The opening keys of a schedule's text, as they stand there.
+function openingIn(schedule) {
+  const lines = schedule.split("\n").slice(HEADER_LINES);
+  const count = lines.findIndex((line) => !line.startsWith("opening "));
+  return lines.slice(0, count === -1 ? lines.length : count).map((line) => line.slice("opening ".length));
+}
+
+// The schedule with these opening keys in place of its own. Opening keys want the second version.
+function withOpening(schedule, keys) {
+  const lines = schedule.split("\n");
+  lines.splice(HEADER_LINES, openingIn(schedule).length, ...keys.map((key) => `opening ${key}`));
+  if (keys.length > 0 && lines[0] === titleOf(1)) lines[0] = titleOf(2);
+  return lines.join("\n");
 }

@@ -69,7 +69,7 @@ pub fn one_add(alloc: Global, calls: &mut Calls) -> Result<Schedule, ScheduleFau
 }
 
 /// The report of a schedule that has a text: it has one too.
-#[tactic(auto, using(lset_schedule::proofs::VersionLaws::schedule_has_calls))]
+#[tactic(auto, using(lset_schedule::proofs::VersionLaws::schedule_has_words))]
 fn replayed(alloc: Global, plan: &Schedule) -> Result<Report, ReplayFault>
     requires { IsSchedule (view plan.now) }
     ensures { IfOk result (λ r. HasWordsOfVersion (report.view r)) }
@@ -78,7 +78,7 @@ fn replayed(alloc: Global, plan: &Schedule) -> Result<Report, ReplayFault>
 }
 
 /// Reads and writes the schedule and its report, and replays the one.
-#[tactic(auto, using(lset_schedule::proofs::VersionLaws::schedule_has_calls))]
+#[tactic(auto, using(lset_schedule::proofs::VersionLaws::schedule_has_words))]
 pub fn replays(alloc: Global, calls: &mut Calls) -> Result<(), Wrong> {
     let plan = answer!(
         calls,
@@ -167,7 +167,7 @@ pub fn refusals(alloc: Global, calls: &mut Calls) -> Result<(), Wrong> {
     check(fault == Some(ReplayFault::Idle(10)))
 }
 
-#[tactic(auto, using(lset_schedule::proofs::VersionLaws::schedule_has_calls))]
+#[tactic(auto, using(lset_schedule::proofs::VersionLaws::schedule_has_words))]
 pub fn schedules_drawn(alloc: Global, calls: &mut Calls) -> Result<(), Wrong> {
     let drawn = answer!(
         calls,

@@ -9,6 +9,8 @@ mod failures;
 #[cfg(test)]
 mod long_texts;
 #[cfg(test)]
+mod opening_keys;
+#[cfg(test)]
 mod row_texts;
 #[cfg(test)]
 mod rows;

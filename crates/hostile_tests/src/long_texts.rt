@@ -1,6 +1,9 @@
+use lset_replay::replay;
 use lset_report::{MOST_KEYS, ReportCause, ReportFault, read_report};
+use lset_schedule::{Cause, ScheduleFault, read_schedule};
 use lset_tools::{LONGEST, tool_check, tool_replay};
-use std::alloc::Global;
+use lset_words::MOST_OPENING;
+use std::alloc::{AllocError, Global};
 use std::io::{self, Read};
 use std::test::Fail;
 
@@ -193,6 +196,56 @@ fn a_report_has_no_more_keys_than_there_may_be(rt: HostRuntime) -> Result<(), Fa
     let fault = read_report(rt.alloc(), text.as_bytes()).err();
     let line = 1_048_581;
     let cause = ReportCause::TooMany;
+    assert_eq!(rt; fault, Some(ReportFault { line, cause }));
+    Ok(())
+}
+
+/// The text of a report of the second version whose lines after the header are this front and one key after another, from 0
+/// on and so many.
+fn text_of_keys(alloc: Global, title: &str, word: &str, count: u32) -> Result<String, AllocError> {
+    let mut text = format!(in alloc; "{title} 2\nlist coarse\nthreads 1\nquota 4\n")?;
+    for key in 0..count {
+        writeln!(text, "{word} {key}")?;
+    }
+    Ok(text)
+}
+
+/// A set opens with 1,048,576 keys, and with no more.
+#[test]
+fn a_schedule_has_no_more_opening_keys_than_there_may_be(rt: HostRuntime) -> Result<(), Fail> {
+    let most = text_of_keys(rt.alloc(), "listset-schedule", "opening", MOST_OPENING)?;
+    let schedule = read_schedule(rt.alloc(), most.as_bytes())?;
+    assert_eq!(rt; schedule.opening.len(), MOST_OPENING as usize);
+    assert_eq!(rt;
+        replay(rt.alloc(), &schedule)?.keys.len(),
+        MOST_OPENING as usize
+    );
+    let more = text_of_keys(rt.alloc(), "listset-schedule", "opening", MOST_OPENING + 1)?;
+    let line = 1_048_581;
+    let cause = Cause::TooMany;
+    let fault = read_schedule(rt.alloc(), more.as_bytes()).err();
+    assert_eq!(rt; fault, Some(ScheduleFault { line, cause }));
+    Ok(())
+}
+
+/// The same of a report; and it may have twice as many keys left, which are then too many for its opening keys.
+#[test]
+fn a_report_has_no_more_opening_keys_than_there_may_be(rt: HostRuntime) -> Result<(), Fail> {
+    let mut most = text_of_keys(rt.alloc(), "listset-report", "opening", MOST_OPENING)?;
+    most.push_str("end\n")?;
+    let report = read_report(rt.alloc(), most.as_bytes())?;
+    assert_eq!(rt; report.history.opening().len(), MOST_OPENING as usize);
+    let more = text_of_keys(rt.alloc(), "listset-report", "opening", MOST_OPENING + 1)?;
+    let (line, cause) = (1_048_581, ReportCause::TooMany);
+    let fault = read_report(rt.alloc(), more.as_bytes()).err();
+    assert_eq!(rt; fault, Some(ReportFault { line, cause }));
+    let mut keys = text_of_keys(rt.alloc(), "listset-report", "key", 2 * MOST_OPENING)?;
+    keys.push_str("end\n")?;
+    let report = read_report(rt.alloc(), keys.as_bytes())?;
+    assert_eq!(rt; report.keys.len(), 2 * MOST_OPENING as usize);
+    let more = text_of_keys(rt.alloc(), "listset-report", "key", 2 * MOST_OPENING + 1)?;
+    let line = 2_097_157;
+    let fault = read_report(rt.alloc(), more.as_bytes()).err();
     assert_eq!(rt; fault, Some(ReportFault { line, cause }));
     Ok(())
 }

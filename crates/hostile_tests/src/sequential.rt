@@ -1,4 +1,5 @@
-ghost use Rattle.std.specs.Prelude.{⊤, ◌≡◌, ◌<◌, IfOk};
+ghost use Rattle.std.specs.Prelude.{⊤, ◌≡◌, ◌<◌, ◌^◌, length, IfOk};
+ghost use Rattle.std.specs.List.Sorted.{IsStrictlyIncreasing};
 
 use lset_history::Oracle;
 use lset_lists::{List, Task, on_list};
@@ -7,8 +8,9 @@ use lset_report::Report;
 use lset_schedule::{Line, Schedule, read_schedule};
 use lset_steps::{Event, Machine, World};
 use lset_tools::tool_gen;
-use lset_words::{Call, CallRecord, Key, Reply, layout};
+use lset_words::{Call, CallRecord, Key, Reply, layout_opening};
 use std::alloc::{AllocError, Global};
+use std::process::Abort;
 use std::test::Fail;
 
 const KINDS: [&str; 5] = ["coarse", "fine", "optimistic", "lazy", "lock-free"];
@@ -52,43 +54,58 @@ impl Drawn {
         Ok(text)
     }
 
-    /// The same with ceilings, as `WithCeilings` puts them there.
-    fn text_with_ceilings(self, alloc: Global, kind: &str, seed: u64) -> Result<String, Fail> {
+    /// The same with ceilings, as `WithCeilings` puts them there, of a set that opens with these keys.
+    fn text_with_ceilings(
+        self,
+        alloc: Global,
+        kind: &str,
+        seed: u64,
+        keys: &[u32],
+    ) -> Result<String, Fail>
+        requires many { length keys.now < 2 ^ 16 }
+        requires rising { IsStrictlyIncreasing keys.now }
+    {
         let schedule = read_schedule(alloc, &self.text(alloc, kind, seed)?)?;
         let Drawn { threads, quota, .. } = self;
-        let header = format!(in alloc;
+        let mut header = format!(in alloc;
             "listset-schedule 2\nlist {kind}\nthreads {threads}\nquota {quota}\n"
         )?;
+        for key in keys {
+            writeln!(header, "opening {key}")?;
+        }
         let kind = schedule.kind;
         let ceilings = WithCeilings {
             alloc,
             header: &header,
+            keys,
             schedule: &schedule,
         };
         on_list(kind, ceilings)
     }
 }
 
-/// Makes a text of the second version of a schedule of the first: this header, and the lines of the schedule, in which a
-/// `ceiling` stands for each `contains` of an odd key. It takes another number of steps, so what the list refuses is left
+/// Makes a text of the second version of a schedule of the first: this header, which has the lines of these opening keys, and
+/// the lines of the schedule, in which a `ceiling` stands for each `contains` of an odd key. It takes another number of steps, so what the list refuses is left
 /// out, and at the end each thread may end its call.
 #[derive(Clone, Copy)]
 struct WithCeilings<'a> {
     alloc: Global,
     header: &'a str,
+    keys: &'a [u32],
     schedule: &'a Schedule,
 }
 
 impl Task for WithCeilings<'_> {
     type Out = Result<String, Fail>;
 
-    ghost may = { λ task kind. ⊤ };
+    ghost may = { λ task kind. (length task.keys.now < 2 ^ 16) × IsStrictlyIncreasing task.keys.now };
 
     ghost done = { λ task table result. ⊤ };
 
     fn run<M: List>(self) -> Result<String, Fail> {
         let Schedule { threads, quota, .. } = *self.schedule;
-        let mut world = World::<M>::new(self.alloc, layout(threads, quota)?)?;
+        let layout = layout_opening(threads, quota, self.keys.len() as u32)?;
+        let mut world = World::<M>::opened(self.alloc, layout, self.keys)?;
         let mut text = String::from_str(self.alloc, self.header)?;
         for line in &self.schedule.lines {
             put_taken(&mut world, &mut text, with_ceiling(*line))?;
@@ -160,10 +177,12 @@ fn apply(oracle: &mut Oracle, call: Call) -> Result<Reply, AllocError>
     oracle.apply(0, call)
 }
 
-/// The sequential set of one thread, after calls that it answers as they were answered; `None` where it answers one of them
-/// otherwise, or one is open.
-fn made(alloc: Global, calls: &[CallRecord]) -> Result<Option<Oracle>, AllocError> {
-    let mut oracle = Oracle::new(alloc, 1, 3)?;
+/// The sequential set of one thread that opens with these keys, after calls that it answers as they were answered; `None`
+/// where it answers one of them otherwise, or one is open.
+fn made(alloc: Global, keys: &[u32], calls: &[CallRecord]) -> Result<Option<Oracle>, AllocError>
+    requires { IsStrictlyIncreasing keys.now }
+{
+    let mut oracle = Oracle::opened(alloc, 1, 3, keys)?;
     for told in calls {
         let reply = apply(&mut oracle, told.call)?;
         if told.ended.map(|(_, reply)| reply) != Some(reply) {
@@ -194,7 +213,7 @@ fn one_thread_is_the_sequential_set(rt: HostRuntime) -> Result<(), Fail> {
             for reply in [Reply::True, Reply::False, Reply::Full] {
                 assert!(rt; replies(calls, reply) > 0);
             }
-            let oracle = made(rt.alloc(), calls)?.ok_or(seed)?;
+            let oracle = made(rt.alloc(), &[], calls)?.ok_or(seed)?;
             assert_eq!(rt; report.keys, oracle.keys()?);
         }
     }
@@ -220,15 +239,18 @@ fn times(report: &Report, call: Call) -> usize {
         .count()
 }
 
-/// Whether the closing keys are those below `most` that were added once more than removed, and each other key below it was
-/// removed as often as added.
+/// Whether the closing keys are those below `most` that were there or added once more than removed, and each other key below
+/// it was removed as often as it was there or added.
 fn adds_up(report: &Report, most: u32) -> bool {
     let mut kept = 0usize;
     for key in 0..most {
         let added = times(report, Call::Add(Key(key)));
         let removed = times(report, Call::Remove(Key(key)));
+        let was_there = report.history.opening().contains(&key);
         let is_there = report.keys.contains(&key);
-        if added != removed.saturating_add(usize::from(is_there)) {
+        if added.saturating_add(usize::from(was_there))
+            != removed.saturating_add(usize::from(is_there))
+        {
             return false;
         }
         kept = kept.saturating_add(usize::from(is_there));
@@ -286,15 +308,18 @@ impl Found {
     }
 }
 
-/// One thread gets the replies of the sequential set and leaves its keys, also where it asks for ceilings.
-#[test]
-fn one_thread_with_ceilings_is_the_sequential_set(rt: HostRuntime) -> Result<(), Fail> {
+/// One thread of a set that opens with these keys gets the replies of the sequential set and leaves its keys, also where it
+/// asks for ceilings.
+fn one_with_ceilings<R: Abort>(rt: &R, alloc: Global, keys: &[u32]) -> Result<(), Fail>
+    requires many { length keys.now < 2 ^ 16 }
+    requires rising { IsStrictlyIncreasing keys.now }
+{
     for kind in KINDS {
         let mut found = Found::NONE;
         for seed in 0..SEEDS {
-            let text = ALONE.text_with_ceilings(rt.alloc(), kind, seed)?;
-            let report = replayed(rt.alloc(), text.as_bytes())?;
-            let oracle = made(rt.alloc(), report.history.calls())?.ok_or(seed)?;
+            let text = ALONE.text_with_ceilings(alloc, kind, seed, keys)?;
+            let report = replayed(alloc, text.as_bytes())?;
+            let oracle = made(alloc, keys, report.history.calls())?.ok_or(seed)?;
             assert_eq!(rt; report.keys, oracle.keys()?);
             found.look_at(&report);
         }
@@ -303,15 +328,24 @@ fn one_thread_with_ceilings_is_the_sequential_set(rt: HostRuntime) -> Result<(),
     Ok(())
 }
 
-/// Several threads leave the keys of their adds and removes beside their ceilings, also where the schedule stops early.
 #[test]
-fn several_threads_with_ceilings_leave_what_they_added(rt: HostRuntime) -> Result<(), Fail> {
+fn one_thread_with_ceilings_is_the_sequential_set(rt: HostRuntime) -> Result<(), Fail> {
+    one_with_ceilings(&rt, rt.alloc(), &[])?;
+    one_with_ceilings(&rt, rt.alloc(), &[1, 3])
+}
+
+/// Several threads of a set that opens with these keys leave the keys of their adds and removes beside their ceilings, also
+/// where the schedule stops early.
+fn several_with_ceilings<R: Abort>(rt: &R, alloc: Global, keys: &[u32]) -> Result<(), Fail>
+    requires many { length keys.now < 2 ^ 16 }
+    requires rising { IsStrictlyIncreasing keys.now }
+{
     for kind in KINDS {
         let mut found = Found::NONE;
         for seed in 0..SEEDS {
-            let text = TOGETHER.text_with_ceilings(rt.alloc(), kind, seed)?;
+            let text = TOGETHER.text_with_ceilings(alloc, kind, seed, keys)?;
             for bytes in [text.len(), text.len() / 2] {
-                let report = replayed(rt.alloc(), front(text.as_bytes(), bytes))?;
+                let report = replayed(alloc, front(text.as_bytes(), bytes))?;
                 assert!(rt; adds_up(&report, 5));
                 found.look_at(&report);
             }
@@ -319,4 +353,10 @@ fn several_threads_with_ceilings_leave_what_they_added(rt: HostRuntime) -> Resul
         assert!(rt; found.keys > 0 && found.nothings > 0 && found.open > 0);
     }
     Ok(())
+}
+
+#[test]
+fn several_threads_with_ceilings_leave_what_they_added(rt: HostRuntime) -> Result<(), Fail> {
+    several_with_ceilings(&rt, rt.alloc(), &[])?;
+    several_with_ceilings(&rt, rt.alloc(), &[1, 3])
 }

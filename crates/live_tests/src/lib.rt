@@ -2,6 +2,8 @@
 #![tactic(auto)]
 
 #[cfg(test)]
+mod balance;
+#[cfg(test)]
 mod calls;
 #[cfg(test)]
 mod ceilings;
@@ -11,6 +13,8 @@ mod compared;
 mod full;
 #[cfg(test)]
 mod gathering;
+#[cfg(test)]
+mod lives;
 #[cfg(test)]
 mod many;
 #[cfg(test)]

@@ -1,5 +1,6 @@
 ghost use Rattle.std.specs.Prelude.{◌≡◌, ◌<◌, ◌^◌, IfOk, IsTrue, All, length};
 
+use crate::balance::Balance;
 use crate::opened::two_seats;
 use crate::waiting::Meeting;
 use lset_coarse::CoarseList;
@@ -38,7 +39,7 @@ fn are_short(programs: &[Vec<Call>]) -> bool
 }
 
 /// `work`, once it is seen that the programs are short.
-fn worked<M: Running + Send + Sync, R: Threads + Wait + Abort + Sync, G: Gate + Sync>(
+pub fn worked<M: Running + Send + Sync, R: Threads + Wait + Abort + Sync, G: Gate + Sync>(
     rt: &R,
     alloc: Global,
     set: LiveSet<M>,
@@ -270,36 +271,6 @@ fn all_seats_are_wanted(rt: HostRuntime) -> Result<(), Fail> {
     Ok(())
 }
 
-/// How often each key below 50 was put in and taken out.
-#[derive(Drop)]
-struct Balance {
-    put_in: [u32; 50],
-    taken_out: [u32; 50],
-}
-
-impl Balance {
-    fn note(&mut self, call: Call, reply: Reply) {
-        let at = (call.key().0 % 50) as usize;
-        if reply != Reply::True {
-            return;
-        }
-        match call {
-            Call::Add(_) => self.put_in[at] = self.put_in[at].saturating_add(1),
-            Call::Remove(_) => self.taken_out[at] = self.taken_out[at].saturating_add(1),
-            Call::Contains(_) | Call::Ceiling(_) => {}
-        }
-    }
-
-    /// Whether just these keys are left: each was put in once more than it was taken out, the others as often.
-    fn leaves(&self, keys: &[u32]) -> bool {
-        (0..50u32).all(|key| {
-            let left = u32::from(keys.contains(&key));
-            let at = (key % 50) as usize;
-            self.put_in[at] == self.taken_out[at].saturating_add(left)
-        })
-    }
-}
-
 fn add_up<M: Running + Send + Sync, R: Threads + Wait + Abort + Sync>(
     rt: &R,
     alloc: Global,
@@ -310,19 +281,9 @@ fn add_up<M: Running + Send + Sync, R: Threads + Wait + Abort + Sync>(
     let Ok(outcome) = worked(rt, alloc, set, seats, drawn, &Always) else {
         panic!(rt; "refused")
     };
-    let mut balance = Balance {
-        put_in: [0; 50],
-        taken_out: [0; 50],
-    };
-    let mut calls = 0u32;
-    for (program, replies) in again.iter().zip(&outcome.replies) {
-        assert_eq!(rt; program.len(), replies.len());
-        for (call, reply) in program.iter().zip(replies) {
-            balance.note(*call, *reply);
-            calls = calls.saturating_add(1);
-        }
-    }
-    assert_eq!(rt; calls, 8_000);
+    let mut balance = Balance::new();
+    assert!(rt; balance.note_all(&again, &outcome.replies));
+    assert_eq!(rt; balance.calls(), 8_000);
     assert!(rt; balance.leaves(&outcome.keys));
     Ok(())
 }

@@ -45,27 +45,35 @@ example_app = with_rule (with_rule (new_app (codes "example")) (new_rule (codes 
 abbrev pub rule_past_the_last : Rule
 rule_past_the_last = record (new_rule (codes "MORE")) { range = Some (record { start_inclusive = 0; end_inclusive = usize_max }) }
 
--- `gen` and `run`: KIND THREADS QUOTA CALLS KEYS SEED
-abbrev pub random_app : Text → App
-random_app name =
-    with_rule (with_rule (with_rule (with_rule (with_rule (with_rule (with_rule (new_app name)
+-- the values that `gen` and `run` share: KIND THREADS QUOTA CALLS KEYS SEED
+abbrev pub six_values : Text → App
+six_values name =
+    with_rule (with_rule (with_rule (with_rule (with_rule (with_rule (new_app name)
     (new_rule (codes "KIND")))
     (new_rule (codes "THREADS")))
     (new_rule (codes "QUOTA")))
     (new_rule (codes "CALLS")))
     (new_rule (codes "KEYS")))
-    (new_rule (codes "SEED")))
-    rule_past_the_last
+    (new_rule (codes "SEED"))
 
--- `serve KIND SEATS QUOTA PORT SESSIONS`
+-- `gen KIND THREADS QUOTA CALLS KEYS SEED`
+abbrev pub gen_app : App
+gen_app = with_rule (six_values (codes "gen")) rule_past_the_last
+
+-- `run KIND THREADS QUOTA CALLS KEYS SEED [LIVES]`
+abbrev pub run_app : App
+run_app = with_rule (with_rule (six_values (codes "run")) (new_rule (codes "LIVES"))) rule_past_the_last
+
+-- `serve KIND SEATS QUOTA PORT SESSIONS [FILE]`
 abbrev pub serve_app : App
 serve_app =
-    with_rule (with_rule (with_rule (with_rule (with_rule (with_rule (new_app (codes "serve"))
+    with_rule (with_rule (with_rule (with_rule (with_rule (with_rule (with_rule (new_app (codes "serve"))
     (new_rule (codes "KIND")))
     (new_rule (codes "SEATS")))
     (new_rule (codes "QUOTA")))
     (new_rule (codes "PORT")))
     (new_rule (codes "SESSIONS")))
+    (new_rule (codes "FILE")))
     rule_past_the_last
 
 -- the program; the words begin after its name
@@ -78,8 +86,8 @@ listset =
     show_app.top)
     trace_app.top)
     example_app.top)
-    (random_app (codes "gen")).top)
-    (random_app (codes "run")).top)
+    gen_app.top)
+    run_app.top)
     serve_app.top
 
 -- ---- what a parse of the words found
@@ -158,16 +166,17 @@ choice_in w = record { command = w.command; values = map string_bytes w.values.i
 abbrev pub first_value : Choice → Option Text
 first_value choice = slice_get choice.values 0
 
--- the path of the file that a command reads: its first value, if it has one; the commands that take no file read none
-abbrev pub file_by : Command → Option Text → Option Text
-file_by Replay first = first
-file_by Check first = first
-file_by Show first = first
-file_by Trace first = first
-file_by Example first = None
-file_by Gen first = None
-file_by Run first = None
-file_by Serve first = None
+-- the path of the file that a command reads: its first value, or the sixth of `serve`, if it has one; the commands that take no
+-- file read none
+abbrev pub file_by : Command → List Text → Option Text
+file_by Replay values = slice_get values 0
+file_by Check values = slice_get values 0
+file_by Show values = slice_get values 0
+file_by Trace values = slice_get values 0
+file_by Example values = None
+file_by Gen values = None
+file_by Run values = None
+file_by Serve values = slice_get values 5
 
 abbrev pub file_of : Choice → Option Text
-file_of choice = file_by choice.command (first_value choice)
+file_of choice = file_by choice.command choice.values

@@ -4,8 +4,8 @@ ghost use Rattle.clap.specs.Words.{rows_of, rule_of, subcommand_of};
 ghost use Rattle.clap.specs.Walk.{first_of, texts};
 ghost use Rattle.clap.specs.declared.Command.TheViews.{out-Command};
 ghost use Rattle.clap.specs.declared.error.kind.ErrorKind.TheVariants.{OutOfMemory};
-ghost use Rattle.lset_command.specs.CommandLine.{choice_in, choice_of, command_named, file_app, file_of, first_value, random_app, serve_app};
-ghost use Rattle.lset_command.specs.CommandLine.{example_app, flag_rule, option_rule, show_app, trace_app};
+ghost use Rattle.lset_command.specs.CommandLine.{choice_in, choice_of, command_named, file_app, file_of, first_value, six_values, serve_app};
+ghost use Rattle.lset_command.specs.CommandLine.{example_app, flag_rule, gen_app, option_rule, run_app, show_app, trace_app};
 ghost use Rattle.lset_command.specs.CommandLine.{is_on, is_option, listset, options_in, options_of, rule_past_the_last, values_by, values_in};
 
 use clap::error::ErrorKind;
@@ -13,6 +13,9 @@ use clap::{Arg, ArgAction, ArgMatches, Error};
 use std::alloc::{AllocError, Global};
 
 const KIND_HELP: &str = "The list: coarse, fine, optimistic, lazy or lock-free";
+
+// Where FILE stands among the values of `serve`, counted from 0.
+const SERVE_FILE: usize = 5;
 
 /// A command of the program.
 #[derive(Clone, Copy, Debug, PartialEq, Eq)]
@@ -66,14 +69,16 @@ impl Words {
         Some(self.values.first()?.as_str())
     }
 
-    /// The path of the file that the command reads, where the words name one. Without one `replay`, `check`, `show`
-    /// and `trace` read the standard input; the others read nothing.
+    /// The path of the file that the command reads, where the words name one: the first value of `replay`, `check`,
+    /// `show` and `trace`, which read the standard input without one, and the sixth of `serve`, which reads nothing
+    /// without one. The others read nothing.
     pub fn file(&self) -> Option<&str>
         ensures { option_map (λ path. path.now) result ≡ file_of (choice_in self.now) }
     {
         match self.command {
             Command::Replay | Command::Check | Command::Show | Command::Trace => self.first_value(),
-            Command::Example | Command::Gen | Command::Run | Command::Serve => None,
+            Command::Serve => Some(self.values.get(SERVE_FILE)?.as_str()),
+            Command::Example | Command::Gen | Command::Run => None,
         }
     }
 }
@@ -193,7 +198,7 @@ fn random_command<'a>(
     usage: &'a str,
     calls_help: &'a str,
 ) -> Result<clap::Command<'a>, AllocError>
-    ensures app { IfOk result (λ c. app_of c ≡ random_app name.entry.now) }
+    ensures app { IfOk result (λ c. app_of c ≡ six_values name.entry.now) }
     ensures local { IfOk result (λ c. (out-Command c).has_globals ≡ false) }
 {
     clap::Command::new(alloc, name)
@@ -216,8 +221,7 @@ fn random_command<'a>(
             alloc,
             "SEED",
             "The seed of the random draws: 0 to 18446744073709551615",
-        ))?
-        .arg(values_past_the_last(alloc))
+        ))
 }
 
 fn serve_command<'a>(alloc: Global) -> Result<clap::Command<'a>, AllocError>
@@ -228,7 +232,7 @@ fn serve_command<'a>(alloc: Global) -> Result<clap::Command<'a>, AllocError>
         .about(
             "Serves sessions on one set, each a client's lines at 127.0.0.1, and prints the keys that are left",
         )
-        .override_usage("listset serve KIND SEATS QUOTA PORT SESSIONS")
+        .override_usage("listset serve KIND SEATS QUOTA PORT SESSIONS [FILE]")
         .arg(value(alloc, "KIND", KIND_HELP))?
         .arg(value(
             alloc,
@@ -250,11 +254,16 @@ fn serve_command<'a>(alloc: Global) -> Result<clap::Command<'a>, AllocError>
             "SESSIONS",
             "How many sessions to serve before the end: 0 to 10000",
         ))?
+        .arg(value(
+            alloc,
+            "FILE",
+            "The keys with which the set opens, as a server prints them; none where it is left out",
+        ))?
         .arg(values_past_the_last(alloc))
 }
 
 fn gen_command<'a>(alloc: Global) -> Result<clap::Command<'a>, AllocError>
-    ensures app { IfOk result (λ c. app_of c ≡ random_app (codes "gen")) }
+    ensures app { IfOk result (λ c. app_of c ≡ gen_app) }
     ensures local { IfOk result (λ c. (out-Command c).has_globals ≡ false) }
 {
     random_command(
@@ -263,20 +272,27 @@ fn gen_command<'a>(alloc: Global) -> Result<clap::Command<'a>, AllocError>
         "Prints a random schedule, of 10000 events at most; the same values give the same schedule",
         "listset gen KIND THREADS QUOTA CALLS KEYS SEED",
         "How many calls the threads begin together, if 10000 events suffice: 0 to 10000",
-    )
+    )?
+    .arg(values_past_the_last(alloc))
 }
 
 fn run_command<'a>(alloc: Global) -> Result<clap::Command<'a>, AllocError>
-    ensures app { IfOk result (λ c. app_of c ≡ random_app (codes "run")) }
+    ensures app { IfOk result (λ c. app_of c ≡ run_app) }
     ensures local { IfOk result (λ c. (out-Command c).has_globals ≡ false) }
 {
     random_command(
         alloc,
         "run",
         "Runs random calls of threads at once on one set, and prints counts of the replies and the keys that are left",
-        "listset run KIND THREADS QUOTA CALLS KEYS SEED",
+        "listset run KIND THREADS QUOTA CALLS KEYS SEED [LIVES]",
         "How many calls each thread makes: 0 to 10000",
-    )
+    )?
+    .arg(value(
+        alloc,
+        "LIVES",
+        "How many lives the set has, each opened with the keys of the one before: 1 to 100, 1 where it is left out",
+    ))?
+    .arg(values_past_the_last(alloc))
 }
 
 fn replay_command<'a>(alloc: Global) -> Result<clap::Command<'a>, AllocError>
@@ -436,9 +452,10 @@ fn command_named(name: &str) -> Command
 
 /// Reads the words that stand after the program's name, by `clap`: `replay [FILE]`, `check [FILE]`,
 /// `show [--svg] [--from M] [--to M] [FILE]`, `trace [--chain] [FILE]`, `example [--broken] [NAME]`,
-/// `gen KIND THREADS QUOTA CALLS KEYS SEED`, `run` with the same values, or `serve KIND SEATS QUOTA PORT SESSIONS`.
-/// Values and options come as they are written; some or all may be missing, and `gen`, `run` and `serve` may have
-/// more values. No word at all gives `replay` without values. A value that begins with `-` needs a word `--` before it.
+/// `gen KIND THREADS QUOTA CALLS KEYS SEED`, `run` with the same values and `[LIVES]` after them, or
+/// `serve KIND SEATS QUOTA PORT SESSIONS [FILE]`. Values and options come as they are written; some or all may be
+/// missing, and `gen`, `run` and `serve` may have more values. No word at all gives `replay` without values. A value
+/// that begins with `-` needs a word `--` before it.
 ///
 /// The error has the text for the user: the help, where words ask for it (`exit_code` 0), or what is wrong
 /// with the words (`exit_code` 2). It may also say that memory was refused: `is_out_of_memory`.

@@ -4,13 +4,14 @@ use Rattle.std.specs.Prelude.{◌≢◌}
 use Rattle.clap.specs.declared.error.kind.ErrorKind.{ErrorKind}
 use Rattle.clap.specs.declared.error.kind.ErrorKind.TheVariants as kind
 use Rattle.clap.specs.Words.{Text}
-use Rattle.lset_command.specs.CommandLine.{Choice, OptionValues, file_of}
+use Rattle.lset_command.specs.CommandLine.{Choice, OptionValues, file_by, file_of}
 use Rattle.lset_command.specs.declared.words.Command.{Command}
+use Rattle.lset_command.specs.declared.words.Command.TheVariants.{Serve}
 use Rattle.lset_tools.specs.declared.trouble.ValueName.{ValueName}
 use Rattle.lset_tools.specs.declared.trouble.Trouble.TheVariants.{CannotRead, Bad}
 use Rattle.lset_tools.specs.Moments.{moments_of}
 use Rattle.lset_tools.specs.Tools.{Made, Outcome, Delivers, AppendsFront, Ends, line_of, status_of}
-use Rattle.lset_dispatch.specs.Dispatch.{CommandEnds, Does, DoesBy, DoesOn, DoesOnInput, IsHelp, ShowsBy, ShowsWithin}
+use Rattle.lset_dispatch.specs.Dispatch.{CommandEnds, Does, DoesBy, DoesOn, DoesOnInput, IsHelp, ServesBy, ShowsBy, ShowsWithin}
 
 pub ends_with : (output_old output_new faults_old faults_new : Option (List ℕ)) (status : ℕ) (IsMade : Made → Type 0) (made : Made) → IsMade made
     → (outcome : Outcome) × Delivers made output_old output_new outcome × AppendsFront faults_old faults_new (line_of outcome) × (status ≡ status_of outcome)
@@ -36,6 +37,14 @@ pub at_command : (input output_old output_new faults_old faults_new : Option (Li
 at_command input output_old output_new faults_old faults_new status known command given values options is same ends =
     subst (λ v. CommandEnds (DoesBy command v options input) output_old output_new faults_old faults_new status) same
     (subst (λ c. CommandEnds (DoesBy c given options input) output_old output_new faults_old faults_new status) (sym is) ends)
+
+-- `serve`, with a file or without one
+pub served : (input output_old output_new faults_old faults_new : Option (List ℕ)) (status : ℕ) (file : Option Text) (given values : List Text) (options : OptionValues)
+    → file ≡ file_by Serve values → given ≡ values → CommandEnds (ServesBy file given input) output_old output_new faults_old faults_new status
+    → CommandEnds (DoesBy Serve values options input) output_old output_new faults_old faults_new status
+served input output_old output_new faults_old faults_new status file given values options named same ends =
+    subst (λ f. CommandEnds (ServesBy f values input) output_old output_new faults_old faults_new status) named
+    (subst (λ v. CommandEnds (ServesBy file v input) output_old output_new faults_old faults_new status) same ends)
 
 pub with_choice : (IsFile : Option (List ℕ) → Type 0) (input output_old output_new faults_old faults_new : Option (List ℕ)) (status : ℕ) (a b : Choice) → a ≡ b
     → CommandEnds (DoesOnInput a IsFile input) output_old output_new faults_old faults_new status → CommandEnds (DoesOnInput b IsFile input) output_old output_new faults_old faults_new status

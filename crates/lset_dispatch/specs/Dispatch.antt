@@ -5,7 +5,7 @@ use Rattle.clap.specs.Words.{Text, fault_of, kind_of, subcommand_of, HasKind}
 use Rattle.clap.specs.declared.error.Error.{Error}
 use Rattle.clap.specs.declared.error.kind.ErrorKind.{ErrorKind}
 use Rattle.clap.specs.declared.error.kind.ErrorKind.TheVariants.{OutOfMemory, DisplayHelp, DisplayVersion}
-use Rattle.lset_command.specs.CommandLine.{Choice, OptionValues, choice_of, file_of, listset}
+use Rattle.lset_command.specs.CommandLine.{Choice, OptionValues, choice_of, file_by, file_of, listset}
 use Rattle.lset_command.specs.declared.words.Command.{Command}
 use Rattle.lset_command.specs.declared.words.Command.TheVariants.{Replay, Check, Show, Trace, Example, Gen, Run, Serve}
 use Rattle.lset_tools.specs.declared.moments.Moments.{Moments}
@@ -32,6 +32,11 @@ ShowsWithin svg (Err wrong) input made = made ≡ Err (Bad wrong)
 abbrev pub ShowsBy : OptionValues → Option (List ℕ) → Made → Type 0
 ShowsBy options input made = ShowsWithin options.svg (moments_of options.from options.to) input made
 
+-- what `serve` makes of its values: with the keys of its input where a file is named, and else on an empty set
+abbrev pub ServesBy : Option Text → List Text → Option (List ℕ) → Option (List ℕ) → Option (List ℕ) → Made → Type 0
+ServesBy None values input old first made = serve.Serves (serve.request_of values) old first made
+ServesBy (Some path) values input old first made = serve.ServesWith (serve.request_of values) input old first made
+
 -- What a command makes of its values and options, and of the bytes of its input where they are known. Before that it takes the output from
 -- the old to the first: `serve` writes the line that names its port, the others write nothing.
 abbrev pub DoesBy : Command → List Text → OptionValues → Option (List ℕ) → Option (List ℕ) → Option (List ℕ) → Made → Type 0
@@ -42,7 +47,7 @@ DoesBy Trace values options input old first made = (first ≡ old) × IfSome inp
 DoesBy Example values options input old first made = (first ≡ old) × Exampled options.broken (slice_get values 0) made
 DoesBy Gen values options input old first made = (first ≡ old) × Generates values made
 DoesBy Run values options input old first made = (first ≡ old) × run.Runs values made
-DoesBy Serve values options input old first made = serve.Serves (serve.request_of values) old first made
+DoesBy Serve values options input old first made = ServesBy (file_by Serve values) values input old first made
 
 abbrev pub Does : Choice → Option (List ℕ) → Option (List ℕ) → Option (List ℕ) → Made → Type 0
 Does choice input old first made = DoesBy choice.command choice.values choice.options input old first made

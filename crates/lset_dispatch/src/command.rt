@@ -8,7 +8,7 @@ use lset_command::{Command, Options, Words};
 use lset_drawing::Window;
 use lset_examples::tool_example;
 use lset_run::tool_run;
-use lset_serve::tool_serve;
+use lset_serve::{tool_serve, tool_serve_with};
 use lset_show::tool_show;
 use lset_tools::{Trouble, deliver, read_moments, tool_check, tool_gen, tool_replay};
 use lset_trace::tool_trace;
@@ -49,8 +49,8 @@ fn show<R: Read, W: Write, F: Write>(
 }
 
 /// Does the command of the words with its tool, `replay`, `check`, `show` and `trace` on the input, the others on their
-/// values, and gives the tool's exit status. `run` and `serve` start threads on `rt`, and wait for them; `serve` listens
-/// there.
+/// values, and `serve` with the keys of the input where the words name a file. Gives the tool's exit status. `run` and
+/// `serve` start threads on `rt`, and wait for them; `serve` listens there.
 pub fn run_command<
     H: Net<Listener = TcpListener, Stream = TcpStream> + Threads + Wait + Clock + Sync,
     R: Read,
@@ -75,6 +75,9 @@ pub fn run_command<
         ),
         Command::Gen => tool_gen(alloc, &words.values, output, faults),
         Command::Run => tool_run(rt, alloc, &words.values, output, faults),
-        Command::Serve => tool_serve(rt, alloc, &words.values, output, faults),
+        Command::Serve => match words.file() {
+            Some(_) => tool_serve_with(rt, alloc, &words.values, input, output, faults),
+            None => tool_serve(rt, alloc, &words.values, output, faults),
+        },
     }
 }

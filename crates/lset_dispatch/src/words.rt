@@ -65,7 +65,8 @@ fn run_taken<
 
 /// Runs the program on the words that stand after its name: does the command that they ask for, on the file that they
 /// name among the files of `rt`, on `input` where they name none, or on their values, or ends as `decline` does. Gives the
-/// exit status. `run` and `serve` start threads on `rt` and wait for them, and `serve` listens there.
+/// exit status. `serve` opens with the keys of its file, and reads nothing where no file is named. `run` and `serve` start
+/// threads on `rt` and wait for them, and `serve` listens there.
 pub fn run_words<
     H: Files + Net<Listener = TcpListener, Stream = TcpStream> + Threads + Wait + Clock + Sync,
     R: Read,

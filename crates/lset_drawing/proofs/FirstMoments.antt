@@ -8,6 +8,7 @@ use Rattle.lset_words.specs.declared.history.Point.{Point}
 use Rattle.lset_words.specs.Points.{moment_of}
 use Rattle.lset_words.proofs.Numbers.{below_or_not}
 use Rattle.lset_words.proofs.RisingLists.{RisesFrom, increasing_from_rises, contains-cons, contains-head, contains-tail, contains-nil}
+use Rattle.lset_history.specs.History.{HistoryValue}
 use Rattle.lset_drawing.specs.declared.standings.Standing.{Standing}
 use Rattle.lset_drawing.specs.declared.picture.Window.{Window}
 use Rattle.lset_drawing.specs.declared.TheConstants.{MOST_COLUMNS}
@@ -187,15 +188,15 @@ are_first_moments calls points to most from =
     }
 
 -- THEIR COLUMNS
-moments_of_columns : (calls : List CallRecord) (standings : List Standing) (known first : Bool) (ms : List ℕ)
-    → map column_moment (columns_from calls standings known first ms) ≡ ms
-moments_of_columns calls standings known first [] = refl
-moments_of_columns calls standings known first (m ∷ ms) =
-    ap (λ (ns : List ℕ). m ∷ ns) (moments_of_columns calls standings known false ms)
+moments_of_columns : (h : HistoryValue) (standings : List Standing) (known first : Bool) (ms : List ℕ)
+    → map column_moment (columns_from h standings known first ms) ≡ ms
+moments_of_columns h standings known first [] = refl
+moments_of_columns h standings known first (m ∷ ms) =
+    ap (λ (ns : List ℕ). m ∷ ns) (moments_of_columns h standings known false ms)
 
 pub are_columns : (p : PictureValue) (w : Window) (standings : List Standing) (moments : List ℕ) (columns : List ColumnValue)
     → columns ≡ columns_at p standings moments → moments ≡ moments_of p w → AreColumnsOf p w columns
 are_columns p w standings moments columns e f =
     let A : List ℕ → Type 0 = AreMomentsOf p w in
-    subst A (sym (ap (map column_moment) e ∙ moments_of_columns p.history.calls standings _ true moments ∙ f))
+    subst A (sym (ap (map column_moment) e ∙ moments_of_columns p.history standings _ true moments ∙ f))
     (are_first_moments p.history.calls (points_of p) w.to MOST_COLUMNS w.from)

@@ -5,6 +5,7 @@ use Rattle.std.specs.List.{list_any}
 use Rattle.lset_words.specs.declared.Reply.{Reply}
 use Rattle.lset_words.specs.declared.history.CallRecord.{CallRecord}
 use Rattle.lset_words.specs.declared.history.Point.{Point}
+use Rattle.lset_history.specs.History.{HistoryValue}
 use Rattle.lset_drawing.specs.declared.standings.Standing.{Standing}
 use Rattle.lset_drawing.specs.declared.columns.Mark.{Mark}
 use Rattle.lset_drawing.specs.declared.columns.Sign.{Sign}
@@ -72,8 +73,8 @@ is_change (End r) = false
 abbrev pub has_change : List Mark → Bool
 has_change marks = list_any (λ (x : Mark). is_change x.sign) marks
 
-abbrev pub set_shown : List Standing → Bool → ℕ → List ℕ
-set_shown standings shown m = if shown then set_text (set_upto m [] standings) else []
+abbrev pub set_shown : HistoryValue → List Standing → Bool → ℕ → List ℕ
+set_shown h standings shown m = if shown then set_text (set_upto m h.opening.keys standings) else []
 
 -- ---- the columns: the set is told, where points are known, in the first column and in those with a change
 
@@ -86,11 +87,11 @@ column_moment c = c.moment
 abbrev pub column_with : List Mark → List ℕ → ℕ → ColumnValue
 column_with marks set m = record { moment = m; marks = marks; set = set; width = width_of m marks set }
 
-abbrev pub column_at : List CallRecord → List Standing → Bool → Bool → ℕ → ColumnValue
-column_at calls standings known first m = column_with (marks_at calls standings m)
-    (set_shown standings (known && (first || has_change (marks_at calls standings m))) m) m
+abbrev pub column_at : HistoryValue → List Standing → Bool → Bool → ℕ → ColumnValue
+column_at h standings known first m = column_with (marks_at h.calls standings m)
+    (set_shown h standings (known && (first || has_change (marks_at h.calls standings m))) m) m
 
-abbrev pub columns_from : List CallRecord → List Standing → Bool → Bool → List ℕ → List ColumnValue
-columns_from calls standings known first [] = []
-columns_from calls standings known first (m ∷ ms) =
-    column_at calls standings known first m ∷ columns_from calls standings known false ms
+abbrev pub columns_from : HistoryValue → List Standing → Bool → Bool → List ℕ → List ColumnValue
+columns_from h standings known first [] = []
+columns_from h standings known first (m ∷ ms) =
+    column_at h standings known first m ∷ columns_from h standings known false ms

@@ -49,7 +49,7 @@ abbrev pub last_of : PictureValue → Window → ℕ
 last_of p w = shown_to (moments_of p w) w.to
 
 abbrev pub columns_at : PictureValue → List Standing → List ℕ → List ColumnValue
-columns_at p standings moments = columns_from p.history.calls standings (are_known p) true moments
+columns_at p standings moments = columns_from p.history standings (are_known p) true moments
 
 abbrev pub is_cut_before : PictureValue → ℕ → Bool
 is_cut_before p from = goes_before p.history.calls (points_of p) from

@@ -33,7 +33,7 @@ abbrev pub after_change : List ℕ → Option Call → List ℕ
 after_change keys None = keys
 after_change keys (Some c) = changed keys c
 
--- THE SET AT A MOMENT: what the changes up to then leave, in the order's turn
+-- THE SET AT A MOMENT: what the keys with which it opens and the changes up to then leave, in the order's turn
 abbrev pub set_upto : ℕ → List ℕ → List Standing → List ℕ
 set_upto m keys [] = keys
 set_upto m keys (s ∷ ss) = set_upto m (after_change keys (change_upto m s)) ss

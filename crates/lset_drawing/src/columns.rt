@@ -19,6 +19,7 @@ ghost use Rattle.lset_drawing.specs.Columns.{
 use crate::sets::{set_at, set_text};
 use crate::signs::width_of;
 use crate::standings::Standing;
+use lset_history::History;
 use lset_words::{Call, CallRecord, Reply};
 use std::alloc::{AllocError, Global};
 
@@ -159,33 +160,35 @@ fn has_change(marks: &[Mark]) -> bool
 
 fn set_shown(
     alloc: Global,
+    history: &History,
     standings: &[Standing],
     shown: bool,
     moment: u32,
 ) -> Result<String, AllocError>
-    ensures { IfOk result (λ s. string_bytes s ≡ set_shown standings.now shown moment) }
+    ensures { IfOk result (λ s. string_bytes s ≡ set_shown history.now standings.now shown moment) }
 {
     if !shown {
         return Ok(String::new(alloc));
     }
-    let keys = set_at(alloc, standings, moment)?;
+    let keys = set_at(alloc, history, standings, moment)?;
     set_text(alloc, &keys)
 }
 
 /// The column of a moment; the set is told where there is a change, and where it is asked for.
 fn column_at(
     alloc: Global,
-    calls: &[CallRecord],
+    history: &History,
     standings: &[Standing],
     known: bool,
     first: bool,
     moment: u32,
 ) -> Result<Column, AllocError>
-    ensures { IfOk result (λ c. column_view c ≡ column_at calls.now standings.now known first moment) }
+    ensures { IfOk result (λ c. column_view c ≡ column_at history.now standings.now known first moment) }
 {
-    let marks = marks_at(alloc, calls, standings, moment)?;
+    let marks = marks_at(alloc, history.calls(), standings, moment)?;
     let changes = has_change(&marks);
-    let set = set_shown(alloc, standings, known && (first || changes), moment)?;
+    let shown = known && (first || changes);
+    let set = set_shown(alloc, history, standings, shown, moment)?;
     let width = width_of(alloc, moment, &marks, &set)?;
     Ok(Column {
         moment,
@@ -198,18 +201,18 @@ fn column_at(
 /// The columns of these moments.
 pub fn columns(
     alloc: Global,
-    calls: &[CallRecord],
+    history: &History,
     standings: &[Standing],
     known: bool,
     moments: &[u32],
 ) -> Result<Vec<Column>, AllocError>
-    ensures columns { IfOk result (λ v. map column_view v.items ≡ columns_from calls.now standings.now known true moments.now) }
+    ensures columns { IfOk result (λ v. map column_view v.items ≡ columns_from history.now standings.now known true moments.now) }
     ensures count { IfOk result (λ v. vec_len v ≡ length moments.now) }
 {
     let mut columns = Vec::new(alloc);
     let mut first = true;
     for moment in moments {
-        columns.push(column_at(alloc, calls, standings, known, first, *moment)?)?;
+        columns.push(column_at(alloc, history, standings, known, first, *moment)?)?;
         first = false;
     }
     Ok(columns)

@@ -74,7 +74,7 @@ fn columns_at(
 {
     columns(
         alloc,
-        picture.history.calls(),
+        &picture.history,
         standings,
         are_known(picture),
         moments,
@@ -95,7 +95,7 @@ fn is_cut_after(picture: &Picture, last: u32) -> bool
 
 /// What is drawn of a picture in a window: its columns are the first 64 moments from `window.from` to `window.to`, these two
 /// included, at which a call begins, stands or ends; moments count from 1. The only error is want of memory; what is asked for
-/// grows with the calls and the places, and not with the moments that are drawn.
+/// grows with the opening keys, the calls and the places, and not with the moments that are drawn.
 pub fn drawing_in(alloc: Global, picture: &Picture, window: Window) -> Result<Drawing, AllocError>
     ensures drawing { IfOk result (λ d. drawing_view d ≡ drawing_of (view picture.now) window) }
     ensures few { IfOk result (λ d. vec_len d.columns ≤ MOST_COLUMNS) }

@@ -1,4 +1,4 @@
-ghost use Rattle.std.specs.Prelude.{◌≡◌, ◌++◌, [], take, IfOk, OnOk, string_bytes};
+ghost use Rattle.std.specs.Prelude.{◌≡◌, ◌++◌, take, IfOk, OnOk, string_bytes};
 ghost use Rattle.lset_drawing.specs.Sets.{
   changed,
   change_upto,
@@ -13,6 +13,7 @@ ghost use Rattle.lset_drawing.specs.declared.TheConstants.{MOST_KEYS_SHOWN};
 
 use crate::MOST_KEYS_SHOWN;
 use crate::standings::Standing;
+use lset_history::History;
 use lset_words::Call;
 use std::alloc::{AllocError, Global};
 use std::collections::BTreeSet;
@@ -52,11 +53,27 @@ fn keys_in(alloc: Global, keys: &BTreeSet<u32>) -> Result<Vec<u32>, AllocError>
     keys.iter().copied().collect(alloc)
 }
 
-/// The set at a moment: what the changes up to then leave.
-pub fn set_at(alloc: Global, standings: &[Standing], moment: u32) -> Result<Vec<u32>, AllocError>
-    ensures { IfOk result (λ v. v.items ≡ set_upto moment [] standings.now) }
+/// The set before any change.
+fn opening_set(alloc: Global, history: &History) -> Result<BTreeSet<u32>, AllocError>
+    ensures { IfOk result (λ keys. keys.keys ≡ history.now.opening.keys) }
 {
     let mut keys = BTreeSet::new(alloc);
+    for key in history.opening() {
+        keys.insert(*key)?;
+    }
+    Ok(keys)
+}
+
+/// The set at a moment: what the opening keys and the changes up to then leave.
+pub fn set_at(
+    alloc: Global,
+    history: &History,
+    standings: &[Standing],
+    moment: u32,
+) -> Result<Vec<u32>, AllocError>
+    ensures { IfOk result (λ v. v.items ≡ set_upto moment history.now.opening.keys standings.now) }
+{
+    let mut keys = opening_set(alloc, history)?;
     for standing in standings {
         if let Some(call) = change_upto(standing, moment) {
             change_set(&mut keys, call)?;

@@ -25,11 +25,11 @@ use Rattle.lset_text.specs.declared.words.Version.TheVariants.{One, Two}
 use Rattle.lset_text.specs.Spellings.{kind_of as kind_of_word}
 use Rattle.lset_history.proofs.Keys.{has_from, with_keeps, with_from, without_keeps, without_from}
 use Rattle.lset_report.specs.Report.{ReportValue}
-use Rattle.lset_report.specs.ReportReading.{reading, report_of, report_from, reply_told, begun_of, ended_of, place_of, key_of_line}
+use Rattle.lset_report.specs.ReportReading.{reading, report_of, report_from, reply_told, begun_of, ended_of, place_of, key_of_line, opening_or_key}
 use Rattle.lset_report.specs.ReportReading.{ReportsReadBack}
 use Rattle.lset_examples.specs.declared.example.Example.{Example}
 use Rattle.lset_examples.specs.declared.example.Example.TheVariants.{FailedTries, Full as FullExample, HandOverHand, SameGap}
-use Rattle.lset_examples.specs.declared.example.Example.TheVariants.{StalePred, MarkedInChain, MarkedPred, ReadInAnothersStep}
+use Rattle.lset_examples.specs.declared.example.Example.TheVariants.{StalePred, MarkedInChain, MarkedPred, ReadInAnothersStep, OpensWithKeys}
 use Rattle.lset_examples.specs.declared.example.Example.TheVariants.{TwoRemovers, Snip, TriesAgain, LeftInChain}
 use Rattle.lset_examples.specs.declared.example.Example.TheVariants.{CeilingMeetsMark, CeilingLeftInChain, BehindTheWalk}
 use Rattle.lset_examples.specs.Examples.{broken_of, IsUnexplained, IsBrokenReportOf}
@@ -73,15 +73,15 @@ ceiling_left_in_chain = report Two LockFree (made 0 (call.Add (record { 0 = 5 })
     (place 0 ∷ place 2 ∷ place 1 ∷ place_at 3 5 ∷ place 4 ∷ []) (3 ∷ 7 ∷ [])
 
 reads_stale_pred : reading STALE_PRED_BROKEN.now ≡ Ok stale_pred
-unfolding report_of report_from header_of told_by_line number_in kind_of_word call_word_of reply_of reply_told begun_of ended_of place_of key_of_line
+unfolding report_of report_from header_of told_by_line number_in kind_of_word call_word_of reply_of reply_told begun_of ended_of place_of key_of_line opening_or_key
 reads_stale_pred = refl
 
 reads_left_in_chain : reading LEFT_IN_CHAIN_BROKEN.now ≡ Ok left_in_chain
-unfolding report_of report_from header_of told_by_line number_in kind_of_word call_word_of reply_of reply_told begun_of ended_of place_of key_of_line
+unfolding report_of report_from header_of told_by_line number_in kind_of_word call_word_of reply_of reply_told begun_of ended_of place_of key_of_line opening_or_key
 reads_left_in_chain = refl
 
 reads_ceiling_left_in_chain : reading CEILING_LEFT_IN_CHAIN_BROKEN.now ≡ Ok ceiling_left_in_chain
-unfolding report_of report_from header_of told_by_line number_in kind_of_word call_word_of reply_of reply_told begun_of ended_of place_of key_of_line
+unfolding report_of report_from header_of told_by_line number_in kind_of_word call_word_of reply_of reply_told begun_of ended_of place_of key_of_line opening_or_key
 reads_ceiling_left_in_chain = refl
 
 -- ---- left-in-chain: the key 5 is put in once, and taken out before it is asked for
@@ -234,6 +234,7 @@ is_broken_report back SameGap text is = absurd (cc is)
 is_broken_report back MarkedInChain text is = absurd (cc is)
 is_broken_report back MarkedPred text is = absurd (cc is)
 is_broken_report back ReadInAnothersStep text is = absurd (cc is)
+is_broken_report back OpensWithKeys text is = absurd (cc is)
 is_broken_report back TwoRemovers text is = absurd (cc is)
 is_broken_report back Snip text is = absurd (cc is)
 is_broken_report back TriesAgain text is = absurd (cc is)

@@ -1,8 +1,11 @@
 -- The schedules that the texts of the examples are texts of, and the list of all.
-use Rattle.std.proofs.Common.{◌≡◌, ℕ, List, [], ◌∷◌, refl, rules, lit<, lit≤}
+use Rattle.std.proofs.Common.{◌≡◌, ℕ, ◌<◌, ◌^◌, List, [], ◌∷◌, refl, rules, lit<, lit≤}
 use Rattle.std.specs.List.{Contains}
 use Rattle.std.specs.Fmt.{digits}
-use Rattle.lset_words.specs.Words.{IsWithin, empty, sizes}
+use Rattle.std.proofs.lemmas.List.Elements.{All-from_recursion}
+use Rattle.lset_words.specs.Words.{Opens, empty}
+use Rattle.lset_words.proofs.Bounds.{opens_empty}
+use Rattle.lset_words.proofs.RisingLists.{increasing_from_rises}
 use Rattle.lset_words.specs.declared.Kind.{Kind}
 use Rattle.lset_words.specs.declared.Kind.TheVariants.{Coarse, Fine, Optimistic, Lazy, LockFree}
 use Rattle.lset_words.specs.declared.Call.TheVariants as call
@@ -13,7 +16,7 @@ use Rattle.lset_schedule.specs.declared.value.Line.TheVariants.{Begin, Go}
 use Rattle.lset_schedule.specs.Plan.{Plan, IsSchedule, schedule_text}
 use Rattle.lset_examples.specs.declared.example.Example.{Example}
 use Rattle.lset_examples.specs.declared.example.Example.TheVariants.{FailedTries, Full, HandOverHand, SameGap}
-use Rattle.lset_examples.specs.declared.example.Example.TheVariants.{StalePred, MarkedInChain, MarkedPred, ReadInAnothersStep}
+use Rattle.lset_examples.specs.declared.example.Example.TheVariants.{StalePred, MarkedInChain, MarkedPred, ReadInAnothersStep, OpensWithKeys}
 use Rattle.lset_examples.specs.declared.example.Example.TheVariants.{TwoRemovers, Snip, TriesAgain, LeftInChain}
 use Rattle.lset_examples.specs.declared.example.Example.TheVariants.{CeilingMeetsMark, CeilingLeftInChain, BehindTheWalk}
 use Rattle.lset_examples.specs.Examples.{text_of, kind_of, IsScheduleOf}
@@ -34,9 +37,13 @@ ceiling thread key = Begin thread (call.Ceiling (record { 0 = key }))
 abbrev go : ℕ → ℕ → Line
 go thread steps = Go thread steps
 
+abbrev plan_with : Version → Kind → ℕ → ℕ → List ℕ → List Line → Plan
+plan_with version kind threads quota keys lines =
+    record { version = version; kind = kind; threads = threads; quota = quota; opening = keys; lines = lines }
+
+-- of a set that opens empty
 abbrev plan_in : Version → Kind → ℕ → ℕ → List Line → Plan
-plan_in version kind threads quota lines =
-    record { version = version; kind = kind; threads = threads; quota = quota; lines = lines }
+plan_in version kind threads quota lines = plan_with version kind threads quota [] lines
 
 abbrev plan : Kind → ℕ → ℕ → List Line → Plan
 plan = plan_in One
@@ -51,6 +58,8 @@ plan_of MarkedInChain = plan Lazy 2 4 (add 1 5 ∷ go 1 11 ∷ remove 1 5 ∷ go
 plan_of MarkedPred = plan Lazy 2 4 (add 1 3 ∷ go 1 11 ∷ add 0 5 ∷ go 0 4 ∷ remove 1 3 ∷ go 1 10 ∷ go 0 16 ∷ [])
 plan_of ReadInAnothersStep = plan Lazy 2 4 (add 1 5 ∷ go 1 11 ∷ contains 0 5 ∷ go 0 2 ∷ remove 1 5 ∷ go 1 10 ∷ add 1 5
     ∷ go 1 11 ∷ go 0 1 ∷ [])
+plan_of OpensWithKeys = plan_with Two Lazy 1 1 (5 ∷ 9 ∷ []) (remove 0 5 ∷ go 0 10 ∷ ceiling 0 0 ∷ go 0 3 ∷ add 0 7 ∷ go 0 11 ∷ add 0 8
+    ∷ go 0 10 ∷ [])
 plan_of TwoRemovers = plan LockFree 2 4 (add 0 5 ∷ go 0 6 ∷ remove 0 5 ∷ remove 1 5 ∷ go 0 4 ∷ go 1 4 ∷ go 1 2 ∷ go 0 4 ∷ [])
 plan_of Snip = plan LockFree 2 4 (add 0 5 ∷ go 0 6 ∷ remove 0 5 ∷ go 0 5 ∷ add 1 7 ∷ go 1 8 ∷ go 0 1 ∷ [])
 plan_of TriesAgain = plan LockFree 2 4 (add 0 5 ∷ add 1 7 ∷ go 0 5 ∷ go 1 6 ∷ go 0 7 ∷ [])
@@ -71,6 +80,7 @@ is_text_of_plan StalePred = refl
 is_text_of_plan MarkedInChain = refl
 is_text_of_plan MarkedPred = refl
 is_text_of_plan ReadInAnothersStep = refl
+is_text_of_plan OpensWithKeys = refl
 is_text_of_plan TwoRemovers = refl
 is_text_of_plan Snip = refl
 is_text_of_plan TriesAgain = refl
@@ -88,6 +98,7 @@ is_of_kind StalePred = refl
 is_of_kind MarkedInChain = refl
 is_of_kind MarkedPred = refl
 is_of_kind ReadInAnothersStep = refl
+is_of_kind OpensWithKeys = refl
 is_of_kind TwoRemovers = refl
 is_of_kind Snip = refl
 is_of_kind TriesAgain = refl
@@ -96,28 +107,36 @@ is_of_kind CeilingMeetsMark = refl
 is_of_kind CeilingLeftInChain = refl
 is_of_kind BehindTheWalk = refl
 
-two_threads : IsWithin (sizes (empty 2 4))
-two_threads = record { some = lit< tt; few = lit≤ tt; small = lit≤ tt; opens = lit≤ tt }
+two_threads : Opens (empty 2 4)
+two_threads = opens_empty 2 4 (record { some = lit< tt; few = lit≤ tt; small = lit≤ tt; opens = lit≤ tt })
 
-one_thread : IsWithin (sizes (empty 1 1))
-one_thread = record { some = lit< tt; few = lit≤ tt; small = lit≤ tt; opens = lit≤ tt }
+one_thread : Opens (empty 1 1)
+one_thread = opens_empty 1 1 (record { some = lit< tt; few = lit≤ tt; small = lit≤ tt; opens = lit≤ tt })
+
+two_keys : Opens (record { threads = 1; quota = 1; keys = 5 ∷ 9 ∷ [] })
+two_keys = record {
+  within = record { some = lit< tt; few = lit≤ tt; small = lit≤ tt; opens = lit≤ tt };
+  rising = increasing_from_rises 0 (5 ∷ 9 ∷ []) (lit≤ tt, (lit≤ tt, tt));
+  low = All-from_recursion (λ (k : ℕ). k < 2 ^ 32) (5 ∷ 9 ∷ []) (lit< tt, (lit< tt, tt));
+}
 
 is_schedule : (e : Example) → IsSchedule (plan_of e)
-is_schedule FailedTries = record { header = two_threads; lines = search rules; few = lit≤ tt }
-is_schedule Full = record { header = one_thread; lines = search rules; few = lit≤ tt }
-is_schedule HandOverHand = record { header = two_threads; lines = search rules; few = lit≤ tt }
-is_schedule SameGap = record { header = two_threads; lines = search rules; few = lit≤ tt }
-is_schedule StalePred = record { header = two_threads; lines = search rules; few = lit≤ tt }
-is_schedule MarkedInChain = record { header = two_threads; lines = search rules; few = lit≤ tt }
-is_schedule MarkedPred = record { header = two_threads; lines = search rules; few = lit≤ tt }
-is_schedule ReadInAnothersStep = record { header = two_threads; lines = search rules; few = lit≤ tt }
-is_schedule TwoRemovers = record { header = two_threads; lines = search rules; few = lit≤ tt }
-is_schedule Snip = record { header = two_threads; lines = search rules; few = lit≤ tt }
-is_schedule TriesAgain = record { header = two_threads; lines = search rules; few = lit≤ tt }
-is_schedule LeftInChain = record { header = two_threads; lines = search rules; few = lit≤ tt }
-is_schedule CeilingMeetsMark = record { header = two_threads; lines = search rules; few = lit≤ tt }
-is_schedule CeilingLeftInChain = record { header = two_threads; lines = search rules; few = lit≤ tt }
-is_schedule BehindTheWalk = record { header = two_threads; lines = search rules; few = lit≤ tt }
+is_schedule FailedTries = record { opens = two_threads; opening = refl; lines = search rules; few = lit≤ tt }
+is_schedule Full = record { opens = one_thread; opening = refl; lines = search rules; few = lit≤ tt }
+is_schedule HandOverHand = record { opens = two_threads; opening = refl; lines = search rules; few = lit≤ tt }
+is_schedule SameGap = record { opens = two_threads; opening = refl; lines = search rules; few = lit≤ tt }
+is_schedule StalePred = record { opens = two_threads; opening = refl; lines = search rules; few = lit≤ tt }
+is_schedule MarkedInChain = record { opens = two_threads; opening = refl; lines = search rules; few = lit≤ tt }
+is_schedule MarkedPred = record { opens = two_threads; opening = refl; lines = search rules; few = lit≤ tt }
+is_schedule ReadInAnothersStep = record { opens = two_threads; opening = refl; lines = search rules; few = lit≤ tt }
+is_schedule OpensWithKeys = record { opens = two_keys; opening = tt; lines = search rules; few = lit≤ tt }
+is_schedule TwoRemovers = record { opens = two_threads; opening = refl; lines = search rules; few = lit≤ tt }
+is_schedule Snip = record { opens = two_threads; opening = refl; lines = search rules; few = lit≤ tt }
+is_schedule TriesAgain = record { opens = two_threads; opening = refl; lines = search rules; few = lit≤ tt }
+is_schedule LeftInChain = record { opens = two_threads; opening = refl; lines = search rules; few = lit≤ tt }
+is_schedule CeilingMeetsMark = record { opens = two_threads; opening = tt; lines = search rules; few = lit≤ tt }
+is_schedule CeilingLeftInChain = record { opens = two_threads; opening = tt; lines = search rules; few = lit≤ tt }
+is_schedule BehindTheWalk = record { opens = two_threads; opening = tt; lines = search rules; few = lit≤ tt }
 
 -- each text is that of a schedule on the example's list
 pub is_schedule_text : (e : Example) → IsScheduleOf e (text_of e)
@@ -134,10 +153,11 @@ is_listed StalePred = (4, lit< tt, refl)
 is_listed MarkedInChain = (5, lit< tt, refl)
 is_listed MarkedPred = (6, lit< tt, refl)
 is_listed ReadInAnothersStep = (7, lit< tt, refl)
-is_listed TwoRemovers = (8, lit< tt, refl)
-is_listed Snip = (9, lit< tt, refl)
-is_listed TriesAgain = (10, lit< tt, refl)
-is_listed LeftInChain = (11, lit< tt, refl)
-is_listed CeilingMeetsMark = (12, lit< tt, refl)
-is_listed CeilingLeftInChain = (13, lit< tt, refl)
-is_listed BehindTheWalk = (14, lit< tt, refl)
+is_listed OpensWithKeys = (8, lit< tt, refl)
+is_listed TwoRemovers = (9, lit< tt, refl)
+is_listed Snip = (10, lit< tt, refl)
+is_listed TriesAgain = (11, lit< tt, refl)
+is_listed LeftInChain = (12, lit< tt, refl)
+is_listed CeilingMeetsMark = (13, lit< tt, refl)
+is_listed CeilingLeftInChain = (14, lit< tt, refl)
+is_listed BehindTheWalk = (15, lit< tt, refl)

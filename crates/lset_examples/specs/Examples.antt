@@ -10,7 +10,7 @@ use Rattle.lset_report.specs.ReportReading.{IsReport}
 use Rattle.lset_report.specs.Texts.{report_text}
 use Rattle.lset_examples.specs.declared.example.Example.{Example}
 use Rattle.lset_examples.specs.declared.example.Example.TheVariants.{FailedTries, Full, HandOverHand, SameGap}
-use Rattle.lset_examples.specs.declared.example.Example.TheVariants.{StalePred, MarkedInChain, MarkedPred, ReadInAnothersStep}
+use Rattle.lset_examples.specs.declared.example.Example.TheVariants.{StalePred, MarkedInChain, MarkedPred, ReadInAnothersStep, OpensWithKeys}
 use Rattle.lset_examples.specs.declared.example.Example.TheVariants.{TwoRemovers, Snip, TriesAgain, LeftInChain}
 use Rattle.lset_examples.specs.declared.example.Example.TheVariants.{CeilingMeetsMark, CeilingLeftInChain, BehindTheWalk}
 use Rattle.lset_examples.specs.declared.example.TheConstants.{ALL}
@@ -26,6 +26,7 @@ name_of StalePred = codes "stale-pred"
 name_of MarkedInChain = codes "marked-in-chain"
 name_of MarkedPred = codes "marked-pred"
 name_of ReadInAnothersStep = codes "read-in-anothers-step"
+name_of OpensWithKeys = codes "opens-with-keys"
 name_of TwoRemovers = codes "two-removers"
 name_of Snip = codes "snip"
 name_of TriesAgain = codes "tries-again"
@@ -44,6 +45,7 @@ kind_of StalePred = Optimistic
 kind_of MarkedInChain = Lazy
 kind_of MarkedPred = Lazy
 kind_of ReadInAnothersStep = Lazy
+kind_of OpensWithKeys = Lazy
 kind_of TwoRemovers = LockFree
 kind_of Snip = LockFree
 kind_of TriesAgain = LockFree
@@ -62,6 +64,7 @@ about_of StalePred = codes "pred is taken out after the walk: the second walk do
 about_of MarkedInChain = codes "contains answers false, and the key's node is still in the chain"
 about_of MarkedPred = codes "pred is marked after the walk: its link gives it away"
 about_of ReadInAnothersStep = codes "contains stands in the step of the thread that removed its key"
+about_of OpensWithKeys = codes "two opening keys take no slot, and the remove of one gives none back"
 about_of TwoRemovers = codes "two removes of one key: one marks, the other walks again and answers false"
 about_of Snip = codes "an add takes out the node that a remove has marked"
 about_of TriesAgain = codes "an exchange fails, and the add walks again with the same slot"
@@ -80,6 +83,7 @@ text_of StalePred = texts.STALE_PRED.now
 text_of MarkedInChain = texts.MARKED_IN_CHAIN.now
 text_of MarkedPred = texts.MARKED_PRED.now
 text_of ReadInAnothersStep = texts.READ_IN_ANOTHERS_STEP.now
+text_of OpensWithKeys = texts.OPENS_WITH_KEYS.now
 text_of TwoRemovers = texts.TWO_REMOVERS.now
 text_of Snip = texts.SNIP.now
 text_of TriesAgain = texts.TRIES_AGAIN.now
@@ -98,6 +102,7 @@ broken_of StalePred = Some texts.STALE_PRED_BROKEN.now
 broken_of MarkedInChain = None
 broken_of MarkedPred = None
 broken_of ReadInAnothersStep = None
+broken_of OpensWithKeys = None
 broken_of TwoRemovers = None
 broken_of Snip = None
 broken_of TriesAgain = None

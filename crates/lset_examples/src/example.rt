@@ -28,6 +28,7 @@ pub enum Example {
     MarkedInChain,
     MarkedPred,
     ReadInAnothersStep,
+    OpensWithKeys,
     TwoRemovers,
     Snip,
     TriesAgain,
@@ -38,7 +39,7 @@ pub enum Example {
 }
 
 /// All examples, in the order of the lists that they are about.
-pub const ALL: [Example; 15] = [
+pub const ALL: [Example; 16] = [
     Example::FailedTries,
     Example::Full,
     Example::HandOverHand,
@@ -47,6 +48,7 @@ pub const ALL: [Example; 15] = [
     Example::MarkedInChain,
     Example::MarkedPred,
     Example::ReadInAnothersStep,
+    Example::OpensWithKeys,
     Example::TwoRemovers,
     Example::Snip,
     Example::TriesAgain,
@@ -70,6 +72,7 @@ impl Example {
             Example::MarkedInChain => "marked-in-chain",
             Example::MarkedPred => "marked-pred",
             Example::ReadInAnothersStep => "read-in-anothers-step",
+            Example::OpensWithKeys => "opens-with-keys",
             Example::TwoRemovers => "two-removers",
             Example::Snip => "snip",
             Example::TriesAgain => "tries-again",
@@ -88,8 +91,10 @@ impl Example {
             Example::FailedTries | Example::Full => Kind::Coarse,
             Example::HandOverHand => Kind::Fine,
             Example::SameGap | Example::StalePred => Kind::Optimistic,
-            Example::MarkedInChain | Example::MarkedPred | Example::ReadInAnothersStep =>
-                Kind::Lazy,
+            Example::MarkedInChain
+            | Example::MarkedPred
+            | Example::ReadInAnothersStep
+            | Example::OpensWithKeys => Kind::Lazy,
             Example::TwoRemovers
             | Example::Snip
             | Example::TriesAgain
@@ -118,6 +123,8 @@ impl Example {
             Example::MarkedPred => "pred is marked after the walk: its link gives it away",
             Example::ReadInAnothersStep =>
                 "contains stands in the step of the thread that removed its key",
+            Example::OpensWithKeys =>
+                "two opening keys take no slot, and the remove of one gives none back",
             Example::TwoRemovers =>
                 "two removes of one key: one marks, the other walks again and answers false",
             Example::Snip => "an add takes out the node that a remove has marked",
@@ -153,6 +160,7 @@ impl Example {
             Example::MarkedInChain => texts::MARKED_IN_CHAIN,
             Example::MarkedPred => texts::MARKED_PRED,
             Example::ReadInAnothersStep => texts::READ_IN_ANOTHERS_STEP,
+            Example::OpensWithKeys => texts::OPENS_WITH_KEYS,
             Example::TwoRemovers => texts::TWO_REMOVERS,
             Example::Snip => texts::SNIP,
             Example::TriesAgain => texts::TRIES_AGAIN,
@@ -187,6 +195,7 @@ impl Example {
             | Example::MarkedInChain
             | Example::MarkedPred
             | Example::ReadInAnothersStep
+            | Example::OpensWithKeys
             | Example::TwoRemovers
             | Example::Snip
             | Example::TriesAgain

@@ -112,6 +112,23 @@ go 1 11
 go 0 1
 ";
 
+pub const OPENS_WITH_KEYS: &str = "\
+listset-schedule 2
+list lazy
+threads 1
+quota 1
+opening 5
+opening 9
+begin 0 remove 5
+go 0 10
+begin 0 ceiling 0
+go 0 3
+begin 0 add 7
+go 0 11
+begin 0 add 8
+go 0 10
+";
+
 pub const TWO_REMOVERS: &str = "\
 listset-schedule 1
 list lock-free

@@ -97,8 +97,13 @@ fn rises(keys: &[u32]) -> bool
     true
 }
 
-/// Opens a set with these keys, which rise strictly and are at most `MOST_OPENING`, and else as `open` does.
-/// `OpenFault::Seats` and `OpenFault::Quota` come first, then `OpenFault::Opening`.
+/// Opens a set that has these keys, 0 to `MOST_OPENING` of them, rising strictly, and else as `open` does: with 1 to
+/// `MOST_THREADS` seats and a quota of 0 to `MOST_QUOTA` slots for each. The opening keys take no slot and count as nobody's
+/// adds, and each seat may take them out; the keys of a closed set open the next one, of the same list or another. (This
+/// project's own: the lists of the book open empty.)
+/// `OpenFault::Seats` where the seats are outside their limits, else `OpenFault::Quota` where the quota is, else
+/// `OpenFault::Opening` where the keys are too many or one is not above the key before it, and `OpenFault::Memory` where memory
+/// was refused.
 pub fn open_with<M: Running>(
     alloc: Global,
     seats: u32,

@@ -7,7 +7,7 @@ use Rattle.std.proofs.lemmas.Str.Ascii.{IsAscii-cons, IsAscii-nil}
 use Rattle.lset_examples.specs.Examples.{name_of}
 use Rattle.lset_examples.specs.declared.example.Example.{Example}
 use Rattle.lset_examples.specs.declared.example.Example.TheVariants.{FailedTries, Full, HandOverHand, SameGap, StalePred, MarkedInChain}
-use Rattle.lset_examples.specs.declared.example.Example.TheVariants.{MarkedPred, ReadInAnothersStep, TwoRemovers, Snip, TriesAgain, LeftInChain}
+use Rattle.lset_examples.specs.declared.example.Example.TheVariants.{MarkedPred, ReadInAnothersStep, OpensWithKeys, TwoRemovers, Snip, TriesAgain, LeftInChain}
 use Rattle.lset_examples.specs.declared.example.Example.TheVariants.{CeilingMeetsMark, CeilingLeftInChain, BehindTheWalk}
 
 abbrev is_ascii : List ℕ → Bool
@@ -32,6 +32,7 @@ name_is_utf8 StalePred = spelled (name_of StalePred) refl
 name_is_utf8 MarkedInChain = spelled (name_of MarkedInChain) refl
 name_is_utf8 MarkedPred = spelled (name_of MarkedPred) refl
 name_is_utf8 ReadInAnothersStep = spelled (name_of ReadInAnothersStep) refl
+name_is_utf8 OpensWithKeys = spelled (name_of OpensWithKeys) refl
 name_is_utf8 TwoRemovers = spelled (name_of TwoRemovers) refl
 name_is_utf8 Snip = spelled (name_of Snip) refl
 name_is_utf8 TriesAgain = spelled (name_of TriesAgain) refl

@@ -16,6 +16,7 @@ use Rattle.lset_words.specs.SequentialSet.{SetState, IsLegal, after_call, count_
 use Rattle.lset_words.specs.Words.{Opening}
 use Rattle.lset_text.specs.declared.words.Version.{Version}
 use Rattle.lset_text.specs.declared.words.Version.TheVariants.{One, Two}
+use Rattle.lset_text.specs.Openings.{HasOpening}
 use Rattle.lset_text.specs.Spellings.{HasCall, HasReply}
 use Rattle.lset_history.proofs.Lists.{all_at, all_both, all_map, all-append}
 use Rattle.lset_steps.specs.declared.Event.{Event}
@@ -23,7 +24,8 @@ use Rattle.lset_steps.specs.declared.Event.TheVariants as event
 use Rattle.lset_steps.specs.Steps.{Table, State, event_at, state_at, entry_of, log_of}
 use Rattle.lset_schedule.specs.declared.value.Line.{Line}
 use Rattle.lset_schedule.specs.declared.value.Line.TheVariants as line
-use Rattle.lset_schedule.specs.Plan.{Plan, HasCallOfLine, HasCallsOfVersion, first_event_line, opening_in}
+use Rattle.lset_schedule.specs.Plan.{Plan, HasCallOfLine, first_event_line, opening_in}
+use Rattle.lset_schedule.specs.Plan as plan
 use Rattle.lset_report.specs.Report.{ReportValue}
 use Rattle.lset_report.specs.Texts.{HasEnd, HasWordsIn, HasWordsOfVersion}
 use Rattle.lset_replay.specs.declared.events.LineEvent.{LineEvent}
@@ -169,15 +171,16 @@ words_in One q s calls order h are =
     )
 words_in Two q s calls order h are = tt
 
-pub words_of_version : (T : Table) (p : Plan) (r : ReportValue) → IsReplay T p r → IsExplained r → HasCallsOfVersion p
+pub words_of_version : (T : Table) (p : Plan) (r : ReportValue) → IsReplay T p r → IsExplained r → plan.HasWordsOfVersion p
     → HasWordsOfVersion r
-words_of_version T p r is explained calls =
+words_of_version T p r is explained words =
     let are : AllByRecursion (IsRecordIn p.version) r.history.calls =
     subst (λ xs. AllByRecursion (IsRecordIn p.version) xs) (sym is.report.history_is)
     (history_is_in p.version T (opening_in p) (length (only_events (events_of p))) (events_of p)
-    (lines_begin p.version (first_event_line p) p.lines calls)) in
+    (lines_begin p.version (first_event_line p) p.lines words.1)) in
     record {
-      opens = ap (λ (o : Opening). o.keys) is.opening_is;
+      opening = subst (λ (v : Version). HasOpening v r.history.opening.keys) (sym is.version_is)
+          (subst (HasOpening p.version) (sym (ap (λ (o : Opening). o.keys) is.opening_is)) words.0);
       words = subst (λ v. HasWordsIn v r.history.calls r.order) (sym is.version_is)
           (words_in p.version r.history.opening.quota (opening_set r.history.opening) r.history.calls r.order explained.linearizes are);
     }

@@ -265,12 +265,13 @@ traced_none T op events chains w r kept traced followed none chain =
 
 -- the trace of a schedule
 pub trace_is : (T : Table) (p : Plan) (chains : Bool) (op : Opening) (events : List LineEvent) (t : Trace)
-    → op ≡ opening_in p → events ≡ events_of p → t.kind ≡ p.kind → t.threads ≡ p.threads → t.quota ≡ p.quota
+    → op ≡ opening_in p → events ≡ events_of p → t.kind ≡ p.kind → t.threads ≡ p.threads → t.quota ≡ p.quota → t.opening.items ≡ p.opening
     → TellsEvents T op events chains t.events.items t.refused → IsTraceOf T p chains t
-trace_is T p chains op events t a d kind threads quota tells = record {
+trace_is T p chains op events t a d kind threads quota keys tells = record {
   kind_is = kind;
   threads_are = threads;
   quota_is = quota;
+  opening_is = keys;
   tells = subst (λ es. TellsEvents T (opening_in p) es chains t.events.items t.refused) d
       (subst (λ z. TellsEvents T z events chains t.events.items t.refused) a tells);
 }

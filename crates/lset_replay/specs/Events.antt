@@ -5,7 +5,7 @@ use Rattle.lset_steps.specs.declared.Event.TheVariants as event
 use Rattle.lset_schedule.specs.declared.value.Line.{Line}
 use Rattle.lset_schedule.specs.declared.value.Line.TheVariants as line
 use Rattle.std.specs.List.{sum_by}
-use Rattle.lset_words.specs.Words.{IsWithin, sizes}
+use Rattle.lset_words.specs.Words.{Opens}
 use Rattle.lset_schedule.specs.declared.TheConstants.{MOST_EVENTS}
 use Rattle.lset_schedule.specs.Plan.{Plan, event_count, first_event_line, opening_in}
 use Rattle.lset_replay.specs.declared.events.LineEvent.{LineEvent}
@@ -24,7 +24,7 @@ events_of p = events_from (first_event_line p) p.lines
 
 -- what can be replayed: an opening within the limits, and no more events than there may be, whatever the calls are
 pub record IsInLimits (p : Plan) : Type 0 where
-  pub sizes : IsWithin (sizes (opening_in p))
+  pub opens : Opens (opening_in p)
   pub few : sum_by event_count p.lines ≤ MOST_EVENTS
 
 -- without the numbers of the lines

@@ -1,5 +1,5 @@
 -- A report with the points of its order: where the calls of the run stand.
-use Rattle.std.specs.Prelude.{ℕ, List, length, Result, Ok, Err}
+use Rattle.std.specs.Prelude.{List, length, Result, Ok, Err}
 use Rattle.lset_words.specs.declared.history.CallRecord.{CallRecord}
 use Rattle.lset_words.specs.declared.history.Placed.{Placed}
 use Rattle.lset_words.specs.declared.history.Point.{Point}

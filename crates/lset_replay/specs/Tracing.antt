@@ -97,4 +97,5 @@ pub record IsTraceOf (T : Table) (p : Plan) (chains : Bool) (t : Trace) : Type 0
   pub kind_is : t.kind ≡ p.kind
   pub threads_are : t.threads ≡ p.threads
   pub quota_is : t.quota ≡ p.quota
+  pub opening_is : t.opening.items ≡ p.opening
   pub tells : TellsEvents T (opening_in p) (events_of p) chains t.events.items t.refused

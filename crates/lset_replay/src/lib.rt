@@ -9,6 +9,7 @@ mod placed_report;
 mod places;
 mod recorder;
 mod replaying;
+mod start;
 mod told;
 mod traced;
 mod tracing;

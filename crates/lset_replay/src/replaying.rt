@@ -1,7 +1,8 @@
 ghost use Rattle.std.specs.Prelude.{◌≡◌, ◌≤◌, ◌^◌, IfOk};
 ghost use Rattle.lset_schedule.specs.declared.TheConstants.{MOST_EVENTS};
 ghost use Rattle.std.specs.List.{sum_by};
-ghost use Rattle.lset_schedule.specs.Plan.{view, event_count, HasCallsOfVersion};
+ghost use Rattle.lset_schedule.specs.Plan.{view, event_count};
+ghost use Rattle.lset_schedule.specs.Plan as plan;
 ghost use Rattle.lset_replay.specs.Events.{IsInLimits, events_from};
 ghost use Rattle.lset_replay.specs.Follows.{HasFollowed, FollowsAll};
 ghost use Rattle.lset_lists.specs.Tables.{table_of};
@@ -13,6 +14,7 @@ ghost use Rattle.lset_replay.specs.PlacedReports.{ReplaysWithPoints};
 use crate::events::event_of;
 use crate::order::in_order;
 use crate::recorder::Recorder;
+use crate::start::start_of;
 use crate::{PlacedReport, ReplayFault};
 use lset_headline::runs_are_linearizable;
 use lset_lists::{List, Task, on_list};
@@ -20,7 +22,6 @@ use lset_report::Report;
 use lset_schedule::{Line, Schedule};
 use lset_steps::laws::{has_account, listed_content};
 use lset_steps::{Machine, StepFault, World};
-use lset_words::layout;
 use std::alloc::Global;
 
 fn refusal(cause: StepFault, line: u64) -> ReplayFault
@@ -68,16 +69,12 @@ fn replay_on<M: Machine>(alloc: Global, schedule: &Schedule) -> Result<PlacedRep
     requires { IsInLimits (view schedule.now) }
     ensures replays { ReplaysWithPoints M.table (view schedule.now) result }
     ensures explained { IfOk result (λ r. IsExplained (report.view r.report)) }
-    ensures in_words { HasCallsOfVersion (view schedule.now) → IfOk result (λ r. HasWordsOfVersion (report.view r.report)) }
+    ensures in_words { plan.HasWordsOfVersion (view schedule.now) → IfOk result (λ r. HasWordsOfVersion (report.view r.report)) }
 {
     has_account::<M>();
     listed_content::<M>();
     runs_are_linearizable::<M>();
-    let Ok(layout) = layout(schedule.threads, schedule.quota) else {
-        unreachable!();
-    };
-    let mut world = World::<M>::new(alloc, layout)?;
-    let mut recorder = Recorder::new(alloc, schedule.threads, schedule.quota, Vec::new(alloc))?;
+    let (mut world, mut recorder) = start_of::<M>(alloc, schedule)?;
     follow_all(
         &mut world,
         &mut recorder,
@@ -113,17 +110,18 @@ impl Task for Replaying<'_> {
 
     ghost done = { λ task table result. ReplaysWithPoints table (view task.schedule.now) result
         × IfOk result (λ r. IsExplained (report.view r.report))
-        × (HasCallsOfVersion (view task.schedule.now) → IfOk result (λ r. HasWordsOfVersion (report.view r.report))) };
+        × (plan.HasWordsOfVersion (view task.schedule.now) → IfOk result (λ r. HasWordsOfVersion (report.view r.report))) };
 
     fn run<M: List>(self) -> Result<PlacedReport, ReplayFault> {
         replay_on::<M>(self.alloc, self.schedule)
     }
 }
 
-/// Replays a schedule on the list of its kind, one event after another. The schedule is within its limits, as
-/// what `read_schedule` gives: 1 to 64 threads, a quota of 0 to 16,384, and at most 1,000,000 events. Its calls may be
-/// ceilings too, which have words in a text of version 2 alone. A schedule whose version has words for its calls gets a
-/// report whose version, the same, has words for what it tells, so that `write_report` takes it.
+/// Replays a schedule on the list of its kind, which opens with the schedule's opening keys, one event after another. The
+/// schedule is within its limits, as what `read_schedule` gives: 1 to 64 threads, a quota of 0 to 16,384, 0 to 1,048,576
+/// opening keys, which rise strictly, and at most 1,000,000 events. Its calls may be ceilings too, which have words in a
+/// text of version 2 alone, as opening keys have lines. A schedule whose version has words for its calls and its opening
+/// keys gets a report whose version, the same, has words for what it tells, so that `write_report` takes it.
 ///
 /// It is refused at the first event that is not enabled, with the number of its line: `NoThread` where there is no such
 /// thread, `Busy` where a thread begins a call and has one open, `Idle` where a thread makes a step and has no call open.
@@ -134,7 +132,7 @@ pub fn replay(alloc: Global, schedule: &Schedule) -> Result<Report, ReplayFault>
     requires { IsInLimits (view schedule.now) }
     ensures replays { Replays (table_of schedule.now.kind) (view schedule.now) result }
     ensures explained { IfOk result (λ r. IsExplained (report.view r)) }
-    ensures in_words { HasCallsOfVersion (view schedule.now) → IfOk result (λ r. HasWordsOfVersion (report.view r)) }
+    ensures in_words { plan.HasWordsOfVersion (view schedule.now) → IfOk result (λ r. HasWordsOfVersion (report.view r)) }
 {
     let placed = replay_with_points(alloc, schedule)?;
     Ok(placed.report)
@@ -148,7 +146,7 @@ pub fn replay_with_points(alloc: Global, schedule: &Schedule) -> Result<PlacedRe
     requires { IsInLimits (view schedule.now) }
     ensures replays { ReplaysWithPoints (table_of schedule.now.kind) (view schedule.now) result }
     ensures explained { IfOk result (λ r. IsExplained (report.view r.report)) }
-    ensures in_words { HasCallsOfVersion (view schedule.now) → IfOk result (λ r. HasWordsOfVersion (report.view r.report)) }
+    ensures in_words { plan.HasWordsOfVersion (view schedule.now) → IfOk result (λ r. HasWordsOfVersion (report.view r.report)) }
 {
     on_list(schedule.kind, Replaying { alloc, schedule })
 }

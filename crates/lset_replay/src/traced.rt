@@ -32,13 +32,14 @@ pub struct TracedEvent {
     pub chain: Option<Vec<ChainKey>>,
 }
 
-/// The events of a schedule, one after another, up to the first that is not enabled; and of that one, the
-/// number of its line and the first cause.
+/// The events of a schedule, whose set opens with the keys `opening`, one after another, up to the first that is not enabled;
+/// and of that one, the number of its line and the first cause.
 #[derive(Debug, Drop)]
 pub struct Trace {
     pub kind: Kind,
     pub threads: u32,
     pub quota: u32,
+    pub opening: Vec<u32>,
     pub events: Vec<TracedEvent>,
     pub refused: Option<(u64, StepFault)>,
 }

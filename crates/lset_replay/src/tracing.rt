@@ -24,12 +24,13 @@ ghost use Rattle.lset_replay.specs.declared.tracing.Stop.TheVariants.{Memory};
 
 use crate::events::{LineEvent, event_of};
 use crate::recorder::Recorder;
+use crate::start::start_of;
 use crate::{CallEnd, Deed, Trace, TracedEvent};
 use lset_lists::{List, Task, on_list};
 use lset_schedule::{Line, Schedule};
 use lset_steps::laws::{has_account, listed_content};
 use lset_steps::{Action, ChainKey, Event, Local, Machine, StepFault, World};
-use lset_words::{Reply, layout};
+use lset_words::Reply;
 use std::alloc::{AllocError, Global};
 
 /// Why an event is not told.
@@ -238,11 +239,7 @@ fn trace_on<M: Machine>(
     requires { IsSchedule (view schedule.now) }
     ensures { IfOk result (λ t. IsTraceOf M.table (view schedule.now) chains t) }
 {
-    let Ok(layout) = layout(schedule.threads, schedule.quota) else {
-        unreachable!();
-    };
-    let mut world = World::<M>::new(alloc, layout)?;
-    let mut recorder = Recorder::new(alloc, schedule.threads, schedule.quota, Vec::new(alloc))?;
+    let (mut world, mut recorder) = start_of::<M>(alloc, schedule)?;
     let mut kept = world.chain()?;
     let mut events = Vec::new(alloc);
     let refused = trace_lines(
@@ -259,6 +256,7 @@ fn trace_on<M: Machine>(
         kind: schedule.kind,
         threads: schedule.threads,
         quota: schedule.quota,
+        opening: schedule.opening.to_vec(alloc)?,
         events,
         refused,
     })

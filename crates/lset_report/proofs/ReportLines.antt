@@ -4,6 +4,7 @@ use Rattle.std.proofs.Common.{None, Result, Ok, Err, refl, sym, ap, subst, ◌�
 use Rattle.std.specs.Fmt.{decimal}
 use Rattle.std.specs.List.{AllByRecursion}
 use Rattle.std.specs.Str.{bytes_eq}
+use Rattle.std.proofs.Math.Bool.{and-false}
 use Rattle.std.proofs.lemmas.Bool.{and_parts}
 use Rattle.lset_words.specs.declared.Key.{Key}
 use Rattle.lset_words.specs.declared.Call.{Call as CallMade}
@@ -29,13 +30,14 @@ use Rattle.lset_report.specs.declared.reading.lines.Section.{Section}
 use Rattle.lset_report.specs.declared.report_fault.ReportCause.{ReportCause}
 use Rattle.lset_report.specs.declared.report_fault.ReportCause.TheVariants as wrong
 use Rattle.lset_report.specs.Texts.{end_pieces}
-use Rattle.lset_report.specs.ReportReading.{takes_calls, takes_places, takes_keys, any_number, moment, begun_of, reply_told}
+use Rattle.lset_report.specs.ReportReading.{takes_opening, takes_calls, takes_places, takes_keys, any_number, moment, begun_of, reply_told}
 use Rattle.lset_report.specs.ReportReading.{IsPlace, open_of, ended_of, call_of, place_of}
-use Rattle.lset_report.specs.ReportReading.{key_of_line, end_of, line_of_pieces, line_in}
+use Rattle.lset_report.specs.ReportReading.{key_of_line, opening_or_key, end_of, line_of_pieces, line_in}
 
 -- ---- lines and their texts
 
 abbrev pub pieces_of : Line → List (List ℕ)
+pieces_of (told.Opening k) = codes "opening" ∷ decimal k ∷ []
 pieces_of (told.Call n x) =
     codes "call" ∷ decimal n ∷ decimal x.thread ∷ call_text x.call ∷ decimal
     ((key_of x.call).0) ∷ decimal x.begun ∷ end_pieces x.ended
@@ -52,6 +54,7 @@ IsEndLine v (Some end) = (0 < end.0) × (end.0 < 2 ^ 32) × HasReply v end.1
 
 -- the numbers of a line are in range, and its words are those of a version
 abbrev pub IsLine : Version → Line → Type 0
+IsLine v (told.Opening k) = k < 2 ^ 32
 IsLine v (told.Call n x) =
     (n < 2 ^ 32) × (x.thread < 2 ^ 32) × ((key_of x.call).0 < 2 ^ 32) × (0 < x.begun) × (x.begun < 2 ^ 32)
     × IsEndLine v x.ended × HasCall v x.call
@@ -59,16 +62,17 @@ IsLine v (told.Place p) = IsPlace v p
 IsLine v (told.Key k) = k < 2 ^ 32
 IsLine v told.End = Unit {0}
 
--- the line may come in a section
-abbrev pub takes : Section → Line → Bool
-takes s (told.Call n x) = takes_calls s
-takes s (told.Place p) = takes_places s
-takes s (told.Key k) = takes_keys s
-takes s told.End = takes_keys s
+-- the line may come in a section of a text of a version
+abbrev pub takes : Version → Section → Line → Bool
+takes v s (told.Opening k) = takes_opening v s
+takes v s (told.Call n x) = takes_calls s
+takes v s (told.Place p) = takes_places s
+takes v s (told.Key k) = takes_keys s
+takes v s told.End = takes_keys s
 
 -- the pieces of a line that may come
 abbrev AreOf : Version → Section → List (List ℕ) → Line → Type 0
-AreOf v s pieces l = (pieces ≡ pieces_of l) × IsLine v l × (takes s l ≡ true)
+AreOf v s pieces l = (pieces ≡ pieces_of l) × IsLine v l × (takes v s l ≡ true)
 
 -- ---- what is read stands there
 
@@ -257,6 +261,24 @@ key_ok v s a k l is =
     subst (AreOf v s (a ∷ k ∷ [])) (ok_is (told.Key n.0) l n.2)
     (two a k (codes "key") (decimal n.0) (same_bytes a (codes "key") parts.1) number.0, omega (arith, number.2), parts.0)
 
+opening_or_key_ok : (v : Version) (s : Section) (a k : List ℕ) (l : Line) → opening_or_key v s a k ≡ Ok l → AreOf v s (a ∷ k ∷ []) l
+unfolding opening_or_key
+opening_or_key_ok v s a k l is = either (takes_opening v s && bytes_eq a (codes "opening")) refl is
+  where
+    opening : any_number k >>= (λ n. Ok (told.Opening n)) ≡ Ok l → takes_opening v s && bytes_eq a (codes "opening") ≡ true
+        → AreOf v s (a ∷ k ∷ []) l
+    opening read opens =
+        let parts = and_parts (takes_opening v s) (bytes_eq a (codes "opening")) opens in
+        let n = bind_ok (any_number k) (λ n. Ok (told.Opening n)) l read in
+        let number = number_told 0 max_number k n.0 (omega arith) n.1 in
+        subst (AreOf v s (a ∷ k ∷ [])) (ok_is (told.Opening n.0) l n.2)
+        (two a k (codes "opening") (decimal n.0) (same_bytes a (codes "opening") parts.1) number.0, omega (arith, number.2), parts.0)
+
+    either : (b : Bool) → takes_opening v s && bytes_eq a (codes "opening") ≡ b
+        → cond b (any_number k >>= (λ n. Ok (told.Opening n))) (key_of_line s a k) ≡ Ok l → AreOf v s (a ∷ k ∷ []) l
+    either true opens read = opening read opens
+    either false opens read = key_ok v s a k l read
+
 end_ok : (v : Version) (s : Section) (a : List ℕ) (l : Line) → end_of s a ≡ Ok l → AreOf v s (a ∷ []) l
 end_ok v s a l is =
     let test = test_ok (takes_keys s && bytes_eq a (codes "end")) wrong.Line (Ok told.End) l is in
@@ -267,7 +289,7 @@ end_ok v s a l is =
 pieces_ok : (v : Version) (s : Section) (ps : List (List ℕ)) (l : Line) → line_of_pieces v s ps ≡ Ok l → AreOf v s ps l
 pieces_ok v s [] l is = absurd cc
 pieces_ok v s (a ∷ []) l is = end_ok v s a l is
-pieces_ok v s (a ∷ b ∷ []) l is = key_ok v s a b l is
+pieces_ok v s (a ∷ b ∷ []) l is = opening_or_key_ok v s a b l is
 pieces_ok v s (a ∷ b ∷ c ∷ []) l is = place_ok v s a b c l is
 pieces_ok v s (a ∷ b ∷ c ∷ d ∷ more) l is =
     let test = test_ok (takes_calls s && bytes_eq a (codes "call")) wrong.Line (call_of v b c (d ∷ more)) l is in
@@ -276,7 +298,7 @@ pieces_ok v s (a ∷ b ∷ c ∷ d ∷ more) l is =
     (call_ok v s b c (d ∷ more) l parts.0 test.1)
 
 pub line_ok : (v : Version) (s : Section) (x : List ℕ) (l : Line) → line_in v s x ≡ Ok l
-    → (x ≡ line_text l) × IsLine v l × (takes s l ≡ true)
+    → (x ≡ line_text l) × IsLine v l × (takes v s l ≡ true)
 line_ok v s x l is =
     let found = pieces_ok v s (cut_at 32 x) l is in
     (line_from_cut x (pieces_of l) found.0, found.1, found.2)
@@ -320,11 +342,12 @@ call_again v s n t b c (Some e) may h =
     )
     (ap (λ (d : CallMade). Ok (told.Call n (record { thread = t; call = d; begun = b; ended = Some e }))) (with_key-word_of c))
 
-pieces_again : (v : Version) (s : Section) (l : Line) → takes s l ≡ true → IsLine v l → line_of_pieces v s (pieces_of l) ≡ Ok l
-unfolding place_of key_of_line
+pieces_again : (v : Version) (s : Section) (l : Line) → takes v s l ≡ true → IsLine v l → line_of_pieces v s (pieces_of l) ≡ Ok l
+unfolding place_of key_of_line opening_or_key
+pieces_again v s (told.Opening k) may h = rw (may, any_again k h) refl
 pieces_again v s (told.Call n x) may h = call_again v s n x.thread x.begun x.call x.ended may h
 pieces_again v s (told.Place p) may h = rw (may, reply_told_again v p.reply h.1, any_again p.call h.0) refl
-pieces_again v s (told.Key k) may h = rw (may, any_again k h) refl
+pieces_again v s (told.Key k) may h = rw (and-false (takes_opening v s), may, any_again k h) refl
 pieces_again v s told.End may h = rw may refl
 
 ends_lack : (byte : ℕ) (v : Version) (o : Option (ℕ × Reply)) → byte < 45 → IsEndLine v o → AllByRecursion (Lacks byte) (end_pieces o)
@@ -332,6 +355,8 @@ ends_lack byte v None low h = (Lacks-below 45 byte (codes "open") low refl, tt)
 ends_lack byte v (Some e) low h = (decimal_lacks byte e.0 (omega arith) (omega (arith, h.1)), (reply_lacks byte v e.1 h.2 low, tt))
 
 pieces_lack : (byte : ℕ) (v : Version) (l : Line) → byte < 45 → IsLine v l → AllByRecursion (Lacks byte) (pieces_of l)
+pieces_lack byte v (told.Opening k) low h =
+    (Lacks-below 45 byte (codes "opening") low refl, (decimal_lacks byte k (omega arith) (omega (arith, h)), tt))
 pieces_lack byte v (told.Call n x) low h =
     let word = Lacks-below 45 byte (codes "call") low refl in
     let number = decimal_lacks byte n (omega arith) (omega (arith, h.0)) in
@@ -347,6 +372,7 @@ pieces_lack byte v (told.Key k) low h =
 pieces_lack byte v told.End low h = (Lacks-below 45 byte (codes "end") low refl, tt)
 
 cut_pieces : (l : Line) → AllByRecursion (Lacks 32) (pieces_of l) → cut_at 32 (line_text l) ≡ pieces_of l
+cut_pieces (told.Opening k) h = cut_line (codes "opening") (decimal k ∷ []) h.0 h.1
 cut_pieces (told.Call n x) h =
     cut_line (codes "call")
     (decimal n ∷ decimal x.thread ∷ call_text x.call ∷ decimal ((key_of x.call).0) ∷ decimal x.begun ∷ end_pieces x.ended) h.0 h.1
@@ -354,7 +380,7 @@ cut_pieces (told.Place p) h = cut_line (codes "place") (decimal p.call ∷ reply
 cut_pieces (told.Key k) h = cut_line (codes "key") (decimal k ∷ []) h.0 h.1
 cut_pieces told.End h = cut_line (codes "end") [] h.0 h.1
 
-pub line_again : (v : Version) (s : Section) (l : Line) → takes s l ≡ true → IsLine v l → line_in v s (line_text l) ≡ Ok l
+pub line_again : (v : Version) (s : Section) (l : Line) → takes v s l ≡ true → IsLine v l → line_in v s (line_text l) ≡ Ok l
 line_again v s l may h =
     ap (line_of_pieces v s) (cut_pieces l (pieces_lack 32 v l (omega arith) h)) ∙ pieces_again v s l may h
 

@@ -1,5 +1,5 @@
 -- Reading the lines of a report one after the other, as a loop does.
-use Rattle.std.proofs.Common.{◌≡◌, ℕ, ◌+◌, ◌<◌, ◌&&◌, ◌⊎◌, inl, inr, Bool, true, false, cond, ltb, eqb, List, [], ◌∷◌, ◌++◌}
+use Rattle.std.proofs.Common.{◌≡◌, ℕ, ◌+◌, ◌<◌, ◌⊎◌, inl, inr, Bool, true, false, cond, ltb, eqb, List, [], ◌∷◌, ◌++◌}
 use Rattle.std.proofs.Common.{length, get_or, codes, Result, Ok, Err, refl, sym, ap, subst, ◌∙◌, ◌≢◌, append_assoc, arith}
 use Rattle.std.proofs.lemmas.Bool.{ne_eqb, ltb-true, eqb-true, and_parts}
 use Rattle.std.proofs.Math.Seq.{get_or-append_seam}
@@ -9,16 +9,18 @@ use Rattle.lset_text.proofs.PartLaws.{some_part}
 use Rattle.lset_text.proofs.ReadingLaws.{bind_ok}
 use Rattle.lset_text.proofs.HeaderLaws.{header_ok}
 use Rattle.lset_text.specs.Results.{◌>>=◌, map_fault}
-use Rattle.lset_report.specs.declared.report.TheConstants.{MOST_CALLS, MOST_PLACES, MOST_KEYS}
+use Rattle.lset_words.specs.declared.TheConstants.{MOST_OPENING}
+use Rattle.lset_text.specs.Openings.{is_above}
+use Rattle.lset_report.specs.declared.report.TheConstants.{MOST_CALLS, MOST_PLACES}
 use Rattle.lset_report.specs.declared.reading.Reader.{Reader}
 use Rattle.lset_report.specs.declared.reading.lines.Line.{Line}
-use Rattle.lset_report.specs.declared.reading.lines.Line.TheVariants.{Call, Place, Key, End}
+use Rattle.lset_report.specs.declared.reading.lines.Line.TheVariants.{Opening, Call, Place, Key, End}
 use Rattle.lset_report.specs.declared.reading.lines.Section.{Section}
 use Rattle.lset_report.specs.declared.report_fault.ReportCause.{ReportCause}
 use Rattle.lset_report.specs.declared.report_fault.ReportCause.TheVariants as wrong
 use Rattle.lset_report.specs.declared.report_fault.ReportFault.{ReportFault}
 use Rattle.lset_report.specs.Report.{ReportValue}
-use Rattle.lset_report.specs.ReportReading.{fault, line_in, may_follow, judged, counted, following, line_after, section_after}
+use Rattle.lset_report.specs.ReportReading.{fault, line_in, may_follow, most_keys, is_next, judged, counted, rising, following, line_after, section_after}
 use Rattle.lset_report.specs.ReportReading.{with_line}
 use Rattle.lset_report.specs.ReportReading.{last_of_header, first_line, ended_in, report_from, report_of, in_report, reading}
 use Rattle.lset_report.specs.ReportReading.{version_told, no_lines, IsGoodUpTo, RunsOut}
@@ -41,25 +43,30 @@ counted_ok most count l k e =
     let kept = kept_if (ltb count most) wrong.TooMany l k e in
     (ltb-true count most kept.0, kept.1)
 
--- a good line: there is room for it, and a call follows
+-- a good line: there is room for it, and an opening key rises, and a call follows
 abbrev pub IsGood : ReportValue → Line → Type 0
+IsGood r (Opening k) = (length r.history.opening.keys < MOST_OPENING) × (is_above r.history.opening.keys k ≡ true)
 IsGood r (Call number x) =
     (length r.history.calls < MOST_CALLS) × (number ≡ length r.history.calls)
     × (may_follow r.history.opening.threads r.history.calls x ≡ true)
 IsGood r (Place p) = length r.order < MOST_PLACES
-IsGood r (Key k) = length r.keys < MOST_KEYS
+IsGood r (Key k) = length r.keys < most_keys r.version
 IsGood r End = Unit {0}
 
 pub judged_ok : (r : ReportValue) (l k : Line) → judged r l ≡ Ok k → (l ≡ k) × IsGood r l
+judged_ok r (Opening n) k e =
+    let one = bind_ok (counted MOST_OPENING (length r.history.opening.keys) (Opening n)) (rising r n) k e in
+    let room = counted_ok MOST_OPENING (length r.history.opening.keys) (Opening n) one.0 one.1 in
+    let test = kept_if (is_above r.history.opening.keys n) wrong.Opening one.0 k one.2 in
+    (room.1 ∙ test.1, (room.0, test.0))
 judged_ok r (Call number x) k e =
     let one = bind_ok (counted MOST_CALLS (length r.history.calls) (Call number x)) (following r number x) k e in
     let room = counted_ok MOST_CALLS (length r.history.calls) (Call number x) one.0 one.1 in
-    let test = kept_if (eqb number (length r.history.calls) && may_follow r.history.opening.threads r.history.calls x) wrong.History
-    one.0 k one.2 in
+    let test = kept_if (is_next r number x) wrong.History one.0 k one.2 in
     let parts = and_parts (eqb number (length r.history.calls)) _ test.0 in
     (room.1 ∙ test.1, (room.0, eqb-true _ _ parts.0, parts.1))
 judged_ok r (Place p) k e = let room = counted_ok MOST_PLACES (length r.order) (Place p) k e in (room.1, room.0)
-judged_ok r (Key n) k e = let room = counted_ok MOST_KEYS (length r.keys) (Key n) k e in (room.1, room.0)
+judged_ok r (Key n) k e = let room = counted_ok (most_keys r.version) (length r.keys) (Key n) k e in (room.1, room.0)
 judged_ok r End k e = (cc, tt)
 
 -- what was judged good is so again
@@ -118,6 +125,7 @@ good_bind upto line (Ok l) rest later good = good l
 good_bind upto line (Err cause) rest later good = later
 
 good_end : (upto line : ℕ) (s : Section) (r : ReportValue) → upto < line → IsGoodUpTo upto (ended_in line s r)
+good_end upto line section.Opening r later = later
 good_end upto line section.Calls r later = later
 good_end upto line section.Order r later = later
 good_end upto line section.Keys r later = later
@@ -135,6 +143,7 @@ good_from upto line s r (x ∷ y ∷ more) later =
 
 -- the line `end` tells the end
 end_told : (s : Section) (r : ReportValue) (x : List ℕ) (l : Line) → line_after s r x ≡ Ok l → x ≡ last_line → l ≡ End
+end_told section.Opening r x l read is = let e = subst (λ (y : List ℕ). line_after section.Opening r y ≡ Ok l) is read in cc
 end_told section.Calls r x l read is = let e = subst (λ (y : List ℕ). line_after section.Calls r y ≡ Ok l) is read in cc
 end_told section.Order r x l read is = let e = subst (λ (y : List ℕ). line_after section.Order r y ≡ Ok l) is read in cc
 end_told section.Keys r x l read is = let e = subst (λ (y : List ℕ). line_after section.Keys r y ≡ Ok l) is read in cc
@@ -201,17 +210,17 @@ header_fault bytes word v e version_is word_is header_is =
 -- the parts of a text of a version whose header was read
 in_version : (parts rest : List (List ℕ)) (v : Version) (h : Header) → v ≡ version_told parts
     → header_of (title v) parts ≡ Ok (h, rest)
-    → report_of parts ≡ report_from first_line section.Calls (no_lines v h) rest
+    → report_of parts ≡ report_from first_line section.Opening (no_lines v h) rest
 unfolding report_of
 in_version parts rest v h is head =
     let told : header_of (title (version_told parts)) parts ≡ Ok (h, rest) =
     ap (λ (u : Version). header_of (title u) parts) (sym is) ∙ head in
-    rw told (ap (λ (u : Version). report_from first_line section.Calls (no_lines u h) rest) (sym is))
+    rw told (ap (λ (u : Version). report_from first_line section.Opening (no_lines u h) rest) (sym is))
 
 -- a text of a version whose header was read, and the parts of the text
 pub after_header : (bytes rest word : List ℕ) (v : Version) (h : Header) → v ≡ version_told (cut_at 10 bytes) → word ≡ title v
     → header_of word (cut_at 10 bytes) ≡ Ok (h, cut_at 10 rest)
-    → (reading bytes ≡ report_from first_line section.Calls (no_lines v h) (cut_at 10 rest))
+    → (reading bytes ≡ report_from first_line section.Opening (no_lines v h) (cut_at 10 rest))
     × (cut_at 10 bytes ≡ header_lines (title v) h ++ cut_at 10 rest)
 after_header bytes rest word v h version_is word_is header_is =
     let head : header_of (title v) (cut_at 10 bytes) ≡ Ok (h, cut_at 10 rest) =
@@ -225,7 +234,7 @@ pub runs_out_after_header : (bytes rest word : List ℕ) (v : Version) (h : Head
     → RunsOut 1 (cut_at 10 bytes) (reading bytes) (fault last_of_header wrong.Memory)
 runs_out_after_header bytes rest word v h version_is word_is header_is =
     let after = after_header bytes rest word v h version_is word_is header_is in
-    let good = good_from last_of_header first_line section.Calls (no_lines v h) (cut_at 10 rest) (omega arith) in
+    let good = good_from last_of_header first_line section.Opening (no_lines v h) (cut_at 10 rest) (omega arith) in
     let long : length (cut_at 10 bytes) ≡ length (header_lines (title v) h ++ cut_at 10 rest) = ap length after.1 in
     let here : get_or (cut_at 10 bytes) 3 [] ≡ number_line (codes "quota") h.quota = ap (λ (ps : List (List ℕ)). get_or ps 3 []) after.1 in
     record {
@@ -241,7 +250,7 @@ runs_out_after_header bytes rest word v h version_is word_is header_is =
 -- the lines after a header that was read
 pub report_is : (bytes rest word : List ℕ) (v : Version) (h : Header) (s : Reader) → v ≡ version_told (cut_at 10 bytes)
     → word ≡ title v → header_of word (cut_at 10 bytes) ≡ Ok (h, cut_at 10 rest)
-    → s.section ≡ section.Calls → so_far s ≡ no_lines v h
+    → s.section ≡ section.Opening → so_far s ≡ no_lines v h
     → (reading bytes ≡ report_from first_line s.section (so_far s) (cut_at 10 rest))
     × (cut_at 10 bytes ≡ header_lines (title v) h ++ cut_at 10 rest)
 report_is bytes rest word v h s version_is word_is header_is section_is so_far_is =
@@ -272,6 +281,7 @@ whole_text bytes rest v h e read read_is parts_are (inr out) =
 
 pub not_done : (line : ℕ) (s : Section) (r : ReportValue) → (s ≡ section.Done → ⊥)
     → ended_in line s r ≡ Err (fault line wrong.NotEnded)
+not_done line section.Opening r h = refl
 not_done line section.Calls r h = refl
 not_done line section.Order r h = refl
 not_done line section.Keys r h = refl

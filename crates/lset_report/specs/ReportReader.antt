@@ -1,5 +1,7 @@
 -- What a reader of reports holds after some lines.
-use Rattle.std.specs.Prelude.{◌≡◌, ◌≢◌, ◌⊎◌, ℕ, List, Result, Ok, Err}
+use Rattle.std.specs.Prelude.{◌≡◌, ◌≢◌, ◌⊎◌, ◌≤◌, ℕ, List, length, Result, Ok, Err}
+use Rattle.std.specs.List.Sorted.{IsStrictlyIncreasing}
+use Rattle.lset_words.specs.declared.TheConstants.{MOST_OPENING}
 use Rattle.lset_report.specs.declared.reading.Reader.{Reader}
 use Rattle.lset_report.specs.declared.report_fault.ReportCause.{ReportCause}
 use Rattle.lset_report.specs.declared.report_fault.ReportCause.TheVariants.{Memory}
@@ -9,19 +11,23 @@ use Rattle.lset_report.specs.declared.reading.lines.Line.{Line}
 use Rattle.lset_report.specs.declared.reading.lines.Line.TheVariants.{End}
 use Rattle.lset_report.specs.ReportReading.{first_line, fault, line_after, section_after, with_line, RunsOut}
 use Rattle.lset_report.specs.ReportCalls.{Tracks, threads_of}
-use Rattle.lset_words.specs.Words.{empty}
 
 -- the report of the lines that were read
 abbrev pub so_far : Reader → ReportValue
 so_far s = record {
   version = s.version;
   kind = s.header.kind;
-  history = record { opening = empty s.header.threads s.header.quota; calls = s.calls.calls.items };
+  history = record {
+    opening = record { threads = s.header.threads; quota = s.header.quota; keys = s.opening.items };
+    calls = s.calls.calls.items;
+  };
   order = s.order.items;
   keys = s.keys.items;
 }
 
 pub record Holds (s : Reader) : Type 0 where
+  pub rising : IsStrictlyIncreasing s.opening.items
+  pub few : length s.opening.items ≤ MOST_OPENING
   pub tracks : Tracks s.calls
   pub threads : threads_of s.calls ≡ s.header.threads
 

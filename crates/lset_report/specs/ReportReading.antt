@@ -6,7 +6,8 @@ use Rattle.std.specs.Str.{bytes_eq}
 use Rattle.lset_words.specs.declared.Reply.{Reply}
 use Rattle.lset_words.specs.declared.history.CallRecord.{CallRecord}
 use Rattle.lset_words.specs.declared.history.Placed.{Placed}
-use Rattle.lset_words.specs.Words.{key_of, empty}
+use Rattle.lset_words.specs.Words.{key_of, Opening, Opens, empty}
+use Rattle.lset_words.specs.declared.TheConstants.{MOST_OPENING}
 use Rattle.lset_words.specs.History.{IsHistory}
 use Rattle.lset_history.specs.History.{HistoryValue}
 use Rattle.lset_text.specs.declared.words.CallWord.{CallWord}
@@ -18,10 +19,11 @@ use Rattle.lset_text.specs.Parts.{cut_at}
 use Rattle.lset_text.specs.Numbers.{number_in, max_number}
 use Rattle.lset_text.specs.Spellings.{call_word_in, reply_in, is_reply_in, with_key, HasCall, HasReply}
 use Rattle.lset_text.specs.declared.words.Version.{Version}
-use Rattle.lset_text.specs.declared.words.Version.TheVariants.{Two}
+use Rattle.lset_text.specs.declared.words.Version.TheVariants.{One, Two}
 use Rattle.lset_text.specs.Results.{◌>>=◌, or_fail, map_fault}
-use Rattle.lset_text.specs.Headers.{IsHeader, header_of, version_in}
-use Rattle.lset_report.specs.declared.report.TheConstants.{MOST_CALLS, MOST_PLACES, MOST_KEYS}
+use Rattle.lset_text.specs.Headers.{header_of, version_in}
+use Rattle.lset_text.specs.Openings.{HasOpening, is_above}
+use Rattle.lset_report.specs.declared.report.TheConstants.{MOST_CALLS, MOST_PLACES, MOST_KEYS, MOST_KEYS_OPENED}
 use Rattle.lset_report.specs.declared.reading.lines.Line.{Line as ReportLine}
 use Rattle.lset_report.specs.declared.reading.lines.Line.TheVariants as told
 use Rattle.lset_report.specs.declared.reading.lines.Section.{Section}
@@ -30,7 +32,7 @@ use Rattle.lset_report.specs.declared.report_fault.ReportCause.{ReportCause}
 use Rattle.lset_report.specs.declared.report_fault.ReportCause.TheVariants as wrong
 use Rattle.lset_report.specs.declared.report_fault.ReportFault.{ReportFault}
 use Rattle.lset_report.specs.Report.{ReportValue}
-use Rattle.lset_report.specs.Texts.{title, header_in, last_line, report_text, OpensEmpty}
+use Rattle.lset_report.specs.Texts.{title, last_line, report_text}
 
 -- ---- reports that have a text which is read
 
@@ -45,18 +47,23 @@ IsCall version x = (x.begun < 2 ^ 32) × ((key_of x.call).0 < 2 ^ 32) × IsEnd v
 abbrev pub IsPlace : Version → Placed → Type 0
 IsPlace version p = (p.call < 2 ^ 32) × HasReply version p.reply
 
--- What has a text that is read: its calls are a history, its calls and replies are those that its version has, and nothing is
--- too large or too many. The order and the keys are free.
+-- how many keys may be left; a set that opens with keys may come to have more
+abbrev pub most_keys : Version → ℕ
+most_keys One = MOST_KEYS
+most_keys Two = MOST_KEYS_OPENED
+
+-- What has a text that is read: its set can open so, its calls are a history, its opening keys, calls and replies are those that
+-- its version has, and nothing is too large or too many. The order and the keys are free.
 pub record IsReport (r : ReportValue) : Type 0 where
-  pub header : IsHeader (header_in r)
-  pub opens : OpensEmpty r
+  pub opens : Opens r.history.opening
+  pub opening : HasOpening r.version r.history.opening.keys
   pub history : IsHistory r.history.opening.threads r.history.calls
   pub calls : AllByRecursion (IsCall r.version) r.history.calls
   pub places : AllByRecursion (IsPlace r.version) r.order
   pub keys : AllByRecursion (λ k. k < 2 ^ 32) r.keys
   pub few_calls : length r.history.calls ≤ MOST_CALLS
   pub few_places : length r.order ≤ MOST_PLACES
-  pub few_keys : length r.keys ≤ MOST_KEYS
+  pub few_keys : length r.keys ≤ most_keys r.version
 
 -- ---- faults
 
@@ -76,14 +83,24 @@ in_report e = fault e.line (cause_of e.cause)
 
 -- ---- the pieces of a line
 
--- sections come in one order
+-- sections come in one order; a text of the first version has nothing in the first of them
+abbrev pub takes_opening : Version → Section → Bool
+takes_opening One s = false
+takes_opening Two section.Opening = true
+takes_opening Two section.Calls = false
+takes_opening Two section.Order = false
+takes_opening Two section.Keys = false
+takes_opening Two section.Done = false
+
 abbrev pub takes_calls : Section → Bool
+takes_calls section.Opening = true
 takes_calls section.Calls = true
 takes_calls section.Order = false
 takes_calls section.Keys = false
 takes_calls section.Done = false
 
 abbrev pub takes_places : Section → Bool
+takes_places section.Opening = true
 takes_places section.Calls = true
 takes_places section.Order = true
 takes_places section.Keys = false
@@ -91,6 +108,7 @@ takes_places section.Done = false
 
 -- keys, or the end
 abbrev pub takes_keys : Section → Bool
+takes_keys section.Opening = true
 takes_keys section.Calls = true
 takes_keys section.Order = true
 takes_keys section.Keys = true
@@ -150,13 +168,18 @@ key_of_line s word key = if takes_keys s && bytes_eq word (codes "key") then (do
   k ← any_number key
   Ok (told.Key k)) else Err wrong.Line
 
+unfoldable pub opening_or_key : Version → Section → List ℕ → List ℕ → Result ReportLine ReportCause
+opening_or_key version s word key = if takes_opening version s && bytes_eq word (codes "opening") then (do
+  k ← any_number key
+  Ok (told.Opening k)) else key_of_line s word key
+
 abbrev pub end_of : Section → List ℕ → Result ReportLine ReportCause
 end_of s word = if takes_keys s && bytes_eq word (codes "end") then Ok told.End else Err wrong.Line
 
 abbrev pub line_of_pieces : Version → Section → List (List ℕ) → Result ReportLine ReportCause
 line_of_pieces version s [] = Err wrong.Line
 line_of_pieces version s (a ∷ []) = end_of s a
-line_of_pieces version s (a ∷ b ∷ []) = key_of_line s a b
+line_of_pieces version s (a ∷ b ∷ []) = opening_or_key version s a b
 line_of_pieces version s (a ∷ b ∷ c ∷ []) = place_of version s a b c
 line_of_pieces version s (a ∷ b ∷ c ∷ d ∷ more) =
     if takes_calls s && bytes_eq a (codes "call") then call_of version b c (d ∷ more) else Err wrong.Line
@@ -208,15 +231,21 @@ may_follow threads calls x =
 abbrev pub counted : ℕ → ℕ → ReportLine → Result ReportLine ReportCause
 counted most count l = if nat_lt count most then Ok l else Err wrong.TooMany
 
-abbrev pub following : ReportValue → ℕ → CallRecord → ReportLine → Result ReportLine ReportCause
-following r number x l =
-    if number == length r.history.calls && may_follow r.history.opening.threads r.history.calls x then Ok l else Err wrong.History
+abbrev pub is_next : ReportValue → ℕ → CallRecord → Bool
+is_next r number x = number == length r.history.calls && may_follow r.history.opening.threads r.history.calls x
 
--- the count of a line, and the history of a call
+abbrev pub following : ReportValue → ℕ → CallRecord → ReportLine → Result ReportLine ReportCause
+following r number x l = if is_next r number x then Ok l else Err wrong.History
+
+abbrev pub rising : ReportValue → ℕ → ReportLine → Result ReportLine ReportCause
+rising r k l = if is_above r.history.opening.keys k then Ok l else Err wrong.Opening
+
+-- the count of a line, and that an opening key rises, or the history of a call
 abbrev pub judged : ReportValue → ReportLine → Result ReportLine ReportCause
+judged r (told.Opening k) = counted MOST_OPENING (length r.history.opening.keys) (told.Opening k) >>= rising r k
 judged r (told.Call number x) = counted MOST_CALLS (length r.history.calls) (told.Call number x) >>= following r number x
 judged r (told.Place p) = counted MOST_PLACES (length r.order) (told.Place p)
-judged r (told.Key k) = counted MOST_KEYS (length r.keys) (told.Key k)
+judged r (told.Key k) = counted (most_keys r.version) (length r.keys) (told.Key k)
 judged r told.End = Ok told.End
 
 -- what a line tells after the report of the lines above
@@ -224,15 +253,23 @@ abbrev pub line_after : Section → ReportValue → List ℕ → Result ReportLi
 line_after s r line = line_in r.version s line >>= judged r
 
 abbrev pub section_after : ReportLine → Section
+section_after (told.Opening k) = section.Opening
 section_after (told.Call number x) = section.Calls
 section_after (told.Place p) = section.Order
 section_after (told.Key k) = section.Keys
 section_after told.End = section.Done
 
+abbrev pub with_key_opened : Opening → ℕ → Opening
+with_key_opened o k = record o { keys = o.keys ++ k ∷ [] }
+
+abbrev pub with_opening : HistoryValue → ℕ → HistoryValue
+with_opening h k = record h { opening = with_key_opened h.opening k }
+
 abbrev pub with_call : HistoryValue → CallRecord → HistoryValue
 with_call h x = record h { calls = h.calls ++ x ∷ [] }
 
 abbrev pub with_line : ReportValue → ReportLine → ReportValue
+with_line r (told.Opening k) = record r { history = with_opening r.history k }
 with_line r (told.Call number x) = record r { history = with_call r.history x }
 with_line r (told.Place p) = record r { order = r.order ++ p ∷ [] }
 with_line r (told.Key k) = record r { keys = r.keys ++ k ∷ [] }
@@ -249,6 +286,7 @@ first_line = last_of_header + 1
 
 -- a text that ends here
 abbrev pub ended_in : ℕ → Section → ReportValue → Result ReportValue ReportFault
+ended_in line section.Opening r = Err (fault line wrong.NotEnded)
 ended_in line section.Calls r = Err (fault line wrong.NotEnded)
 ended_in line section.Order r = Err (fault line wrong.NotEnded)
 ended_in line section.Keys r = Err (fault line wrong.NotEnded)
@@ -278,7 +316,7 @@ version_told parts = version_in (title Two) parts
 unfoldable pub report_of : List (List ℕ) → Result ReportValue ReportFault
 report_of parts = do
   head ← map_fault in_report (header_of (title (version_told parts)) parts)
-  report_from first_line section.Calls (no_lines (version_told parts) head.0) head.1
+  report_from first_line section.Opening (no_lines (version_told parts) head.0) head.1
 
 abbrev pub reading : List ℕ → Result ReportValue ReportFault
 reading bytes = report_of (cut_at 10 bytes)

@@ -1,5 +1,5 @@
 -- [Report text]: the one spelling of each report, in its version.
-use Rattle.std.specs.Prelude.{◌≡◌, ℕ, ◌+◌, List, [], ◌∷◌, ◌++◌, map, codes, Option, Some, None}
+use Rattle.std.specs.Prelude.{ℕ, ◌+◌, List, [], ◌∷◌, ◌++◌, map, codes, Option, Some, None}
 use Rattle.std.specs.Fmt.{decimal}
 use Rattle.std.specs.List.{AllByRecursion}
 use Rattle.lset_words.specs.declared.Reply.{Reply}
@@ -12,6 +12,7 @@ use Rattle.lset_text.specs.Spellings.{call_text, reply_text, HasCall, HasReply}
 use Rattle.lset_text.specs.declared.words.Version.{Version}
 use Rattle.lset_text.specs.declared.words.Version.TheVariants.{One, Two}
 use Rattle.lset_text.specs.Headers.{header_lines}
+use Rattle.lset_text.specs.Openings.{opening_lines, HasOpening}
 use Rattle.lset_report.specs.Report.{ReportValue}
 
 abbrev pub title : Version → List ℕ
@@ -45,8 +46,8 @@ abbrev pub last_line : List ℕ
 last_line = codes "end"
 
 abbrev pub report_lines : ReportValue → List (List ℕ)
-report_lines r = header_lines (title r.version) (header_in r) ++ call_lines 0 r.history.calls ++ map place_line r.order
-    ++ map key_line r.keys ++ last_line ∷ []
+report_lines r = header_lines (title r.version) (header_in r) ++ opening_lines r.history.opening.keys ++ call_lines 0 r.history.calls
+    ++ map place_line r.order ++ map key_line r.keys ++ last_line ∷ []
 
 abbrev pub report_text : ReportValue → List ℕ
 report_text r = text_of (report_lines r)
@@ -63,11 +64,8 @@ HasWordsIn One calls order = AllByRecursion (λ (x : CallRecord). HasCall One x.
     × AllByRecursion (λ (p : Placed). HasReply One p.reply) order
 HasWordsIn Two calls order = Unit {0}
 
--- Texts have no words for opening keys so far.
-abbrev pub OpensEmpty : ReportValue → Type 0
-OpensEmpty r = r.history.opening.keys ≡ []
-
--- A report of the first version has none of the calls and replies that came with the second, which has words for all.
+-- A report of the first version has no opening keys and none of the calls and replies that came with the second, which has words
+-- for all.
 pub record HasWordsOfVersion (r : ReportValue) : Type 0 where
-  pub opens : OpensEmpty r
+  pub opening : HasOpening r.version r.history.opening.keys
   pub words : HasWordsIn r.version r.history.calls r.order

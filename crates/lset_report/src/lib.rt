@@ -1,4 +1,5 @@
-//! Reports of runs and their one text, both ways: a history of calls, an order of them, and the keys that are left.
+//! Reports of runs and their one text, both ways: the keys with which a set opens, a history of calls, an order of them,
+//! and the keys that are left.
 //! Nothing here knows how a list is run.
 #![tactic(auto)]
 
@@ -9,6 +10,6 @@ mod title;
 mod writing;
 
 pub use reading::{read_report, reports_read_back};
-pub use report::{MOST_CALLS, MOST_KEYS, MOST_PLACES, Report};
+pub use report::{MOST_CALLS, MOST_KEYS, MOST_KEYS_OPENED, MOST_PLACES, Report};
 pub use report_fault::{ReportCause, ReportFault};
 pub use writing::write_report;

@@ -6,6 +6,8 @@ ghost use Rattle.lset_report.specs.Texts.{report_text, HasWordsOfVersion};
 ghost use Rattle.lset_report.specs.ReportReading.{
   IsReport,
   Gives,
+  most_keys,
+  is_next,
   first_line,
   version_told,
   section_after,
@@ -23,12 +25,12 @@ mod lines;
 
 use crate::report_fault::{ReportCause, ReportFault};
 use crate::title::title;
-use crate::{MOST_CALLS, MOST_KEYS, MOST_PLACES, Report};
+use crate::{MOST_CALLS, MOST_KEYS, MOST_KEYS_OPENED, MOST_PLACES, Report};
 use calls::CallsSoFar;
 use lines::{Line, Section, line_of_report};
 use lset_history::History;
-use lset_text::{Header, Version, cut, read_header, version_of};
-use lset_words::{CallRecord, Placed};
+use lset_text::{Header, Version, cut, is_above, read_header, version_of};
+use lset_words::{CallRecord, MOST_OPENING, Placed};
 use std::alloc::{AllocError, Global};
 
 /// The last line of the header.
@@ -43,47 +45,68 @@ pub struct Reader {
     pub version: Version,
     pub header: Header,
     pub section: Section,
+    pub opening: Vec<u32>,
     pub calls: CallsSoFar,
     pub order: Vec<Placed>,
     pub keys: Vec<u32>,
 }
 
+/// The most keys of a report of a version.
+fn most_keys(version: Version) -> usize
+    ensures { result ≡ most_keys version }
+{
+    match version {
+        Version::One => MOST_KEYS,
+        Version::Two => MOST_KEYS_OPENED,
+    }
+}
+
 impl Reader {
     fn new(alloc: Global, version: Version, header: Header) -> Result<Reader, AllocError>
         ensures holds { IfOk result (λ s. Holds s) }
-        ensures section { IfOk result (λ s. s.section ≡ Section.Calls) }
+        ensures section { IfOk result (λ s. s.section ≡ Section.Opening) }
         ensures nothing { IfOk result (λ s. so_far s ≡ no_lines version header) }
     {
         Ok(Reader {
             version,
             header,
-            section: Section::Calls,
+            section: Section::Opening,
+            opening: Vec::new(alloc),
             calls: CallsSoFar::new(alloc, header.threads)?,
             order: Vec::new(alloc),
             keys: Vec::new(alloc),
         })
     }
 
-    /// The line, if there is room for it after those that were read, and a call goes on with their history.
+    /// Whether a call has the next number and goes on with the history of those that were read.
+    fn is_next(&self, number: u32, made: CallRecord) -> bool
+        requires { Holds self.now }
+        ensures { result ≡ is_next (so_far self.now) number made }
+    {
+        number as usize == self.calls.calls.len() && self.calls.may_follow(made)
+    }
+
+    /// The line, if there is room for it after those that were read, and an opening key is above the one before, or a call
+    /// goes on with their history.
     fn judged(&self, line: Line) -> Result<Line, ReportCause>
         requires { Holds self.now }
         ensures { result ≡ judged (so_far self.now) line }
     {
         let (count, most) = match line {
+            Line::Opening(_) => (self.opening.len(), MOST_OPENING as usize),
             Line::Call(_, _) => (self.calls.calls.len(), MOST_CALLS),
             Line::Place(_) => (self.order.len(), MOST_PLACES),
-            Line::Key(_) => (self.keys.len(), MOST_KEYS),
+            Line::Key(_) => (self.keys.len(), most_keys(self.version)),
             Line::End => return Ok(line),
         };
         if count >= most {
             return Err(ReportCause::TooMany);
         }
-        if let Line::Call(number, made) = line
-            && (number as usize != count || !self.calls.may_follow(made))
-        {
-            return Err(ReportCause::History);
+        match line {
+            Line::Opening(key) if !is_above(&self.opening, key) => Err(ReportCause::Opening),
+            Line::Call(number, made) if !self.is_next(number, made) => Err(ReportCause::History),
+            _ => Ok(line),
         }
-        Ok(line)
     }
 
     fn line_after(&self, line: &[u8]) -> Result<Line, ReportCause>
@@ -103,6 +126,7 @@ impl Reader {
         ensures asked { OnErr result (line ≢ Line.End) }
     {
         match line {
+            Line::Opening(key) => self.opening.push(key)?,
             Line::Call(_, made) => self.calls.push(made)?,
             Line::Place(placed) => self.order.push(placed)?,
             Line::Key(key) => self.keys.push(key)?,
@@ -152,7 +176,7 @@ impl Reader {
         }
     }
 
-    fn into_report(self, alloc: Global) -> Report
+    fn into_report(self) -> Report
         requires holds { Holds self }
         requires header { IsHeader self.header }
         ensures { view result ≡ so_far self }
@@ -164,7 +188,7 @@ impl Reader {
             history: History::from_calls(
                 self.header.threads,
                 self.header.quota,
-                Vec::new(alloc),
+                self.opening,
                 calls.calls,
             ),
             order: self.order,
@@ -190,7 +214,7 @@ fn report(alloc: Global, bytes: &[u8]) -> Result<Report, ReportFault>
         return Err(ReportFault::at(LAST_OF_HEADER, ReportCause::Memory));
     };
     reader.read_lines(rest)?;
-    Ok(reader.into_report(alloc))
+    Ok(reader.into_report())
 }
 
 /// The report that the bytes are the text of, or the first fault of the bytes: its line, and the first check
@@ -200,7 +224,8 @@ fn report(alloc: Global, bytes: &[u8]) -> Result<Report, ReportFault>
 /// and has no other fault, and neither has a line above it.
 ///
 /// The first line alone tells the version, `listset-report 1` or `listset-report 2`. The other lines have the words
-/// of that version: in version 1 a line with `ceiling`, `nothing` or `at-5` has the fault `Line`.
+/// of that version: in version 1 a line with `opening`, `ceiling`, `nothing` or `at-5` has the fault `Line`. In version 2
+/// the lines of opening keys, `opening 5`, come before all calls, and their keys rise strictly.
 ///
 /// The order and the keys are not judged: whether they explain the history is for `check_order`. With n bytes
 /// it takes about `n log n` steps, whatever the numbers are. (This project's own format.)

@@ -6,7 +6,8 @@ use lset_text::Version;
 /// The first line of a report's text of version 1.
 const TITLE_ONE: &str = "listset-report 1";
 
-/// The first line of a report's text of version 2, which has the words of a `ceiling` and of its replies.
+/// The first line of a report's text of version 2, which has the lines of opening keys, and the words of a `ceiling` and of
+/// its replies.
 const TITLE_TWO: &str = "listset-report 2";
 
 /// The first line of a report's text of a version.

@@ -5,7 +5,7 @@ ghost use Rattle.lset_report.specs.Texts.{call_line, call_lines, place_line, key
 
 use crate::Report;
 use crate::title::title;
-use lset_text::{Header, call_word, put_header, reply_word};
+use lset_text::{Header, call_word, put_header, put_openings, reply_word};
 use lset_words::{CallRecord, Placed};
 use std::alloc::{AllocError, Global};
 
@@ -83,9 +83,9 @@ fn put_end(out: &mut String) -> Result<(), AllocError>
     Ok(())
 }
 
-/// The text of a report, in its version: its header, the calls by their numbers, the order, the keys. A report of
-/// version 1 must have no call `ceiling` and none of its replies, for which that version has no words, and a report of
-/// either version no opening keys; one that was read has none. The only error is want of memory. (This project's own format.)
+/// The text of a report, in its version: its header, the opening keys, the calls by their numbers, the order, the keys. A
+/// report of version 1 must have no opening keys, no call `ceiling` and none of its replies, for which that version has
+/// no words; one that was read has none. The only error is want of memory. (This project's own format.)
 pub fn write_report(alloc: Global, report: &Report) -> Result<Vec<u8>, AllocError>
     requires { HasWordsOfVersion (view report.now) }
     ensures { IfOk result (λ v. v.items ≡ report_text (view report.now)) }
@@ -97,6 +97,7 @@ pub fn write_report(alloc: Global, report: &Report) -> Result<Vec<u8>, AllocErro
     };
     let mut out = String::new(alloc);
     put_header(&mut out, title(report.version), header)?;
+    put_openings(&mut out, report.history.opening())?;
     put_calls(&mut out, report.history.calls())?;
     put_order(&mut out, &report.order)?;
     put_keys(&mut out, &report.keys)?;

@@ -1,1 +1,4 @@
-mod RunLaws
+mod CountLaws
+mod LifeLaws
+mod LivesLaws
+mod RisingKeys

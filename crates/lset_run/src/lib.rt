@@ -1,7 +1,10 @@
-//! The tool `run`: random programs, run on threads, and what comes of them as a text.
+//! The tool `run`: random programs, run on threads in one life after the other, and what comes of them as a text.
 #![tactic(auto)]
 
-mod programs;
+mod counts;
+mod life;
+mod lives;
+mod request;
 mod running;
 mod text;
 

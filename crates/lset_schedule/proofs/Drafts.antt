@@ -261,9 +261,10 @@ events_counted n keys (l ∷ ls) each =
 
 pub generated_fits : (T : Table) (kind : Kind) (n q calls keys : ℕ) (lines : List Line) → keys < 2 ^ 32
     → length lines ≤ MOST_GENERATED → IsGenerated T n q calls keys lines
-    → IsSchedule (record { version = One; kind = kind; threads = n; quota = q; lines = lines })
+    → IsSchedule (record { version = One; kind = kind; threads = n; quota = q; opening = []; lines = lines })
 generated_fits T kind n q calls keys lines small few made = record {
-  header = made.run.opens.within;
+  opens = made.run.opens;
+  opening = refl;
   lines = lines_fit n keys lines made.run.opens.within.few small made.each;
   few = rw (events_counted n keys lines made.each) (omega arith);
 }

@@ -23,7 +23,7 @@ use Rattle.lset_schedule.specs.declared.value.Line.TheVariants.{Begin, Go}
 use Rattle.lset_schedule.specs.declared.fault.Cause.{Cause}
 use Rattle.lset_schedule.specs.declared.fault.Cause.TheVariants.{Event, Number}
 use Rattle.lset_schedule.specs.Plan.{pieces_of, line_text, IsLine}
-use Rattle.lset_schedule.specs.ScheduleReading.{go_of, begin_of, event_of_pieces, event_of}
+use Rattle.lset_schedule.specs.ScheduleReading.{go_of, begin_of, event_of_pieces, event_of, is_opening}
 
 -- ---- what is read stands there
 
@@ -138,6 +138,11 @@ cut_pieces (Go t n) h = cut_line (codes "go") (decimal t ∷ decimal n ∷ []) h
 
 pub event_again : (v : Version) (e : Line) → IsLine v e → event_of v (line_text e) ≡ Ok e
 event_again v e line = rw (cut_pieces e (pieces_lack v 32 e (omega arith) line)) (pieces_again v e line)
+
+-- it has three pieces or four
+pub no_opening : (v : Version) (e : Line) → IsLine v e → is_opening (line_text e) ≡ false
+no_opening v (Begin t c) line = rw (cut_pieces (Begin t c) (pieces_lack v 32 (Begin t c) (omega arith) line)) refl
+no_opening v (Go t n) line = rw (cut_pieces (Go t n) (pieces_lack v 32 (Go t n) (omega arith) line)) refl
 
 pub event_lacks : (v : Version) (e : Line) → IsLine v e → Lacks 10 (line_text e)
 event_lacks v e line = line_lacks (pieces_of e) (pieces_lack v 10 e (omega arith) line)

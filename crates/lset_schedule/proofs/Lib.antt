@@ -3,6 +3,7 @@ pub mod DrawLaws
 pub mod EventLaws
 pub mod FaultLaws
 pub mod LoopLaws
+pub mod OpeningLaws
 pub mod RunLaws
 pub mod TextLaws
 pub mod TurnLaws

@@ -1,33 +1,38 @@
 -- The two laws: what is read is the text of the schedule, and the text of a schedule is read.
-use Rattle.std.proofs.Common.{◌≡◌, ℕ, ◌+◌, ◌<◌, ◌≤◌, Bool, true, false, cond, eqb, List, [], ◌∷◌, ◌++◌, map, length, get_or}
-use Rattle.std.proofs.Common.{take, Result, Ok, Err, refl, sym, ap, subst, ◌∙◌, arith}
+use Rattle.std.proofs.Common.{◌≡◌, ℕ, ◌+◌, ◌<◌, ◌≤◌, Bool, true, false, cond, eqb, List, [], ◌∷◌, ◌++◌, map, length}
+use Rattle.std.proofs.Common.{Result, Ok, Err, refl, sym, ap, subst, ◌∙◌, arith, append_assoc, length-append, ◌^◌}
 use Rattle.std.specs.Prelude.{IfOk, MatchResult, ◌≢◌}
 use Rattle.std.specs.List.{sum_by, AllByRecursion}
 use Rattle.std.specs.Str.{bytes_eq}
 use Rattle.std.proofs.lemmas.Bool.{eqb-true, le-ltb}
-use Rattle.std.proofs.lemmas.List.{append-nil, nil_from_length, map_push, take_more}
-use Rattle.std.proofs.lemmas.List.Concat.{flat_map-append}
+use Rattle.std.proofs.lemmas.List.{nil_from_length}
+use Rattle.std.proofs.lemmas.List.Elements.{recursion_from_All}
 use Rattle.std.proofs.lemmas.List.Sums.{sum_by-cons}
+use Rattle.lset_words.specs.Words.{Opens}
 use Rattle.lset_schedule.specs.declared.TheConstants.{MOST_EVENTS}
 use Rattle.lset_text.specs.declared.headers.Header.{Header}
-use Rattle.lset_text.specs.Parts.{cut_at, ended, text_of, Lacks}
+use Rattle.lset_text.specs.Parts.{cut_at, Lacks}
 use Rattle.lset_text.specs.Results.{◌>>=◌, map_fault}
-use Rattle.lset_text.specs.Headers.{header_lines, header_of, told_by_line}
+use Rattle.lset_text.specs.Headers.{header_lines, header_of, told_by_line, IsHeader}
 use Rattle.lset_text.proofs.PartLaws.{Lacks-from_test, text_from_lines, cut_lines}
 use Rattle.lset_text.proofs.ReadingLaws.{bind_ok, map_fault_ok, ok_is}
+use Rattle.lset_text.specs.Openings.{opening_lines, HasOpening}
 use Rattle.lset_text.proofs.HeaderLaws.{header_ok, header_again, header_lacks}
+use Rattle.lset_text.proofs.OpeningLaws.{openings_lack}
 use Rattle.lset_text.specs.declared.words.Version.{Version}
 use Rattle.lset_text.specs.declared.words.Version.TheVariants.{One, Two}
 use Rattle.lset_schedule.specs.declared.value.Line.{Line}
 use Rattle.lset_schedule.specs.declared.value.Schedule.{Schedule}
 use Rattle.lset_schedule.specs.declared.fault.Cause.{Cause}
 use Rattle.lset_schedule.specs.declared.fault.Cause.TheVariants.{Header as OfHeader, Kind, Threads, Quota, Event, Number}
-use Rattle.lset_schedule.specs.declared.fault.Cause.TheVariants.{TooMany, NotEnded, Memory}
+use Rattle.lset_schedule.specs.declared.fault.Cause.TheVariants.{TooMany, Opening, NotEnded, Memory}
 use Rattle.lset_schedule.specs.declared.fault.ScheduleFault.{ScheduleFault}
 use Rattle.lset_schedule.specs.Plan.{Plan, view, planned, header_in, line_text, title, schedule_lines, schedule_text, event_count}
-use Rattle.lset_schedule.specs.Plan.{first_event_line, IsLine, IsSchedule}
+use Rattle.lset_schedule.specs.Plan.{first_line, IsLine, IsSchedule}
 use Rattle.lset_schedule.specs.ScheduleReading.{fault, in_schedule, event_of, within, event_after, events_at, plan_in, version_told, plan_of, reading, Gives}
-use Rattle.lset_schedule.proofs.EventLaws.{event_ok, event_again, event_lacks}
+use Rattle.lset_schedule.specs.ScheduleReading.{is_due, openings_of, body_of}
+use Rattle.lset_schedule.proofs.EventLaws.{event_ok, event_again, event_lacks, no_opening}
+use Rattle.lset_schedule.proofs.OpeningLaws.{AreKeys, openings_ok, openings_again}
 use Rattle.lset_schedule.proofs.LoopLaws.{within_ok}
 
 -- ---- the lines of events
@@ -112,31 +117,85 @@ events_found : (v : Version) (line : ℕ) (parts : List (List ℕ)) (es : List L
 events_found v line [] es some is = absurd (omega arith)
 events_found v line (x ∷ parts) es some is = events_ok v line 0 x parts es (omega arith) is
 
--- what is left to read after the header
+-- what is left to read after the lines of the opening keys, and after the header
+abbrev body_from : Version → List ℕ × List (List ℕ) → Result (List ℕ × List Line) ScheduleFault
+body_from v opens = events_at v (first_line + length opens.0) 0 opens.1 >>= λ lines. Ok (opens.0, lines)
+
 abbrev plan_from : Version → Header × List (List ℕ) → Result Plan ScheduleFault
-plan_from v head = events_at v (first_event_line (planned v head.0 [])) 0 head.1 >>= λ lines. Ok (planned v head.0 lines)
+plan_from v head = body_of v head.1 >>= λ body. Ok (planned v head.0 body.0 body.1)
+
+-- the parts after a header
+abbrev AreBody : Version → List (List ℕ) → List ℕ × List Line → Type 0
+AreBody v parts body =
+    (parts ≡ opening_lines body.0 ++ (map line_text body.1 ++ [] ∷ [])) × AreKeys body.0 × HasOpening v body.0
+    × AllByRecursion (IsLine v) body.1 × (sum_by event_count body.1 ≤ MOST_EVENTS)
+
+body_ok : (v : Version) (parts : List (List ℕ)) (body : List ℕ × List Line) → 0 < length parts → body_of v parts ≡ Ok body
+    → AreBody v parts body
+unfolding body_of
+body_ok v parts body some is =
+    let opens = bind_ok (openings_of v parts) (body_from v) body is in
+    let first = first_line + length opens.0.0 in
+    let lines = bind_ok (events_at v first 0 opens.0.1) (λ lines. Ok (opens.0.0, lines)) body opens.2 in
+    let keys = openings_ok v parts opens.0 some opens.1 in
+    let events = events_found v first opens.0.1 lines.0 keys.3 lines.1 in
+    let all = keys.0 ∙ ap (λ (ps : List (List ℕ)). opening_lines opens.0.0 ++ ps) events.0 in
+    subst (AreBody v parts) (ok_is (opens.0.0, lines.0) body lines.2) (all, keys.1, keys.2, events.1, omega (arith, events.2))
 
 plan_ok : (v : Version) (parts : List (List ℕ)) (p : Plan) → plan_in v parts ≡ Ok p → IsFound parts p
 unfolding plan_in
 plan_ok v parts p is =
     let head = bind_ok (map_fault in_schedule (header_of (title v) parts)) (plan_from v) p is in
-    let first = first_event_line (planned v head.0.0 []) in
-    let lines = bind_ok (events_at v first 0 head.0.1) (λ lines. Ok (planned v head.0.0 lines)) p head.2 in
+    let body = bind_ok (body_of v head.0.1) (λ body. Ok (planned v head.0.0 body.0 body.1)) p head.2 in
     let header = header_ok (title v) parts head.0 (map_fault_ok in_schedule (header_of (title v) parts) head.0 head.1) in
-    let events = events_found v first head.0.1 lines.0 header.2 lines.1 in
-    let all : parts ≡ schedule_lines (planned v head.0.0 lines.0) ++ [] ∷ [] =
-    header.0 ∙ ap (λ (ps : List (List ℕ)). header_lines (title v) head.0.0 ++ ps) events.0 in
-    subst (IsFound parts) (ok_is (planned v head.0.0 lines.0) p lines.2)
-    (all, record { header = header.1; lines = events.1; few = omega (arith, events.2) })
+    let after = body_ok v head.0.1 body.0 header.2 body.1 in
+    let keys = body.0.0 in
+    let regrouped : opening_lines keys ++ (map line_text body.0.1 ++ [] ∷ []) ≡ opening_lines keys ++ map line_text body.0.1 ++ [] ∷ [] =
+    sym (append_assoc (opening_lines keys) (map line_text body.0.1) ([] ∷ [])) in
+    let all : parts ≡ schedule_lines (planned v head.0.0 keys body.0.1) ++ [] ∷ [] =
+    header.0 ∙ ap (λ (ps : List (List ℕ)). header_lines (title v) head.0.0 ++ ps) (after.0 ∙ regrouped) in
+    let opens : Opens (record { threads = head.0.0.threads; quota = head.0.0.quota; keys = keys }) = record {
+      within = record { some = header.1.some; few = header.1.few; small = header.1.small; opens = after.1.2 };
+      rising = after.1.0;
+      low = after.1.1;
+    } in
+    subst (IsFound parts) (ok_is (planned v head.0.0 keys body.0.1) p body.2)
+    (all, record { opens = opens; opening = after.2; lines = after.3; few = after.4 })
+
+-- a schedule that can be read has a header and opening keys
+header_fits : (p : Plan) → IsSchedule p → IsHeader (header_in p)
+header_fits p is = record { some = is.opens.within.some; few = is.opens.within.few; small = is.opens.within.small; opens = omega arith }
+
+keys_fit : (p : Plan) → IsSchedule p → AreKeys p.opening
+keys_fit p is = (is.opens.rising, is.opens.low, is.opens.within.opens)
+
+-- no line of an event is one of an opening key
+events_not_due : (v : Version) (es : List Line) → AllByRecursion (IsLine v) es → is_due (map line_text es ++ [] ∷ []) ≡ false
+events_not_due v [] are = refl
+events_not_due v (e ∷ es) are = rw ((some_more (map line_text es)).2) (no_opening v e are.0)
+
+body_again : (p : Plan) → IsSchedule p
+    → body_of p.version (opening_lines p.opening ++ (map line_text p.lines ++ [] ∷ [])) ≡ Ok (p.opening, p.lines)
+unfolding body_of
+body_again p is =
+    let rest : List (List ℕ) = map line_text p.lines ++ [] ∷ [] in
+    let opens = openings_again p.version p.opening rest (keys_fit p is) is.opening (events_not_due p.version p.lines is.lines)
+    (omega (arith, length-append (map line_text p.lines) ([] ∷ []))) in
+    rw (opens, events_again p.version (first_line + length p.opening) 0 p.lines is.lines (omega (arith, is.few))) refl
 
 plan_again : (p : Plan) → IsSchedule p → plan_in p.version (schedule_lines p ++ [] ∷ []) ≡ Ok p
 unfolding plan_in
 plan_again p is =
-    let rest : List (List ℕ) = map line_text p.lines ++ [] ∷ [] in
-    let some = some_more (map line_text p.lines) in
+    let keys = opening_lines p.opening in
+    let ls = map line_text p.lines in
+    let rest : List (List ℕ) = keys ++ (ls ++ [] ∷ []) in
+    let grouped : schedule_lines p ++ [] ∷ [] ≡ header_lines (title p.version) (header_in p) ++ rest =
+    ap (λ (ps : List (List ℕ)). header_lines (title p.version) (header_in p) ++ ps) (append_assoc keys ls ([] ∷ [])) in
+    let some = some_more (keys ++ ls) in
+    let first : rest ≡ some.0 ∷ some.1 = sym (append_assoc keys ls ([] ∷ [])) ∙ some.2 in
     let head : header_of (title p.version) (header_lines (title p.version) (header_in p) ++ rest) ≡ Ok (header_in p, rest) =
-    rw some.2 (header_again (title p.version) (header_in p) some.0 some.1 is.header) in
-    rw (head, events_again p.version (first_event_line p) 0 p.lines is.lines (omega (arith, is.few))) refl
+    rw first (header_again (title p.version) (header_in p) some.0 some.1 (header_fits p is)) in
+    rw (grouped, head, body_again p is) refl
 
 -- the first line tells the version
 version_again : (v : Version) → cond (bytes_eq (title v) (title Two)) Two One ≡ v
@@ -157,10 +216,16 @@ lines_lack : (v : Version) (es : List Line) → AllByRecursion (IsLine v) es →
 lines_lack v [] are = tt
 lines_lack v (e ∷ es) are = (event_lacks v e are.0, lines_lack v es are.1)
 
+both_lack : (xs ys : List (List ℕ)) → AllByRecursion (Lacks 10) xs → AllByRecursion (Lacks 10) ys → AllByRecursion (Lacks 10) (xs ++ ys)
+both_lack [] ys xl yl = yl
+both_lack (x ∷ xs) ys xl yl = (xl.0, both_lack xs ys xl.1 yl)
+
 schedule_lacks : (p : Plan) → IsSchedule p → AllByRecursion (Lacks 10) (schedule_lines p)
 schedule_lacks p is =
-    let h = header_lacks (title p.version) (header_in p) (title_lacks p.version) is.header in
-    (h.0, (h.1.0, (h.1.1.0, (h.1.1.1.0, lines_lack p.version p.lines is.lines))))
+    let h = header_lacks (title p.version) (header_in p) (title_lacks p.version) (header_fits p is) in
+    let keys = openings_lack p.opening (recursion_from_All (λ (k : ℕ). k < 2 ^ 32) p.opening is.opens.low) in
+    let lines = lines_lack p.version p.lines is.lines in
+    (h.0, (h.1.0, (h.1.1.0, (h.1.1.1.0, both_lack (opening_lines p.opening) (map line_text p.lines) keys lines))))
 
 pub is_found : (bytes : List ℕ) (p : Plan) → reading bytes ≡ Ok p → IsSchedule p × (bytes ≡ schedule_text p)
 is_found bytes p is =
@@ -191,6 +256,7 @@ is_memory Quota h = absurd (h (λ e. cc))
 is_memory Event h = absurd (h (λ e. cc))
 is_memory Number h = absurd (h (λ e. cc))
 is_memory TooMany h = absurd (h (λ e. cc))
+is_memory Opening h = absurd (h (λ e. cc))
 is_memory NotEnded h = absurd (h (λ e. cc))
 
 gives_ok : (r : Result Schedule ScheduleFault) (p : Plan) → Gives view r (Ok p)
@@ -203,18 +269,3 @@ pub only_in : (bytes : List ℕ) (r : Result Schedule ScheduleFault) → Gives v
 only_in bytes r gives p is text =
     let read : reading bytes ≡ Ok p = ap reading text ∙ reads_text p is in
     gives_ok r p (subst (Gives view r) read gives)
-
--- ---- writing line after line
-
-pub text_more : (v : Version) (h : Header) (ls ms : List Line) (i : ℕ) (d : Line) → ms ≡ ls → i < length ms
-    → schedule_text (planned v h (take i ls)) ++ ended (line_text (get_or ms i d)) ≡ schedule_text (planned v h (take (i + 1) ls))
-text_more v h ls ms i d same lt =
-    let front = schedule_lines (planned v h (take i ls)) in
-    let last = line_text (get_or ms i d) in
-    let more : take (i + 1) ls ≡ take i ls ++ get_or ms i d ∷ [] = rw (← same) (take_more ms i d lt) in
-    let mapped : map line_text (take (i + 1) ls) ≡ map line_text (take i ls) ++ last ∷ [] =
-    rw more (map_push line_text (take i ls) (get_or ms i d)) in
-    let pushed : schedule_lines (planned v h (take (i + 1) ls)) ≡ front ++ last ∷ [] =
-    ap (λ (ps : List (List ℕ)). header_lines (title v) h ++ ps) mapped in
-    let end = ap (λ (t : List ℕ). text_of front ++ t) (append-nil (ended last)) in
-    sym (ap text_of pushed ∙ flat_map-append ended front (last ∷ []) ∙ end)

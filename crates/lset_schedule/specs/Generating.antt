@@ -5,8 +5,6 @@ use Rattle.lset_text.specs.Spellings.{HasCall}
 use Rattle.lset_text.specs.declared.words.Version.TheVariants.{One}
 use Rattle.lset_words.specs.declared.TheConstants.{MOST_THREADS, MOST_QUOTA}
 use Rattle.lset_schedule.specs.declared.TheConstants.{MOST_GENERATED}
-use Rattle.lset_words.specs.declared.fault.LayoutFault.{LayoutFault}
-use Rattle.lset_words.specs.declared.fault.LayoutFault.TheVariants as layout
 use Rattle.lset_words.specs.Words.{IsWithin, key_of, empty}
 use Rattle.lset_steps.specs.declared.Event.{Event}
 use Rattle.lset_steps.specs.declared.Event.TheVariants as event

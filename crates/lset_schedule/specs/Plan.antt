@@ -1,16 +1,17 @@
 -- Schedules and their text: the one spelling of each schedule.
-use Rattle.std.specs.Prelude.{ℕ, ◌+◌, ◌<◌, ◌≤◌, ◌^◌, List, [], ◌∷◌, ◌++◌, map, codes}
+use Rattle.std.specs.Prelude.{ℕ, ◌+◌, ◌<◌, ◌≤◌, ◌^◌, List, [], ◌∷◌, ◌++◌, length, map, codes}
 use Rattle.std.specs.Fmt.{decimal}
 use Rattle.std.specs.List.{sum_by, AllByRecursion}
 use Rattle.lset_schedule.specs.declared.TheConstants.{MOST_EVENTS, MOST_STEPS}
 use Rattle.lset_words.specs.declared.Kind.{Kind}
-use Rattle.lset_words.specs.Words.{Opening, empty, key_of}
+use Rattle.lset_words.specs.Words.{Opening, Opens, key_of}
 use Rattle.lset_text.specs.declared.headers.Header.{Header}
 use Rattle.lset_text.specs.Parts.{line_of, text_of}
 use Rattle.lset_text.specs.Spellings.{call_text, HasCall}
 use Rattle.lset_text.specs.declared.words.Version.{Version}
 use Rattle.lset_text.specs.declared.words.Version.TheVariants.{One, Two}
-use Rattle.lset_text.specs.Headers.{IsHeader, header_lines}
+use Rattle.lset_text.specs.Headers.{header_lines}
+use Rattle.lset_text.specs.Openings.{HasOpening, opening_lines}
 use Rattle.lset_schedule.specs.declared.value.Line.{Line}
 use Rattle.lset_schedule.specs.declared.value.Line.TheVariants.{Begin, Go}
 use Rattle.lset_schedule.specs.declared.value.Schedule.{Schedule}
@@ -21,21 +22,22 @@ pub record Plan : Type 0 where
   pub kind : Kind
   pub threads : ℕ
   pub quota : ℕ
+  pub opening : List ℕ
   pub lines : List Line
 
--- a version, what a header tells, and lines
-abbrev pub planned : Version → Header → List Line → Plan
-planned v h lines = record { version = v; kind = h.kind; threads = h.threads; quota = h.quota; lines = lines }
+-- a version, what a header tells, opening keys, and lines
+abbrev pub planned : Version → Header → List ℕ → List Line → Plan
+planned v h keys lines = record { version = v; kind = h.kind; threads = h.threads; quota = h.quota; opening = keys; lines = lines }
 
 abbrev pub view : Schedule → Plan
-view s = planned s.version (record { kind = s.kind; threads = s.threads; quota = s.quota }) s.lines.items
+view s = planned s.version (record { kind = s.kind; threads = s.threads; quota = s.quota }) s.opening.items s.lines.items
 
 abbrev pub header_in : Plan → Header
 header_in p = record { kind = p.kind; threads = p.threads; quota = p.quota }
 
--- how its set opens: texts have no opening keys
+-- how its set opens
 abbrev pub opening_in : Plan → Opening
-opening_in p = empty p.threads p.quota
+opening_in p = record { threads = p.threads; quota = p.quota; keys = p.opening }
 
 -- ---- its text
 
@@ -51,18 +53,21 @@ title One = codes "listset-schedule 1"
 title Two = codes "listset-schedule 2"
 
 abbrev pub schedule_lines : Plan → List (List ℕ)
-schedule_lines p = header_lines (title p.version) (header_in p) ++ map line_text p.lines
+schedule_lines p = header_lines (title p.version) (header_in p) ++ (opening_lines p.opening ++ map line_text p.lines)
 
 abbrev pub schedule_text : Plan → List ℕ
 schedule_text p = text_of (schedule_lines p)
 
--- how many lines a header has
+-- how many lines a header has, and the number of the line after it, counted from 1
 abbrev pub header_size : ℕ
 header_size = 4
 
--- the number of the line of the first event, counted from 1: the lines of the header come before it
+abbrev pub first_line : ℕ
+first_line = header_size + 1
+
+-- the number of the line of the first event, counted from 1: the lines of the header and of the opening keys come before it
 abbrev pub first_event_line : Plan → ℕ
-first_event_line p = header_size + 1
+first_event_line p = first_line + length p.opening
 
 -- ---- its limits
 
@@ -77,16 +82,21 @@ IsLine version (Go thread steps) = (thread < 2 ^ 32) × (1 ≤ steps) × (steps 
 
 -- what has a text that is read
 pub record IsSchedule (p : Plan) : Type 0 where
-  pub header : IsHeader (header_in p)
+  pub opens : Opens (opening_in p)
+  pub opening : HasOpening p.version p.opening
   pub lines : AllByRecursion (IsLine p.version) p.lines
   pub few : sum_by event_count p.lines ≤ MOST_EVENTS
 
--- ---- the calls that its version has
+-- ---- what its version has words for
 
 abbrev pub HasCallOfLine : Version → Line → Type 0
 HasCallOfLine version (Begin thread call) = HasCall version call
 HasCallOfLine version (Go thread steps) = Unit {0}
 
--- What is begun has a word in the text of the plan's version. `IsSchedule` gives it (proofs/VersionLaws.antt).
+-- what is begun has a word in the text of the plan's version
 abbrev pub HasCallsOfVersion : Plan → Type 0
 HasCallsOfVersion p = AllByRecursion (HasCallOfLine p.version) p.lines
+
+-- So all of it can be written in a text of its version. `IsSchedule` gives it (proofs/VersionLaws.antt).
+abbrev pub HasWordsOfVersion : Plan → Type 0
+HasWordsOfVersion p = HasOpening p.version p.opening × HasCallsOfVersion p

@@ -1,6 +1,8 @@
 -- The schedule of a text, or its first fault: line by line, and in each line in the order of the checks.
-use Rattle.std.specs.Prelude.{◌≡◌, ◌≢◌, ℕ, ◌+◌, ◌<◌, ◌≤◌, ◌==◌, nat_lt, List, [], ◌∷◌, length, codes, Result, Ok, Err, if◌then◌else◌}
+use Rattle.std.specs.Prelude.{◌≡◌, ◌≢◌, ℕ, ◌+◌, ◌<◌, ◌≤◌, ◌==◌, nat_lt, Bool, false, List, [], ◌∷◌, ◌++◌, length, codes, Result, Ok, Err}
+use Rattle.std.specs.Prelude.{if◌then◌else◌}
 use Rattle.std.specs.Str.{bytes_eq}
+use Rattle.lset_words.specs.declared.TheConstants.{MOST_OPENING}
 use Rattle.lset_schedule.specs.declared.TheConstants.{MOST_EVENTS, MOST_STEPS}
 use Rattle.lset_text.specs.declared.headers.HeaderCause.{HeaderCause}
 use Rattle.lset_text.specs.declared.headers.HeaderCause.TheVariants as head
@@ -9,16 +11,17 @@ use Rattle.lset_text.specs.Parts.{cut_at}
 use Rattle.lset_text.specs.Numbers.{number_in, max_number}
 use Rattle.lset_text.specs.Spellings.{call_word_in, with_key}
 use Rattle.lset_text.specs.declared.words.Version.{Version}
-use Rattle.lset_text.specs.declared.words.Version.TheVariants.{Two}
+use Rattle.lset_text.specs.declared.words.Version.TheVariants.{One, Two}
 use Rattle.lset_text.specs.Results.{◌>>=◌, or_fail, map_fault}
-use Rattle.lset_text.specs.Headers.{header_of, version_in}
+use Rattle.lset_text.specs.Headers.{header_of, number_after, version_in}
+use Rattle.lset_text.specs.Openings.{is_above}
 use Rattle.lset_schedule.specs.declared.value.Line.{Line}
 use Rattle.lset_schedule.specs.declared.value.Line.TheVariants.{Begin, Go}
 use Rattle.lset_schedule.specs.declared.fault.Cause.{Cause}
 use Rattle.lset_schedule.specs.declared.fault.Cause.TheVariants.{Header, Kind, Threads, Quota, Event, Number, TooMany}
-use Rattle.lset_schedule.specs.declared.fault.Cause.TheVariants.{NotEnded, Memory}
+use Rattle.lset_schedule.specs.declared.fault.Cause.TheVariants.{Opening, NotEnded, Memory}
 use Rattle.lset_schedule.specs.declared.fault.ScheduleFault.{ScheduleFault}
-use Rattle.lset_schedule.specs.Plan.{Plan, planned, IsSchedule, title, schedule_text, header_size, first_event_line, event_count}
+use Rattle.lset_schedule.specs.Plan.{Plan, planned, IsSchedule, title, schedule_text, header_size, first_line, event_count}
 
 -- ---- faults
 
@@ -35,6 +38,24 @@ cause_of head.NotEnded = NotEnded
 -- the fault of a header as one of a schedule
 abbrev pub in_schedule : HeaderFault → ScheduleFault
 in_schedule e = fault e.line (cause_of e.cause)
+
+-- ---- a line of an opening key
+
+abbrev pub tells_opening : List (List ℕ) → Bool
+tells_opening [] = false
+tells_opening (a ∷ []) = false
+tells_opening (a ∷ b ∷ []) = bytes_eq a (codes "opening")
+tells_opening (a ∷ b ∷ c ∷ more) = false
+
+-- two pieces, of which the first is the word
+abbrev pub is_opening : List ℕ → Bool
+is_opening line = tells_opening (cut_at 32 line)
+
+-- the key that such a line tells, after the keys of the lines above
+unfoldable pub key_after : List ℕ → List ℕ → Result ℕ Cause
+key_after keys line = do
+  key ← or_fail Number (number_after (codes "opening") 0 max_number line)
+  if nat_lt (length keys) MOST_OPENING then (if is_above keys key then Ok key else Err Opening) else Err TooMany
 
 -- ---- a line of an event
 
@@ -71,6 +92,26 @@ event_after version total line = event_of version line >>= within total
 
 -- ---- texts, as their parts between newlines: whole lines, and what comes after the last newline
 
+-- the first part is a line of an opening key, and ends with a newline
+abbrev pub is_due : List (List ℕ) → Bool
+is_due [] = false
+is_due (rest ∷ []) = false
+is_due (x ∷ y ∷ more) = is_opening x
+
+-- The keys of the lines of opening keys that come first, from a number of line and after the keys of the lines above; and the
+-- parts after these lines.
+unfoldable pub openings_from : ℕ → List ℕ → List (List ℕ) → Result (List ℕ × List (List ℕ)) ScheduleFault
+openings_from line keys [] = Ok (keys, [])
+openings_from line keys (rest ∷ []) = Ok (keys, rest ∷ [])
+openings_from line keys (x ∷ y ∷ more) = if is_opening x then (do
+  key ← map_fault (fault line) (key_after keys x)
+  openings_from (line + 1) (keys ++ key ∷ []) (y ∷ more)) else Ok (keys, x ∷ y ∷ more)
+
+-- the same of the parts after the header; a text of the first version has no such lines
+abbrev pub openings_of : Version → List (List ℕ) → Result (List ℕ × List (List ℕ)) ScheduleFault
+openings_of One parts = Ok ([], parts)
+openings_of Two parts = openings_from first_line [] parts
+
 -- the lines of events, from a number of line and after a total of events
 unfoldable pub events_at : Version → ℕ → ℕ → List (List ℕ) → Result (List Line) ScheduleFault
 events_at version line total [] = Ok []
@@ -80,12 +121,19 @@ events_at version line total (x ∷ y ∷ more) = do
   es ← events_at version (line + 1) (total + event_count e) (y ∷ more)
   Ok (e ∷ es)
 
+-- the opening keys and the lines of events, of the parts after the header
+unfoldable pub body_of : Version → List (List ℕ) → Result (List ℕ × List Line) ScheduleFault
+body_of version parts = do
+  opens ← openings_of version parts
+  lines ← events_at version (first_line + length opens.0) 0 opens.1
+  Ok (opens.0, lines)
+
 -- the schedule of a text's parts, read as a text of this version
 unfoldable pub plan_in : Version → List (List ℕ) → Result Plan ScheduleFault
 plan_in version parts = do
   head ← map_fault in_schedule (header_of (title version) parts)
-  lines ← events_at version (first_event_line (planned version head.0 [])) 0 head.1
-  Ok (planned version head.0 lines)
+  body ← body_of version head.1
+  Ok (planned version head.0 body.0 body.1)
 
 -- The first line alone decides the version: it is the second where that line is the title of the second, and else the first.
 -- A text that is that title without a newline is of the second, and is refused as NotEnded as it would be by either.
@@ -114,10 +162,25 @@ abbrev pub IsFaultlessTo : {X : Type 0} → ℕ → Result X ScheduleFault → T
 IsFaultlessTo line (Ok x) = Unit {0}
 IsFaultlessTo line (Err e) = line < e.line
 
--- a line of an event that ends with a newline, with no fault in it or above it; the last of the parts of a text comes
+-- a line after the header that ends with a newline, with no fault in it or above it; the last of the parts of a text comes
 -- after the last newline
 abbrev pub IsGoodLine : List ℕ → ℕ → Type 0
 IsGoodLine bytes line = (header_size < line) × (line < length (cut_at 10 bytes)) × IsFaultlessTo line (reading bytes)
+
+-- the same, of the parts after the header
+abbrev pub IsGoodAfterHeader : Version → List (List ℕ) → ℕ → Type 0
+IsGoodAfterHeader version parts line =
+    (header_size < line) × (line < header_size + length parts) × IsFaultlessTo line (body_of version parts)
+
+-- no fault stands in this line or above it, and it is one of those of the opening keys
+abbrev pub IsOpeningTo : ℕ → Result (List ℕ × List (List ℕ)) ScheduleFault → Type 0
+IsOpeningTo line (Ok opens) = line < first_line + length opens.0
+IsOpeningTo line (Err e) = line < e.line
+
+-- the same of a line of an opening key
+abbrev pub IsGoodOpening : Version → List (List ℕ) → ℕ → Type 0
+IsGoodOpening version parts line =
+    (header_size < line) × (line < header_size + length parts) × IsOpeningTo line (openings_of version parts)
 
 -- the same, of the parts from the line of the first event on
 abbrev pub IsGoodEvent : Version → ℕ → List (List ℕ) → ℕ → Type 0

@@ -159,5 +159,5 @@ pub fn generate<M: Machine>(
         threads,
         quota,
     };
-    Ok(Schedule::of_header(Version::One, header, lines))
+    Ok(Schedule::of_header(Version::One, header, Vec::new(alloc), lines))
 }

@@ -23,6 +23,9 @@ const TITLE_ONE: &str = "listset-schedule 1";
 /// The first line of a schedule's text, in the second version: it has the call `ceiling` too.
 const TITLE_TWO: &str = "listset-schedule 2";
 
+/// The first line after the header of a schedule's text, counted from 1.
+const FIRST_LINE: u64 = 5;
+
 /// The most events of a schedule, the steps of a `go` line counted one by one. (This project's own limit, as
 /// are those below.)
 pub const MOST_EVENTS: u32 = 1_000_000;

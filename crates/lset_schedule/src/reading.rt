@@ -1,6 +1,7 @@
-ghost use Rattle.std.specs.Prelude.{◌≡◌, ◌≤◌, ◌<◌, ◌^◌, IfOk, IfErr, MatchResult};
+ghost use Rattle.std.specs.Prelude.{◌≡◌, ◌≤◌, ◌<◌, ◌^◌, [], ◌∷◌, true, false, length, IfOk, IfErr, IfSome, MatchOption, MatchResult};
+ghost use Rattle.lset_words.specs.declared.TheConstants.{MOST_OPENING};
 ghost use Rattle.lset_text.specs.Parts.{cut_at};
-ghost use Rattle.lset_schedule.specs.Plan.{Plan, IsSchedule, view, schedule_text};
+ghost use Rattle.lset_schedule.specs.Plan.{Plan, IsSchedule, first_line, view, schedule_text};
 ghost use Rattle.lset_schedule.specs.ScheduleReading.{
   Gives,
   version_told,
@@ -8,18 +9,28 @@ ghost use Rattle.lset_schedule.specs.ScheduleReading.{
   begin_of,
   event_of,
   event_after,
+  is_opening,
+  key_after,
+  is_due,
+  openings_from,
+  openings_of,
   events_at,
+  body_of,
   reading,
+  IsGoodOpening,
   IsGoodEvent,
+  IsGoodAfterHeader,
   IsGoodLine,
   SchedulesReadBack,
 };
 
 use crate::fault::{Cause, ScheduleFault};
 use crate::value::{Line, Schedule, title};
-use crate::{MOST_EVENTS, MOST_STEPS};
-use lset_text::{Version, cut, number, read_call, read_header, version_of};
-use lset_words::Key;
+use crate::{FIRST_LINE, MOST_EVENTS, MOST_STEPS};
+use lset_text::{
+    Version, cut, is_above, number, number_of_line, read_call, read_header, version_of,
+};
+use lset_words::{Key, MOST_OPENING};
 use std::alloc::Global;
 
 #[tactic(auto, unfolding(crate::specs::ScheduleReading::go_of))]
@@ -83,6 +94,88 @@ fn counted_event(version: Version, line: &[u8], total: u32) -> Result<Line, Caus
     Ok(event)
 }
 
+/// Whether a line is that of an opening key: two pieces, of which the first is the word.
+fn is_opening(line: &[u8]) -> bool
+    ensures { result ≡ is_opening line.now }
+{
+    let Some((word, key)) = cut(line, b' ') else {
+        return false;
+    };
+    if let Some((_, _more)) = cut(key, b' ') {
+        return false;
+    }
+    word == b"opening".as_slice()
+}
+
+/// The key that a line of an opening key tells, after the keys of the lines above.
+#[tactic(auto, unfolding(crate::specs::ScheduleReading::key_after))]
+fn key_after(keys: &[u32], line: &[u8]) -> Result<u32, Cause>
+    ensures { result ≡ key_after keys.now line.now }
+{
+    let key = number_of_line(line, b"opening", 0, u32::MAX).ok_or(Cause::Number)?;
+    if keys.len() >= MOST_OPENING as usize {
+        return Err(Cause::TooMany);
+    }
+    if !is_above(keys, key) {
+        return Err(Cause::Opening);
+    }
+    Ok(key)
+}
+
+/// The line of an opening key that is due, and what comes after it; `None` where none is.
+fn opening_due(text: &[u8]) -> Option<(&[u8], &[u8])>
+    ensures parts { MatchOption result (is_due (cut_at 10 text.now) ≡ false)
+        (λ p. (cut_at 10 text.now ≡ p.0.now ∷ cut_at 10 p.1.now) × (is_opening p.0.now ≡ true)) }
+    ensures shorter { IfSome result (λ p. length p.1.now < length text.now) }
+{
+    let (first, after) = cut(text, b'\n')?;
+    if is_opening(first) {
+        Some((first, after))
+    } else {
+        None
+    }
+}
+
+/// The opening keys that the first lines of a text tell, of which the first has the number `FIRST_LINE`, and what comes after
+/// these lines.
+fn opening_keys(alloc: Global, text: &[u8]) -> Result<(Vec<u32>, &[u8]), ScheduleFault>
+    ensures exact { Gives (λ p. (p.0.items, cut_at 10 p.1.now)) result (openings_from first_line [] (cut_at 10 text.now)) }
+    ensures few { IfOk result (λ p. length p.0.items ≤ MOST_OPENING) }
+    ensures memory { IfErr result (λ e. e.cause ≡ Cause.Memory → IsGoodOpening Version.Two (cut_at 10 text.now) e.line) }
+{
+    let mut keys = Vec::new(alloc);
+    let mut line = FIRST_LINE;
+    let mut rest = text;
+    while let Some((first, after)) = opening_due(rest) {
+        let key = match key_after(&keys, first) {
+            Ok(key) => key,
+            Err(cause) => return Err(ScheduleFault::at(line, cause)),
+        };
+        if keys.push(key).is_err() {
+            return Err(ScheduleFault::at(line, Cause::Memory));
+        }
+        line += 1;
+        rest = after;
+    }
+    Ok((keys, rest))
+}
+
+/// The opening keys that a text of this version tells after its header, and what comes after their lines.
+fn openings(
+    alloc: Global,
+    version: Version,
+    text: &[u8],
+) -> Result<(Vec<u32>, &[u8]), ScheduleFault>
+    ensures exact { Gives (λ p. (p.0.items, cut_at 10 p.1.now)) result (openings_of version (cut_at 10 text.now)) }
+    ensures few { IfOk result (λ p. length p.0.items ≤ MOST_OPENING) }
+    ensures memory { IfErr result (λ e. e.cause ≡ Cause.Memory → IsGoodOpening version (cut_at 10 text.now) e.line) }
+{
+    match version {
+        Version::One => Ok((Vec::new(alloc), text)),
+        Version::Two => opening_keys(alloc, text),
+    }
+}
+
 /// The lines of events of a text of this version, of which the first has the number `first_line`.
 fn events(
     alloc: Global,
@@ -123,6 +216,22 @@ fn told_version(bytes: &[u8]) -> Version
     version_of(bytes, title(Version::Two).as_bytes())
 }
 
+/// The opening keys and the lines of events that come after the header in a text of this version.
+#[tactic(auto, unfolding(crate::specs::ScheduleReading::body_of))]
+fn body(
+    alloc: Global,
+    version: Version,
+    text: &[u8],
+) -> Result<(Vec<u32>, Vec<Line>), ScheduleFault>
+    ensures exact { Gives (λ p. (p.0.items, p.1.items)) result (body_of version (cut_at 10 text.now)) }
+    ensures memory { IfErr result (λ e. e.cause ≡ Cause.Memory → IsGoodAfterHeader version (cut_at 10 text.now) e.line) }
+{
+    let (opening, rest) = openings(alloc, version, text)?;
+    let first_event_line = FIRST_LINE + opening.len() as u64;
+    let lines = events(alloc, version, first_event_line, rest)?;
+    Ok((opening, lines))
+}
+
 #[tactic(auto, unfolding(crate::specs::ScheduleReading::plan_in))]
 fn schedule(alloc: Global, bytes: &[u8]) -> Result<Schedule, ScheduleFault>
     ensures exact { Gives view result (reading bytes.now) }
@@ -130,17 +239,16 @@ fn schedule(alloc: Global, bytes: &[u8]) -> Result<Schedule, ScheduleFault>
 {
     let version = told_version(bytes);
     let (header, rest) = read_header(title(version).as_bytes(), bytes)?;
-    let mut schedule = Schedule::of_header(version, header, Vec::new(alloc));
-    let first_line = schedule.first_event_line();
-    schedule.lines = events(alloc, version, first_line, rest)?;
-    Ok(schedule)
+    let (opening, lines) = body(alloc, version, rest)?;
+    Ok(Schedule::of_header(version, header, opening, lines))
 }
 
 /// The schedule that the bytes are the text of, or the first fault of the bytes: its line, and the first
 /// check of that line that fails, in the order of `Cause` but for `NotEnded`, which comes before all others
 /// where a line has bytes and no newline. `Memory` comes last. A header line that is due where no byte is
 /// left has the fault of that header line. The first line alone decides the version: a text of the first
-/// version has no `ceiling`, and its line is refused with `Event`.
+/// version has no `ceiling` and no opening keys, and their lines are refused with `Event`, as is the line of an opening key
+/// after one of an event.
 pub fn read_schedule(alloc: Global, bytes: &[u8]) -> Result<Schedule, ScheduleFault>
     // What is read is a schedule, and the bytes are its text.
     ensures found { IfOk result (λ s. IsSchedule (view s) × (bytes.now ≡ schedule_text (view s))) }
@@ -149,7 +257,7 @@ pub fn read_schedule(alloc: Global, bytes: &[u8]) -> Result<Schedule, ScheduleFa
         → MatchResult result (λ s. view s ≡ p) (λ e. e.cause ≡ Cause.Memory) }
     // Which fault it is.
     ensures exact { Gives view result (reading bytes.now) }
-    // Want of memory is told of a line of an event, where neither it nor a line above has a fault.
+    // Want of memory is told of a line after the header, where neither it nor a line above has a fault.
     ensures memory { IfErr result (λ e. e.cause ≡ Cause.Memory → IsGoodLine bytes.now e.line) }
 {
     schedule(alloc, bytes)

@@ -1,9 +1,9 @@
-ghost use Rattle.std.specs.Prelude.{◌≡◌, ◌++◌, ◌∷◌, [], IfOk, OnOk, Some, string_bytes};
-ghost use Rattle.lset_text.specs.Parts.{ended};
-ghost use Rattle.lset_schedule.specs.Plan.{HasCallsOfVersion, view, line_text, schedule_text};
+ghost use Rattle.std.specs.Prelude.{◌≡◌, ◌++◌, ◌∷◌, [], map, IfOk, OnOk, Some, string_bytes};
+ghost use Rattle.lset_text.specs.Parts.{ended, text_of};
+ghost use Rattle.lset_schedule.specs.Plan.{HasWordsOfVersion, view, line_text, schedule_text};
 
 use crate::value::{Line, Schedule, title};
-use lset_text::{Header, call_word, put_header};
+use lset_text::{Header, call_word, put_header, put_openings};
 use std::alloc::{AllocError, Global};
 use std::fmt;
 
@@ -29,11 +29,20 @@ fn put_line(out: &mut String, line: &Line) -> Result<(), AllocError>
     Ok(())
 }
 
-/// The text of a schedule, in its version: the only one that is read as this schedule. The calls that it
-/// begins are those of its version; what `read_schedule` and `generate` give is such. The only error is want
-/// of memory.
+fn put_lines(out: &mut String, lines: &[Line]) -> Result<(), AllocError>
+    ensures { OnOk result (string_bytes out.new ≡ string_bytes out.old ++ text_of (map line_text lines.now)) }
+{
+    for line in lines {
+        put_line(out, line)?;
+    }
+    Ok(())
+}
+
+/// The text of a schedule, in its version: the only one that is read as this schedule. The calls that it begins are those of
+/// its version, and in the first it has no opening keys; what `read_schedule` and `generate` give is such. The only error is
+/// want of memory.
 pub fn write_schedule(alloc: Global, schedule: &Schedule) -> Result<Vec<u8>, AllocError>
-    requires { HasCallsOfVersion (view schedule.now) }
+    requires { HasWordsOfVersion (view schedule.now) }
     ensures { IfOk result (λ v. v.items ≡ schedule_text (view schedule.now)) }
 {
     let header = Header {
@@ -43,8 +52,7 @@ pub fn write_schedule(alloc: Global, schedule: &Schedule) -> Result<Vec<u8>, All
     };
     let mut out = String::new(alloc);
     put_header(&mut out, title(schedule.version), header)?;
-    for line in &schedule.lines {
-        put_line(&mut out, line)?;
-    }
+    put_openings(&mut out, &schedule.opening)?;
+    put_lines(&mut out, &schedule.lines)?;
     Ok(out.into_bytes())
 }

@@ -1,2 +1,6 @@
 mod Endings
+mod HeadLaws
+mod KeyLaws
 mod NewSets
+mod PrintedKeys
+mod RisingKeys

@@ -1,6 +1,6 @@
 //! What the values of `serve` ask for.
-ghost use Rattle.std.specs.Prelude.{◌≡◌, ◌≤◌, IfOk, map, string_bytes};
-ghost use Rattle.lset_serve.specs.Serving.{request_of};
+ghost use Rattle.std.specs.Prelude.{◌≡◌, IfOk, map, string_bytes};
+ghost use Rattle.lset_serve.specs.Serving.{IsWithinLimits, request_of};
 
 use lset_tools::{ValueName, kind_at, number_at};
 use lset_words::{Kind, MOST_QUOTA, MOST_THREADS};
@@ -32,7 +32,7 @@ pub struct ServeRequest {
 #[tactic(auto, unfolding(crate::specs::Serving::request_of))]
 pub fn read_serve_request(values: &[String]) -> Result<ServeRequest, ValueName>
     ensures value { result ≡ request_of (map string_bytes values.now) }
-    ensures known { IfOk result (λ r. (r.seats ≤ MOST_THREADS) × (r.port ≤ MOST_PORT)) }
+    ensures known { IfOk result IsWithinLimits }
 {
     let kind = kind_at(values, 0).ok_or(ValueName::Kind)?;
     let seats = number_at(values, 1, 1, MOST_THREADS).ok_or(ValueName::Seats)?;

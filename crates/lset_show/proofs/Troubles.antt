@@ -44,6 +44,7 @@ of_a_schedule number schedule.Quota = refl
 of_a_schedule number schedule.Event = refl
 of_a_schedule number schedule.Number = refl
 of_a_schedule number schedule.TooMany = refl
+of_a_schedule number schedule.Opening = refl
 of_a_schedule number schedule.NotEnded = refl
 of_a_schedule number schedule.Memory = refl
 
@@ -55,6 +56,7 @@ of_a_report number report.Quota = refl
 of_a_report number report.Line = refl
 of_a_report number report.Number = refl
 of_a_report number report.TooMany = refl
+of_a_report number report.Opening = refl
 of_a_report number report.History = refl
 of_a_report number report.NotEnded = refl
 of_a_report number report.Memory = refl

@@ -218,7 +218,9 @@ impl<M: Machine> World<M> {
         World::opened(alloc, layout, &[])
     }
 
-    /// The same of a list that opens with these keys, which rise strictly and are as many as the layout says.
+    /// The world before any step of a list that opens with these keys, which rise strictly and are as many as the layout says:
+    /// their nodes are in the chain, as if they had been put in before moment 0, and any thread may take them out. It fails
+    /// only where memory was refused.
     pub fn opened(alloc: Global, layout: Layout, keys: &[u32]) -> Result<World<M>, AllocError>
         requires many { length keys.now ≡ layout.opening }
         requires rising { IsStrictlyIncreasing keys.now }

@@ -91,6 +91,7 @@ fn a_ceiling_starts_again_at_a_mark(rt: HostRuntime) -> Result<(), Fail> {
         kind: Kind::LockFree,
         threads: 2,
         quota: 4,
+        opening: Vec::new(rt.alloc()),
         lines: vec![in rt.alloc();
             Line::Begin(1, add),
             Line::Go(1, 6),
@@ -127,6 +128,7 @@ fn a_ceiling_before_which_a_key_comes(rt: HostRuntime) -> Result<(), Fail> {
         kind: Kind::LockFree,
         threads: 2,
         quota: 4,
+        opening: Vec::new(rt.alloc()),
         lines: vec![in rt.alloc();
             Line::Begin(1, nine),
             Line::Go(1, 6),

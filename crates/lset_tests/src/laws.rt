@@ -143,7 +143,7 @@ fn header_again(alloc: Global, header: Header) -> Result<Option<Header>, AllocEr
 }
 
 /// The text of a schedule is read as the schedule.
-#[tactic(auto, using(lset_schedule::proofs::VersionLaws::schedule_has_calls))]
+#[tactic(auto, using(lset_schedule::proofs::VersionLaws::schedule_has_words))]
 fn text_of(alloc: Global, schedule: &Schedule) -> Result<Vec<u8>, AllocError>
     requires { IsSchedule (view schedule.now) }
     ensures { IfOk result (λ text. reading text.items ≡ Ok (view schedule.now)) }

@@ -30,6 +30,8 @@ mod openings;
 #[cfg(test)]
 mod optimistic;
 #[cfg(test)]
+mod renewed;
+#[cfg(test)]
 mod replay;
 #[cfg(test)]
 mod reports;

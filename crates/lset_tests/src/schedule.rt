@@ -1,3 +1,4 @@
+use crate::renewed::RENEWED;
 use crate::versions::MARKED;
 use crate::written::{schedule_again, text_of_schedule};
 use lset_coarse::CoarseList;
@@ -51,7 +52,7 @@ fn texts_are_written_back_also_where_replay_refuses_them(rt: HostRuntime) -> Res
 #[test]
 fn every_prefix_has_its_own_answer(rt: HostRuntime) -> Result<(), Fail> {
     let due = [Cause::Header, Cause::Kind, Cause::Threads, Cause::Quota];
-    for text in [ADD, PASSING, MARKED] {
+    for text in [ADD, PASSING, MARKED, RENEWED] {
         for length in 0..text.len() {
             let prefix = &text.as_bytes()[..length];
             let whole_lines = prefix.iter().filter(|byte| **byte == b'\n').count();
@@ -65,7 +66,9 @@ fn every_prefix_has_its_own_answer(rt: HostRuntime) -> Result<(), Fail> {
                 Some(cause) => Err(ScheduleFault { line, cause }),
                 None => Ok(whole_lines.saturating_sub(due.len())),
             };
-            let found = read_schedule(rt.alloc(), prefix).map(|schedule| schedule.lines.len());
+            let found = read_schedule(rt.alloc(), prefix).map(|schedule| {
+                schedule.opening.len().saturating_add(schedule.lines.len())
+            });
             assert_eq!(rt; found, wanted);
         }
     }

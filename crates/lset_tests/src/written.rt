@@ -9,7 +9,7 @@ use std::alloc::{AllocError, Global};
 use std::test::Fail;
 
 /// The text of a schedule that was read or drawn, which begins the calls of its version alone.
-#[tactic(auto, using(lset_schedule::proofs::VersionLaws::schedule_has_calls))]
+#[tactic(auto, using(lset_schedule::proofs::VersionLaws::schedule_has_words))]
 pub fn text_of_schedule(alloc: Global, schedule: &Schedule) -> Result<Vec<u8>, AllocError>
     requires { IsSchedule (view schedule.now) }
 {
@@ -23,7 +23,7 @@ pub fn schedule_again(alloc: Global, text: &[u8]) -> Result<Vec<u8>, Fail> {
 }
 
 /// The text of a schedule's report, whose order explains its history and leaves its keys.
-#[tactic(auto, using(lset_schedule::proofs::VersionLaws::schedule_has_calls))]
+#[tactic(auto, using(lset_schedule::proofs::VersionLaws::schedule_has_words))]
 pub fn reported(alloc: Global, text: &[u8]) -> Result<Vec<u8>, Fail> {
     let schedule = read_schedule(alloc, text)?;
     let report = replay(alloc, &schedule)?;

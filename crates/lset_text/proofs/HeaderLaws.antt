@@ -202,7 +202,7 @@ kind_line_lacks k =
     let word = Lacks-from_test 10 (codes "list") refl in
     line_lacks (codes "list" ∷ kind_text k ∷ []) (word, (kind_lacks 10 k (omega arith), tt))
 
-number_line_lacks : (word : List ℕ) (n : ℕ) → Lacks 10 word → n < 2 ^ 64 → Lacks 10 (number_line word n)
+pub number_line_lacks : (word : List ℕ) (n : ℕ) → Lacks 10 word → n < 2 ^ 64 → Lacks 10 (number_line word n)
 number_line_lacks word n free small = line_lacks (word ∷ decimal n ∷ []) (free, (decimal_lacks 10 n (omega arith) small, tt))
 
 -- no line of a header has a newline in it

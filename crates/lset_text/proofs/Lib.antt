@@ -3,3 +3,4 @@ pub mod NumberLaws
 pub mod WordLaws
 pub mod ReadingLaws
 pub mod HeaderLaws
+pub mod OpeningLaws

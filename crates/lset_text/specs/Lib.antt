@@ -3,3 +3,4 @@ pub mod Numbers
 pub mod Spellings
 pub mod Results
 pub mod Headers
+pub mod Openings

@@ -67,7 +67,8 @@ fn kind_of_line(line: &[u8]) -> Option<Kind>
     read_kind(kind)
 }
 
-fn number_of_line(line: &[u8], word: &[u8], low: u32, high: u32) -> Option<u32>
+/// The number from `low` to `high` that a line tells after a word, a space between them; `None` for any other line.
+pub fn number_of_line(line: &[u8], word: &[u8], low: u32, high: u32) -> Option<u32>
     ensures { result ≡ number_after word.now low high line.now }
 {
     let (first, count) = cut(line, b' ')?;

@@ -1,16 +1,19 @@
-//! What the texts of schedules and of reports share: lines and their pieces, numbers, words, and the four
-//! lines of the header. (This project's own format.)
+//! What the texts of schedules and of reports share: lines and their pieces, numbers, words, the four lines of the
+//! header, and the lines of opening keys. (This project's own format.)
 #![tactic(auto)]
 
 mod headers;
 mod numbers;
+mod openings;
 mod parts;
 mod words;
 
 pub use headers::{
-    Header, HeaderCause, HeaderFault, headers_read_back, put_header, read_header, version_of,
+    Header, HeaderCause, HeaderFault, headers_read_back, number_of_line, put_header, read_header,
+    version_of,
 };
 pub use numbers::{number, numbers_read_back};
+pub use openings::{is_above, put_openings};
 pub use parts::cut;
 pub use words::{
     CallWord, ReplyWord, Version, call_word, is_reply, kind_word, read_call, read_kind, read_reply,

@@ -11,6 +11,8 @@ use Rattle.lset_report.specs.declared.report_fault.ReportCause.TheVariants as re
 use Rattle.lset_report.specs.declared.report_fault.ReportFault.{ReportFault}
 use Rattle.lset_tools.specs.declared.streams.InputFault.{InputFault}
 use Rattle.lset_tools.specs.declared.streams.InputFault.TheVariants as input
+use Rattle.lset_tools.specs.declared.trouble.KeyCause.{KeyCause}
+use Rattle.lset_tools.specs.declared.trouble.KeyCause.TheVariants as keys
 use Rattle.lset_tools.specs.declared.trouble.LineCause.{LineCause}
 use Rattle.lset_tools.specs.declared.trouble.LineCause.TheVariants as line
 use Rattle.lset_tools.specs.declared.trouble.ValueName.{ValueName}
@@ -36,6 +38,7 @@ of_schedule_line number schedule.Quota = Line number (line.Schedule schedule.Quo
 of_schedule_line number schedule.Event = Line number (line.Schedule schedule.Event)
 of_schedule_line number schedule.Number = Line number (line.Schedule schedule.Number)
 of_schedule_line number schedule.TooMany = Line number (line.Schedule schedule.TooMany)
+of_schedule_line number schedule.Opening = Line number (line.Schedule schedule.Opening)
 of_schedule_line number schedule.NotEnded = Line number (line.Schedule schedule.NotEnded)
 of_schedule_line number schedule.Memory = Memory
 
@@ -58,6 +61,7 @@ of_report_line number report.Quota = Line number (line.Report report.Quota)
 of_report_line number report.Line = Line number (line.Report report.Line)
 of_report_line number report.Number = Line number (line.Report report.Number)
 of_report_line number report.TooMany = Line number (line.Report report.TooMany)
+of_report_line number report.Opening = Line number (line.Report report.Opening)
 of_report_line number report.History = Line number (line.Report report.History)
 of_report_line number report.NotEnded = Line number (line.Report report.NotEnded)
 of_report_line number report.Memory = Memory
@@ -88,6 +92,7 @@ name_of (line.Schedule schedule.Quota) = codes "Quota"
 name_of (line.Schedule schedule.Event) = codes "Event"
 name_of (line.Schedule schedule.Number) = codes "Number"
 name_of (line.Schedule schedule.TooMany) = codes "TooMany"
+name_of (line.Schedule schedule.Opening) = codes "Opening"
 name_of (line.Schedule schedule.NotEnded) = codes "NotEnded"
 name_of (line.Schedule schedule.Memory) = codes "Memory"
 name_of (line.Report report.Header) = codes "Header"
@@ -97,9 +102,15 @@ name_of (line.Report report.Quota) = codes "Quota"
 name_of (line.Report report.Line) = codes "Line"
 name_of (line.Report report.Number) = codes "Number"
 name_of (line.Report report.TooMany) = codes "TooMany"
+name_of (line.Report report.Opening) = codes "Opening"
 name_of (line.Report report.History) = codes "History"
 name_of (line.Report report.NotEnded) = codes "NotEnded"
 name_of (line.Report report.Memory) = codes "Memory"
+name_of (line.Keys keys.Line) = codes "Line"
+name_of (line.Keys keys.Number) = codes "Number"
+name_of (line.Keys keys.TooMany) = codes "TooMany"
+name_of (line.Keys keys.Opening) = codes "Opening"
+name_of (line.Keys keys.NotEnded) = codes "NotEnded"
 
 abbrev pub value_word : ValueName → List ℕ
 value_word value.Kind = codes "KIND"
@@ -108,6 +119,7 @@ value_word value.Quota = codes "QUOTA"
 value_word value.Calls = codes "CALLS"
 value_word value.Keys = codes "KEYS"
 value_word value.Seed = codes "SEED"
+value_word value.Lives = codes "LIVES"
 value_word value.Seats = codes "SEATS"
 value_word value.Port = codes "PORT"
 value_word value.Sessions = codes "SESSIONS"
@@ -119,6 +131,7 @@ abbrev pub work_name : WorkName → List ℕ
 work_name work.Programs = codes "Programs"
 work_name work.Spawn = codes "Spawn"
 work_name work.Gate = codes "Gate"
+work_name work.Opening = codes "Opening"
 
 abbrev pub serve_name : ServeName → List ℕ
 serve_name serve.Seats = codes "Seats"

@@ -17,7 +17,7 @@ pub use generating::tool_gen;
 pub use moments::{MOST_MOMENT, Moments, read_moments};
 pub use replaying::{replayed, tool_replay};
 pub use streams::{InputFault, LONGEST, input_of, put};
-pub use trouble::{LineCause, ServeName, Trouble, ValueName, WorkName};
+pub use trouble::{KeyCause, LineCause, ServeName, Trouble, ValueName, WorkName};
 pub use values::{
     MOST_CALLS_ASKED, MOST_KEYS_ASKED, MOST_SEED, Request, kind_at, number_at, read_request,
 };

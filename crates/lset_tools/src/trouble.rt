@@ -8,6 +8,21 @@ use lset_report::{ReportCause, ReportFault};
 use lset_schedule::{Cause, ScheduleFault};
 use std::alloc::AllocError;
 
+/// Why a line of the keys with which a set is to open is refused.
+#[derive(Clone, Copy, Debug, PartialEq, Eq)]
+pub enum KeyCause {
+    /// The line is not `key` and one further piece.
+    Line,
+    /// The key is no number up to 4294967295.
+    Number,
+    /// The keys up to and with this line are more than 1,048,576.
+    TooMany,
+    /// The key does not lie above the one before.
+    Opening,
+    /// The line has bytes and no newline.
+    NotEnded,
+}
+
 /// Why a line of an input is refused.
 #[derive(Clone, Copy, Debug, PartialEq, Eq)]
 pub enum LineCause {
@@ -21,6 +36,8 @@ pub enum LineCause {
     Idle,
     /// The text is no report.
     Report(ReportCause),
+    /// The text is not one of rising keys.
+    Keys(KeyCause),
 }
 
 /// A value or an option that a command takes.
@@ -32,6 +49,7 @@ pub enum ValueName {
     Calls,
     Keys,
     Seed,
+    Lives,
     Seats,
     Port,
     Sessions,
@@ -49,6 +67,8 @@ pub enum WorkName {
     Spawn,
     /// A gate let a call not pass.
     Gate,
+    /// The keys that are left are more than a set may open with.
+    Opening,
 }
 
 /// Why sessions are not served to their ends. Want of memory is a trouble of its own.
@@ -180,6 +200,7 @@ impl LineCause {
                 Cause::Event => "Event",
                 Cause::Number => "Number",
                 Cause::TooMany => "TooMany",
+                Cause::Opening => "Opening",
                 Cause::NotEnded => "NotEnded",
                 Cause::Memory => "Memory",
             },
@@ -191,9 +212,17 @@ impl LineCause {
                 ReportCause::Line => "Line",
                 ReportCause::Number => "Number",
                 ReportCause::TooMany => "TooMany",
+                ReportCause::Opening => "Opening",
                 ReportCause::History => "History",
                 ReportCause::NotEnded => "NotEnded",
                 ReportCause::Memory => "Memory",
+            },
+            LineCause::Keys(cause) => match cause {
+                KeyCause::Line => "Line",
+                KeyCause::Number => "Number",
+                KeyCause::TooMany => "TooMany",
+                KeyCause::Opening => "Opening",
+                KeyCause::NotEnded => "NotEnded",
             },
         }
     }
@@ -211,6 +240,7 @@ impl ValueName {
             ValueName::Calls => "CALLS",
             ValueName::Keys => "KEYS",
             ValueName::Seed => "SEED",
+            ValueName::Lives => "LIVES",
             ValueName::Seats => "SEATS",
             ValueName::Port => "PORT",
             ValueName::Sessions => "SESSIONS",
@@ -230,6 +260,7 @@ impl WorkName {
             WorkName::Programs => "Programs",
             WorkName::Spawn => "Spawn",
             WorkName::Gate => "Gate",
+            WorkName::Opening => "Opening",
         }
     }
 }

@@ -12,6 +12,7 @@ use Rattle.lset_text.specs.declared.headers.Header.{Header}
 use Rattle.lset_text.specs.Parts.{text_of}
 use Rattle.lset_text.specs.Spellings.{call_text, reply_text, same_reply}
 use Rattle.lset_text.specs.Headers.{header_lines}
+use Rattle.lset_text.specs.Openings.{opening_lines}
 use Rattle.lset_steps.specs.declared.Action.{Action}
 use Rattle.lset_steps.specs.declared.Action.TheVariants.{Load, Store, Exchange}
 use Rattle.lset_steps.specs.declared.Local.{Local}
@@ -136,7 +137,7 @@ abbrev pub last_line : Option (ℕ × StepFault) → List ℕ
 last_line None = codes "end"
 last_line (Some refusal) = refusal_line refusal.0 refusal.1
 
--- ---- the text
+-- ---- the text: the keys with which the set opens are the first chain
 
 abbrev pub title : List ℕ
 title = codes "listset-trace 1"
@@ -145,7 +146,8 @@ abbrev pub header_in : Trace → Header
 header_in t = record { kind = t.kind; threads = t.threads; quota = t.quota }
 
 abbrev pub trace_lines : Trace → List (List ℕ)
-trace_lines t = header_lines title (header_in t) ++ event_lines 1 t.events.items ++ last_line t.refused ∷ []
+trace_lines t =
+    header_lines title (header_in t) ++ opening_lines t.opening.items ++ event_lines 1 t.events.items ++ last_line t.refused ∷ []
 
 abbrev pub trace_text : Trace → List ℕ
 trace_text t = text_of (trace_lines t)

@@ -6,7 +6,7 @@ use crate::TITLE;
 use crate::events::put_events;
 use lset_replay::Trace;
 use lset_steps::StepFault;
-use lset_text::{Header, put_header};
+use lset_text::{Header, put_header, put_openings};
 use std::alloc::{AllocError, Global};
 
 fn cause_word(cause: StepFault) -> &'static str
@@ -38,8 +38,8 @@ fn put_last(out: &mut String, refused: Option<(u64, StepFault)>) -> Result<(), A
     Ok(())
 }
 
-/// The text of a trace: its header, a line for each event and for each chain, and how it ends. The only error is
-/// want of memory. (This project's own format, after the error traces of model checkers.)
+/// The text of a trace: its header, a line for each key with which the set opens, which are the first chain, a line for each
+/// event and for each chain, and how it ends. The only error is want of memory. (This project's own format, after the error traces of model checkers.)
 pub fn write_trace(alloc: Global, trace: &Trace) -> Result<Vec<u8>, AllocError>
     ensures { IfOk result (λ v. v.items ≡ trace_text trace.now) }
 {
@@ -50,6 +50,7 @@ pub fn write_trace(alloc: Global, trace: &Trace) -> Result<Vec<u8>, AllocError>
     };
     let mut out = String::new(alloc);
     put_header(&mut out, TITLE, header)?;
+    put_openings(&mut out, &trace.opening)?;
     put_events(&mut out, &trace.events)?;
     put_last(&mut out, trace.refused)?;
     Ok(out.into_bytes())

@@ -93,8 +93,10 @@ pub fn layout(threads: u32, quota: u32) -> Result<Layout, LayoutFault>
     layout_opening(threads, quota, 0)
 }
 
-/// The layout for a list that opens with `opening` keys, at most 1,048,576. `LayoutFault::Threads`, `Quota` and `Opening` in this
-/// order, where one is outside its limits.
+/// The layout for `threads` threads, 1 to 64, with a quota of `quota` slots, 0 to 16,384, and a list that opens with `opening`
+/// keys, 0 to 1,048,576, each in a node that is no thread's slot. (This project's own: the lists of the book open empty.)
+/// `LayoutFault::Threads` where the threads are outside their limits, else `LayoutFault::Quota` where the quota is, else
+/// `LayoutFault::Opening` where the opening keys are.
 pub fn layout_opening(threads: u32, quota: u32, opening: u32) -> Result<Layout, LayoutFault>
     ensures sizes { IfOk result (λ l. l ≡ record { threads = threads; quota = quota; opening = opening }) }
     ensures refused { IfErr result (RefusesSizes (record { threads = threads; quota = quota; opening = opening })) }

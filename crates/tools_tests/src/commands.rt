@@ -155,7 +155,7 @@ fn other_words_are_refused(rt: HostRuntime) -> Result<(), Fail> {
 
 #[test]
 fn help_names_the_commands_and_their_values(rt: HostRuntime) -> Result<(), Fail> {
-    let rows: [(&[&str], &str); 20] = [
+    let rows: [(&[&str], &str); 22] = [
         (&["--help"], "\nUsage: listset [COMMAND]\n"),
         (
             &["help"],
@@ -206,7 +206,7 @@ fn help_names_the_commands_and_their_values(rt: HostRuntime) -> Result<(), Fail>
         ),
         (
             &["run", "--help"],
-            "\nUsage: listset run KIND THREADS QUOTA CALLS KEYS SEED\n",
+            "\nUsage: listset run KIND THREADS QUOTA CALLS KEYS SEED [LIVES]\n",
         ),
         (
             &["help", "run"],
@@ -214,7 +214,7 @@ fn help_names_the_commands_and_their_values(rt: HostRuntime) -> Result<(), Fail>
         ),
         (
             &["serve", "-h"],
-            "\nUsage: listset serve KIND SEATS QUOTA PORT SESSIONS\n",
+            "\nUsage: listset serve KIND SEATS QUOTA PORT SESSIONS [FILE]\n",
         ),
         (
             &["help", "serve"],
@@ -223,6 +223,14 @@ fn help_names_the_commands_and_their_values(rt: HostRuntime) -> Result<(), Fail>
         (
             &["help", "serve"],
             "How many sessions to serve before the end: 0 to 10000\n",
+        ),
+        (
+            &["help", "serve"],
+            "\n  [FILE]      The keys with which the set opens, as a server prints them;",
+        ),
+        (
+            &["help", "run"],
+            "each opened with the keys of the one before: 1 to 100, 1 where it is left out\n",
         ),
     ];
     for (words, line) in rows {

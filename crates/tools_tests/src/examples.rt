@@ -14,6 +14,7 @@ stale-pred             optimistic  pred is taken out after the walk: the second 
 marked-in-chain        lazy        contains answers false, and the key's node is still in the chain
 marked-pred            lazy        pred is marked after the walk: its link gives it away
 read-in-anothers-step  lazy        contains stands in the step of the thread that removed its key
+opens-with-keys        lazy        two opening keys take no slot, and the remove of one gives none back
 two-removers           lock-free   two removes of one key: one marks, the other walks again and answers false
 snip                   lock-free   an add takes out the node that a remove has marked
 tries-again            lock-free   an exchange fails, and the add walks again with the same slot

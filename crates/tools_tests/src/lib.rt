@@ -15,6 +15,10 @@ mod examples;
 #[cfg(test)]
 mod generating;
 #[cfg(test)]
+mod lives;
+#[cfg(test)]
+mod opened;
+#[cfg(test)]
 mod pictures;
 #[cfg(test)]
 mod programs;

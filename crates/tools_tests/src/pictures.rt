@@ -1,5 +1,6 @@
 //! The tests of pictures.
 mod made;
+mod opened;
 mod refused;
 mod replayed;
 mod sheets;

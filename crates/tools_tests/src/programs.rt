@@ -38,7 +38,7 @@ fn each_command_is_done_on_the_standard_input(rt: HostRuntime) -> Result<(), Fai
             (0, "calls 0\ntrue 0\nfalse 0\nfull 0\nkeys 0\n", ""),
         ),
         (
-            &["run", "lazy", "2", "0", "0", "8", "1", "more"],
+            &["run", "lazy", "2", "0", "0", "8", "1", "1", "more"],
             "",
             (0, "calls 0\ntrue 0\nfalse 0\nfull 0\nkeys 0\n", ""),
         ),

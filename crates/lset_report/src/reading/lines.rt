@@ -1,5 +1,6 @@
 ghost use Rattle.std.specs.Prelude.{◌≡◌};
 ghost use Rattle.lset_report.specs.ReportReading.{
+  takes_opening,
   takes_calls,
   takes_places,
   takes_keys,
@@ -10,6 +11,7 @@ ghost use Rattle.lset_report.specs.ReportReading.{
   call_of,
   place_of,
   key_of_line,
+  opening_or_key,
   end_of,
   reply_told,
   line_in,
@@ -23,15 +25,17 @@ use lset_words::{CallRecord, Key, Placed, Reply};
 /// Which part of a report a text has come to.
 #[derive(Clone, Copy, Debug, PartialEq, Eq)]
 pub enum Section {
+    Opening,
     Calls,
     Order,
     Keys,
     Done,
 }
 
-/// A line after the header: a call with its number, a place in the order, a key, or the end.
+/// A line after the header: an opening key, a call with its number, a place in the order, a key, or the end.
 #[derive(Clone, Copy, Debug, PartialEq, Eq)]
 pub enum Line {
+    Opening(u32),
     Call(u32, CallRecord),
     Place(Placed),
     Key(u32),
@@ -39,16 +43,22 @@ pub enum Line {
 }
 
 impl Section {
+    fn takes_opening(self, version: Version) -> bool
+        ensures { result ≡ takes_opening version self }
+    {
+        matches!((version, self), (Version::Two, Section::Opening))
+    }
+
     fn takes_calls(self) -> bool
         ensures { result ≡ takes_calls self }
     {
-        matches!(self, Section::Calls)
+        matches!(self, Section::Opening | Section::Calls)
     }
 
     fn takes_places(self) -> bool
         ensures { result ≡ takes_places self }
     {
-        matches!(self, Section::Calls | Section::Order)
+        matches!(self, Section::Opening | Section::Calls | Section::Order)
     }
 
     fn takes_keys(self) -> bool
@@ -64,6 +74,7 @@ impl Line {
         ensures { result ≡ section_after self }
     {
         match self {
+            Line::Opening(_) => Section::Opening,
             Line::Call(_, _) => Section::Calls,
             Line::Place(_) => Section::Order,
             Line::Key(_) => Section::Keys,
@@ -203,6 +214,22 @@ fn key(section: Section, word: &[u8], key: &[u8]) -> Result<Line, ReportCause>
     Ok(Line::Key(key))
 }
 
+#[tactic(auto, unfolding(crate::specs::ReportReading::opening_or_key))]
+fn opening_or_key(
+    version: Version,
+    section: Section,
+    word: &[u8],
+    digits: &[u8],
+) -> Result<Line, ReportCause>
+    ensures { result ≡ opening_or_key version section word.now digits.now }
+{
+    if !section.takes_opening(version) || word != b"opening".as_slice() {
+        return key(section, word, digits);
+    }
+    let key = number(digits, 0, u32::MAX).ok_or(ReportCause::Number)?;
+    Ok(Line::Opening(key))
+}
+
 fn end(section: Section, word: &[u8]) -> Result<Line, ReportCause>
     ensures { result ≡ end_of section word.now }
 {
@@ -220,7 +247,7 @@ pub fn line_of_report(version: Version, section: Section, line: &[u8]) -> Result
         return end(section, line);
     };
     let Some((second, rest)) = cut(rest, b' ') else {
-        return key(section, word, rest);
+        return opening_or_key(version, section, word, rest);
     };
     let Some((third, rest)) = cut(rest, b' ') else {
         return place(version, section, word, second, rest);

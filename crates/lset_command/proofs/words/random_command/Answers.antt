@@ -1,11 +1,11 @@
 use Rattle.std.proofs.Common.{◌∙◌, ap, IfOk}
 use Rattle.std.proofs.lemmas.Result.{IfOk-weaker}
 use Rattle.clap.specs.Words.{new_app}
-use Rattle.lset_command.specs.CommandLine.{random_app}
+use Rattle.lset_command.specs.CommandLine.{six_values}
 use Rattle.lset_command.proofs.Commands.{IsApp, IsApp-arg, app_of_fields-same}
 use Rattle.lset_command.proofs.words.random_command.Goals as goal
 
-is_random : (c : goal.After-arg-7) → IfOk c.arg-7.result (λ r. IsApp r (random_app c.args.name.now))
+is_random : (c : goal.After-arg-6) → IfOk c.arg-6.result (λ r. IsApp r (six_values c.args.name.now))
 is_random c =
     let named : IsApp c.new.result (new_app c.args.name.now) = (c.new.ensures.app, c.new.ensures.local) in
     let begun : IsApp c.override_usage.result (new_app c.args.name.now) =
@@ -15,11 +15,10 @@ is_random c =
     let quota = IsApp-arg c.in_ok-arg-3.ensures threads c.value-3.ensures.rule c.value-3.ensures.local in
     let calls = IsApp-arg c.in_ok-arg-4.ensures quota c.value-4.ensures.rule c.value-4.ensures.local in
     let keys = IsApp-arg c.in_ok-arg-5.ensures calls c.value-5.ensures.rule c.value-5.ensures.local in
-    let seed = IsApp-arg c.in_ok-arg-6.ensures keys c.value-6.ensures.rule c.value-6.ensures.local in
-    IfOk-weaker c.arg-7.result _ _ (λ r adds. IsApp-arg adds seed c.values_past_the_last.ensures.rule c.values_past_the_last.ensures.local) c.arg-7.ensures
+    IfOk-weaker c.arg-6.result _ _ (λ r adds. IsApp-arg adds keys c.value-6.ensures.rule c.value-6.ensures.local) c.arg-6.ensures
 
 pub returns-clause-app : goal.returns-clause-app
-returns-clause-app c = IfOk-weaker c.arg-7.result _ _ (λ r is. is.0) (is_random c)
+returns-clause-app c = IfOk-weaker c.arg-6.result _ _ (λ r is. is.0) (is_random c)
 
 pub returns-clause-local : goal.returns-clause-local
-returns-clause-local c = IfOk-weaker c.arg-7.result _ _ (λ r is. is.1) (is_random c)
+returns-clause-local c = IfOk-weaker c.arg-6.result _ _ (λ r is. is.1) (is_random c)

@@ -1,8 +1,9 @@
-use Rattle.std.proofs.Common.{ap, map, refl}
+use Rattle.std.proofs.Common.{◌≡◌, ◌∙◌, Some, None, ap, map, refl}
 use Rattle.std.specs.String.{string_bytes}
+use Rattle.lset_command.specs.CommandLine.{file_by, options_of}
 use Rattle.lset_command.specs.declared.words.Command.TheVariants.{Replay, Check, Show, Trace, Example, Gen, Run, Serve}
 use Rattle.lset_examples.specs.Exampling.{Exampled}
-use Rattle.lset_dispatch.proofs.Endings.{at_command, at_once, with_argument}
+use Rattle.lset_dispatch.proofs.Endings.{at_command, at_once, served, with_argument}
 use Rattle.lset_dispatch.proofs.command.run_command.Goals as goal
 
 pub returns-in-Replay : goal.returns-in-Replay
@@ -34,6 +35,16 @@ pub returns-in-Run : goal.returns-in-Run
 returns-in-Run g c =
     at_command _ _ _ _ _ _ Run _ _ _ _ c.in-Run.is (ap (map string_bytes) c.deref-in-Run.ensures.value) (at_once _ _ _ _ _ _ c.tool_run.ensures)
 
-pub returns-in-Serve : goal.returns-in-Serve
-returns-in-Serve g c =
-    at_command _ _ _ _ _ _ Serve _ _ _ _ c.in-Serve.is (ap (map string_bytes) c.deref-in-Serve.ensures.value) c.tool_serve.ensures
+pub returns-in-Some : goal.returns-in-Some
+returns-in-Some g c =
+    let values = map string_bytes c.args.words.now.values.items in
+    let file : Some c.in-Some.field-0.now ≡ file_by Serve values = c.in-Some.ensures ∙ ap (λ k. file_by k values) c.in-Serve.is in
+    let texts = ap (map string_bytes) c.deref-in-Some.ensures.value in
+    at_command _ _ _ _ _ _ Serve _ values _ _ c.in-Serve.is refl (served _ _ _ _ _ _ _ _ values (options_of c.args.words.now.options) file texts c.tool_serve_with.ensures)
+
+pub returns-in-None : goal.returns-in-None
+returns-in-None g c =
+    let values = map string_bytes c.args.words.now.values.items in
+    let file : None ≡ file_by Serve values = c.in-None.ensures ∙ ap (λ k. file_by k values) c.in-Serve.is in
+    let texts = ap (map string_bytes) c.deref-in-None.ensures.value in
+    at_command _ _ _ _ _ _ Serve _ values _ _ c.in-Serve.is refl (served _ _ _ _ _ _ _ _ values (options_of c.args.words.now.options) file texts c.tool_serve.ensures)

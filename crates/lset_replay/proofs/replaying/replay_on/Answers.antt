@@ -2,10 +2,8 @@ use Rattle.std.proofs.Common.{◌≡◌, ℕ, ◌≤◌, List, Option, length, s
 use Rattle.std.specs.List.{sum_by}
 use Rattle.lset_words.specs.declared.Kind.{Kind}
 use Rattle.lset_words.specs.declared.history.Placed.{Placed}
-use Rattle.lset_words.specs.Words.{Sizes}
 use Rattle.lset_text.specs.declared.words.Version.{Version}
 use Rattle.lset_history.specs.History.{HistoryValue}
-use Rattle.lset_steps.specs.Worlds.{WorldState}
 use Rattle.lset_report.specs.Report.{ReportValue}
 use Rattle.lset_schedule.specs.declared.TheConstants.{MOST_EVENTS}
 use Rattle.lset_schedule.specs.declared.value.Line.{Line}
@@ -29,7 +27,7 @@ few_events n ls lines e few = subst (λ z. z ≤ MOST_EVENTS) (sym (length_of_ev
 pub in_order-requires-clause-few : goal.in_order-requires-clause-few
 in_order-requires-clause-few g c =
     let places : length c.follow_all.new.recorder.places.items ≤ length (events_from c.first_event_line.result c.deref.result.now) =
-    few_places g.M.Machine.table (tells_keys g.M.Machine.table c.has_account.ensures c.listed_content.ensures) c.in_ok-recorder.recorder.history.opening
+    few_places g.M.Machine.table (tells_keys g.M.Machine.table c.has_account.ensures c.listed_content.ensures) c.in_ok-world.recorder.history.opening
     (events_from c.first_event_line.result c.deref.result.now) (length (events_from c.first_event_line.result c.deref.result.now))
     c.follow_all.new.world c.follow_all.new.recorder c.in_ok-follow_all.ensures in
     let few : length (events_from c.first_event_line.result c.deref.result.now) ≤ MOST_EVENTS =
@@ -42,28 +40,27 @@ pub in_order-requires-clause-inside : goal.in_order-requires-clause-inside
 in_order-requires-clause-inside g c =
     stand_upto_later (length (events_from c.first_event_line.result c.deref.result.now)) MOST_EVENTS c.deref-2.result.now
     (subst (λ xs. StandUpTo (length (events_from c.first_event_line.result c.deref.result.now)) xs) (sym c.deref-2.ensures.value)
-    (places_upto g.M.Machine.table (tells_keys g.M.Machine.table c.has_account.ensures c.listed_content.ensures) c.in_ok-recorder.recorder.history.opening
+    (places_upto g.M.Machine.table (tells_keys g.M.Machine.table c.has_account.ensures c.listed_content.ensures) c.in_ok-world.recorder.history.opening
     (events_from c.first_event_line.result c.deref.result.now) (length (events_from c.first_event_line.result c.deref.result.now))
     c.follow_all.new.world c.follow_all.new.recorder c.in_ok-follow_all.ensures))
     (few_events c.first_event_line.result c.deref.result.now c.args.schedule.now.lines.items c.deref.ensures.value c.requires.few)
 
 pub returns-clause-replays : goal.returns-clause-replays
 returns-clause-replays g c =
-    let opens : c.in_ok-recorder.recorder.history.opening ≡ opening_in (view c.args.schedule.now) = c.in_ok-recorder.ensures.opening
-    ∙ ap (λ keys. record { threads = c.args.schedule.now.threads; quota = c.args.schedule.now.quota; keys = keys }) c.new-2.ensures.items in
+    let opens : c.in_ok-world.recorder.history.opening ≡ opening_in (view c.args.schedule.now) = c.in_ok-world.ensures.opening in
     let events : events_from c.first_event_line.result c.deref.result.now ≡ events_of (view c.args.schedule.now) =
     same_events c.first_event_line.result _ c.deref.result.now _ c.first_event_line.ensures c.deref.ensures.value in (
-      replay_is g.M.Machine.table (tells_keys g.M.Machine.table c.has_account.ensures c.listed_content.ensures) (view c.args.schedule.now) c.in_ok-recorder.recorder.history.opening (events_from c.first_event_line.result c.deref.result.now)
+      replay_is g.M.Machine.table (tells_keys g.M.Machine.table c.has_account.ensures c.listed_content.ensures) (view c.args.schedule.now) c.in_ok-world.recorder.history.opening (events_from c.first_event_line.result c.deref.result.now)
           c.follow_all.new.world c.follow_all.new.recorder c.in_ok-ordered.ordered.order.items c.in_ok-keys.keys.items
           c.in_ok-follow_all.ensures opens events
           (c.in_ok-ordered.ensures.order (length (events_from c.first_event_line.result c.deref.result.now))
           (subst (λ xs. StandUpTo (length (events_from c.first_event_line.result c.deref.result.now)) xs) (sym c.deref-2.ensures.value)
-          (places_upto g.M.Machine.table (tells_keys g.M.Machine.table c.has_account.ensures c.listed_content.ensures) c.in_ok-recorder.recorder.history.opening
+          (places_upto g.M.Machine.table (tells_keys g.M.Machine.table c.has_account.ensures c.listed_content.ensures) c.in_ok-world.recorder.history.opening
           (events_from c.first_event_line.result c.deref.result.now) (length (events_from c.first_event_line.result c.deref.result.now))
           c.follow_all.new.world c.follow_all.new.recorder c.in_ok-follow_all.ensures))
           ∙ ap (λ xs. blocks_upto xs (length (events_from c.first_event_line.result c.deref.result.now))) c.deref-2.ensures.value)
           c.in_ok-keys.ensures,
-      points_are_of g.M.Machine.table (tells_keys g.M.Machine.table c.has_account.ensures c.listed_content.ensures) (view c.args.schedule.now) c.in_ok-recorder.recorder.history.opening (events_from c.first_event_line.result c.deref.result.now)
+      points_are_of g.M.Machine.table (tells_keys g.M.Machine.table c.has_account.ensures c.listed_content.ensures) (view c.args.schedule.now) c.in_ok-world.recorder.history.opening (events_from c.first_event_line.result c.deref.result.now)
           c.follow_all.new.world c.follow_all.new.recorder c.in_ok-ordered.ordered.order.items
           c.in_ok-ordered.ordered.points.items c.in_ok-follow_all.ensures opens events
           (subst (λ ps. ArePointsAt ps c.in_ok-ordered.ordered.order.items c.in_ok-ordered.ordered.points.items)

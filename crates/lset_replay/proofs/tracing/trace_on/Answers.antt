@@ -1,6 +1,4 @@
-use Rattle.std.proofs.Common.{rules, refl, ap, ◌∙◌}
-use Rattle.lset_words.specs.Words.{Sizes}
-use Rattle.lset_steps.specs.Worlds.{WorldState}
+use Rattle.std.proofs.Common.{rules, refl, ◌∙◌}
 use Rattle.lset_schedule.specs.Plan.{view}
 use Rattle.lset_replay.specs.Events.{events_from}
 use Rattle.lset_replay.specs.Follows.{HasFollowed}
@@ -10,17 +8,16 @@ use Rattle.lset_replay.proofs.tracing.trace_on.Goals as goal
 
 pub trace_lines-requires-clause-start : goal.trace_lines-requires-clause-start
 trace_lines-requires-clause-start g c =
-    let followed : HasFollowed g.M.Machine.table c.in_ok-recorder.recorder.history.opening
-    (events_from c.first_event_line.result c.deref.result.now) 0 c.in_ok-world.world c.in_ok-recorder.recorder = search rules in
-    traced_none g.M.Machine.table c.in_ok-recorder.recorder.history.opening (events_from c.first_event_line.result c.deref.result.now)
-    c.args.chains c.in_ok-world.world c.in_ok-recorder.recorder c.in_ok-kept.kept.items c.new-events.result.items
+    let followed : HasFollowed g.M.Machine.table c.in_ok-world.recorder.history.opening
+    (events_from c.first_event_line.result c.deref.result.now) 0 c.in_ok-world.world c.in_ok-world.recorder = search rules in
+    traced_none g.M.Machine.table c.in_ok-world.recorder.history.opening (events_from c.first_event_line.result c.deref.result.now)
+    c.args.chains c.in_ok-world.world c.in_ok-world.recorder c.in_ok-kept.kept.items c.new-events.result.items
     followed c.new-events.ensures.items c.in_ok-kept.ensures.keys
 
 pub returns : goal.returns
 returns g c =
-    trace_is g.M.Machine.table (view c.args.schedule.now) c.args.chains c.in_ok-recorder.recorder.history.opening
+    trace_is g.M.Machine.table (view c.args.schedule.now) c.args.chains c.in_ok-world.recorder.history.opening
     (events_from c.first_event_line.result c.deref.result.now) _
-    (c.in_ok-recorder.ensures.opening
-    ∙ ap (λ keys. record { threads = c.args.schedule.now.threads; quota = c.args.schedule.now.quota; keys = keys }) c.new-2.ensures.items)
+    c.in_ok-world.ensures.opening
     (same_events c.first_event_line.result _ c.deref.result.now _ c.first_event_line.ensures c.deref.ensures.value)
-    refl refl refl c.in_ok-refused.ensures
+    refl refl refl (c.in_ok-to_vec.ensures.items_if_clones_equal (λ x y e. e) ∙ c.deref-2.ensures.value) c.in_ok-refused.ensures

@@ -8,7 +8,7 @@ pub returns-in_ok-text-in-Ok-serve-clause-made : goal.returns-in_ok-text-in-Ok-s
 returns-in_ok-text-in-Ok-serve-clause-made g c = (
   c.in-Ok-serve.served.calls,
   c.in-Ok-serve.served.keys.items,
-  served_new c.in-Ok.set _ _ c.in-Ok.seats.items _ _ c.in-Ok.ensures.opened c.in-Ok-serve.ensures.served,
+  served_new c.in-Ok.opened.0 _ c.in-Ok.opened.1.items _ _ c.in-Ok.ensures.opened c.in-Ok-serve.ensures.served,
   search rules,
 )
 
@@ -17,10 +17,10 @@ returns-in_err-text-in-Ok-serve-clause-first g c =
     after_memory c.port.result (g.W.Write.contents c.args.output.now) (g.W.Write.contents c.announce.new.output)
     c.from_residual-in_err-text-in-Ok-serve.result c.from_residual-in_err-text-in-Ok-serve.ensures.1 c.in_ok-announce.ensures.whole
 
-pub returns-in-Err-clause-first : goal.returns-in-Err-clause-first
-returns-in-Err-clause-first g c = (
+pub returns-in-Err-serve-clause-first : goal.returns-in-Err-serve-clause-first
+returns-in-Err-serve-clause-first g c = (
   c.port.result,
   subst (λ t. EndsServer t (first_line c.port.result) (g.W.Write.contents c.args.output.now) (g.W.Write.contents c.announce.new.output))
       (sym c.trouble_of.ensures)
-      (ends_after c.in-Err.fault.cause (first_line c.port.result) _ _ c.in_ok-announce.ensures.whole),
+      (ends_after c.in-Err-serve.fault.cause (first_line c.port.result) _ _ c.in_ok-announce.ensures.whole),
 )

@@ -1,0 +1,34 @@
+//! How the run of a schedule starts.
+ghost use Rattle.std.specs.Prelude.{◌≡◌, IfOk};
+ghost use Rattle.lset_words.specs.Words.{Opens, sizes};
+ghost use Rattle.lset_schedule.specs.Plan.{opening_in, view};
+ghost use Rattle.lset_steps.specs.Steps.{opening};
+ghost use Rattle.lset_replay.specs.Trace.{no_trace, trace_of};
+
+use crate::recorder::Recorder;
+use lset_schedule::Schedule;
+use lset_steps::{Machine, World};
+use lset_words::layout_opening;
+use std::alloc::{AllocError, Global};
+
+/// The world and the recorder before any event of a schedule.
+pub fn start_of<M: Machine>(
+    alloc: Global,
+    schedule: &Schedule,
+) -> Result<(World<M>, Recorder), AllocError>
+    requires { Opens (opening_in (view schedule.now)) }
+    ensures world { IfOk result (λ r. r.0 ≡ record {
+      sizes = sizes (opening_in (view schedule.now));
+      state = opening (opening_in (view schedule.now));
+    }) }
+    ensures trace { IfOk result (λ r. trace_of r.1 ≡ no_trace r.1.history.opening) }
+    ensures opening { IfOk result (λ r. r.1.history.opening ≡ opening_in (view schedule.now)) }
+{
+    let keys = schedule.opening.as_slice();
+    let Ok(layout) = layout_opening(schedule.threads, schedule.quota, keys.len() as u32) else {
+        unreachable!();
+    };
+    let world = World::<M>::opened(alloc, layout, keys)?;
+    let recorder = Recorder::new(alloc, schedule.threads, schedule.quota, keys.to_vec(alloc)?)?;
+    Ok((world, recorder))
+}

@@ -1,0 +1,64 @@
+-- Lines of opening keys, and keys that rise strictly.
+use Rattle.std.proofs.Common.{◌≡◌, ℕ, zero, suc, ◌+◌, ◌-◌, ◌<◌, ◌^◌, ◌⊎◌, inl, inr, true, List, [], ◌∷◌, ◌++◌, length, length-append, get_or}
+use Rattle.std.proofs.Common.{refl, sym, ap, subst, ◌∙◌, arith, codes}
+use Rattle.std.specs.Prelude.{nat_lt}
+use Rattle.std.specs.List.{AllByRecursion}
+use Rattle.std.specs.List.Sorted.{IsStrictlyIncreasing}
+use Rattle.std.proofs.lemmas.Bool.{ltb-true, lt-ltb}
+use Rattle.std.proofs.lemmas.List.{get_or_push, get_or_append_left, length_push}
+use Rattle.std.proofs.lemmas.Option.{slice_get-get_or}
+use Rattle.lset_text.specs.Parts.{Lacks}
+use Rattle.lset_text.specs.Openings.{opening_line, opening_lines, above_last, is_above}
+use Rattle.lset_text.proofs.PartLaws.{Lacks-from_test}
+use Rattle.lset_text.proofs.HeaderLaws.{number_line_lacks}
+
+-- no line of an opening key has a newline in it
+pub opening_lacks : (key : ℕ) → key < 2 ^ 32 → Lacks 10 (opening_line key)
+opening_lacks key low = number_line_lacks (codes "opening") key (Lacks-from_test 10 (codes "opening") refl) (omega (arith, low))
+
+pub openings_lack : (keys : List ℕ) → AllByRecursion (λ k. k < 2 ^ 32) keys → AllByRecursion (Lacks 10) (opening_lines keys)
+openings_lack [] low = tt
+openings_lack (k ∷ ks) low = (opening_lacks k low.0, openings_lack ks low.1)
+
+-- a key above the last of keys that rise goes on with them
+some_last : (keys : List ℕ) (key : ℕ) → 0 < length keys → is_above keys key ≡ nat_lt (get_or keys (length keys - 1) 0) key
+some_last keys key some = ap (λ o. above_last o key) (slice_get-get_or keys (length keys - 1) 0 (omega (arith, some)))
+
+pub rises_more : (keys : List ℕ) (key : ℕ) → IsStrictlyIncreasing keys → is_above keys key ≡ true
+    → IsStrictlyIncreasing (keys ++ key ∷ [])
+rises_more keys key rising above k below =
+    let long : length (keys ++ key ∷ []) ≡ length keys + 1 = length_push keys key in
+    elim (last_or_before k (length keys) (omega arith)) [
+      | inl e ↦ (let a : get_or (keys ++ key ∷ []) (k + 1) 0 ≡ key = get_or_push keys key 0 (k + 1) (sym e) in
+          let b : get_or (keys ++ key ∷ []) k 0 ≡ get_or keys k 0 = get_or_append_left keys (key ∷ []) 0 k (omega arith) in
+          let at : length keys - 1 ≡ k = omega arith in
+          let c : get_or keys (length keys - 1) 0 < key = ltb-true _ _ (sym (some_last keys key (omega arith)) ∙ above) in
+          let d : get_or keys k 0 < key = subst (λ n. get_or keys n 0 < key) at c in
+          omega arith)
+      | inr l ↦ (let a : get_or (keys ++ key ∷ []) (k + 1) 0 ≡ get_or keys (k + 1) 0 = get_or_append_left keys (key ∷ []) 0 (k + 1) l in
+          let b : get_or (keys ++ key ∷ []) k 0 ≡ get_or keys k 0 = get_or_append_left keys (key ∷ []) 0 k (omega arith) in
+          let c : get_or keys k 0 < get_or keys (k + 1) 0 = rising k l in
+          omega arith)
+    ]
+  where
+    last_or_before : (k n : ℕ) → k + 1 < n + 1 → (k + 1 ≡ n) ⊎ (k + 1 < n)
+    last_or_before k n l = grind arith
+
+-- in keys that rise, each lies above those before it
+pub above_before : (keys : List ℕ) (key : ℕ) (more : List ℕ) → IsStrictlyIncreasing (keys ++ key ∷ more) → is_above keys key ≡ true
+above_before [] key more rising = refl
+above_before (x ∷ xs) key more rising =
+    let keys : List ℕ = x ∷ xs in
+    let k = length keys - 1 in
+    let a : get_or (keys ++ key ∷ more) k 0 ≡ get_or keys k 0 = get_or_append_left keys (key ∷ more) 0 k (omega arith) in
+    let b : get_or (keys ++ key ∷ more) (k + 1) 0 ≡ key = get_or_at keys key more (k + 1) (omega arith) in
+    let c : get_or (keys ++ key ∷ more) k 0 < get_or (keys ++ key ∷ more) (k + 1) 0 = rising k (longer keys key more k (omega arith)) in
+    some_last keys key (omega arith) ∙ lt-ltb _ _ (omega (arith, a, b, c))
+  where
+    get_or_at : (xs : List ℕ) (y : ℕ) (ys : List ℕ) (n : ℕ) → n ≡ length xs → get_or (xs ++ y ∷ ys) n 0 ≡ y
+    get_or_at [] y ys n e = rw e refl
+    get_or_at (x ∷ xs) y ys zero e = absurd (omega arith)
+    get_or_at (x ∷ xs) y ys (suc n) e = get_or_at xs y ys n (omega arith)
+
+    longer : (xs : List ℕ) (y : ℕ) (ys : List ℕ) (n : ℕ) → n + 1 ≡ length xs → n + 1 < length (xs ++ y ∷ ys)
+    longer xs y ys n e = grind (arith, length-append xs (y ∷ ys))

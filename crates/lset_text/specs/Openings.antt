@@ -1,0 +1,24 @@
+-- The lines `opening K` that stand behind the header of a text of the second version: the keys with which its set opens.
+use Rattle.std.specs.Prelude.{◌≡◌, ℕ, ◌-◌, nat_lt, Bool, true, List, [], length, map, codes, Option, Some, None, slice_get}
+use Rattle.lset_text.specs.declared.words.Version.{Version}
+use Rattle.lset_text.specs.declared.words.Version.TheVariants.{One, Two}
+use Rattle.lset_text.specs.Headers.{number_line}
+
+abbrev pub opening_line : ℕ → List ℕ
+opening_line key = number_line (codes "opening") key
+
+abbrev pub opening_lines : List ℕ → List (List ℕ)
+opening_lines keys = map opening_line keys
+
+-- A text of the first version has none.
+abbrev pub HasOpening : Version → List ℕ → Type 0
+HasOpening One keys = keys ≡ []
+HasOpening Two keys = Unit {0}
+
+abbrev pub above_last : Option ℕ → ℕ → Bool
+above_last None key = true
+above_last (Some last) key = nat_lt last key
+
+-- a key lies above the last of some keys
+abbrev pub is_above : List ℕ → ℕ → Bool
+is_above keys key = above_last (slice_get keys (length keys - 1)) key

@@ -1,0 +1,34 @@
+ghost use Rattle.std.specs.Prelude.{◌≡◌, ◌++◌, OnOk, string_bytes};
+ghost use Rattle.lset_text.specs.Parts.{ended, text_of};
+ghost use Rattle.lset_text.specs.Openings.{is_above, opening_line, opening_lines};
+
+use std::alloc::AllocError;
+
+/// Whether a key lies above the last of these keys, and so may be the next of keys that rise strictly. It does where there
+/// are none.
+pub fn is_above(keys: &[u32], key: u32) -> bool
+    ensures { result ≡ is_above keys.now key }
+{
+    match keys.last() {
+        Some(last) => *last < key,
+        None => true,
+    }
+}
+
+fn put_opening(out: &mut String, key: u32) -> Result<(), AllocError>
+    ensures { OnOk result (string_bytes out.new ≡ string_bytes out.old ++ ended (opening_line key)) }
+{
+    writeln!(out, "opening {key}")?;
+    Ok(())
+}
+
+/// Writes the line of each opening key, `opening K`, at the end of `out`. The only error is want of memory. (This
+/// project's own format.)
+pub fn put_openings(out: &mut String, keys: &[u32]) -> Result<(), AllocError>
+    ensures { OnOk result (string_bytes out.new ≡ string_bytes out.old ++ text_of (opening_lines keys.now)) }
+{
+    for key in keys {
+        put_opening(out, *key)?;
+    }
+    Ok(())
+}
