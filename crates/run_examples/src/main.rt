@@ -1,7 +1,10 @@
 //! Runs the examples, as a program over the library would. Of each file of the folder that it runs in, by name: `NAME.schedule`
 //! is replayed and its report compared with `NAME.report`; the order of `NAME.report` is checked against its calls and keys. Then
-//! the files of the classic interleavings are compared with the texts that `lset_examples` has.
+//! the files of the classic interleavings are compared with the texts that `lset_examples` has; and last a set is run, closed, and
+//! opened again with its keys, as another list.
 #![tactic(auto)]
+
+mod lives;
 
 ghost use Rattle.std.specs.Prelude.{◌≡◌, length, IfOk};
 ghost use Rattle.lset_history.specs.Faults.{Explains};
@@ -10,6 +13,7 @@ ghost use Rattle.lset_report.specs.Report.{ReportValue};
 ghost use Rattle.lset_replay.specs.Reports.{IsExplained};
 ghost use Rattle.lset_report.specs.Texts.{report_text};
 
+use lives::two_lives;
 use lset_examples::{ALL, Example};
 use lset_history::{OrderFault, check_order};
 use lset_replay::{ReplayFault, replay};
@@ -130,5 +134,11 @@ fn main(rt: HostRuntime) -> io::Result<()> {
     for example in ALL {
         compare_example(&rt, example)?;
     }
-    Ok(())
+    // The runtime starts threads only where `main` itself passes it on.
+    match two_lives(&rt, rt.alloc()) {
+        Ok((left, again)) => println!(rt;
+            "a LazyList leaves {left:?}; opened with these, a LockFreeList leaves {again:?}"
+        ),
+        Err(unlived) => println!(rt; "no two lives: {unlived}"),
+    }
 }
