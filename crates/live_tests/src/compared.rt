@@ -2,15 +2,18 @@ ghost use Rattle.std.specs.Prelude.{◌≡◌};
 
 use crate::opened::last_seat;
 use crate::pauses::Count;
+use lset_coarse::CoarseList;
+use lset_fine::FineList;
 use lset_lazy::LazyList;
 use lset_live::{LiveSet, Running, RunningReads, Seat, open};
 use lset_lock_free::LockFreeList;
+use lset_optimistic::OptimisticList;
 use lset_words::{Call, Key, Reply};
 use std::alloc::Global;
 use std::process::Abort;
 use std::sync::Wait;
 use std::test::Fail;
-use stepped_lists::{SteppedLazyList, SteppedLockFreeList};
+use stepped_lists::Stepped;
 
 /// The call number `i` of a program over 12 keys.
 fn call_of(i: u32) -> Call {
@@ -18,10 +21,11 @@ fn call_of(i: u32) -> Call {
         .wrapping_mul(6_364_136_223_846_793_005)
         .wrapping_add(1_442_695_040_888_963_407);
     let key = Key(((mixed >> 33) % 12) as u32);
-    match (mixed >> 21) % 3 {
+    match (mixed >> 21) % 4 {
         0 => Call::Add(key),
         1 => Call::Remove(key),
-        _ => Call::Contains(key),
+        2 => Call::Contains(key),
+        _ => Call::Ceiling(key),
     }
 }
 
@@ -44,8 +48,41 @@ fn replies<M: Running, R: Wait>(
     Ok(told)
 }
 
+type Ran = (Vec<(Reply, u64)>, Vec<u32>);
+
+/// The program on one seat with room for so many adds: the replies with their steps, and the closing keys.
+fn ran<M: Running, R: Wait>(rt: &R, alloc: Global, quota: u32) -> Result<Ran, Fail> {
+    let (set, mut seats) = open::<M>(alloc, 1, quota)?;
+    let mut seat = last_seat(&set, &mut seats)?;
+    let told = replies(rt, alloc, &set, &mut seat)?;
+    match set.close(seat) {
+        Ok(closed) => Ok((told, closed.keys()?)),
+        Err(_) => Err(Fail::new("a seat is out")),
+    }
+}
+
+/// The list and its table alone, with room for all adds and with room for few.
+fn runs_by_its_table<M: Running, R: Wait + Abort>(rt: &R, alloc: Global) -> Result<(), Fail> {
+    for quota in [100u32, 8] {
+        let (told, keys) = ran::<M, R>(rt, alloc, quota)?;
+        let (told_by_steps, keys_by_steps) = ran::<Stepped<M>, R>(rt, alloc, quota)?;
+        assert_eq!(rt; told, told_by_steps);
+        assert_eq!(rt; keys, keys_by_steps);
+    }
+    Ok(())
+}
+
+#[test]
+fn each_list_makes_the_steps_of_its_table(rt: HostRuntime) -> Result<(), Fail> {
+    runs_by_its_table::<CoarseList, HostRuntime>(&rt, rt.alloc())?;
+    runs_by_its_table::<FineList, HostRuntime>(&rt, rt.alloc())?;
+    runs_by_its_table::<OptimisticList, HostRuntime>(&rt, rt.alloc())?;
+    runs_by_its_table::<LazyList, HostRuntime>(&rt, rt.alloc())?;
+    runs_by_its_table::<LockFreeList, HostRuntime>(&rt, rt.alloc())
+}
+
 /// Which of 12 keys a read that waits for nobody finds.
-fn found_now<M: RunningReads>(
+fn keys_found<M: RunningReads>(
     alloc: Global,
     set: &LiveSet<M>,
     seat: &mut Seat<M>,
@@ -60,39 +97,23 @@ fn found_now<M: RunningReads>(
     Ok(found)
 }
 
-type Ran = (Vec<(Reply, u64)>, Vec<bool>, Vec<u32>);
-
-/// The program on one seat with room for 100 adds: the replies with their steps, the keys that are found, and the closing
-/// keys.
-fn ran<M: RunningReads, R: Wait>(rt: &R, alloc: Global) -> Result<Ran, Fail> {
+/// The same once the program has run.
+fn found_now<M: RunningReads, R: Wait>(rt: &R, alloc: Global) -> Result<Vec<bool>, Fail> {
     let (set, mut seats) = open::<M>(alloc, 1, 100)?;
     let mut seat = last_seat(&set, &mut seats)?;
-    let told = replies(rt, alloc, &set, &mut seat)?;
-    let found = found_now(alloc, &set, &mut seat)?;
-    match set.close(seat) {
-        Ok(closed) => Ok((told, found, closed.keys()?)),
-        Err(_) => Err(Fail::new("a seat is out")),
-    }
+    replies(rt, alloc, &set, &mut seat)?;
+    keys_found(alloc, &set, &mut seat)
 }
 
-fn runs_alike<M: RunningReads, S: RunningReads, R: Wait + Abort>(
-    rt: &R,
-    alloc: Global,
-) -> Result<(), Fail> {
-    let (told, found, keys) = ran::<M, R>(rt, alloc)?;
-    let (told_by_steps, found_by_steps, keys_by_steps) = ran::<S, R>(rt, alloc)?;
-    assert_eq!(rt; told, told_by_steps);
+fn reads_by_its_table<M: RunningReads, R: Wait + Abort>(rt: &R, alloc: Global) -> Result<(), Fail> {
+    let found = found_now::<M, R>(rt, alloc)?;
+    let found_by_steps = found_now::<Stepped<M>, R>(rt, alloc)?;
     assert_eq!(rt; found, found_by_steps);
-    assert_eq!(rt; keys, keys_by_steps);
     Ok(())
 }
 
 #[test]
-fn the_loops_of_lock_free_list_make_the_steps_of_its_table(rt: HostRuntime) -> Result<(), Fail> {
-    runs_alike::<LockFreeList, SteppedLockFreeList, HostRuntime>(&rt, rt.alloc())
-}
-
-#[test]
-fn the_loop_of_lazy_list_makes_the_steps_of_its_table(rt: HostRuntime) -> Result<(), Fail> {
-    runs_alike::<LazyList, SteppedLazyList, HostRuntime>(&rt, rt.alloc())
+fn each_read_finds_what_its_table_finds(rt: HostRuntime) -> Result<(), Fail> {
+    reads_by_its_table::<LazyList, HostRuntime>(&rt, rt.alloc())?;
+    reads_by_its_table::<LockFreeList, HostRuntime>(&rt, rt.alloc())
 }

@@ -12,7 +12,7 @@ use std::cell::Cell;
 use std::process::Abort;
 use std::sync::Wait;
 use std::test::Fail;
-use stepped_lists::{SteppedLazyList, SteppedLockFreeList};
+use stepped_lists::Stepped;
 
 /// Counts the steps that do not answer, and those of them that are told of another thread or as failed.
 #[derive(Drop)]
@@ -54,14 +54,18 @@ fn asks<M: Running, R: Wait + Abort>(rt: &R, alloc: Global, pauses: u64) -> Resu
     Ok(())
 }
 
+/// So does the same add by the interpreter.
+fn both_ask<M: Running, R: Wait + Abort>(rt: &R, alloc: Global, pauses: u64) -> Result<(), Fail> {
+    asks::<M, R>(rt, alloc, pauses)?;
+    asks::<Stepped<M>, R>(rt, alloc, pauses)
+}
+
 /// The steps of `docs/TABLES.md`, less the one that answers.
 #[test]
 fn a_pause_is_asked_after_each_step_but_the_last(rt: HostRuntime) -> Result<(), Fail> {
-    asks::<CoarseList, HostRuntime>(&rt, rt.alloc(), 6)?;
-    asks::<FineList, HostRuntime>(&rt, rt.alloc(), 8)?;
-    asks::<OptimisticList, HostRuntime>(&rt, rt.alloc(), 9)?;
-    asks::<LazyList, HostRuntime>(&rt, rt.alloc(), 10)?;
-    asks::<LockFreeList, HostRuntime>(&rt, rt.alloc(), 5)?;
-    asks::<SteppedLazyList, HostRuntime>(&rt, rt.alloc(), 10)?;
-    asks::<SteppedLockFreeList, HostRuntime>(&rt, rt.alloc(), 5)
+    both_ask::<CoarseList, HostRuntime>(&rt, rt.alloc(), 6)?;
+    both_ask::<FineList, HostRuntime>(&rt, rt.alloc(), 8)?;
+    both_ask::<OptimisticList, HostRuntime>(&rt, rt.alloc(), 9)?;
+    both_ask::<LazyList, HostRuntime>(&rt, rt.alloc(), 10)?;
+    both_ask::<LockFreeList, HostRuntime>(&rt, rt.alloc(), 5)
 }

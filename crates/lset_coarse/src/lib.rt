@@ -27,6 +27,7 @@ const TARGETS: Targets = Targets {
     leaves: 10,
 };
 
+#[inline(always)]
 fn next_action(local: &Local) -> Action
     requires { IsSmall local.now }
     ensures { result ≡ next_action local.now }
@@ -45,6 +46,7 @@ fn next_action(local: &Local) -> Action
 }
 
 /// Walks on where the key word is below that of the call, and else decides.
+#[inline(always)]
 fn at_key(local: &Local, seen: u64) -> Local
     ensures { result ≡ at_key seen local.now }
 {
@@ -66,6 +68,7 @@ fn at_key(local: &Local, seen: u64) -> Local
     }
 }
 
+#[inline(always)]
 fn local_after(local: &Local, seen: u64) -> Local
     requires { IsSmall local.now }
     ensures { result ≡ local_after local.now seen }
@@ -115,14 +118,17 @@ impl Machine for CoarseList {
 
     ghost table = { coarse };
 
+    #[inline(always)]
     fn begin(call: Call, local: &Local) -> Local {
         begun(1, call, local)
     }
 
+    #[inline(always)]
     fn next(local: &Local) -> Action {
         next_action(local)
     }
 
+    #[inline(always)]
     fn feed(local: &Local, seen: u64) -> Fed {
         let answer = if local.pc == 10 { local.reply } else { None };
         Fed {
@@ -131,6 +137,7 @@ impl Machine for CoarseList {
         }
     }
 
+    #[inline(always)]
     fn effect(local: &Local, _seen: u64) -> Option<(Key, bool)> {
         match local.pc {
             7 => Some((local.call.key(), true)),

@@ -27,6 +27,7 @@ const TARGETS: Targets = Targets {
     leaves: 12,
 };
 
+#[inline(always)]
 fn next_action(local: &Local) -> Action
     requires { IsSmall local.now }
     ensures { result ≡ next_action local.now }
@@ -47,6 +48,7 @@ fn next_action(local: &Local) -> Action
 }
 
 /// Walks on where the key word is below that of the call, and else decides.
+#[inline(always)]
 fn at_key(local: &Local, seen: u64) -> Local
     ensures { result ≡ at_key seen local.now }
 {
@@ -61,6 +63,7 @@ fn at_key(local: &Local, seen: u64) -> Local
     }
 }
 
+#[inline(always)]
 fn local_after(local: &Local, seen: u64) -> Local
     requires { IsSmall local.now }
     ensures { result ≡ local_after local.now seen }
@@ -117,14 +120,17 @@ impl Machine for FineList {
 
     ghost table = { fine };
 
+    #[inline(always)]
     fn begin(call: Call, local: &Local) -> Local {
         begun(1, call, local)
     }
 
+    #[inline(always)]
     fn next(local: &Local) -> Action {
         next_action(local)
     }
 
+    #[inline(always)]
     fn feed(local: &Local, seen: u64) -> Fed {
         let answer = if local.pc == 13 { local.reply } else { None };
         Fed {
@@ -133,6 +139,7 @@ impl Machine for FineList {
         }
     }
 
+    #[inline(always)]
     fn effect(local: &Local, _seen: u64) -> Option<(Key, bool)> {
         match local.pc {
             9 => Some((local.call.key(), true)),

@@ -30,6 +30,7 @@ const TARGETS: Targets = Targets {
     leaves: 13,
 };
 
+#[inline(always)]
 fn next_action(local: &Local) -> Action
     requires { IsSmall local.now }
     ensures { result ≡ next_action local.now }
@@ -53,6 +54,7 @@ fn next_action(local: &Local) -> Action
 }
 
 /// The walk comes from the node `pred` to the node behind it, whose key is looked at next.
+#[inline(always)]
 fn walked_from(pred: u64, local: &Local, seen: u64) -> Local
     ensures { result ≡ record local.now { pc = 2; pred = pred; curr = seen / 2 } }
 {
@@ -65,6 +67,7 @@ fn walked_from(pred: u64, local: &Local, seen: u64) -> Local
 }
 
 /// Walks on where the key word is below that of the call, and else locks both nodes.
+#[inline(always)]
 fn at_key(local: &Local, seen: u64) -> Local
     ensures { result ≡ at_key seen local.now }
 {
@@ -77,6 +80,7 @@ fn at_key(local: &Local, seen: u64) -> Local
 }
 
 /// Both nodes are given up, and the walk starts again.
+#[inline(always)]
 fn gives_up(local: &Local) -> Local
     ensures { result ≡ gives_up local.now }
 {
@@ -88,6 +92,7 @@ fn gives_up(local: &Local) -> Local
 }
 
 /// The link of `pred` leads to `curr`, and has no mark.
+#[inline(always)]
 fn at_pred(local: &Local, seen: u64) -> Local
     requires { IsSmall local.now }
     ensures { result ≡ at_pred seen local.now }
@@ -100,6 +105,7 @@ fn at_pred(local: &Local, seen: u64) -> Local
 }
 
 /// Decides where `curr` has no mark.
+#[inline(always)]
 fn at_curr(local: &Local, seen: u64) -> Local
     ensures { result ≡ at_curr seen local.now }
 {
@@ -115,6 +121,7 @@ fn at_curr(local: &Local, seen: u64) -> Local
 }
 
 /// The call has done its work: it gives its locks back and answers True.
+#[inline(always)]
 fn succeeds(local: Local) -> Local
     ensures { result ≡ record local { pc = 13; reply = Some True } }
 {
@@ -126,6 +133,7 @@ fn succeeds(local: Local) -> Local
 }
 
 /// With the last lock given back the call answers, or walks again.
+#[inline(always)]
 fn released(local: &Local) -> Fed
     ensures { result ≡ released local.now.reply local.now }
 {
@@ -135,6 +143,7 @@ fn released(local: &Local) -> Fed
     }
 }
 
+#[inline(always)]
 fn fed_by(local: &Local, seen: u64) -> Fed
     requires { IsSmall local.now }
     ensures { result ≡ fed_by local.now seen }
@@ -171,18 +180,22 @@ impl Machine for LazyList {
 
     ghost table = { lazy };
 
+    #[inline(always)]
     fn begin(call: Call, local: &Local) -> Local {
         begun_reading(call, local)
     }
 
+    #[inline(always)]
     fn next(local: &Local) -> Action {
         next_action(local)
     }
 
+    #[inline(always)]
     fn feed(local: &Local, seen: u64) -> Fed {
         fed_by(local, seen)
     }
 
+    #[inline(always)]
     fn effect(local: &Local, _seen: u64) -> Option<(Key, bool)> {
         match local.pc {
             10 => Some((local.call.key(), true)),

@@ -1,4 +1,5 @@
-//! One function for each call, over table, seat and pause. The default bodies are the interpreter.
+//! One function for each call, over table, seat and pause, and one for a call of any kind. The default bodies are the
+//! interpreter.
 ghost use Rattle.lset_words.specs.declared.Call.TheVariants.{Add, Remove, Contains, Ceiling};
 ghost use Rattle.lset_rule.specs.Seats.{HasCalled, MayCall};
 
@@ -17,7 +18,7 @@ use std::sync::Wait;
 /// A list that has its rows (`Machine`) meets this trait with no body: `impl Running for MyList {}`. The default bodies
 /// are the interpreter (`lset_rule::walk`): it takes the row from `next`, makes this one step on the table, feeds what was
 /// seen, and asks `pause` after each step that does not answer. A list may have bodies of its own, loops over the steps
-/// of `lset_rule`, under the same contract. It asks that a call may be made from the place (`MayCall`): that it is a seat
+/// of `lset_rule`, under the same contract: one for all of its calls (`make_on`), or one for a kind of call. It asks that a call may be made from the place (`MayCall`): that it is a seat
 /// of the table, with no call under way, and that the slots are those in its view. It owes that the call was made
 /// (`HasCalled`): the place is still that of the same seat and table, the slots given back are those in its view, the call
 /// began after all that the seat had seen, its last step answered, and the record grew by just this call (`Makes`).
@@ -25,6 +26,21 @@ use std::sync::Wait;
 /// Of each function: `rt` is what a call waits by, `table` are the words, `place` is the seat's place among their views,
 /// `slots` are those of its thread, which has no call under way, and `key` is any key.
 pub trait Running: Machine {
+    /// Makes a call of any kind. The four functions below make theirs by it, where a list has no other body for them.
+    fn make_on<R: Wait, P: Pause>(
+        rt: &R,
+        table: &Words<Self>,
+        place: &mut Place,
+        slots: Slots,
+        call: Call,
+        pause: &P,
+    ) -> (Slots, Reply)
+        requires { MayCall Self.table table.now.table_id table.now.key slots place.old }
+        ensures { HasCalled Self.table call place.old result place.new }
+    {
+        walk::<Self, R, P>(rt, table, place, slots, call, pause)
+    }
+
     /// Makes an `add`: the key goes in where it is not there.
     fn add_on<R: Wait, P: Pause>(
         rt: &R,
@@ -37,7 +53,7 @@ pub trait Running: Machine {
         requires { MayCall Self.table table.now.table_id table.now.key slots place.old }
         ensures { HasCalled Self.table (Add key) place.old result place.new }
     {
-        walk::<Self, R, P>(rt, table, place, slots, Call::Add(key), pause)
+        Self::make_on::<R, P>(rt, table, place, slots, Call::Add(key), pause)
     }
 
     /// Makes a `remove`: the key goes out where it is there.
@@ -52,7 +68,7 @@ pub trait Running: Machine {
         requires { MayCall Self.table table.now.table_id table.now.key slots place.old }
         ensures { HasCalled Self.table (Remove key) place.old result place.new }
     {
-        walk::<Self, R, P>(rt, table, place, slots, Call::Remove(key), pause)
+        Self::make_on::<R, P>(rt, table, place, slots, Call::Remove(key), pause)
     }
 
     /// Makes a `contains`: whether the key is there. It may wait where the list's own `contains` does.
@@ -67,7 +83,7 @@ pub trait Running: Machine {
         requires { MayCall Self.table table.now.table_id table.now.key slots place.old }
         ensures { HasCalled Self.table (Contains key) place.old result place.new }
     {
-        walk::<Self, R, P>(rt, table, place, slots, Call::Contains(key), pause)
+        Self::make_on::<R, P>(rt, table, place, slots, Call::Contains(key), pause)
     }
 
     /// Makes a `ceiling`: the least key at or above this one, or that there is none.
@@ -82,7 +98,7 @@ pub trait Running: Machine {
         requires { MayCall Self.table table.now.table_id table.now.key slots place.old }
         ensures { HasCalled Self.table (Ceiling key) place.old result place.new }
     {
-        walk::<Self, R, P>(rt, table, place, slots, Call::Ceiling(key), pause)
+        Self::make_on::<R, P>(rt, table, place, slots, Call::Ceiling(key), pause)
     }
 }
 
@@ -106,13 +122,68 @@ pub(crate) fn call_on<M: Running, R: Wait, P: Pause>(
     }
 }
 
-impl Running for CoarseList {}
+impl Running for CoarseList {
+    fn make_on<R: Wait, P: Pause>(
+        rt: &R,
+        table: &Words<Self>,
+        place: &mut Place,
+        slots: Slots,
+        call: Call,
+        pause: &P,
+    ) -> (Slots, Reply) {
+        lset_locked_loops::coarse_on::<R, P>(rt, table, place, slots, call, pause)
+    }
+}
 
-impl Running for FineList {}
+impl Running for FineList {
+    fn make_on<R: Wait, P: Pause>(
+        rt: &R,
+        table: &Words<Self>,
+        place: &mut Place,
+        slots: Slots,
+        call: Call,
+        pause: &P,
+    ) -> (Slots, Reply) {
+        lset_locked_loops::fine_on::<R, P>(rt, table, place, slots, call, pause)
+    }
+}
 
-impl Running for OptimisticList {}
+impl Running for OptimisticList {
+    fn make_on<R: Wait, P: Pause>(
+        rt: &R,
+        table: &Words<Self>,
+        place: &mut Place,
+        slots: Slots,
+        call: Call,
+        pause: &P,
+    ) -> (Slots, Reply) {
+        lset_locked_loops::optimistic_on::<R, P>(rt, table, place, slots, call, pause)
+    }
+}
 
 impl Running for LazyList {
+    fn add_on<R: Wait, P: Pause>(
+        rt: &R,
+        table: &Words<Self>,
+        place: &mut Place,
+        slots: Slots,
+        key: Key,
+        pause: &P,
+    ) -> (Slots, Reply) {
+        lset_locked_loops::lazy_add_on::<R, P>(rt, table, place, slots, key, pause)
+    }
+
+    fn remove_on<R: Wait, P: Pause>(
+        rt: &R,
+        table: &Words<Self>,
+        place: &mut Place,
+        slots: Slots,
+        key: Key,
+        pause: &P,
+    ) -> (Slots, Reply) {
+        lset_locked_loops::lazy_remove_on::<R, P>(rt, table, place, slots, key, pause)
+    }
+
     fn contains_on<R: Wait, P: Pause>(
         _rt: &R,
         table: &Words<Self>,

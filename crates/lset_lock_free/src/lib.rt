@@ -31,6 +31,7 @@ const TARGETS: Targets = Targets {
     leaves: 0,
 };
 
+#[inline(always)]
 fn next_action(local: &Local) -> Action
     requires { IsSmall local.now }
     ensures { result ≡ next_action local.now }
@@ -49,6 +50,7 @@ fn next_action(local: &Local) -> Action
 }
 
 /// The walk comes to the node `curr` behind `pred`, whose link is looked at next.
+#[inline(always)]
 fn at_node(pred: u64, curr: u64, local: &Local) -> Fed
     ensures { result ≡ continued (record local.now { pc = 2; pred = pred; curr = curr }) }
 {
@@ -61,6 +63,7 @@ fn at_node(pred: u64, curr: u64, local: &Local) -> Fed
 }
 
 /// Goes on to the key of a node without a mark, and else to taking the node out.
+#[inline(always)]
 fn at_link(local: &Local, seen: u64) -> Fed
     ensures { result ≡ at_link seen local.now }
 {
@@ -73,6 +76,7 @@ fn at_link(local: &Local, seen: u64) -> Fed
 }
 
 /// From its decision a call goes on, or answers.
+#[inline(always)]
 fn decision_of(local: Local) -> Fed
     ensures { result ≡ decision_of local }
 {
@@ -81,6 +85,7 @@ fn decision_of(local: Local) -> Fed
 }
 
 /// Walks on where the key word is below that of the call, and else decides.
+#[inline(always)]
 fn at_key(local: &Local, seen: u64) -> Fed
     ensures { result ≡ at_key seen local.now }
 {
@@ -92,6 +97,7 @@ fn at_key(local: &Local, seen: u64) -> Fed
 }
 
 /// The node is in the chain, and its slot is used: the call answers True.
+#[inline(always)]
 fn puts_in(local: &Local) -> Fed
     requires { IsSmall local.now }
     ensures { result ≡ leaves_with True (record local.now { used = local.now.used + 1 }) }
@@ -104,12 +110,14 @@ fn puts_in(local: &Local) -> Fed
 }
 
 /// The walk starts again.
+#[inline(always)]
 fn again(local: &Local) -> Fed
     ensures { result ≡ again local.now }
 {
     continued(Local { pc: 1, ..*local })
 }
 
+#[inline(always)]
 fn fed_by(local: &Local, seen: u64) -> Fed
     requires { IsSmall local.now }
     ensures { result ≡ fed_by local.now seen }
@@ -135,6 +143,7 @@ fn fed_by(local: &Local, seen: u64) -> Fed
 }
 
 /// What a successful exchange changes.
+#[inline(always)]
 fn effect_of(local: &Local, seen: u64) -> Option<(Key, bool)>
     requires { IsSmall local.now }
     ensures { result ≡ effect_of local.now seen }
@@ -153,18 +162,22 @@ impl Machine for LockFreeList {
 
     ghost table = { lock_free };
 
+    #[inline(always)]
     fn begin(call: Call, local: &Local) -> Local {
         begun_reading(call, local)
     }
 
+    #[inline(always)]
     fn next(local: &Local) -> Action {
         next_action(local)
     }
 
+    #[inline(always)]
     fn feed(local: &Local, seen: u64) -> Fed {
         fed_by(local, seen)
     }
 
+    #[inline(always)]
     fn effect(local: &Local, seen: u64) -> Option<(Key, bool)> {
         effect_of(local, seen)
     }

@@ -41,6 +41,7 @@ const TARGETS: Targets = Targets {
     leaves: 14,
 };
 
+#[inline(always)]
 fn next_action(local: &Local) -> Action
     requires { IsSmall local.now }
     ensures { result ≡ next_action local.now }
@@ -64,6 +65,7 @@ fn next_action(local: &Local) -> Action
 }
 
 /// Comes to the node that the link of `pred`, with the key word `pkey`, leads to.
+#[inline(always)]
 fn walks_on(local: &Local, pred: u64, pkey: u64, link: u64) -> Local
     ensures { result ≡ record local.now { pc = 2; pred = pred; pkey = pkey; curr = link / 2 } }
 {
@@ -77,6 +79,7 @@ fn walks_on(local: &Local, pred: u64, pkey: u64, link: u64) -> Local
 }
 
 /// Walks on where the key word is below that of the call, and else goes to take the locks.
+#[inline(always)]
 fn at_key(local: &Local, seen: u64) -> Local
     ensures { result ≡ at_key seen local.now }
 {
@@ -89,6 +92,7 @@ fn at_key(local: &Local, seen: u64) -> Local
 }
 
 /// Begins the second walk at the head, which is at its end where the first one went no further.
+#[inline(always)]
 fn at_locks(local: &Local) -> Local
     ensures { result ≡ at_locks local.now }
 {
@@ -101,6 +105,7 @@ fn at_locks(local: &Local) -> Local
 }
 
 /// Gives both locks back without a reply.
+#[inline(always)]
 fn gives_up(local: &Local) -> Local
     ensures { result ≡ gives_up local.now }
 {
@@ -112,6 +117,7 @@ fn gives_up(local: &Local) -> Local
 }
 
 /// Ends the second walk in vain where it is past the first one, and in success where it has come to the same node.
+#[inline(always)]
 fn at_node(local: &Local, seen: u64) -> Local
     ensures { result ≡ at_node seen local.now }
 {
@@ -125,6 +131,7 @@ fn at_node(local: &Local, seen: u64) -> Local
 }
 
 /// Decides where the two nodes are still neighbours.
+#[inline(always)]
 fn at_link(local: &Local, seen: u64) -> Local
     ensures { result ≡ at_link seen local.now }
 {
@@ -136,6 +143,7 @@ fn at_link(local: &Local, seen: u64) -> Local
 }
 
 /// Begins again where there is no reply.
+#[inline(always)]
 fn at_end(local: &Local) -> Local
     ensures { result ≡ at_end local.now.reply local.now }
 {
@@ -145,6 +153,7 @@ fn at_end(local: &Local) -> Local
     }
 }
 
+#[inline(always)]
 fn local_after(local: &Local, seen: u64) -> Local
     requires { IsSmall local.now }
     ensures { result ≡ local_after local.now seen }
@@ -194,14 +203,17 @@ impl Machine for OptimisticList {
 
     ghost table = { optimistic };
 
+    #[inline(always)]
     fn begin(call: Call, local: &Local) -> Local {
         begun(1, call, local)
     }
 
+    #[inline(always)]
     fn next(local: &Local) -> Action {
         next_action(local)
     }
 
+    #[inline(always)]
     fn feed(local: &Local, seen: u64) -> Fed {
         let answer = if local.pc == 15 { local.reply } else { None };
         Fed {
@@ -210,6 +222,7 @@ impl Machine for OptimisticList {
         }
     }
 
+    #[inline(always)]
     fn effect(local: &Local, _seen: u64) -> Option<(Key, bool)> {
         match local.pc {
             11 => Some((local.call.key(), true)),

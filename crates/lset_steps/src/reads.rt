@@ -8,6 +8,7 @@ use lset_words::{Call, Reply};
 
 /// A thread that has begun a call, at the first row of its kind: a `contains` and a `ceiling` have rows of their own,
 /// which take no lock and write nothing (Herlihy and Shavit's wait-free `contains`; the `ceiling` is this project's own).
+#[inline(always)]
 pub fn begun_reading(call: Call, local: &Local) -> Local
     ensures { result ≡ begun_reading call local.now }
 {
@@ -20,6 +21,7 @@ pub fn begun_reading(call: Call, local: &Local) -> Local
 }
 
 /// A step within the call.
+#[inline(always)]
 pub fn continued(local: Local) -> Fed
     ensures { result ≡ continued local }
 {
@@ -30,6 +32,7 @@ pub fn continued(local: Local) -> Fed
 }
 
 /// The last step of the call, with its reply.
+#[inline(always)]
 pub fn leaves_with(reply: Reply, local: Local) -> Fed
     ensures { result ≡ leaves_with reply local }
 {
@@ -40,6 +43,7 @@ pub fn leaves_with(reply: Reply, local: Local) -> Fed
 }
 
 /// The next step of a `contains` or a `ceiling`.
+#[inline(always)]
 pub fn read_action(local: &Local) -> Action
     requires { IsSmall local.now }
     ensures { result ≡ read_action local.now }
@@ -53,6 +57,7 @@ pub fn read_action(local: &Local) -> Action
 
 /// A `ceiling` that has read a key word: it goes on to the first that is not below its own, and answers at the tail's that
 /// there is none.
+#[inline(always)]
 fn ceiling_key(local: &Local, seen: u64) -> Fed
     ensures { result ≡ ceiling_key local.now seen }
 {
@@ -71,6 +76,7 @@ fn ceiling_key(local: &Local, seen: u64) -> Fed
 
 /// A `ceiling` that has read the link of the node at which it stops: it answers that node's key, or starts again from the
 /// head where the node has a mark.
+#[inline(always)]
 fn ceiling_mark(local: &Local, seen: u64) -> Fed
     ensures { result ≡ ceiling_mark local.now seen }
 {
@@ -87,6 +93,7 @@ fn ceiling_mark(local: &Local, seen: u64) -> Fed
 
 /// What the thread holds after the next step of a `contains` or a `ceiling`. A `contains` goes on to the first key that is
 /// not below its own, and answers whether this is its own, in a node without a mark.
+#[inline(always)]
 pub fn read_fed(local: &Local, seen: u64) -> Fed
     ensures { result ≡ read_fed local.now seen }
 {

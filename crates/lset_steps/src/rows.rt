@@ -7,6 +7,7 @@ use lset_words::{Call, Key, MOST_NODES, Reply, slot_node};
 pub use lset_words::{key_index, link_index, lock_index};
 
 /// The slot that the thread's next successful add puts into the chain.
+#[inline(always)]
 pub fn own_slot(local: &Local) -> u64
     requires { IsSmall local.now }
     ensures node { result ≡ own_slot local.now }
@@ -17,6 +18,7 @@ pub fn own_slot(local: &Local) -> u64
 
 /// The try of the lock of a node, numbered below `2^62`: where the lock is free, which is 0, the thread takes it, which is its
 /// number and 1. (Herlihy and Shavit's node locks, by this project's own table.)
+#[inline(always)]
 pub fn try_lock(node: u64, local: &Local) -> Action
     requires { node < 2 ^ 62 }
     ensures { result ≡ Action.Exchange (lock_index node) 0 (local.now.thread + 1) }
@@ -25,6 +27,7 @@ pub fn try_lock(node: u64, local: &Local) -> Action
 }
 
 /// A thread that has begun a call, at the row `pc`: its registers are 0.
+#[inline(always)]
 pub fn begun(pc: u8, call: Call, local: &Local) -> Local
     ensures { result ≡ begun pc call local.now }
 {
@@ -41,6 +44,7 @@ pub const TAIL_WORD: u64 = 4_294_967_297;
 
 /// What a `ceiling` answers that stops at this key word: its key, or, where it is the tail's, that there is none. (This
 /// project's own table.)
+#[inline(always)]
 pub fn ceiling_at(word: u64) -> Reply
     ensures { result ≡ ceiling_at word }
 {
@@ -63,6 +67,7 @@ pub struct Targets {
 /// What a call does at the first key word that is not below its own (this project's own table): an `add`
 /// of a key that is there, and a `remove` or `contains` of one that is not, answer False, an `add` beyond
 /// the quota Full; a `ceiling` answers the key that the word stands for.
+#[inline(always)]
 pub fn decide(rows: Targets, key: u64, local: Local) -> Local
     ensures { result ≡ decided_on rows key local }
 {

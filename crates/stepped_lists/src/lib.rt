@@ -1,93 +1,49 @@
-//! LockFreeList and LazyList by their tables alone: their calls on threads are the default bodies of `Running`, the
-//! interpreter. What the plain loops are compared with, by tests and by `bench/run`.
+//! Lists by their tables alone: their calls on threads are the default bodies of `Running`, the interpreter. What the plain
+//! loops are compared with, by tests and by `bench/run`.
 #![tactic(auto)]
 
-ghost use Rattle.lset_words.specs.declared.Kind.TheVariants.{Lazy, LockFree};
-ghost use Rattle.lset_lazy.specs.Lazy.{lazy};
-ghost use Rattle.lset_lazy.specs.Lawful.{lazy_lawful, lazy_reads, lazy_walks};
-ghost use Rattle.lset_lock_free.specs.LockFree.{lock_free};
-ghost use Rattle.lset_lock_free.specs.Lawful.{lock_free_lawful, lock_free_reads, lock_free_walks};
-
-use lset_lazy::LazyList;
 use lset_live::{Running, RunningReads};
-use lset_lock_free::LockFreeList;
 use lset_steps::{Action, Fed, Local, Machine, OpenReads};
 use lset_words::{Call, Key, Kind};
+use std::marker::PhantomData;
 
-/// LockFreeList, whose calls go through the interpreter.
-pub struct SteppedLockFreeList;
+/// The list `M`, whose calls go through the interpreter.
+pub struct Stepped<M: Machine> {
+    list: PhantomData<M>,
+}
 
-impl Machine for SteppedLockFreeList {
-    const KIND: Kind = Kind::LockFree;
+impl<M: Machine> Machine for Stepped<M> {
+    const KIND: Kind = M::KIND;
 
-    ghost KIND = { LockFree };
+    ghost KIND = { M.KIND };
 
-    ghost table = { lock_free };
+    ghost table = { M.table };
 
     fn begin(call: Call, local: &Local) -> Local {
-        LockFreeList::begin(call, local)
+        M::begin(call, local)
     }
 
     fn next(local: &Local) -> Action {
-        LockFreeList::next(local)
+        M::next(local)
     }
 
     fn feed(local: &Local, seen: u64) -> Fed {
-        LockFreeList::feed(local, seen)
+        M::feed(local, seen)
     }
 
     fn effect(local: &Local, seen: u64) -> Option<(Key, bool)> {
-        LockFreeList::effect(local, seen)
+        M::effect(local, seen)
     }
 
-    ghost lawful = { lock_free_lawful };
+    ghost lawful = { M.lawful };
 }
 
-impl OpenReads for SteppedLockFreeList {
-    ghost reads = { lock_free_reads };
+impl<M: OpenReads> OpenReads for Stepped<M> {
+    ghost reads = { M.reads };
 
-    ghost walks = { lock_free_walks };
+    ghost walks = { M.walks };
 }
 
-impl Running for SteppedLockFreeList {}
+impl<M: Machine> Running for Stepped<M> {}
 
-impl RunningReads for SteppedLockFreeList {}
-
-/// LazyList, whose calls go through the interpreter.
-pub struct SteppedLazyList;
-
-impl Machine for SteppedLazyList {
-    const KIND: Kind = Kind::Lazy;
-
-    ghost KIND = { Lazy };
-
-    ghost table = { lazy };
-
-    fn begin(call: Call, local: &Local) -> Local {
-        LazyList::begin(call, local)
-    }
-
-    fn next(local: &Local) -> Action {
-        LazyList::next(local)
-    }
-
-    fn feed(local: &Local, seen: u64) -> Fed {
-        LazyList::feed(local, seen)
-    }
-
-    fn effect(local: &Local, seen: u64) -> Option<(Key, bool)> {
-        LazyList::effect(local, seen)
-    }
-
-    ghost lawful = { lazy_lawful };
-}
-
-impl OpenReads for SteppedLazyList {
-    ghost reads = { lazy_reads };
-
-    ghost walks = { lazy_walks };
-}
-
-impl Running for SteppedLazyList {}
-
-impl RunningReads for SteppedLazyList {}
+impl<M: OpenReads> RunningReads for Stepped<M> {}

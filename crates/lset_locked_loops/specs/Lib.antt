@@ -1,0 +1,6 @@
+pub mod Begun
+pub mod Calling
+pub mod Coarse
+pub mod Fine
+pub mod Lazy
+pub mod Optimistic

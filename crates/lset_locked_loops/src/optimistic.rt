@@ -1,0 +1,182 @@
+//! OptimisticList: a walk without locks, two node locks, and a second walk that validates.
+ghost use Rattle.std.specs.Prelude.{◌≡◌};
+ghost use Rattle.lset_optimistic.specs.Optimistic.{optimistic};
+ghost use Rattle.lset_rule.specs.Seats.{HasCalled, MayCall};
+ghost use Rattle.lset_locked_loops.specs.Begun.{IsCall};
+ghost use Rattle.lset_locked_loops.specs.Calling.{HasAnswered, MayBegin};
+ghost use Rattle.lset_locked_loops.specs.Optimistic.{AreNeighbours, AtKey, HasLocked, HasReached, HasValidated, Leaves, StopsAt};
+
+use crate::caller::{Caller, Node, Origin};
+use crate::decision::{Decision, Found, decide, one_more};
+use lset_optimistic::OptimisticList;
+use lset_rule::{Pause, Place, Slots, Words};
+use lset_words::{Call, Reply};
+use std::marker::{Brand, PhantomData};
+use std::sync::Wait;
+
+const HEAD: u64 = 0;
+
+/// Where the walk has stopped, and the key word that it saw at `pred`, or 0 at the head.
+#[derive(Clone, Copy)]
+pub(crate) struct Stopped {
+    pub(crate) found: Found,
+    pub(crate) before: u64,
+}
+
+/// Walks from the head, whose link led to `first`, to the first key that is not below that of the call.
+#[inline(never)]
+fn walk<O: Origin, R: Wait, P: Pause>(
+    caller: &Caller<OptimisticList, O, R, P>,
+    place: &mut Place,
+    first: Node,
+) -> Stopped
+    requires { AtKey O.begun caller.now.slots 0 first.number 0 place.old }
+    ensures { StopsAt O.begun caller.now.slots result place.new }
+{
+    let key = caller.key;
+    let mut pred = Node::head();
+    let mut before = 0;
+    let mut curr = first;
+    for _ in caller.rt.forever() {
+        let word = caller.load_key(place, curr);
+        if word >= key {
+            let found = Found { pred, curr, word };
+            return Stopped { found, before };
+        }
+        let link = caller.load_link(place, curr);
+        pred = curr;
+        before = word;
+        curr = Node::behind(link);
+    }
+    unreachable!()
+}
+
+/// Walks a second time from the head, as far as `pred`. Answers whether it came there: not where it saw a key above that of
+/// `pred`.
+#[inline(never)]
+fn reaches<O: Origin, R: Wait, P: Pause>(
+    caller: &Caller<OptimisticList, O, R, P>,
+    place: &mut Place,
+    stopped: Stopped,
+) -> bool
+    requires { HasLocked O.begun caller.now.slots stopped place.old }
+    ensures { HasReached O.begun caller.now.slots stopped.found result place.new }
+{
+    let pred = stopped.found.pred.number;
+    let before = stopped.before;
+    if pred == HEAD {
+        return true;
+    }
+    let mut node = Node::head();
+    for _ in caller.rt.forever() {
+        let link = caller.load_link(place, node);
+        node = Node::behind(link);
+        let word = caller.load_key(place, node);
+        if word > before {
+            return false;
+        }
+        if node.number == pred {
+            return true;
+        }
+    }
+    unreachable!()
+}
+
+/// Whether `pred` is still in the list and leads to `curr`, both of which are locked.
+fn validate<O: Origin, R: Wait, P: Pause>(
+    caller: &Caller<OptimisticList, O, R, P>,
+    place: &mut Place,
+    stopped: Stopped,
+) -> bool
+    requires { HasLocked O.begun caller.now.slots stopped place.old }
+    ensures { HasValidated O.begun caller.now.slots stopped.found result place.new }
+{
+    let found = stopped.found;
+    if !reaches(caller, place, stopped) {
+        return false;
+    }
+    let link = caller.load_link(place, found.pred);
+    if link / 2 != found.curr.number {
+        return false;
+    }
+    true
+}
+
+/// Does what the call does at the key that was found, between two nodes that it has locked.
+fn act<O: Origin, R: Wait, P: Pause>(
+    caller: &Caller<OptimisticList, O, R, P>,
+    place: &mut Place,
+    found: Found,
+) -> (Slots, Reply)
+    requires { AreNeighbours O.begun caller.now.slots found place.old }
+    ensures { Leaves O.begun found result place.new }
+{
+    match decide(caller.call, found.word, caller.slots) {
+        Decision::PutIn => {
+            caller.put_in(place, found);
+            (one_more(caller.slots), Reply::True)
+        }
+        Decision::TakeOut => {
+            let link = caller.load_link(place, found.curr);
+            caller.store_link(place, found.pred, Node::behind(link));
+            (caller.slots, Reply::True)
+        }
+        Decision::Answer(reply) => (caller.slots, reply),
+    }
+}
+
+fn make<O: Origin, R: Wait, P: Pause>(
+    rt: &R,
+    table: &Words<OptimisticList>,
+    place: &mut Place,
+    slots: Slots,
+    call: Call,
+    pause: &P,
+) -> (Slots, Reply)
+    requires begins { MayBegin optimistic O.begun slots place.old }
+    requires call { IsCall O.begun call table.now.table_id table.now.key }
+    ensures { HasAnswered optimistic O.begun result place.new }
+{
+    let caller = Caller::<'_, OptimisticList, O, R, P> {
+        rt,
+        table,
+        pause,
+        slots,
+        call,
+        key: call.key().word(),
+        origin: PhantomData,
+    };
+    let mut link = caller.begin_at_head(place);
+    for _ in rt.forever() {
+        let stopped = walk(&caller, place, Node::behind(link));
+        let found = stopped.found;
+        caller.lock(place, found.pred);
+        caller.lock(place, found.curr);
+        if validate(&caller, place, stopped) {
+            let answer = act(&caller, place, found);
+            caller.unlock(place, found.pred);
+            caller.unlock_last(place, found.curr);
+            return answer;
+        }
+        caller.unlock(place, found.pred);
+        caller.unlock(place, found.curr);
+        link = caller.load_link(place, Node::head());
+    }
+    unreachable!()
+}
+
+/// Makes a whole call: it walks to its key without a lock, locks the two nodes there, looks by a second walk whether they
+/// are still neighbours in the list, and acts, or gives them back and starts over. (Herlihy and Shavit's optimistic list.)
+pub fn optimistic_on<R: Wait, P: Pause>(
+    rt: &R,
+    table: &Words<OptimisticList>,
+    place: &mut Place,
+    slots: Slots,
+    call: Call,
+    pause: &P,
+) -> (Slots, Reply)
+    requires { MayCall optimistic table.now.table_id table.now.key slots place.old }
+    ensures { HasCalled optimistic call place.old result place.new }
+{
+    make::<Brand, R, P>(rt, table, place, slots, call, pause)
+}

@@ -1,0 +1,165 @@
+//! The steps of a call under way. Each is the step of the row of the list's table at which the seat's view stands.
+ghost use Rattle.std.specs.Prelude.{◌≡◌, ◌≢◌, ℕ, ◌+◌, ◌*◌, ◌/◌, None};
+ghost use Rattle.lset_words.specs.Words.{key_index, link_index, lock_index};
+ghost use Rattle.lset_steps.specs.ReadRows.{continued};
+ghost use Rattle.lset_steps.specs.declared.Action.TheVariants.{Load, Store, Exchange};
+ghost use Rattle.lset_locked_loops.specs.Calling.{HasEnded, HasStepped, Holds, MayBegin, MayEnd, MayLock, MayStep, first};
+
+use crate::caller::{Caller, Node, Origin};
+use lset_rule::{Pause, Place, exchange_first, exchange_on, load_first, load_on, store_on};
+use lset_steps::Machine;
+use lset_steps::rows::{key_index, link_index, lock_index};
+use std::marker::Brand;
+use std::sync::Wait;
+
+impl<'a, M: Machine, O: Origin, R: Wait, P: Pause> Caller<'a, M, O, R, P> {
+    /// Loads the word with this index.
+    fn load(&self, place: &mut Place, word: u64) -> u64
+        requires { MayStep M.table O.begun (Load word) place.old }
+        ensures { HasStepped M.table O.begun place.old result place.new }
+    {
+        let seen = load_on::<M>(self.table, place, word);
+        self.pause.moved(self.slots.thread, false);
+        seen
+    }
+
+    /// Loads the key word of a node.
+    pub(crate) fn load_key(&self, place: &mut Place, node: Node) -> u64
+        requires { MayStep M.table O.begun (Load (key_index node.number)) place.old }
+        ensures { HasStepped M.table O.begun place.old result place.new }
+    {
+        self.load(place, key_index(node.number))
+    }
+
+    /// Loads the link word of a node.
+    pub(crate) fn load_link(&self, place: &mut Place, node: Node) -> u64
+        requires { MayStep M.table O.begun (Load (link_index node.number)) place.old }
+        ensures { HasStepped M.table O.begun place.old result place.new }
+    {
+        self.load(place, link_index(node.number))
+    }
+
+    /// Stores a value in the word with this index.
+    fn store(&self, place: &mut Place, word: u64, value: u64)
+        requires { MayStep M.table O.begun (Store word value) place.old }
+        ensures { HasStepped M.table O.begun place.old value place.new }
+    {
+        store_on::<M>(self.table, place, word, value);
+        self.pause.moved(self.slots.thread, false);
+    }
+
+    /// Writes the key word of a node.
+    pub(crate) fn store_key(&self, place: &mut Place, node: Node, key: u64)
+        requires { MayStep M.table O.begun (Store (key_index node.number) key) place.old }
+        ensures { HasStepped M.table O.begun place.old key place.new }
+    {
+        self.store(place, key_index(node.number), key);
+    }
+
+    /// Has the link of a node lead to another.
+    pub(crate) fn store_link(&self, place: &mut Place, node: Node, next: Node)
+        requires { MayStep M.table O.begun (Store (link_index node.number) (2 * next.number)) place.old }
+        ensures { HasStepped M.table O.begun place.old (2 * next.number) place.new }
+    {
+        self.store(place, link_index(node.number), 2 * next.number);
+    }
+
+    /// Marks a node, whose link leads to another.
+    pub(crate) fn store_mark(&self, place: &mut Place, node: Node, next: Node)
+        requires { MayStep M.table O.begun (Store (link_index node.number) (2 * next.number + 1)) place.old }
+        ensures { HasStepped M.table O.begun place.old (2 * next.number + 1) place.new }
+    {
+        self.store(place, link_index(node.number), 2 * next.number + 1);
+    }
+
+    /// Gives the lock of a node back.
+    pub(crate) fn unlock(&self, place: &mut Place, node: Node)
+        requires { MayStep M.table O.begun (Store (lock_index node.number) 0) place.old }
+        ensures { HasStepped M.table O.begun place.old 0 place.new }
+    {
+        self.store(place, lock_index(node.number), 0);
+    }
+
+    /// Tries the lock in this word again and again, until the thread has it.
+    #[inline(never)]
+    fn wait_for(&self, place: &mut Place, word: u64)
+        requires { MayLock M.table O.begun word self.now.slots.thread place.old }
+        ensures { HasStepped M.table O.begun place.old 0 place.new }
+    {
+        let own = u64::from(self.slots.thread) + 1;
+        for _ in self.rt.forever() {
+            let seen = exchange_on::<M>(self.table, place, word, 0, own);
+            self.pause.moved(self.slots.thread, seen != 0);
+            if seen == 0 {
+                return;
+            }
+        }
+        unreachable!()
+    }
+
+    /// Takes the lock in this word.
+    #[inline(always)]
+    fn take(&self, place: &mut Place, word: u64)
+        requires { MayLock M.table O.begun word self.now.slots.thread place.old }
+        ensures { HasStepped M.table O.begun place.old 0 place.new }
+    {
+        let seen = exchange_on::<M>(self.table, place, word, 0, u64::from(self.slots.thread) + 1);
+        self.pause.moved(self.slots.thread, seen != 0);
+        if seen != 0 {
+            self.wait_for(place, word);
+        }
+    }
+
+    /// Takes the lock of a node.
+    #[inline(always)]
+    pub(crate) fn lock(&self, place: &mut Place, node: Node)
+        requires { MayLock M.table O.begun (lock_index node.number) self.now.slots.thread place.old }
+        ensures { HasStepped M.table O.begun place.old 0 place.new }
+    {
+        self.take(place, lock_index(node.number));
+    }
+
+    /// Begins the call with the taking of the lock in this word.
+    pub(crate) fn begin_locked(&self, place: &mut Place, word: u64)
+        requires begins { MayBegin M.table O.begun self.now.slots place.old }
+        requires acts { Exchange word 0 (self.now.slots.thread + 1) ≡ M.table.next (first M.table O.begun self.now.slots) }
+        requires again { (n : ℕ) → n ≢ 0 → M.table.feed (first M.table O.begun self.now.slots) n ≡ continued (first M.table O.begun self.now.slots) }
+        requires goes_on { (M.table.feed (first M.table O.begun self.now.slots) 0).answer ≡ None }
+        ensures { Holds M.table O.begun (M.table.feed (first M.table O.begun self.now.slots) 0).local place.new }
+    {
+        let own = u64::from(self.slots.thread) + 1;
+        let seen = exchange_first::<M, Brand>(self.table, place, self.call, word, 0, own);
+        self.pause.moved(self.slots.thread, seen != 0);
+        if seen != 0 {
+            self.wait_for(place, word);
+        }
+    }
+
+    /// Begins the call with the load of the head's link.
+    pub(crate) fn begin_at_head(&self, place: &mut Place) -> u64
+        requires begins { MayBegin M.table O.begun self.now.slots place.old }
+        requires acts { Load (link_index 0) ≡ M.table.next (first M.table O.begun self.now.slots) }
+        requires goes_on { (n : ℕ) → (M.table.feed (first M.table O.begun self.now.slots) n).answer ≡ None }
+        ensures { Holds M.table O.begun (M.table.feed (first M.table O.begun self.now.slots) result).local place.new }
+    {
+        let seen = load_first::<M, Brand>(self.table, place, self.call, link_index(0));
+        self.pause.moved(self.slots.thread, false);
+        seen
+    }
+
+    /// Gives the lock in this word back, with which the call answers.
+    pub(crate) fn release_last(&self, place: &mut Place, word: u64)
+        requires { MayEnd M.table O.begun word place.old }
+        ensures { HasEnded M.table O.begun place.old place.new }
+    {
+        store_on::<M>(self.table, place, word, 0);
+    }
+
+    /// Gives the lock of a node back, with which the call answers.
+    pub(crate) fn unlock_last(&self, place: &mut Place, node: Node)
+        requires { MayEnd M.table O.begun (lock_index node.number) place.old }
+        ensures { HasEnded M.table O.begun place.old place.new }
+    {
+        self.release_last(place, lock_index(node.number));
+    }
+}
