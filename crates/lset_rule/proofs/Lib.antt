@@ -7,3 +7,4 @@ pub mod Counts
 pub mod Opens
 pub mod EndOfAll
 pub mod Ending
+pub mod RowSteps

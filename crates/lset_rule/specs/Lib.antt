@@ -5,3 +5,4 @@ pub mod Rule
 pub mod Calls
 pub mod Seats
 pub mod Slots
+pub mod RowSteps

@@ -2,10 +2,11 @@
 ghost use Rattle.lset_words.specs.declared.Call.TheVariants.{Contains};
 ghost use Rattle.lset_rule.specs.Seats.{HasCalled, MayCall};
 
+use crate::row_steps::{Stepped, has_failed, one_step};
 use crate::slots::Slots;
-use crate::word_steps::{Place, Words, start_on, step_on};
+use crate::word_steps::{Place, Words, start_on};
 use crossbeam_utils::Backoff;
-use lset_steps::{Action, Machine, OpenReads};
+use lset_steps::{Machine, OpenReads};
 use lset_words::{Call, Key, Reply};
 use std::marker::Brand;
 use std::sync::Wait;
@@ -13,8 +14,13 @@ use std::sync::Wait;
 /// What a call does between two steps of its own. No contract rests on it: it sees no word and no seat, and changes how
 /// long a call takes and nothing else.
 pub trait Pause {
-    /// Asked after each step that does not answer. `thread` is the number of the caller's thread, and `failed` says that
-    /// the step was an exchange that found another value than it looked for, as at a lock that is taken.
+    /// Whether it has to be asked after each step that does not answer. Where it has not, only a failed one is sure to ask
+    /// it, and a call is faster by the questions that are left out.
+    const EACH_STEP: bool = true;
+
+    /// Asked after a step that does not answer: after each one, or after the failed ones, as [`Pause::EACH_STEP`] says.
+    /// `thread` is the number of the caller's thread, and `failed` says that the step was an exchange that found another
+    /// value than it looked for, as at a lock that is taken.
     fn moved(&self, thread: u32, failed: bool);
 }
 
@@ -35,18 +41,13 @@ impl Spin {
 }
 
 impl Pause for Spin {
+    /// It does nothing after a step that did not fail.
+    const EACH_STEP: bool = false;
+
     fn moved(&self, _thread: u32, failed: bool) {
         if failed {
             self.backoff.snooze();
         }
-    }
-}
-
-/// Whether the step was an exchange that was not made.
-fn has_failed(action: Action, seen: u64) -> bool {
-    match action {
-        Action::Exchange(_, old, _) => seen != old,
-        _ => false,
     }
 }
 
@@ -72,17 +73,28 @@ pub fn walk<M: Machine, R: Wait, P: Pause>(
     let begun = M::begin(call, &slots.resting());
     let action = M::next(&begun);
     let seen = start_on::<M, Brand>(table, place, call, action);
-    let mut fed = M::feed(&begun, seen);
-    let mut failed = has_failed(action, seen);
+    let mut last = Stepped {
+        fed: M::feed(&begun, seen),
+        failed: has_failed(action, seen),
+    };
+    // Two steps in a round: within a round the compiler leads from the code of a row straight to that of the next one, and
+    // at its end to a search for the row. What is between them stands here and not in a function: after a call that may
+    // wait, as one that asks a pause, it leads nowhere straight.
     for _ in rt.forever() {
-        if let Some(reply) = fed.answer {
-            return (Slots::of(&fed.local), reply);
+        if let Some(reply) = last.fed.answer {
+            return (Slots::of(&last.fed.local), reply);
         }
-        pause.moved(fed.local.thread, failed);
-        let action = M::next(&fed.local);
-        let seen = step_on::<M>(table, place, action);
-        fed = M::feed(&fed.local, seen);
-        failed = has_failed(action, seen);
+        if P::EACH_STEP || last.failed {
+            pause.moved(last.fed.local.thread, last.failed);
+        }
+        let next = one_step::<M, 1>(table, place, &last.fed.local);
+        if let Some(reply) = next.fed.answer {
+            return (Slots::of(&next.fed.local), reply);
+        }
+        if P::EACH_STEP || next.failed {
+            pause.moved(next.fed.local.thread, next.failed);
+        }
+        last = one_step::<M, 2>(table, place, &next.fed.local);
     }
     unreachable!()
 }
@@ -108,7 +120,6 @@ pub fn read<M: OpenReads>(
         if let Some(reply) = fed.answer {
             return (Slots::of(&fed.local), reply);
         }
-        let seen = step_on::<M>(table, place, M::next(&fed.local));
-        fed = M::feed(&fed.local, seen);
+        fed = one_step::<M, 3>(table, place, &fed.local).fed;
     }
 }

@@ -7,6 +7,7 @@
 #![tactic(auto)]
 
 mod interpreter;
+mod row_steps;
 mod rule;
 mod slots;
 mod view;
