@@ -1,3 +1,4 @@
+pub mod Buffered
 pub mod Tallies
 pub mod Tallied
 pub mod Serving

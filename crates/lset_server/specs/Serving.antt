@@ -5,7 +5,7 @@ use Rattle.lset_live.specs.Explained.{Explains}
 use Rattle.lset_live.specs.Seats.{gather_onto}
 use Rattle.lset_server.specs.declared.channel.Tally.{Tally}
 use Rattle.lset_server.specs.Tallies.{ReceivedOnce}
-use Rattle.lset_words.specs.Words.{Opening, empty}
+use Rattle.lset_words.specs.Words.{Opening}
 
 -- each record, followed by calls
 abbrev pub followed : List Record → List (List CallMade) → List Record

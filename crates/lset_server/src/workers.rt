@@ -10,11 +10,12 @@ ghost use Rattle.lset_server.specs.Tallies.{tally};
 ghost use Rattle.lset_server.specs.Workers.{HasWorked, HaveWorked};
 ghost use Rattle.lset_server.specs.declared.serving.ServeCause.TheVariants as cause;
 
+use crate::buffered::buffered_session;
 use crate::channel::{Connection, Message, Receiver, Sender, Token, cut_part, receive, take_back};
 use crate::lingering::take_leave;
 use crate::serving::ServeCause;
 use lset_live::{LiveSet, Running, Seat};
-use lset_session::{Device, session};
+use lset_session::Device;
 use std::alloc::Global;
 use std::net::TcpStream;
 use std::snapshot::Snapshot;
@@ -75,10 +76,10 @@ fn work<R: Wait + Clock, M: Running>(
         let Connection { number: _, stream } = connection;
         // Where the option is refused, answers may come later, and nothing else changes.
         let _ = stream.set_nodelay(true);
-        let ended = session(
+        let ended = buffered_session(
             rt,
-            &mut Device::new(&stream),
-            &mut Device::new(&stream),
+            Device::new(&stream),
+            Device::new(&stream),
             set,
             &mut seat,
         );

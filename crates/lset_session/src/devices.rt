@@ -99,7 +99,7 @@ impl<T: Write> Sink for Device<T> {
 }
 
 /// Writes the text, and answers whether all of it was written. A write that fails is the last.
-pub(crate) fn write_all<W: Sink>(sink: &mut W, text: &[u8]) -> bool
+pub fn write_all<W: Sink>(sink: &mut W, text: &[u8]) -> bool
     requires works { W.has_failed sink.old ≡ false }
     ensures text { Writes result (W.written sink.old) (W.written sink.new) text.now }
     ensures failed { W.has_failed sink.new ≡ (if result then false else true) }

@@ -7,7 +7,7 @@ pub mod failing;
 mod requests;
 mod sessions;
 
-pub use devices::{Device, Sink, Source};
+pub use devices::{Device, Sink, Source, write_all};
 pub use requests::{Request, read_request};
 pub use sessions::{Ended, Why, session};
 

@@ -245,7 +245,7 @@ pub fn session<R: Wait, I: Source, O: Sink, S: SetCalls>(
     ensures few { result.calls ≤ MOST_LINES }
     ensures seat { S.is_of set.now seat.new × (S.held_by seat.new ≡ S.held_by seat.old) }
 {
-    let mut buffer = [0u8; 512];
+    let mut buffer = [0u8; 4096];
     let mut talk = Talk {
         line: [0; LONGEST_LINE],
         len: 0,

@@ -1,4 +1,4 @@
-use crate::opened::{ANSWERS, CEILINGS, LINES, held, one_seat};
+use crate::opened::{ANSWERS, CEILINGS, LINES, held, held_buffered, one_seat};
 use lset_server::failing::{FailingReader, FailingWriter};
 use lset_server::{Device, Ended, Why, session};
 use std::alloc::Global;
@@ -60,7 +60,7 @@ fn a_ceiling_is_written_up_to_the_write_that_fails(rt: HostRuntime) -> Result<()
     Ok(())
 }
 
-/// The read with this number fails.
+/// The read with this number fails, and where answers wait they have left before.
 fn read_fails<R: Wait + Abort>(
     rt: &R,
     alloc: Global,
@@ -71,13 +71,16 @@ fn read_fails<R: Wait + Abort>(
 ) -> Result<(), Fail> {
     let mut reader = FailingReader::new(lines, at);
     let (written, ended) = held(rt, alloc, &mut Device::new(&mut reader))?;
-    assert_eq!(rt;
-        ended,
-        Ended {
-            why: Why::ReadFault,
-            calls
-        }
-    );
+    let fault = Ended {
+        why: Why::ReadFault,
+        calls,
+    };
+    assert_eq!(rt; ended, fault);
+    assert_eq!(rt; written.as_slice(), answers);
+    assert_eq!(rt; reader.reads(), at);
+    let mut reader = FailingReader::new(lines, at);
+    let (written, ended) = held_buffered(rt, alloc, Device::new(&mut reader))?;
+    assert_eq!(rt; ended, fault);
     assert_eq!(rt; written.as_slice(), answers);
     assert_eq!(rt; reader.reads(), at);
     Ok(())

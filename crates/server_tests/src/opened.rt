@@ -2,7 +2,7 @@ ghost use Rattle.std.specs.Prelude.{◌≡◌, IfOk, All, false};
 
 use lset_lazy::LazyList;
 use lset_live::{LiveSet, OpenFault, Seat, open};
-use lset_server::{Device, Ended, Source, session};
+use lset_server::{Device, Ended, Source, buffered_session, session};
 use std::alloc::Global;
 use std::sync::Wait;
 use std::test::Fail;
@@ -59,5 +59,19 @@ pub fn held<R: Wait, I: Source>(
     let (set, mut seat) = one_seat(alloc)?;
     let mut written = Vec::new(alloc);
     let ended = session(rt, reader, &mut Device::new(&mut written), &set, &mut seat);
+    Ok((written, ended))
+}
+
+/// The same of a session whose answers wait.
+pub fn held_buffered<R: Wait, I: Source + Drop>(
+    rt: &R,
+    alloc: Global,
+    reader: I,
+) -> Result<(Vec<u8>, Ended), Fail>
+    requires { I.has_failed reader ≡ false }
+{
+    let (set, mut seat) = one_seat(alloc)?;
+    let mut written = Vec::new(alloc);
+    let ended = buffered_session(rt, reader, Device::new(&mut written), &set, &mut seat);
     Ok((written, ended))
 }

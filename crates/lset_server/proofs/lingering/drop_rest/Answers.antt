@@ -1,6 +1,5 @@
-use Rattle.std.proofs.Common.{◌≡◌, ◌≤◌, ◌++◌, ◌+◌, ◌-◌, length, take, length-append, length-take-le, arith, rules}
+use Rattle.std.proofs.Common.{◌≤◌, ◌++◌, length, take, length-append, length-take-le, arith, rules}
 use Rattle.std.proofs.KnownBytes.{Consumes-trans}
-use Rattle.lset_server.specs.declared.lingering.TheConstants.{MOST_DROPPED}
 use Rattle.lset_server.proofs.lingering.drop_rest.Goals as goal
 
 pub loop-left-preserved : goal.loop-left-preserved

@@ -9,9 +9,9 @@ loop-sessions-preserved g c =
     let one : length (number_of c.in-Ok-Connection.field-0) ≡ 1 = rw c.in-Ok-Connection.field-0-is refl in
     record {
       pass = c.in-Ok-Connection.ensures.channel;
-      seat = c.session-ended.ensures.seat.0;
+      seat = c.buffered_session-ended.ensures.seat.0;
       worked = worked_more _ _ _ _ _ _ _ _ _ _ _ _ _ _ inv.worked one c.in-Ok-Connection.ensures.told
-          c.session-ended.ensures.session c.session-ended.ensures.seat.1;
+          c.buffered_session-ended.ensures.session.3 c.buffered_session-ended.ensures.seat.1;
       sessions = omega (arith, c.loop-sessions-test.true);
-      calls = omega (arith, inv.calls, c.session-ended.ensures.few);
+      calls = omega (arith, inv.calls, c.buffered_session-ended.ensures.few);
     }

@@ -1,0 +1,190 @@
+//! Sessions whose answers are held back. A session hands each answer to its writer before it makes the next call. Here the
+//! answers wait in 4,096 bytes of room, and leave together: before the session reads again, where there is no more room, and
+//! as the session ends. So a client that sends many lines at once costs a few writes, and what it was answered has left
+//! before its next line is waited for.
+ghost use Rattle.std.specs.Prelude.{◌≡◌, ◌≢◌, ◌<◌, ◌≤◌, None, false, Option, List, ℕ};
+ghost use Rattle.lset_session.specs.Sessions.{IsSession};
+ghost use Rattle.lset_session.specs.declared.TheConstants.{MOST_LINES};
+ghost use Rattle.lset_session.specs.declared.sessions.Why.{Why as Ending};
+
+use lset_live::SetCalls;
+use lset_session::{Ended, Sink, Source, Why, session, write_all};
+use std::cell::RefCell;
+use std::sync::Wait;
+
+/// The most bytes of answers that wait. (This project's own limit.)
+const ROOM: usize = 4096;
+
+/// Answers that have not left yet, and the writer by which they leave, until a write has failed.
+#[derive(Drop)]
+struct Buffer<O: Sink> {
+    bytes: [u8; ROOM],
+    len: usize,
+    writer: O,
+    failed: bool,
+    ghost room: { len ≤ 4096 },
+    ghost works: { failed ≡ O.has_failed writer },
+}
+
+impl<O: Sink> Buffer<O> {
+    ghost use Rattle.std.specs.Prelude.{◌++◌, IfSome, IsTrue, length, take};
+    ghost use Rattle.std.specs.Io.KnownBytes.{Appends};
+    ghost use Rattle.lset_session.specs.Devices.{CutShort};
+    ghost use Rattle.lset_server.specs.Buffered.{said};
+
+    /// No answers, and a writer that has not failed.
+    fn new(writer: O) -> Buffer<O>
+        requires { O.has_failed writer ≡ false }
+    {
+        Buffer {
+            bytes: [0; ROOM],
+            len: 0,
+            writer,
+            failed: false,
+        }
+    }
+
+    /// Lets the answers leave, and tells whether all have left. A write that fails is the last.
+    fn flush(&mut self) -> bool
+        ensures whole { IsTrue result → (self.new.len ≡ 0)
+            × Appends (O.written self.old.writer) (O.written self.new.writer) (take self.old.len self.old.bytes) }
+        ensures cut { result ≡ false → self.old.failed ≡ false
+            → CutShort (O.written self.old.writer) (O.written self.new.writer) (take self.old.len self.old.bytes) }
+    {
+        if self.failed {
+            return false;
+        }
+        let whole = write_all(&mut self.writer, &self.bytes[..self.len]);
+        self.failed = !whole;
+        self.len = 0;
+        whole
+    }
+
+    /// Holds a front of the text, as long as there is room, and gives its length.
+    fn put(&mut self, text: &[u8]) -> usize
+        ensures bound { result ≤ length text.now }
+        ensures some { self.old.len ≢ ROOM → 0 < length text.now → 0 < result }
+        ensures bytes { take self.new.len self.new.bytes ≡ take self.old.len self.old.bytes ++ take result text.now }
+        ensures writer { self.new.writer ≡ self.old.writer }
+    {
+        let count = text.len().min(ROOM - self.len);
+        let end = self.len + count;
+        self.bytes[self.len..end].copy_from_slice(&text[..count]);
+        self.len = end;
+        count
+    }
+
+    /// Holds a front of the text and gives its length. Where there is no room the answers leave first; `None` where that
+    /// fails.
+    fn write(&mut self, text: &[u8]) -> Option<usize>
+        ensures bound { IfSome result (λ n. (n ≤ length text.now) × (0 < length text.now → 0 < n)) }
+        ensures bytes { IfSome result (λ n. Appends (said (O.written self.old.writer) self.old.len self.old.bytes)
+            (said (O.written self.new.writer) self.new.len self.new.bytes) (take n text.now)) }
+    {
+        if self.len == ROOM && !self.flush() {
+            return None;
+        }
+        Some(self.put(text))
+    }
+}
+
+/// Lets the answers of the buffer leave, and tells whether all have left.
+fn flush<O: Sink>(buffer: &RefCell<Buffer<O>>) -> bool {
+    match buffer.try_borrow_mut() {
+        Ok(mut buffer) => buffer.flush(),
+        Err(_) => false,
+    }
+}
+
+/// What a session reads from: the answers leave before each read.
+#[derive(Drop)]
+struct Flushing<'a, I, O: Sink> {
+    reader: I,
+    buffer: &'a RefCell<Buffer<O>>,
+    failed: bool,
+}
+
+impl<I: Source, O: Sink> Source for Flushing<'_, I, O> {
+    ghost use Rattle.std.specs.Prelude.{◌||◌};
+
+    ghost remaining = { λ d. I.remaining d.reader };
+
+    ghost has_failed = { λ d. d.failed || I.has_failed d.reader };
+
+    fn read(&mut self, buffer: &mut [u8]) -> Option<usize> {
+        if !flush(self.buffer) {
+            self.failed = true;
+            return None;
+        }
+        self.reader.read(buffer)
+    }
+}
+
+/// What a session answers on: the answers wait. No contract knows what a cell holds, so nothing is said of what was written.
+#[derive(Drop)]
+struct Buffered<'a, O: Sink> {
+    buffer: &'a RefCell<Buffer<O>>,
+    failed: bool,
+}
+
+impl<O: Sink> Sink for Buffered<'_, O> {
+    ghost written = { λ _. None };
+
+    ghost has_failed = { λ d. d.failed };
+
+    fn write(&mut self, text: &[u8]) -> Option<usize> {
+        if let Ok(mut buffer) = self.buffer.try_borrow_mut()
+            && let Some(count) = buffer.write(text)
+        {
+            return Some(count);
+        }
+        self.failed = true;
+        None
+    }
+}
+
+/// Holds a session as `session` does, with a reader and a writer of its own, and holds its answers back: up to 4,096 bytes of
+/// them wait, and are handed to `writer` before each read of `reader`, where there is no more room, and as the session ends.
+///
+/// Where a write fails the session ends with `WriteFault`, and no write follows. What was written is then a front of the
+/// answers; the calls whose answers waited stay made, and are counted. It may wait as its set, its reader and its writer do,
+/// and takes no memory.
+pub fn buffered_session<R: Wait, I: Source + Drop, O: Sink + Drop, S: SetCalls>(
+    rt: &R,
+    reader: I,
+    writer: O,
+    set: &S,
+    seat: &mut S::Seat,
+) -> Ended
+    requires seat { S.is_of set.now seat.old }
+    requires works { (I.has_failed reader ≡ false) × (O.has_failed writer ≡ false) }
+    // [Session] of what was read and of the calls that were made, and nothing of what was written.
+    ensures session { (end : Ending) × (left : Option (List ℕ)) × (result.why ≢ Why.WriteFault → result.why ≡ end)
+        × IsSession end result.calls (I.remaining reader) left (S.record_of seat.old) (S.record_of seat.new) None None }
+    ensures few { result.calls ≤ MOST_LINES }
+    ensures seat { S.is_of set.now seat.new × (S.held_by seat.new ≡ S.held_by seat.old) }
+{
+    let buffer = RefCell::new(Buffer::new(writer));
+    let ended = session(
+        rt,
+        &mut Flushing {
+            reader,
+            buffer: &buffer,
+            failed: false,
+        },
+        &mut Buffered {
+            buffer: &buffer,
+            failed: false,
+        },
+        set,
+        seat,
+    );
+    if flush(&buffer) {
+        ended
+    } else {
+        Ended {
+            why: Why::WriteFault,
+            ..ended
+        }
+    }
+}
