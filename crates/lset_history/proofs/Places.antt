@@ -1,9 +1,10 @@
 -- Places of an order: which calls stand at the earlier ones, and what their replies come to.
-use Rattle.std.proofs.Common.{◌⊎◌, ◌≡◌, ◌≢◌, ℕ, zero, suc, ◌<◌, ◌≤◌, ◌+◌, ◌==◌, ◌||◌, true, false, cond, List, [], ◌∷◌, length, take, map, Option, Some, None, refl, sym, ap, ◌∙◌, subst, ⊎_elim, inl, inr, arith, add-one}
-use Rattle.std.specs.Ordering.{nat_cmp, is_eq}
-use Rattle.std.proofs.lemmas.List.{take-take, get_or-take, length-take}
+use Rattle.std.proofs.Common.{◌⊎◌, ◌≡◌, ◌≢◌, ℕ, zero, suc, ◌<◌, ◌≤◌, ◌+◌, ◌==◌, ◌||◌, Bool, true, false, List, [], ◌∷◌, length, get_or, take, map, Option, Some, None, refl, sym, ap, ◌∙◌, subst, ⊎_elim, inl, inr, arith, add-one}
+use Rattle.std.specs.List.{All}
+use Rattle.std.specs.Prelude.{set}
+use Rattle.std.proofs.lemmas.List.{take-take, get_or-take, length-take, get_or_past, get_or-set_same, get_or-set_other}
 use Rattle.std.proofs.lemmas.List.Folds.{list_any_more}
-use Rattle.std.proofs.lemmas.Bool.{cases_eq, eqb-true, eq-eqb, ne_eqb, or_cases, or_parts, or_right, false≢true, cond-true, cond-false}
+use Rattle.std.proofs.lemmas.Bool.{cases_eq, cases_lt, eqb-true, eq-eqb, ne_eqb, or_cases, or_parts, or_right, false≢true}
 use Rattle.std.proofs.Math.Bool.{or-false}
 use Rattle.std.specs.Option.{IfSome, IsSomeAnd}
 use Rattle.std.proofs.lemmas.List.Elements.{All-more}
@@ -13,9 +14,8 @@ use Rattle.lset_words.specs.declared.history.Placed.{Placed}
 use Rattle.lset_words.specs.SequentialSet.{SetState, reply_to, after_call, IsLegal}
 use Rattle.lset_words.specs.History.{answered, call_numbered}
 use Rattle.lset_history.specs.Faults.{HasWrongReply, Passes, place_at, placed_call, set_left_by}
-use Rattle.lset_history.specs.Checks.{stands, in_tree, HoldsCalls, HasReply, HasOtherReply, HasReplies, after_order, after_reply}
+use Rattle.lset_history.specs.Checks.{stands, MarksCalls, HasReply, HasOtherReply, HasReplies, after_order, after_reply}
 use Rattle.lset_history.specs.Oracle.{OracleValue}
-use Rattle.lset_history.proofs.KeySets.{same_test}
 
 -- THE CALLS THAT STAND
 -- a call that stands among the first i places stands at one of them
@@ -41,19 +41,24 @@ stands_nowhere (p ∷ ps) (suc i) n h zero low inside = λ e.
 stands_nowhere (p ∷ ps) (suc i) n h (suc k) low inside =
     let parts = or_parts (p.call == n) (stands (take i ps) n) h in stands_nowhere ps i n parts.1 k (omega arith) (omega arith)
 
--- one more place, whose call goes into the tree
-pub holds_more : (old new : List ℕ) (order : List Placed) (i : ℕ) → i < length order → HoldsCalls old (take i order)
-    → ((q : ℕ) → in_tree new q ≡ cond (is_eq (nat_cmp (place_at order i).call q)) true (in_tree old q))
-    → HoldsCalls new (take (i + 1) order)
-holds_more old new order i inside holds after q =
+-- no place, and no mark
+pub marks_none : (marks : List Bool) (order : List Placed) → All (λ mark. mark ≡ false) marks → MarksCalls marks (take 0 order)
+marks_none marks order none q =
+    ⊎_elim (λ (low : q < length marks). none q false low) (λ (past : length marks ≤ q). get_or_past marks q false past)
+    (cases_lt q (length marks))
+
+-- one more place, whose call gets its mark
+pub marks_more : (marks : List Bool) (order : List Placed) (i : ℕ) → i < length order
+    → (place_at order i).call < length marks → MarksCalls marks (take i order)
+    → MarksCalls (set marks (place_at order i).call true) (take (i + 1) order)
+marks_more marks order i inside low holds q =
     let call = (place_at order i).call in
     let more = list_any_more (λ (p : Placed). p.call == q) order i (place_at [] 0) inside in
     ⊎_elim
     (λ (e : call ≡ q).
-    after q ∙ cond-true (is_eq (nat_cmp call q)) true (in_tree old q) (sym (same_test call q) ∙ eq-eqb q call (sym e))
-    ∙ sym (more ∙ or_right _ _ (eq-eqb call q e)))
+    subst (λ n. get_or (set marks call true) n false ≡ true) e (get_or-set_same marks call true false low) ∙ sym (more ∙ or_right _ _ (eq-eqb call q e)))
     (λ (ne : call ≢ q).
-    after q ∙ cond-false (is_eq (nat_cmp call q)) true (in_tree old q) (sym (same_test call q) ∙ ne_eqb q call (λ e. ne (sym e)))
+    get_or-set_other marks call q true false (λ e. ne (sym e))
     ∙ holds q ∙ sym (more ∙ ap (λ b. stands (take i order) q || b) (ne_eqb call q ne) ∙ or-false _))
     (cases_eq call q)
 

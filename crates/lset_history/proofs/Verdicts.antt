@@ -1,9 +1,8 @@
 -- What the single checks of an order come to: its faults, and that it explains the history.
-use Rattle.std.proofs.Common.{◌≡◌, ◌≢◌, ℕ, ◌<◌, ◌==◌, true, false, List, [], length, get_or, Option, Some, None, is_some, refl, sym, ap, ◌∙◌, subst, ⊎_elim, inl, inr, ◌⊎◌, arith}
+use Rattle.std.proofs.Common.{◌≡◌, ◌≢◌, ℕ, ◌<◌, ◌==◌, Bool, true, false, List, [], length, get_or, Option, Some, None, is_some, refl, sym, ap, ◌∙◌, subst, ⊎_elim, inl, inr, ◌⊎◌, arith}
 use Rattle.std.specs.List.{All, AllPairs, Contains}
 use Rattle.std.specs.List.Sorted.{IsStrictlyIncreasing}
-use Rattle.std.specs.Option.{IfSome, IsSomeAnd, IsSome, MatchOption}
-use Rattle.std.proofs.lemmas.Option.{MatchOption-at_none}
+use Rattle.std.specs.Option.{IfSome, IsSomeAnd, IsSome}
 use Rattle.std.proofs.lemmas.List.{get_or_default, take_all}
 use Rattle.std.proofs.lemmas.List.Folds.{list_any_none}
 use Rattle.std.proofs.lemmas.Bool.{cases_Bool, cases_order, ne_eqb, false≢true}
@@ -17,7 +16,7 @@ use Rattle.lset_history.specs.Oracle.{OracleValue, set_opened}
 use Rattle.lset_history.specs.declared.fault.OrderFault.{OrderFault}
 use Rattle.lset_history.specs.declared.fault.OrderFault.TheVariants.{Unknown, Twice, Missing, WrongReply, TooEarly, WrongSet, Memory}
 use Rattle.lset_history.specs.Faults.{Explains, IsFault, Passes, RefusesFirst, MissesNone, MissesFirst, IsMissing, IsUnknown, IsTwice, HasWrongReply, IsTooEarly, place_at, set_left_by}
-use Rattle.lset_history.specs.Checks.{HasKnownCalls, stands, HoldsCalls, IsLeftOut, HasReplies, after_order}
+use Rattle.lset_history.specs.Checks.{HasKnownCalls, stands, MarksCalls, IsLeftOut, HasReplies, after_order}
 use Rattle.lset_history.proofs.Histories.{IsCall, calls_of}
 use Rattle.lset_history.proofs.Places.{stands_earlier, stands_nowhere, legal_at, passes_replies}
 
@@ -41,20 +40,20 @@ stands_absent order n h k d low =
     let whole = subst Q (sym (take_all (length order) order (omega arith))) h in
     subst P (sym (read_place order k d low)) (stands_nowhere order (length order) n whole k low low)
 
-left_out : (calls : List CallRecord) (order : List Placed) (keys : List ℕ) (n : ℕ) → HoldsCalls keys order
-    → IsMissing calls order n → IsLeftOut calls keys n
-left_out calls order keys n holds m =
+left_out : (calls : List CallRecord) (order : List Placed) (marks : List Bool) (n : ℕ) → MarksCalls marks order
+    → IsMissing calls order n → IsLeftOut calls marks n
+left_out calls order marks n holds m =
     record { known = m.known; ended = m.ended; absent = holds n ∙ absent_stands order n m.absent }
 
-pub misses_none : (calls : List CallRecord) (order : List Placed) (keys : List ℕ) → HoldsCalls keys order
-    → ((n : ℕ) → IsLeftOut calls keys n → ⊥) → MissesNone calls order
-misses_none calls order keys holds none n m = none n (left_out calls order keys n holds m)
+pub misses_none : (calls : List CallRecord) (order : List Placed) (marks : List Bool) → MarksCalls marks order
+    → ((n : ℕ) → IsLeftOut calls marks n → ⊥) → MissesNone calls order
+misses_none calls order marks holds none n m = none n (left_out calls order marks n holds m)
 
-pub misses_first : (calls : List CallRecord) (order : List Placed) (keys : List ℕ) (n : ℕ) → HoldsCalls keys order
-    → IsLeftOut calls keys n × ((k : ℕ) → k < n → IsLeftOut calls keys k → ⊥) → MissesFirst calls order n
-misses_first calls order keys n holds h = record {
+pub misses_first : (calls : List CallRecord) (order : List Placed) (marks : List Bool) (n : ℕ) → MarksCalls marks order
+    → IsLeftOut calls marks n × ((k : ℕ) → k < n → IsLeftOut calls marks k → ⊥) → MissesFirst calls order n
+misses_first calls order marks n holds h = record {
   missing = record { known = h.0.known; ended = h.0.ended; absent = stands_absent order n (sym (holds n) ∙ h.0.absent) };
-  least = λ k low m. h.1 k low (left_out calls order keys k holds m);
+  least = λ k low m. h.1 k low (left_out calls order marks k holds m);
 }
 
 -- THE ORDER LINEARIZES THE HISTORY
@@ -118,37 +117,30 @@ linearizes o calls order known once none replies early = record {
 
 -- THE ANSWERS of the check, from what its single checks tell of the calls that it reads
 
--- the calls of the order are known and stand once, and a tree has their numbers
-pub record StandsOnce (h : HistoryValue) (calls : List CallRecord) (order : List Placed) (tree : List ℕ) : Type 0 where
+-- the calls of the order are known and stand once, and just they have marks
+pub record StandsOnce (h : HistoryValue) (calls : List CallRecord) (order : List Placed) (marks : List Bool) : Type 0 where
   pub calls_are : calls ≡ h.calls
   pub known : HasKnownCalls calls order
   pub once : Passes (IsTwice order) order
-  pub holds : HoldsCalls tree order
+  pub holds : MarksCalls marks order
 
 -- and no ended call is left out, and the sequential set has opened
-pub record LeavesNoneOut (h : HistoryValue) (calls : List CallRecord) (order : List Placed) (tree : List ℕ)
+pub record LeavesNoneOut (h : HistoryValue) (calls : List CallRecord) (order : List Placed) (marks : List Bool)
     (oracle : OracleValue) : Type 0 where
-  pub stands_once : StandsOnce h calls order tree
-  pub none_out : (number : ℕ) → IsLeftOut calls tree number → ⊥
+  pub stands_once : StandsOnce h calls order marks
+  pub none_out : (number : ℕ) → IsLeftOut calls marks number → ⊥
   pub opens : oracle ≡ set_opened h.opening
 
-pub stands_once : (h : HistoryValue) (calls : List CallRecord) (order : List Placed) (tree : List ℕ) (twice : Option ℕ)
-    → calls ≡ h.calls → HasKnownCalls calls order → twice ≡ None
-    → MatchOption twice (Passes (IsTwice order) order) (RefusesFirst (IsTwice order) order)
-    → MatchOption twice (HoldsCalls tree order) (λ _. Unit {0})
-    → StandsOnce h calls order tree
-stands_once h calls order tree twice e known none once holds = record {
-  calls_are = e;
-  known = known;
-  once = MatchOption-at_none _ _ none once;
-  holds = MatchOption-at_none _ _ none holds;
-}
+pub stands_once : (h : HistoryValue) (calls : List CallRecord) (order : List Placed) (marks : List Bool)
+    → calls ≡ h.calls → HasKnownCalls calls order → Passes (IsTwice order) order → MarksCalls marks order
+    → StandsOnce h calls order marks
+stands_once h calls order marks e known once holds = record { calls_are = e; known = known; once = once; holds = holds }
 
-pub leaves_none_out : (h : HistoryValue) (calls : List CallRecord) (order : List Placed) (tree : List ℕ)
+pub leaves_none_out : (h : HistoryValue) (calls : List CallRecord) (order : List Placed) (marks : List Bool)
     (oracle : OracleValue)
-    → StandsOnce h calls order tree → ((number : ℕ) → IsLeftOut calls tree number → ⊥)
-    → oracle ≡ set_opened h.opening → LeavesNoneOut h calls order tree oracle
-leaves_none_out h calls order tree oracle once none opens =
+    → StandsOnce h calls order marks → ((number : ℕ) → IsLeftOut calls marks number → ⊥)
+    → oracle ≡ set_opened h.opening → LeavesNoneOut h calls order marks oracle
+leaves_none_out h calls order marks oracle once none opens =
     record { stands_once = once; none_out = none; opens = opens }
 
 -- the threads of the calls are those of the set
@@ -161,107 +153,107 @@ threads_below h calls oracle e history opens k d low =
     let own : (get_or calls k d).thread < h.opening.threads = call.of_a_thread in
     rw opens own
 
-none_missing : (h : HistoryValue) (order : List Placed) (tree : List ℕ) (oracle : OracleValue)
-    → LeavesNoneOut h h.calls order tree oracle → MissesNone h.calls order
-none_missing h order tree oracle l = misses_none h.calls order tree l.stands_once.holds l.none_out
+none_missing : (h : HistoryValue) (order : List Placed) (marks : List Bool) (oracle : OracleValue)
+    → LeavesNoneOut h h.calls order marks oracle → MissesNone h.calls order
+none_missing h order marks oracle l = misses_none h.calls order marks l.stands_once.holds l.none_out
 
-pub missing_fault : (h : HistoryValue) (calls : List CallRecord) (order : List Placed) (keys tree : List ℕ) (number : ℕ)
-    → StandsOnce h calls order tree
-    → IsLeftOut calls tree number × ((smaller : ℕ) → smaller < number → IsLeftOut calls tree smaller → ⊥)
+pub missing_fault : (h : HistoryValue) (calls : List CallRecord) (order : List Placed) (keys : List ℕ) (marks : List Bool) (number : ℕ)
+    → StandsOnce h calls order marks
+    → IsLeftOut calls marks number × ((smaller : ℕ) → smaller < number → IsLeftOut calls marks smaller → ⊥)
     → IsFault h order keys (Missing number)
-missing_fault h calls order keys tree number s out =
+missing_fault h calls order keys marks number s out =
     let P : List CallRecord → Type 0 = λ xs. HasKnownCalls xs order in
     let Q : List CallRecord → Type 0 = λ xs.
-    IsLeftOut xs tree number × ((smaller : ℕ) → smaller < number → IsLeftOut xs tree smaller → ⊥) in (
+    IsLeftOut xs marks number × ((smaller : ℕ) → smaller < number → IsLeftOut xs marks smaller → ⊥) in (
       passes_known h.calls order (subst P s.calls_are s.known),
       s.once,
-      misses_first h.calls order tree number s.holds (subst Q s.calls_are out),
+      misses_first h.calls order marks number s.holds (subst Q s.calls_are out),
     )
 
 -- the same facts of the calls of the history itself, from the opening of its set
-settled : (h : HistoryValue) (calls : List CallRecord) (order : List Placed) (tree : List ℕ) (oracle : OracleValue)
-    → LeavesNoneOut h calls order tree oracle → LeavesNoneOut h h.calls order tree (set_opened h.opening)
-settled h calls order tree oracle l =
-    let P : List CallRecord → Type 0 = λ xs. StandsOnce h xs order tree in
-    let Q : List CallRecord → Type 0 = λ xs. (number : ℕ) → IsLeftOut xs tree number → ⊥ in
+settled : (h : HistoryValue) (calls : List CallRecord) (order : List Placed) (marks : List Bool) (oracle : OracleValue)
+    → LeavesNoneOut h calls order marks oracle → LeavesNoneOut h h.calls order marks (set_opened h.opening)
+settled h calls order marks oracle l =
+    let P : List CallRecord → Type 0 = λ xs. StandsOnce h xs order marks in
+    let Q : List CallRecord → Type 0 = λ xs. (number : ℕ) → IsLeftOut xs marks number → ⊥ in
     record {
       stands_once = subst P l.stands_once.calls_are l.stands_once;
       none_out = subst Q l.stands_once.calls_are l.none_out;
       opens = refl;
     }
 
-pub wrong_reply_fault : (h : HistoryValue) (calls : List CallRecord) (order : List Placed) (keys tree : List ℕ)
+pub wrong_reply_fault : (h : HistoryValue) (calls : List CallRecord) (order : List Placed) (keys : List ℕ) (marks : List Bool)
     (oracle : OracleValue) (number : ℕ)
-    → LeavesNoneOut h calls order tree oracle → RefusesFirst (HasWrongReply oracle.quota oracle.state calls order) order number
+    → LeavesNoneOut h calls order marks oracle → RefusesFirst (HasWrongReply oracle.quota oracle.state calls order) order number
     → IsFault h order keys (WrongReply number)
-wrong_reply_fault h calls order keys tree oracle number l w =
-    let own = settled h calls order tree oracle l in
+wrong_reply_fault h calls order keys marks oracle number l w =
+    let own = settled h calls order marks oracle l in
     let P : OracleValue → Type 0 = λ o. RefusesFirst (HasWrongReply o.quota o.state calls order) order number in
     let Q : List CallRecord → Type 0 = λ xs. RefusesFirst (HasWrongReply h.opening.quota (opening_set h.opening) xs order) order number in (
       passes_known h.calls order own.stands_once.known,
       own.stands_once.once,
-      none_missing h order tree _ own,
+      none_missing h order marks _ own,
       subst Q l.stands_once.calls_are (subst P l.opens w),
     )
 
-own_replies : (h : HistoryValue) (calls : List CallRecord) (order : List Placed) (tree : List ℕ) (oracle : OracleValue)
-    → LeavesNoneOut h calls order tree oracle → HasReplies oracle calls order → HasReplies (set_opened h.opening) h.calls order
-own_replies h calls order tree oracle l r =
+own_replies : (h : HistoryValue) (calls : List CallRecord) (order : List Placed) (marks : List Bool) (oracle : OracleValue)
+    → LeavesNoneOut h calls order marks oracle → HasReplies oracle calls order → HasReplies (set_opened h.opening) h.calls order
+own_replies h calls order marks oracle l r =
     let P : OracleValue → Type 0 = λ o. HasReplies o calls order in
     let Q : List CallRecord → Type 0 = λ xs. HasReplies (set_opened h.opening) xs order in
     subst Q l.stands_once.calls_are (subst P l.opens r)
 
-pub too_early_fault : (h : HistoryValue) (calls : List CallRecord) (order : List Placed) (keys tree : List ℕ)
+pub too_early_fault : (h : HistoryValue) (calls : List CallRecord) (order : List Placed) (keys : List ℕ) (marks : List Bool)
     (oracle : OracleValue) (number : ℕ)
-    → LeavesNoneOut h calls order tree oracle → HasReplies oracle calls order
+    → LeavesNoneOut h calls order marks oracle → HasReplies oracle calls order
     → RefusesFirst (IsTooEarly calls order) order number
     → IsFault h order keys (TooEarly number)
-too_early_fault h calls order keys tree oracle number l r e =
-    let own = settled h calls order tree oracle l in
+too_early_fault h calls order keys marks oracle number l r e =
+    let own = settled h calls order marks oracle l in
     let Q : List CallRecord → Type 0 = λ xs. RefusesFirst (IsTooEarly xs order) order number in (
       passes_known h.calls order own.stands_once.known,
       own.stands_once.once,
-      none_missing h order tree _ own,
-      passes_replies _ h.calls order (own_replies h calls order tree oracle l r),
+      none_missing h order marks _ own,
+      passes_replies _ h.calls order (own_replies h calls order marks oracle l r),
       subst Q l.stands_once.calls_are e,
     )
 
 -- the keys that the set has after the order
-keys_after : (h : HistoryValue) (calls : List CallRecord) (order : List Placed) (tree : List ℕ) (oracle : OracleValue)
-    → LeavesNoneOut h calls order tree oracle
+keys_after : (h : HistoryValue) (calls : List CallRecord) (order : List Placed) (marks : List Bool) (oracle : OracleValue)
+    → LeavesNoneOut h calls order marks oracle
     → (after_order oracle calls order).state.keys ≡ (set_left_by (opening_set h.opening) h.calls order).keys
-keys_after h calls order tree oracle l =
+keys_after h calls order marks oracle l =
     ap (λ (o : OracleValue). (after_order o calls order).state.keys) l.opens
     ∙ ap (λ (xs : List CallRecord). (set_left_by (opening_set h.opening) xs order).keys) l.stands_once.calls_are
 
-pub wrong_set_fault : (h : HistoryValue) (calls : List CallRecord) (order : List Placed) (keys tree : List ℕ)
+pub wrong_set_fault : (h : HistoryValue) (calls : List CallRecord) (order : List Placed) (keys : List ℕ) (marks : List Bool)
     (oracle now : OracleValue)
-    → LeavesNoneOut h calls order tree oracle → HasReplies oracle calls order → Passes (IsTooEarly calls order) order
+    → LeavesNoneOut h calls order marks oracle → HasReplies oracle calls order → Passes (IsTooEarly calls order) order
     → now ≡ after_order oracle calls order → now.state.keys ≢ keys
     → IsFault h order keys WrongSet
-wrong_set_fault h calls order keys tree oracle now l r e after other =
-    let own = settled h calls order tree oracle l in
+wrong_set_fault h calls order keys marks oracle now l r e after other =
+    let own = settled h calls order marks oracle l in
     let Q : List CallRecord → Type 0 = λ xs. Passes (IsTooEarly xs order) order in (
       passes_known h.calls order own.stands_once.known,
       own.stands_once.once,
-      none_missing h order tree _ own,
-      passes_replies _ h.calls order (own_replies h calls order tree oracle l r),
+      none_missing h order marks _ own,
+      passes_replies _ h.calls order (own_replies h calls order marks oracle l r),
       subst Q l.stands_once.calls_are e,
-      λ same. other (ap (λ (o : OracleValue). o.state.keys) after ∙ keys_after h calls order tree oracle l ∙ sym same),
+      λ same. other (ap (λ (o : OracleValue). o.state.keys) after ∙ keys_after h calls order marks oracle l ∙ sym same),
     )
 
-pub explained : (h : HistoryValue) (calls : List CallRecord) (order : List Placed) (keys tree : List ℕ) (oracle now : OracleValue)
-    → LeavesNoneOut h calls order tree oracle → HasReplies oracle calls order → Passes (IsTooEarly calls order) order
+pub explained : (h : HistoryValue) (calls : List CallRecord) (order : List Placed) (keys : List ℕ) (marks : List Bool) (oracle now : OracleValue)
+    → LeavesNoneOut h calls order marks oracle → HasReplies oracle calls order → Passes (IsTooEarly calls order) order
     → now ≡ after_order oracle calls order → now.state.keys ≡ keys → IsStrictlyIncreasing now.state.keys
     → Explains h order keys
-explained h calls order keys tree oracle now l r e after same rising =
-    let own = settled h calls order tree oracle l in
+explained h calls order keys marks oracle now l r e after same rising =
+    let own = settled h calls order marks oracle l in
     let P : List CallRecord → Type 0 = λ xs. Passes (IsTooEarly xs order) order in
     record {
       linearizes = linearizes (set_opened h.opening) h.calls order own.stands_once.known own.stands_once.once
-          (none_missing h order tree _ own)
-          (own_replies h calls order tree oracle l r) (subst P l.stands_once.calls_are e);
-      keys_left = sym same ∙ ap (λ (o : OracleValue). o.state.keys) after ∙ keys_after h calls order tree oracle l;
+          (none_missing h order marks _ own)
+          (own_replies h calls order marks oracle l r) (subst P l.stands_once.calls_are e);
+      keys_left = sym same ∙ ap (λ (o : OracleValue). o.state.keys) after ∙ keys_after h calls order marks oracle l;
       rising = subst IsStrictlyIncreasing same rising;
     }
 

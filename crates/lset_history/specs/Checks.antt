@@ -1,8 +1,6 @@
 -- What the single checks of an order tell.
-use Rattle.std.specs.Prelude.{◌≡◌, ◌≢◌, ℕ, ◌<◌, ◌==◌, ◌⊎◌, Bool, true, false, List, map, length, min, Option, Some, None, is_some, All, IfSome, IsSomeAnd}
+use Rattle.std.specs.Prelude.{◌≡◌, ◌≢◌, ℕ, ◌<◌, ◌==◌, ◌⊎◌, Bool, true, false, List, map, length, get_or, min, Option, Some, None, is_some, All, IfSome, IsSomeAnd}
 use Rattle.std.specs.List.{list_any}
-use Rattle.std.specs.Ordering.{nat_cmp}
-use Rattle.std.specs.BTreeMap.{is_at}
 use Rattle.lset_words.specs.declared.Reply.{Reply}
 use Rattle.lset_words.specs.declared.history.CallRecord.{CallRecord}
 use Rattle.lset_words.specs.declared.history.Placed.{Placed}
@@ -19,26 +17,27 @@ HasKnownCalls calls order = All (λ (p : Placed). p.call < length calls) order
 abbrev pub stands : List Placed → ℕ → Bool
 stands order number = list_any (λ p. p.call == number) order
 
--- a number is among the keys of a tree
-abbrev pub in_tree : List ℕ → ℕ → Bool
-in_tree keys number = list_any (is_at (nat_cmp number)) keys
+-- whether a call's mark is set, in a list with a mark for each call
+abbrev pub is_marked : List Bool → ℕ → Bool
+is_marked marks number = get_or marks number false
 
--- the keys are the numbers of the calls that stand in the order
-abbrev pub HoldsCalls : List ℕ → List Placed → Type 0
-HoldsCalls keys order = (number : ℕ) → in_tree keys number ≡ stands order number
+-- the marks that are set are those of the calls that stand in the order
+abbrev pub MarksCalls : List Bool → List Placed → Type 0
+MarksCalls marks order = (number : ℕ) → is_marked marks number ≡ stands order number
 
--- an ended call is not among the keys
-pub record IsLeftOut (calls : List CallRecord) (keys : List ℕ) (number : ℕ) : Type 0 where
+-- an ended call has no mark
+pub record IsLeftOut (calls : List CallRecord) (marks : List Bool) (number : ℕ) : Type 0 where
   pub known : number < length calls
   pub ended : is_some (call_numbered calls number).ended ≡ true
-  pub absent : in_tree keys number ≡ false
+  pub absent : is_marked marks number ≡ false
 
-abbrev pub LeavesNoneOut : List CallRecord → List ℕ → Type 0
-LeavesNoneOut calls keys = (number : ℕ) → IsLeftOut calls keys number → ⊥
+abbrev pub LeavesNoneOut : List CallRecord → List Bool → Type 0
+LeavesNoneOut calls marks = (number : ℕ) → IsLeftOut calls marks number → ⊥
 
--- the least number of an ended call that is not among the keys
-abbrev pub LeavesOutFirst : List CallRecord → List ℕ → ℕ → Type 0
-LeavesOutFirst calls keys number = IsLeftOut calls keys number × ((smaller : ℕ) → smaller < number → IsLeftOut calls keys smaller → ⊥)
+-- the least number of an ended call that has no mark
+abbrev pub LeavesOutFirst : List CallRecord → List Bool → ℕ → Type 0
+LeavesOutFirst calls marks number =
+    IsLeftOut calls marks number × ((smaller : ℕ) → smaller < number → IsLeftOut calls marks smaller → ⊥)
 
 -- a call has this reply in the history, if it has ended, and of the sequential set
 pub record HasReply (o : OracleValue) (x : CallRecord) (reply : Reply) : Type 0 where

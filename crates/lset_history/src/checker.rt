@@ -1,13 +1,13 @@
-ghost use Rattle.std.specs.Prelude.{◌≡◌, ◌≢◌, ◌<◌, ◌^◌, [], IfOk, OnOk, IfErr, MatchOption, MatchBool, IsSomeAnd, IsTrue, ◌↔◌, length, All};
+ghost use Rattle.std.specs.Prelude.{◌≡◌, ◌≢◌, ◌<◌, ◌^◌, Bool, false, IfOk, OnOk, IfErr, MatchOption, MatchBool, IsSomeAnd, IsTrue, ◌↔◌, length, All};
 ghost use Rattle.lset_words.specs.declared.history.CallRecord.{CallRecord};
+ghost use Rattle.lset_words.specs.declared.history.Placed.{Placed};
 ghost use Rattle.lset_history.specs.Faults.{Explains, IsFault, Passes, RefusesFirst, IsUnknown, IsTwice, HasWrongReply, IsTooEarly};
-ghost use Rattle.lset_history.specs.Checks.{HasKnownCalls, HoldsCalls, LeavesNoneOut, LeavesOutFirst, HasReply, HasOtherReply, after_reply, HasReplies, after_order, least_with};
+ghost use Rattle.lset_history.specs.Checks.{HasKnownCalls, MarksCalls, LeavesNoneOut, LeavesOutFirst, HasReply, HasOtherReply, after_reply, HasReplies, after_order, least_with};
 ghost use Rattle.lset_history.specs.declared.fault.OrderFault.TheVariants.{Memory};
 
 use crate::{History, Oracle, OrderFault};
 use lset_words::{CallRecord, Placed, Reply};
 use std::alloc::{AllocError, Global};
-use std::collections::BTreeSet;
 
 /// The first place whose call the history has not.
 fn first_unknown(calls: &[CallRecord], order: &[Placed]) -> Option<u32>
@@ -23,33 +23,37 @@ fn first_unknown(calls: &[CallRecord], order: &[Placed]) -> Option<u32>
     None
 }
 
-/// The first place whose call stands earlier too; `placed`, empty at first, takes the calls that stand.
-fn first_twice(order: &[Placed], placed: &mut BTreeSet<u32>) -> Result<Option<u32>, AllocError>
-    requires { placed.old.keys ≡ [] }
-    ensures once { IfOk result (λ twice. MatchOption twice
+/// The first place whose call stands earlier too; `placed`, a mark for each call of the history and none set, gets those of
+/// the calls that stand.
+fn first_twice(order: &[Placed], placed: &mut [bool]) -> Option<u32>
+    requires known { All (λ (p : Placed). p.call < length placed.old) order.now }
+    requires none_set { All (λ (mark : Bool). mark ≡ false) placed.old }
+    ensures once { MatchOption result
         (Passes (IsTwice order.now) order.now)
-        (RefusesFirst (IsTwice order.now) order.now)) }
-    ensures calls { IfOk result (λ twice. MatchOption twice (HoldsCalls placed.new.keys order.now) (λ _. Unit {0})) }
+        (RefusesFirst (IsTwice order.now) order.now) }
+    ensures marks { MatchOption result (MarksCalls placed.new order.now) (λ _. Unit {0}) }
+    ensures length { length placed.new ≡ length placed.old }
 {
     for place in order {
-        if !placed.insert(place.call)? {
-            return Ok(Some(place.call));
+        if placed[place.call as usize] {
+            return Some(place.call);
         }
+        placed[place.call as usize] = true;
     }
-    Ok(None)
+    None
 }
 
-/// The least number of an ended call that is not among `placed`.
-fn first_missing(calls: &[CallRecord], placed: &BTreeSet<u32>) -> Option<u32>
-    requires { length calls.now < 2 ^ 32 }
+/// The least number of an ended call without a mark in `placed`, which has one element for each call.
+fn first_missing(calls: &[CallRecord], placed: &[bool]) -> Option<u32>
+    requires few { length calls.now < 2 ^ 32 }
+    requires each { length placed.now ≡ length calls.now }
     ensures { MatchOption result
-        (LeavesNoneOut calls.now placed.now.keys)
-        (LeavesOutFirst calls.now placed.now.keys) }
+        (LeavesNoneOut calls.now placed.now)
+        (LeavesOutFirst calls.now placed.now) }
 {
     for (index, record) in calls.iter().enumerate() {
-        let number = index as u32;
-        if record.ended.is_some() && !placed.contains(&number) {
-            return Some(number);
+        if record.ended.is_some() && !placed[index] {
+            return Some(index as u32);
         }
     }
     None
@@ -136,8 +140,8 @@ fn first_too_early(calls: &[CallRecord], order: &[Placed]) -> Option<u32>
 /// at an earlier place too (`Twice`); the least number of an ended call that does not stand (`Missing`); a place
 /// with another reply than the history's, or than the sequential set gives there (`WrongReply`); a place before
 /// that of a call which ended before this one began (`TooEarly`); other keys (`WrongSet`). `Memory` stands in
-/// place of any other answer, where a growth was refused. With n places and k keys it makes about `(n + k) log n`
-/// steps.
+/// place of any other answer, where a growth was refused. With n places, c calls and at most k keys in the set it makes about
+/// `c + n log k` steps.
 pub fn check_order(
     alloc: Global,
     history: &History,
@@ -152,11 +156,12 @@ pub fn check_order(
     if let Some(number) = first_unknown(calls, order) {
         return Err(OrderFault::Unknown(number));
     }
-    let mut placed = BTreeSet::new(alloc);
-    if let Some(number) = first_twice(order, &mut placed)? {
+    let mut marks = vec![in alloc; false; calls.len()]?;
+    let placed = marks.as_mut_slice();
+    if let Some(number) = first_twice(order, placed) {
         return Err(OrderFault::Twice(number));
     }
-    if let Some(number) = first_missing(calls, &placed) {
+    if let Some(number) = first_missing(calls, placed) {
         return Err(OrderFault::Missing(number));
     }
     let mut oracle = Oracle::before(alloc, history)?;

@@ -12,10 +12,10 @@ returns-in-Some-first_missing-clause-first_fault c =
     let h = c.args.history.now in
     let order = c.args.order.now in
     let calls = c.calls-calls.result.now in
-    let tree = c.first_twice.new.placed.keys in
-    missing_fault h calls order c.args.keys.now tree c.in-Some-first_missing.number
-    (stands_once h calls order tree _ c.calls-calls.ensures.value c.in_default.ensures c.in_default-2.is
-    c.in_ok-number.ensures.once c.in_ok-number.ensures.calls)
+    let marks = c.first_twice.new.placed in
+    missing_fault h calls order c.args.keys.now marks c.in-Some-first_missing.number
+    (stands_once h calls order marks c.calls-calls.ensures.value c.in_default.ensures
+    c.in_default-first_twice.ensures.once c.in_default-first_twice.ensures.marks)
     c.in-Some-first_missing.ensures
 
 pub returns-in-Some-first_missing-clause-not_explained : goal.returns-in-Some-first_missing-clause-not_explained
@@ -27,40 +27,40 @@ first_wrong_reply-requires-clause-threads c =
     threads_below c.args.history.now c.calls-calls.result.now c.in_ok-oracle.oracle
     c.calls-calls.ensures.value c.calls-calls.ensures.history c.in_ok-oracle.ensures
 
-pub returns-in-Some-3-clause-first_fault : goal.returns-in-Some-3-clause-first_fault
-returns-in-Some-3-clause-first_fault c =
+pub returns-in-Some-2-clause-first_fault : goal.returns-in-Some-2-clause-first_fault
+returns-in-Some-2-clause-first_fault c =
     let h = c.args.history.now in
     let order = c.args.order.now in
     let calls = c.calls-calls.result.now in
-    let tree = c.first_twice.new.placed.keys in
+    let marks = c.first_twice.new.placed in
     let oracle = c.in_ok-oracle.oracle in
-    let left = leaves_none_out h calls order tree oracle
-    (stands_once h calls order tree _ c.calls-calls.ensures.value c.in_default.ensures c.in_default-2.is
-    c.in_ok-number.ensures.once c.in_ok-number.ensures.calls)
+    let left = leaves_none_out h calls order marks oracle
+    (stands_once h calls order marks c.calls-calls.ensures.value c.in_default.ensures
+    c.in_default-first_twice.ensures.once c.in_default-first_twice.ensures.marks)
     c.in_default-first_missing.ensures c.in_ok-oracle.ensures in
     let wrong = MatchOption-at_some _ (RefusesFirst (HasWrongReply oracle.quota oracle.state calls order) order) _
-    c.in-Some-3.is c.in_ok-number-2.ensures in
-    wrong_reply_fault h calls order c.args.keys.now tree oracle c.in-Some-3.number left wrong
+    c.in-Some-2.is c.in_ok-number.ensures in
+    wrong_reply_fault h calls order c.args.keys.now marks oracle c.in-Some-2.number left wrong
 
-pub returns-in-Some-3-clause-not_explained : goal.returns-in-Some-3-clause-not_explained
-returns-in-Some-3-clause-not_explained c =
-    not_explained c.args.history.now c.args.order.now c.args.keys.now _ (returns-in-Some-3-clause-first_fault c)
+pub returns-in-Some-2-clause-not_explained : goal.returns-in-Some-2-clause-not_explained
+returns-in-Some-2-clause-not_explained c =
+    not_explained c.args.history.now c.args.order.now c.args.keys.now _ (returns-in-Some-2-clause-first_fault c)
 
 pub returns-in-Some-first_too_early-clause-first_fault : goal.returns-in-Some-first_too_early-clause-first_fault
 returns-in-Some-first_too_early-clause-first_fault c =
     let h = c.args.history.now in
     let order = c.args.order.now in
     let calls = c.calls-calls.result.now in
-    let tree = c.first_twice.new.placed.keys in
+    let marks = c.first_twice.new.placed in
     let oracle = c.in_ok-oracle.oracle in
-    let left = leaves_none_out h calls order tree oracle
-    (stands_once h calls order tree _ c.calls-calls.ensures.value c.in_default.ensures c.in_default-2.is
-    c.in_ok-number.ensures.once c.in_ok-number.ensures.calls)
+    let left = leaves_none_out h calls order marks oracle
+    (stands_once h calls order marks c.calls-calls.ensures.value c.in_default.ensures
+    c.in_default-first_twice.ensures.once c.in_default-first_twice.ensures.marks)
     c.in_default-first_missing.ensures c.in_ok-oracle.ensures in
     let replies = MatchOption-at_none
     (HasReplies oracle calls order × (c.first_wrong_reply.new.oracle ≡ after_order oracle calls order)) _
-    c.in_default-3.is c.in_ok-number-2.ensures in
-    too_early_fault h calls order c.args.keys.now tree oracle c.in-Some-first_too_early.number left replies.0
+    c.in_default-2.is c.in_ok-number.ensures in
+    too_early_fault h calls order c.args.keys.now marks oracle c.in-Some-first_too_early.number left replies.0
     c.in-Some-first_too_early.ensures
 
 pub returns-then-ne-clause-first_fault : goal.returns-then-ne-clause-first_fault
@@ -68,17 +68,17 @@ returns-then-ne-clause-first_fault c =
     let h = c.args.history.now in
     let order = c.args.order.now in
     let calls = c.calls-calls.result.now in
-    let tree = c.first_twice.new.placed.keys in
+    let marks = c.first_twice.new.placed in
     let oracle = c.in_ok-oracle.oracle in
-    let left = leaves_none_out h calls order tree oracle
-    (stands_once h calls order tree _ c.calls-calls.ensures.value c.in_default.ensures c.in_default-2.is
-    c.in_ok-number.ensures.once c.in_ok-number.ensures.calls)
+    let left = leaves_none_out h calls order marks oracle
+    (stands_once h calls order marks c.calls-calls.ensures.value c.in_default.ensures
+    c.in_default-first_twice.ensures.once c.in_default-first_twice.ensures.marks)
     c.in_default-first_missing.ensures c.in_ok-oracle.ensures in
     let replies = MatchOption-at_none
     (HasReplies oracle calls order × (c.first_wrong_reply.new.oracle ≡ after_order oracle calls order)) _
-    c.in_default-3.is c.in_ok-number-2.ensures in
+    c.in_default-2.is c.in_ok-number.ensures in
     let other = other_text _ c.args.keys.now (sym (not-true _ (sym c.if-ne.ensures))) in
-    wrong_set_fault h calls order c.args.keys.now tree oracle c.first_wrong_reply.new.oracle left replies.0
+    wrong_set_fault h calls order c.args.keys.now marks oracle c.first_wrong_reply.new.oracle left replies.0
     c.in_default-first_too_early.ensures replies.1 (λ same. other (c.as_slice.ensures.value ∙ c.in_ok-keys.ensures.keys ∙ same))
 
 pub returns-clause-explained : goal.returns-clause-explained
@@ -86,16 +86,16 @@ returns-clause-explained c =
     let h = c.args.history.now in
     let order = c.args.order.now in
     let calls = c.calls-calls.result.now in
-    let tree = c.first_twice.new.placed.keys in
+    let marks = c.first_twice.new.placed in
     let oracle = c.in_ok-oracle.oracle in
-    let left = leaves_none_out h calls order tree oracle
-    (stands_once h calls order tree _ c.calls-calls.ensures.value c.in_default.ensures c.in_default-2.is
-    c.in_ok-number.ensures.once c.in_ok-number.ensures.calls)
+    let left = leaves_none_out h calls order marks oracle
+    (stands_once h calls order marks c.calls-calls.ensures.value c.in_default.ensures
+    c.in_default-first_twice.ensures.once c.in_default-first_twice.ensures.marks)
     c.in_default-first_missing.ensures c.in_ok-oracle.ensures in
     let replies = MatchOption-at_none
     (HasReplies oracle calls order × (c.first_wrong_reply.new.oracle ≡ after_order oracle calls order)) _
-    c.in_default-3.is c.in_ok-number-2.ensures in
+    c.in_default-2.is c.in_ok-number.ensures in
     let same = same_text _ c.args.keys.now (sym (not-false _ (sym c.if-ne.ensures))) in
-    explained h calls order c.args.keys.now tree oracle c.first_wrong_reply.new.oracle left replies.0
+    explained h calls order c.args.keys.now marks oracle c.first_wrong_reply.new.oracle left replies.0
     c.in_default-first_too_early.ensures replies.1 (sym c.in_ok-keys.ensures.keys ∙ sym c.as_slice.ensures.value ∙ same)
     c.in_ok-keys.ensures.rising
