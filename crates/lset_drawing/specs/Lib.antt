@@ -9,4 +9,5 @@ pub mod Headings
 pub mod Lines
 pub mod Orders
 pub mod Refusals
+pub mod Clashes
 pub mod Frames

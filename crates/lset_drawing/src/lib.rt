@@ -3,6 +3,7 @@
 //! the lines below the rows.
 #![tactic(auto)]
 
+mod clashes;
 mod columns;
 mod drawings;
 mod frames;
@@ -16,6 +17,7 @@ mod sets;
 mod signs;
 mod standings;
 
+pub use clashes::is_clash;
 pub use columns::{Column, Mark, Sign};
 pub use drawings::{Drawing, drawing_in};
 pub use frames::add_lines_below;

@@ -1,3 +1,4 @@
+pub mod Classes
 pub mod Sheets
 pub mod Bars
 pub mod Dots

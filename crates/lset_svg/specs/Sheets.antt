@@ -27,18 +27,21 @@ line_y threads number = lane_y threads + 36 + 16 * (if nat_lt number MOST_LINES 
 
 -- ---- elements
 
-unfoldable pub text_at : ℕ → ℕ → List ℕ → List ℕ
-text_at x y text = codes "<text xml:space=\"preserve\" x=\"" ++ (decimal x ++ (codes "\" y=\"" ++ (decimal y ++ (codes "\">"
-    ++ (text ++ codes "</text>")))))
+-- a text of a class that begins there
+unfoldable pub text_at : List ℕ → ℕ → ℕ → List ℕ → List ℕ
+text_at class x y text = codes "<text class=\"" ++ (class ++ (codes "\" xml:space=\"preserve\" x=\"" ++ (decimal x ++ (codes "\" y=\""
+    ++ (decimal y ++ (codes "\">" ++ (text ++ codes "</text>")))))))
 
 -- a text that is there only where it is shown
-abbrev pub text_where : Bool → ℕ → ℕ → List ℕ → List (List ℕ)
-text_where shown x y text = if shown then text_at x y text ∷ [] else []
+abbrev pub text_where : Bool → List ℕ → ℕ → ℕ → List ℕ → List (List ℕ)
+text_where shown class x y text = if shown then text_at class x y text ∷ [] else []
 
-unfoldable pub line_between : ℕ → ℕ → ℕ → ℕ → List ℕ → List ℕ
-line_between x y x2 y2 style = codes "<line x1=\"" ++ (decimal x ++ (codes "\" y1=\"" ++ (decimal y ++ (codes "\" x2=\""
-    ++ (decimal x2 ++ (codes "\" y2=\"" ++ (decimal y2 ++ (codes "\" stroke=" ++ (style ++ codes "/>")))))))))
+-- a line of a class from one place to another
+unfoldable pub line_between : List ℕ → ℕ → ℕ → ℕ → ℕ → List ℕ
+line_between class x y x2 y2 = codes "<line class=\"" ++ (class ++ (codes "\" x1=\"" ++ (decimal x ++ (codes "\" y1=\""
+    ++ (decimal y ++ (codes "\" x2=\"" ++ (decimal x2 ++ (codes "\" y2=\"" ++ (decimal y2 ++ codes "\"/>")))))))))
 
-unfoldable pub circle_at : ℕ → ℕ → List ℕ → List ℕ
-circle_at x y fill = codes "<circle cx=\"" ++ (decimal x ++ (codes "\" cy=\"" ++ (decimal y ++ (codes "\" r=\"5\" fill=\""
-    ++ (fill ++ codes "\" stroke=\"black\"/>")))))
+-- a circle of a class around a place
+unfoldable pub circle_at : List ℕ → ℕ → ℕ → List ℕ
+circle_at class x y = codes "<circle class=\"" ++ (class ++ (codes "\" cx=\"" ++ (decimal x ++ (codes "\" cy=\"" ++ (decimal y
+    ++ codes "\" r=\"5\"/>")))))

@@ -2,16 +2,18 @@ ghost use Rattle.std.specs.Prelude.{◌≡◌, ◌++◌, ◌≤◌, length, map,
 ghost use Rattle.lset_drawing.specs.Columns.{column_view};
 ghost use Rattle.lset_drawing.specs.Lines.{texts};
 ghost use Rattle.lset_drawing.specs.declared.TheConstants.{MOST_COLUMNS};
-ghost use Rattle.lset_svg.specs.Dots.{dot_of, dots, stems, fill_of, circles};
+ghost use Rattle.lset_svg.specs.Dots.{dot_of, dots, stems, circles};
 
+use crate::classes::point_class;
 use crate::sheet::{Spot, add_circle, add_line_between, lane_y, x_of};
 use lset_drawing::{Column, Standing};
 use std::alloc::{AllocError, Global};
 
-/// A point that is drawn: where it lies on the sheet, and whether the set changes there.
+/// A point that is drawn: where it lies on the sheet, of which thread it is, and whether the set changes there.
 #[derive(Clone, Copy)]
 pub struct Dot {
     pub at: Spot,
+    pub thread: u32,
     pub change: bool,
 }
 
@@ -30,6 +32,7 @@ fn dot_of(columns: &[Column], standing: &Standing, from: u32, last: u32) -> Opti
     let y = lane_y(made.thread);
     Some(Dot {
         at: Spot { x, y },
+        thread: made.thread,
         change: point.change,
     })
 }
@@ -68,23 +71,18 @@ pub fn add_stems(
             x: dot.at.x,
             y: lane_y(threads) - 14,
         };
-        add_line_between(alloc, lines, dot.at, end, "\"silver\"")?;
+        add_line_between(alloc, lines, "stem", dot.at, end)?;
     }
     Ok(())
 }
 
-fn fill_of(change: bool) -> &'static str
-    ensures { result.now ≡ fill_of change }
-{
-    if change { "black" } else { "white" }
-}
-
-/// Adds a circle for each point, filled where the set changes.
+/// Adds a circle for each point.
 pub fn add_circles(alloc: Global, lines: &mut Vec<String>, dots: &[Dot]) -> Result<(), AllocError>
     ensures { OnOk result (texts lines.new.items ≡ texts lines.old.items ++ circles dots.now) }
 {
     for dot in dots {
-        add_circle(alloc, lines, dot.at, fill_of(dot.change))?;
+        let class = point_class(alloc, dot.change, dot.thread)?;
+        add_circle(alloc, lines, &class, dot.at)?;
     }
     Ok(())
 }

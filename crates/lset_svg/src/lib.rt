@@ -2,12 +2,17 @@
 #![tactic(auto)]
 
 mod bars;
+mod classes;
 mod dots;
 mod rows;
 mod sheet;
+mod style;
 mod writing;
 
 pub use writing::write_svg;
+
+/// How many colours the threads take in turn.
+pub const COLOURS: u32 = 8;
 
 /// The most lines of text that a sheet has room for under the rows; further lines lie over the last one. (This project's own
 /// limit.)

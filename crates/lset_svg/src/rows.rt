@@ -7,8 +7,9 @@ ghost use Rattle.lset_drawing.specs.declared.TheConstants.{MOST_COLUMNS};
 ghost use Rattle.lset_svg.specs.Rows.{lane_label, lane_labels, column_texts, row_elements};
 
 use crate::bars::add_bars;
+use crate::classes::{PLAIN, thread_class};
 use crate::dots::{add_circles, add_stems, dots};
-use crate::sheet::{add_text, add_text_where, lane_y, text_at};
+use crate::sheet::{Spot, add_text, add_text_where, lane_y, text_at};
 use lset_drawing::{Column, Drawing, Picture, thread_label};
 use std::alloc::{AllocError, Global};
 
@@ -16,8 +17,13 @@ use std::alloc::{AllocError, Global};
 fn lane_label(alloc: Global, thread: u32) -> Result<String, AllocError>
     ensures { IfOk result (λ s. string_bytes s ≡ lane_label thread) }
 {
+    let class = thread_class(alloc, thread)?;
+    let start = Spot {
+        x: 8,
+        y: lane_y(thread) + 4,
+    };
     let label = thread_label(alloc, thread)?;
-    text_at(alloc, 8, lane_y(thread) + 4, &label)
+    text_at(alloc, &class, start, &label)
 }
 
 fn add_lane_labels(alloc: Global, lines: &mut Vec<String>, threads: u32) -> Result<(), AllocError>
@@ -43,9 +49,13 @@ fn add_column_texts(
     for column in columns {
         let moment = column.moment;
         let number = format!(in alloc; "{moment}")?;
-        add_text(alloc, lines, x, 60, &number)?;
+        add_text(alloc, lines, PLAIN, Spot { x, y: 60 }, &number)?;
         let told = !column.set.is_empty();
-        add_text_where(alloc, lines, told, x, lane_y(threads), &column.set)?;
+        let below = Spot {
+            x,
+            y: lane_y(threads),
+        };
+        add_text_where(alloc, lines, told, PLAIN, below, &column.set)?;
         x += 9 * u64::from(column.width);
     }
     Ok(())
@@ -72,12 +82,16 @@ pub fn add_rows(
         after: _,
     } = drawing;
     let threads = picture.history.threads();
-    add_text(alloc, lines, 8, 60, "moment")?;
+    add_text(alloc, lines, PLAIN, Spot { x: 8, y: 60 }, "moment")?;
     add_lane_labels(alloc, lines, threads)?;
-    add_text_where(alloc, lines, *known, 8, lane_y(threads), "set")?;
+    let below = Spot {
+        x: 8,
+        y: lane_y(threads),
+    };
+    add_text_where(alloc, lines, *known, PLAIN, below, "set")?;
     add_column_texts(alloc, lines, columns, threads)?;
     let dots = dots(alloc, columns, standings, *from, *last)?;
     add_stems(alloc, lines, threads, &dots)?;
-    add_bars(alloc, lines, columns, *from, *last, picture.history.calls())?;
+    add_bars(alloc, lines, columns, *from, *last, picture)?;
     add_circles(alloc, lines, &dots)
 }

@@ -54,45 +54,6 @@ pub fn line_y(threads: u32, number: usize) -> u64
     lane_y(threads) + 36 + 16 * number as u64
 }
 
-/// A text that begins there.
-#[tactic(auto, unfolding(crate::specs::Sheets::text_at))]
-pub fn text_at(alloc: Global, x: u64, y: u64, text: &str) -> Result<String, AllocError>
-    ensures { IfOk result (λ s. string_bytes s ≡ text_at x y text.now) }
-{
-    format!(in alloc; "<text xml:space=\"preserve\" x=\"{x}\" y=\"{y}\">{text}</text>")
-}
-
-/// Adds a text that begins there.
-pub fn add_text(
-    alloc: Global,
-    lines: &mut Vec<String>,
-    x: u64,
-    y: u64,
-    text: &str,
-) -> Result<(), AllocError>
-    ensures { OnOk result (texts lines.new.items ≡ texts lines.old.items ++ text_at x y text.now ∷ []) }
-{
-    lines.push(text_at(alloc, x, y, text)?)?;
-    Ok(())
-}
-
-/// Adds a text that begins there, where `shown`.
-pub fn add_text_where(
-    alloc: Global,
-    lines: &mut Vec<String>,
-    shown: bool,
-    x: u64,
-    y: u64,
-    text: &str,
-) -> Result<(), AllocError>
-    ensures { OnOk result (texts lines.new.items ≡ texts lines.old.items ++ text_where shown x y text.now) }
-{
-    if shown {
-        add_text(alloc, lines, x, y, text)?;
-    }
-    Ok(())
-}
-
 /// A place on the sheet, in pixels from its left and from its top.
 #[derive(Clone, Copy)]
 pub struct Spot {
@@ -100,47 +61,92 @@ pub struct Spot {
     pub y: u64,
 }
 
+/// A text of a class that begins there.
+#[tactic(auto, unfolding(crate::specs::Sheets::text_at))]
+pub fn text_at(alloc: Global, class: &str, start: Spot, text: &str) -> Result<String, AllocError>
+    ensures { IfOk result (λ s. string_bytes s ≡ text_at class.now start.x start.y text.now) }
+{
+    let Spot { x, y } = start;
+    format!(in alloc;
+        "<text class=\"{class}\" xml:space=\"preserve\" x=\"{x}\" y=\"{y}\">{text}</text>"
+    )
+}
+
+/// Adds a text of a class that begins there.
+pub fn add_text(
+    alloc: Global,
+    lines: &mut Vec<String>,
+    class: &str,
+    start: Spot,
+    text: &str,
+) -> Result<(), AllocError>
+    ensures { OnOk result
+        (texts lines.new.items ≡ texts lines.old.items ++ text_at class.now start.x start.y text.now ∷ []) }
+{
+    lines.push(text_at(alloc, class, start, text)?)?;
+    Ok(())
+}
+
+/// Adds a text of a class that begins there, where `shown`.
+pub fn add_text_where(
+    alloc: Global,
+    lines: &mut Vec<String>,
+    shown: bool,
+    class: &str,
+    start: Spot,
+    text: &str,
+) -> Result<(), AllocError>
+    ensures { OnOk result
+        (texts lines.new.items ≡ texts lines.old.items ++ text_where shown class.now start.x start.y text.now) }
+{
+    if shown {
+        add_text(alloc, lines, class, start, text)?;
+    }
+    Ok(())
+}
+
 #[tactic(auto, unfolding(crate::specs::Sheets::line_between))]
-fn line_between(alloc: Global, start: Spot, end: Spot, style: &str) -> Result<String, AllocError>
-    ensures { IfOk result (λ s. string_bytes s ≡ line_between start.x start.y end.x end.y style.now) }
+fn line_between(alloc: Global, class: &str, start: Spot, end: Spot) -> Result<String, AllocError>
+    ensures { IfOk result (λ s. string_bytes s ≡ line_between class.now start.x start.y end.x end.y) }
 {
     let Spot { x, y } = start;
     let Spot { x: x2, y: y2 } = end;
-    format!(in alloc; "<line x1=\"{x}\" y1=\"{y}\" x2=\"{x2}\" y2=\"{y2}\" stroke={style}/>")
+    format!(in alloc; "<line class=\"{class}\" x1=\"{x}\" y1=\"{y}\" x2=\"{x2}\" y2=\"{y2}\"/>")
 }
 
-/// Adds a line between two places.
+/// Adds a line of a class between two places.
 pub fn add_line_between(
     alloc: Global,
     lines: &mut Vec<String>,
+    class: &str,
     start: Spot,
     end: Spot,
-    style: &str,
 ) -> Result<(), AllocError>
     ensures { OnOk result
-        (texts lines.new.items ≡ texts lines.old.items ++ line_between start.x start.y end.x end.y style.now ∷ []) }
+        (texts lines.new.items ≡ texts lines.old.items ++ line_between class.now start.x start.y end.x end.y ∷ []) }
 {
-    lines.push(line_between(alloc, start, end, style)?)?;
+    lines.push(line_between(alloc, class, start, end)?)?;
     Ok(())
 }
 
 #[tactic(auto, unfolding(crate::specs::Sheets::circle_at))]
-fn circle_at(alloc: Global, centre: Spot, fill: &str) -> Result<String, AllocError>
-    ensures { IfOk result (λ s. string_bytes s ≡ circle_at centre.x centre.y fill.now) }
+fn circle_at(alloc: Global, class: &str, centre: Spot) -> Result<String, AllocError>
+    ensures { IfOk result (λ s. string_bytes s ≡ circle_at class.now centre.x centre.y) }
 {
     let Spot { x, y } = centre;
-    format!(in alloc; "<circle cx=\"{x}\" cy=\"{y}\" r=\"5\" fill=\"{fill}\" stroke=\"black\"/>")
+    format!(in alloc; "<circle class=\"{class}\" cx=\"{x}\" cy=\"{y}\" r=\"5\"/>")
 }
 
-/// Adds a circle around a place.
+/// Adds a circle of a class around a place.
 pub fn add_circle(
     alloc: Global,
     lines: &mut Vec<String>,
+    class: &str,
     centre: Spot,
-    fill: &str,
 ) -> Result<(), AllocError>
-    ensures { OnOk result (texts lines.new.items ≡ texts lines.old.items ++ circle_at centre.x centre.y fill.now ∷ []) }
+    ensures { OnOk result
+        (texts lines.new.items ≡ texts lines.old.items ++ circle_at class.now centre.x centre.y ∷ []) }
 {
-    lines.push(circle_at(alloc, centre, fill)?)?;
+    lines.push(circle_at(alloc, class, centre)?)?;
     Ok(())
 }

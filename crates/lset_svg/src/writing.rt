@@ -13,6 +13,7 @@ ghost use Rattle.lset_svg.specs.Svg.{
   sheet_tag,
   sheet_for,
   ground,
+  style,
   title,
   title_lines,
   head_lines,
@@ -20,8 +21,10 @@ ghost use Rattle.lset_svg.specs.Svg.{
   svg_text,
 };
 
+use crate::classes::PLAIN;
 use crate::rows::add_rows;
-use crate::sheet::{add_text, add_text_where, line_y, right_edge};
+use crate::sheet::{Spot, add_text, add_text_where, line_y, right_edge};
+use crate::style::STYLE;
 use lset_drawing::{
     Column, Drawing, Picture, Window, add_line, add_lines_below, cut_line, drawing_in,
     heading_line, text_of_lines,
@@ -37,7 +40,11 @@ fn add_text_lines(
     ensures { OnOk result (texts lines.new.items ≡ texts lines.old.items ++ text_lines threads 0 (texts below.now)) }
 {
     for (number, line) in below.iter().enumerate() {
-        add_text(alloc, lines, 8, line_y(threads, number), line)?;
+        let start = Spot {
+            x: 8,
+            y: line_y(threads, number),
+        };
+        add_text(alloc, lines, PLAIN, start, line)?;
     }
     Ok(())
 }
@@ -76,7 +83,7 @@ fn sheet_tag(alloc: Global, width: u64, height: u64) -> Result<String, AllocErro
     ensures { IfOk result (λ s. string_bytes s ≡ sheet_tag width height) }
 {
     format!(in alloc;
-        "<svg xmlns=\"http://www.w3.org/2000/svg\" font-family=\"monospace\" font-size=\"12\" width=\"{width}\" height=\"{height}\">"
+        "<svg xmlns=\"http://www.w3.org/2000/svg\" class=\"listset\" font-family=\"monospace\" font-size=\"12\" width=\"{width}\" height=\"{height}\" viewBox=\"0 0 {width} {height}\">"
     )
 }
 
@@ -87,11 +94,18 @@ fn title(alloc: Global, heading: &str) -> Result<String, AllocError>
     format!(in alloc; "<title>{heading}</title>")
 }
 
+#[tactic(auto, unfolding(crate::specs::Svg::style))]
+fn style() -> &'static str
+    ensures { result.now ≡ style }
+{
+    STYLE
+}
+
 #[tactic(auto, unfolding(crate::specs::Svg::ground))]
 fn ground() -> &'static str
     ensures { result.now ≡ ground }
 {
-    "<rect width=\"100%\" height=\"100%\" fill=\"white\"/>"
+    "<rect class=\"ground\" width=\"100%\" height=\"100%\"/>"
 }
 
 #[tactic(auto, using(crate::proofs::Counts::texts_count))]
@@ -122,11 +136,12 @@ fn add_title(alloc: Global, lines: &mut Vec<String>, heading: &str) -> Result<()
     ensures { OnOk result (texts lines.new.items ≡ texts lines.old.items ++ title_lines heading.now) }
 {
     lines.push(title(alloc, heading)?)?;
+    add_line(alloc, lines, style())?;
     add_line(alloc, lines, ground())?;
-    add_text(alloc, lines, 8, 20, heading)
+    add_text(alloc, lines, PLAIN, Spot { x: 8, y: 20 }, heading)
 }
 
-/// Adds the head: the sheet, its title and its ground, and what stands over the rows.
+/// Adds the head: the sheet, its title, style and ground, and what stands over the rows.
 #[tactic(auto, unfolding(crate::specs::Svg::head_lines))]
 fn add_head(
     alloc: Global,
@@ -145,7 +160,8 @@ fn add_head(
     lines.push(sheet)?;
     add_title(alloc, lines, &heading)?;
     let cut = cut_line(alloc, picture, drawing)?;
-    add_text_where(alloc, lines, drawing.is_cut(), 8, 38, &cut)
+    let start = Spot { x: 8, y: 38 };
+    add_text_where(alloc, lines, drawing.is_cut(), PLAIN, start, &cut)
 }
 
 /// The lines of text under the rows.
@@ -182,10 +198,11 @@ fn svg_elements(
 }
 
 /// The picture as an SVG, of the moments from `window.from` to `window.to`, of those only the first 64 at which something happens;
-/// moments count from 1. It has no script, no style sheet and no reference to anything outside: a line for each call, dashed
-/// where it is open; a circle for each point, filled where the set changes; a thin line from there down to the set; and the
-/// order as text. The only error is want of memory; what is asked for grows with the events, and not with the moments that are
-/// drawn. (This project's own drawing.)
+/// moments count from 1. It has no script and no reference to anything outside: a line for each call, in the colour of its
+/// thread, dashed where it is open, and thick where it clashes in a refused order (`is_clash`); a circle for each point, filled
+/// where the set changes; a thin line from there down to the set; and the order as text. Its style sheet has a dark ground for
+/// who prefers one. The only error is want of memory; what is asked for grows with the events, and not with the moments that
+/// are drawn. (This project's own drawing.)
 pub fn write_svg(alloc: Global, picture: &Picture, window: Window) -> Result<Vec<u8>, AllocError>
     ensures { IfOk result (λ v. v.items ≡ svg_text (view picture.now) window) }
 {
