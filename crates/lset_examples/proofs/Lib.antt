@@ -1,3 +1,7 @@
 pub mod Plans
+pub mod Orders
 pub mod TakenOut
+pub mod LostKey
+pub mod ReadReports
+pub mod Unexplained
 pub mod BrokenReports

@@ -97,14 +97,14 @@ abbrev pub broken_of : Example → Option (List ℕ)
 broken_of FailedTries = None
 broken_of Full = None
 broken_of HandOverHand = None
-broken_of SameGap = None
+broken_of SameGap = Some texts.SAME_GAP_BROKEN.now
 broken_of StalePred = Some texts.STALE_PRED_BROKEN.now
 broken_of MarkedInChain = None
 broken_of MarkedPred = None
 broken_of ReadInAnothersStep = None
 broken_of OpensWithKeys = None
-broken_of TwoRemovers = None
-broken_of Snip = None
+broken_of TwoRemovers = Some texts.TWO_REMOVERS_BROKEN.now
+broken_of Snip = Some texts.SNIP_BROKEN.now
 broken_of TriesAgain = None
 broken_of LeftInChain = Some texts.LEFT_IN_CHAIN_BROKEN.now
 broken_of CeilingMeetsMark = None

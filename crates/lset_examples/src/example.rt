@@ -171,7 +171,7 @@ impl Example {
         }
     }
 
-    /// The text of the report that a list without the check in question would give of the schedule, for the three examples
+    /// The text of the report that a list without the check in question would give of the schedule, for the six examples
     /// that have one. No order explains its calls and keys, whether the one that stands there, which `check` refuses, or another.
     pub fn broken_report_text(self) -> Option<&'static str>
         ensures constant { option_copied result ≡ broken_of self }
@@ -185,19 +185,19 @@ impl Example {
         ensures { option_copied result ≡ broken_of self }
     {
         match self {
+            Example::SameGap => Some(texts::SAME_GAP_BROKEN),
             Example::StalePred => Some(texts::STALE_PRED_BROKEN),
+            Example::TwoRemovers => Some(texts::TWO_REMOVERS_BROKEN),
+            Example::Snip => Some(texts::SNIP_BROKEN),
             Example::LeftInChain => Some(texts::LEFT_IN_CHAIN_BROKEN),
             Example::CeilingLeftInChain => Some(texts::CEILING_LEFT_IN_CHAIN_BROKEN),
             Example::FailedTries
             | Example::Full
             | Example::HandOverHand
-            | Example::SameGap
             | Example::MarkedInChain
             | Example::MarkedPred
             | Example::ReadInAnothersStep
             | Example::OpensWithKeys
-            | Example::TwoRemovers
-            | Example::Snip
             | Example::TriesAgain
             | Example::CeilingMeetsMark
             | Example::BehindTheWalk => None,

@@ -1,4 +1,4 @@
-//! The classic interleavings of the five lists by name, as schedules, and for three of them the report of a list that lacks the
+//! The classic interleavings of the five lists by name, as schedules, and for six of them the report of a list that lacks the
 //! check which the example shows.
 #![tactic(auto)]
 

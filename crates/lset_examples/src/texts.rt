@@ -235,6 +235,19 @@ go 1 6
 go 0 2
 ";
 
+pub const SAME_GAP_BROKEN: &str = "\
+listset-report 1
+list optimistic
+threads 2
+quota 4
+call 0 0 add 5 1 22 true
+call 1 1 add 7 2 14 true
+place 1 true
+place 0 true
+key 5
+end
+";
+
 pub const STALE_PRED_BROKEN: &str = "\
 listset-report 1
 list optimistic
@@ -246,6 +259,34 @@ call 2 1 remove 3 17 26 true
 place 0 true
 place 2 true
 place 1 true
+end
+";
+
+pub const TWO_REMOVERS_BROKEN: &str = "\
+listset-report 1
+list lock-free
+threads 2
+quota 4
+call 0 0 add 5 1 7 true
+call 1 0 remove 5 8 21 true
+call 2 1 remove 5 9 19 true
+place 0 true
+place 2 true
+place 1 true
+end
+";
+
+pub const SNIP_BROKEN: &str = "\
+listset-report 1
+list lock-free
+threads 2
+quota 4
+call 0 0 add 5 1 7 true
+call 1 0 remove 5 8 23 true
+call 2 1 add 7 14 22 true
+place 0 true
+place 1 true
+place 2 true
 end
 ";
 
