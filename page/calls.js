@@ -15,6 +15,11 @@ class Engine {
     return new Engine(await WebAssembly.compile(bytes));
   }
 
+  // Whether the module has a function: an older one may lack one.
+  has(name) {
+    return WebAssembly.Module.exports(this.module).some((found) => found.name === name);
+  }
+
   // What an export says of a text: the exit status of the program, and what it prints.
   ask(name, text) {
     return this.askBytes(name, new TextEncoder().encode(text));

@@ -111,7 +111,9 @@ function drawCalls(trace, scale) {
   const lanes = Array.from({ length: trace.threads }, (_, thread) => drawLane(scale, thread));
   const bars = shown.map((call) => drawBar(call, scale));
   const points = placed.map((call) => drawPoint(call, scale));
-  const frame = { width, height, role: "img", "aria-label": "the history of the calls" };
+  const begun = shown.filter((call) => call.begun <= scale.count);
+  const words = begun.length === 0 ? "no call has begun" : begun.slice(-20).map(callInWords).join("; ");
+  const frame = { width, height, role: "img", "aria-label": `the history of the calls: ${words}` };
   return tag("svg", frame, ...lanes, ...bars, ...points, drawCursor(scale, height));
 }
 

@@ -10,14 +10,15 @@ const TOP = 58;
 const MOST_UNFOLDED = 14; // a longer chain is folded
 const MOST_ASIDE = 10; // nodes drawn that are not in the chain
 const MOST_POINTING = 6; // threads whose registers are drawn
-
+const SIGN_WIDTH = 8.6; // of a register's label
 
 // The registers of the threads that point at nodes: of the thread of this event, and then of those with the least numbers.
 function pointersOf(state, event) {
   const inCall = state.threads.map((held, thread) => ({ held, thread })).filter(({ held }) => held.pc !== 0);
   inCall.sort((one, other) => Number(other.thread === event?.thread) - Number(one.thread === event?.thread));
-  const registers = LISTS[state.trace.kind].registers.filter((name) => NODE_REGISTERS.includes(name));
+  const { calls } = LISTS[state.trace.kind];
   return inCall.slice(0, MOST_POINTING).map(({ held, thread }) => {
+    const registers = calls[held.call.operation].registers.filter((name) => NODE_REGISTERS.includes(name));
     const at = {};
     for (const name of registers) if (isPointing(held, name)) (at[held[name]] ??= []).push(name);
     return { thread, at };
@@ -32,7 +33,7 @@ function importantNodes(state, event, pointers) {
   const important = new Set(["head", "tail"]);
   if (event?.word) important.add(event.word.split(".")[0]);
   for (const { at } of pointers) Object.keys(at).forEach((name) => important.add(name));
-  const locked = Object.keys(state.nodes).filter((name) => state.nodes[name].lock !== "free");
+  const locked = Object.values(state.locks()).flat().map(ownerIn).filter((name) => name !== "list");
   locked.slice(0, 8).forEach((name) => important.add(name));
   return important;
 }
@@ -85,8 +86,8 @@ function placeAside(state, chain, shown, places, y) {
     const place = places[before[before.length - 1] ?? "head"];
     let x = place.x + (place.width + GAP) / 2;
     while (taken.some((other) => Math.abs(other - x) < NODE_WIDTH + 12)) x += NODE_WIDTH + 16;
+    places[name] = { x, y, width: NODE_WIDTH, aside: true, lane: taken.length % 3 };
     taken.push(x);
-    places[name] = { x, y, width: NODE_WIDTH, aside: true };
   }
   return taken.length === 0 ? 0 : Math.max(...taken) + NODE_WIDTH + 16;
 }
@@ -187,28 +188,54 @@ function pathOf(from, to, x1, y1) {
   return `M${x1} ${y1} C${x1 + 50} ${y1}, ${x2 - 30} ${y2}, ${x2} ${y2}`;
 }
 
-// From a node below the chain to one in it: up into its bottom's right corner, where no register is written.
+// From a node below the chain to one in it: along under the registers, and up through the gap left of the node into its side. No
+// register is written there.
 function pathUp(from, to, x1, y1) {
-  const x2 = to.x + to.width - 8;
-  const y2 = to.y + (to.folded ? NODE_HEIGHT - 6 : NODE_HEIGHT + 3);
-  const away = x2 > x1 ? 40 : 60;
-  return `M${x1} ${y1} C${x1 + away} ${y1}, ${x2} ${y2 + 70}, ${x2} ${y2}`;
+  const beside = from.x + NODE_WIDTH + 8;
+  const under = from.y - 34 - 6 * from.lane;
+  const gap = to.x - 32 + 7 * from.lane;
+  const y2 = to.y + NODE_HEIGHT - (to.folded ? 14 : 7) - 6 * from.lane;
+  return `M${x1} ${y1} H${beside} V${under} H${gap} V${y2} H${to.x - 3}`;
+}
+
+// Of each node of the chain, the room for labels under it: none of the gap behind it where an arrow comes up there.
+function roomsUnder(state, items, shown) {
+  const risen = new Set(shown.map((name) => linkTarget(state.nodes[name].link)));
+  const rooms = {};
+  items.forEach(({ name }, index) => {
+    const next = items[index + 1];
+    const isCrossed = next !== undefined && (next.folded ?? [next.name]).some((other) => risen.has(other));
+    rooms[name] = NODE_WIDTH + (isCrossed ? 0 : GAP - 6);
+  });
+  return rooms;
+}
+
+// The registers of a thread at one node as labels, as many in one as there is room for.
+function labelTexts(thread, registers, room) {
+  const texts = [];
+  for (const register of registers) {
+    const joined = `${texts[texts.length - 1]}, ${register}`;
+    if (texts.length > 0 && joined.length * SIGN_WIDTH <= room) texts[texts.length - 1] = joined;
+    else texts.push(`▲ t${thread} ${register}`);
+  }
+  return texts;
 }
 
 // The labels under the nodes, each on the first line on which no other is in its way.
-function pointerLabels(pointers, places) {
+function pointerLabels(pointers, places, rooms) {
   const labels = [];
+  const add = (thread, name, text) => {
+    const { x, y } = places[name];
+    const own = { thread, name, text, row: y, left: x, right: x + SIGN_WIDTH * text.length + 8, lane: 0 };
+    const isBeside = (other) => other.left >= own.right || own.left >= other.right;
+    const isInTheWay = (other) => other.row === own.row && other.lane === own.lane && !isBeside(other);
+    while (labels.some(isInTheWay)) own.lane++;
+    labels.push(own);
+  };
   for (const { thread, at } of pointers) {
     for (const name in at) {
-      const place = places[name];
-      if (!place || place.folded) continue;
-      const text = `▲ t${thread} ${at[name].join(", ")}`;
-      const right = place.x + 9 * text.length + 8;
-      const own = { thread, name, text, row: place.y, left: place.x, right, lane: 0 };
-      const isBeside = (other) => other.left >= own.right || own.left >= other.right;
-      const isInTheWay = (other) => other.row === own.row && other.lane === own.lane && !isBeside(other);
-      while (labels.some(isInTheWay)) own.lane++;
-      labels.push(own);
+      if (!places[name] || places[name].folded) continue;
+      for (const text of labelTexts(thread, at[name], rooms[name] ?? NODE_WIDTH)) add(thread, name, text);
     }
   }
   return labels;
@@ -247,14 +274,16 @@ function arranged(state, event) {
   const items = foldedChain(chain, important);
   const { places, width } = placesOfChain(items);
   const { shown, more } = nodesAside(state, chain, important);
+  const rooms = roomsUnder(state, items, shown);
   const lanesUnder = (labels, row) => Math.max(0, ...labels.filter((own) => own.row === row).map((own) => own.lane + 1));
-  const below = TOP + NODE_HEIGHT + 18 * lanesUnder(pointerLabels(pointers, places), TOP) + 62;
+  const below = TOP + NODE_HEIGHT + 18 * lanesUnder(pointerLabels(pointers, places, rooms), TOP) + 62;
   const right = placeAside(state, chain, shown, places, below);
-  const labels = pointerLabels(pointers, places);
+  const labels = pointerLabels(pointers, places, rooms);
   const bottom = shown.length > 0 ? below : TOP;
   const names = [...items.filter((item) => item.name).map((item) => item.name), ...shown];
   const height = bottom + NODE_HEIGHT + 18 * lanesUnder(labels, bottom) + 14;
-  return { chain, items, places, labels, names, more, width: Math.max(width, right, 420), height };
+  const wide = Math.max(width, right, 420, ...labels.map((own) => own.right));
+  return { chain, items, places, labels, names, more, width: wide, height };
 }
 
 function drawList(state, event, room) {
@@ -282,10 +311,23 @@ function drawFoldLink(item, next) {
   return tag("g", { class: "link in" }, tag("path", path));
 }
 
-// The chain for a reader of the screen.
+// The chain for a reader of the screen, and who has what: the locks, and where each thread with a call stands.
 function listInWords(chain, state) {
   const inside = chain.filter((name) => name !== "head" && name !== "tail").map((name) => state.nodes[name]);
   const keys = inside.map((node) => keyText(node.key) + (node.link.endsWith("*") ? " marked" : ""));
-  if (keys.length === 0) return "the list is empty";
-  return `the list: ${keys.slice(0, 40).join(", ")}${keys.length > 40 ? ", and more" : ""}`;
+  const more = keys.length > 40 ? ", and more" : "";
+  const list = keys.length === 0 ? "the list is empty" : `the list: ${keys.slice(0, 40).join(", ")}${more}`;
+  const locks = state.locks();
+  const threads = state.threads.map((held, thread) => threadInWords(state, held, thread, locks)).filter((text) => text !== "");
+  return [list, ...threads.slice(0, 12)].join("; ");
+}
+
+function threadInWords(state, held, thread, locks) {
+  if (held.pc === 0) return "";
+  const { registers } = LISTS[state.trace.kind].calls[held.call.operation];
+  const set = registers.filter((name) => NODE_REGISTERS.includes(name) && isPointing(held, name));
+  const at = set.map((name) => `${name} ${held[name]}`).join(", ");
+  const own = locks[`t${thread}`];
+  const has = own === undefined ? "" : `; t${thread} has ${own.join(" and ")}`;
+  return `t${thread} ${callText(held.call)} at row ${held.pc}${at === "" ? "" : `: ${at}`}${has}`;
 }

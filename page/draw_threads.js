@@ -1,41 +1,7 @@
-// The threads' rows and registers as a table, and one sentence about the event.
+// The threads' rows and registers as a table.
 "use strict";
 
 const MOST_ROWS = 8; // of more threads only those with an open call are shown at first
-
-const isLock = (word) => word.endsWith(".lock");
-const mono = (text) => `<b class="mono">${text}</b>`;
-
-function deedText(event) {
-  const word = event.word && mono(event.word);
-  if (event.deed === "begin") return `begins ${callText(event.call)}.`;
-  if (event.deed === "load") return `reads ${word}: ${said(event.saw)}.`;
-  if (event.deed === "store") return isLock(event.word) ? `gives ${word} back.` : `writes ${word} := ${said(event.to)}.`;
-  const exchange = `${said(event.from)} → ${said(event.to)}`;
-  if (event.saw === event.from) return isLock(event.word) ? `takes ${word}.` : `exchanges ${word}: ${exchange}.`;
-  if (isLock(event.word)) return `tries ${word}, which ${event.saw} has: it stays at row ${event.changes.pc}.`;
-  return `tries to exchange ${word}: ${exchange}, but finds ${said(event.saw)}.`;
-}
-
-// Where a call that answers here took effect.
-function effectText(trace, event) {
-  const call = event.call;
-  const answers = ` <b>${callText(call)} answers ${event.answer}</b>`;
-  if (call.at === event.number) return `${answers}, and takes effect here.`;
-  const other = trace.events[call.at - 1].thread;
-  const whose = other === event.thread ? "" : `, <b>a step of t${other}</b>`;
-  return `${answers}; it took effect at event ${call.at}${whose}.`;
-}
-
-function sentenceOf(trace, count) {
-  if (trace.events.length === 0) return "The schedule has no event.";
-  if (count === 0) return "Before the first event the list is empty and every thread is at rest.";
-  const event = trace.events[count - 1];
-  let text = `${chipOf(event.thread)} ${deedText(event)}`;
-  if (event.put !== undefined) text += ` <b>This puts ${event.put} into the set.</b>`;
-  if (event.took !== undefined) text += ` <b>This takes ${event.took} out of the set.</b>`;
-  return event.answer === undefined ? text : text + effectText(trace, event);
-}
 
 // The threads that the table shows: all of a few, else those with an open call and that of the event.
 function threadsShown(state, event, all) {
@@ -56,8 +22,11 @@ function rowCell(held, kind) {
   return `<b>${held.pc}</b> ${row ? `${row.step} <small>${row.book}</small>` : ""}`;
 }
 
-function registerCell(held, name, moved, event) {
-  if (held.pc === 0) return "";
+// A register that the rows of the call do not write has no value to be seen.
+const hasRegister = (kind, call, name) => LISTS[kind].calls[call.operation].registers.includes(name);
+
+function registerCell(held, name, moved, event, kind) {
+  if (held.pc === 0 || !hasRegister(kind, held.call, name)) return "";
   const value = keyText(held[name]);
   if (moved && event.changes[name] !== undefined) return `<b class="new">${value}</b>`;
   return held[name] === "head" || held[name] === "-inf" ? `<span class="pale">${value}</span>` : value;
@@ -70,7 +39,7 @@ function threadRow(state, thread, event) {
   const cells = [
     tag("td", {}, callCell(held, moved, event)),
     tag("td", { class: "next" }, rowCell(held, kind)),
-    ...LISTS[kind].registers.map((name) => tag("td", {}, registerCell(held, name, moved, event))),
+    ...LISTS[kind].registers.map((name) => tag("td", {}, registerCell(held, name, moved, event, kind))),
     tag("td", {}, held.pc !== 0 && held.reply !== "none" ? held.reply : ""),
     tag("td", {}, `${held.used} of ${quota}`),
   ];

@@ -23,23 +23,62 @@ function comparedTrace(engine, trace) {
   const given = trace.text.split("\n").filter((line) => !/^chain( |$)/.test(line));
   const line = own.text.split("\n").findIndex((text, index) => text !== given[index]);
   if (line === -1) return "a trace from a file, and the proved replayer gives the same for its schedule";
-  return `a trace from a file; the proved replayer gives another, from its event ${Math.max(line - 3 - trace.opening.length, 1)} on`;
+  const event = Math.max(line - 3 - trace.opening.length, 1);
+  return `a trace from a file; the proved replayer gives another, from its event ${event} on`;
+}
+
+// Opens a file, by what its first line says that it is.
+async function openFile(file) {
+  const text = new TextDecoder().decode(new Uint8Array(await file.arrayBuffer()));
+  const kind = kindOfFile(text);
+  if (kind === "report") {
+    if (page.engine === null) return tellFault(page.faultLine, "", NO_ENGINE, !page.isRun);
+    byId("report-box").open = true;
+    return showReport(page.engine, text, `The report in ${file.name}:`);
+  }
+  if (kind === "schedule") return openText(text, 0);
+  const before = present();
+  if (!takeTrace(text, 0, "a trace from a file")) return;
+  work.before.push(before);
+  work.after = [];
+  chooseExample("");
+  page.text = byId("schedule").value = scheduleLines(page.trace, page.trace.events.length).join("\n") + "\n";
+  byId("opening").value = page.trace.opening.join(" ");
+  page.source = comparedTrace(page.engine, page.trace);
+  showUndo();
+  show();
+}
+
+function showBroken() {
+  const answer = page.engine.ask("listset_broken_example", page.example);
+  showReport(page.engine, answer.text, "The report of a broken list on this schedule:");
 }
 
 const checkedText = (answer) => answer.text.trim();
 
 // Shows a report, and what `check` says of it.
 function showReport(engine, text, whose) {
-  document.getElementById("report").textContent = text;
-  document.getElementById("report-of").textContent = whose;
-  document.getElementById("checked").textContent = checkedText(engine.ask("listset_check", text));
+  byId("report").textContent = text;
+  byId("report-of").textContent = whose;
+  byId("checked").textContent = checkedText(engine.ask("listset_check", text));
+  showPicture(engine, text);
+}
+
+// The picture of a report as `listset show` draws it, and what it says of a refused order, where the module has that function.
+function showPicture(engine, text) {
+  byId("picture-box").hidden = text === "" || !engine.has("listset_show_svg");
+  if (byId("picture-box").hidden) return;
+  byId("picture").innerHTML = engine.ask("listset_show_svg", text).text;
+  const said = engine.ask("listset_show", text).text.trimEnd().split("\n");
+  byId("picture-says").textContent = said[said.length - 1].startsWith("refused ") ? said[said.length - 1] : "";
 }
 
 // The report of the schedule that is shown, or the line about its first fault.
 function showOwnReport(engine, schedule) {
   const answer = engine.ask("listset_replay", schedule);
   if (answer.status === 0) return showReport(engine, answer.text, "The report of this schedule:");
-  document.getElementById("report").textContent = answer.text;
-  document.getElementById("report-of").textContent = "There is no report:";
-  document.getElementById("checked").textContent = "—";
+  byId("report").textContent = answer.text;
+  byId("report-of").textContent = "There is no report:";
+  byId("checked").textContent = "—";
+  showPicture(engine, "");
 }

@@ -1,26 +1,26 @@
 // The words of ./listset that need no proof and no toolchain, in node: the proved replayer as the module of this folder.
 //
 //     node page/listset.js replay [FILE]            node page/listset.js trace [--chain] [FILE]
-//     node page/listset.js check [FILE]             node page/listset.js example [--broken] [NAME]
+//     node page/listset.js check [FILE]             node page/listset.js show [--svg] [FILE]
+//     node page/listset.js example [--broken] [NAME]
 //
 // Output, line about a trouble and exit status are the program's (docs/FORMATS.md), but that wrong words are one line.
-// Where node has no 64-bit memories it says so and ends with status 70, before it reads anything.
+// `show` draws all that the program draws without a word about moments. Where node has no 64-bit memories, or the module not the
+// function of the command, it says so and ends with status 70, before it reads anything.
 "use strict";
 
 const fs = require("fs");
-const path = require("path");
-const v8 = require("v8");
-const vm = require("vm");
+const { NO_ENGINE, NO_MEMORIES, startedEngine } = require("./in_node.js");
 
 const LONGEST = 67108864; // bytes of an input; what is longer is not read to its end
-const NO_ENGINE = 70;
-const USAGE = "replay [FILE], check [FILE], trace [--chain] [FILE] or example [--broken] [NAME]";
+const USAGE = "replay [FILE], check [FILE], trace [--chain] [FILE], show [--svg] [FILE] or example [--broken] [NAME]";
 
 // Of each command its flag, if it has one, and the engine's function without it and with it.
 const COMMANDS = {
   replay: { functions: ["listset_replay"] },
   check: { functions: ["listset_check"] },
   trace: { flag: "--chain", functions: ["listset_trace", "listset_trace_with_chains"] },
+  show: { flag: "--svg", functions: ["listset_show", "listset_show_svg"] },
   example: { flag: "--broken", functions: ["listset_example", "listset_broken_example"] },
 };
 
@@ -36,15 +36,6 @@ function asked([name = "replay", ...words]) {
   const wrong = flags.find((word) => word !== COMMANDS[name].flag) ?? flags[1] ?? values[1];
   if (wrong !== undefined) throw new WrongWords(`${name} does not take ${JSON.stringify(wrong)}`);
   return { name, isOn: flags.length > 0, value: values[0] };
-}
-
-async function startedEngine() {
-  v8.setFlagsFromString("--experimental-wasm-memory64"); // older versions want it
-  const bytes = fs.readFileSync(path.join(__dirname, "listset.wasm"));
-  if (!WebAssembly.validate(bytes)) return null;
-  const calls = path.join(__dirname, "calls.js");
-  const Engine = vm.runInThisContext(`${fs.readFileSync(calls, "utf8")}\nEngine`, { filename: calls });
-  return new Engine(await WebAssembly.compile(bytes));
 }
 
 // The bytes of the file, or of standard input without a path, up to one more than an input may have.
@@ -106,15 +97,21 @@ function write({ status, bytes }) {
   process.stdout.write(text);
 }
 
+// Why the words cannot be answered: there is no engine, or its module lacks their function. Null where they can.
+function lackOf(engine, { name, isOn }) {
+  if (engine === null) return NO_MEMORIES;
+  const wanted = COMMANDS[name].functions[Number(isOn)];
+  const isThere = WebAssembly.Module.exports(engine.module).some((one) => one.name === wanted);
+  return isThere ? null : `this module cannot ${name}: it has no ${wanted}`;
+}
+
 async function main(given) {
   const words = asked(given);
   const engine = await startedEngine();
-  if (engine === null) {
-    process.stderr.write("listset: this node has no 64-bit WebAssembly memories; version 20 has them\n");
-    process.exitCode = NO_ENGINE;
-    return;
-  }
-  write(answerOrTrouble(engine, words));
+  const lack = lackOf(engine, words);
+  if (lack === null) return write(answerOrTrouble(engine, words));
+  process.stderr.write(`listset: ${lack}\n`);
+  process.exitCode = NO_ENGINE;
 }
 
 main(process.argv.slice(2)).catch((fault) => {

@@ -1,4 +1,5 @@
-"""The rows of docs/TABLES.md as rows.js: the texts that the page shows beside a thread's row."""
+"""The rows of docs/TABLES.md as rows.js: the texts that the page shows beside a thread's row, and what its sentences need of
+them."""
 import json
 import re
 
@@ -10,38 +11,82 @@ TITLES = {
     "LockFreeList": "lock-free",
 }
 REGISTERS = ["pred", "curr", "succ", "node", "pkey", "ckey"]
+CALLS = ["add", "remove", "contains", "ceiling"]
+# What the column "Then" says of where a row leads, in its own words.
+LEADS = {
+    "below": r"below K: (?:[^;]*, )?(\d+)",  # on with the walk
+    "invalid": r"reply none, (\d+)",  # the validation failed
+    "again": r"^success: .*; else (\d+)$|without a reply: (\d+)|curr = head, (\d+)",  # the walk begins again
+}
 
 
 def plain(text):
+    """A cell or a paragraph without the signs of Markdown."""
     return re.sub(r"\*\*|`", "", text).strip()
 
 
+def in_lines(value, indent=0):
+    """The value as JavaScript: in one line where that is short, else each key in a line of its own."""
+    flat = json.dumps(value, ensure_ascii=False)
+    if not isinstance(value, dict) or indent + len(flat) <= 100:
+        return flat
+    inner = indent + 2
+    lines = [f"{' ' * inner}{json.dumps(str(key))}: {in_lines(one, inner)}" for key, one in value.items()]
+    return "{\n" + ",\n".join(lines) + "\n" + " " * indent + "}"
+
+
+def leads_of(then):
+    """The rows to which the column "Then" leads, by what it means."""
+    found = {name: re.search(pattern, then) for name, pattern in LEADS.items()}
+    return {name: int(next(filter(None, match.groups()))) for name, match in found.items() if match}
+
+
 def rows_of(section):
-    """The rows of a section's table, and what stands in their column "Then"."""
-    rows, then = {}, ""
+    """The rows of a section's table."""
+    rows = {}
     for line in section.splitlines():
-        cells = [cell.strip() for cell in line.strip("|").split("|")]
+        cells = [plain(cell) for cell in line.strip("|").split("|")]
         if len(cells) == 4 and cells[0].isdigit():
-            rows[int(cells[0])] = {"step": plain(cells[1]), "book": plain(cells[3])}
-            then += cells[2]
-    return rows, then
+            rows[int(cells[0])] = {"step": cells[1], "then": cells[2], "book": cells[3], **leads_of(cells[2])}
+    return rows
 
 
-def registers_in(then):
+def deciding_rows(section):
+    """The rows at which a call adds, removes and leaves; of a list whose calls leave by answering, one past its last row."""
+    def row_of(pattern):
+        found = re.search(pattern, section)
+        return int(found[1]) if found else max(number for number in rows_of(section)) + 1
+    return row_of(r"Adds at row (\d+)"), row_of(r"removes at row (\d+)"), row_of(r"leaves at row (\d+)")
+
+
+def registers_in(rows):
     """The registers that these rows set."""
-    return [name for name in REGISTERS if f"`{name}` =" in then]
+    return [name for name in REGISTERS if any(f"{name} = " in row["then"] for row in rows)]
+
+
+def calls_of(section, reads):
+    """The numbers of the rows that each call can make, and the registers that these set."""
+    rows = rows_of(section)
+    adds, removes, leaves = deciding_rows(section)
+    left_out = {"add": range(removes, leaves), "remove": range(adds, removes)}
+    calls = {}
+    for call in CALLS:
+        without = left_out.get(call, range(adds, leaves))
+        own = reads.get(call) or {number: row for number, row in rows.items() if number not in without}
+        calls[call] = {"rows": [*own], "registers": registers_in(own.values())}
+    return calls
 
 
 def rows_text(tables):
     """The text of rows.js for the text of docs/TABLES.md."""
     sections = {part.split("\n", 1)[0].strip(): part for part in tables.split("\n## ")}
-    reads = [rows_of(sections[f"`{call}` of LazyList and LockFreeList"]) for call in ("contains", "ceiling")]
+    reads = {call: rows_of(sections[f"`{call}` of LazyList and LockFreeList"]) for call in ("contains", "ceiling")}
     lists = {}
     for name, kind in TITLES.items():
-        rows, then = rows_of(sections[name])
-        for more, more_then in reads if kind in ("lazy", "lock-free") else []:
-            rows.update(more)
-            then += more_then
-        lists[kind] = {"name": name, "registers": registers_in(then), "rows": rows}
+        own = reads if kind in ("lazy", "lock-free") else {}
+        adds, removes, _ = deciding_rows(sections[name])
+        rows = rows_of(sections[name]) | {number: row for some in own.values() for number, row in some.items()}
+        lists[kind] = {"name": name, "registers": registers_in(rows.values()), "adds": adds, "removes": removes,
+                       "calls": calls_of(sections[name], own), "rows": rows}
     return ("// The rows of the step tables, from docs/TABLES.md by page/build: for show alone, no state is computed from them.\n"
-            f'"use strict";\n\nconst LISTS = {json.dumps(lists, indent=2, ensure_ascii=False)};\n')
+            f'"use strict";\n\nconst LISTS = {in_lines(lists)};\n')

@@ -51,6 +51,15 @@ class State {
     if (!target.reached) set(target, "reached", true);
   }
 
+  // The lock words that are taken, by the thread that has them, as { t0: ["head.lock"] }.
+  locks() {
+    const held = {};
+    const add = (lock, word) => lock !== "free" && (held[lock] ??= []).push(word);
+    add(this.lock, "list.lock");
+    for (const name in this.nodes) add(this.nodes[name].lock, `${name}.lock`);
+    return held;
+  }
+
   // The nodes from the head to the tail, as the link words lead.
   chain() {
     const found = new Set(["head"]);

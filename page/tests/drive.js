@@ -1,40 +1,10 @@
-// Drives the page in a frame as a person would, and posts how many checks passed and which failed.
+// Drives the page in a frame as a person would, tells what it does, and posts how many checks passed and which failed.
 "use strict";
-
-const frame = document.getElementById("page");
-const result = { passed: 0, failed: [] };
-const inPage = (words) => frame.contentWindow.eval(words);
-const part = (id) => frame.contentDocument.getElementById(id);
-const textOf = (id) => part(id).textContent;
-const sleep = (milliseconds) => new Promise((done) => setTimeout(done, milliseconds));
-
-function check(name, isGood) {
-  if (isGood) result.passed++;
-  else result.failed.push(`${name} (event "${textOf("where")}", fault "${textOf("fault")}", source "${textOf("source")}")`);
-}
-
-function press(key, more = {}) {
-  const event = new frame.contentWindow.KeyboardEvent("keydown", { key, bubbles: true, ...more });
-  frame.contentDocument.body.dispatchEvent(event);
-}
-
-function runSchedule(lines) {
-  part("schedule").value = lines.join("\n") + "\n";
-  part("schedule").oninput();
-  part("run").click();
-}
-
-const header = (kind, threads, version = 1) => [`listset-schedule ${version}`, `list ${kind}`, `threads ${threads}`, "quota 4"];
-
-function pick(name) {
-  part("examples").value = name;
-  part("examples").onchange();
-}
 
 // Each example goes to its end, event by event, and its calls stand in the order of its report.
 function driveExamples() {
   const names = [...part("examples").options].map((option) => option.value).filter((name) => name !== "");
-  check("fifteen examples", names.length === 15);
+  check("sixteen examples", names.length === 16);
   for (const name of names) {
     pick(name);
     const total = inPage("page.trace.events.length");
@@ -48,16 +18,6 @@ function driveExamples() {
     for (let count = 0; count < total; count++) part("back").click();
     check(`${name} goes back to its start`, textOf("where") === `event 0 of ${total}` && part("back").disabled);
   }
-}
-
-// Lets a thread at rest begin a call, by its row of controls.
-function beginCall(thread, operation, key) {
-  const row = part("moves").querySelector(`[data-thread="${thread}"]`);
-  row.querySelector("select").value = operation;
-  row.querySelector("select").onchange();
-  row.querySelector("input").value = String(key);
-  row.querySelector("input").oninput();
-  row.querySelector("button").click();
 }
 
 // In the middle of a run another thread is given a step, and then begins a call.
@@ -77,23 +37,15 @@ function driveMoves() {
   check("undo, three times", inPage("page.text") === before && textOf("where").startsWith("event 14 of 39"));
 }
 
-function goToEvent(count) {
-  part("slider").value = count;
-  part("slider").oninput();
-}
-
-const textsOf = (elements) => [...elements].map((element) => element.textContent).join("; ");
-const rowOf = (thread) => textsOf(part("threads").querySelectorAll("tbody tr")[thread].children);
-const orderShown = () => textsOf(part("order").querySelectorAll("li"));
-
 // The walk that meets a marked node and starts again, the one behind which a key comes in, and the one that may not end yet.
 function driveCeilingExamples() {
   pick("ceiling-meets-mark");
   goToEvent(10);
   check("the row that looks at the mark", rowOf(0).startsWith("t0; ceiling(3); 25 load link of curr "));
-  check("the key at which the walk stops", rowOf(0).includes("; n6; head; 5; "));
+  check("the key at which the walk stops", rowOf(0).includes("; ; n6; ; 5; "));
   goToEvent(18);
-  check("the mark is seen, and the walk starts again", textOf("said").includes("n6.link: tail, marked.") && rowOf(0).includes("; 23 load "));
+  check("the mark is seen", textOf("said").includes("n6.link: tail, marked."));
+  check("and the walk starts again", rowOf(0).includes("; 23 load "));
   part("last").click();
   check("there is none", textOf("said").endsWith("ceiling(3) answers nothing; it took effect at event 16, a step of t1."));
   check("it stands behind the remove", orderShown().endsWith("t1 remove(5) true; t0 ceiling(3) nothing"));
@@ -116,10 +68,12 @@ function driveCeilings() {
     for (const [key, reply] of [[3, "at-5"], [6, "nothing"]]) {
       beginCall(1, "ceiling", key);
       const text = part("schedule").value;
-      check(`${kind}: a ceiling is begun`, text.startsWith("listset-schedule 2\n") && text.endsWith(`\nbegin 1 ceiling ${key}\n`));
+      const isOfTwo = text.startsWith("listset-schedule 2\n");
+      check(`${kind}: a ceiling is begun`, isOfTwo && text.endsWith(`\nbegin 1 ceiling ${key}\n`));
       check(`${kind}: its row is told`, /^t1; ceiling\(\d\); \d+ (load|try) /.test(rowOf(1)));
       for (let count = 0; count < 20 && inPage("page.state.threads[1].pc") !== 0; count++) press("1");
-      check(`${kind}: the ceiling of ${key}`, textOf("said").includes(`ceiling(${key}) answers ${reply}`) && rowOf(1).includes(reply));
+      const isSaid = textOf("said").includes(`ceiling(${key}) answers ${reply}`);
+      check(`${kind}: the ceiling of ${key}`, isSaid && rowOf(1).includes(reply));
     }
     press("Home");
     beginCall(1, "add", 7);
@@ -132,13 +86,15 @@ function driveCeilings() {
   runSchedule([...header("lazy", 2, 2), "begin 0 add 5", "go 0 3"]);
   press("End");
   press("0");
-  check("a text keeps its version", part("schedule").value === [...header("lazy", 2, 2), "begin 0 add 5", "go 0 4", ""].join("\n"));
+  const longer = [...header("lazy", 2, 2), "begin 0 add 5", "go 0 4", ""].join("\n");
+  check("a text keeps its version", part("schedule").value === longer);
 }
 
 // Texts that are refused are shown with their fault and its line.
 function driveFaults() {
   runSchedule([...header("coarse", 2), "begin 0 add 5", "go 0 3", "go 1 1"]);
-  check("a step of a thread at rest", textOf("fault").includes("line 7: Idle") && textOf("where") === "event 0 of 4");
+  check("a step of a thread at rest", textOf("fault").includes("line 7: Idle"));
+  check("the run up to it is shown", textOf("where") === "event 4 of 4" && part("old").hidden);
   check("its line is marked", part("marks").querySelectorAll(".bad").length === 1);
   runSchedule([...header("lazy", 2), "begin 0 add 05"]);
   check("a number with a leading zero", textOf("fault").startsWith("listset: line 5: Number:"));
@@ -207,6 +163,8 @@ async function driveFiles() {
   pick("stale-pred");
   part("broken").click();
   check("the report of a broken list is refused", textOf("checked") === "refused WrongSet");
+  const isDrawn = part("picture").querySelector("svg") !== null && textOf("picture-says").startsWith("refused WrongSet: ");
+  check("and drawn, where the module draws", isDrawn === inPage("page.engine.has('listset_show_svg')"));
 }
 
 function driveManyThreads() {
@@ -239,22 +197,46 @@ async function compareCases() {
   result.failed.push(...found.failed);
 }
 
+// What is driven, one part after the other: at the width of a table, and what is new on a narrow screen too.
+const PARTS = {
+  "the examples": driveExamples,
+  "steps of other threads": driveMoves,
+  "the examples of ceilings": driveCeilingExamples,
+  ceilings: driveCeilings,
+  faults: driveFaults,
+  keys: driveKeys,
+  files: driveFiles,
+  "many threads": driveManyThreads,
+  lessons: driveLessons,
+  "a student's work": driveWork,
+  "the same on a narrow screen": () => onNarrowScreen(driveWork),
+  "the comparison": compareCases,
+  "without 64-bit memories": driveLess,
+};
+
 async function drive() {
-  while (frame.contentDocument?.body?.dataset.ready !== "yes") await sleep(20);
+  await isReady();
   check("the engine runs here", inPage("page.engine") !== null);
-  driveExamples();
-  driveMoves();
-  driveCeilingExamples();
-  driveCeilings();
-  driveFaults();
-  driveKeys();
-  await driveFiles();
-  driveManyThreads();
-  await compareCases();
+  const wantsLess = frame.contentWindow.matchMedia("(prefers-reduced-motion: reduce)").matches;
+  check("less motion is asked for where the page is a file", wantsLess === (location.protocol === "file:"));
+  check("the play begins slow there", part("speed").value === (wantsLess ? "slow" : "middle"));
+  for (const name in PARTS) {
+    await post({ told: name });
+    await PARTS[name]();
+  }
 }
 
-frame.onload = () =>
-  drive()
-    .catch((fault) => result.failed.push(`the drive stopped: ${fault.stack}`))
-    .then(() => fetch(location.search.slice(1), { method: "POST", mode: "no-cors", body: JSON.stringify(result) }));
+const isLoaded = new Promise((done) => frame.addEventListener("load", done, { once: true }));
+
+async function onNarrowScreen(deed) {
+  frame.width = 380;
+  await sleep(100);
+  await deed();
+  frame.width = 1300;
+}
+
+isLoaded
+  .then(drive)
+  .catch((fault) => result.failed.push(`the drive stopped: ${fault.stack}`))
+  .then(() => post(result));
 frame.src = "../index.html";

@@ -2,15 +2,19 @@
 status is the same, nothing is on the output, and the script says what is wrong in one line."""
 
 import os
+import pathlib
 import random
 import subprocess
 from concurrent.futures import ThreadPoolExecutor
 
+MODULE = pathlib.Path(__file__).resolve().parent.parent / "listset.wasm"
+HAS_SHOW = b"listset_show" in MODULE.read_bytes()  # the names of its functions stand in a module
 GENERATED = 2  # of each list
 REFUSED = 20
 SECONDS = 120
 WRONG = ["no-such", "--chain", "-x", "replay a b", "replay --chain", "replay --chain a", "replay -x", "check --broken", "check a b",
          "trace --chain --chain", "trace --chain a b", "trace --chain=true", "trace --broken a", "example a b", "example --chain",
+         "show a b", "show --chain", "show --svg --svg", "show --svg a b",
          "example --broken --broken snip", "example snip --broken snip", "trace -- a b", "trace -- --chain --chain"]
 # (the words after -- are values, so those of one value are not wrong)
 TAKEN = ["replay --", "replay no-such-file", "check no-such-file", "trace no-such-file", "trace --chain no-such-file", "replay .", "check .",
@@ -37,6 +41,15 @@ def compared_wrong(program, script, words):
     (output, fault, status), due = said([*script, *words], b""), said([*program, *words], b"")
     if (output, status) != (b"", 2) or (due[0], due[2]) != (b"", 2) or fault.count(b"\n") != 1 or not fault.startswith(b"listset: "):
         return f"listset.js {' '.join(words)}: {output, fault, status}, and of the program {due}"[:2000]
+    return None
+
+
+def told_show(script):
+    """A line where the script does not say plainly that its module has no `show`, or None."""
+    for words, name in ((["show"], b"listset_show"), (["show", "--svg"], b"listset_show_svg")):
+        ours, due = said([*script, *words], b""), b"listset: this module cannot show: it has no " + name + b"\n"
+        if ours != (b"", due, 70):
+            return f"listset.js {' '.join(words)}: {ours}, not {due}"
     return None
 
 
@@ -80,10 +93,15 @@ def asked(program, names, folder):
             it.write(text)
         report = said([*program, "replay", file], b"")[0]
         yield from (([], text), (["replay", file], b""), (["check"], report), (["check"], text), (["trace"], text), (["trace", file, "--chain"], b""))
+        if HAS_SHOW:
+            yield from ((["show"], text), (["show", file, "--svg"], b""), (["show"], report), (["show", "--svg"], report))
     broken = [said([*program, "example", "--broken", name], b"")[0] for name in names]
     reports = [said([*program, "replay"], text)[0] for text in schedules]
     yield from ((["check"], text) for text in [*filter(None, broken), *refused(dice, reports)])
     yield from (([*words, name], b"") for name in names for words in (["example"], ["example", "--broken"]))
+    if HAS_SHOW:
+        yield from ((["show", *words], text) for text in [*filter(None, broken), *refused(dice, reports)] for words in ([], ["--svg"]))
+        yield from ((["show", *words], b"") for words in (["no-such-file"], ["--", "--svg"], ["."]))
     yield (["example"], b"")
     yield from ((words.split(), schedules[0]) for words in TAKEN)
     yield (["replay", ""], schedules[0])
@@ -97,5 +115,6 @@ def in_node(program, script, names, folder):
         found = [*pool.map(lambda it: compared(program, script, *it), [*asked(program, names, folder)])]
         found += pool.map(lambda words: compared_wrong(program, script, words.split()), WRONG)
     found += [compared_full(program, script, words) for words in (["example"], ["example", "snip"])]
+    found += [] if HAS_SHOW else [told_show(script)]
     failed = [line for line in found if line]
     return {"passed": len(found) - len(failed), "failed": failed}

@@ -1,8 +1,12 @@
 -- How what a tool makes of a text is handed to a caller outside, who gives room for it.
-use Rattle.std.specs.Prelude.{◌≡◌, ◌≢◌, ℕ, ◌≤◌, ◌<◌, ◌⊎◌, List, ◌++◌, length, drop, Ok, Err}
-use Rattle.lset_tools.specs.declared.trouble.Trouble.TheVariants.{CannotRead}
+use Rattle.std.specs.Prelude.{◌≡◌, ◌≢◌, ℕ, ◌≤◌, ◌<◌, ◌⊎◌, Bool, List, ◌++◌, length, drop, None, Result, Ok, Err}
+use Rattle.lset_tools.specs.declared.moments.Moments.{Moments}
+use Rattle.lset_tools.specs.declared.trouble.Trouble.TheVariants.{CannotRead, Bad}
+use Rattle.lset_tools.specs.declared.trouble.ValueName.{ValueName}
+use Rattle.lset_tools.specs.Moments.{moments_of}
 use Rattle.lset_tools.specs.Tools.{Made}
 use Rattle.lset_tools.specs.Trouble as trouble
+use Rattle.lset_show.specs.Showing.{Shows}
 
 -- what the program prints of it: the answer's text, or the line about the trouble
 abbrev pub text_of : Made → List ℕ
@@ -28,6 +32,16 @@ pub record IsHanded (made : Made) (old new : List ℕ) (status count : ℕ) : Ty
 -- Something is made of a text that is given: no device is read for it, so none fails.
 abbrev pub OfText : (List ℕ → Made → Type 0) → List ℕ → Made → Type 0
 OfText Makes text made = Makes text made × (made ≢ Err CannotRead)
+
+-- What `show` makes of the bytes within the moments that options ask for, as in the program (`ShowsWithin` of lset_dispatch); a wrong
+-- option is named.
+abbrev pub ShowsWithin : Bool → Result Moments ValueName → List ℕ → Made → Type 0
+ShowsWithin svg (Ok moments) bytes made = Shows svg (record { from = moments.from; to = moments.to }) bytes made
+ShowsWithin svg (Err wrong) bytes made = made ≡ Err (Bad wrong)
+
+-- Here no option is given.
+abbrev pub ShowsAll : Bool → List ℕ → Made → Type 0
+ShowsAll svg bytes made = ShowsWithin svg (moments_of None None) bytes made
 
 -- A tool ends so outside: what it made is handed over.
 abbrev pub Hands : (Made → Type 0) → List ℕ → List ℕ → ℕ → ℕ → Type 0

@@ -8,19 +8,21 @@
 
 mod handing;
 mod naming;
+mod showing;
 
 ghost use Rattle.std.specs.Prelude.{true, false, None, Some};
 ghost use Rattle.lset_tools.specs.Replaying.{Replays};
 ghost use Rattle.lset_tools.specs.Checking.{Checks};
 ghost use Rattle.lset_trace.specs.Tracing.{Traces};
 ghost use Rattle.lset_examples.specs.Exampling.{Exampled};
-ghost use Rattle.lset_page.specs.Page.{Hands, OfText};
+ghost use Rattle.lset_page.specs.Page.{Hands, OfText, ShowsAll};
 
 use handing::hand;
 use lset_examples::exampled;
 use lset_tools::{checked, replayed};
 use lset_trace::traced;
 use naming::exampled_by;
+use showing::shown_whole;
 use std::alloc::Global;
 
 /// What `listset replay` prints of the schedule whose text is given: its report, or the line about the first fault of the
@@ -76,6 +78,36 @@ pub extern "C" fn listset_trace_with_chains(
     ensures { Hands (OfText (Traces true) text.now) room.old room.new status.new result }
 {
     hand(alloc, traced(alloc, text, true), room, status)
+}
+
+/// What `listset show` prints of the schedule or the report whose text is given: its picture, with status 1 where it tells why
+/// the order of a report is refused; or the line about the first fault of the text, or about one that is too long. As without
+/// `--from` and `--to`, the first 64 moments at which something happens are drawn.
+#[tactic(auto, using(crate::proofs::AllMoments::may_want_memory))]
+#[unsafe(no_mangle)]
+pub extern "C" fn listset_show(
+    alloc: Global,
+    text: &[u8],
+    room: &mut [u8],
+    status: &mut u8,
+) -> usize
+    ensures { Hands (OfText (ShowsAll false) text.now) room.old room.new status.new result }
+{
+    hand(alloc, shown_whole(alloc, text, false), room, status)
+}
+
+/// What `listset show --svg` prints of it: the same picture as an SVG.
+#[tactic(auto, using(crate::proofs::AllMoments::may_want_memory))]
+#[unsafe(no_mangle)]
+pub extern "C" fn listset_show_svg(
+    alloc: Global,
+    text: &[u8],
+    room: &mut [u8],
+    status: &mut u8,
+) -> usize
+    ensures { Hands (OfText (ShowsAll true) text.now) room.old room.new status.new result }
+{
+    hand(alloc, shown_whole(alloc, text, true), room, status)
 }
 
 /// What `listset example` prints without a name: the names of the examples, each with its list and the line about it.

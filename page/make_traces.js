@@ -1,0 +1,24 @@
+// node page/make_traces.js: traces.js, which has what the engine of this folder says of the classic examples: the list of their
+// names, and the trace of each. A browser that cannot run the engine shows the examples from it.
+"use strict";
+
+const fs = require("fs");
+const path = require("path");
+const { execFileSync } = require("child_process");
+
+const asked = (words, input) => execFileSync("node", [path.join(__dirname, "listset.js"), ...words], { input, encoding: "utf8" });
+
+function tracesText() {
+  const list = asked(["example"]);
+  const names = list.trimEnd().split("\n").map((line) => line.split(" ")[0]);
+  const lines = names.map((name) => {
+    const trace = asked(["trace"], asked(["example", name]));
+    return `  ${JSON.stringify(name)}: \`\n${trace}\`.slice(1),\n`;
+  });
+  return (
+    "// What the engine prints of the classic examples, by make_traces.js: shown where a browser cannot run it.\n" +
+    `"use strict";\n\nconst EXAMPLES = \`\n${list}\`.slice(1);\n\nconst TRACES = {\n${lines.join("")}};\n`
+  );
+}
+
+fs.writeFileSync(path.join(__dirname, "traces.js"), tracesText());

@@ -1,0 +1,175 @@
+// One sentence about an event: what it did, and what comes of it. Both follow from the line of the trace, from what the thread
+// held before and holds after, and from the column "Then" of the table's row (rows.js).
+"use strict";
+
+const isLock = (word) => word.endsWith(".lock");
+const mono = (text) => `<b class="mono">${text}</b>`;
+const isDone = (event) => event.deed === "store" || (event.deed === "exchange" && event.saw === event.from);
+const isFailed = (event) => event.deed === "exchange" && event.saw !== event.from;
+const ownerIn = (word) => word.split(".")[0];
+const isLinkOf = (event) => event.word?.endsWith(".link");
+
+function deedText(event) {
+  const word = event.word && mono(event.word);
+  if (event.deed === "begin") return `begins ${callText(event.call)}.`;
+  if (event.deed === "load") return `reads ${word}: ${said(event.saw)}.`;
+  if (event.deed === "store") return isLock(event.word) ? `gives ${word} back.` : `writes ${word} := ${said(event.to)}.`;
+  const exchange = `${said(event.from)} → ${said(event.to)}`;
+  if (event.saw === event.from) return isLock(event.word) ? `takes ${word}.` : `exchanges ${word}: ${exchange}.`;
+  if (isLock(event.word)) return `tries ${word}, which ${event.saw} has: it stays at row ${event.changes.pc}.`;
+  return `tries to exchange ${word}: ${exchange}, but finds ${said(event.saw)}.`;
+}
+
+// Which event set the mark of each node that has one. A mark stays.
+function marksOf(trace) {
+  if (trace.marks !== undefined) return trace.marks;
+  trace.marks = new Map();
+  for (const event of trace.events) {
+    if (isLinkOf(event) && event.to?.endsWith("*") && isDone(event)) trace.marks.set(ownerIn(event.word), event);
+  }
+  return trace.marks;
+}
+
+// A node with the thread whose slot it is, and the thread that marked it.
+function wholeName({ trace, event }, name) {
+  const whose = isOpeningNode(trace, name) ? "the opening node" : `${chipOf(ownerOf(trace, name))}'s node`;
+  const mark = marksOf(trace).get(name);
+  if (mark === undefined || mark.number > event.number) return `${whose} ${name}`;
+  return `${whose} ${name}, which ${mark.thread === event.thread ? "it" : chipOf(mark.thread)} marked at event ${mark.number},`;
+}
+
+// What comes of an event. Each says its part, or nothing.
+const OUTCOMES = {
+  change({ trace, event, held }) {
+    if (event.put !== undefined) return `<b>This puts ${event.put} into the set</b>, with slot ${held.used} of ${trace.quota}.`;
+    if (event.took !== undefined) return `<b>This takes ${event.took} out of the set.</b>`;
+    return "";
+  },
+
+  mark({ event }) {
+    if (!isLinkOf(event) || !event.to?.endsWith("*") || !isDone(event)) return "";
+    return `${ownerIn(event.word)} is marked now, and still in the chain.`;
+  },
+
+  // A link that went to a node goes past it.
+  unlink(moment) {
+    const { state, event, before } = moment;
+    const gone = before.curr;
+    if (!isLinkOf(event) || !isDone(event) || gone === "tail" || gone === ownerIn(event.word)) return "";
+    if (state.nodes[gone].link.replace("*", "") !== event.to || state.chain().includes(gone)) return "";
+    return `<b>This takes ${wholeName(moment, gone)} out of the chain.</b>`;
+  },
+
+  // The last exchange of a remove, which answers whatever it sees.
+  leftInChain({ state, event, before }) {
+    if (!isFailed(event) || event.answer === undefined) return "";
+    if (!state.chain().includes(before.curr)) return `${before.curr} is out of the chain already.`;
+    return `<b>${before.curr} is left in the chain, marked,</b> for a later walk to take out.`;
+  },
+
+  validation({ event, held, row }) {
+    if (row?.invalid === undefined || held.pc !== row.invalid || held.reply !== "none") return "";
+    const owner = ownerIn(event.word);
+    let reason = `${owner} leads to ${said(event.saw)} now, not to ${held.curr}`;
+    if (event.saw.endsWith("*")) reason = `${owner} is marked`;
+    if (event.word.endsWith(".key")) reason = `the second walk is past the key of ${held.pred} and has not met it`;
+    return `<b>The validation fails:</b> ${reason}. It gives its locks back and walks again.`;
+  },
+
+  again({ event, held, row }) {
+    if (row?.again === undefined || held.pc !== row.again || event.answer !== undefined) return "";
+    const reason = event.saw?.endsWith("*") && event.deed === "load" ? `${ownerIn(event.word)} is marked: it` : "It";
+    return `<b>${reason} begins its walk again${/with the same slot/.test(row.book) ? ", with the same slot" : ""}.</b>`;
+  },
+
+  markMet({ trace, state, event, held, row }) {
+    if (event.deed !== "load" || !event.saw.endsWith("*") || [row?.invalid, row?.again].includes(held.pc)) return "";
+    const owner = ownerIn(event.word);
+    const where = state.chain().includes(owner) ? "and still" : "and no more";
+    if (event.answer !== undefined) return `<b>${owner} is marked</b>, ${where} in the chain.`;
+    if (event.changes.curr !== undefined) return `${owner} is marked, and the walk goes on over it.`;
+    const next = LISTS[trace.kind].rows[held.pc]?.step ?? "";
+    return next.startsWith("exchange link of pred") ? `<b>${owner} is marked:</b> it goes on to take it out.` : "";
+  },
+
+  walk({ trace, event, held, row }) {
+    if (event.deed !== "load" || row === undefined) return "";
+    if (row.below !== undefined) return walkAtKey(event, held, row);
+    if (row.then.includes("node = next(s)")) return `The second walk comes to ${held.node}.`;
+    if (row.then.includes("node is pred") && held.node === held.pred) return `The second walk meets pred, ${held.pred}.`;
+    if (event.changes.curr === undefined || held.pc === row.again) return "";
+    const opening = isOpeningNode(trace, held.curr) ? ", the node of an opening key" : "";
+    return `The walk comes to ${held.curr}${opening}.`;
+  },
+
+  decision({ trace, event, held, before }) {
+    const { adds, removes } = LISTS[trace.kind];
+    if (event.answer !== undefined || held.reply !== "none" || before.pc === held.pc) return "";
+    const { operation, key } = held.call;
+    if (operation === "add" && held.pc === adds) return `${key} is not there: it goes on to put it in.`;
+    if (operation === "remove" && held.pc === removes) return `${key} is there: it goes on to take it out.`;
+    return "";
+  },
+
+  reply({ trace, event }) {
+    const { reply } = event.changes;
+    if (reply === undefined || reply === "none" || event.answer !== undefined) return "";
+    const slots = { 0: "it has no slot", 1: "its one slot is used" }[trace.quota] ?? `its ${trace.quota} slots are used`;
+    const used = reply === "full" ? `: ${slots}` : "";
+    return `<b>It will answer ${reply}</b>${used}.`;
+  },
+
+  locks({ state, event }) {
+    if (!event.word || !isLock(event.word) || !isDone(event) || event.answer !== undefined) return "";
+    const own = state.locks()[`t${event.thread}`];
+    return own === undefined ? "It has no lock now." : `It has ${own.join(" and ")}.`;
+  },
+};
+
+function walkAtKey(event, held, row) {
+  const owner = ownerIn(event.word);
+  const { key } = held.call;
+  if (held.pc === row.below) return `${keyText(event.saw)} is below ${key}: the walk goes on.`;
+  if (event.saw === String(key)) return `<b>The walk stops at ${owner},</b> which has its key.`;
+  return `<b>The walk stops at ${owner},</b> the first whose key is above ${key}.`;
+}
+
+const isOpeningNode = (trace, name) => /^n/.test(name) && Number(name.slice(1)) >= firstOpeningNode(trace);
+
+
+// Where a call that answers here took effect.
+function effectText({ trace, event }) {
+  const { call } = event;
+  if (event.answer === undefined) return "";
+  const answers = `<b>${callText(call)} answers ${event.answer}</b>`;
+  if (call.at === event.number) return `${answers}, and takes effect here.`;
+  const other = trace.events[call.at - 1].thread;
+  const whose = other === event.thread ? "" : `, <b>a step of t${other}</b>`;
+  return `${answers}; it took effect at event ${call.at}${whose}.`;
+}
+
+function openingText(trace) {
+  if (trace.opening.length === 0) return "Before the first event the list is empty and every thread is at rest.";
+  const some = trace.opening.slice(0, 20).join(", ");
+  return `Before the first event the set is {${some}${trace.opening.length > 20 ? ", …" : ""}} and every thread is at rest.`;
+}
+
+// The state after `count` events of its trace, with the event that led there and what its thread held before. The state is moved.
+function momentAt(state, count) {
+  const { trace } = state;
+  const event = count > 0 ? trace.events[count - 1] : null;
+  state.moveTo(Math.max(count - 1, 0));
+  const before = event === null ? null : { ...state.threads[event.thread] };
+  state.moveTo(count);
+  if (event === null) return { trace, state, event };
+  const row = event.deed === "begin" ? undefined : LISTS[trace.kind].rows[before.pc];
+  return { trace, state, event, before, held: state.threads[event.thread], row };
+}
+
+function sentenceOf(moment) {
+  const { trace, event } = moment;
+  if (event === null) return trace.events.length === 0 ? "The schedule has no event." : openingText(trace);
+  if (event.deed === "begin") return `${chipOf(event.thread)} ${deedText(event)}`;
+  const outcomes = Object.values(OUTCOMES).map((outcome) => outcome(moment));
+  return [chipOf(event.thread), deedText(event), ...outcomes, effectText(moment)].filter((text) => text !== "").join(" ");
+}

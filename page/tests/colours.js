@@ -1,0 +1,49 @@
+// The contrasts of the colours of page.css: of texts on the grounds on which they stand, and of edges that are to be seen.
+"use strict";
+
+const TEXT = 4.5;
+const EDGE = 3;
+const GROUNDS_OF = {
+  ink: ["paper", "wash", "press", "now", "new", "bad-wash"],
+  soft: ["paper", "wash", "now"],
+  pale: ["paper", "wash", "now"],
+  bad: ["paper", "wash", "now"],
+};
+const THREADS = [0, 1, 2, 3, 4, 5, 6, 7];
+
+function lightOf(colour) {
+  const digits = colour.length === 4 ? [...colour.slice(1)].map((digit) => digit + digit).join("") : colour.slice(1);
+  const [red, green, blue] = [0, 2, 4].map((at) => {
+    const part = parseInt(digits.slice(at, at + 2), 16) / 255;
+    return part <= 0.03928 ? part / 12.92 : ((part + 0.055) / 1.055) ** 2.4;
+  });
+  return 0.2126 * red + 0.7152 * green + 0.0722 * blue;
+}
+
+function contrastOf(one, other) {
+  const [light, dark] = [lightOf(one), lightOf(other)].sort((first, second) => second - first);
+  return (light + 0.05) / (dark + 0.05);
+}
+
+// The colours that a part of the sheet names, and those of the threads.
+function coloursIn(part) {
+  const colours = {};
+  for (const [, name, colour] of part.matchAll(/--([a-z-]+): (#[0-9a-f]{3,6});/g)) if (name !== "thread") colours[name] = colour;
+  for (const [, thread, colour] of part.matchAll(/\.thread-(\d) \{ --thread: (#[0-9a-f]{6});/g)) colours[`t${thread}`] = colour;
+  return colours;
+}
+
+// Each pair with its contrast and the least that is due.
+function contrastsOf(sheet) {
+  const [light, dark] = sheet.split("@media (prefers-color-scheme: dark)").slice(0, 2);
+  const schemes = { light: coloursIn(light), dark: coloursIn(dark.split("\n}")[0]) };
+  return Object.entries(schemes).flatMap(([scheme, colours]) => {
+    const pair = (one, other, least) => {
+      return { name: `${scheme}: ${one} on ${other}`, contrast: contrastOf(colours[one], colours[other]), least };
+    };
+    const texts = Object.entries(GROUNDS_OF).flatMap(([text, grounds]) => grounds.map((ground) => pair(text, ground, TEXT)));
+    const edges = ["paper", "wash"].map((ground) => pair("edge", ground, EDGE));
+    const threads = THREADS.flatMap((thread) => [pair("chip-ink", `t${thread}`, TEXT), pair(`t${thread}`, "paper", TEXT)]);
+    return [...texts, ...edges, ...threads];
+  });
+}

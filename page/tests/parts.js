@@ -1,0 +1,169 @@
+// node tests/parts.js: the parts of the page that need no browser, by the committed module: the sentences at the turns of the
+// examples, addresses, and what is kept beside the page.
+"use strict";
+
+const fs = require("fs");
+const path = require("path");
+const { inPage, loadScripts, startedEngine } = require("../in_node.js");
+
+const folder = path.dirname(__dirname);
+const DRAWING = ["svg", "draw_history", "sentences", "draw_list"];
+const TESTED = ["address", "tests/turns", "tests/colours", "tests/arrows"];
+const PARTS = ["rows", "classics", "traces", "trace", "state", ...DRAWING, ...TESTED];
+loadScripts(...PARTS.map((part) => `${part}.js`));
+const result = { passed: 0, failed: [] };
+
+function check(name, isGood) {
+  if (isGood) result.passed++;
+  else result.failed.push(name);
+}
+
+const withoutTags = (text) => text.replace(/<[^>]*>/g, "");
+
+function checkTurns(engine) {
+  const turns = inPage("TURNS");
+  const classics = inPage("CLASSICS");
+  const names = engine.ask("listset_examples", "").text.trimEnd().split("\n").map((line) => line.split(" ")[0]);
+  check("docs/CLASSIC.md has the examples", Object.keys(classics).join() === names.join());
+  for (const name of names) {
+    const { question, turnsOn, turns: events } = classics[name];
+    check(`${name}: there is a word for each event at which it turns`, Object.keys(turns[name]).join() === events.join());
+    check(`${name}: it has a question, and what it turns on`, question.endsWith("?") && turnsOn.length > 40);
+    const trace = inPage("readTrace")(engine.ask("listset_trace", engine.ask("listset_example", name).text).text);
+    const state = new (inPage("State"))(trace);
+    for (const [event, words] of Object.entries(turns[name])) {
+      const sentence = withoutTags(inPage("sentenceOf")(inPage("momentAt")(state, Number(event))));
+      check(`${name}, event ${event}: "${words}" is not in "${sentence}"`, sentence.includes(words));
+    }
+  }
+}
+
+// A list has a few sentences more that the examples do not have at their turns.
+function checkSentences(engine) {
+  const sentences = (lines) => {
+    const trace = inPage("readTrace")(engine.ask("listset_trace", `${lines.join("\n")}\n`).text);
+    const state = new (inPage("State"))(trace);
+    return trace.events.map((_, index) => withoutTags(inPage("sentenceOf")(inPage("momentAt")(state, index + 1))));
+  };
+  const header = (kind, quota) => [`listset-schedule 1`, `list ${kind}`, "threads 2", `quota ${quota}`];
+  const coarse = sentences([...header("coarse", 0), "begin 0 add 5", "go 0 4"]);
+  check("a thread without slots", coarse[3].endsWith("key is above 5. It will answer full: it has no slot."));
+  const adds = ["begin 0 add 5", "go 0 11", "begin 0 add 7", "go 0 13"];
+  const lazy = sentences([...header("lazy", 4), ...adds, "begin 1 remove 5", "go 1 10"]);
+  check("a key below", lazy.includes("t0 reads n2.key: 5. 5 is below 7: the walk goes on."));
+  check("an add goes on", lazy.some((text) => text.endsWith("5 is not there: it goes on to put it in.")));
+  check("a remove goes on", lazy.some((text) => text.endsWith("5 is there: it goes on to take it out.")));
+  const unlink = lazy.find((text) => text.includes("This takes t0's node n2, which it marked at event"));
+  check("the unlink of LazyList", unlink?.endsWith("It will answer true."));
+  check("the last lock", lazy[10].startsWith("t0 gives tail.lock back. It has head.lock."));
+  const walk = sentences([...header("optimistic", 4), "begin 0 add 5", "go 0 10", "begin 0 add 7", "go 0 8"]);
+  check("the second walk meets pred", walk[walk.length - 1] === "t0 reads n2.key: 5. The second walk meets pred, n2.");
+}
+
+const refusalOf = (hash) => {
+  try {
+    inPage("readAddress")(hash);
+    return "";
+  } catch (fault) {
+    return fault.message;
+  }
+};
+
+// Each text comes back from its address, to the byte; what is no address is refused with its part.
+function checkAddresses(engine, texts) {
+  const addressOf = inPage("addressOf");
+  const readAddress = inPage("readAddress");
+  for (const text of texts) {
+    const address = addressOf(text, 3);
+    const back = address === null ? {} : readAddress(address);
+    check(`the address of ${text.slice(0, 200)}`, back.text === text && back.event === 3 && back.example === null);
+  }
+  const opened = "listset-schedule 2\nlist lazy\nthreads 1\nquota 1\nopening 5\nopening 9\nbegin 0 remove 5\ngo 0 10\n";
+  check("its form", addressOf(opened, 12) === "#list=lazy&threads=1&quota=1&opening=5.9&s=b0.remove.5,g0.10&event=12");
+  const second = "listset-schedule 2\nlist coarse\nthreads 1\nquota 4\nbegin 0 add 5\n";
+  check("a version without need", addressOf(second, 0) === "#list=coarse&threads=1&quota=4&version=2&s=b0.add.5&event=0");
+  const lines = ["go 0 1", "# a word\n", "go  0 1\n", "opening 5\n"].map((line) => second + line);
+  for (const text of ["", "listset-schedule 1\n", ...lines, second.replace("coarse", "a&b")]) {
+    check(`no address of ${JSON.stringify(text)}`, addressOf(text, 0) === null);
+  }
+  const long = second + "go 0 1\n".repeat(20000);
+  check("nor of a long one", addressOf(long, 0) === null);
+  const example = readAddress("#example=snip&event=17");
+  check("an example", example.example === "snip" && example.event === 17 && example.text === null);
+  check("nothing", readAddress("").text === null && readAddress("#").example === null);
+  check("a part that is none", refusalOf("#exmaple=snip") === 'the address has a part "exmaple", which is none');
+  check("a part twice", refusalOf("#list=lazy&list=fine") === 'the address has "list" twice');
+  check("a bad line", refusalOf("#list=lazy&threads=2&quota=4&s=b0.add.5,x0.6").endsWith("is no s of an address"));
+  check("a bad event", refusalOf("#example=snip&event=x") === '"x" is no event of an address');
+  check("a part that is missing", refusalOf("#list=lazy&threads=2&s=b0.add.5") === 'the address has no "quota"');
+  check("two things", refusalOf("#example=snip&list=lazy") === 'the address names an example, and has "list" too');
+}
+
+// The traces beside the page are what the engine prints.
+function checkTraces(engine, names) {
+  const traces = inPage("TRACES");
+  check("the list of the examples beside the page", inPage("EXAMPLES") === engine.ask("listset_examples", "").text);
+  check("their names", Object.keys(traces).join() === names.join());
+  for (const name of names) {
+    const own = engine.ask("listset_trace", engine.ask("listset_example", name).text).text;
+    check(`the trace of ${name} beside the page`, traces[name] === own);
+  }
+}
+
+// No arrow crosses the label of a register, at any event of an example and of a run in which nodes come and go.
+function checkArrows(engine, texts) {
+  let labels = 0;
+  for (const text of texts) {
+    const trace = inPage("readTrace")(engine.ask("listset_trace", text).text);
+    const state = new (inPage("State"))(trace);
+    const crossed = trace.events.flatMap((event, index) => {
+      state.moveTo(index + 1);
+      const drawing = inPage("drawList")(state, event, 860);
+      labels += drawing.split('class="pointer').length - 1;
+      return inPage("crossedLabels")(drawing).map((label) => `${label} at event ${index + 1}`);
+    });
+    check(`arrows cross labels (${crossed.slice(0, 5)}) of ${text.slice(0, 200)}`, crossed.length === 0);
+  }
+  check("labels were drawn", labels > 1000);
+  const drawn = '<path d="M0 0 L200 0" marker-end="x"></path><text class="pointer thread-0" x="50" y="5">▲ t0 curr</text>';
+  check("an arrow over a label is seen", inPage("crossedLabels")(drawn).join() === "▲ t0 curr");
+}
+
+// Five threads that add, remove and look, one to three steps each in turn, on each list.
+function crowded(engine) {
+  const calls = ["add 5", "remove 5", "add 7", "contains 7", "remove 7"].map((call, thread) => `begin ${thread} ${call}`);
+  const turns = Array.from({ length: 60 }, (_, turn) => `go ${(turn * 3) % 5} ${1 + (turn % 3)}`);
+  return Object.keys(inPage("LISTS")).map((kind) => {
+    const header = `listset-schedule 2\nlist ${kind}\nthreads 5\nquota 4\nopening 5\nopening 7\nopening 9\n`;
+    return [...calls, ...turns].reduce((text, line) => longerBy(engine, text, line), header);
+  });
+}
+
+// The text with a line more, or as it is where that is refused.
+function longerBy(engine, text, line) {
+  const longer = `${text}${line}\n`;
+  return engine.ask("listset_trace", longer).text.includes("\nrefused ") ? text : longer;
+}
+
+// Every colour of a text on every ground on which it stands, in light and in dark, and the edges of the controls.
+function checkColours() {
+  const sheet = fs.readFileSync(path.join(folder, "page.css"), "utf8");
+  const contrasts = inPage("contrastsOf")(sheet);
+  check("colours were found", contrasts.length > 60);
+  for (const { name, contrast, least } of contrasts) check(`${name}: a contrast of ${contrast.toFixed(2)}`, contrast >= least);
+}
+
+async function main() {
+  const engine = await startedEngine();
+  const names = Object.keys(inPage("CLASSICS"));
+  checkTurns(engine);
+  checkSentences(engine);
+  checkTraces(engine, names);
+  checkColours();
+  const texts = names.map((name) => engine.ask("listset_example", name).text);
+  checkAddresses(engine, texts);
+  checkArrows(engine, [...texts, ...crowded(engine)]);
+  process.stdout.write(JSON.stringify(result));
+}
+
+main();
