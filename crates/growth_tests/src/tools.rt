@@ -268,7 +268,7 @@ fn tool_examples(alloc: Global, streams: &mut Streams, calls: &mut Calls) -> Res
     let broken = Example::StalePred.broken_report_text().unwrap_or_default();
     let rows = [
         ("stale-pred", written(broken, 0)),
-        ("snip", refused(2, "listset: bad NAME\n")),
+        ("full", refused(2, "listset: bad NAME\n")),
     ];
     for (name, wanted) in rows {
         answer!(

@@ -133,7 +133,7 @@ fn each_write_on_the_output_fails_in_turn(rt: HostRuntime) -> Result<(), Fail> {
     for way in WRITES {
         runs = runs.saturating_add(each_row_fails(&rt, rt.alloc(), Device::Output, way)?);
     }
-    assert_eq!(rt; runs, 5_344);
+    assert_eq!(rt; runs, 7_509);
     Ok(())
 }
 

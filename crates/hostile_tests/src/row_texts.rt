@@ -98,28 +98,62 @@ pub const OUTCOME: &str = "calls 2\ntrue 1\nfalse 1\nfull 0\nkeys 1\nkey 6\n";
 
 /// The picture of the schedule as an SVG.
 pub const SHEET: &str = concat!(
-    r#"<svg xmlns="http://www.w3.org/2000/svg" font-family="monospace" font-size="12" width="752" height="246">
+    r#"<svg xmlns="http://www.w3.org/2000/svg" class="listset" font-family="monospace" font-size="12" "#,
+    r#"width="752" height="246" viewBox="0 0 752 246">
 <title>coarse list, 1 thread, quota 4: 1 call in 8 events</title>
-<rect width="100%" height="100%" fill="white"/>
-<text xml:space="preserve" x="8" y="20">coarse list, 1 thread, quota 4: 1 call in 8 events</text>
-<text xml:space="preserve" x="8" y="60">moment</text>
-<text xml:space="preserve" x="8" y="94">thread 0</text>
-<text xml:space="preserve" x="8" y="130">set</text>
-<text xml:space="preserve" x="88" y="60">1</text>
-<text xml:space="preserve" x="88" y="130">{}</text>
-<text xml:space="preserve" x="151" y="60">7</text>
-<text xml:space="preserve" x="151" y="130">{5}</text>
-<text xml:space="preserve" x="187" y="60">8</text>
-<line x1="151" y1="90" x2="151" y2="116" stroke="silver"/>
-<line x1="88" y1="90" x2="187" y2="90" stroke="black" stroke-width="2"/>
-<text xml:space="preserve" x="88" y="80">add 5</text>
-<text xml:space="preserve" x="197" y="94">true</text>
-<circle cx="151" cy="90" r="5" fill="black" stroke="black"/>
-<text xml:space="preserve" x="8" y="166">order</text>
-<text xml:space="preserve" x="8" y="182">   1  at 7     thread 0  add 5 true</text>
-<text xml:space="preserve" x="8" y="198">keys  5</text>
-<text xml:space="preserve" x="8" y="214"></text>
-<text xml:space="preserve" x="8" y="230">filled: changes the set    "#,
+<style>
+.listset { color: #1b1f24 }
+.listset .ground, .listset .fit { fill: #ffffff }
+.listset text, .listset .change { fill: currentColor }
+.listset .bar, .listset .point { stroke: currentColor }
+.listset .bar { stroke-width: 2 }
+.listset .open { stroke-dasharray: 6 4 }
+.listset .stem { stroke: #c9cfd6 }
+.listset .thread-0 { color: #0072b2 }
+.listset .thread-1 { color: #c44e00 }
+.listset .thread-2 { color: #00805d }
+.listset .thread-3 { color: #aa4499 }
+.listset .thread-4 { color: #882255 }
+.listset .thread-5 { color: #2b7f72 }
+.listset .thread-6 { color: #6f6f14 }
+.listset .thread-7 { color: #332288 }
+.listset .clash { color: #b3261e; font-weight: bold }
+.listset .bar.clash { stroke-width: 6 }
+@media (prefers-color-scheme: dark) {
+.listset { color: #e6e9ec }
+.listset .ground, .listset .fit { fill: #14181d }
+.listset .stem { stroke: #4a545f }
+.listset .thread-0 { color: #56b4e9 }
+.listset .thread-1 { color: #ff9e4a }
+.listset .thread-2 { color: #2fc79b }
+.listset .thread-3 { color: #e58fd6 }
+.listset .thread-4 { color: #e07aa4 }
+.listset .thread-5 { color: #7fd6c8 }
+.listset .thread-6 { color: #d6d25a }
+.listset .thread-7 { color: #a99cf5 }
+.listset .clash { color: #ff9c93 }
+}
+</style>
+<rect class="ground" width="100%" height="100%"/>
+<text class="plain" xml:space="preserve" x="8" y="20">coarse list, 1 thread, quota 4: 1 call in 8 events</text>
+<text class="plain" xml:space="preserve" x="8" y="60">moment</text>
+<text class="thread-0" xml:space="preserve" x="8" y="94">thread 0</text>
+<text class="plain" xml:space="preserve" x="8" y="130">set</text>
+<text class="plain" xml:space="preserve" x="88" y="60">1</text>
+<text class="plain" xml:space="preserve" x="88" y="130">{}</text>
+<text class="plain" xml:space="preserve" x="151" y="60">7</text>
+<text class="plain" xml:space="preserve" x="151" y="130">{5}</text>
+<text class="plain" xml:space="preserve" x="187" y="60">8</text>
+<line class="stem" x1="151" y1="90" x2="151" y2="116"/>
+<line class="bar thread-0" x1="88" y1="90" x2="187" y2="90"/>
+<text class="thread-0" xml:space="preserve" x="88" y="80">add 5</text>
+<text class="thread-0" xml:space="preserve" x="197" y="94">true</text>
+<circle class="point change thread-0" cx="151" cy="90" r="5"/>
+<text class="plain" xml:space="preserve" x="8" y="166">order</text>
+<text class="plain" xml:space="preserve" x="8" y="182">   1  at 7     thread 0  add 5 true</text>
+<text class="plain" xml:space="preserve" x="8" y="198">keys  5</text>
+<text class="plain" xml:space="preserve" x="8" y="214"></text>
+<text class="plain" xml:space="preserve" x="8" y="230">filled: changes the set    "#,
     r#"open: changes nothing, its reply fits there    dashed: still open</text>
 </svg>
 "#,

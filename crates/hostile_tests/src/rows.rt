@@ -95,7 +95,7 @@ pub fn rows() -> [Row; 22] {
         writes(Tool::Example("full"), "", 0, Example::Full.schedule_text()),
         tells(Tool::Example("snap"), "", 2, "listset: bad NAME\n"),
         writes(Tool::Broken("stale-pred"), "", 0, broken),
-        tells(Tool::Broken("snip"), "", 2, "listset: bad NAME\n"),
+        tells(Tool::Broken("full"), "", 2, "listset: bad NAME\n"),
         writes(Tool::Run("coarse"), "", 0, OUTCOME),
         tells(Tool::Run("skip"), "", 2, "listset: bad KIND\n"),
     ]

@@ -1,6 +1,7 @@
 ghost use Rattle.std.specs.Prelude.{◌<◌, IfOk, OnOk, ◌≡◌};
 
-use crate::worlds::{make, make_call};
+use crate::history::assert_replies;
+use crate::worlds::{self, assert_lines, make_call};
 use lset_coarse::CoarseList;
 use lset_fine::FineList;
 use lset_history::Oracle;
@@ -8,6 +9,7 @@ use lset_lazy::LazyList;
 use lset_lock_free::LockFreeList;
 use lset_optimistic::OptimisticList;
 use lset_replay::replay;
+use lset_report::Report;
 use lset_schedule::{Line, Schedule, Version};
 use lset_steps::{Event, Machine, World};
 use lset_words::{Call, CallRecord, Key, Kind, Placed, Reply, layout};
@@ -49,9 +51,9 @@ fn finds_keys_at_the_ends<M: Machine, R: Abort>(rt: &R, alloc: Global) -> Result
         (Call::Ceiling(Key(1)), Reply::Nothing),
     ];
     let mut world = World::<M>::new(alloc, layout(1, 4)?)?;
-    for (call, reply) in calls {
-        let made = make_call(&mut world, 0, call)?;
-        assert_eq!(rt; made.map(|(answer, _)| answer), Some(reply), "{call:?}");
+    for (call, reply) in &calls {
+        let made = make_call(&mut world, 0, *call)?;
+        assert_eq!(rt; made.map(|(answer, _)| answer), Some(*reply), "{call:?}");
     }
     Ok(())
 }
@@ -76,6 +78,19 @@ fn record(thread: u32, call: Call, begun: u32, ended: u32, reply: Reply) -> Call
 
 fn placed(call: u32, reply: Reply) -> Placed {
     Placed { call, reply }
+}
+
+/// A report has these calls, places and keys.
+fn assert_report<R: Abort>(
+    rt: &R,
+    report: &Report,
+    calls: &[CallRecord],
+    order: &[Placed],
+    keys: &[u32],
+) {
+    assert_eq!(rt; report.history.calls(), calls);
+    assert_eq!(rt; report.order.as_slice(), order);
+    assert_eq!(rt; report.keys.as_slice(), keys);
 }
 
 /// The node at which the ceiling stops is marked by then. It starts again, and stands at the moment of the mark.
@@ -113,9 +128,7 @@ fn a_ceiling_starts_again_at_a_mark(rt: HostRuntime) -> Result<(), Fail> {
         placed(1, Reply::Nothing),
     ];
     let report = replay(rt.alloc(), &schedule)?;
-    assert_eq!(rt; report.history.calls(), calls.as_slice());
-    assert_eq!(rt; report.order.as_slice(), order.as_slice());
-    assert_eq!(rt; report.keys.len(), 0);
+    assert_report(&rt, &report, &calls, &order, &[]);
     Ok(())
 }
 
@@ -150,30 +163,26 @@ fn a_ceiling_before_which_a_key_comes(rt: HostRuntime) -> Result<(), Fail> {
         placed(2, Reply::True),
     ];
     let report = replay(rt.alloc(), &schedule)?;
-    assert_eq!(rt; report.history.calls(), calls.as_slice());
-    assert_eq!(rt; report.order.as_slice(), order.as_slice());
-    assert_eq!(rt; report.keys.as_slice(), [5, 9].as_slice());
+    assert_report(&rt, &report, &calls, &order, &[5, 9]);
     Ok(())
 }
 
 /// The steps of the first of these runs, on a world: it answers at the fifth.
+const STARTED_AGAIN: [worlds::Line; 8] = [
+    (Event::Begin(1, Call::Add(Key(5))), 1, None),
+    (Event::Go(1), 6, Some(Reply::True)),
+    (Event::Begin(0, Call::Ceiling(Key(3))), 1, None),
+    (Event::Go(0), 2, None),
+    (Event::Begin(1, Call::Remove(Key(5))), 1, None),
+    (Event::Go(1), 6, Some(Reply::True)),
+    (Event::Go(0), 2, None),
+    (Event::Go(0), 1, Some(Reply::Nothing)),
+];
+
 #[test]
 fn the_steps_of_a_ceiling_that_starts_again(rt: HostRuntime) -> Result<(), Fail> {
-    let lines = [
-        (Event::Begin(1, Call::Add(Key(5))), 1, None),
-        (Event::Go(1), 6, Some(Reply::True)),
-        (Event::Begin(0, Call::Ceiling(Key(3))), 1, None),
-        (Event::Go(0), 2, None),
-        (Event::Begin(1, Call::Remove(Key(5))), 1, None),
-        (Event::Go(1), 6, Some(Reply::True)),
-        (Event::Go(0), 2, None),
-        (Event::Go(0), 1, Some(Reply::Nothing)),
-    ];
     let mut world = World::<LockFreeList>::new(rt.alloc(), layout(2, 4)?)?;
-    for (event, times, answer) in lines {
-        assert_eq!(rt; make(&mut world, event, times)?, answer, "{event:?}");
-    }
-    Ok(())
+    assert_lines(&rt, &mut world, &STARTED_AGAIN)
 }
 
 /// The sequential set of the keys 0, 5 and 4294967295.
@@ -189,15 +198,17 @@ fn three_keys(alloc: Global) -> Result<Oracle, AllocError>
 
 #[test]
 fn ceilings_of_three_keys(rt: HostRuntime) -> Result<(), Fail> {
-    let mut oracle = three_keys(rt.alloc())?;
     let most = Key(u32::MAX);
-    assert_eq!(rt; oracle.apply(0, Call::Ceiling(Key(0)))?, Reply::At(Key(0)));
-    assert_eq!(rt; oracle.apply(0, Call::Ceiling(Key(1)))?, Reply::At(Key(5)));
-    assert_eq!(rt; oracle.apply(0, Call::Ceiling(Key(5)))?, Reply::At(Key(5)));
-    assert_eq!(rt; oracle.apply(0, Call::Ceiling(Key(6)))?, Reply::At(most));
-    assert_eq!(rt; oracle.apply(0, Call::Ceiling(most))?, Reply::At(most));
-    assert_eq!(rt; oracle.apply(0, Call::Remove(most))?, Reply::True);
-    assert_eq!(rt; oracle.apply(0, Call::Ceiling(Key(6)))?, Reply::Nothing);
-    assert_eq!(rt; oracle.apply(0, Call::Ceiling(most))?, Reply::Nothing);
-    Ok(())
+    let calls = [
+        (Call::Ceiling(Key(0)), Reply::At(Key(0))),
+        (Call::Ceiling(Key(1)), Reply::At(Key(5))),
+        (Call::Ceiling(Key(5)), Reply::At(Key(5))),
+        (Call::Ceiling(Key(6)), Reply::At(most)),
+        (Call::Ceiling(most), Reply::At(most)),
+        (Call::Remove(most), Reply::True),
+        (Call::Ceiling(Key(6)), Reply::Nothing),
+        (Call::Ceiling(most), Reply::Nothing),
+    ];
+    let mut oracle = three_keys(rt.alloc())?;
+    assert_replies(&rt, &mut oracle, &calls)
 }

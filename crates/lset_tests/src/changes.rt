@@ -36,12 +36,16 @@ fn first_moments_of_a_key_that_comes_and_goes(rt: HostRuntime) -> Result<(), Fai
     note(&mut changes, true, 0, 8)?;
     note(&mut changes, false, 8, 23)?;
     note(&mut changes, true, 23, 37)?;
-    assert_eq!(rt; changes.first(5, false, 13, 39).0, Some(23));
-    assert_eq!(rt; changes.first(5, true, 23, 36).0, None);
-    assert_eq!(rt; changes.first(5, true, 23, 37).0, Some(37));
-    assert_eq!(rt; changes.first(5, false, 1, 7).0, Some(1));
-    assert_eq!(rt; changes.first(5, true, 8, 8).0, Some(8));
-    assert_eq!(rt; changes.first(5, false, 37, u32::MAX).0, None);
+    let found = [
+        changes.first(5, false, 13, 39).0,
+        changes.first(5, true, 23, 36).0,
+        changes.first(5, true, 23, 37).0,
+        changes.first(5, false, 1, 7).0,
+        changes.first(5, true, 8, 8).0,
+        changes.first(5, false, 37, u32::MAX).0,
+    ];
+    let wanted = [Some(23), None, Some(37), Some(1), Some(8), None];
+    assert_eq!(rt; found.as_slice(), wanted.as_slice());
     assert_eq!(rt; changes.first(6, true, 1, 99), (None, 0));
     assert_eq!(rt; changes.first(6, false, 1, 99), (Some(1), 0));
     Ok(())

@@ -4,7 +4,7 @@ ghost use Rattle.lset_schedule.specs.Plan.{IsSchedule, view};
 use crate::written::text_of_schedule;
 use lset_coarse::CoarseList;
 use lset_fine::FineList;
-use lset_history::check_order;
+use lset_history::{OrderFault, check_order};
 use lset_lazy::LazyList;
 use lset_lock_free::LockFreeList;
 use lset_optimistic::OptimisticList;
@@ -43,7 +43,7 @@ fn generated(
 
 #[test]
 fn no_calls_are_the_header_alone(rt: HostRuntime) -> Result<(), Fail> {
-    for (kind, word) in LISTS {
+    for &(kind, word) in &LISTS {
         let schedule = generated(rt.alloc(), kind, 2, 4, 0)?;
         let header = format!(in rt.alloc();
             "listset-schedule 1\nlist {word}\nthreads 2\nquota 4\n"
@@ -54,34 +54,51 @@ fn no_calls_are_the_header_alone(rt: HostRuntime) -> Result<(), Fail> {
     Ok(())
 }
 
+/// The text of a schedule of two threads with 50 calls each.
+fn text_of_fifty(alloc: Global, kind: Kind) -> Result<Vec<u8>, Fail> {
+    let schedule = generated(alloc, kind, 2, 4, 50)?;
+    Ok(text_of_schedule(alloc, &schedule)?)
+}
+
+/// What is said of the order of that schedule's report.
+fn judged(alloc: Global, kind: Kind) -> Result<Result<(), OrderFault>, Fail> {
+    let schedule = generated(alloc, kind, 2, 4, 50)?;
+    let report = replay(alloc, &schedule)?;
+    Ok(check_order(alloc, &report.history, &report.order, &report.keys))
+}
+
 #[test]
 fn the_same_numbers_give_the_same_schedule_which_replays(rt: HostRuntime) -> Result<(), Fail> {
-    for (kind, word) in LISTS {
-        let schedule = generated(rt.alloc(), kind, 2, 4, 50)?;
-        let text = text_of_schedule(rt.alloc(), &schedule)?;
-        let again = generated(rt.alloc(), kind, 2, 4, 50)?;
-        assert_eq!(rt; text_of_schedule(rt.alloc(), &again)?, text, "{word}");
-        let report = replay(rt.alloc(), &schedule)?;
-        let checked = check_order(rt.alloc(), &report.history, &report.order, &report.keys);
-        assert_eq!(rt; checked, Ok(()), "{word}");
+    for &(kind, word) in &LISTS {
+        let text = text_of_fifty(rt.alloc(), kind)?;
+        assert_eq!(rt; text_of_fifty(rt.alloc(), kind)?, text, "{word}");
+        assert_eq!(rt; judged(rt.alloc(), kind)?, Ok(()), "{word}");
     }
     Ok(())
 }
 
+/// How many calls a schedule begins, and how many its report has, of one thread with 50 calls; and whether all have ended.
+fn counts_of_fifty(alloc: Global, kind: Kind) -> Result<(usize, usize, bool), Fail> {
+    let schedule = generated(alloc, kind, 1, 60, 50)?;
+    let begins = schedule
+        .lines
+        .iter()
+        .filter(|line| matches!(line, Line::Begin(_, _)))
+        .count();
+    let report = replay(alloc, &schedule)?;
+    let calls = report.history.calls();
+    let have_ended = calls.iter().all(|call| call.ended.is_some());
+    Ok((begins, calls.len(), have_ended))
+}
+
 #[test]
 fn one_thread_makes_fifty_calls_and_ends_them(rt: HostRuntime) -> Result<(), Fail> {
-    for (kind, word) in LISTS {
-        let schedule = generated(rt.alloc(), kind, 1, 60, 50)?;
-        let begins = schedule
-            .lines
-            .iter()
-            .filter(|line| matches!(line, Line::Begin(_, _)))
-            .count();
-        assert_eq!(rt; begins, 50, "{word}");
-        let report = replay(rt.alloc(), &schedule)?;
-        let calls = report.history.calls();
-        assert_eq!(rt; calls.len(), 50, "{word}");
-        assert!(rt; calls.iter().all(|call| call.ended.is_some()), "{word}");
+    for &(kind, word) in &LISTS {
+        assert_eq!(rt;
+            counts_of_fifty(rt.alloc(), kind)?,
+            (50, 50, true),
+            "{word}"
+        );
     }
     Ok(())
 }

@@ -8,6 +8,7 @@ ghost use Rattle.lset_steps.specs.Worlds.{IsRun};
 ghost use Rattle.lset_optimistic.specs.Optimistic.{optimistic};
 ghost use Rattle.lset_tests.specs.Laws.{HasRun, IsLawful, KeepsReads, KeepsWalks, OneCallIsPlaced};
 
+use crate::worlds::assert_content;
 use lset_history::{
     every_call_has_a_place, fits_are_replies, logs_tell_histories, placement_is_one_order,
     placement_linearizes,
@@ -98,19 +99,28 @@ fn add_and_contains(alloc: Global, steps: usize) -> Result<Vec<Event>, AllocErro
     Ok(events)
 }
 
-#[test]
-fn the_laws_of_machines_hold_of_a_run(rt: HostRuntime) -> Result<(), Fail> {
-    let events = add_and_contains(rt.alloc(), 11)?;
-    let world = after_events::<LazyList>(rt.alloc(), &events)?;
+/// A run of LazyList, of which the laws of all machines hold.
+fn lazy_run(alloc: Global) -> Result<World<LazyList>, Fail> {
+    let events = add_and_contains(alloc, 11)?;
+    let world = after_events::<LazyList>(alloc, &events)?;
     is_lawful(&world);
     keeps_reads(&world);
-    assert_eq!(rt; world.content()?.as_slice(), [5].as_slice());
-    let events = add_and_contains(rt.alloc(), 10)?;
-    let world = after_events::<OptimisticList>(rt.alloc(), &events)?;
+    Ok(world)
+}
+
+/// A run of OptimisticList, of which its own laws hold.
+fn optimistic_run(alloc: Global) -> Result<World<OptimisticList>, Fail> {
+    let events = add_and_contains(alloc, 10)?;
+    let world = after_events::<OptimisticList>(alloc, &events)?;
     keeps_walks(&world);
     one_call_is_placed();
-    assert_eq!(rt; world.content()?.as_slice(), [5].as_slice());
-    Ok(())
+    Ok(world)
+}
+
+#[test]
+fn the_laws_of_machines_hold_of_a_run(rt: HostRuntime) -> Result<(), Fail> {
+    assert_content(&rt, &lazy_run(rt.alloc())?, &[5])?;
+    assert_content(&rt, &optimistic_run(rt.alloc())?, &[5])
 }
 
 fn kind_again(kind: Kind) -> Option<Kind>

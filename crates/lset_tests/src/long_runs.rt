@@ -1,4 +1,5 @@
-use crate::written::{reported, text_of_schedule};
+use crate::schedule::lines_read_back;
+use crate::written::reported;
 use lset_replay::{ReplayFault, replay};
 use lset_report::{ReportCause, ReportFault, read_report};
 use lset_schedule::{Cause, ScheduleFault, read_schedule};
@@ -24,17 +25,11 @@ fn steps_of_an_add(alloc: Global, last: u32) -> Result<String, AllocError> {
 #[test]
 fn a_million_events_are_read_and_no_more(rt: HostRuntime) -> Result<(), Fail> {
     let text = steps_of_an_add(rt.alloc(), 9999)?;
-    let schedule = read_schedule(rt.alloc(), text.as_bytes())?;
-    assert_eq!(rt; schedule.lines.len(), 101);
-    let written = text_of_schedule(rt.alloc(), &schedule)?;
-    assert!(rt; written.as_slice() == text.as_bytes());
+    assert_eq!(rt; lines_read_back(&rt, rt.alloc(), &text)?, 101);
     let one_more = steps_of_an_add(rt.alloc(), 10000)?;
     let found = read_schedule(rt.alloc(), one_more.as_bytes()).err();
-    let too_many = ScheduleFault {
-        line: 105,
-        cause: Cause::TooMany,
-    };
-    assert_eq!(rt; found, Some(too_many));
+    let (line, cause) = (105, Cause::TooMany);
+    assert_eq!(rt; found, Some(ScheduleFault { line, cause }));
     Ok(())
 }
 

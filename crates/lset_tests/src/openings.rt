@@ -1,8 +1,10 @@
 //! Layouts, worlds, oracles, changes and histories of sets that open with given keys.
 ghost use Rattle.std.specs.Prelude.{◌≡◌, IfOk};
 
+use crate::history::{assert_judged, assert_replies};
+use crate::worlds::assert_content;
 use lset_coarse::CoarseList;
-use lset_history::{Changes, History, Oracle, OrderFault, check_order};
+use lset_history::{Changes, History, Oracle, OrderFault};
 use lset_lock_free::LockFreeList;
 use lset_steps::{Event, Machine, World};
 use lset_words::{Call, Key, LayoutFault, Placed, Reply, layout_opening};
@@ -13,9 +15,10 @@ use std::test::Fail;
 #[test]
 fn a_layout_of_three_opening_keys(rt: HostRuntime) -> Result<(), Fail> {
     let layout = layout_opening(2, 4, 3)?;
-    assert_eq!(rt; layout.opening(), 3);
-    assert_eq!(rt; layout.nodes(), 13);
-    assert_eq!(rt; layout.words(), 42);
+    assert_eq!(rt;
+        (layout.opening(), layout.nodes(), layout.words()),
+        (3, 13, 42)
+    );
     Ok(())
 }
 
@@ -29,7 +32,7 @@ fn opening_keys_have_a_limit(rt: HostRuntime) -> Result<(), Fail> {
         (0, 16_385, 1_048_577, LayoutFault::Threads),
         (65, 1, 0, LayoutFault::Threads),
     ];
-    for (threads, quota, opening, fault) in rows {
+    for &(threads, quota, opening, fault) in &rows {
         assert_eq!(rt; layout_opening(threads, quota, opening).err(), Some(fault));
     }
     Ok(())
@@ -54,23 +57,22 @@ fn made<M: Machine, R: Abort>(rt: &R, world: &mut World<M>, call: Call) -> Resul
 }
 
 /// An opening key goes out as any other and comes in again in a slot; the head's first key and the last before the tail too.
+const COME_AND_GO: [(Call, Reply); 6] = [
+    (Call::Add(Key(7)), Reply::False),
+    (Call::Remove(Key(0)), Reply::True),
+    (Call::Ceiling(Key(8)), Reply::At(Key(u32::MAX))),
+    (Call::Remove(Key(u32::MAX)), Reply::True),
+    (Call::Add(Key(0)), Reply::True),
+    (Call::Add(Key(8)), Reply::Full),
+];
+
 fn keys_come_and_go<M: Machine, R: Abort>(rt: &R, alloc: Global) -> Result<(), Fail> {
     let mut world = with_three_keys::<M>(alloc)?;
-    assert_eq!(rt; world.content()?.as_slice(), [0, 7, u32::MAX].as_slice());
-    assert_eq!(rt; made(rt, &mut world, Call::Add(Key(7)))?, Reply::False);
-    assert_eq!(rt; made(rt, &mut world, Call::Remove(Key(0)))?, Reply::True);
-    assert_eq!(rt;
-        made(rt, &mut world, Call::Ceiling(Key(8)))?,
-        Reply::At(Key(u32::MAX))
-    );
-    assert_eq!(rt;
-        made(rt, &mut world, Call::Remove(Key(u32::MAX)))?,
-        Reply::True
-    );
-    assert_eq!(rt; made(rt, &mut world, Call::Add(Key(0)))?, Reply::True);
-    assert_eq!(rt; made(rt, &mut world, Call::Add(Key(8)))?, Reply::Full);
-    assert_eq!(rt; world.content()?.as_slice(), [0, 7].as_slice());
-    Ok(())
+    assert_content(rt, &world, &[0, 7, u32::MAX])?;
+    for (call, reply) in &COME_AND_GO {
+        assert_eq!(rt; made(rt, &mut world, *call)?, *reply, "{call:?}");
+    }
+    assert_content(rt, &world, &[0, 7])
 }
 
 #[test]
@@ -81,10 +83,13 @@ fn opening_keys_come_and_go(rt: HostRuntime) -> Result<(), Fail> {
 
 #[test]
 fn opening_keys_are_nobodys_adds(rt: HostRuntime) -> Result<(), Fail> {
+    let calls = [
+        (Call::Add(Key(9)), Reply::False),
+        (Call::Add(Key(4)), Reply::Full),
+        (Call::Remove(Key(9)), Reply::True),
+    ];
     let mut oracle = Oracle::opened(rt.alloc(), 1, 0, &[9])?;
-    assert_eq!(rt; oracle.apply(0, Call::Add(Key(9)))?, Reply::False);
-    assert_eq!(rt; oracle.apply(0, Call::Add(Key(4)))?, Reply::Full);
-    assert_eq!(rt; oracle.apply(0, Call::Remove(Key(9)))?, Reply::True);
+    assert_replies(&rt, &mut oracle, &calls)?;
     assert!(rt; oracle.keys()?.is_empty());
     Ok(())
 }
@@ -92,11 +97,17 @@ fn opening_keys_are_nobodys_adds(rt: HostRuntime) -> Result<(), Fail> {
 #[test]
 fn opening_keys_are_there_from_moment_0(rt: HostRuntime) -> Result<(), Fail> {
     let changes = Changes::opened(rt.alloc(), &[9])?;
-    assert_eq!(rt; changes.first(9, true, 0, 5).0, Some(0));
-    assert_eq!(rt; changes.first(9, false, 0, 5).0, None);
-    assert_eq!(rt; changes.first(8, true, 0, 5).0, None);
-    assert_eq!(rt; changes.first_ceiling(4, Some(9), 0, 5), Some(0));
-    assert_eq!(rt; changes.first_ceiling(10, None, 0, 5), Some(0));
+    let found = [
+        changes.first(9, true, 0, 5).0,
+        changes.first(9, false, 0, 5).0,
+        changes.first(8, true, 0, 5).0,
+        changes.first_ceiling(4, Some(9), 0, 5),
+        changes.first_ceiling(10, None, 0, 5),
+    ];
+    assert_eq!(rt;
+        found.as_slice(),
+        [Some(0), None, None, Some(0), Some(0)].as_slice()
+    );
     Ok(())
 }
 
@@ -106,7 +117,14 @@ fn vector_of(alloc: Global, keys: &[u32]) -> Result<Vec<u32>, AllocError>
     Vec::from_slice(alloc, keys)
 }
 
-/// One call that takes the key 9 out is legal from that key alone.
+/// After this history, one call that takes the key 9 out.
+fn remove_of_nine(mut history: History) -> Result<History, Fail> {
+    history.begin(0, Call::Remove(Key(9)), 1)?;
+    history.end(0, Reply::True, 2)?;
+    Ok(history)
+}
+
+/// That call is legal from the key 9 alone.
 #[test]
 fn an_order_is_judged_from_the_opening_keys(rt: HostRuntime) -> Result<(), Fail> {
     let alloc = rt.alloc();
@@ -114,21 +132,19 @@ fn an_order_is_judged_from_the_opening_keys(rt: HostRuntime) -> Result<(), Fail>
         call: 0,
         reply: Reply::True,
     }];
-    let mut opened = History::opened(alloc, 1, 0, vector_of(alloc, &[9, 11])?);
-    opened.begin(0, Call::Remove(Key(9)), 1)?;
-    opened.end(0, Reply::True, 2)?;
+    let opening = vector_of(alloc, &[9, 11])?;
+    let opened = remove_of_nine(History::opened(alloc, 1, 0, opening))?;
     assert_eq!(rt; opened.opening(), [9, 11].as_slice());
-    assert_eq!(rt; check_order(alloc, &opened, &order, &[11]), Ok(()));
-    assert_eq!(rt;
-        check_order(alloc, &opened, &order, &[]),
-        Err(OrderFault::WrongSet)
-    );
-    let mut empty = History::new(alloc, 1, 0);
-    empty.begin(0, Call::Remove(Key(9)), 1)?;
-    empty.end(0, Reply::True, 2)?;
-    assert_eq!(rt;
-        check_order(alloc, &empty, &order, &[]),
-        Err(OrderFault::WrongReply(0))
+    assert_judged(&rt, alloc, &opened, &order, &[11], Ok(()));
+    assert_judged(&rt, alloc, &opened, &order, &[], Err(OrderFault::WrongSet));
+    let empty = remove_of_nine(History::new(alloc, 1, 0))?;
+    assert_judged(
+        &rt,
+        alloc,
+        &empty,
+        &order,
+        &[],
+        Err(OrderFault::WrongReply(0)),
     );
     Ok(())
 }

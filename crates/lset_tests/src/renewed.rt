@@ -1,8 +1,11 @@
 //! Texts of sets that open with given keys: schedules, their reports, and what is refused.
+use crate::reports::{fault_of, judged};
+use crate::schedule::assert_fault;
 use crate::written::{is_replayed, schedule_again};
-use lset_history::{OrderFault, check_order};
-use lset_report::{ReportCause, ReportFault, read_report};
+use lset_history::OrderFault;
+use lset_report::{ReportCause, ReportFault};
 use lset_schedule::{Cause, ScheduleFault, read_schedule};
+use std::alloc::{AllocError, Global};
 use std::test::Fail;
 
 /// The opening keys take no slot, and the remove of one gives none back.
@@ -24,65 +27,72 @@ const AT_REST_REPORT: &str = "listset-report 2\nlist coarse\nthreads 64\nquota 1
 
 #[test]
 fn sets_that_open_with_keys_are_replayed(rt: HostRuntime) -> Result<(), Fail> {
-    for (text, report) in [(RENEWED, RENEWED_REPORT), (AT_REST, AT_REST_REPORT)] {
-        assert!(rt; is_replayed(rt.alloc(), text, report)?, "{text}");
-    }
+    assert!(rt; is_replayed(rt.alloc(), RENEWED, RENEWED_REPORT)?);
+    assert!(rt; is_replayed(rt.alloc(), AT_REST, AT_REST_REPORT)?);
     let schedule = read_schedule(rt.alloc(), RENEWED.as_bytes())?;
     assert_eq!(rt; schedule.opening.as_slice(), [5, 9].as_slice());
     assert_eq!(rt; schedule.first_event_line(), 7);
     Ok(())
 }
 
+/// The header of a schedule or a report of this version, of one thread with one slot.
+fn header(alloc: Global, title: &str, version: u32) -> Result<String, AllocError> {
+    format!(in alloc; "listset-{title} {version}\nlist coarse\nthreads 1\nquota 1\n")
+}
+
+/// A version, lines after the header, the number of the first that is wrong, and what is wrong.
+const BAD_SCHEDULES: [(u32, &str, u64, Cause); 12] = [
+    (2, "opening 9\nopening 5\n", 6, Cause::Opening),
+    (2, "opening 5\nopening 5\ngo 0 0\n", 6, Cause::Opening),
+    (2, "opening 5\nopening 4294967296\n", 6, Cause::Number),
+    (2, "opening 05\n", 5, Cause::Number),
+    (2, "opening \n", 5, Cause::Number),
+    (2, "opening 5 6\n", 5, Cause::Event),
+    (2, "opening\n", 5, Cause::Event),
+    (2, "opened 5\n", 5, Cause::Event),
+    (2, "opening 9\nopening 5", 6, Cause::NotEnded),
+    (2, "begin 0 add 1\nopening 5\n", 6, Cause::Event),
+    (2, "opening 5\ngo 0 0\n", 6, Cause::Number),
+    (1, "opening 5\n", 5, Cause::Event),
+];
+
 #[test]
 fn first_faults_of_a_schedule_with_opening_keys(rt: HostRuntime) -> Result<(), Fail> {
-    let rows = [
-        (2, "opening 9\nopening 5\n", 6, Cause::Opening),
-        (2, "opening 5\nopening 5\ngo 0 0\n", 6, Cause::Opening),
-        (2, "opening 5\nopening 4294967296\n", 6, Cause::Number),
-        (2, "opening 05\n", 5, Cause::Number),
-        (2, "opening \n", 5, Cause::Number),
-        (2, "opening 5 6\n", 5, Cause::Event),
-        (2, "opening\n", 5, Cause::Event),
-        (2, "opened 5\n", 5, Cause::Event),
-        (2, "opening 9\nopening 5", 6, Cause::NotEnded),
-        (2, "begin 0 add 1\nopening 5\n", 6, Cause::Event),
-        (2, "opening 5\ngo 0 0\n", 6, Cause::Number),
-        (1, "opening 5\n", 5, Cause::Event),
-    ];
-    for (version, lines, line, cause) in rows {
-        let text = format!(in rt.alloc();
-            "listset-schedule {version}\nlist coarse\nthreads 1\nquota 1\n{lines}"
+    for &(version, lines, line, cause) in &BAD_SCHEDULES {
+        let header = header(rt.alloc(), "schedule", version)?;
+        assert_fault(
+            &rt,
+            rt.alloc(),
+            (&header, lines),
+            ScheduleFault { line, cause },
         )?;
-        let found = read_schedule(rt.alloc(), text.as_bytes()).err();
-        assert_eq!(rt; found, Some(ScheduleFault { line, cause }), "{lines:?}");
     }
     Ok(())
 }
 
+const BAD_REPORTS: [(u32, &str, u64, ReportCause); 10] = [
+    (2, "opening 9\nopening 5\n", 6, ReportCause::Opening),
+    (2, "opening 5\nopening 5\nend\n", 6, ReportCause::Opening),
+    (2, "opening 4294967296\n", 5, ReportCause::Number),
+    (2, "opening 5 6\n", 5, ReportCause::Line),
+    (2, "opening 9\nopening 5", 6, ReportCause::NotEnded),
+    (2, "opening 9\n", 6, ReportCause::NotEnded),
+    (
+        2,
+        "call 0 0 add 1 1 8 true\nopening 5\n",
+        6,
+        ReportCause::Line,
+    ),
+    (2, "key 5\nopening 5\n", 6, ReportCause::Line),
+    (2, "end\nopening 5\n", 6, ReportCause::Line),
+    (1, "opening 5\n", 5, ReportCause::Line),
+];
+
 #[test]
 fn first_faults_of_a_report_with_opening_keys(rt: HostRuntime) -> Result<(), Fail> {
-    let rows = [
-        (2, "opening 9\nopening 5\n", 6, ReportCause::Opening),
-        (2, "opening 5\nopening 5\nend\n", 6, ReportCause::Opening),
-        (2, "opening 4294967296\n", 5, ReportCause::Number),
-        (2, "opening 5 6\n", 5, ReportCause::Line),
-        (2, "opening 9\nopening 5", 6, ReportCause::NotEnded),
-        (2, "opening 9\n", 6, ReportCause::NotEnded),
-        (
-            2,
-            "call 0 0 add 1 1 8 true\nopening 5\n",
-            6,
-            ReportCause::Line,
-        ),
-        (2, "key 5\nopening 5\n", 6, ReportCause::Line),
-        (2, "end\nopening 5\n", 6, ReportCause::Line),
-        (1, "opening 5\n", 5, ReportCause::Line),
-    ];
-    for (version, lines, line, cause) in rows {
-        let text = format!(in rt.alloc();
-            "listset-report {version}\nlist coarse\nthreads 1\nquota 1\n{lines}"
-        )?;
-        let found = read_report(rt.alloc(), text.as_bytes()).err();
+    for &(version, lines, line, cause) in &BAD_REPORTS {
+        let header = header(rt.alloc(), "report", version)?;
+        let found = fault_of(rt.alloc(), &header, lines)?;
         assert_eq!(rt; found, Some(ReportFault { line, cause }), "{lines:?}");
     }
     Ok(())
@@ -97,13 +107,11 @@ fn a_report_is_judged_from_its_opening_keys(rt: HostRuntime) -> Result<(), Fail>
         ("opening 9\n", "", Err(OrderFault::WrongSet)),
         ("opening 8\n", "key 9\n", Err(OrderFault::WrongSet)),
     ];
-    for (opening, keys, wanted) in rows {
+    for (opening, keys, wanted) in &rows {
         let text = format!(in rt.alloc();
             "listset-report 2\nlist coarse\nthreads 1\nquota 1\n{opening}{keys}end\n"
         )?;
-        let report = read_report(rt.alloc(), text.as_bytes())?;
-        let found = check_order(rt.alloc(), &report.history, &report.order, &report.keys);
-        assert_eq!(rt; found, wanted, "{opening:?} {keys:?}");
+        assert_eq!(rt; judged(rt.alloc(), &text)?, *wanted, "{opening:?} {keys:?}");
     }
     Ok(())
 }

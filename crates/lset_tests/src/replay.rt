@@ -309,12 +309,12 @@ const EXAMPLES: [Example; 24] = [
 ];
 
 /// Whether an example's schedule is replayed to its report.
-fn is_as_replayed(alloc: Global, example: Example) -> Result<bool, Fail> {
+fn is_as_replayed(alloc: Global, example: &Example) -> Result<bool, Fail> {
     let Example {
         header,
         events,
         report: lines,
-    } = example;
+    } = *example;
     let text = format!(in alloc; "listset-schedule 1\n{header}{events}")?;
     let report = format!(in alloc; "listset-report 1\n{header}{lines}")?;
     Ok(is_replayed(alloc, &text, &report)?)
@@ -322,7 +322,7 @@ fn is_as_replayed(alloc: Global, example: Example) -> Result<bool, Fail> {
 
 #[test]
 fn schedules_and_their_reports(rt: HostRuntime) -> Result<(), Fail> {
-    for example in EXAMPLES {
+    for example in &EXAMPLES {
         assert!(rt; is_as_replayed(rt.alloc(), example)?, "{}", example.events);
     }
     Ok(())
@@ -390,36 +390,49 @@ fn ten_thousand_events(rt: HostRuntime) -> Result<(), Fail> {
     Ok(())
 }
 
+/// A list, a number of threads, lines of events, and the fault of the event that is refused.
+const REFUSED: [(&str, u32, &str, ReplayFault); 10] = [
+    ("coarse", 1, "go 0 1\n", ReplayFault::Idle(5)),
+    (
+        "coarse",
+        1,
+        "begin 0 add 5\nbegin 0 add 6\n",
+        ReplayFault::Busy(6),
+    ),
+    ("coarse", 64, "begin 64 add 5\n", ReplayFault::NoThread(5)),
+    ("coarse", 1, "begin 0 add 5\ngo 0 8\n", ReplayFault::Idle(6)),
+    ("fine", 1, "begin 0 add 5\ngo 0 10\n", ReplayFault::Idle(6)),
+    ("fine", 2, "go 2 1\n", ReplayFault::NoThread(5)),
+    (
+        "optimistic",
+        1,
+        "begin 0 add 5\ngo 0 11\n",
+        ReplayFault::Idle(6),
+    ),
+    ("optimistic", 2, "go 2 1\n", ReplayFault::NoThread(5)),
+    ("lazy", 1, "go 0 1\n", ReplayFault::Idle(5)),
+    ("lock-free", 2, "go 2 1\n", ReplayFault::NoThread(5)),
+];
+
+/// The fault of a schedule with this header and these events.
+fn refusal_of(
+    alloc: Global,
+    kind: &str,
+    threads: u32,
+    lines: &str,
+) -> Result<Option<ReplayFault>, Fail> {
+    let text = format!(in alloc;
+        "listset-schedule 1\nlist {kind}\nthreads {threads}\nquota 4\n{lines}"
+    )?;
+    let schedule = read_schedule(alloc, text.as_bytes())?;
+    Ok(replay(alloc, &schedule).err())
+}
+
 #[test]
 fn refused_events(rt: HostRuntime) -> Result<(), Fail> {
-    let rows = [
-        ("coarse", 1, "go 0 1\n", ReplayFault::Idle(5)),
-        (
-            "coarse",
-            1,
-            "begin 0 add 5\nbegin 0 add 6\n",
-            ReplayFault::Busy(6),
-        ),
-        ("coarse", 64, "begin 64 add 5\n", ReplayFault::NoThread(5)),
-        ("coarse", 1, "begin 0 add 5\ngo 0 8\n", ReplayFault::Idle(6)),
-        ("fine", 1, "begin 0 add 5\ngo 0 10\n", ReplayFault::Idle(6)),
-        ("fine", 2, "go 2 1\n", ReplayFault::NoThread(5)),
-        (
-            "optimistic",
-            1,
-            "begin 0 add 5\ngo 0 11\n",
-            ReplayFault::Idle(6),
-        ),
-        ("optimistic", 2, "go 2 1\n", ReplayFault::NoThread(5)),
-        ("lazy", 1, "go 0 1\n", ReplayFault::Idle(5)),
-        ("lock-free", 2, "go 2 1\n", ReplayFault::NoThread(5)),
-    ];
-    for (kind, threads, lines, fault) in rows {
-        let text = format!(in rt.alloc();
-            "listset-schedule 1\nlist {kind}\nthreads {threads}\nquota 4\n{lines}"
-        )?;
-        let schedule = read_schedule(rt.alloc(), text.as_bytes())?;
-        assert_eq!(rt; replay(rt.alloc(), &schedule).err(), Some(fault), "{text}");
+    for (kind, threads, lines, fault) in &REFUSED {
+        let found = refusal_of(rt.alloc(), kind, *threads, lines)?;
+        assert_eq!(rt; found, Some(*fault), "{kind} {threads} {lines:?}");
     }
     Ok(())
 }

@@ -7,6 +7,7 @@ use lset_words::{Call, Key, Kind};
 use rand_core::{Rng, SeedableRng};
 use rand_pcg::Pcg32;
 use std::alloc::{AllocError, Global};
+use std::process::Abort;
 use std::test::Fail;
 
 /// The header of a coarse list of one thread with one slot.
@@ -30,95 +31,126 @@ fn an_add_is_read(rt: HostRuntime) -> Result<(), Fail> {
     Ok(())
 }
 
+/// Schedules, of which replay refuses the last five.
+const TEXTS: [&str; 8] = [
+    ADD,
+    PASSING,
+    "listset-schedule 1\nlist fine\nthreads 2\nquota 0\n",
+    "listset-schedule 1\nlist optimistic\nthreads 1\nquota 4\nbegin 0 add 5\ngo 0 10\n",
+    "listset-schedule 1\nlist coarse\nthreads 1\nquota 4\ngo 0 1\n",
+    "listset-schedule 1\nlist coarse\nthreads 1\nquota 4\nbegin 0 add 5\nbegin 0 add 6\n",
+    "listset-schedule 1\nlist coarse\nthreads 64\nquota 4\nbegin 64 add 5\n",
+    "listset-schedule 1\nlist coarse\nthreads 1\nquota 4\nbegin 0 add 5\ngo 0 8\n",
+];
+
 #[test]
 fn texts_are_written_back_also_where_replay_refuses_them(rt: HostRuntime) -> Result<(), Fail> {
-    let texts = [
-        ADD,
-        PASSING,
-        "listset-schedule 1\nlist fine\nthreads 2\nquota 0\n",
-        "listset-schedule 1\nlist optimistic\nthreads 1\nquota 4\nbegin 0 add 5\ngo 0 10\n",
-        "listset-schedule 1\nlist coarse\nthreads 1\nquota 4\ngo 0 1\n",
-        "listset-schedule 1\nlist coarse\nthreads 1\nquota 4\nbegin 0 add 5\nbegin 0 add 6\n",
-        "listset-schedule 1\nlist coarse\nthreads 64\nquota 4\nbegin 64 add 5\n",
-        "listset-schedule 1\nlist coarse\nthreads 1\nquota 4\nbegin 0 add 5\ngo 0 8\n",
-    ];
-    for text in texts {
+    for text in &TEXTS {
         let written = schedule_again(rt.alloc(), text.as_bytes())?;
         assert_eq!(rt; written.as_slice(), text.as_bytes());
     }
     Ok(())
 }
 
-#[test]
-fn every_prefix_has_its_own_answer(rt: HostRuntime) -> Result<(), Fail> {
+/// What is read of a text that stops early: its lines after the header, or what is missing.
+fn wanted_of(prefix: &[u8]) -> Result<usize, ScheduleFault> {
     let due = [Cause::Header, Cause::Kind, Cause::Threads, Cause::Quota];
-    for text in [ADD, PASSING, MARKED, RENEWED] {
-        for length in 0..text.len() {
-            let prefix = &text.as_bytes()[..length];
-            let whole_lines = prefix.iter().filter(|byte| **byte == b'\n').count();
-            let cause = if prefix.is_empty() || prefix.ends_with(b"\n") {
-                due.get(whole_lines).copied()
-            } else {
-                Some(Cause::NotEnded)
-            };
-            let line = (whole_lines as u64).saturating_add(1);
-            let wanted = match cause {
-                Some(cause) => Err(ScheduleFault { line, cause }),
-                None => Ok(whole_lines.saturating_sub(due.len())),
-            };
-            let found = read_schedule(rt.alloc(), prefix).map(|schedule| {
-                schedule.opening.len().saturating_add(schedule.lines.len())
-            });
-            assert_eq!(rt; found, wanted);
-        }
+    let whole_lines = prefix.iter().filter(|byte| **byte == b'\n').count();
+    let cause = if prefix.is_empty() || prefix.ends_with(b"\n") {
+        due.get(whole_lines).copied()
+    } else {
+        Some(Cause::NotEnded)
+    };
+    let line = (whole_lines as u64).saturating_add(1);
+    match cause {
+        Some(cause) => Err(ScheduleFault { line, cause }),
+        None => Ok(whole_lines.saturating_sub(due.len())),
     }
+}
+
+/// How many opening keys and lines of events a text has, or its first fault.
+fn found_of(alloc: Global, text: &[u8]) -> Result<usize, ScheduleFault> {
+    let schedule = read_schedule(alloc, text)?;
+    Ok(schedule.opening.len().saturating_add(schedule.lines.len()))
+}
+
+fn assert_prefixes<R: Abort>(rt: &R, alloc: Global, text: &str) {
+    for length in 0..text.len() {
+        let prefix = &text.as_bytes()[..length];
+        assert_eq!(rt; found_of(alloc, prefix), wanted_of(prefix), "{length}");
+    }
+}
+
+#[test]
+fn every_prefix_has_its_own_answer(rt: HostRuntime) {
+    assert_prefixes(&rt, rt.alloc(), ADD);
+    assert_prefixes(&rt, rt.alloc(), PASSING);
+    assert_prefixes(&rt, rt.alloc(), MARKED);
+    assert_prefixes(&rt, rt.alloc(), RENEWED);
+}
+
+/// Texts, the number of the first line that is wrong, and what is wrong.
+const BAD_HEADERS: [(&str, u64, Cause); 5] = [
+    ("", 1, Cause::Header),
+    ("listset-schedule 1\nlist skip\n", 2, Cause::Kind),
+    (
+        "listset-schedule 1\nlist lazy\nthreads 65\n",
+        3,
+        Cause::Threads,
+    ),
+    (
+        "listset-schedule 1\nlist lazy\nthreads 64\nquota 16385\n",
+        4,
+        Cause::Quota,
+    ),
+    (
+        "listset-schedule 1\nlist lazy\nthreads 64\nquota 16384",
+        4,
+        Cause::NotEnded,
+    ),
+];
+
+/// Asserts the first fault of a schedule with this header and these lines.
+pub fn assert_fault<R: Abort>(
+    rt: &R,
+    alloc: Global,
+    (header, lines): (&str, &str),
+    fault: ScheduleFault,
+) -> Result<(), Fail> {
+    let text = format!(in alloc; "{header}{lines}")?;
+    let found = read_schedule(alloc, text.as_bytes()).err();
+    assert_eq!(rt; found, Some(fault), "{text}");
     Ok(())
 }
 
 #[test]
 fn first_faults_of_the_header(rt: HostRuntime) -> Result<(), Fail> {
-    let rows = [
-        ("", 1, Cause::Header),
-        ("listset-schedule 1\nlist skip\n", 2, Cause::Kind),
-        (
-            "listset-schedule 1\nlist lazy\nthreads 65\n",
-            3,
-            Cause::Threads,
-        ),
-        (
-            "listset-schedule 1\nlist lazy\nthreads 64\nquota 16385\n",
-            4,
-            Cause::Quota,
-        ),
-        (
-            "listset-schedule 1\nlist lazy\nthreads 64\nquota 16384",
-            4,
-            Cause::NotEnded,
-        ),
-    ];
-    for (text, line, cause) in rows {
-        let found = read_schedule(rt.alloc(), text.as_bytes()).err();
-        assert_eq!(rt; found, Some(ScheduleFault { line, cause }));
+    for &(text, line, cause) in &BAD_HEADERS {
+        assert_fault(&rt, rt.alloc(), ("", text), ScheduleFault { line, cause })?;
     }
     Ok(())
 }
 
+const BAD_EVENTS: [(&str, u64, Cause); 8] = [
+    ("begin 0 add 05\n", 5, Cause::Number),
+    ("begin 0 add 4294967296\n", 5, Cause::Number),
+    ("go 0 0\n", 5, Cause::Number),
+    ("go 0 10001\n", 5, Cause::Number),
+    ("take 0 5\n", 5, Cause::Event),
+    ("go  0 1\n", 5, Cause::Event),
+    ("begin 0 add 5", 5, Cause::NotEnded),
+    ("begin 0 add 5\ngo 0 7", 6, Cause::NotEnded),
+];
+
 #[test]
 fn first_faults_of_the_events(rt: HostRuntime) -> Result<(), Fail> {
-    let rows = [
-        ("begin 0 add 05\n", 5, Cause::Number),
-        ("begin 0 add 4294967296\n", 5, Cause::Number),
-        ("go 0 0\n", 5, Cause::Number),
-        ("go 0 10001\n", 5, Cause::Number),
-        ("take 0 5\n", 5, Cause::Event),
-        ("go  0 1\n", 5, Cause::Event),
-        ("begin 0 add 5", 5, Cause::NotEnded),
-        ("begin 0 add 5\ngo 0 7", 6, Cause::NotEnded),
-    ];
-    for (events, line, cause) in rows {
-        let text = format!(in rt.alloc(); "{HEAD}{events}")?;
-        let found = read_schedule(rt.alloc(), text.as_bytes()).err();
-        assert_eq!(rt; found, Some(ScheduleFault { line, cause }), "{events:?}");
+    for &(events, line, cause) in &BAD_EVENTS {
+        assert_fault(
+            &rt,
+            rt.alloc(),
+            (HEAD, events),
+            ScheduleFault { line, cause },
+        )?;
     }
     Ok(())
 }
@@ -133,22 +165,22 @@ fn one_step_lines(alloc: Global, events: u32) -> Result<String, AllocError> {
     Ok(text)
 }
 
+/// The text is read, and written back as it was: how many lines of events it has.
+pub fn lines_read_back<R: Abort>(rt: &R, alloc: Global, text: &str) -> Result<usize, Fail> {
+    let schedule = read_schedule(alloc, text.as_bytes())?;
+    let written = text_of_schedule(alloc, &schedule)?;
+    assert!(rt; written.as_slice() == text.as_bytes());
+    Ok(schedule.lines.len())
+}
+
 #[test]
 fn a_million_lines_of_one_step_are_read_and_no_more(rt: HostRuntime) -> Result<(), Fail> {
     let text = one_step_lines(rt.alloc(), 1_000_000)?;
-    let schedule = read_schedule(rt.alloc(), text.as_bytes())?;
-    assert_eq!(rt; schedule.lines.len(), 1_000_000);
-    let written = text_of_schedule(rt.alloc(), &schedule)?;
-    assert!(rt; written.as_slice() == text.as_bytes());
+    assert_eq!(rt; lines_read_back(&rt, rt.alloc(), &text)?, 1_000_000);
     let one_more = one_step_lines(rt.alloc(), 1_000_001)?;
     let found = read_schedule(rt.alloc(), one_more.as_bytes()).err();
-    assert_eq!(rt;
-        found,
-        Some(ScheduleFault {
-            line: 1_000_005,
-            cause: Cause::TooMany
-        })
-    );
+    let (line, cause) = (1_000_005, Cause::TooMany);
+    assert_eq!(rt; found, Some(ScheduleFault { line, cause }));
     let one_line = format!(in rt.alloc(); "{HEAD}go 0 10000\n")?;
     let schedule = read_schedule(rt.alloc(), one_line.as_bytes())?;
     assert_eq!(rt; schedule.lines.as_slice(), [Line::Go(0, 10_000)].as_slice());
@@ -174,29 +206,46 @@ fn the_first_numbers_of_three_seeds(rt: HostRuntime) {
         (1, [866585574, 2109535214, 3403630417, 296513984]),
         (u64::MAX, [2553256318, 1362994822, 3759657484, 3366838333]),
     ];
-    for (seed, numbers) in rows {
-        let mut rng = Pcg32::seed_from_u64(seed);
+    for (seed, numbers) in &rows {
+        let mut rng = Pcg32::seed_from_u64(*seed);
         for number in numbers {
-            assert_eq!(rt; rng.next_u32(), number);
+            assert_eq!(rt; rng.next_u32(), *number);
         }
     }
 }
 
+/// Draws two calls of keys below 8 for each thread: they are these.
+fn assert_drawn<R: Abort>(
+    rt: &R,
+    alloc: Global,
+    threads: u32,
+    seed: u64,
+    wanted: &[&[Call]],
+) -> Result<(), Fail> {
+    let drawn = programs(alloc, threads, 2, 8, seed)?;
+    assert_eq!(rt; drawn.len(), wanted.len());
+    for (program, calls) in drawn.iter().zip(wanted) {
+        assert_eq!(rt; program.as_slice(), *calls);
+    }
+    Ok(())
+}
+
+const FROM_0: [Call; 2] = [Call::Remove(Key(7)), Call::Contains(Key(6))];
+
+const FROM_1: [Call; 2] = [Call::Add(Key(6)), Call::Remove(Key(0))];
+
+const FROM_LAST: [Call; 2] = [Call::Remove(Key(6)), Call::Remove(Key(5))];
+
 #[test]
 fn each_thread_draws_from_the_sum_of_the_seed_and_its_number(rt: HostRuntime) -> Result<(), Fail> {
-    let from_0 = [Call::Remove(Key(7)), Call::Contains(Key(6))];
-    let from_1 = [Call::Add(Key(6)), Call::Remove(Key(0))];
-    let drawn = programs(rt.alloc(), 2, 2, 8, 0)?;
-    assert_eq!(rt; drawn.len(), 2);
-    assert_eq!(rt; drawn[0].as_slice(), from_0.as_slice());
-    assert_eq!(rt; drawn[1].as_slice(), from_1.as_slice());
-    let from_last = [Call::Remove(Key(6)), Call::Remove(Key(5))];
-    let wrapped = programs(rt.alloc(), 3, 2, 8, u64::MAX)?;
-    assert_eq!(rt; wrapped.len(), 3);
-    assert_eq!(rt; wrapped[0].as_slice(), from_last.as_slice());
-    assert_eq!(rt; wrapped[1].as_slice(), from_0.as_slice());
-    assert_eq!(rt; wrapped[2].as_slice(), from_1.as_slice());
-    Ok(())
+    assert_drawn(&rt, rt.alloc(), 2, 0, &[&FROM_0, &FROM_1])?;
+    assert_drawn(
+        &rt,
+        rt.alloc(),
+        3,
+        u64::MAX,
+        &[&FROM_LAST, &FROM_0, &FROM_1],
+    )
 }
 
 #[test]
@@ -215,7 +264,7 @@ fn refused_numbers_in_their_order(rt: HostRuntime) {
         (64, 16_385, 0, GenFault::Quota),
         (64, 16_384, 0, GenFault::Keys),
     ];
-    for (threads, quota, keys, fault) in rows {
+    for &(threads, quota, keys, fault) in &rows {
         let found = generate::<CoarseList>(rt.alloc(), threads, quota, 0, keys, 1).err();
         assert_eq!(rt; found, Some(fault));
     }

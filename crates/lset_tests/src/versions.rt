@@ -1,7 +1,9 @@
 //! Texts of the second version, and the words that the first has not.
+use crate::schedule::assert_fault;
 use crate::written::is_replayed;
 use lset_report::{ReportCause, ReportFault, read_report};
-use lset_schedule::{Cause, ScheduleFault, read_schedule};
+use lset_schedule::{Cause, ScheduleFault};
+use std::alloc::{AllocError, Global};
 use std::test::Fail;
 
 /// A ceiling on a lock-free list stops at a node that is marked by then. It starts again, and finds no key.
@@ -46,32 +48,34 @@ fn schedules_of_the_second_version_and_their_reports(rt: HostRuntime) -> Result<
         (ENDS, ENDS_REPORT),
         (NO_CEILING, NO_CEILING_REPORT),
     ];
-    for (text, report) in rows {
+    for (text, report) in &rows {
         assert!(rt; is_replayed(rt.alloc(), text, report)?, "{text}");
     }
     Ok(())
+}
+
+/// Whether a ceiling of one thread on the empty list of this kind ends after so many steps, in event `end`.
+fn ends_after(alloc: Global, kind: &str, steps: u32, end: u32) -> Result<bool, Fail> {
+    let header = format!(in alloc; "2\nlist {kind}\nthreads 1\nquota 4\n")?;
+    let text = format!(in alloc; "listset-schedule {header}begin 0 ceiling 3\ngo 0 {steps}\n")?;
+    let report = format!(in alloc;
+        "listset-report {header}call 0 0 ceiling 3 1 {end} nothing\nplace 0 nothing\nend\n"
+    )?;
+    is_replayed(alloc, &text, &report)
 }
 
 /// A ceiling of one thread on the empty list of each kind, and how many steps it takes.
 #[test]
 fn ceilings_on_the_empty_list_as_texts(rt: HostRuntime) -> Result<(), Fail> {
     let rows = [
-        ("coarse", 4),
-        ("fine", 6),
-        ("optimistic", 7),
-        ("lazy", 2),
-        ("lock-free", 2),
+        ("coarse", 4, 5),
+        ("fine", 6, 7),
+        ("optimistic", 7, 8),
+        ("lazy", 2, 3),
+        ("lock-free", 2, 3),
     ];
-    for (kind, steps) in rows {
-        let header = format!(in rt.alloc(); "2\nlist {kind}\nthreads 1\nquota 4\n")?;
-        let text = format!(in rt.alloc();
-            "listset-schedule {header}begin 0 ceiling 3\ngo 0 {steps}\n"
-        )?;
-        let report = format!(in rt.alloc();
-            "listset-report {header}call 0 0 ceiling 3 1 {} nothing\nplace 0 nothing\nend\n",
-            steps + 1
-        )?;
-        assert!(rt; is_replayed(rt.alloc(), &text, &report)?, "{text}");
+    for &(kind, steps, end) in &rows {
+        assert!(rt; ends_after(rt.alloc(), kind, steps, end)?, "{kind}");
     }
     Ok(())
 }
@@ -99,10 +103,9 @@ const BAD_SCHEDULES: [(&str, u64, Cause); 5] = [
 
 #[test]
 fn first_faults_of_schedules_by_their_version(rt: HostRuntime) -> Result<(), Fail> {
-    for (rest, line, cause) in BAD_SCHEDULES {
-        let text = format!(in rt.alloc(); "listset-schedule {rest}")?;
-        let found = read_schedule(rt.alloc(), text.as_bytes()).err();
-        assert_eq!(rt; found, Some(ScheduleFault { line, cause }), "{text}");
+    for &(rest, line, cause) in &BAD_SCHEDULES {
+        let parts = ("listset-schedule ", rest);
+        assert_fault(&rt, rt.alloc(), parts, ScheduleFault { line, cause })?;
     }
     Ok(())
 }
@@ -130,12 +133,15 @@ const BAD_REPORTS: [(u32, &str, ReportCause); 15] = [
     (2, "place 0 nothing ", ReportCause::Line),
 ];
 
+/// A report of this version with one line after its header.
+fn report_of_line(alloc: Global, version: u32, line: &str) -> Result<String, AllocError> {
+    format!(in alloc; "listset-report {version}\nlist coarse\nthreads 1\nquota 4\n{line}\n")
+}
+
 #[test]
 fn first_faults_of_reports_by_their_version(rt: HostRuntime) -> Result<(), Fail> {
-    for (version, line, cause) in BAD_REPORTS {
-        let text = format!(in rt.alloc();
-            "listset-report {version}\nlist coarse\nthreads 1\nquota 4\n{line}\n"
-        )?;
+    for &(version, line, cause) in &BAD_REPORTS {
+        let text = report_of_line(rt.alloc(), version, line)?;
         let found = read_report(rt.alloc(), text.as_bytes()).err();
         assert_eq!(rt; found, Some(ReportFault { line: 5, cause }), "{text}");
     }

@@ -1,5 +1,12 @@
+//! Events and calls on a world, and what is seen of them.
 use lset_steps::{Event, Machine, StepFault, World};
-use lset_words::{Call, Reply};
+use lset_words::{Call, Key, Reply, layout};
+use std::alloc::Global;
+use std::process::Abort;
+use std::test::Fail;
+
+/// An event, how often it is made, and the answer of the last one.
+pub type Line = (Event, u32, Option<Reply>);
 
 /// Makes the event so many times: the answer of the last one. A step past the end of a call is refused.
 pub fn make<M: Machine>(
@@ -27,4 +34,61 @@ pub fn make_call<M: Machine>(
         }
     }
     Ok(None)
+}
+
+/// Makes the events in turn: each line has its answer.
+pub fn assert_lines<M: Machine, R: Abort>(
+    rt: &R,
+    world: &mut World<M>,
+    lines: &[Line],
+) -> Result<(), Fail> {
+    for (event, times, answer) in lines {
+        assert_eq!(rt; make(world, *event, *times)?, *answer, "{event:?}");
+    }
+    Ok(())
+}
+
+/// Makes the calls of thread 0 in turn: each has its reply after so many steps.
+pub fn assert_calls<M: Machine, R: Abort>(
+    rt: &R,
+    world: &mut World<M>,
+    calls: &[(Call, Reply, u64)],
+) -> Result<(), Fail> {
+    for (call, reply, steps) in calls {
+        let made = make_call(world, 0, *call)?;
+        assert_eq!(rt; made, Some((*reply, *steps)), "{call:?}");
+    }
+    Ok(())
+}
+
+/// The keys of the set are these.
+pub fn assert_content<M: Machine, R: Abort>(
+    rt: &R,
+    world: &World<M>,
+    keys: &[u32],
+) -> Result<(), Fail> {
+    assert_eq!(rt; world.content()?.as_slice(), keys);
+    Ok(())
+}
+
+/// The least key and the greatest are put in, found and taken out: each call answers true, after so many steps.
+pub fn assert_ends<M: Machine, R: Abort>(
+    rt: &R,
+    alloc: Global,
+    adds: [u64; 2],
+    finds: [u64; 2],
+    removes: [u64; 2],
+) -> Result<(), Fail> {
+    let (least, most) = (Key(0), Key(u32::MAX));
+    let calls = [
+        (Call::Add(least), Reply::True, adds[0]),
+        (Call::Add(most), Reply::True, adds[1]),
+        (Call::Contains(least), Reply::True, finds[0]),
+        (Call::Contains(most), Reply::True, finds[1]),
+        (Call::Remove(least), Reply::True, removes[0]),
+        (Call::Remove(most), Reply::True, removes[1]),
+    ];
+    let mut world = World::<M>::new(alloc, layout(1, 2)?)?;
+    assert_calls(rt, &mut world, &calls)?;
+    assert_content(rt, &world, &[])
 }

@@ -50,7 +50,10 @@ fn each_name_has_a_schedule_whose_report_is_right(rt: HostRuntime) -> Result<(),
 #[test]
 fn each_broken_report_is_refused(rt: HostRuntime) -> Result<(), Fail> {
     let rows = [
+        ("same-gap", "refused WrongSet\n"),
         ("stale-pred", "refused WrongSet\n"),
+        ("two-removers", "refused WrongReply 1\n"),
+        ("snip", "refused WrongSet\n"),
         ("left-in-chain", "refused WrongReply 3\n"),
         ("ceiling-left-in-chain", "refused WrongReply 3\n"),
     ];
@@ -87,7 +90,12 @@ fn a_name_that_stands_for_nothing_is_bad(rt: HostRuntime) -> Result<(), Fail> {
             assert_eq!(rt; run.told()?, bad, "{name}");
         }
     }
-    for name in ["snip", "full", "marked-in-chain", "ceiling-meets-mark"] {
+    for name in [
+        "tries-again",
+        "full",
+        "marked-in-chain",
+        "ceiling-meets-mark",
+    ] {
         let run = example_run(rt.alloc(), true, Some(name));
         assert_eq!(rt; run.told()?, bad, "{name}");
     }

@@ -5,7 +5,7 @@ use std::alloc::Global;
 use std::test::Fail;
 
 /// Two calls, of which the later one stands first.
-fn early(alloc: Global, refusal: Refusal, keys: &[u32]) -> Result<Picture, Fail> {
+pub fn early(alloc: Global, refusal: Refusal, keys: &[u32]) -> Result<Picture, Fail> {
     let mut history = no_calls(alloc, 2);
     history.begin(0, add(5), 1)?;
     history.end(0, Reply::True, 8)?;
