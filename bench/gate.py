@@ -1,0 +1,148 @@
+"""What the gate costs: the lines of .ci/run, and of `rt ci` each crate and part."""
+
+import os
+import re
+import subprocess
+import sys
+import threading
+import time
+
+from measuring import TOP
+
+PARTS = ("proof", "tests", "edits", "programs")
+TICKS = os.sysconf("SC_CLK_TCK")
+BETWEEN = 0.5
+DEAREST = 10
+
+
+def processes():
+    """Of each process its number, with when it began, its parent, its processor seconds so far, its words and its folder."""
+    for pid in filter(str.isdigit, os.listdir("/proc")):
+        try:
+            with open(f"/proc/{pid}/stat") as stat, open(f"/proc/{pid}/cmdline", errors="replace") as words:
+                fields = stat.read().rpartition(") ")[2].split()
+                yield (int(pid), int(fields[19])), int(fields[1]), (int(fields[11]) + int(fields[12])) / TICKS, words.read().split("\0"), os.readlink(f"/proc/{pid}/cwd")
+        except OSError:
+            pass
+
+
+def task_of(words, folder, crates):
+    """The crate for which a process works, and at what, where its own words or its folder tell."""
+    made = [os.path.basename(it) for it in words if "/rt-run-" in it or it.startswith("out/")]
+    if "--crate-name" in words:
+        crate = words[words.index("--crate-name") + 1]
+    else:
+        inside = re.match(re.escape(TOP) + r"/crates/(\w+)", folder)
+        crate = inside[1] if inside else next((it for name in made for it in (name, name.removesuffix("_tests")) if it in crates), None)
+    if crate not in crates:
+        return None
+    if "/rt-edit-" in folder:
+        return crate, "edits"
+    if "--test" in words or any(it.startswith(f"{crate}_tests") for it in made):
+        return crate, "tests"
+    return crate, "programs" if "--crate-checked" in words or any(it.partition(".")[0] == crate for it in made) else "proof"
+
+
+class Watch(threading.Thread):
+    """Looks at the processes below one, and keeps for each task its processor seconds and when it was first and last seen. What a
+    process does after the last look at it is not counted."""
+
+    def __init__(self, top, crates):
+        super().__init__(daemon=True)
+        self.top, self.crates, self.began, self.is_over = top, crates, time.monotonic(), threading.Event()
+        self.seconds, self.seen = {}, {}
+
+    def look(self):
+        found = {it[0][0]: it for it in processes()}
+        for pid, (key, parent, seconds, words, folder) in found.items():
+            task, at = task_of(words, folder, self.crates), pid
+            while at != self.top and at in found:
+                at = found[at][1]
+                if not task and at in found:
+                    task = task_of(found[at][3], found[at][4], self.crates)
+            if at == self.top and task:
+                now = (time.monotonic() - self.began) / 60
+                self.seconds[key] = task, seconds
+                self.seen[task] = self.seen.get(task, (now, now))[0], now
+
+    def run(self):
+        while not self.is_over.wait(BETWEEN):
+            self.look()
+
+    def tasks(self):
+        """Of each task the minutes from its first to its last process, and its processor seconds, the first to begin first."""
+        spent = {}
+        for task, seconds in self.seconds.values():
+            spent[task] = spent.get(task, 0) + seconds
+        began = {crate: min(self.seen[it][0] for it in spent if it[0] == crate) for crate, _ in spent}
+        return {it: (self.seen[it][1] - self.seen[it][0], spent[it]) for it in sorted(spent, key=lambda it: began[it[0]])}
+
+
+def gate_lines():
+    """The commands of .ci/run, a line each."""
+    with open(f"{TOP}/.ci/run") as it:
+        return [line for line in it.read().splitlines() if line and not line.startswith(("#", "set ", "cd ", "export "))]
+
+
+def timed_line(line):
+    """Runs a line of .ci/run, and gives its status, its tasks and its processor seconds: of `rt ci` a task for each crate and part,
+    of another line one, as the run of a program."""
+    began, run = time.monotonic(), subprocess.Popen(line.split(), cwd=TOP, stdin=subprocess.DEVNULL)
+    watch = Watch(run.pid, set(os.listdir(f"{TOP}/crates")))
+    if line == "rt ci":
+        watch.start()
+    _, status, used = os.wait4(run.pid, 0)
+    run.returncode = os.waitstatus_to_exitcode(status)
+    watch.is_over.set()
+    seconds = used.ru_utime + used.ru_stime
+    if line != "rt ci":
+        return run.returncode, {(line, "programs"): ((time.monotonic() - began) / 60, seconds)}, seconds
+    watch.join()
+    return run.returncode, watch.tasks(), seconds
+
+
+def edits_of(name):
+    """How many must-fail edits a crate has, in brackets."""
+    folder = f"{TOP}/crates/{name}/must-fail"
+    return f" ({sum(it.endswith('.edit') for it in os.listdir(folder))})" if os.path.isdir(folder) else ""
+
+
+def gate_table(tasks):
+    """Prints minutes and seconds of each crate and part, as a table of docs/COSTS.md, and the ten dearest tasks."""
+    print("\n| Crate | Proof | Tests | Must-fail edits | Programs |\n|---|---|---|---|---|")
+    for name in dict.fromkeys(name for name, _ in tasks):
+        cells = [f"{tasks[name, it][0]:.1f} min, {tasks[name, it][1]:.0f} s" if (name, it) in tasks else "" for it in PARTS]
+        cells[2] += edits_of(name) if cells[2] else ""
+        print(f"| `{name}` | {' | '.join(cells)} |")
+    sums = [sum(seconds for (_, part), (_, seconds) in tasks.items() if part == it) for it in PARTS]
+    print("| all | " + " | ".join(f"{it:.0f} s" for it in sums) + " |")
+    print("\nThe dearest tasks:\n\n| Crate | What | Processor |\n|---|---|---|")
+    for (name, part), (_, seconds) in sorted(tasks.items(), key=lambda it: -it[1][1])[:DEAREST]:
+        print(f"| `{name}` | {part} | {seconds:.0f} s |")
+
+
+def wanted_and_taken():
+    """The ticks that programs wanted of the processors since the machine started, and those of them that its host gave to others."""
+    with open("/proc/stat") as it:
+        user, nice, system, _, _, irq, softirq, steal = map(int, it.readline().split()[1:9])
+    return user + nice + system + irq + softirq + steal, steal
+
+
+def gate():
+    """Runs the lines of .ci/run in turn, up to the first that fails, and tells what each crate and line took, and the whole."""
+    began, load, before = time.monotonic(), os.getloadavg()[0], wanted_and_taken()
+    status, tasks, processor = 0, {}, 0
+    os.environ["RT_JOBS"] = str(len(os.sched_getaffinity(0)))  # as .ci/run exports it
+    for line in gate_lines():
+        status, found, seconds = timed_line(line)
+        tasks, processor = {**tasks, **found}, processor + seconds
+        if status:
+            break
+    gate_table(tasks)
+    minutes = (time.monotonic() - began) / 60
+    print(f"\nThe whole took {minutes:.0f} minutes on {len(os.sched_getaffinity(0))} processors, with a load of {load:.1f} at the start, and {processor / 60:.0f} minutes of one processor.")
+    wanted, taken = (now - then for now, then in zip(wanted_and_taken(), before))
+    print(f"Of 100 seconds that were wanted of the processors the machine's host took {100 * taken / max(1, wanted):.0f}.")
+    if status:
+        print(f"bench: {line} failed, so what stands after it in .ci/run was not run", file=sys.stderr)
+    return status

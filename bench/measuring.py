@@ -1,0 +1,87 @@
+"""What the parts of bench/run share: programs that are built, and runs that are measured."""
+
+import os
+import re
+import subprocess
+import sys
+import tempfile
+
+BENCH = os.path.dirname(os.path.realpath(__file__))
+TOP = os.path.dirname(BENCH)
+RUNS = 9
+TIME = "/usr/bin/time"
+CALLS, SEED = "10000", "1"
+
+
+def built(name):
+    """The program of this name, which rt proves and builds where it is missing."""
+    program = f"{TOP}/crates/{name}/out/{name}"
+    if not os.path.exists(program):
+        print(f"bench: proving and building {name}, once", file=sys.stderr)
+        subprocess.run(["rt", "run"], cwd=f"{TOP}/crates/{name}", stdin=subprocess.DEVNULL, stdout=sys.stderr)
+    return program
+
+
+def seconds_of(words, given, written, wanted):
+    """Processor seconds of one run, which has to end with the status that is wanted."""
+    with open(given) as source, open(written, "w") as sink:
+        run = subprocess.Popen(words, stdin=source, stdout=sink, stderr=subprocess.DEVNULL)
+        _, status, used = os.wait4(run.pid, 0)
+    run.returncode = os.waitstatus_to_exitcode(status)
+    if run.returncode != wanted:
+        sys.exit(f"bench: {' '.join(words)}: status {run.returncode}")
+    return used.ru_utime + used.ru_stime
+
+
+def memory_of(words, given):
+    """Peak kilobytes of one run, by the program `time`, or None where it is not installed."""
+    if not os.access(TIME, os.X_OK):
+        return None
+    with open(given) as source, tempfile.NamedTemporaryFile("r") as told:
+        quiet = {"stdout": subprocess.DEVNULL, "stderr": subprocess.DEVNULL}
+        subprocess.run([TIME, "-q", "-f", "%M", "-o", told.name, *words], stdin=source, **quiet)
+        return int(told.read())
+
+
+def measured(words, given=os.devnull, written=os.devnull, wanted=0):
+    """The least seconds of some runs, and the memory of another."""
+    return min(seconds_of(words, given, written, wanted) for _ in range(RUNS)), memory_of(words, given)
+
+
+def table(what, unit, rows):
+    """Prints the rows of one program: size, seconds, kilobytes."""
+    before = None
+    for size, (seconds, memory) in rows:
+        ratio = f"x{seconds / before:5.1f}" if before else " " * 6
+        peak = f"{memory:>10,} KB" if memory else "   (install `time` for memory)"
+        print(f"{what:<30}{size:>9,} {unit:<7}{1000 * seconds:9.1f} ms  {ratio}{peak}")
+        before = seconds
+
+
+def kinds(tool):
+    """The words for the lists, as the help of gen has them."""
+    told = subprocess.run([tool, "help", "gen"], stdout=subprocess.PIPE, text=True, check=True).stdout
+    return re.split(r", | or ", re.search(r"The list: (.*)", told)[1])
+
+
+def compiled(source, room):
+    """The program of a Rust file of bench/, built by rustc."""
+    program = f"{room}/{source.removesuffix('.rs')}"
+    subprocess.run(["rustc", "--edition", "2021", "-O", f"{BENCH}/{source}", "-o", program], check=True)
+    return program
+
+
+def heading(*columns):
+    """Prints the head of a table for docs/COSTS.md."""
+    row(*columns)
+    print("|" + "---|" * len(columns))
+
+
+def row(*cells):
+    """Prints a row of a table for docs/COSTS.md."""
+    print("| " + " | ".join(cells) + " |", flush=True)
+
+
+def least(rows):
+    """The least of each column."""
+    return [min(column) for column in zip(*rows)]

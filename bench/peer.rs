@@ -1,0 +1,196 @@
+//! What running sets are measured against: the lists of `lists.rs`, and a tree under one lock.
+//!   rustc -O peer.rs
+//!   peer run KIND THREADS QUOTA CALLS KEYS SEED      runs what `listset run` runs, and prints what that prints
+//!   peer each KIND ..                                times each call, as `bench_calls KIND loops ..` does
+//!   peer whole KIND ..                               times each thread's calls together, as `bench_calls KIND whole ..` does; KIND
+//!                                                    may be `tree` here, a `Mutex<BTreeSet>` without a quota
+//! The times stand on standard error: for each kind of call, or for all, nanoseconds over all threads, and how many calls are left out of
+//! them: of `each` those that took more than `LONGEST`, since the processor was taken away. The output tells how many calls there were.
+
+mod lists;
+
+use lists::{Call, Kind, Op, Reply, Seat, Set};
+use std::collections::BTreeSet;
+use std::sync::Mutex;
+use std::time::Instant;
+
+const LONGEST: u64 = 200_000;
+const OPS: [(Op, &str); 3] = [(Op::Add, "add"), (Op::Remove, "remove"), (Op::Contains, "contains")];
+
+/// The generator of the library's programs, PCG32.
+struct Pcg {
+    state: u64,
+    step: u64,
+}
+
+impl Pcg {
+    const FACTOR: u64 = 6_364_136_223_846_793_005;
+
+    fn output(state: u64) -> u32 {
+        let mixed = (((state >> 18) ^ state) >> 27) as u32;
+        mixed.rotate_right((state >> 59) as u32)
+    }
+
+    fn seeded(mut seed: u64) -> Pcg {
+        let words = [(); 4].map(|()| {
+            seed = seed.wrapping_mul(Pcg::FACTOR).wrapping_add(11_634_580_027_462_260_723);
+            u64::from(Pcg::output(seed))
+        });
+        let step = (words[2] | words[3] << 32) | 1;
+        let state = (words[0] | words[1] << 32).wrapping_add(step);
+        Pcg { state: state.wrapping_mul(Pcg::FACTOR).wrapping_add(step), step }
+    }
+
+    fn next(&mut self) -> u32 {
+        let state = self.state;
+        self.state = state.wrapping_mul(Pcg::FACTOR).wrapping_add(self.step);
+        Pcg::output(state)
+    }
+}
+
+/// What is asked for, as `listset run` has it.
+struct Wanted {
+    threads: u64,
+    quota: u64,
+    calls: u64,
+    keys: u64,
+    seed: u64,
+}
+
+impl Wanted {
+    fn read(words: &[String]) -> Wanted {
+        let numbers: Vec<u64> = words.iter().map(|it| it.parse().expect("a number")).collect();
+        let [threads, quota, calls, keys, seed] = numbers[..] else { panic!("THREADS QUOTA CALLS KEYS SEED") };
+        Wanted { threads, quota, calls, keys, seed }
+    }
+
+    /// The calls of a thread.
+    fn program(&self, thread: u64) -> Vec<Call> {
+        let mut drawn = Pcg::seeded(self.seed.wrapping_add(thread));
+        let call = |_| {
+            let (op, _) = OPS[drawn.next() as usize % OPS.len()];
+            Call { op, key: (u64::from(drawn.next()) % self.keys) as u32 }
+        };
+        (0..self.calls).map(call).collect()
+    }
+}
+
+/// Runs each thread's program by `run`, all at once.
+fn at_once<T: Send>(wanted: &Wanted, run: impl Fn(u64, &[Call]) -> T + Sync) -> Vec<T> {
+    let programs: Vec<_> = (0..wanted.threads).map(|thread| wanted.program(thread)).collect();
+    let run = &run;
+    std::thread::scope(|scope| {
+        let started: Vec<_> =
+            (0..).zip(&programs).map(|(thread, calls)| scope.spawn(move || run(thread, calls))).collect();
+        started.into_iter().map(|it| it.join().expect("a thread")).collect()
+    })
+}
+
+fn run(kind: Kind, wanted: &Wanted) {
+    let set = Set::new(kind, wanted.threads, wanted.quota);
+    let replies = at_once(wanted, |thread, calls| {
+        let mut seat = Seat { thread, used: 0 };
+        calls.iter().map(|call| set.call(&mut seat, *call)).collect::<Vec<_>>()
+    });
+    let count = |wanted| replies.iter().flatten().filter(|it| **it == wanted).count();
+    let keys = set.keys();
+    println!("calls {}", replies.iter().map(Vec::len).sum::<usize>());
+    println!("true {}\nfalse {}\nfull {}", count(Reply::True), count(Reply::False), count(Reply::Full));
+    println!("keys {}", keys.len());
+    keys.iter().for_each(|key| println!("key {key}"));
+}
+
+#[derive(Clone, Copy, Default)]
+struct Spent {
+    calls: u64,
+    nanoseconds: u64,
+    left_out: u64,
+}
+
+impl Spent {
+    fn and(self, other: Spent) -> Spent {
+        Spent {
+            calls: self.calls + other.calls,
+            nanoseconds: self.nanoseconds + other.nanoseconds,
+            left_out: self.left_out + other.left_out,
+        }
+    }
+
+    /// A call more, or one that took too long to count.
+    fn call(self, nanoseconds: u64) -> Spent {
+        let is_counted = nanoseconds <= LONGEST;
+        self.and(Spent { calls: 1, nanoseconds: if is_counted { nanoseconds } else { 0 }, left_out: u64::from(!is_counted) })
+    }
+}
+
+fn tell(name: &str, spent: Spent) {
+    println!("{name} {}", spent.calls);
+    eprintln!("{name} {} {}", spent.nanoseconds, spent.left_out);
+}
+
+/// One reading of the clock for each call.
+fn each(kind: Kind, wanted: &Wanted) {
+    let set = Set::new(kind, wanted.threads, wanted.quota);
+    let spent = at_once(wanted, |thread, calls| {
+        let mut seat = Seat { thread, used: 0 };
+        let mut spent = [Spent::default(); OPS.len()];
+        let mut before = Instant::now();
+        for call in calls {
+            std::hint::black_box(set.call(&mut seat, *call));
+            let now = Instant::now();
+            let of = &mut spent[call.op as usize];
+            *of = of.call((now - before).as_nanos() as u64);
+            before = now;
+        }
+        spent
+    });
+    for (op, name) in OPS {
+        tell(name, spent.iter().map(|it| it[op as usize]).fold(Spent::default(), Spent::and));
+    }
+}
+
+/// Two readings of the clock for each thread.
+fn whole(wanted: &Wanted, make_calls: impl Fn(u64, &[Call]) + Sync) {
+    let spent = at_once(wanted, |thread, calls| {
+        let before = Instant::now();
+        make_calls(thread, calls);
+        Spent { calls: calls.len() as u64, nanoseconds: before.elapsed().as_nanos() as u64, left_out: 0 }
+    });
+    tell("all", spent.into_iter().fold(Spent::default(), Spent::and));
+}
+
+fn whole_of_list(kind: Kind, wanted: &Wanted) {
+    let set = Set::new(kind, wanted.threads, wanted.quota);
+    whole(wanted, |thread, calls| {
+        let mut seat = Seat { thread, used: 0 };
+        for call in calls {
+            std::hint::black_box(set.call(&mut seat, *call));
+        }
+    });
+}
+
+fn whole_of_tree(wanted: &Wanted) {
+    let tree = Mutex::new(BTreeSet::new());
+    whole(wanted, |_, calls| {
+        for call in calls {
+            let mut tree = tree.lock().expect("no thread panics");
+            std::hint::black_box(match call.op {
+                Op::Add => tree.insert(call.key),
+                Op::Remove => tree.remove(&call.key),
+                Op::Contains => tree.contains(&call.key),
+            });
+        }
+    });
+}
+
+fn main() {
+    let words: Vec<String> = std::env::args().skip(1).collect();
+    let wanted = Wanted::read(&words[2..]);
+    match (words[0].as_str(), words[1].as_str()) {
+        ("run", kind) => run(Kind::named(kind), &wanted),
+        ("each", kind) => each(Kind::named(kind), &wanted),
+        ("whole", "tree") => whole_of_tree(&wanted),
+        ("whole", kind) => whole_of_list(Kind::named(kind), &wanted),
+        (word, _) => panic!("no {word} here"),
+    }
+}

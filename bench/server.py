@@ -1,0 +1,109 @@
+"""What the set server gives: requests a second, beside redis."""
+
+import contextlib
+import os
+import shutil
+import socket
+import subprocess
+import sys
+import tempfile
+import time
+
+from measuring import built, compiled, heading, kinds, row
+
+ROUNDS = 5
+CLIENTS = (1, 8)
+KEYS = "64"
+REQUESTS = {1: "20000", 100: "90000"}  # of each client, by how many it sends at once; so many that no seat runs out of slots
+SECONDS = 60
+
+
+def processor_of(pid):
+    """The seconds that the threads of a process have had of a processor."""
+    seconds = 0
+    for task in os.listdir(f"/proc/{pid}/task"):
+        with open(f"/proc/{pid}/task/{task}/schedstat") as it:
+            seconds += int(it.read().split()[0]) / 1e9
+    return seconds
+
+
+@contextlib.contextmanager
+def ended(process):
+    """Ends the process, if it does not end by itself."""
+    try:
+        yield process
+    finally:
+        process.kill()
+        process.wait()
+
+
+@contextlib.contextmanager
+def listset(tool, kind, clients):
+    """The program as a server for so many clients: its port, and its process."""
+    words = [tool, "serve", kind, str(clients), "16384", "0", str(clients)]
+    with ended(subprocess.Popen(words, stdout=subprocess.PIPE, text=True)) as process:
+        yield process.stdout.readline().rpartition(":")[2].strip(), process
+
+
+def answers(port):
+    """Whether something on the port takes a connection."""
+    with contextlib.suppress(OSError), socket.create_connection(("127.0.0.1", port), timeout=1):
+        return True
+    return False
+
+
+@contextlib.contextmanager
+def redis(program, _kind, _clients):
+    """A redis server that keeps nothing on disk: its port, and its process."""
+    with socket.socket() as free:
+        free.bind(("127.0.0.1", 0))
+        port = free.getsockname()[1]
+    with tempfile.TemporaryDirectory() as room:
+        words = [program, "--port", str(port), "--bind", "127.0.0.1", "--save", "", "--appendonly", "no", "--dir", room]
+        with ended(subprocess.Popen(words, stdout=subprocess.DEVNULL)) as process:
+            end = time.monotonic() + SECONDS
+            while not answers(port) and time.monotonic() < end:
+                time.sleep(0.05)
+            yield str(port), process
+
+
+def loaded(load, protocol, server, clients, at_once):
+    """Requests a second, median and 99th of 100 of the microseconds of a write, and processor microseconds of a request."""
+    requests = REQUESTS[at_once]
+    with server(clients) as (port, process):
+        before = processor_of(process.pid)
+        words = [load, protocol, port, str(clients), str(at_once), requests, KEYS]
+        # listset ends with its last client, so what it has had by then is read off as it ends
+        told = subprocess.run(words, stdout=subprocess.PIPE, text=True, check=True, timeout=SECONDS).stdout
+        if protocol == "listset":
+            process.stdout.read()
+            _, _, used = os.wait4(process.pid, 0)
+            process.returncode, spent = 0, used.ru_utime + used.ru_stime
+        else:
+            spent = processor_of(process.pid)
+    return [*map(float, told.split()), 1e6 * (spent - before) / (clients * int(requests))]
+
+
+def server():
+    """The table of servers, the best of some rounds in turn."""
+    tool = built("listset")
+    servers = {kind: ("listset", lambda clients, kind=kind: listset(tool, kind, clients)) for kind in kinds(tool)}
+    program = shutil.which("redis-server")
+    if program:
+        servers["redis"] = "redis", lambda clients: redis(program, None, clients)
+    else:
+        print("bench: redis-server is not installed (Debian: apt-get install redis-server), so its row is left out", file=sys.stderr)
+    with tempfile.TemporaryDirectory() as room:
+        load = compiled("load.rs", room)
+        for at_once in REQUESTS:
+            print(f"\n{at_once} request{'s'[:at_once > 1]} at once, best of {ROUNDS} rounds in turn:\n")
+            heading("Server", *(f"{many} client{'s'[:many > 1]}: {what}" for many in CLIENTS for what in
+                    ("requests a second", "p50 / p99", "processor a request")))
+            cells = {name: [] for name in servers}
+            for many in CLIENTS:
+                rounds = [{name: loaded(load, *way, many, at_once) for name, way in servers.items()} for _ in range(ROUNDS)]
+                for name in servers:
+                    rate, median, late, spent = max(it[name] for it in rounds)
+                    cells[name] += [f"{rate:,.0f}", f"{median:.0f} / {late:.0f} us", f"{spent:.2f} us"]
+            for name, told in cells.items():
+                row(name, *told)
