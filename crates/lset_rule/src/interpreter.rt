@@ -54,8 +54,8 @@ impl Pause for Spin {
 /// Makes a whole call, step by step, and waits where the list does, as at a lock.
 ///
 /// `place` is the place of an idle seat of these words, and `slots` are those of its thread, as the last call left them.
-/// The answer is the slots as this call leaves them, and the reply. `pause` is asked after each step that does
-/// not answer.
+/// The answer is the slots as this call leaves them, and the reply. `pause` is asked after each step that does not answer,
+/// or after the failed ones alone, as [`Pause::EACH_STEP`] says.
 ///
 /// Nothing is said about when a call returns: if it does, it was a call of the machine, begun after all that the place had
 /// seen, and the record of the place grew by it and its reply.
