@@ -4,8 +4,8 @@ import re
 
 from make_rows import in_lines, plain
 
-# How a paragraph leads to the report that stands below it.
-REPORT_BELOW = re.compile(r"(, [^.(]*)? \((\./listset example --broken [a-z-]+)\):$")
+# How a paragraph leads to the report that stands below it, which `check` refuses.
+REPORT_BELOW = re.compile(r"(, [^.(]*)? \(\./listset example --broken [a-z-]+\):$")
 PARAGRAPHS = {"question": "Question.", "turns_on": "Turns on.", "without": "Without it."}
 
 
@@ -15,8 +15,8 @@ def paragraph(section, title):
 
 
 def said_alone(text):
-    """A paragraph of which the page does not show the report below it."""
-    return REPORT_BELOW.sub(lambda found: f"{found[1] + ',' if found[1] else ''} is what {found[2]} prints.", text)
+    """A paragraph without the report below it, which the page has behind a button."""
+    return REPORT_BELOW.sub(lambda found: f"{found[1] + ',' if found[1] else ''} is refused.", text)
 
 
 def turns_of(section):
