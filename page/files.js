@@ -81,10 +81,9 @@ function showReport(engine, text, whose) {
   showPicture(engine, text);
 }
 
-// The picture of a report as `listset show` draws it, and what it says of a refused order, where the module has that function
-// and the text is a report.
+// The picture of a report or of a schedule as `listset show` draws it, and what it says is refused, where the module draws one.
 function showPicture(engine, text) {
-  const drawn = text === "" || !engine.has("listset_show_svg") ? "" : engine.ask("listset_show_svg", text).text;
+  const drawn = engine.has("listset_show_svg") ? engine.ask("listset_show_svg", text).text : "";
   byId("picture-box").hidden = !drawn.startsWith("<svg ");
   if (byId("picture-box").hidden) return;
   byId("picture").innerHTML = drawn;
@@ -99,5 +98,5 @@ function showOwnReport(engine, schedule) {
   byId("report").textContent = answer.text;
   byId("report-of").textContent = "There is no report:";
   byId("checked").textContent = "—";
-  showPicture(engine, "");
+  showPicture(engine, schedule);
 }

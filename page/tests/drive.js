@@ -185,6 +185,11 @@ async function driveBrokenReports(open) {
   check("a report from a file unfolds the box and stays", isShown() && textOf("report-of") === "The report in broken.report:");
   await open("none.report", report.replace("place 2 true", "place 02 true"));
   check("a report that is none has no picture", textOf("checked").startsWith("listset: line 9: ") && part("picture-box").hidden);
+  runSchedule([...header("fine", 2), "begin 0 add 5", "go 0 3", "go 1 1"]);
+  check("a refused schedule has no report", textOf("report-of") === "There is no report:" && textOf("checked") === "—");
+  const isDrawnUpTo = inPage("page.engine.ask('listset_show', page.text).text").endsWith("\nrefused line 7 Idle\n");
+  const says = isDrawnUpTo ? textOf("picture-says") === "refused line 7 Idle" : part("picture-box").hidden;
+  check("but a picture up to the refused event, where the module draws that", says && part("picture-box").hidden !== isDrawnUpTo);
   pick("full");
   check("an example without such a report offers none", part("broken").hidden && part("see-broken").hidden);
 }
