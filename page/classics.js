@@ -23,14 +23,14 @@ const CLASSICS = {
   },
   "same-gap": {
     "question": "Both threads have walked without locks to the gap between head and tail, one to put in 5, the other 7. Thread 1 was first. What does thread 0 do once it has its two locks?",
-    "turnsOn": "It looks at pred again. The head leads to the node of 7 now and no more to the tail, so thread 0 gives its locks back and walks again.",
-    "without": "Thread 0 would link 5 to the tail and the head to 5: 7 is gone, as in calls_without_the_lock.",
+    "turnsOn": "It looks at pred again. The head leads to the node of 7 now and no longer to the tail, so thread 0 gives its locks back and walks again.",
+    "without": "A validation that is content when its walk has come to pred, wherever that leads, lets thread 0 link 5 to the tail and the head to 5: 7 is gone, as in calls_without_the_lock. The report of that list, up to the first step that it does not make, is refused.",
     "turns": [4, 12, 17]
   },
   "stale-pred": {
     "question": "Thread 0 has found pred = 3 and curr = tail. Thread 1 takes out 3. Then thread 0 locks both. The node of 3 still leads to the tail. May thread 0 write?",
     "turnsOn": "No. A node that is out of the list keeps its link. So thread 0 walks once more from the head, to see whether it comes to pred: this walk reads the tail's key, which is past that of pred, and has not met it.",
-    "without": "The list that looks at the link alone is content after event 28 and puts 5 in behind a node that is gone. Its report (./listset example --broken stale-pred):",
+    "without": "The list that looks at the link alone is content after event 28 and puts 5 in behind a node that is gone. Its report is refused.",
     "turns": [24, 29, 30]
   },
   "marked-in-chain": {
@@ -60,13 +60,13 @@ const CLASSICS = {
   "two-removers": {
     "question": "Two threads have found the node of 5, unmarked, and want to take it out. Who has removed it?",
     "turnsOn": "The one whose exchange sets the mark. The exchange of the other compares the whole word, link and mark, sees the mark, and fails; that thread walks again, does not find 5 and answers false. Its place is just after the mark of the first.",
-    "without": "A remove whose marking succeeds on a node that is marked already tells a second time that it has taken 5 out, and both answer true (mark_on_a_marked_node).",
+    "without": "A remove whose marking succeeds on a node that is marked already tells a second time that it has taken 5 out, and both answer true (mark_on_a_marked_node). The report of that list, up to the first step that it does not make, is refused.",
     "turns": [18, 20, 23]
   },
   "snip": {
     "question": "Thread 0 has marked the node of 5 and stops there. Thread 1 wants to put in 7 behind it. Does it have to wait for thread 0?",
     "turnsOn": "No thread waits for another in this list. Thread 1 finds the mark, takes the node out itself, and goes on. When thread 0 comes to do it, its exchange fails; it answers true all the same, since its mark stands.",
-    "without": "An add that takes no notice of the mark links 7 in behind a node that is about to go, or is gone, and the key is lost (add_that_ignores_the_mark).",
+    "without": "An add that takes no notice of the mark links 7 in behind a node that is about to go, or is gone, and the key is lost (add_that_ignores_the_mark). Here its walk passes the marked node as any other, and its exchange compares the next node alone: event 22 puts 7 in behind the node of 5, and event 23, which takes that node out, takes 7 with it. The report of that list is refused.",
     "turns": [13, 16, 17, 23]
   },
   "tries-again": {
@@ -78,7 +78,7 @@ const CLASSICS = {
   "left-in-chain": {
     "question": "Thread 0 has walked to the gap before 5 and has a node with 3 ready. Thread 1 marks the node of 5, thread 0 links 3 in, and thread 1 tries to take out what it has marked. Its remove answers true and is over. Which nodes are in the chain now, and what does a contains of 5 answer that begins only then?",
     "turnsOn": "The node of 5 is still there, marked: the remover's one try to unlink it fails, since the head leads to 3 now, and the rest is left to the next add or remove that walks there. contains comes to the node, sees the mark and answers false.",
-    "without": "A contains that looks at the key alone answers true. The report of that list (./listset example --broken left-in-chain):",
+    "without": "A contains that looks at the key alone answers true. The report of that list is refused.",
     "turns": [19, 20, 21, 27]
   },
   "ceiling-meets-mark": {
@@ -90,7 +90,7 @@ const CLASSICS = {
   "ceiling-left-in-chain": {
     "question": "As in left-in-chain, the remove of 5 has ended and its node is still in the chain. A ceiling of 4 begins only then, and stops at that node. What may it answer, and how often may it walk?",
     "turnsOn": "Not 5: the mark sends it back to the head. It takes no node out itself, so each further walk would stop at the same node, as often as it is made. Here thread 1 comes by to put in 7, and its walk takes the node out; the second walk of the ceiling stops at 7. So it answers a key that was put in after it had begun.",
-    "without": "A ceiling that answers the key at which it stops, without a look at the mark, answers 5. The report of that list, up to the first step that it does not make (./listset example --broken ceiling-left-in-chain):",
+    "without": "A ceiling that answers the key at which it stops, without a look at the mark, answers 5. The report of that list, up to the first step that it does not make, is refused.",
     "turns": [21, 27, 33, 38, 43]
   },
   "behind-the-walk": {

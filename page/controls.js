@@ -71,7 +71,7 @@ function listen() {
   byId("last").onclick = () => goByHand(page.trace.events.length);
   byId("play").onclick = togglePlay;
   byId("speed").onchange = changeSpeed;
-  byId("speed").value = wantsLessMotion() ? "slow" : "middle";
+  byId("speed").value = wantsLessMotion() ? "slow" : "medium";
   byId("slider").oninput = () => goByHand(Number(byId("slider").value));
   byId("keys").onclick = toggleKeys;
   byId("turns").onclick = (event) => event.target.dataset.event && goByHand(Number(event.target.dataset.event));
@@ -125,6 +125,7 @@ function chooseInList(name) {
 
 function listenToFiles() {
   byId("broken").onclick = showBroken;
+  byId("see-broken").onclick = seeBroken;
   byId("report-box").ontoggle = refreshReport;
   byId("file").onchange = () => openFile(byId("file").files[0]).then(() => (byId("file").value = ""));
   byId("save-schedule").onclick = () => saveText("page.schedule", byId("schedule").value);

@@ -11,7 +11,8 @@ function exampleText(name) {
 function chooseExample(name) {
   page.example = name;
   byId("examples").value = name;
-  byId("broken").hidden = page.engine === null || name === "" || page.engine.ask("listset_broken_example", name).status !== 0;
+  const isBroken = page.engine !== null && name !== "" && page.engine.ask("listset_broken_example", name).status === 0;
+  byId("broken").hidden = byId("see-broken").hidden = !isBroken;
 }
 
 // The names that there are.

@@ -33,7 +33,7 @@ async function openFile(file) {
   const kind = kindOfFile(text);
   if (kind === "report") {
     if (page.engine === null) return tellFault(page.faultLine, "", NO_ENGINE, !page.isRun);
-    byId("report-box").open = true;
+    await openReportBox();
     return showReport(page.engine, text, `The report in ${file.name}:`);
   }
   if (kind === "schedule") return openText(text, 0);
@@ -47,6 +47,23 @@ async function openFile(file) {
   page.source = comparedTrace(page.engine, page.trace);
   showUndo();
   show();
+}
+
+// Unfolds the box of the report, and waits until that is told: a box that is unfolded shows the schedule's own report first.
+async function openReportBox() {
+  const box = byId("report-box");
+  if (box.open) return;
+  await new Promise((done) => {
+    box.addEventListener("toggle", done, { once: true });
+    box.open = true;
+  });
+}
+
+// From beside the picture: unfolds the box and goes to it.
+async function seeBroken() {
+  await openReportBox();
+  showBroken();
+  byId("report-box").scrollIntoView();
 }
 
 function showBroken() {
@@ -64,11 +81,12 @@ function showReport(engine, text, whose) {
   showPicture(engine, text);
 }
 
-// The picture of a report as `listset show` draws it, and what it says of a refused order, where the module has that function.
+// The picture of a report or of a schedule as `listset show` draws it, and what it says is refused, where the module draws one.
 function showPicture(engine, text) {
-  byId("picture-box").hidden = text === "" || !engine.has("listset_show_svg");
+  const drawn = engine.has("listset_show_svg") ? engine.ask("listset_show_svg", text).text : "";
+  byId("picture-box").hidden = !drawn.startsWith("<svg ");
   if (byId("picture-box").hidden) return;
-  byId("picture").innerHTML = engine.ask("listset_show_svg", text).text;
+  byId("picture").innerHTML = drawn;
   const said = engine.ask("listset_show", text).text.trimEnd().split("\n");
   byId("picture-says").textContent = said[said.length - 1].startsWith("refused ") ? said[said.length - 1] : "";
 }
@@ -80,5 +98,5 @@ function showOwnReport(engine, schedule) {
   byId("report").textContent = answer.text;
   byId("report-of").textContent = "There is no report:";
   byId("checked").textContent = "—";
-  showPicture(engine, "");
+  showPicture(engine, schedule);
 }

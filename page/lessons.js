@@ -111,8 +111,8 @@ const LESSONS = [
     question: "Let a contains of thread 0 find the node of its key in the chain, and answer false.",
     teaches:
       "Lazy synchronization: a remove marks the node (the logical removal), and then unlinks it (the physical " +
-      "removal). The mark is its linearization point: a key is in the set where an unmarked node of the chain has " +
-      "it, and only there.",
+      "removal). The mark is its linearization point: a key is in the set exactly as long as an unmarked node of " +
+      "the chain has it.",
     hint: "Between which two rows of its remove has thread 1 marked the node and not unlinked it yet?",
     answer: ["go 1 7", "begin 0 contains 5", "go 0 3"],
   },

@@ -4,12 +4,19 @@ import re
 
 from make_rows import in_lines, plain
 
+# How a paragraph leads to the report that stands below it, which `check` refuses.
+REPORT_BELOW = re.compile(r"(, [^.(]*)? \(\./listset example --broken [a-z-]+\):$")
 PARAGRAPHS = {"question": "Question.", "turns_on": "Turns on.", "without": "Without it."}
 
 
 def paragraph(section, title):
     found = re.search(rf"^\*\*{re.escape(title)}\*\* (.*)$", section, re.M)
     return plain(found[1]) if found else None
+
+
+def said_alone(text):
+    """A paragraph without the report below it, which the page has behind a button."""
+    return REPORT_BELOW.sub(lambda found: f"{found[1] + ',' if found[1] else ''} is refused.", text)
 
 
 def turns_of(section):
@@ -24,7 +31,7 @@ def classics_text(page):
     for section in page.split("\n## ")[1:]:
         name = section.split(" ", 1)[0]
         said = {key: paragraph(section, title) for key, title in PARAGRAPHS.items()}
-        classics[name] = {"question": said["question"], "turnsOn": said["turns_on"], "without": said["without"],
+        classics[name] = {"question": said["question"], "turnsOn": said["turns_on"], "without": said_alone(said["without"]),
                           "turns": turns_of(section)}
     return ("// What docs/CLASSIC.md says of each example, by page/build: its question, what it turns on, at which events, and what goes\n"
             "// wrong without it.\n"

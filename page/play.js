@@ -1,7 +1,7 @@
 // Play: one event after the other, in three speeds, until the end or a pause. Who asks the system for less motion begins slow.
 "use strict";
 
-const SPEEDS = { slow: 1600, middle: 700, fast: 200 }; // milliseconds of one event
+const SPEEDS = { slow: 1600, medium: 700, fast: 200 }; // milliseconds of one event
 let playing = null;
 
 const wantsLessMotion = () => matchMedia("(prefers-reduced-motion: reduce)").matches;

@@ -85,7 +85,7 @@ const OUTCOMES = {
   markMet({ trace, state, event, held, row }) {
     if (event.deed !== "load" || !event.saw.endsWith("*") || [row?.invalid, row?.again].includes(held.pc)) return "";
     const owner = ownerIn(event.word);
-    const where = state.chain().includes(owner) ? "and still" : "and no more";
+    const where = state.chain().includes(owner) ? "and still" : "and no longer";
     if (event.answer !== undefined) return `<b>${owner} is marked</b>, ${where} in the chain.`;
     if (event.changes.curr !== undefined) return `${owner} is marked, and the walk goes on over it.`;
     const next = LISTS[trace.kind].rows[held.pc]?.step ?? "";

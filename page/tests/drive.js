@@ -4,7 +4,7 @@
 // Each example goes to its end, event by event, and its calls stand in the order of its report.
 function driveExamples() {
   const names = [...part("examples").options].map((option) => option.value).filter((name) => name !== "");
-  check("sixteen examples", names.length === 16);
+  check("the examples of docs/CLASSIC.md", names.length > 0 && names.join() === inPage("Object.keys(CLASSICS).join()"));
   for (const name of names) {
     pick(name);
     const total = inPage("page.trace.events.length");
@@ -160,11 +160,52 @@ async function driveFiles() {
   check("a schedule is opened", textOf("where") === "event 0 of 8");
   await open("one.report", inPage("page.engine.ask('listset_replay', page.text).text"));
   check("a report is checked", textOf("checked") === "ok");
+  await driveBrokenReports(open);
+}
+
+// The report of a broken list: by its button, from beside the picture, and from a file, which unfolds the box.
+async function driveBrokenReports(open) {
   pick("stale-pred");
   part("broken").click();
   check("the report of a broken list is refused", textOf("checked") === "refused WrongSet");
   const isDrawn = part("picture").querySelector("svg") !== null && textOf("picture-says").startsWith("refused WrongSet: ");
   check("and drawn, where the module draws", isDrawn === inPage("page.engine.has('listset_show_svg')"));
+  if (isDrawn) checkColoursOfPicture();
+  const isOfIt = () => textOf("report").startsWith("listset-report 1\nlist optimistic\n");
+  const isShown = () => isOfIt() && textOf("checked") === "refused WrongSet";
+  await foldReport();
+  part("see-broken").click();
+  await sleep(100);
+  check("it is shown from beside the picture", isShown() && part("report-box").open);
+  const report = textOf("report");
+  await foldReport();
+  pick("snip");
+  await open("broken.report", report);
+  await sleep(100);
+  check("a report from a file unfolds the box and stays", isShown() && textOf("report-of") === "The report in broken.report:");
+  await open("none.report", report.replace("place 2 true", "place 02 true"));
+  check("a report that is none has no picture", textOf("checked").startsWith("listset: line 9: ") && part("picture-box").hidden);
+  runSchedule([...header("fine", 2), "begin 0 add 5", "go 0 3", "go 1 1"]);
+  check("a refused schedule has no report", textOf("report-of") === "There is no report:" && textOf("checked") === "—");
+  const isDrawnUpTo = inPage("page.engine.ask('listset_show', page.text).text").endsWith("\nrefused line 7 Idle\n");
+  const says = isDrawnUpTo ? textOf("picture-says") === "refused line 7 Idle" : part("picture-box").hidden;
+  check("but a picture up to the refused event, where the module draws that", says && part("picture-box").hidden !== isDrawnUpTo);
+  pick("full");
+  check("an example without such a report offers none", part("broken").hidden && part("see-broken").hidden);
+}
+
+async function foldReport() {
+  part("report-box").open = false;
+  await sleep(50); // that is told to the page later
+}
+
+// The page leaves the picture its colours and its one width of letters.
+function checkColoursOfPicture() {
+  const styleOf = (name) => frame.contentWindow.getComputedStyle(part("picture").querySelector(name));
+  const [plain, clash] = [styleOf("text.plain"), styleOf("text.clash")];
+  const isOfSheet = plain.fill === styleOf("svg").color && clash.fill !== plain.fill && clash.fontWeight === "700";
+  check(`the colours of a picture: ${plain.fill}, ${clash.fill}`, isOfSheet);
+  check(`its letters: ${plain.fontFamily}, ${plain.fontSize}`, /mono/i.test(plain.fontFamily) && plain.fontSize === "12px");
 }
 
 function driveManyThreads() {
@@ -219,7 +260,7 @@ async function drive() {
   check("the engine runs here", inPage("page.engine") !== null);
   const wantsLess = frame.contentWindow.matchMedia("(prefers-reduced-motion: reduce)").matches;
   check("less motion is asked for where the page is a file", wantsLess === (location.protocol === "file:"));
-  check("the play begins slow there", part("speed").value === (wantsLess ? "slow" : "middle"));
+  check("the play begins slow there", part("speed").value === (wantsLess ? "slow" : "medium"));
   for (const name in PARTS) {
     await post({ told: name });
     await PARTS[name]();

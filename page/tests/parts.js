@@ -26,9 +26,10 @@ function checkTurns(engine) {
   const names = engine.ask("listset_examples", "").text.trimEnd().split("\n").map((line) => line.split(" ")[0]);
   check("docs/CLASSIC.md has the examples", Object.keys(classics).join() === names.join());
   for (const name of names) {
-    const { question, turnsOn, turns: events } = classics[name];
+    const { question, turnsOn, without, turns: events } = classics[name];
     check(`${name}: there is a word for each event at which it turns`, Object.keys(turns[name]).join() === events.join());
     check(`${name}: it has a question, and what it turns on`, question.endsWith("?") && turnsOn.length > 40);
+    check(`${name}: what is said of it leads to nothing below it`, turnsOn.endsWith(".") && without.endsWith("."));
     const trace = inPage("readTrace")(engine.ask("listset_trace", engine.ask("listset_example", name).text).text);
     const state = new (inPage("State"))(trace);
     for (const [event, words] of Object.entries(turns[name])) {
