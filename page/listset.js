@@ -5,7 +5,7 @@
 //     node page/listset.js example [--broken] [NAME]
 //
 // Output, line about a trouble and exit status are the program's (docs/FORMATS.md), but that wrong words are one line.
-// `show` draws what the program draws without a word but `--svg`. Where node has no 64-bit memories, or the module not the
+// `show` draws what the program draws without a word about moments or a width. Where node has no 64-bit memories, or the module not the
 // function of the command, it says so and ends with status 70, before it reads anything.
 "use strict";
 

@@ -5,7 +5,7 @@ use lset_drawing::{Picture, Window};
 use lset_history::Refusal;
 use lset_replay::{ReplayFault, replay_with_points};
 use lset_report::{ReportCause, ReportFault, read_report};
-use lset_show::{picture_of_replay, picture_of_report, shown};
+use lset_show::{Form, picture_of_replay, picture_of_report, shown};
 use lset_tools::Trouble;
 use lset_words::{Point, Reply};
 use std::alloc::{AllocError, Global};
@@ -125,7 +125,7 @@ pub fn pictures(alloc: Global, calls: &mut Calls) -> Result<(), Wrong> {
             calls,
             "shown",
             Trouble::Memory,
-            shown(alloc, text.as_bytes(), false, ALL)
+            shown(alloc, text.as_bytes(), Form::Text(100), ALL)
         );
         check(text_of(answer, status)?.as_slice() == picture.as_bytes())?;
     }
@@ -133,7 +133,7 @@ pub fn pictures(alloc: Global, calls: &mut Calls) -> Result<(), Wrong> {
         calls,
         "shown (SVG)",
         Trouble::Memory,
-        shown(alloc, OPEN_ADD.as_bytes(), true, ALL)
+        shown(alloc, OPEN_ADD.as_bytes(), Form::Svg, ALL)
     );
     let sheet = text_of(sheet, 0)?;
     check(sheet.starts_with(b"<svg ") && sheet.ends_with(b"</svg>\n"))

@@ -3,7 +3,7 @@ use crate::pictures::{ALL, NO_CALLS, NO_CALLS_PICTURE, WRONG_SET, WRONG_SET_PICT
 use crate::texts::{DRAWN, ONE_ADD, ONE_ADD_REPORT};
 use crate::traces::{EARLY, EARLY_TRACE, TRACE};
 use lset_examples::{Example, tool_example};
-use lset_show::tool_show;
+use lset_show::{Form, tool_show};
 use lset_tools::{tool_check, tool_gen, tool_replay};
 use lset_trace::tool_trace;
 use std::alloc::{AllocError, Global};
@@ -111,7 +111,7 @@ fn show_tells(
     let mut input = text.as_bytes();
     let status = tool_show(
         alloc,
-        false,
+        Form::Text(100),
         ALL,
         &mut input,
         &mut streams.output,

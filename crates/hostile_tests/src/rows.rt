@@ -7,7 +7,7 @@ use crate::row_texts::{
 use lset_drawing::Window;
 use lset_examples::{Example, tool_example};
 use lset_run::tool_run;
-use lset_show::tool_show;
+use lset_show::{Form, tool_show};
 use lset_tools::{tool_check, tool_gen, tool_replay};
 use lset_trace::tool_trace;
 use std::alloc::{AllocError, Global};
@@ -147,8 +147,8 @@ pub fn ran<R: Threads + Wait + Sync>(
     let status = match row.tool {
         Tool::Replay => tool_replay(alloc, from, to, also),
         Tool::Check => tool_check(alloc, from, to, also),
-        Tool::Show => tool_show(alloc, false, ALL, from, to, also),
-        Tool::Svg => tool_show(alloc, true, ALL, from, to, also),
+        Tool::Show => tool_show(alloc, Form::Text(100), ALL, from, to, also),
+        Tool::Svg => tool_show(alloc, Form::Svg, ALL, from, to, also),
         Tool::Trace => tool_trace(alloc, false, from, to, also),
         Tool::TraceChains => tool_trace(alloc, true, from, to, also),
         Tool::Example(name) => tool_example(alloc, false, Some(name), to, also),

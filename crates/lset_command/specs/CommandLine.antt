@@ -25,13 +25,14 @@ option_rule name = record (new_rule name) { long = Some name; value_names = 1 }
 abbrev pub file_app : Text → App
 file_app name = with_rule (new_app name) (new_rule (codes "FILE"))
 
--- `show [--svg] [--from M] [--to M] [FILE]`
+-- `show [--svg] [--from M] [--to M] [--width N] [FILE]`
 abbrev pub show_app : App
 show_app =
-    with_rule (with_rule (with_rule (file_app (codes "show"))
+    with_rule (with_rule (with_rule (with_rule (file_app (codes "show"))
     (flag_rule (codes "svg")))
     (option_rule (codes "from")))
-    (option_rule (codes "to"))
+    (option_rule (codes "to")))
+    (option_rule (codes "width"))
 
 -- `trace [--chain] [FILE]`
 abbrev pub trace_app : App
@@ -95,7 +96,7 @@ listset =
 -- the name of a flag or of an option; each other name is that of values
 abbrev pub is_option : Text → Bool
 is_option name = bytes_eq name (codes "svg") || (bytes_eq name (codes "from") || (bytes_eq name (codes "to")
-    || (bytes_eq name (codes "chain") || bytes_eq name (codes "broken"))))
+    || (bytes_eq name (codes "width") || (bytes_eq name (codes "chain") || bytes_eq name (codes "broken")))))
 
 -- the values of a name among the rows that a parse found
 abbrev pub values_by : Text → List Row → List Text
@@ -114,6 +115,7 @@ pub record OptionValues : Type 0 where
   pub svg : Bool
   pub from : Option Text
   pub to : Option Text
+  pub width : Option Text
   pub chain : Bool
   pub broken : Bool
 
@@ -122,6 +124,7 @@ options_in rows = record {
   svg = is_on (codes "svg") rows;
   from = first_of (codes "from") rows;
   to = first_of (codes "to") rows;
+  width = first_of (codes "width") rows;
   chain = is_on (codes "chain") rows;
   broken = is_on (codes "broken") rows;
 }
@@ -156,6 +159,7 @@ options_of o = record {
   svg = o.svg;
   from = option_map string_bytes o.from;
   to = option_map string_bytes o.to;
+  width = option_map string_bytes o.width;
   chain = o.chain;
   broken = o.broken;
 }

@@ -47,6 +47,8 @@ pub struct Options {
     pub from: Option<String>,
     /// The last moment that `show` draws.
     pub to: Option<String>,
+    /// How many characters the rows of `show` may have.
+    pub width: Option<String>,
     /// `trace` tells the chain.
     pub chain: bool,
     /// `example` prints the report of a broken list.
@@ -101,12 +103,15 @@ fn flag<'a>(alloc: Global, name: &'a str, help: &'a str) -> Arg<'a>
         .help(help)
 }
 
-// An option whose value is a moment.
-fn moment_option<'a>(alloc: Global, name: &'a str, help: &'a str) -> Arg<'a>
+// An option whose value is a number.
+fn number_option<'a>(alloc: Global, name: &'a str, value_name: &'a str, help: &'a str) -> Arg<'a>
     ensures rule { rule_of result ≡ option_rule name.entry.now }
     ensures local { result.global ≡ false }
 {
-    Arg::new(alloc, name).long(name).value_name("M").help(help)
+    Arg::new(alloc, name)
+        .long(name)
+        .value_name(value_name)
+        .help(help)
 }
 
 // Any number of values past the last, of which help says nothing.
@@ -142,15 +147,23 @@ fn show_command<'a>(alloc: Global) -> Result<clap::Command<'a>, AllocError>
         "The schedule or report; standard input where it is left out",
     )?
     .arg(flag(alloc, "svg", "Draws an SVG in place of text"))?
-    .arg(moment_option(
+    .arg(number_option(
         alloc,
         "from",
+        "M",
         "The first moment to draw: 1 to 4294967295; 1 where it is left out",
     ))?
-    .arg(moment_option(
+    .arg(number_option(
         alloc,
         "to",
+        "M",
         "The last moment to draw: the first or a later one; 4294967295 where it is left out",
+    ))?
+    .arg(number_option(
+        alloc,
+        "width",
+        "N",
+        "How many characters the rows of the text may have: 1 to 4294967295; 100 where it is left out",
     ))
 }
 
@@ -342,7 +355,12 @@ fn program_command<'a>(alloc: Global) -> Result<clap::Command<'a>, AllocError>
 fn is_option(name: &str) -> bool
     ensures { result ≡ is_option name.now }
 {
-    name == "svg" || name == "from" || name == "to" || name == "chain" || name == "broken"
+    name == "svg"
+        || name == "from"
+        || name == "to"
+        || name == "width"
+        || name == "chain"
+        || name == "broken"
 }
 
 // Adds the texts that `found` has by the name, if it is that of values. There may be none.
@@ -408,6 +426,7 @@ fn options_of(alloc: Global, found: &ArgMatches<'_>) -> Result<Options, AllocErr
         svg: is_on(found, "svg"),
         from: option_text(alloc, found, "from")?,
         to: option_text(alloc, found, "to")?,
+        width: option_text(alloc, found, "width")?,
         chain: is_on(found, "chain"),
         broken: is_on(found, "broken"),
     })
@@ -421,6 +440,7 @@ fn no_options() -> Options
         svg: false,
         from: None,
         to: None,
+        width: None,
         chain: false,
         broken: false,
     }
@@ -451,7 +471,7 @@ fn command_named(name: &str) -> Command
 }
 
 /// Reads the words that stand after the program's name, by `clap`: `replay [FILE]`, `check [FILE]`,
-/// `show [--svg] [--from M] [--to M] [FILE]`, `trace [--chain] [FILE]`, `example [--broken] [NAME]`,
+/// `show [--svg] [--from M] [--to M] [--width N] [FILE]`, `trace [--chain] [FILE]`, `example [--broken] [NAME]`,
 /// `gen KIND THREADS QUOTA CALLS KEYS SEED`, `run` with the same values and `[LIVES]` after them, or
 /// `serve KIND SEATS QUOTA PORT SESSIONS [FILE]`. Values and options come as they are written; some or all may be
 /// missing, and `gen`, `run` and `serve` may have more values. No word at all gives `replay` without values. A value

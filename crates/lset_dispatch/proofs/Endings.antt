@@ -9,9 +9,9 @@ use Rattle.lset_command.specs.declared.words.Command.{Command}
 use Rattle.lset_command.specs.declared.words.Command.TheVariants.{Serve}
 use Rattle.lset_tools.specs.declared.trouble.ValueName.{ValueName}
 use Rattle.lset_tools.specs.declared.trouble.Trouble.TheVariants.{CannotRead, Bad}
-use Rattle.lset_tools.specs.Moments.{moments_of}
+use Rattle.lset_show.specs.Asking.{asked_of}
 use Rattle.lset_tools.specs.Tools.{Made, Outcome, Delivers, AppendsFront, Ends, line_of, status_of}
-use Rattle.lset_dispatch.specs.Dispatch.{CommandEnds, Does, DoesBy, DoesOn, DoesOnInput, IsHelp, ServesBy, ShowsBy, ShowsWithin}
+use Rattle.lset_dispatch.specs.Dispatch.{CommandEnds, Does, DoesBy, DoesOn, DoesOnInput, IsHelp, ServesBy, ShowsBy, ShowsAsked}
 
 pub ends_with : (output_old output_new faults_old faults_new : Option (List ℕ)) (status : ℕ) (IsMade : Made → Type 0) (made : Made) → IsMade made
     → (outcome : Outcome) × Delivers made output_old output_new outcome × AppendsFront faults_old faults_new (line_of outcome) × (status ≡ status_of outcome)
@@ -70,10 +70,12 @@ pub not_opened : (IsFile : Option (List ℕ) → Type 0) (input old : Option (Li
 not_opened IsFile input old choice path named = subst (λ file. DoesOn file choice IsFile input old old (Err CannotRead)) named (inl (refl, refl))
 
 -- a wrong option of `show` is named
-pub wrong_moment : (options : OptionValues) (input : Option (List ℕ)) (from to : Option Text) (wrong : ValueName) → from ≡ options.from → to ≡ options.to
-    → Err wrong ≡ moments_of from to → ShowsBy options input (Err (Bad wrong))
-wrong_moment options input from to wrong first last is =
-    subst (λ m. ShowsWithin options.svg m input (Err (Bad wrong))) (is ∙ ap (λ f. moments_of f to) first ∙ ap (moments_of options.from) last) refl
+pub wrong_option : (options : OptionValues) (input : Option (List ℕ)) (from to width : Option Text) (wrong : ValueName)
+    → from ≡ options.from → to ≡ options.to → width ≡ options.width
+    → Err wrong ≡ asked_of options.svg from to width → ShowsBy options input (Err (Bad wrong))
+wrong_option options input from to width wrong first last chars is =
+    let asked : Err wrong ≡ asked_of options.svg options.from options.to options.width = cc in
+    subst (λ a. ShowsAsked a input (Err (Bad wrong))) asked refl
 
 -- what goes to the output asks for help
 pub is_help : (k : ErrorKind) → ¬ ((k ≢ kind.DisplayHelp) × (k ≢ kind.DisplayVersion)) → IsHelp k

@@ -8,14 +8,15 @@ use Rattle.clap.specs.declared.error.kind.ErrorKind.TheVariants.{OutOfMemory, Di
 use Rattle.lset_command.specs.CommandLine.{Choice, OptionValues, choice_of, file_by, file_of, listset}
 use Rattle.lset_command.specs.declared.words.Command.{Command}
 use Rattle.lset_command.specs.declared.words.Command.TheVariants.{Replay, Check, Show, Trace, Example, Gen, Run, Serve}
-use Rattle.lset_tools.specs.declared.moments.Moments.{Moments}
 use Rattle.lset_tools.specs.declared.trouble.ValueName.{ValueName}
 use Rattle.lset_tools.specs.declared.trouble.Trouble.TheVariants.{CannotRead, Memory, Bad}
 use Rattle.lset_tools.specs.Tools.{Made, Ends, AppendsFront}
 use Rattle.lset_tools.specs.Replaying.{Replays}
 use Rattle.lset_tools.specs.Checking.{Checks}
 use Rattle.lset_tools.specs.Generating.{Generates}
-use Rattle.lset_tools.specs.Moments.{moments_of}
+use Rattle.lset_drawing.specs.declared.picture.Window.{Window}
+use Rattle.lset_show.specs.declared.asking.Form.{Form}
+use Rattle.lset_show.specs.Asking.{asked_of}
 use Rattle.lset_show.specs.Showing.{Shows}
 use Rattle.lset_trace.specs.Tracing.{Traces}
 use Rattle.lset_examples.specs.Exampling.{Exampled}
@@ -24,13 +25,13 @@ use Rattle.lset_serve.specs.Serving as serve
 
 -- ---- words that are taken
 
--- what `show` makes of its input, within the moments that its options ask for; a wrong option is named
-abbrev pub ShowsWithin : Bool → Result Moments ValueName → Option (List ℕ) → Made → Type 0
-ShowsWithin svg (Ok moments) input made = IfSome input (λ bytes. Shows svg (record { from = moments.from; to = moments.to }) bytes made)
-ShowsWithin svg (Err wrong) input made = made ≡ Err (Bad wrong)
+-- what `show` makes of its input, in the form and within the moments that its options ask for; a wrong option is named
+abbrev pub ShowsAsked : Result (Form × Window) ValueName → Option (List ℕ) → Made → Type 0
+ShowsAsked (Ok asked) input made = IfSome input (λ bytes. Shows asked.0 asked.1 bytes made)
+ShowsAsked (Err wrong) input made = made ≡ Err (Bad wrong)
 
 abbrev pub ShowsBy : OptionValues → Option (List ℕ) → Made → Type 0
-ShowsBy options input made = ShowsWithin options.svg (moments_of options.from options.to) input made
+ShowsBy options input made = ShowsAsked (asked_of options.svg options.from options.to options.width) input made
 
 -- what `serve` makes of its values: with the keys of its input where a file is named, and else on an empty set
 abbrev pub ServesBy : Option Text → List Text → Option (List ℕ) → Option (List ℕ) → Option (List ℕ) → Made → Type 0

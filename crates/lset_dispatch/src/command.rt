@@ -5,12 +5,11 @@ ghost use Rattle.lset_tools.specs.Tools.{Ends};
 ghost use Rattle.lset_dispatch.specs.Dispatch.{CommandEnds, Does, ShowsBy};
 
 use lset_command::{Command, Options, Words};
-use lset_drawing::Window;
 use lset_examples::tool_example;
 use lset_run::tool_run;
 use lset_serve::{tool_serve, tool_serve_with};
-use lset_show::tool_show;
-use lset_tools::{Trouble, deliver, read_moments, tool_check, tool_gen, tool_replay};
+use lset_show::{read_asked, tool_show};
+use lset_tools::{Trouble, deliver, tool_check, tool_gen, tool_replay};
 use lset_trace::tool_trace;
 use std::alloc::Global;
 use std::io::{Read, Write};
@@ -25,7 +24,7 @@ fn text_of(option: &Option<String>) -> Option<&str>
     Some(option.as_ref()?.as_str())
 }
 
-/// Shows the input within the moments that the options ask for, or tells which of them is wrong, and gives the exit status.
+/// Shows the input as the options ask for it, or tells which of them is wrong, and gives the exit status.
 fn show<R: Read, W: Write, F: Write>(
     alloc: Global,
     options: &Options,
@@ -36,14 +35,11 @@ fn show<R: Read, W: Write, F: Write>(
     ensures { Ends (ShowsBy (options_of options.now) (R.remaining input.old))
         (W.contents output.old) (W.contents output.new) (F.contents faults.old) (F.contents faults.new) result }
 {
-    match read_moments(text_of(&options.from), text_of(&options.to)) {
-        Ok(moments) => {
-            let window = Window {
-                from: moments.from,
-                to: moments.to,
-            };
-            tool_show(alloc, options.svg, window, input, output, faults)
-        }
+    let from = text_of(&options.from);
+    let to = text_of(&options.to);
+    let width = text_of(&options.width);
+    match read_asked(options.svg, from, to, width) {
+        Ok((form, window)) => tool_show(alloc, form, window, input, output, faults),
         Err(wrong) => deliver(alloc, Err(Trouble::Bad(wrong)), output, faults),
     }
 }

@@ -1,11 +1,12 @@
 -- How what a tool makes of a text is handed to a caller outside, who gives room for it.
 use Rattle.std.specs.Prelude.{◌≡◌, ◌≢◌, ℕ, ◌≤◌, ◌<◌, ◌⊎◌, Bool, List, ◌++◌, length, drop, None, Result, Ok, Err}
-use Rattle.lset_tools.specs.declared.moments.Moments.{Moments}
+use Rattle.lset_drawing.specs.declared.picture.Window.{Window}
 use Rattle.lset_tools.specs.declared.trouble.Trouble.TheVariants.{CannotRead, Bad}
 use Rattle.lset_tools.specs.declared.trouble.ValueName.{ValueName}
-use Rattle.lset_tools.specs.Moments.{moments_of}
 use Rattle.lset_tools.specs.Tools.{Made}
 use Rattle.lset_tools.specs.Trouble as trouble
+use Rattle.lset_show.specs.declared.asking.Form.{Form}
+use Rattle.lset_show.specs.Asking.{asked_of}
 use Rattle.lset_show.specs.Showing.{Shows}
 
 -- what the program prints of it: the answer's text, or the line about the trouble
@@ -33,15 +34,14 @@ pub record IsHanded (made : Made) (old new : List ℕ) (status count : ℕ) : Ty
 abbrev pub OfText : (List ℕ → Made → Type 0) → List ℕ → Made → Type 0
 OfText Makes text made = Makes text made × (made ≢ Err CannotRead)
 
--- What `show` makes of the bytes within the moments that options ask for, as in the program (`ShowsWithin` of lset_dispatch); a wrong
--- option is named.
-abbrev pub ShowsWithin : Bool → Result Moments ValueName → List ℕ → Made → Type 0
-ShowsWithin svg (Ok moments) bytes made = Shows svg (record { from = moments.from; to = moments.to }) bytes made
-ShowsWithin svg (Err wrong) bytes made = made ≡ Err (Bad wrong)
+-- What `show` makes of the bytes as options ask for it, as in the program (`ShowsAsked` of lset_dispatch); a wrong option is named.
+abbrev pub ShowsAsked : Result (Form × Window) ValueName → List ℕ → Made → Type 0
+ShowsAsked (Ok asked) bytes made = Shows asked.0 asked.1 bytes made
+ShowsAsked (Err wrong) bytes made = made ≡ Err (Bad wrong)
 
--- Here no option is given.
+-- Here no option but `--svg` is given.
 abbrev pub ShowsAll : Bool → List ℕ → Made → Type 0
-ShowsAll svg bytes made = ShowsWithin svg (moments_of None None) bytes made
+ShowsAll svg bytes made = ShowsAsked (asked_of svg None None None) bytes made
 
 -- A tool ends so outside: what it made is handed over.
 abbrev pub Hands : (Made → Type 0) → List ℕ → List ℕ → ℕ → ℕ → Type 0

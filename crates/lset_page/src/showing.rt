@@ -3,21 +3,16 @@ ghost use Rattle.lset_tools.specs.Tools.{view};
 ghost use Rattle.lset_tools.specs.declared.trouble.Trouble.TheVariants.{CannotRead};
 ghost use Rattle.lset_page.specs.Page.{ShowsAll};
 
-use lset_drawing::Window;
-use lset_show::shown;
-use lset_tools::{Answer, Trouble, read_moments};
+use lset_show::{read_asked, shown};
+use lset_tools::{Answer, Trouble};
 use std::alloc::Global;
 
-/// The picture of the schedule or the report whose text the bytes are, as text or as an SVG (`svg`), within the moments for
-/// which the program asks where it is given no option. The errors are those of `shown`.
+/// The picture of the schedule or the report whose text the bytes are, as text or as an SVG (`svg`), within the moments and
+/// the width for which the program asks where it is given no option. The errors are those of `shown`.
 pub fn shown_whole(alloc: Global, bytes: &[u8], svg: bool) -> Result<Answer, Trouble>
     ensures shows { ShowsAll svg bytes.now (view result) }
     ensures read { IfErr result (λ t. t ≢ CannotRead) }
 {
-    let moments = read_moments(None, None)?;
-    let window = Window {
-        from: moments.from,
-        to: moments.to,
-    };
-    shown(alloc, bytes, svg, window)
+    let (form, window) = read_asked(svg, None, None, None)?;
+    shown(alloc, bytes, form, window)
 }

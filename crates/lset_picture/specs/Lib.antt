@@ -1,3 +1,4 @@
 pub mod Cells
 pub mod Rows
+pub mod Widths
 pub mod PictureTexts

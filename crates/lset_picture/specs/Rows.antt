@@ -35,8 +35,13 @@ lane_lines calls columns from (suc left) thread =
 abbrev pub set_line : List ColumnValue → List ℕ
 set_line columns = row_line (codes "set") (set_cells columns)
 
-abbrev pub set_lines : DrawingValue → List (List ℕ)
-set_lines d = if d.known then set_line d.columns ∷ [] else []
+abbrev pub set_lines : List ColumnValue → Bool → List (List ℕ)
+set_lines columns known = if known then set_line columns ∷ [] else []
+
+-- the rows of some columns, the first of them not before `from`
+abbrev pub rows_at : PictureValue → List ColumnValue → ℕ → Bool → List (List ℕ)
+rows_at p columns from known =
+    moment_line columns ∷ (lane_lines p.history.calls columns from p.history.opening.threads 0 ++ set_lines columns known)
 
 abbrev pub row_lines : PictureValue → DrawingValue → List (List ℕ)
-row_lines p d = moment_line d.columns ∷ (lane_lines p.history.calls d.columns d.from p.history.opening.threads 0 ++ set_lines d)
+row_lines p d = rows_at p d.columns d.from d.known

@@ -4,6 +4,8 @@
 
 mod bars;
 mod rows;
+mod widths;
 mod writing;
 
+pub use widths::fitted_window;
 pub use writing::write_picture;

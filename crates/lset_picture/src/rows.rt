@@ -38,7 +38,7 @@ fn is_drawn_before(calls: &[CallRecord], thread: u32, moment: u32) -> bool
     false
 }
 
-fn lane_line(
+pub fn lane_line(
     alloc: Global,
     calls: &[CallRecord],
     columns: &[Column],
@@ -53,7 +53,7 @@ fn lane_line(
     row_line(alloc, &label, &cells)
 }
 
-fn moment_line(alloc: Global, columns: &[Column]) -> Result<String, AllocError>
+pub fn moment_line(alloc: Global, columns: &[Column]) -> Result<String, AllocError>
     ensures { IfOk result (λ s. string_bytes s ≡ moment_line (map column_view columns.now)) }
 {
     let mut cells = String::new(alloc);
@@ -65,7 +65,7 @@ fn moment_line(alloc: Global, columns: &[Column]) -> Result<String, AllocError>
     row_line(alloc, "moment", &cells)
 }
 
-fn set_line(alloc: Global, columns: &[Column]) -> Result<String, AllocError>
+pub fn set_line(alloc: Global, columns: &[Column]) -> Result<String, AllocError>
     ensures { IfOk result (λ s. string_bytes s ≡ set_line (map column_view columns.now)) }
 {
     let mut cells = String::new(alloc);

@@ -1,5 +1,5 @@
 -- The picture of a schedule, from its replay; and of the bytes that were read.
-use Rattle.std.proofs.Common.{◌≡◌, ℕ, Bool, List, Option, Some, None, refl, ap, ◌∙◌, subst}
+use Rattle.std.proofs.Common.{◌≡◌, ℕ, List, Option, Some, None, refl, ap, ◌∙◌, subst}
 use Rattle.std.specs.List.{sum_by}
 use Rattle.std.specs.Option.{IfSome}
 use Rattle.lset_words.specs.declared.history.Point.{Point}
@@ -12,6 +12,7 @@ use Rattle.lset_replay.specs.Reports.{IsReplay, IsExplained}
 use Rattle.lset_drawing.specs.declared.picture.Window.{Window}
 use Rattle.lset_drawing.specs.Pictures.{PictureValue}
 use Rattle.lset_tools.specs.Tools.{Made}
+use Rattle.lset_show.specs.declared.asking.Form.{Form}
 use Rattle.lset_show.specs.Bars.{BarsAreApart}
 use Rattle.lset_show.specs.ReportPictures.{report_in}
 use Rattle.lset_show.specs.SchedulePictures.{IsPictureOfSchedule}
@@ -49,9 +50,9 @@ schedule_picture p r points events replay explained are counted apart =
     }
 
 -- what is made of the bytes that were read is made of those of the input
-pub shown_of : (remaining : Option (List ℕ)) (svg : Bool) (window : Window) (items read : List ℕ) (made : Made)
-    → read ≡ items → IfSome remaining (λ bytes. items ≡ bytes) → Shows svg window read made
-    → IfSome remaining (λ bytes. Shows svg window bytes made)
-shown_of None svg window items read made e is h = tt
-shown_of (Some bytes) svg window items read made e is h =
-    let S : List ℕ → Type 0 = λ bs. Shows svg window bs made in subst S (e ∙ is) h
+pub shown_of : (remaining : Option (List ℕ)) (form : Form) (window : Window) (items read : List ℕ) (made : Made)
+    → read ≡ items → IfSome remaining (λ bytes. items ≡ bytes) → Shows form window read made
+    → IfSome remaining (λ bytes. Shows form window bytes made)
+shown_of None form window items read made e is h = tt
+shown_of (Some bytes) form window items read made e is h =
+    let S : List ℕ → Type 0 = λ bs. Shows form window bs made in subst S (e ∙ is) h

@@ -1,3 +1,4 @@
+pub mod Asking
 pub mod Bars
 pub mod ReportPictures
 pub mod SchedulePictures

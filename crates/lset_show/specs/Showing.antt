@@ -1,5 +1,5 @@
 -- What `show` makes of an input.
-use Rattle.std.specs.Prelude.{◌≡◌, ◌⊎◌, ◌==◌, ℕ, Bool, true, false, ◌||◌, List, Option, Some, None, Ok, Err, if◌then◌else◌}
+use Rattle.std.specs.Prelude.{◌≡◌, ◌⊎◌, ◌==◌, ℕ, Bool, true, false, ◌||◌, List, Option, Some, None, Ok, Err}
 use Rattle.std.specs.List.{starts_with}
 use Rattle.lset_schedule.specs.Plan.{Plan, IsSchedule, schedule_text}
 use Rattle.lset_schedule.specs.ScheduleReading as schedule
@@ -13,11 +13,14 @@ use Rattle.lset_text.specs.declared.words.Version.TheVariants.{One, Two}
 use Rattle.lset_drawing.specs.declared.picture.Window.{Window}
 use Rattle.lset_drawing.specs.Pictures.{PictureValue}
 use Rattle.lset_picture.specs.PictureTexts.{picture_text}
+use Rattle.lset_picture.specs.Widths.{IsFitted}
 use Rattle.lset_svg.specs.Svg.{svg_text}
 use Rattle.lset_tools.specs.declared.trouble.Trouble.{Trouble}
 use Rattle.lset_tools.specs.Tools.{Made, IsTaken, IsInputTrouble}
 use Rattle.lset_tools.specs.Checking as checking
 use Rattle.lset_tools.specs.Replaying as replaying
+use Rattle.lset_show.specs.declared.asking.Form.{Form}
+use Rattle.lset_show.specs.declared.asking.Form.TheVariants.{Text, Svg}
 use Rattle.lset_show.specs.ReportPictures.{IsPictureOfReport}
 use Rattle.lset_show.specs.SchedulePictures.{IsPictureOfSchedule}
 
@@ -43,9 +46,10 @@ IsFirstFault bytes t =
     (has_report_title bytes ≡ true) × checking.IsFirstFault (report.reading bytes) t
     ⊎ (has_report_title bytes ≡ false) × replaying.IsFirstFault (schedule.reading bytes) t
 
--- the text of a picture, or its SVG
-abbrev pub drawn : Bool → PictureValue → Window → List ℕ
-drawn svg v window = if svg then svg_text v window else picture_text v window
+-- the text of a picture, of the window that fits its width, or its SVG
+abbrev pub Draws : Form → PictureValue → Window → List ℕ → Type 0
+Draws (Text width) v window text = (fitted : Window) × IsFitted width v window fitted × (text ≡ picture_text v fitted)
+Draws Svg v window text = text ≡ svg_text v window
 
 -- 1 where a refusal is told
 abbrev pub status_of : Option Refusal → ℕ
@@ -54,8 +58,8 @@ status_of (Some refusal) = 1
 
 -- what is made of the bytes of an input: the picture of the schedule or the report whose text they are, or a trouble with the
 -- input, or its first fault
-abbrev pub Shows : Bool → Window → List ℕ → Made → Type 0
-Shows svg window bytes (Ok answer) =
+abbrev pub Shows : Form → Window → List ℕ → Made → Type 0
+Shows form window bytes (Ok answer) =
     IsTaken bytes × (v : PictureValue) × (ShowsSchedule bytes v ⊎ ShowsReport bytes v)
-    × (answer ≡ record { text = drawn svg v window; status = status_of v.refusal })
-Shows svg window bytes (Err t) = IsInputTrouble bytes t ⊎ (IsTaken bytes × IsFirstFault bytes t)
+    × Draws form v window answer.text × (answer.status ≡ status_of v.refusal)
+Shows form window bytes (Err t) = IsInputTrouble bytes t ⊎ (IsTaken bytes × IsFirstFault bytes t)

@@ -2,11 +2,13 @@
 //! in the order, and of a refused order why.
 #![tactic(auto)]
 
+mod asking;
 mod bars;
 mod reports;
 mod schedules;
 mod showing;
 
+pub use asking::{Form, read_asked};
 pub use reports::picture_of_report;
 pub use schedules::picture_of_replay;
 pub use showing::{shown, tool_show};

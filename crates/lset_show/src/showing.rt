@@ -7,11 +7,11 @@ ghost use Rattle.lset_tools.specs.Tools as tools;
 ghost use Rattle.lset_tools.specs.Checking as checking;
 ghost use Rattle.lset_tools.specs.Replaying as replaying;
 ghost use Rattle.lset_tools.specs.declared.trouble.Trouble.TheVariants.{Memory};
-ghost use Rattle.lset_show.specs.Showing.{ShowsSchedule, ShowsReport, Shows, IsFirstFault, has_report_title, drawn, status_of};
+ghost use Rattle.lset_show.specs.Showing.{ShowsSchedule, ShowsReport, Shows, IsFirstFault, has_report_title, Draws, status_of};
 
-use crate::{picture_of_replay, picture_of_report};
+use crate::{Form, picture_of_replay, picture_of_report};
 use lset_drawing::{Picture, Window};
-use lset_picture::write_picture;
+use lset_picture::{fitted_window, write_picture};
 use lset_report::read_report;
 use lset_schedule::read_schedule;
 use lset_svg::write_svg;
@@ -63,19 +63,21 @@ fn picture_of(alloc: Global, bytes: &[u8]) -> Result<Picture, Trouble>
     }
 }
 
-/// The text of the picture, or its SVG.
+/// The text of the picture, of the window that fits its width, or its SVG.
 fn text_of(
     alloc: Global,
     picture: &Picture,
-    svg: bool,
+    form: Form,
     window: Window,
 ) -> Result<Vec<u8>, AllocError>
-    ensures { IfOk result (λ v. v.items ≡ drawn svg (view picture.now) window) }
+    ensures { IfOk result (λ v. Draws form (view picture.now) window v.items) }
 {
-    if svg {
-        write_svg(alloc, picture, window)
-    } else {
-        write_picture(alloc, picture, window)
+    match form {
+        Form::Text(width) => {
+            let fitted = fitted_window(alloc, picture, window, width)?;
+            write_picture(alloc, picture, fitted)
+        }
+        Form::Svg => write_svg(alloc, picture, window),
     }
 }
 
@@ -90,13 +92,13 @@ fn status_of(picture: &Picture) -> u8
 }
 
 /// The picture of the schedule or the report whose text the bytes are, as text or as an SVG.
-fn answer_of(alloc: Global, bytes: &[u8], svg: bool, window: Window) -> Result<Answer, Trouble>
+fn answer_of(alloc: Global, bytes: &[u8], form: Form, window: Window) -> Result<Answer, Trouble>
     requires { IsTaken bytes.now }
-    ensures shows { Shows svg window bytes.now (tools.view result) }
+    ensures shows { Shows form window bytes.now (tools.view result) }
     ensures trouble { IfErr result (λ t. (t ≡ Memory) ⊎ IsFirstFault bytes.now t) }
 {
     let picture = picture_of(alloc, bytes)?;
-    let text = text_of(alloc, &picture, svg, window)?;
+    let text = text_of(alloc, &picture, form, window)?;
     Ok(Answer {
         text,
         status: status_of(&picture),
@@ -104,49 +106,49 @@ fn answer_of(alloc: Global, bytes: &[u8], svg: bool, window: Window) -> Result<A
 }
 
 /// The answer of `show` on an input of these bytes: the picture of the schedule or the report whose text they are, of the
-/// moments in `window`, as text or as an SVG (`svg`); its status is 1 where the order of the report is refused, and else 0.
+/// moments in `window`, in that form; its status is 1 where the order of the report is refused, and else 0.
 ///
 /// The error is `TooLong` where there are more than `LONGEST` bytes. A text with the first line of a report, of either
 /// version, that is none has the first fault of `read_report`; any other text that is no schedule has that of
 /// `read_schedule`, and a schedule that is not replayed that of `replay`. `Memory` where memory was refused.
-pub fn shown(alloc: Global, bytes: &[u8], svg: bool, window: Window) -> Result<Answer, Trouble>
-    ensures shows { Shows svg window bytes.now (tools.view result) }
+pub fn shown(alloc: Global, bytes: &[u8], form: Form, window: Window) -> Result<Answer, Trouble>
+    ensures shows { Shows form window bytes.now (tools.view result) }
     // Bytes that are here can be read.
     ensures read { IfErr result (λ t. t ≢ Trouble.CannotRead) }
 {
     if bytes.len() > LONGEST {
         return Err(Trouble::TooLong);
     }
-    answer_of(alloc, bytes, svg, window)
+    answer_of(alloc, bytes, form, window)
 }
 
 fn drawn_of<R: Read>(
     alloc: Global,
-    svg: bool,
+    form: Form,
     window: Window,
     input: &mut R,
 ) -> Result<Answer, Trouble>
-    ensures { IfSome (R.remaining input.old) (λ bytes. Shows svg window bytes (tools.view result)) }
+    ensures { IfSome (R.remaining input.old) (λ bytes. Shows form window bytes (tools.view result)) }
 {
     let bytes = input_of(alloc, input)?;
-    shown(alloc, &bytes, svg, window)
+    shown(alloc, &bytes, form, window)
 }
 
-/// Draws the schedule or the report on the input: writes its picture on the output, as text or as an SVG (`svg`), of the
+/// Draws the schedule or the report on the input: writes its picture on the output, in that form, of the
 /// moments in the window, or one line about what is wrong on `faults` and nothing on the output. The first line of the
 /// input says which it is. Gives the exit status: 0 where the picture was written, 1 where it was written and tells
 /// why the order is refused, 3 where memory was refused, else 1. A failing write on `faults` leaves the status as it is.
 pub fn tool_show<R: Read, W: Write, F: Write>(
     alloc: Global,
-    svg: bool,
+    form: Form,
     window: Window,
     input: &mut R,
     output: &mut W,
     faults: &mut F,
 ) -> u8
-    ensures { Ends (λ made. IfSome (R.remaining input.old) (λ bytes. Shows svg window bytes made))
+    ensures { Ends (λ made. IfSome (R.remaining input.old) (λ bytes. Shows form window bytes made))
         (W.contents output.old) (W.contents output.new) (F.contents faults.old) (F.contents faults.new) result }
 {
-    let answer = drawn_of(alloc, svg, window, input);
+    let answer = drawn_of(alloc, form, window, input);
     deliver(alloc, answer, output, faults)
 }

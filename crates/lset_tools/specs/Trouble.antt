@@ -126,6 +126,7 @@ value_word value.Sessions = codes "SESSIONS"
 value_word value.Name = codes "NAME"
 value_word value.From = codes "FROM"
 value_word value.To = codes "TO"
+value_word value.Width = codes "WIDTH"
 
 abbrev pub work_name : WorkName → List ℕ
 work_name work.Programs = codes "Programs"

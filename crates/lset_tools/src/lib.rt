@@ -14,7 +14,7 @@ mod values;
 pub use answer::{Answer, deliver, line_of_trouble};
 pub use checking::{checked, tool_check};
 pub use generating::tool_gen;
-pub use moments::{MOST_MOMENT, Moments, read_moments};
+pub use moments::{DEFAULT_WIDTH, MOST_MOMENT, MOST_WIDTH, Moments, read_moments, read_width};
 pub use replaying::{replayed, tool_replay};
 pub use streams::{InputFault, LONGEST, input_of, put};
 pub use trouble::{KeyCause, LineCause, ServeName, Trouble, ValueName, WorkName};

@@ -1,11 +1,17 @@
 ghost use Rattle.std.specs.Prelude.{◌≡◌, ◌≤◌, IfOk, IfSome, option_map};
-ghost use Rattle.lset_tools.specs.Moments.{moment_of, moments_of};
+ghost use Rattle.lset_tools.specs.Moments.{moment_of, moments_of, width_of};
 
 use crate::trouble::ValueName;
 use lset_text::number;
 
 /// The greatest moment that an option may name.
 pub const MOST_MOMENT: u32 = u32::MAX;
+
+/// The width of a text picture where no option names one.
+pub const DEFAULT_WIDTH: u32 = 100;
+
+/// The greatest width that an option may name.
+pub const MOST_WIDTH: u32 = u32::MAX;
 
 /// The moments from one to another, which is not before it.
 #[derive(Clone, Copy, Debug, PartialEq, Eq)]
@@ -39,4 +45,15 @@ pub fn read_moments(from: Option<&str>, to: Option<&str>) -> Result<Moments, Val
     let from = moment(from, 1, 1).ok_or(ValueName::From)?;
     let to = moment(to, from, MOST_MOMENT).ok_or(ValueName::To)?;
     Ok(Moments { from, to })
+}
+
+/// The width that the option `--width` asks for, whose text this is: a decimal without leading zeros, 1 to `MOST_WIDTH`, and
+/// `DEFAULT_WIDTH` where it is not given. The error names the option.
+pub fn read_width(text: Option<&str>) -> Result<u32, ValueName>
+    ensures { result ≡ width_of (option_map (λ t. t.now) text.entry) }
+{
+    match text {
+        Some(text) => number(text.as_bytes(), 1, MOST_WIDTH).ok_or(ValueName::Width),
+        None => Ok(DEFAULT_WIDTH),
+    }
 }

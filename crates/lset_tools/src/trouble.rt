@@ -56,6 +56,7 @@ pub enum ValueName {
     Name,
     From,
     To,
+    Width,
 }
 
 /// Why programs are not run to their ends. Want of memory is a trouble of its own.
@@ -247,6 +248,7 @@ impl ValueName {
             ValueName::Name => "NAME",
             ValueName::From => "FROM",
             ValueName::To => "TO",
+            ValueName::Width => "WIDTH",
         }
     }
 }

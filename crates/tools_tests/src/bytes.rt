@@ -3,7 +3,7 @@ use lset_report::ReportCause;
 use lset_schedule::Cause;
 use lset_tools::{
     Answer, LineCause, Moments, Trouble, ValueName, checked, line_of_trouble, read_moments,
-    replayed,
+    read_width, replayed,
 };
 use std::test::Fail;
 
@@ -38,6 +38,7 @@ fn each_trouble_has_its_line(rt: HostRuntime) -> Result<(), Fail> {
         (Trouble::Bad(ValueName::Name), "listset: bad NAME\n"),
         (Trouble::Bad(ValueName::From), "listset: bad FROM\n"),
         (Trouble::Bad(ValueName::To), "listset: bad TO\n"),
+        (Trouble::Bad(ValueName::Width), "listset: bad WIDTH\n"),
     ];
     for (trouble, line) in rows {
         let text = line_of_trouble(rt.alloc(), trouble)?;
@@ -69,5 +70,20 @@ fn options_give_moments(rt: HostRuntime) {
     for (from, to, wanted) in rows {
         let moments = wanted.map(|(from, to)| Moments { from, to });
         assert!(rt; read_moments(from, to) == moments);
+    }
+}
+
+#[test]
+fn an_option_gives_a_width(rt: HostRuntime) {
+    let rows = [
+        (None, Ok(100)),
+        (Some("1"), Ok(1)),
+        (Some("4294967295"), Ok(u32::MAX)),
+        (Some("0"), Err(ValueName::Width)),
+        (Some("wide"), Err(ValueName::Width)),
+        (Some("4294967296"), Err(ValueName::Width)),
+    ];
+    for (text, width) in rows {
+        assert!(rt; read_width(text) == width);
     }
 }

@@ -5,7 +5,7 @@ use std::test::Fail;
 
 #[test]
 fn words_give_a_command_and_its_values(rt: HostRuntime) -> Result<(), Fail> {
-    let rows: [(&[&str], Command, &str); 19] = [
+    let rows: [(&[&str], Command, &str); 20] = [
         (&[], Command::Replay, ""),
         (&["replay"], Command::Replay, ""),
         (&["replay", "a.schedule"], Command::Replay, " a.schedule"),
@@ -37,6 +37,7 @@ fn words_give_a_command_and_its_values(rt: HostRuntime) -> Result<(), Fail> {
         (&["show"], Command::Show, ""),
         (&["show", "--svg", "a.report"], Command::Show, " a.report"),
         (&["show", "a", "--from", "3", "--to=9"], Command::Show, " a"),
+        (&["show", "--width", "80", "a"], Command::Show, " a"),
         (&["trace", "a.schedule"], Command::Trace, " a.schedule"),
         (&["trace", "--chain", "--", "-a"], Command::Trace, " -a"),
         (&["example"], Command::Example, ""),
@@ -74,12 +75,15 @@ fn told(alloc: Global, options: &Options) -> Result<String, Fail> {
     if let Some(to) = &options.to {
         write!(text, "to {to} ")?;
     }
+    if let Some(width) = &options.width {
+        write!(text, "width {width} ")?;
+    }
     Ok(text)
 }
 
 #[test]
 fn words_give_flags_and_options(rt: HostRuntime) -> Result<(), Fail> {
-    let rows: [(&[&str], &str); 10] = [
+    let rows: [(&[&str], &str); 11] = [
         (&[], ""),
         (&["replay", "svg"], ""),
         (&["show"], ""),
@@ -90,6 +94,7 @@ fn words_give_flags_and_options(rt: HostRuntime) -> Result<(), Fail> {
             &["show", "--svg", "--to", "9", "--from", "8"],
             "svg from 8 to 9 ",
         ),
+        (&["show", "--width", "80", "--to", "9"], "to 9 width 80 "),
         (&["trace", "a", "--chain"], "chain "),
         (&["example", "--broken", "stale-pred"], "broken "),
         (&["example", "--", "--broken"], ""),

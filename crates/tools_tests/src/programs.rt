@@ -11,7 +11,7 @@ const FULL: &str =
 
 #[test]
 fn each_command_is_done_on_the_standard_input(rt: HostRuntime) -> Result<(), Fail> {
-    let rows: [(&[&str], &str, (u8, &str, &str)); 21] = [
+    let rows: [(&[&str], &str, (u8, &str, &str)); 23] = [
         (&[], ONE_ADD, (0, ONE_ADD_REPORT, "")),
         (&["replay"], ONE_ADD, (0, ONE_ADD_REPORT, "")),
         (
@@ -84,6 +84,16 @@ fn each_command_is_done_on_the_standard_input(rt: HostRuntime) -> Result<(), Fai
             &["show", "--from", "9", "--to", "8"],
             ONE_ADD,
             (2, "", "listset: bad TO\n"),
+        ),
+        (
+            &["show", "--width", "0"],
+            ONE_ADD,
+            (2, "", "listset: bad WIDTH\n"),
+        ),
+        (
+            &["show", "--svg", "--width", "wide"],
+            ONE_ADD,
+            (2, "", "listset: bad WIDTH\n"),
         ),
     ];
     for (words, input, wanted) in rows {
