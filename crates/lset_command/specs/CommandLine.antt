@@ -77,11 +77,11 @@ serve_app =
     (new_rule (codes "FILE")))
     rule_past_the_last
 
--- the program; the words begin after its name
+-- the program, which has a version; the words begin after its name
 abbrev pub listset : App
 listset =
     with_subcommand (with_subcommand (with_subcommand (with_subcommand
-    (with_subcommand (with_subcommand (with_subcommand (with_subcommand (on_top (λ s. record s { no_binary_name = true }) (new_app (codes "listset")))
+    (with_subcommand (with_subcommand (with_subcommand (with_subcommand (on_top (λ s. record s { no_binary_name = true; has_version = true }) (new_app (codes "listset")))
     (file_app (codes "replay")).top)
     (file_app (codes "check")).top)
     show_app.top)

@@ -3,4 +3,4 @@
 
 mod words;
 
-pub use words::{Command, Options, Words, is_out_of_memory, tool_words};
+pub use words::{Command, Options, VERSION, Words, is_out_of_memory, tool_words};

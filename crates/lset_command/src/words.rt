@@ -12,6 +12,9 @@ use clap::error::ErrorKind;
 use clap::{Arg, ArgAction, ArgMatches, Error};
 use std::alloc::{AllocError, Global};
 
+/// What `--version` tells behind the program's name: its version, and in a line below the kit with which it is proved.
+pub const VERSION: &str = "0.1.0\nrattle-kit-13f logic dac8208d650f15bf";
+
 const KIND_HELP: &str = "The list: coarse, fine, optimistic, lazy or lock-free";
 
 // Where FILE stands among the values of `serve`, counted from 0.
@@ -339,6 +342,7 @@ fn program_command<'a>(alloc: Global) -> Result<clap::Command<'a>, AllocError>
         .about(
             "Replays, checks, draws and generates recorded schedules of concurrent list sets, and runs and serves such sets",
         )
+        .version(VERSION)
         .no_binary_name(true)
         .bin_name("listset")?
         .subcommand(replay_command(alloc)?)?
@@ -477,8 +481,8 @@ fn command_named(name: &str) -> Command
 /// missing, and `gen`, `run` and `serve` may have more values. No word at all gives `replay` without values. A value
 /// that begins with `-` needs a word `--` before it.
 ///
-/// The error has the text for the user: the help, where words ask for it (`exit_code` 0), or what is wrong
-/// with the words (`exit_code` 2). It may also say that memory was refused: `is_out_of_memory`.
+/// The error has the text for the user: the help or the version, where words ask for it (`exit_code` 0), or what is
+/// wrong with the words (`exit_code` 2). It may also say that memory was refused: `is_out_of_memory`.
 pub fn tool_words<'a>(alloc: Global, words: &'a [&'a str]) -> Result<Words, Error>
     ensures taken { IfOk result (λ w. choice_in w ≡ choice_of (subcommand_of listset (texts words.entry.now))) }
     // clap's definition refuses no words that are taken, and has the kind of each error but want of memory

@@ -70,7 +70,7 @@ CommandEnds IsMade output_old output_new faults_old faults_new status =
 
 -- ---- words that are not taken
 
--- the words ask for help; the program has no version to ask for
+-- the words ask for help, or for the version
 abbrev pub IsHelp : ErrorKind → Type 0
 IsHelp kind = (kind ≡ DisplayHelp) ⊎ (kind ≡ DisplayVersion)
 
@@ -78,7 +78,7 @@ IsHelp kind = (kind ≡ DisplayHelp) ⊎ (kind ≡ DisplayVersion)
 abbrev pub IsMistake : ErrorKind → Type 0
 IsMistake kind = (kind ≢ OutOfMemory) × (kind ≢ DisplayHelp) × (kind ≢ DisplayVersion)
 
--- what is made of words that ask for help: a text, and status 0; or, whatever the words are, memory is refused
+-- what is made of words that ask for that: a text, and status 0; or, whatever the words are, memory is refused
 abbrev pub Helps : ErrorKind → Made → Type 0
 Helps kind made = (made ≡ Err Memory) ⊎ (IsHelp kind × (text : List ℕ) × (made ≡ Ok (record { text = text; status = 0 })))
 

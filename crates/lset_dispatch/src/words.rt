@@ -17,9 +17,9 @@ use std::sync::Wait;
 use std::thread::Threads;
 use std::time::Clock;
 
-/// Ends a run whose words are not taken: writes the help that was asked for on `output`, status 0, or what is wrong with
-/// the words on `faults`, status 2. Where memory was refused, before or now, it writes the line about that on `faults`,
-/// status 3. A help that is not written whole is a failing write, status 1.
+/// Ends a run whose words are not taken: writes the help or the version that was asked for on `output`, status 0, or what
+/// is wrong with the words on `faults`, status 2. Where memory was refused, before or now, it writes the line about that on
+/// `faults`, status 3. A help that is not written whole is a failing write, status 1.
 pub fn decline<W: Write, F: Write>(
     alloc: Global,
     error: &Error,

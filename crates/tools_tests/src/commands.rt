@@ -1,5 +1,5 @@
 use clap::error::ErrorKind;
-use lset_command::{Command, Options, is_out_of_memory, tool_words};
+use lset_command::{Command, Options, VERSION, is_out_of_memory, tool_words};
 use std::alloc::{AllocError, Global};
 use std::test::Fail;
 
@@ -131,7 +131,7 @@ fn other_words_are_refused(rt: HostRuntime) -> Result<(), Fail> {
         (&["replay", "a", "b"], ErrorKind::UnknownArgument),
         (&["check", "a", "b"], ErrorKind::UnknownArgument),
         (&["gen", "-1"], ErrorKind::UnknownArgument),
-        (&["--version"], ErrorKind::UnknownArgument),
+        (&["replay", "--version"], ErrorKind::UnknownArgument),
         (&["--svg"], ErrorKind::UnknownArgument),
         (&["replay", "--chain"], ErrorKind::UnknownArgument),
         (&["check", "--from", "1"], ErrorKind::UnknownArgument),
@@ -244,6 +244,23 @@ fn help_names_the_commands_and_their_values(rt: HostRuntime) -> Result<(), Fail>
             Err(error) => {
                 let text = format!(in rt.alloc(); "{error}")?;
                 assert!(rt; text.as_str().contains(line), "{text}");
+            }
+        }
+    }
+    Ok(())
+}
+
+#[test]
+fn the_version_is_told_with_the_line_of_the_kit(rt: HostRuntime) -> Result<(), Fail> {
+    for word in ["--version", "-V"] {
+        match tool_words(rt.alloc(), &[word]) {
+            Ok(_) => assert!(rt; false, "{word} is taken"),
+            Err(error) => {
+                assert_eq!(rt; error.kind(), ErrorKind::DisplayVersion);
+                assert_eq!(rt;
+                    format!(in rt.alloc(); "{error}")?,
+                    format!(in rt.alloc(); "listset {VERSION}\n")?
+                );
             }
         }
     }
