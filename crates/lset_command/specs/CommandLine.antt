@@ -1,6 +1,6 @@
 -- The words that the program takes: its commands and their values, as a simple command of clap, whose
 -- definitions say which values the words give.
-use Rattle.std.specs.Prelude.{List, [], map, codes, Bool, true, false, ◌||◌, Option, Some, None, option_map, unwrap_or, slice_get, string_bytes, if◌then◌else◌}
+use Rattle.std.specs.Prelude.{List, [], map, codes, Bool, true, false, ◌||◌, Option, Some, None, option_map, unwrap_or, slice_get, string_bytes, if◌then◌else◌, option_and_then}
 use Rattle.std.specs.List.{flat_map}
 use Rattle.std.specs.Option.{option_map_or}
 use Rattle.std.specs.Str.{bytes_eq}
@@ -170,8 +170,7 @@ choice_in w = record { command = w.command; values = map string_bytes w.values.i
 abbrev pub first_value : Choice → Option Text
 first_value choice = slice_get choice.values 0
 
--- the path of the file that a command reads: its first value, or the sixth of `serve`, if it has one; the commands that take no
--- file read none
+-- the word for what a command reads: its first value, or the sixth of `serve`, if it has one; the other commands read nothing
 abbrev pub file_by : Command → List Text → Option Text
 file_by Replay values = slice_get values 0
 file_by Check values = slice_get values 0
@@ -184,3 +183,10 @@ file_by Serve values = slice_get values 5
 
 abbrev pub file_of : Choice → Option Text
 file_of choice = file_by choice.command choice.values
+
+-- the path of the file of such a word; `-` is the word for the standard input, and no path
+abbrev pub path_in : Text → Option Text
+path_in word = if bytes_eq word (codes "-") then None else Some word
+
+abbrev pub path_of : Choice → Option Text
+path_of choice = option_and_then path_in (file_of choice)

@@ -4,7 +4,7 @@ ghost use Rattle.clap.specs.Words.{rows_of, rule_of, subcommand_of};
 ghost use Rattle.clap.specs.Walk.{first_of, texts};
 ghost use Rattle.clap.specs.declared.Command.TheViews.{out-Command};
 ghost use Rattle.clap.specs.declared.error.kind.ErrorKind.TheVariants.{OutOfMemory};
-ghost use Rattle.lset_command.specs.CommandLine.{choice_in, choice_of, command_named, file_app, file_of, first_value, six_values, serve_app};
+ghost use Rattle.lset_command.specs.CommandLine.{choice_in, choice_of, command_named, file_app, file_of, first_value, path_of, six_values, serve_app};
 ghost use Rattle.lset_command.specs.CommandLine.{example_app, flag_rule, gen_app, option_rule, run_app, show_app, trace_app};
 ghost use Rattle.lset_command.specs.CommandLine.{is_on, is_option, listset, options_in, options_of, rule_past_the_last, values_by, values_in};
 
@@ -74,9 +74,9 @@ impl Words {
         Some(self.values.first()?.as_str())
     }
 
-    /// The path of the file that the command reads, where the words name one: the first value of `replay`, `check`,
-    /// `show` and `trace`, which read the standard input without one, and the sixth of `serve`, which reads nothing
-    /// without one. The others read nothing.
+    /// The word for what the command reads, where there is one: the first value of `replay`, `check`, `show` and `trace`,
+    /// which read the standard input without one, and the sixth of `serve`, which reads nothing without one. The others
+    /// read nothing.
     pub fn file(&self) -> Option<&str>
         ensures { option_map (λ path. path.now) result ≡ file_of (choice_in self.now) }
     {
@@ -85,6 +85,15 @@ impl Words {
             Command::Serve => Some(self.values.get(SERVE_FILE)?.as_str()),
             Command::Example | Command::Gen | Command::Run => None,
         }
+    }
+
+    /// The path of the file that the command reads, where it reads one. The word `-` is that for the standard input; a
+    /// file of that name has the path `./-`.
+    pub fn path(&self) -> Option<&str>
+        ensures { option_map (λ path. path.now) result ≡ path_of (choice_in self.now) }
+    {
+        let word = self.file()?;
+        if word == "-" { None } else { Some(word) }
     }
 }
 
@@ -147,7 +156,7 @@ fn show_command<'a>(alloc: Global) -> Result<clap::Command<'a>, AllocError>
         alloc,
         "show",
         "Draws the history of a schedule or a report: a bar for each call, with the point at which it takes effect",
-        "The schedule or report; standard input where it is left out",
+        "The schedule or report; standard input where it is - or left out",
     )?
     .arg(flag(alloc, "svg", "Draws an SVG in place of text"))?
     .arg(number_option(
@@ -178,7 +187,7 @@ fn trace_command<'a>(alloc: Global) -> Result<clap::Command<'a>, AllocError>
         alloc,
         "trace",
         "Tells what each step of a schedule did: the word, what was seen, and what changed",
-        "The schedule; standard input where it is left out",
+        "The schedule; standard input where it is - or left out",
     )?
     .arg(flag(
         alloc,
@@ -273,7 +282,7 @@ fn serve_command<'a>(alloc: Global) -> Result<clap::Command<'a>, AllocError>
         .arg(value(
             alloc,
             "FILE",
-            "The keys with which the set opens, as a server prints them; none where it is left out",
+            "The keys with which the set opens, as a server prints them; standard input where it is -, none where it is left out",
         ))?
         .arg(values_past_the_last(alloc))
 }
@@ -319,7 +328,7 @@ fn replay_command<'a>(alloc: Global) -> Result<clap::Command<'a>, AllocError>
         alloc,
         "replay",
         "Replays a schedule of atomic steps and prints a report (the command where none is given)",
-        "The schedule; standard input where it is left out",
+        "The schedule; standard input where it is - or left out",
     )
 }
 
@@ -331,7 +340,7 @@ fn check_command<'a>(alloc: Global) -> Result<clap::Command<'a>, AllocError>
         alloc,
         "check",
         "Checks that the order in a report explains its calls and its keys",
-        "The report; standard input where it is left out",
+        "The report; standard input where it is - or left out",
     )
 }
 
@@ -479,7 +488,7 @@ fn command_named(name: &str) -> Command
 /// `gen KIND THREADS QUOTA CALLS KEYS SEED`, `run` with the same values and `[LIVES]` after them, or
 /// `serve KIND SEATS QUOTA PORT SESSIONS [FILE]`. Values and options come as they are written; some or all may be
 /// missing, and `gen`, `run` and `serve` may have more values. No word at all gives `replay` without values. A value
-/// that begins with `-` needs a word `--` before it.
+/// that begins with `-` and has more letters needs a word `--` before it.
 ///
 /// The error has the text for the user: the help or the version, where words ask for it (`exit_code` 0), or what is
 /// wrong with the words (`exit_code` 2). It may also say that memory was refused: `is_out_of_memory`.

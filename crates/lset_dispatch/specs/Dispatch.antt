@@ -5,7 +5,7 @@ use Rattle.clap.specs.Words.{Text, fault_of, kind_of, subcommand_of, HasKind}
 use Rattle.clap.specs.declared.error.Error.{Error}
 use Rattle.clap.specs.declared.error.kind.ErrorKind.{ErrorKind}
 use Rattle.clap.specs.declared.error.kind.ErrorKind.TheVariants.{OutOfMemory, DisplayHelp, DisplayVersion}
-use Rattle.lset_command.specs.CommandLine.{Choice, OptionValues, choice_of, file_by, file_of, listset}
+use Rattle.lset_command.specs.CommandLine.{Choice, OptionValues, choice_of, file_by, listset, path_of}
 use Rattle.lset_command.specs.declared.words.Command.{Command}
 use Rattle.lset_command.specs.declared.words.Command.TheVariants.{Replay, Check, Show, Trace, Example, Gen, Run, Serve}
 use Rattle.lset_tools.specs.declared.trouble.ValueName.{ValueName}
@@ -33,10 +33,10 @@ ShowsAsked (Err wrong) input made = made ≡ Err (Bad wrong)
 abbrev pub ShowsBy : OptionValues → Option (List ℕ) → Made → Type 0
 ShowsBy options input made = ShowsAsked (asked_of options.svg options.from options.to options.width) input made
 
--- what `serve` makes of its values: with the keys of its input where a file is named, and else on an empty set
+-- what `serve` makes of its values: with the keys of its input where it has a word for one, and else on an empty set
 abbrev pub ServesBy : Option Text → List Text → Option (List ℕ) → Option (List ℕ) → Option (List ℕ) → Made → Type 0
 ServesBy None values input old first made = serve.Serves (serve.request_of values) old first made
-ServesBy (Some path) values input old first made = serve.ServesWith (serve.request_of values) input old first made
+ServesBy (Some word) values input old first made = serve.ServesWith (serve.request_of values) input old first made
 
 -- What a command makes of its values and options, and of the bytes of its input where they are known. Before that it takes the output from
 -- the old to the first: `serve` writes the line that names its port, the others write nothing.
@@ -53,7 +53,7 @@ DoesBy Serve values options input old first made = ServesBy (file_by Serve value
 abbrev pub Does : Choice → Option (List ℕ) → Option (List ℕ) → Option (List ℕ) → Made → Type 0
 Does choice input old first made = DoesBy choice.command choice.values choice.options input old first made
 
--- where no file is named, it does so on the standard input; else on what some file holds (that it is the one of this path, or read
+-- where the path of no file is named, it does so on the standard input; else on what some file holds (that it is the one of this path, or read
 -- from its start, no clause says), or it says that it could not be read
 abbrev pub DoesOn : Option Text → Choice → (Option (List ℕ) → Type 0) → Option (List ℕ) → Option (List ℕ) → Option (List ℕ) → Made → Type 0
 DoesOn None choice IsFile input old first made = Does choice input old first made
@@ -61,7 +61,7 @@ DoesOn (Some path) choice IsFile input old first made =
     ((first ≡ old) × (made ≡ Err CannotRead)) ⊎ ((bytes : Option (List ℕ)) × IsFile bytes × Does choice bytes old first made)
 
 abbrev pub DoesOnInput : Choice → (Option (List ℕ) → Type 0) → Option (List ℕ) → Option (List ℕ) → Option (List ℕ) → Made → Type 0
-DoesOnInput choice IsFile input old first made = DoesOn (file_of choice) choice IsFile input old first made
+DoesOnInput choice IsFile input old first made = DoesOn (path_of choice) choice IsFile input old first made
 
 -- HOW A COMMAND ENDS: what it writes first is written, and then what it made reaches the output, as with any tool.
 abbrev pub CommandEnds : (Option (List ℕ) → Option (List ℕ) → Made → Type 0) → Option (List ℕ) → Option (List ℕ) → Option (List ℕ) → Option (List ℕ) → ℕ → Type 0

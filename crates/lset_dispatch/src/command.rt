@@ -45,7 +45,7 @@ fn show<R: Read, W: Write, F: Write>(
 }
 
 /// Does the command of the words with its tool, `replay`, `check`, `show` and `trace` on the input, the others on their
-/// values, and `serve` with the keys of the input where the words name a file. Gives the tool's exit status. `run` and
+/// values, and `serve` with the keys of the input where the words have one for it. Gives the tool's exit status. `run` and
 /// `serve` start threads on `rt`, and wait for them; `serve` listens there.
 pub fn run_command<
     H: Net<Listener = TcpListener, Stream = TcpStream> + Threads + Wait + Clock + Sync,

@@ -111,8 +111,14 @@ fn some_commands_read_the_file_of_their_words(rt: HostRuntime) -> Result<(), Fai
     for word in ["replay", "check", "show", "trace"] {
         let named = tool_words(rt.alloc(), &[word, "a.report"])?;
         assert_eq!(rt; named.file(), Some("a.report"));
+        assert_eq!(rt; named.path(), Some("a.report"));
         let unnamed = tool_words(rt.alloc(), &[word])?;
         assert_eq!(rt; unnamed.file(), None);
+        let standard = tool_words(rt.alloc(), &[word, "-"])?;
+        assert_eq!(rt; standard.file(), Some("-"));
+        assert_eq!(rt; standard.path(), None);
+        let of_that_name = tool_words(rt.alloc(), &[word, "./-"])?;
+        assert_eq!(rt; of_that_name.path(), Some("./-"));
     }
     for word in ["example", "gen", "run", "serve"] {
         let no_file = tool_words(rt.alloc(), &[word, "fine"])?;
