@@ -9,7 +9,8 @@ use Rattle.clap.specs.Words.{App, Row, Rule, Text, all_of, first_of, new_app, ne
 use Rattle.clap.specs.Simple.{on_top}
 use Rattle.clap.specs.declared.builder.action.ArgAction.TheVariants.{SetTrue}
 use Rattle.lset_command.specs.declared.words.Command.{Command}
-use Rattle.lset_command.specs.declared.words.Command.TheVariants.{Replay, Check, Show, Trace, Example, Gen, Run, Serve}
+use Rattle.lset_command.specs.declared.words.Command.TheVariants.{Replay, Check, Show, Trace, Example, Gen, Run, Serve, Faults}
+use Rattle.lset_command.specs.declared.faults.TheConstants.{FAULTS}
 use Rattle.lset_command.specs.declared.words.Options.{Options}
 use Rattle.lset_command.specs.declared.words.Words.{Words}
 
@@ -80,7 +81,7 @@ serve_app =
 -- the program, which has a version; the words begin after its name
 abbrev pub listset : App
 listset =
-    with_subcommand (with_subcommand (with_subcommand (with_subcommand
+    with_subcommand (with_subcommand (with_subcommand (with_subcommand (with_subcommand
     (with_subcommand (with_subcommand (with_subcommand (with_subcommand (on_top (λ s. record s { no_binary_name = true; has_version = true }) (new_app (codes "listset")))
     (file_app (codes "replay")).top)
     (file_app (codes "check")).top)
@@ -89,7 +90,12 @@ listset =
     example_app.top)
     gen_app.top)
     run_app.top)
-    serve_app.top
+    serve_app.top)
+    (new_app (codes "faults")).top
+
+-- what `faults` tells
+unfoldable pub faults_text : Text
+faults_text = FAULTS.now
 
 -- ---- what a parse of the words found
 
@@ -139,7 +145,8 @@ command_named name =
     else (if bytes_eq name (codes "gen") then Gen
     else (if bytes_eq name (codes "run") then Run
     else (if bytes_eq name (codes "serve") then Serve
-    else Replay))))))
+    else (if bytes_eq name (codes "faults") then Faults
+    else Replay)))))))
 
 -- a command with its values, its flags and its options
 pub record Choice : Type 0 where
@@ -180,6 +187,7 @@ file_by Example values = None
 file_by Gen values = None
 file_by Run values = None
 file_by Serve values = slice_get values 5
+file_by Faults values = None
 
 abbrev pub file_of : Choice → Option Text
 file_of choice = file_by choice.command choice.values

@@ -5,9 +5,9 @@ use Rattle.clap.specs.Words.{Text, fault_of, kind_of, subcommand_of, HasKind}
 use Rattle.clap.specs.declared.error.Error.{Error}
 use Rattle.clap.specs.declared.error.kind.ErrorKind.{ErrorKind}
 use Rattle.clap.specs.declared.error.kind.ErrorKind.TheVariants.{OutOfMemory, DisplayHelp, DisplayVersion}
-use Rattle.lset_command.specs.CommandLine.{Choice, OptionValues, choice_of, file_by, listset, path_of}
+use Rattle.lset_command.specs.CommandLine.{Choice, OptionValues, choice_of, faults_text, file_by, listset, path_of}
 use Rattle.lset_command.specs.declared.words.Command.{Command}
-use Rattle.lset_command.specs.declared.words.Command.TheVariants.{Replay, Check, Show, Trace, Example, Gen, Run, Serve}
+use Rattle.lset_command.specs.declared.words.Command.TheVariants.{Replay, Check, Show, Trace, Example, Gen, Run, Serve, Faults}
 use Rattle.lset_tools.specs.declared.trouble.ValueName.{ValueName}
 use Rattle.lset_tools.specs.declared.trouble.Trouble.TheVariants.{CannotRead, Memory, Bad}
 use Rattle.lset_tools.specs.Tools.{Made, Ends, AppendsFront}
@@ -38,6 +38,10 @@ abbrev pub ServesBy : Option Text → List Text → Option (List ℕ) → Option
 ServesBy None values input old first made = serve.Serves (serve.request_of values) old first made
 ServesBy (Some word) values input old first made = serve.ServesWith (serve.request_of values) input old first made
 
+-- what `faults` makes: its text, where memory is found
+abbrev pub TellsFaults : Made → Type 0
+TellsFaults made = (made ≡ Err Memory) ⊎ (made ≡ Ok (record { text = faults_text; status = 0 }))
+
 -- What a command makes of its values and options, and of the bytes of its input where they are known. Before that it takes the output from
 -- the old to the first: `serve` writes the line that names its port, the others write nothing.
 abbrev pub DoesBy : Command → List Text → OptionValues → Option (List ℕ) → Option (List ℕ) → Option (List ℕ) → Made → Type 0
@@ -49,6 +53,7 @@ DoesBy Example values options input old first made = (first ≡ old) × Exampled
 DoesBy Gen values options input old first made = (first ≡ old) × Generates values made
 DoesBy Run values options input old first made = (first ≡ old) × run.Runs values made
 DoesBy Serve values options input old first made = ServesBy (file_by Serve values) values input old first made
+DoesBy Faults values options input old first made = (first ≡ old) × TellsFaults made
 
 abbrev pub Does : Choice → Option (List ℕ) → Option (List ℕ) → Option (List ℕ) → Made → Type 0
 Does choice input old first made = DoesBy choice.command choice.values choice.options input old first made

@@ -5,7 +5,7 @@ use std::test::Fail;
 
 #[test]
 fn words_give_a_command_and_its_values(rt: HostRuntime) -> Result<(), Fail> {
-    let rows: [(&[&str], Command, &str); 20] = [
+    let rows: [(&[&str], Command, &str); 21] = [
         (&[], Command::Replay, ""),
         (&["replay"], Command::Replay, ""),
         (&["replay", "a.schedule"], Command::Replay, " a.schedule"),
@@ -41,6 +41,7 @@ fn words_give_a_command_and_its_values(rt: HostRuntime) -> Result<(), Fail> {
         (&["trace", "a.schedule"], Command::Trace, " a.schedule"),
         (&["trace", "--chain", "--", "-a"], Command::Trace, " -a"),
         (&["example"], Command::Example, ""),
+        (&["faults"], Command::Faults, ""),
         (&["example", "snip", "--broken"], Command::Example, " snip"),
     ];
     for (words, command, values) in rows {
@@ -129,7 +130,7 @@ fn some_commands_read_the_file_of_their_words(rt: HostRuntime) -> Result<(), Fai
 
 #[test]
 fn other_words_are_refused(rt: HostRuntime) -> Result<(), Fail> {
-    let rows: [(&[&str], ErrorKind); 17] = [
+    let rows: [(&[&str], ErrorKind); 18] = [
         (&["skip"], ErrorKind::InvalidSubcommand),
         (&["runs"], ErrorKind::InvalidSubcommand),
         (&["serves"], ErrorKind::InvalidSubcommand),
@@ -150,6 +151,7 @@ fn other_words_are_refused(rt: HostRuntime) -> Result<(), Fail> {
         ),
         (&["trace", "--svg"], ErrorKind::UnknownArgument),
         (&["example", "a", "b"], ErrorKind::UnknownArgument),
+        (&["faults", "a"], ErrorKind::UnknownArgument),
     ];
     for (words, kind) in rows {
         let word = words[0];

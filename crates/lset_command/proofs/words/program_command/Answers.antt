@@ -18,5 +18,6 @@ returns c =
     let example = IsApp-subcommand c.in_ok-subcommand-5.ensures trace (c.in_ok-example_command.ensures.app, c.in_ok-example_command.ensures.local) in
     let gen = IsApp-subcommand c.in_ok-subcommand-6.ensures example (c.in_ok-gen_command.ensures.app, c.in_ok-gen_command.ensures.local) in
     let run = IsApp-subcommand c.in_ok-subcommand-7.ensures gen (c.in_ok-run_command.ensures.app, c.in_ok-run_command.ensures.local) in
-    let serve : IsApp c.in_ok-serve_command.field-0 _ = (c.in_ok-serve_command.ensures.app, c.in_ok-serve_command.ensures.local) in
-    IfOk-weaker c.subcommand-8.result _ _ (λ r adds. (IsApp-subcommand adds run serve).0) c.subcommand-8.ensures
+    let serve = IsApp-subcommand c.in_ok-subcommand-8.ensures run (c.in_ok-serve_command.ensures.app, c.in_ok-serve_command.ensures.local) in
+    let faults : IsApp c.faults_command.result _ = (c.faults_command.ensures.app, c.faults_command.ensures.local) in
+    IfOk-weaker c.subcommand-9.result _ _ (λ r adds. (IsApp-subcommand adds serve faults).0) c.subcommand-9.ensures
