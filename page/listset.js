@@ -4,7 +4,8 @@
 //     node page/listset.js check [FILE]             node page/listset.js show [--svg] [FILE]
 //     node page/listset.js example [--broken] [NAME]
 //
-// Output, line about a trouble and exit status are the program's (docs/FORMATS.md), but that wrong words are one line.
+// FILE may be -, the word for the standard input. Output, line about a trouble and exit status are the program's (docs/FORMATS.md),
+// but that wrong words are one line.
 // `show` draws what the program draws without a word about moments or a width. Where node has no 64-bit memories, or the module not the
 // function of the command, it says so and ends with status 70, before it reads anything.
 "use strict";
@@ -38,9 +39,9 @@ function asked([name = "replay", ...words]) {
   return { name, isOn: flags.length > 0, value: values[0] };
 }
 
-// The bytes of the file, or of standard input without a path, up to one more than an input may have.
-function bytesOf(file) {
-  const input = file === undefined ? 0 : fs.openSync(file, "r");
+// The bytes of the file, or of standard input where that is meant, up to one more than an input may have.
+function bytesOf(file = "-") {
+  const input = file === "-" ? 0 : fs.openSync(file, "r");
   const pieces = [];
   let length = 0;
   while (length <= LONGEST) {

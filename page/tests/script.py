@@ -18,7 +18,7 @@ WRONG = ["no-such", "--chain", "-x", "replay a b", "replay --chain", "replay --c
          "example --broken --broken snip", "example snip --broken snip", "trace -- a b", "trace -- --chain --chain"]
 # (the words after -- are values, so those of one value are not wrong)
 TAKEN = ["replay --", "replay no-such-file", "check no-such-file", "trace no-such-file", "trace --chain no-such-file", "replay .", "check .",
-         "replay -", "replay -- -x", "trace -- --chain", "trace no-such-file --chain", "example --broken", "example --",
+         "replay -", "check -- -", "trace --chain -", "replay ./-", "replay -- -x", "trace -- --chain", "trace no-such-file --chain", "example --broken", "example --",
          "example -- snip", "example snip --broken", "example -- --broken", "example no-such-name", "example Snip", "example --broken no-such-name"]
 
 

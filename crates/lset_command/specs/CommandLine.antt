@@ -1,6 +1,6 @@
 -- The words that the program takes: its commands and their values, as a simple command of clap, whose
 -- definitions say which values the words give.
-use Rattle.std.specs.Prelude.{List, [], map, codes, Bool, true, false, ◌||◌, Option, Some, None, option_map, unwrap_or, slice_get, string_bytes, if◌then◌else◌}
+use Rattle.std.specs.Prelude.{List, [], map, codes, Bool, true, false, ◌||◌, Option, Some, None, option_map, unwrap_or, slice_get, string_bytes, if◌then◌else◌, option_and_then}
 use Rattle.std.specs.List.{flat_map}
 use Rattle.std.specs.Option.{option_map_or}
 use Rattle.std.specs.Str.{bytes_eq}
@@ -9,7 +9,8 @@ use Rattle.clap.specs.Words.{App, Row, Rule, Text, all_of, first_of, new_app, ne
 use Rattle.clap.specs.Simple.{on_top}
 use Rattle.clap.specs.declared.builder.action.ArgAction.TheVariants.{SetTrue}
 use Rattle.lset_command.specs.declared.words.Command.{Command}
-use Rattle.lset_command.specs.declared.words.Command.TheVariants.{Replay, Check, Show, Trace, Example, Gen, Run, Serve}
+use Rattle.lset_command.specs.declared.words.Command.TheVariants.{Replay, Check, Show, Trace, Example, Gen, Run, Serve, Faults}
+use Rattle.lset_command.specs.declared.faults.TheConstants.{FAULTS}
 use Rattle.lset_command.specs.declared.words.Options.{Options}
 use Rattle.lset_command.specs.declared.words.Words.{Words}
 
@@ -77,11 +78,11 @@ serve_app =
     (new_rule (codes "FILE")))
     rule_past_the_last
 
--- the program; the words begin after its name
+-- the program, which has a version; the words begin after its name
 abbrev pub listset : App
 listset =
-    with_subcommand (with_subcommand (with_subcommand (with_subcommand
-    (with_subcommand (with_subcommand (with_subcommand (with_subcommand (on_top (λ s. record s { no_binary_name = true }) (new_app (codes "listset")))
+    with_subcommand (with_subcommand (with_subcommand (with_subcommand (with_subcommand
+    (with_subcommand (with_subcommand (with_subcommand (with_subcommand (on_top (λ s. record s { no_binary_name = true; has_version = true }) (new_app (codes "listset")))
     (file_app (codes "replay")).top)
     (file_app (codes "check")).top)
     show_app.top)
@@ -89,7 +90,12 @@ listset =
     example_app.top)
     gen_app.top)
     run_app.top)
-    serve_app.top
+    serve_app.top)
+    (new_app (codes "faults")).top
+
+-- what `faults` tells
+unfoldable pub faults_text : Text
+faults_text = FAULTS.now
 
 -- ---- what a parse of the words found
 
@@ -139,7 +145,8 @@ command_named name =
     else (if bytes_eq name (codes "gen") then Gen
     else (if bytes_eq name (codes "run") then Run
     else (if bytes_eq name (codes "serve") then Serve
-    else Replay))))))
+    else (if bytes_eq name (codes "faults") then Faults
+    else Replay)))))))
 
 -- a command with its values, its flags and its options
 pub record Choice : Type 0 where
@@ -170,8 +177,7 @@ choice_in w = record { command = w.command; values = map string_bytes w.values.i
 abbrev pub first_value : Choice → Option Text
 first_value choice = slice_get choice.values 0
 
--- the path of the file that a command reads: its first value, or the sixth of `serve`, if it has one; the commands that take no
--- file read none
+-- the word for what a command reads: its first value, or the sixth of `serve`, if it has one; the other commands read nothing
 abbrev pub file_by : Command → List Text → Option Text
 file_by Replay values = slice_get values 0
 file_by Check values = slice_get values 0
@@ -181,6 +187,14 @@ file_by Example values = None
 file_by Gen values = None
 file_by Run values = None
 file_by Serve values = slice_get values 5
+file_by Faults values = None
 
 abbrev pub file_of : Choice → Option Text
 file_of choice = file_by choice.command choice.values
+
+-- the path of the file of such a word; `-` is the word for the standard input, and no path
+abbrev pub path_in : Text → Option Text
+path_in word = if bytes_eq word (codes "-") then None else Some word
+
+abbrev pub path_of : Choice → Option Text
+path_of choice = option_and_then path_in (file_of choice)

@@ -1,16 +1,20 @@
 ghost use Rattle.std.specs.Prelude.{◌≡◌, ◌++◌, ◌↔◌, [], IfOk, IsTrue, OnOk, codes, false, map, option_map, string_bytes};
-ghost use Rattle.clap.specs.Words.{FailsBy, app_of, fault_of, found_of, kind_of, new_rule};
+ghost use Rattle.clap.specs.Words.{FailsBy, app_of, fault_of, found_of, kind_of, new_app, new_rule};
 ghost use Rattle.clap.specs.Words.{rows_of, rule_of, subcommand_of};
 ghost use Rattle.clap.specs.Walk.{first_of, texts};
 ghost use Rattle.clap.specs.declared.Command.TheViews.{out-Command};
 ghost use Rattle.clap.specs.declared.error.kind.ErrorKind.TheVariants.{OutOfMemory};
-ghost use Rattle.lset_command.specs.CommandLine.{choice_in, choice_of, command_named, file_app, file_of, first_value, six_values, serve_app};
+ghost use Rattle.lset_command.specs.CommandLine.{choice_in, choice_of, command_named, file_app, file_of, first_value, path_of, six_values, serve_app};
 ghost use Rattle.lset_command.specs.CommandLine.{example_app, flag_rule, gen_app, option_rule, run_app, show_app, trace_app};
 ghost use Rattle.lset_command.specs.CommandLine.{is_on, is_option, listset, options_in, options_of, rule_past_the_last, values_by, values_in};
 
+use crate::faults::faults_text;
 use clap::error::ErrorKind;
 use clap::{Arg, ArgAction, ArgMatches, Error};
 use std::alloc::{AllocError, Global};
+
+/// What `--version` tells behind the program's name: its version, and in a line below the kit with which it is proved.
+pub const VERSION: &str = "0.1.0\nrattle-kit-13f logic dac8208d650f15bf";
 
 const KIND_HELP: &str = "The list: coarse, fine, optimistic, lazy or lock-free";
 
@@ -36,6 +40,8 @@ pub enum Command {
     Run,
     /// Serves sessions on one set.
     Serve,
+    /// Tells what each line about a fault says.
+    Faults,
 }
 
 /// The flags that are on, and the options as they are written. Those that a command does not have are off, and `None`.
@@ -71,17 +77,26 @@ impl Words {
         Some(self.values.first()?.as_str())
     }
 
-    /// The path of the file that the command reads, where the words name one: the first value of `replay`, `check`,
-    /// `show` and `trace`, which read the standard input without one, and the sixth of `serve`, which reads nothing
-    /// without one. The others read nothing.
+    /// The word for what the command reads, where there is one: the first value of `replay`, `check`, `show` and `trace`,
+    /// which read the standard input without one, and the sixth of `serve`, which reads nothing without one. The others
+    /// read nothing.
     pub fn file(&self) -> Option<&str>
         ensures { option_map (λ path. path.now) result ≡ file_of (choice_in self.now) }
     {
         match self.command {
             Command::Replay | Command::Check | Command::Show | Command::Trace => self.first_value(),
             Command::Serve => Some(self.values.get(SERVE_FILE)?.as_str()),
-            Command::Example | Command::Gen | Command::Run => None,
+            Command::Example | Command::Gen | Command::Run | Command::Faults => None,
         }
+    }
+
+    /// The path of the file that the command reads, where it reads one. The word `-` is that for the standard input; a
+    /// file of that name has the path `./-`.
+    pub fn path(&self) -> Option<&str>
+        ensures { option_map (λ path. path.now) result ≡ path_of (choice_in self.now) }
+    {
+        let word = self.file()?;
+        if word == "-" { None } else { Some(word) }
     }
 }
 
@@ -127,12 +142,14 @@ fn file_command<'a>(
     name: &'a str,
     about: &'a str,
     file_help: &'a str,
+    example: &'a str,
 ) -> Result<clap::Command<'a>, AllocError>
     ensures app { IfOk result (λ c. app_of c ≡ file_app name.entry.now) }
     ensures local { IfOk result (λ c. (out-Command c).has_globals ≡ false) }
 {
     clap::Command::new(alloc, name)
         .about(about)
+        .after_help(example)
         .arg(value(alloc, "FILE", file_help))
 }
 
@@ -144,7 +161,8 @@ fn show_command<'a>(alloc: Global) -> Result<clap::Command<'a>, AllocError>
         alloc,
         "show",
         "Draws the history of a schedule or a report: a bar for each call, with the point at which it takes effect",
-        "The schedule or report; standard input where it is left out",
+        "The schedule or report; standard input where it is - or left out",
+        "Example: listset example read-in-anothers-step | listset show --from 9 --to 38",
     )?
     .arg(flag(alloc, "svg", "Draws an SVG in place of text"))?
     .arg(number_option(
@@ -175,7 +193,8 @@ fn trace_command<'a>(alloc: Global) -> Result<clap::Command<'a>, AllocError>
         alloc,
         "trace",
         "Tells what each step of a schedule did: the word, what was seen, and what changed",
-        "The schedule; standard input where it is left out",
+        "The schedule; standard input where it is - or left out",
+        "Example: listset example two-removers | listset trace --chain",
     )?
     .arg(flag(
         alloc,
@@ -190,6 +209,7 @@ fn example_command<'a>(alloc: Global) -> Result<clap::Command<'a>, AllocError>
 {
     clap::Command::new(alloc, "example")
         .about("Prints a classic schedule, or the list of their names")
+        .after_help("Example: listset example snip | listset show")
         .arg(value(
             alloc,
             "NAME",
@@ -209,6 +229,7 @@ fn random_command<'a>(
     name: &'a str,
     about: &'a str,
     usage: &'a str,
+    example: &'a str,
     calls_help: &'a str,
 ) -> Result<clap::Command<'a>, AllocError>
     ensures app { IfOk result (λ c. app_of c ≡ six_values name.entry.now) }
@@ -217,6 +238,7 @@ fn random_command<'a>(
     clap::Command::new(alloc, name)
         .about(about)
         .override_usage(usage)
+        .after_help(example)
         .arg(value(alloc, "KIND", KIND_HELP))?
         .arg(value(alloc, "THREADS", "How many threads: 1 to 64"))?
         .arg(value(
@@ -246,6 +268,7 @@ fn serve_command<'a>(alloc: Global) -> Result<clap::Command<'a>, AllocError>
             "Serves sessions on one set, each a client's lines at 127.0.0.1, and prints the keys that are left",
         )
         .override_usage("listset serve KIND SEATS QUOTA PORT SESSIONS [FILE]")
+        .after_help("Example: listset serve lazy 2 16 4000 1")
         .arg(value(alloc, "KIND", KIND_HELP))?
         .arg(value(
             alloc,
@@ -270,7 +293,7 @@ fn serve_command<'a>(alloc: Global) -> Result<clap::Command<'a>, AllocError>
         .arg(value(
             alloc,
             "FILE",
-            "The keys with which the set opens, as a server prints them; none where it is left out",
+            "The keys with which the set opens, as a server prints them; standard input where it is -, none where it is left out",
         ))?
         .arg(values_past_the_last(alloc))
 }
@@ -284,6 +307,7 @@ fn gen_command<'a>(alloc: Global) -> Result<clap::Command<'a>, AllocError>
         "gen",
         "Prints a random schedule, of 10000 events at most; the same values give the same schedule",
         "listset gen KIND THREADS QUOTA CALLS KEYS SEED",
+        "Example: listset gen optimistic 3 4 9 5 1 | listset replay",
         "How many calls the threads begin together, if 10000 events suffice: 0 to 10000",
     )?
     .arg(values_past_the_last(alloc))
@@ -298,6 +322,7 @@ fn run_command<'a>(alloc: Global) -> Result<clap::Command<'a>, AllocError>
         "run",
         "Runs random calls of threads at once on one set, and prints counts of the replies and the keys that are left",
         "listset run KIND THREADS QUOTA CALLS KEYS SEED [LIVES]",
+        "Example: listset run lock-free 4 1000 10000 64 1",
         "How many calls each thread makes: 0 to 10000",
     )?
     .arg(value(
@@ -316,7 +341,8 @@ fn replay_command<'a>(alloc: Global) -> Result<clap::Command<'a>, AllocError>
         alloc,
         "replay",
         "Replays a schedule of atomic steps and prints a report (the command where none is given)",
-        "The schedule; standard input where it is left out",
+        "The schedule; standard input where it is - or left out",
+        "Example: listset example full | listset replay",
     )
 }
 
@@ -328,8 +354,19 @@ fn check_command<'a>(alloc: Global) -> Result<clap::Command<'a>, AllocError>
         alloc,
         "check",
         "Checks that the order in a report explains its calls and its keys",
-        "The report; standard input where it is left out",
+        "The report; standard input where it is - or left out",
+        "Example: listset example full | listset replay | listset check",
     )
+}
+
+// Its help is what it tells.
+fn faults_command<'a>(alloc: Global) -> clap::Command<'a>
+    ensures app { app_of result ≡ new_app (codes "faults") }
+    ensures local { (out-Command result).has_globals ≡ false }
+{
+    clap::Command::new(alloc, "faults")
+        .about("Tells what each line about a fault says, and when it comes")
+        .override_help(faults_text())
 }
 
 fn program_command<'a>(alloc: Global) -> Result<clap::Command<'a>, AllocError>
@@ -339,6 +376,7 @@ fn program_command<'a>(alloc: Global) -> Result<clap::Command<'a>, AllocError>
         .about(
             "Replays, checks, draws and generates recorded schedules of concurrent list sets, and runs and serves such sets",
         )
+        .version(VERSION)
         .no_binary_name(true)
         .bin_name("listset")?
         .subcommand(replay_command(alloc)?)?
@@ -348,7 +386,8 @@ fn program_command<'a>(alloc: Global) -> Result<clap::Command<'a>, AllocError>
         .subcommand(example_command(alloc)?)?
         .subcommand(gen_command(alloc)?)?
         .subcommand(run_command(alloc)?)?
-        .subcommand(serve_command(alloc)?)
+        .subcommand(serve_command(alloc)?)?
+        .subcommand(faults_command(alloc))
 }
 
 // Whether the name is that of a flag or of an option.
@@ -465,6 +504,8 @@ fn command_named(name: &str) -> Command
         Command::Run
     } else if name == "serve" {
         Command::Serve
+    } else if name == "faults" {
+        Command::Faults
     } else {
         Command::Replay
     }
@@ -472,13 +513,13 @@ fn command_named(name: &str) -> Command
 
 /// Reads the words that stand after the program's name, by `clap`: `replay [FILE]`, `check [FILE]`,
 /// `show [--svg] [--from M] [--to M] [--width N] [FILE]`, `trace [--chain] [FILE]`, `example [--broken] [NAME]`,
-/// `gen KIND THREADS QUOTA CALLS KEYS SEED`, `run` with the same values and `[LIVES]` after them, or
-/// `serve KIND SEATS QUOTA PORT SESSIONS [FILE]`. Values and options come as they are written; some or all may be
+/// `gen KIND THREADS QUOTA CALLS KEYS SEED`, `run` with the same values and `[LIVES]` after them,
+/// `serve KIND SEATS QUOTA PORT SESSIONS [FILE]`, or `faults`. Values and options come as they are written; some or all may be
 /// missing, and `gen`, `run` and `serve` may have more values. No word at all gives `replay` without values. A value
-/// that begins with `-` needs a word `--` before it.
+/// that begins with `-` and has more letters needs a word `--` before it.
 ///
-/// The error has the text for the user: the help, where words ask for it (`exit_code` 0), or what is wrong
-/// with the words (`exit_code` 2). It may also say that memory was refused: `is_out_of_memory`.
+/// The error has the text for the user: the help or the version, where words ask for it (`exit_code` 0), or what is
+/// wrong with the words (`exit_code` 2). It may also say that memory was refused: `is_out_of_memory`.
 pub fn tool_words<'a>(alloc: Global, words: &'a [&'a str]) -> Result<Words, Error>
     ensures taken { IfOk result (λ w. choice_in w ≡ choice_of (subcommand_of listset (texts words.entry.now))) }
     // clap's definition refuses no words that are taken, and has the kind of each error but want of memory

@@ -4,7 +4,7 @@ use Rattle.std.specs.Prelude.{◌≢◌}
 use Rattle.clap.specs.declared.error.kind.ErrorKind.{ErrorKind}
 use Rattle.clap.specs.declared.error.kind.ErrorKind.TheVariants as kind
 use Rattle.clap.specs.Words.{Text}
-use Rattle.lset_command.specs.CommandLine.{Choice, OptionValues, file_by, file_of}
+use Rattle.lset_command.specs.CommandLine.{Choice, OptionValues, file_by, path_of}
 use Rattle.lset_command.specs.declared.words.Command.{Command}
 use Rattle.lset_command.specs.declared.words.Command.TheVariants.{Serve}
 use Rattle.lset_tools.specs.declared.trouble.ValueName.{ValueName}
@@ -52,20 +52,20 @@ with_choice IsFile input output_old output_new faults_old faults_new status a b 
     subst (λ choice. CommandEnds (DoesOnInput choice IsFile input) output_old output_new faults_old faults_new status) same ends
 
 -- on the input, where no file is named
-pub on_input : (IsFile : Option (List ℕ) → Type 0) (input output_old output_new faults_old faults_new : Option (List ℕ)) (status : ℕ) (choice : Choice) → None ≡ file_of choice
+pub on_input : (IsFile : Option (List ℕ) → Type 0) (input output_old output_new faults_old faults_new : Option (List ℕ)) (status : ℕ) (choice : Choice) → None ≡ path_of choice
     → CommandEnds (Does choice input) output_old output_new faults_old faults_new status → CommandEnds (DoesOnInput choice IsFile input) output_old output_new faults_old faults_new status
 on_input IsFile input output_old output_new faults_old faults_new status choice none ends =
     subst (λ file. CommandEnds (DoesOn file choice IsFile input) output_old output_new faults_old faults_new status) none ends
 
 -- on the bytes of a file
 pub on_file : (IsFile : Option (List ℕ) → Type 0) (input bytes output_old output_new faults_old faults_new : Option (List ℕ)) (status : ℕ) (choice : Choice) (path : Text)
-    → Some path ≡ file_of choice → IsFile bytes → CommandEnds (Does choice bytes) output_old output_new faults_old faults_new status
+    → Some path ≡ path_of choice → IsFile bytes → CommandEnds (Does choice bytes) output_old output_new faults_old faults_new status
     → CommandEnds (DoesOnInput choice IsFile input) output_old output_new faults_old faults_new status
 on_file IsFile input bytes output_old output_new faults_old faults_new status choice path named is (first, (made, outcome, does, delivered, told, ended)) =
     subst (λ file. CommandEnds (DoesOn file choice IsFile input) output_old output_new faults_old faults_new status) named
     (first, (made, outcome, inr (bytes, is, does), delivered, told, ended))
 
-pub not_opened : (IsFile : Option (List ℕ) → Type 0) (input old : Option (List ℕ)) (choice : Choice) (path : Text) → Some path ≡ file_of choice
+pub not_opened : (IsFile : Option (List ℕ) → Type 0) (input old : Option (List ℕ)) (choice : Choice) (path : Text) → Some path ≡ path_of choice
     → DoesOnInput choice IsFile input old old (Err CannotRead)
 not_opened IsFile input old choice path named = subst (λ file. DoesOn file choice IsFile input old old (Err CannotRead)) named (inl (refl, refl))
 

@@ -5,9 +5,9 @@ use Rattle.clap.specs.Words.{Text, fault_of, kind_of, subcommand_of, HasKind}
 use Rattle.clap.specs.declared.error.Error.{Error}
 use Rattle.clap.specs.declared.error.kind.ErrorKind.{ErrorKind}
 use Rattle.clap.specs.declared.error.kind.ErrorKind.TheVariants.{OutOfMemory, DisplayHelp, DisplayVersion}
-use Rattle.lset_command.specs.CommandLine.{Choice, OptionValues, choice_of, file_by, file_of, listset}
+use Rattle.lset_command.specs.CommandLine.{Choice, OptionValues, choice_of, faults_text, file_by, listset, path_of}
 use Rattle.lset_command.specs.declared.words.Command.{Command}
-use Rattle.lset_command.specs.declared.words.Command.TheVariants.{Replay, Check, Show, Trace, Example, Gen, Run, Serve}
+use Rattle.lset_command.specs.declared.words.Command.TheVariants.{Replay, Check, Show, Trace, Example, Gen, Run, Serve, Faults}
 use Rattle.lset_tools.specs.declared.trouble.ValueName.{ValueName}
 use Rattle.lset_tools.specs.declared.trouble.Trouble.TheVariants.{CannotRead, Memory, Bad}
 use Rattle.lset_tools.specs.Tools.{Made, Ends, AppendsFront}
@@ -33,10 +33,14 @@ ShowsAsked (Err wrong) input made = made ≡ Err (Bad wrong)
 abbrev pub ShowsBy : OptionValues → Option (List ℕ) → Made → Type 0
 ShowsBy options input made = ShowsAsked (asked_of options.svg options.from options.to options.width) input made
 
--- what `serve` makes of its values: with the keys of its input where a file is named, and else on an empty set
+-- what `serve` makes of its values: with the keys of its input where it has a word for one, and else on an empty set
 abbrev pub ServesBy : Option Text → List Text → Option (List ℕ) → Option (List ℕ) → Option (List ℕ) → Made → Type 0
 ServesBy None values input old first made = serve.Serves (serve.request_of values) old first made
-ServesBy (Some path) values input old first made = serve.ServesWith (serve.request_of values) input old first made
+ServesBy (Some word) values input old first made = serve.ServesWith (serve.request_of values) input old first made
+
+-- what `faults` makes: its text, where memory is found
+abbrev pub TellsFaults : Made → Type 0
+TellsFaults made = (made ≡ Err Memory) ⊎ (made ≡ Ok (record { text = faults_text; status = 0 }))
 
 -- What a command makes of its values and options, and of the bytes of its input where they are known. Before that it takes the output from
 -- the old to the first: `serve` writes the line that names its port, the others write nothing.
@@ -49,11 +53,12 @@ DoesBy Example values options input old first made = (first ≡ old) × Exampled
 DoesBy Gen values options input old first made = (first ≡ old) × Generates values made
 DoesBy Run values options input old first made = (first ≡ old) × run.Runs values made
 DoesBy Serve values options input old first made = ServesBy (file_by Serve values) values input old first made
+DoesBy Faults values options input old first made = (first ≡ old) × TellsFaults made
 
 abbrev pub Does : Choice → Option (List ℕ) → Option (List ℕ) → Option (List ℕ) → Made → Type 0
 Does choice input old first made = DoesBy choice.command choice.values choice.options input old first made
 
--- where no file is named, it does so on the standard input; else on what some file holds (that it is the one of this path, or read
+-- where the path of no file is named, it does so on the standard input; else on what some file holds (that it is the one of this path, or read
 -- from its start, no clause says), or it says that it could not be read
 abbrev pub DoesOn : Option Text → Choice → (Option (List ℕ) → Type 0) → Option (List ℕ) → Option (List ℕ) → Option (List ℕ) → Made → Type 0
 DoesOn None choice IsFile input old first made = Does choice input old first made
@@ -61,7 +66,7 @@ DoesOn (Some path) choice IsFile input old first made =
     ((first ≡ old) × (made ≡ Err CannotRead)) ⊎ ((bytes : Option (List ℕ)) × IsFile bytes × Does choice bytes old first made)
 
 abbrev pub DoesOnInput : Choice → (Option (List ℕ) → Type 0) → Option (List ℕ) → Option (List ℕ) → Option (List ℕ) → Made → Type 0
-DoesOnInput choice IsFile input old first made = DoesOn (file_of choice) choice IsFile input old first made
+DoesOnInput choice IsFile input old first made = DoesOn (path_of choice) choice IsFile input old first made
 
 -- HOW A COMMAND ENDS: what it writes first is written, and then what it made reaches the output, as with any tool.
 abbrev pub CommandEnds : (Option (List ℕ) → Option (List ℕ) → Made → Type 0) → Option (List ℕ) → Option (List ℕ) → Option (List ℕ) → Option (List ℕ) → ℕ → Type 0
@@ -70,7 +75,7 @@ CommandEnds IsMade output_old output_new faults_old faults_new status =
 
 -- ---- words that are not taken
 
--- the words ask for help; the program has no version to ask for
+-- the words ask for help, or for the version
 abbrev pub IsHelp : ErrorKind → Type 0
 IsHelp kind = (kind ≡ DisplayHelp) ⊎ (kind ≡ DisplayVersion)
 
@@ -78,7 +83,7 @@ IsHelp kind = (kind ≡ DisplayHelp) ⊎ (kind ≡ DisplayVersion)
 abbrev pub IsMistake : ErrorKind → Type 0
 IsMistake kind = (kind ≢ OutOfMemory) × (kind ≢ DisplayHelp) × (kind ≢ DisplayVersion)
 
--- what is made of words that ask for help: a text, and status 0; or, whatever the words are, memory is refused
+-- what is made of words that ask for that: a text, and status 0; or, whatever the words are, memory is refused
 abbrev pub Helps : ErrorKind → Made → Type 0
 Helps kind made = (made ≡ Err Memory) ⊎ (IsHelp kind × (text : List ℕ) × (made ≡ Ok (record { text = text; status = 0 })))
 

@@ -1,15 +1,15 @@
 ghost use Rattle.std.specs.Prelude.{◌≡◌, option_map, string_bytes};
 ghost use Rattle.std.specs.Option.{option_copied};
 ghost use Rattle.lset_command.specs.CommandLine.{choice_in, options_of};
-ghost use Rattle.lset_tools.specs.Tools.{Ends};
-ghost use Rattle.lset_dispatch.specs.Dispatch.{CommandEnds, Does, ShowsBy};
+ghost use Rattle.lset_tools.specs.Tools.{Ends, view};
+ghost use Rattle.lset_dispatch.specs.Dispatch.{CommandEnds, Does, ShowsBy, TellsFaults};
 
-use lset_command::{Command, Options, Words};
+use lset_command::{Command, Options, Words, faults_text};
 use lset_examples::tool_example;
 use lset_run::tool_run;
 use lset_serve::{tool_serve, tool_serve_with};
 use lset_show::{read_asked, tool_show};
-use lset_tools::{Trouble, deliver, tool_check, tool_gen, tool_replay};
+use lset_tools::{Answer, Trouble, deliver, tool_check, tool_gen, tool_replay};
 use lset_trace::tool_trace;
 use std::alloc::Global;
 use std::io::{Read, Write};
@@ -44,8 +44,16 @@ fn show<R: Read, W: Write, F: Write>(
     }
 }
 
+/// What `faults` tells, as an answer.
+fn faults_told(alloc: Global) -> Result<Answer, Trouble>
+    ensures { TellsFaults (view result) }
+{
+    let text = Vec::from_slice(alloc, faults_text().as_bytes())?;
+    Ok(Answer { text, status: 0 })
+}
+
 /// Does the command of the words with its tool, `replay`, `check`, `show` and `trace` on the input, the others on their
-/// values, and `serve` with the keys of the input where the words name a file. Gives the tool's exit status. `run` and
+/// values, and `serve` with the keys of the input where the words have one for it. Gives the tool's exit status. `run` and
 /// `serve` start threads on `rt`, and wait for them; `serve` listens there.
 pub fn run_command<
     H: Net<Listener = TcpListener, Stream = TcpStream> + Threads + Wait + Clock + Sync,
@@ -75,5 +83,6 @@ pub fn run_command<
             Some(_) => tool_serve_with(rt, alloc, &words.values, input, output, faults),
             None => tool_serve(rt, alloc, &words.values, output, faults),
         },
+        Command::Faults => deliver(alloc, faults_told(alloc), output, faults),
     }
 }

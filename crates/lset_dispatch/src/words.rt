@@ -17,9 +17,9 @@ use std::sync::Wait;
 use std::thread::Threads;
 use std::time::Clock;
 
-/// Ends a run whose words are not taken: writes the help that was asked for on `output`, status 0, or what is wrong with
-/// the words on `faults`, status 2. Where memory was refused, before or now, it writes the line about that on `faults`,
-/// status 3. A help that is not written whole is a failing write, status 1.
+/// Ends a run whose words are not taken: writes the help or the version that was asked for on `output`, status 0, or what
+/// is wrong with the words on `faults`, status 2. Where memory was refused, before or now, it writes the line about that on
+/// `faults`, status 3. A help that is not written whole is a failing write, status 1.
 pub fn decline<W: Write, F: Write>(
     alloc: Global,
     error: &Error,
@@ -44,7 +44,7 @@ pub fn decline<W: Write, F: Write>(
     }
 }
 
-/// Does the command of the words on the file that they name, or on the input where they name none.
+/// Does the command of the words on the file of the path that they name, or on the input where they name none.
 fn run_taken<
     H: Files + Net<Listener = TcpListener, Stream = TcpStream> + Threads + Wait + Clock + Sync,
     R: Read,
@@ -54,7 +54,7 @@ fn run_taken<
     ensures { CommandEnds (DoesOnInput (choice_in words.now) (λ bytes. (file : H.File) × (bytes ≡ H.File.remaining file)) (R.remaining input.old))
         (W.contents output.old) (W.contents output.new) (F.contents faults.old) (F.contents faults.new) result }
 {
-    let Some(path) = words.file() else {
+    let Some(path) = words.path() else {
         return run_command(rt, alloc, words, input, output, faults);
     };
     match File::open(rt, path) {
@@ -64,9 +64,9 @@ fn run_taken<
 }
 
 /// Runs the program on the words that stand after its name: does the command that they ask for, on the file that they
-/// name among the files of `rt`, on `input` where they name none, or on their values, or ends as `decline` does. Gives the
-/// exit status. `serve` opens with the keys of its file, and reads nothing where no file is named. `run` and `serve` start
-/// threads on `rt` and wait for them, and `serve` listens there.
+/// name among the files of `rt`, on `input` where they name none or `-`, or on their values, or ends as `decline` does.
+/// Gives the exit status. `serve` opens with the keys of its file or, at `-`, of `input`, and reads nothing without a word
+/// for one. `run` and `serve` start threads on `rt` and wait for them, and `serve` listens there.
 pub fn run_words<
     H: Files + Net<Listener = TcpListener, Stream = TcpStream> + Threads + Wait + Clock + Sync,
     R: Read,

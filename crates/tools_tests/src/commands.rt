@@ -1,11 +1,11 @@
 use clap::error::ErrorKind;
-use lset_command::{Command, Options, is_out_of_memory, tool_words};
+use lset_command::{Command, Options, VERSION, is_out_of_memory, tool_words};
 use std::alloc::{AllocError, Global};
 use std::test::Fail;
 
 #[test]
 fn words_give_a_command_and_its_values(rt: HostRuntime) -> Result<(), Fail> {
-    let rows: [(&[&str], Command, &str); 20] = [
+    let rows: [(&[&str], Command, &str); 21] = [
         (&[], Command::Replay, ""),
         (&["replay"], Command::Replay, ""),
         (&["replay", "a.schedule"], Command::Replay, " a.schedule"),
@@ -41,6 +41,7 @@ fn words_give_a_command_and_its_values(rt: HostRuntime) -> Result<(), Fail> {
         (&["trace", "a.schedule"], Command::Trace, " a.schedule"),
         (&["trace", "--chain", "--", "-a"], Command::Trace, " -a"),
         (&["example"], Command::Example, ""),
+        (&["faults"], Command::Faults, ""),
         (&["example", "snip", "--broken"], Command::Example, " snip"),
     ];
     for (words, command, values) in rows {
@@ -111,8 +112,14 @@ fn some_commands_read_the_file_of_their_words(rt: HostRuntime) -> Result<(), Fai
     for word in ["replay", "check", "show", "trace"] {
         let named = tool_words(rt.alloc(), &[word, "a.report"])?;
         assert_eq!(rt; named.file(), Some("a.report"));
+        assert_eq!(rt; named.path(), Some("a.report"));
         let unnamed = tool_words(rt.alloc(), &[word])?;
         assert_eq!(rt; unnamed.file(), None);
+        let standard = tool_words(rt.alloc(), &[word, "-"])?;
+        assert_eq!(rt; standard.file(), Some("-"));
+        assert_eq!(rt; standard.path(), None);
+        let of_that_name = tool_words(rt.alloc(), &[word, "./-"])?;
+        assert_eq!(rt; of_that_name.path(), Some("./-"));
     }
     for word in ["example", "gen", "run", "serve"] {
         let no_file = tool_words(rt.alloc(), &[word, "fine"])?;
@@ -123,7 +130,7 @@ fn some_commands_read_the_file_of_their_words(rt: HostRuntime) -> Result<(), Fai
 
 #[test]
 fn other_words_are_refused(rt: HostRuntime) -> Result<(), Fail> {
-    let rows: [(&[&str], ErrorKind); 17] = [
+    let rows: [(&[&str], ErrorKind); 18] = [
         (&["skip"], ErrorKind::InvalidSubcommand),
         (&["runs"], ErrorKind::InvalidSubcommand),
         (&["serves"], ErrorKind::InvalidSubcommand),
@@ -131,7 +138,7 @@ fn other_words_are_refused(rt: HostRuntime) -> Result<(), Fail> {
         (&["replay", "a", "b"], ErrorKind::UnknownArgument),
         (&["check", "a", "b"], ErrorKind::UnknownArgument),
         (&["gen", "-1"], ErrorKind::UnknownArgument),
-        (&["--version"], ErrorKind::UnknownArgument),
+        (&["replay", "--version"], ErrorKind::UnknownArgument),
         (&["--svg"], ErrorKind::UnknownArgument),
         (&["replay", "--chain"], ErrorKind::UnknownArgument),
         (&["check", "--from", "1"], ErrorKind::UnknownArgument),
@@ -144,6 +151,7 @@ fn other_words_are_refused(rt: HostRuntime) -> Result<(), Fail> {
         ),
         (&["trace", "--svg"], ErrorKind::UnknownArgument),
         (&["example", "a", "b"], ErrorKind::UnknownArgument),
+        (&["faults", "a"], ErrorKind::UnknownArgument),
     ];
     for (words, kind) in rows {
         let word = words[0];
@@ -244,6 +252,23 @@ fn help_names_the_commands_and_their_values(rt: HostRuntime) -> Result<(), Fail>
             Err(error) => {
                 let text = format!(in rt.alloc(); "{error}")?;
                 assert!(rt; text.as_str().contains(line), "{text}");
+            }
+        }
+    }
+    Ok(())
+}
+
+#[test]
+fn the_version_is_told_with_the_line_of_the_kit(rt: HostRuntime) -> Result<(), Fail> {
+    for word in ["--version", "-V"] {
+        match tool_words(rt.alloc(), &[word]) {
+            Ok(_) => assert!(rt; false, "{word} is taken"),
+            Err(error) => {
+                assert_eq!(rt; error.kind(), ErrorKind::DisplayVersion);
+                assert_eq!(rt;
+                    format!(in rt.alloc(); "{error}")?,
+                    format!(in rt.alloc(); "listset {VERSION}\n")?
+                );
             }
         }
     }

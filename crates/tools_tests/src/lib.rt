@@ -1,4 +1,4 @@
-//! The tests of the program: its words, its tools, the examples, pictures and traces, and which tool does what the words
+//! The tests of the program: its words, their help, its tools, the examples, pictures and traces, and which tool does what the words
 //! ask for.
 #![tactic(auto)]
 
@@ -14,6 +14,8 @@ mod devices;
 mod examples;
 #[cfg(test)]
 mod generating;
+#[cfg(test)]
+mod help;
 #[cfg(test)]
 mod lives;
 #[cfg(test)]

@@ -134,6 +134,28 @@ fn a_file_is_read_in_place_of_the_standard_input(rt: HostRuntime) -> Result<(), 
     Ok(())
 }
 
+/// The word `-`, where a file of that name lies too.
+#[test]
+fn a_hyphen_is_the_word_for_the_standard_input(rt: HostRuntime) -> Result<(), Fail> {
+    fs::write(&rt, "./-", ONE_ADD_REPORT)?;
+    let rows: [(&[&str], &str, (u8, &str, &str)); 5] = [
+        (&["replay", "-"], ONE_ADD, (0, ONE_ADD_REPORT, "")),
+        (&["check", "--", "-"], ONE_ADD_REPORT, (0, "ok\n", "")),
+        (&["check", "./-"], ONE_ADD, (0, "ok\n", "")),
+        (&["trace", "-"], "", (1, "", "listset: line 1: Header\n")),
+        (
+            &["serve", "lazy", "1", "4", "0", "0", "-"],
+            "key 1",
+            (1, "", "listset: line 1: NotEnded\n"),
+        ),
+    ];
+    for (words, input, wanted) in rows {
+        assert_eq!(rt; words_run(&rt, rt.alloc(), words, input).told()?, wanted);
+    }
+    fs::remove_file(&rt, "./-")?;
+    Ok(())
+}
+
 #[test]
 fn help_goes_to_the_output_and_a_mistake_to_standard_error(rt: HostRuntime) -> Result<(), Fail> {
     let help = words_run(&rt, rt.alloc(), &["--help"], ONE_ADD);

@@ -1,9 +1,10 @@
 use Rattle.std.proofs.Common.{◌≡◌, ◌∙◌, Some, None, ap, map, refl}
 use Rattle.std.specs.String.{string_bytes}
 use Rattle.lset_command.specs.CommandLine.{file_by, options_of}
-use Rattle.lset_command.specs.declared.words.Command.TheVariants.{Replay, Check, Show, Trace, Example, Gen, Run, Serve}
+use Rattle.lset_command.specs.declared.words.Command.TheVariants.{Replay, Check, Show, Trace, Example, Gen, Run, Serve, Faults}
 use Rattle.lset_examples.specs.Exampling.{Exampled}
-use Rattle.lset_dispatch.proofs.Endings.{at_command, at_once, served, with_argument}
+use Rattle.lset_dispatch.proofs.Endings.{at_command, at_once, ends_with, served, with_argument}
+use Rattle.lset_dispatch.specs.Dispatch.{TellsFaults}
 use Rattle.lset_dispatch.proofs.command.run_command.Goals as goal
 
 pub returns-in-Replay : goal.returns-in-Replay
@@ -48,3 +49,8 @@ returns-in-None g c =
     let file : None ≡ file_by Serve values = c.in-None.ensures ∙ ap (λ k. file_by k values) c.in-Serve.is in
     let texts = ap (map string_bytes) c.deref-in-None.ensures.value in
     at_command _ _ _ _ _ _ Serve _ values _ _ c.in-Serve.is refl (served _ _ _ _ _ _ _ _ values (options_of c.args.words.now.options) file texts c.tool_serve.ensures)
+
+pub returns-in-Faults : goal.returns-in-Faults
+returns-in-Faults g c =
+    let told = ends_with _ _ _ _ _ TellsFaults _ c.faults_told.ensures c.deliver.ensures in
+    at_command _ _ _ _ _ _ Faults _ _ _ _ c.in-Faults.is refl (at_once _ _ _ _ _ _ told)
