@@ -4,4 +4,5 @@ mod opened;
 mod refused;
 mod replayed;
 mod sheets;
+mod stopped;
 mod windows;
