@@ -48,6 +48,10 @@ keys  5
 refused WrongSet: the order leaves {}, and the keys are {5}
 ";
 
+/// The picture of a schedule whose first event is refused.
+pub const IDLE_PICTURE: &str =
+    "coarse list, 1 thread, quota 4: 0 calls in 0 events\n\nno calls\nkeys\n\nrefused line 5 Idle\n";
+
 /// A report with an open add that has put its key in: the whole picture is one moment.
 const OPEN_ADD: &str =
     "listset-report 1\nlist coarse\nthreads 1\nquota 4\ncall 0 0 add 5 1 open\nplace 0 true\nkey 5\nend\n";
@@ -69,7 +73,7 @@ fn of_replay(alloc: Global, calls: &mut Calls) -> Result<(), Wrong> {
     let picture = answer!(
         calls,
         "picture_of_replay",
-        ReplayFault::Memory,
+        AllocError,
         picture_of_replay(alloc, &plan)
     )?;
     check(picture.points.as_slice() == points.as_slice() && picture.refusal.is_none())

@@ -1,5 +1,7 @@
 use crate::calls::{Calls, Wrong};
-use crate::pictures::{ALL, NO_CALLS, NO_CALLS_PICTURE, WRONG_SET, WRONG_SET_PICTURE};
+use crate::pictures::{
+    ALL, IDLE_PICTURE, NO_CALLS, NO_CALLS_PICTURE, WRONG_SET, WRONG_SET_PICTURE,
+};
 use crate::texts::{DRAWN, ONE_ADD, ONE_ADD_REPORT};
 use crate::traces::{EARLY, EARLY_TRACE, TRACE};
 use lset_examples::{Example, tool_example};
@@ -234,7 +236,8 @@ fn tool_shows(alloc: Global, streams: &mut Streams, calls: &mut Calls) -> Result
     let rows = [
         (NO_CALLS, written(NO_CALLS_PICTURE, 0)),
         (WRONG_SET, written(WRONG_SET_PICTURE, 1)),
-        (IDLE, refused(1, "listset: line 5: Idle\n")),
+        (IDLE, written(IDLE_PICTURE, 1)),
+        (TRACE, refused(1, "listset: line 1: Header\n")),
     ];
     for (text, wanted) in rows {
         answer!(

@@ -123,7 +123,7 @@ fn each_read_fails_in_turn(rt: HostRuntime) -> Result<(), Fail> {
     for way in READS {
         runs = runs.saturating_add(each_row_fails(&rt, rt.alloc(), Device::Input, way)?);
     }
-    assert_eq!(rt; runs, 4_060);
+    assert_eq!(rt; runs, 4_244);
     Ok(())
 }
 
@@ -133,7 +133,7 @@ fn each_write_on_the_output_fails_in_turn(rt: HostRuntime) -> Result<(), Fail> {
     for way in WRITES {
         runs = runs.saturating_add(each_row_fails(&rt, rt.alloc(), Device::Output, way)?);
     }
-    assert_eq!(rt; runs, 7_509);
+    assert_eq!(rt; runs, 7_912);
     Ok(())
 }
 

@@ -45,6 +45,23 @@ keys  5
 * changes the set    o changes nothing, its reply fits there    > still open
 ";
 
+/// The picture of the schedule with a step too much: the events before it.
+pub const IDLE_PICTURE: &str = "\
+coarse list, 1 thread, quota 4: 1 call in 8 events
+
+moment    1      7   8
+thread 0  [add 5-*---true]
+set       {}     {5}
+
+order
+   1  at 7     thread 0  add 5 true
+keys  5
+
+* changes the set    o changes nothing, its reply fits there    > still open
+
+refused line 7 Idle
+";
+
 /// The picture of the report whose order leaves out its call.
 pub const REFUSED_PICTURE: &str = "\
 coarse list, 1 thread, quota 4: 1 call

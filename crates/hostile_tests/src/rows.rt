@@ -1,8 +1,8 @@
 //! Runs of the tools, on devices that fail as planned.
 use crate::devices::{Plan, Reader, Writer};
 use crate::row_texts::{
-    CEILING, CEILING_REPORT, IDLE, IDLE_TRACE, LEFT_OUT, NO_CALLS, NO_TITLE, OUTCOME, PICTURE,
-    REFUSED_PICTURE, REPORT, SCHEDULE, SHEET, TRACE,
+    CEILING, CEILING_REPORT, IDLE, IDLE_PICTURE, IDLE_TRACE, LEFT_OUT, NO_CALLS, NO_TITLE, OUTCOME,
+    PICTURE, REFUSED_PICTURE, REPORT, SCHEDULE, SHEET, TRACE,
 };
 use lset_drawing::Window;
 use lset_examples::{Example, tool_example};
@@ -73,7 +73,7 @@ fn tells(tool: Tool, input: &'static str, status: u8, faults: &'static str) -> R
     }
 }
 
-pub fn rows() -> [Row; 22] {
+pub fn rows() -> [Row; 23] {
     let broken = Example::StalePred.broken_report_text().unwrap_or("");
     [
         writes(Tool::Replay, SCHEDULE, 0, REPORT),
@@ -84,6 +84,7 @@ pub fn rows() -> [Row; 22] {
         writes(Tool::Check, LEFT_OUT, 1, "refused Missing 0\n"),
         tells(Tool::Check, SCHEDULE, 1, NO_TITLE),
         writes(Tool::Show, SCHEDULE, 0, PICTURE),
+        writes(Tool::Show, IDLE, 1, IDLE_PICTURE),
         writes(Tool::Show, LEFT_OUT, 1, REFUSED_PICTURE),
         tells(Tool::Show, TRACE, 1, NO_TITLE),
         writes(Tool::Svg, SCHEDULE, 0, SHEET),

@@ -5,6 +5,7 @@ use Rattle.lset_drawing.specs.Pictures.{PictureValue}
 use Rattle.lset_drawing.specs.Sets.{keys_line}
 use Rattle.lset_drawing.specs.Orders.{order_lines}
 use Rattle.lset_drawing.specs.Refusals.{refusal_line}
+use Rattle.lset_drawing.specs.RefusedEvents.{refused_lines}
 use Rattle.lset_drawing.specs.Drawings.{DrawingValue}
 
 -- the order and the keys that are left
@@ -21,5 +22,6 @@ lines_of_end keys points legend (Some r) = [] ∷ refusal_line keys r ∷ []
 abbrev pub end_lines : PictureValue → Bool → List ℕ → List (List ℕ)
 end_lines p known legend = lines_of_end p.keys (known && not (length p.order == 0)) legend p.refusal
 
+-- and at last which event of a schedule is refused, where one is
 abbrev pub lines_below : PictureValue → DrawingValue → List ℕ → List (List ℕ)
-lines_below p d legend = told_lines p d ++ end_lines p d.known legend
+lines_below p d legend = told_lines p d ++ end_lines p d.known legend ++ refused_lines p.refused

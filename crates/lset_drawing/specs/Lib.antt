@@ -9,5 +9,6 @@ pub mod Headings
 pub mod Lines
 pub mod Orders
 pub mod Refusals
+pub mod RefusedEvents
 pub mod Clashes
 pub mod Frames

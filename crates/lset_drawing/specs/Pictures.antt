@@ -6,6 +6,7 @@ use Rattle.lset_words.specs.declared.history.Point.{Point}
 use Rattle.lset_history.specs.History.{HistoryValue}
 use Rattle.lset_drawing.specs.declared.picture.Picture.{Picture}
 use Rattle.lset_history.specs.declared.refusal.Refusal.{Refusal}
+use Rattle.lset_steps.specs.declared.world.StepFault.{StepFault}
 
 -- a picture without where its lists lie in memory
 pub record PictureValue : Type 0 where
@@ -16,6 +17,7 @@ pub record PictureValue : Type 0 where
   pub points : List Point
   pub keys : List ℕ
   pub refusal : Option Refusal
+  pub refused : Option (ℕ × StepFault)
 
 abbrev pub view : Picture → PictureValue
 view p = record {
@@ -26,6 +28,7 @@ view p = record {
   points = p.points.items;
   keys = p.keys.items;
   refusal = p.refusal;
+  refused = p.refused;
 }
 
 -- there is a point for each place of the order, and no refusal

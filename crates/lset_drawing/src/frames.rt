@@ -9,6 +9,7 @@ use crate::drawings::Drawing;
 use crate::lines::add_line;
 use crate::orders::add_order;
 use crate::refusals::refusal_line;
+use crate::refused_events::add_refused;
 use crate::sets::keys_line;
 use std::alloc::{AllocError, Global};
 
@@ -58,8 +59,9 @@ fn add_end(
 }
 
 /// Adds what stands below the rows of a picture: its order, as far as its points are drawn, with how many places are left out,
-/// and the keys that are left; then, where the order is refused, why, and else `legend`, where there are points. Of a history
-/// without calls it is told so in place of the order. `drawing` is that of the picture. The only error is want of memory.
+/// and the keys that are left; then, where the order is refused, why, and else `legend`, where there are points; and at last, where
+/// an event of a schedule is refused, which. Of a history without calls it is told so in place of the order. `drawing` is that of
+/// the picture. The only error is want of memory.
 pub fn add_lines_below(
     alloc: Global,
     lines: &mut Vec<String>,
@@ -72,5 +74,6 @@ pub fn add_lines_below(
         ≡ texts lines.old.items ++ lines_below (view picture.now) (drawing_view drawing.now) legend.now) }
 {
     add_told(alloc, lines, picture, drawing)?;
-    add_end(alloc, lines, picture, drawing.known, legend)
+    add_end(alloc, lines, picture, drawing.known, legend)?;
+    add_refused(alloc, lines, picture.refused)
 }

@@ -15,5 +15,6 @@ pub mod Followed
 pub mod Ordered
 pub mod EventSteps
 pub mod Reported
+pub mod Fronts
 pub mod ReportWords
 pub mod Recorded

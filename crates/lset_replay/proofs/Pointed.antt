@@ -14,13 +14,12 @@ use Rattle.lset_words.specs.Words.{Opening}
 use Rattle.lset_history.proofs.Lists.{all_at, get_or_mapped}
 use Rattle.lset_history.proofs.Calls.{Traced, ChangedBy, EndedBy}
 use Rattle.lset_history.proofs.CallSteps.{run_of, calls_of}
-use Rattle.lset_schedule.specs.Plan.{Plan, opening_in}
 use Rattle.lset_steps.specs.Steps.{Table}
 use Rattle.lset_steps.specs.Worlds.{WorldState}
 use Rattle.lset_replay.specs.declared.events.LineEvent.{LineEvent}
 use Rattle.lset_replay.specs.declared.places.Place.{Place}
 use Rattle.lset_replay.specs.declared.recorder.Recorder.{Recorder}
-use Rattle.lset_replay.specs.Events.{only_events, events_of}
+use Rattle.lset_replay.specs.Events.{only_events}
 use Rattle.lset_replay.specs.Trace.{Trace, place_at, trace_of}
 use Rattle.lset_replay.specs.Blocks.{ArePointsAt}
 use Rattle.lset_replay.specs.Follows.{HasFollowed}
@@ -136,14 +135,3 @@ module _ (T : Table) (accounts : TellsKeys T) (op : Opening) (events : List Line
         stand = subst (λ k. StandAsPlaced op.quota (calls_at log k) contents counts order points) (sym (as_many events))
             (stand op (length events) log contents counts account r.places.items (trace_of r, refl, kept) order points a);
       }
-
--- those of a schedule's events
-pub points_are_of : (T : Table) (accounts : TellsKeys T) (p : Plan) (op : Opening) (events : List LineEvent) (w : WorldState)
-    (r : Recorder) (order : List Placed) (points : List Point)
-    → HasFollowed T op events (length events) w r → op ≡ opening_in p → events ≡ events_of p
-    → ArePointsAt r.places.items order points
-    → ArePointsOf T (opening_in p) (only_events (events_of p)) r.history.calls order points
-points_are_of T accounts p op events w r order points h a d at =
-    subst (λ es. ArePointsOf T (opening_in p) (only_events es) r.history.calls order points) d
-    (subst (λ z. ArePointsOf T z (only_events events) r.history.calls order points) a
-    (points_then T accounts op events w r h order points at))

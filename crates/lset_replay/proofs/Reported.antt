@@ -16,9 +16,9 @@ use Rattle.lset_steps.proofs.Segments.{chain_once}
 use Rattle.lset_headline.specs.Headline.{history_of, keys_left, ExplainsRun, RunsAreLinearizable}
 use Rattle.lset_replay.specs.declared.events.LineEvent.{LineEvent}
 use Rattle.lset_replay.specs.declared.recorder.Recorder.{Recorder}
-use Rattle.lset_replay.specs.Events.{only_events, events_of}
+use Rattle.lset_replay.specs.Events.{only_events}
 use Rattle.lset_report.specs.Report.{ReportValue}
-use Rattle.lset_replay.specs.Reports.{IsReportOf, IsReplay, IsExplained}
+use Rattle.lset_replay.specs.Reports.{IsReportOf, IsReplayOf, IsExplained}
 use Rattle.lset_replay.specs.Trace.{Trace}
 use Rattle.lset_replay.specs.Follows.{HasFollowed}
 use Rattle.lset_replay.proofs.Followed.{TellsKeys, shown, account_then, low_then, kept_then}
@@ -70,17 +70,16 @@ module _ (T : Table) (accounts : TellsKeys T) (op : Opening) (events : List Line
 
 pub replay_is : (T : Table) (accounts : TellsKeys T) (p : Plan) (op : Opening) (events : List LineEvent) (w : WorldState) (r : Recorder)
     (order : List Placed) (keys : List ℕ)
-    → HasFollowed T op events (length events) w r → op ≡ opening_in p → events ≡ events_of p
+    → HasFollowed T op events (length events) w r → op ≡ opening_in p
     → order ≡ blocks_upto r.places.items (length events)
     → IsContent (view_of w.sizes w.state) keys
-    → IsReplay T p (record { version = p.version; kind = p.kind; history = r.history; order = order; keys = keys })
-replay_is T accounts p op events w r order keys h a d o c = record {
+    → IsReplayOf T p (only_events events) (record { version = p.version; kind = p.kind; history = r.history; order = order; keys = keys })
+replay_is T accounts p op events w r order keys h a o c = record {
   version_is = refl;
   kind_is = refl;
   opening_is = h.opening_is ∙ a;
-  report = subst (λ es. IsReportOf T (opening_in p) (only_events es) r.history.calls order keys) d
-      (subst (λ z. IsReportOf T z (only_events events) r.history.calls order keys) a
-      (report_then T accounts op events (length events) w r h order keys (as_many events) o c));
+  report = subst (λ z. IsReportOf T z (only_events events) r.history.calls order keys) a
+      (report_then T accounts op events (length events) w r h order keys (as_many events) o c);
 }
 
 -- THE HEADLINE of a report
@@ -102,11 +101,12 @@ module _ (T : Table) (headline : RunsAreLinearizable T) (op : Opening) (events :
       ∙ content_once (views T op (event_at events) (length events))
       (keys_left op (history_of T op (event_at events) (length events)) order) keys run_explained.content h.content
 
-pub explained_is : (T : Table) → RunsAreLinearizable T → (p : Plan) (v : ReportValue) → IsReplay T p v → IsExplained v
-explained_is T headline p v h = record {
+pub explained_is : (T : Table) → RunsAreLinearizable T → (p : Plan) (events : List Event) (v : ReportValue) → IsReplayOf T p events v
+    → IsExplained v
+explained_is T headline p events v h = record {
   linearizes = subst (λ (o : Opening). Linearizes o.quota (opening_set o) v.history.calls v.order) (sym h.opening_is)
-      (explains T headline (opening_in p) (only_events (events_of p)) v.history.calls v.order v.keys h.report);
+      (explains T headline (opening_in p) events v.history.calls v.order v.keys h.report);
   leaves = subst (λ z. keys_left z v.history.calls v.order ≡ v.keys) (sym h.opening_is)
-      (leaves T headline (opening_in p) (only_events (events_of p)) v.history.calls v.order v.keys h.report);
+      (leaves T headline (opening_in p) events v.history.calls v.order v.keys h.report);
   rising = h.report.content.1;
 }

@@ -7,3 +7,4 @@ pub mod Follows
 pub mod Tracing
 pub mod Tracer
 pub mod TracedReports
+pub mod Fronts

@@ -13,6 +13,7 @@ mod start;
 mod told;
 mod traced;
 mod tracing;
+mod upto;
 
 pub use fault::ReplayFault;
 pub use placed_report::PlacedReport;
@@ -20,3 +21,4 @@ pub use replaying::{replay, replay_with_points};
 pub use told::traces_tell_reports;
 pub use traced::{CallEnd, Deed, Trace, TracedEvent};
 pub use tracing::trace;
+pub use upto::{FrontReport, replay_upto};

@@ -90,6 +90,7 @@ report_drawn r points refusal = record {
   points = points;
   keys = r.keys;
   refusal = refusal;
+  refused = None;
 }
 
 own_picture : (r : ReportValue) (refusal : Option Refusal) (points : List Point)
@@ -99,6 +100,7 @@ own_picture : (r : ReportValue) (refusal : Option Refusal) (points : List Point)
 own_picture r refusal points judged e apart exist = record {
   report_is = refl;
   events_are = refl;
+  refused_is = refl;
   judged = judgement r refusal judged;
   points_are = e;
   in_bars = record { apart = apart; points = has_drawn r.history r.order r.keys refusal points exist judged e };

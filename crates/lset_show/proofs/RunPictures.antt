@@ -1,14 +1,13 @@
 -- The picture of a schedule, from its replay; and of the bytes that were read.
 use Rattle.std.proofs.Common.{◌≡◌, ℕ, List, Option, Some, None, refl, ap, ◌∙◌, subst}
-use Rattle.std.specs.List.{sum_by}
 use Rattle.std.specs.Option.{IfSome}
 use Rattle.lset_words.specs.declared.history.Point.{Point}
 use Rattle.lset_lists.specs.Tables.{table_of}
-use Rattle.lset_schedule.specs.Plan.{Plan, event_count, opening_in}
-use Rattle.lset_replay.specs.Events.{events_of, only_events}
-use Rattle.lset_replay.specs.PlacedReports.{ArePointsOf}
+use Rattle.lset_schedule.specs.Plan.{Plan}
+use Rattle.lset_steps.specs.declared.world.StepFault.{StepFault}
 use Rattle.lset_report.specs.Report.{ReportValue}
-use Rattle.lset_replay.specs.Reports.{IsReplay, IsExplained}
+use Rattle.lset_replay.specs.Fronts.{IsReplayUpto}
+use Rattle.lset_replay.specs.Reports.{IsExplained}
 use Rattle.lset_drawing.specs.declared.picture.Window.{Window}
 use Rattle.lset_drawing.specs.Pictures.{PictureValue}
 use Rattle.lset_tools.specs.Tools.{Made}
@@ -19,8 +18,8 @@ use Rattle.lset_show.specs.SchedulePictures.{IsPictureOfSchedule}
 use Rattle.lset_show.specs.Showing.{Shows}
 use Rattle.lset_show.proofs.InBars.{has_run_points}
 
-abbrev run_drawn : ReportValue → List Point → ℕ → PictureValue
-run_drawn r points events = record {
+abbrev run_drawn : ReportValue → List Point → ℕ → Option (ℕ × StepFault) → PictureValue
+run_drawn r points events refused = record {
   kind = r.kind;
   history = r.history;
   events = Some events;
@@ -28,25 +27,25 @@ run_drawn r points events = record {
   points = points;
   keys = r.keys;
   refusal = None;
+  refused = refused;
 }
 
 -- the report is of the version of its schedule
-report_drawn : (p : Plan) (r : ReportValue) (points : List Point) (events : ℕ) → r.version ≡ p.version
-    → r ≡ report_in p.version (run_drawn r points events)
-report_drawn p r points events e = ap (λ v. report_in v (run_drawn r points events)) e
+report_drawn : (p : Plan) (r : ReportValue) (points : List Point) (events : ℕ) (refused : Option (ℕ × StepFault))
+    → r.version ≡ p.version → r ≡ report_in p.version (run_drawn r points events refused)
+report_drawn p r points events refused e = ap (λ v. report_in v (run_drawn r points events refused)) e
 
-pub schedule_picture : (p : Plan) (r : ReportValue) (points : List Point) (events : ℕ)
-    → IsReplay (table_of p.kind) p r → IsExplained r
-    → ArePointsOf (table_of p.kind) (opening_in p) (only_events (events_of p)) r.history.calls r.order points
-    → events ≡ sum_by event_count p.lines → BarsAreApart r.history.calls → IsPictureOfSchedule p (run_drawn r points events)
-schedule_picture p r points events replay explained are counted apart =
-    let drawn = report_drawn p r points events replay.version_is in record {
-      replay = subst (IsReplay (table_of p.kind) p) drawn replay;
+pub schedule_picture : (p : Plan) (r : ReportValue) (points : List Point) (events : ℕ) (refused : Option (ℕ × StepFault))
+    → IsReplayUpto (table_of p.kind) p events refused r points → IsExplained r
+    → BarsAreApart r.history.calls → IsPictureOfSchedule p (run_drawn r points events refused)
+schedule_picture p r points events refused upto explained apart =
+    let drawn = report_drawn p r points events refused upto.report.version_is in record {
+      made = events;
+      events_are = refl;
+      replay = subst (λ z. IsReplayUpto (table_of p.kind) p events refused z points) drawn upto;
       explained = subst IsExplained drawn explained;
-      points_are = are;
-      events_are = ap (λ (n : ℕ). let o : Option ℕ = Some n in o) counted;
       accepted = refl;
-      in_bars = record { apart = apart; points = λ none. has_run_points _ r.history.calls r.order points are.bars };
+      in_bars = record { apart = apart; points = λ none. has_run_points _ r.history.calls r.order points upto.points_are.bars };
     }
 
 -- what is made of the bytes that were read is made of those of the input

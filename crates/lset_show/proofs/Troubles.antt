@@ -7,8 +7,6 @@ use Rattle.lset_schedule.specs.declared.fault.Cause.TheVariants as schedule
 use Rattle.lset_schedule.specs.declared.fault.ScheduleFault.{ScheduleFault}
 use Rattle.lset_schedule.specs.ScheduleReading as schedules
 use Rattle.lset_report.specs.Report.{ReportValue}
-use Rattle.lset_replay.specs.declared.fault.ReplayFault.{ReplayFault}
-use Rattle.lset_replay.specs.declared.fault.ReplayFault.TheVariants as replay
 use Rattle.lset_report.specs.declared.report_fault.ReportCause.{ReportCause}
 use Rattle.lset_report.specs.declared.report_fault.ReportCause.TheVariants as report
 use Rattle.lset_report.specs.declared.report_fault.ReportFault.{ReportFault}
@@ -16,10 +14,9 @@ use Rattle.lset_report.specs.ReportReading as reports
 use Rattle.lset_tools.specs.declared.answer.Answer.{Answer}
 use Rattle.lset_tools.specs.declared.trouble.Trouble.{Trouble}
 use Rattle.lset_tools.specs.declared.trouble.Trouble.TheVariants.{CannotRead, TooLong, CannotWrite, Memory, Line, Bad, CannotListen, Work, Serve}
-use Rattle.lset_tools.specs.Trouble.{of_schedule_line, of_report_line, of_replay}
+use Rattle.lset_tools.specs.Trouble.{of_schedule_line, of_report_line}
 use Rattle.lset_tools.specs.Checking as checking
-use Rattle.lset_tools.specs.Replaying as replaying
-use Rattle.lset_show.specs.Showing.{IsFirstFault}
+use Rattle.lset_show.specs.Showing.{IsFirstFault, IsScheduleFault}
 
 -- 0 of an input that cannot be read, and 1 of every other trouble
 abbrev count_of : Trouble → ℕ
@@ -61,15 +58,9 @@ of_a_report number report.History = refl
 of_a_report number report.NotEnded = refl
 of_a_report number report.Memory = refl
 
-of_a_replay : (refusal : ReplayFault) → count_of (of_replay refusal) ≡ 1
-of_a_replay (replay.NoThread number) = refl
-of_a_replay (replay.Busy number) = refl
-of_a_replay (replay.Idle number) = refl
-of_a_replay replay.Memory = refl
-
-in_a_schedule : (r : Result Plan ScheduleFault) (t : Trouble) → replaying.IsFirstFault r t → count_of t ≡ 1
+in_a_schedule : (r : Result Plan ScheduleFault) (t : Trouble) → IsScheduleFault r t → count_of t ≡ 1
 in_a_schedule (Err fault) t e = ap count_of e ∙ of_a_schedule fault.line fault.cause
-in_a_schedule (Ok p) t f = ap count_of f.1 ∙ of_a_replay f.0
+in_a_schedule (Ok p) t f = absurd f
 
 in_a_report : (r : Result ReportValue ReportFault) (t : Trouble) → checking.IsFirstFault r t → count_of t ≡ 1
 in_a_report (Err fault) t e = ap count_of e ∙ of_a_report fault.line fault.cause

@@ -58,7 +58,9 @@ IsJudgement r (Some refusal) = IsRefusalOf r.history r.order r.keys refusal
 pub record IsPictureOfReport (r : ReportValue) (v : PictureValue) : Type 0 where
   -- shows its history, its order and its keys,
   pub report_is : report_in r.version v ≡ r
+  -- speaks of no events,
   pub events_are : v.events ≡ None
+  pub refused_is : v.refused ≡ None
   -- tells a refusal just where the order is refused,
   pub judged : IsJudgement r v.refusal
   -- has the first points of the order elsewhere,

@@ -1,5 +1,5 @@
 //! Pictures of schedules and of reports, and the tool that draws them: the bars of the calls, the points at which they stand
-//! in the order, and of a refused order why.
+//! in the order, of a refused order why, and of a refused event which.
 #![tactic(auto)]
 
 mod asking;

@@ -84,5 +84,6 @@ pub fn picture_of_report(alloc: Global, report: Report) -> Result<Picture, Alloc
         points,
         keys: report.keys,
         refusal,
+        refused: None,
     })
 }

@@ -5,9 +5,17 @@ ghost use Rattle.lset_drawing.specs.Pictures.{view};
 ghost use Rattle.lset_tools.specs.Tools.{Ends, IsTaken};
 ghost use Rattle.lset_tools.specs.Tools as tools;
 ghost use Rattle.lset_tools.specs.Checking as checking;
-ghost use Rattle.lset_tools.specs.Replaying as replaying;
 ghost use Rattle.lset_tools.specs.declared.trouble.Trouble.TheVariants.{Memory};
-ghost use Rattle.lset_show.specs.Showing.{ShowsSchedule, ShowsReport, Shows, IsFirstFault, has_report_title, Draws, status_of};
+ghost use Rattle.lset_show.specs.Showing.{
+  ShowsSchedule,
+  ShowsReport,
+  Shows,
+  IsFirstFault,
+  IsScheduleFault,
+  has_report_title,
+  Draws,
+  status_of,
+};
 
 use crate::{Form, picture_of_replay, picture_of_report};
 use lset_drawing::{Picture, Window};
@@ -34,7 +42,7 @@ fn has_report_title(bytes: &[u8]) -> bool
 /// The picture of the schedule whose text the bytes are.
 fn of_schedule(alloc: Global, bytes: &[u8]) -> Result<Picture, Trouble>
     ensures shows { IfOk result (λ p. ShowsSchedule bytes.now (view p)) }
-    ensures trouble { IfErr result (λ t. (t ≡ Memory) ⊎ replaying.IsFirstFault (schedules.reading bytes.now) t) }
+    ensures trouble { IfErr result (λ t. (t ≡ Memory) ⊎ IsScheduleFault (schedules.reading bytes.now) t) }
 {
     let schedule = read_schedule(alloc, bytes)?;
     let picture = picture_of_replay(alloc, &schedule)?;
@@ -81,13 +89,14 @@ fn text_of(
     }
 }
 
-/// 1 where the picture tells a refusal, and else 0.
+/// 1 where the picture tells a refusal, of an order or of an event, and else 0.
 fn status_of(picture: &Picture) -> u8
-    ensures { result ≡ status_of (view picture.now).refusal }
+    ensures { result ≡ status_of (view picture.now) }
 {
-    match picture.refusal {
-        None => 0,
-        Some(_) => 1,
+    if picture.refusal.is_none() && picture.refused.is_none() {
+        0
+    } else {
+        1
     }
 }
 
@@ -106,11 +115,12 @@ fn answer_of(alloc: Global, bytes: &[u8], form: Form, window: Window) -> Result<
 }
 
 /// The answer of `show` on an input of these bytes: the picture of the schedule or the report whose text they are, of the
-/// moments in `window`, in that form; its status is 1 where the order of the report is refused, and else 0.
+/// moments in `window`, in that form; its status is 1 where the order of the report or an event of the schedule is refused, and
+/// else 0. A schedule with such an event is drawn up to it.
 ///
 /// The error is `TooLong` where there are more than `LONGEST` bytes. A text with the first line of a report, of either
 /// version, that is none has the first fault of `read_report`; any other text that is no schedule has that of
-/// `read_schedule`, and a schedule that is not replayed that of `replay`. `Memory` where memory was refused.
+/// `read_schedule`. `Memory` where memory was refused.
 pub fn shown(alloc: Global, bytes: &[u8], form: Form, window: Window) -> Result<Answer, Trouble>
     ensures shows { Shows form window bytes.now (tools.view result) }
     // Bytes that are here can be read.
@@ -136,8 +146,8 @@ fn drawn_of<R: Read>(
 
 /// Draws the schedule or the report on the input: writes its picture on the output, in that form, of the
 /// moments in the window, or one line about what is wrong on `faults` and nothing on the output. The first line of the
-/// input says which it is. Gives the exit status: 0 where the picture was written, 1 where it was written and tells
-/// why the order is refused, 3 where memory was refused, else 1. A failing write on `faults` leaves the status as it is.
+/// input says which it is. Gives the exit status: 0 where the picture was written, 1 where it was written and tells why the order or
+/// which event is refused, 3 where memory was refused, else 1. A failing write on `faults` leaves the status as it is.
 pub fn tool_show<R: Read, W: Write, F: Write>(
     alloc: Global,
     form: Form,

@@ -4,5 +4,6 @@ mod opened;
 mod refused;
 mod replayed;
 mod sheets;
+mod stopped;
 mod widths;
 mod windows;

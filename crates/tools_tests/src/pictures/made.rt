@@ -69,6 +69,7 @@ pub fn picture_of(
         points: points_of(alloc, stands)?,
         keys: keys.to_vec(alloc)?,
         refusal: None,
+        refused: None,
     })
 }
 

@@ -23,6 +23,7 @@ pub fn early(alloc: Global, refusal: Refusal, keys: &[u32]) -> Result<Picture, F
         points: Vec::new(alloc),
         keys: keys.to_vec(alloc)?,
         refusal: Some(refusal),
+        refused: None,
     })
 }
 
