@@ -32,7 +32,7 @@ use Rattle.lset_schedule.specs.Plan.{Plan, opening_in}
 use Rattle.lset_replay.specs.Events.{only_events, events_of, line_at}
 use Rattle.lset_replay.specs.Trace.{trace_of, MayFollow, open_call_at, place_at, changed_at}
 use Rattle.lset_replay.specs.Follows.{HasFollowed}
-use Rattle.lset_replay.specs.Tracing.{IsDeedAt, EndsCall, TellsEnd, TellsChain, TellsEvent, TellsEvents, IsTraceOf}
+use Rattle.lset_replay.specs.Tracing.{IsDeedAt, EndsCall, TellsEnd, TellsChain, TellsEvent, TellsEvents, HearsEvents, IsTraceOf}
 use Rattle.lset_replay.specs.Tracer.{deed_ahead, open_number_of, end_there, end_with, NotesChain, MadeEvent, KeepsChain, HasTraced}
 use Rattle.lset_replay.proofs.EventSteps.{ready, followed, stopped}
 use Rattle.lset_replay.proofs.Following.{Follows, IsWatched, PlaceBy, PlaceOf, calls_are}
@@ -275,3 +275,11 @@ trace_is T p chains op events t a d kind threads quota keys tells = record {
   tells = subst (λ es. TellsEvents T (opening_in p) es chains t.events.items t.refused) d
       (subst (λ z. TellsEvents T z events chains t.events.items t.refused) a tells);
 }
+
+-- somebody has heard of the events of a schedule
+pub heard_is : (HasHeard : List TracedEvent → Type 0) (T : Table) (p : Plan) (chains : Bool) (op : Opening) (events : List LineEvent)
+    (refused : Option (ℕ × StepFault)) → op ≡ opening_in p → events ≡ events_of p
+    → HearsEvents HasHeard T op events chains refused → HearsEvents HasHeard T (opening_in p) (events_of p) chains refused
+heard_is HasHeard T p chains op events refused a d h =
+    subst (λ es. HearsEvents HasHeard T (opening_in p) es chains refused) d
+    (subst (λ z. HearsEvents HasHeard T z events chains refused) a h)

@@ -98,3 +98,10 @@ pub record HasTraced (T : Table) (op : Opening) (events : List LineEvent) (chain
   pub chain : KeepsChain chains (view_of w.sizes w.state) kept
   pub each : (i : ℕ) (none : TracedEvent) → i < length traced
       → TellsEvent T op events (event_at (only_events events)) chains i (slice_index_or traced i none)
+
+-- And somebody has heard of them, and of no other.
+pub record IsHeard (HasHeard : List TracedEvent → Type 0) (T : Table) (op : Opening) (events : List LineEvent) (chains : Bool) (k : ℕ)
+    (w : WorldState) (r : Recorder) (kept : List ChainKey) : Type 0 where
+  pub traced : List TracedEvent
+  pub heard : HasHeard traced
+  pub told : HasTraced T op events chains k w r kept traced

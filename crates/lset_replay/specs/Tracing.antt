@@ -92,6 +92,13 @@ pub record TellsEvents (T : Table) (op : Opening) (events : List LineEvent) (cha
   -- and after them comes none, or one that is refused.
   pub ends : EndsTrace T op events (length traced) refused
 
+-- somebody who has heard of these events, and of no other
+pub record HearsEvents (HasHeard : List TracedEvent → Type 0) (T : Table) (op : Opening) (events : List LineEvent) (chains : Bool)
+    (refused : Option (ℕ × StepFault)) : Type 0 where
+  pub traced : List TracedEvent
+  pub heard : HasHeard traced
+  pub tells : TellsEvents T op events chains traced refused
+
 -- the trace of a schedule
 pub record IsTraceOf (T : Table) (p : Plan) (chains : Bool) (t : Trace) : Type 0 where
   pub kind_is : t.kind ≡ p.kind

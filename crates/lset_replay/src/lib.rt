@@ -4,6 +4,7 @@
 
 mod events;
 mod fault;
+mod listener;
 mod order;
 mod placed_report;
 mod places;
@@ -16,9 +17,10 @@ mod tracing;
 mod upto;
 
 pub use fault::ReplayFault;
+pub use listener::Listener;
 pub use placed_report::PlacedReport;
 pub use replaying::{replay, replay_with_points};
 pub use told::traces_tell_reports;
 pub use traced::{CallEnd, Deed, Trace, TracedEvent};
-pub use tracing::trace;
+pub use tracing::{trace, trace_to};
 pub use upto::{FrontReport, replay_upto};

@@ -1,14 +1,14 @@
-ghost use Rattle.std.specs.Prelude.{◌≡◌, ℕ, ◌<◌, ◌≤◌, ◌^◌, ◌↔◌, IsTrue, false, length, IfOk, Some};
+ghost use Rattle.std.specs.Prelude.{◌≡◌, ℕ, ◌<◌, ◌≤◌, ◌^◌, ◌↔◌, IsTrue, false, [], ◌++◌, length, IfOk, Some};
 ghost use Rattle.std.specs.List.{sum_by};
 ghost use Rattle.lset_lists.specs.Tables.{table_of};
 ghost use Rattle.lset_steps.specs.Steps.{Enabled, local_of, told};
 ghost use Rattle.lset_steps.specs.Laws.{view_of};
 ghost use Rattle.lset_steps.specs.Worlds.{thread_of};
 ghost use Rattle.lset_schedule.specs.declared.TheConstants.{MOST_EVENTS};
-ghost use Rattle.lset_schedule.specs.Plan.{IsSchedule, view, event_count};
-ghost use Rattle.lset_replay.specs.Events.{events_from};
+ghost use Rattle.lset_schedule.specs.Plan.{IsSchedule, view, event_count, opening_in};
+ghost use Rattle.lset_replay.specs.Events.{events_of, events_from};
 ghost use Rattle.lset_replay.specs.Trace.{MayFollow, open_call_at};
-ghost use Rattle.lset_replay.specs.Tracing.{IsTraceOf, TellsEvents};
+ghost use Rattle.lset_replay.specs.Tracing.{IsTraceOf, HearsEvents};
 ghost use Rattle.lset_replay.specs.Tracer.{
   HasTraced,
   MakesEvent,
@@ -25,7 +25,7 @@ ghost use Rattle.lset_replay.specs.declared.tracing.Stop.TheVariants.{Memory};
 use crate::events::{LineEvent, event_of};
 use crate::recorder::Recorder;
 use crate::start::start_of;
-use crate::{CallEnd, Deed, Trace, TracedEvent};
+use crate::{CallEnd, Deed, Listener, Trace, TracedEvent};
 use lset_lists::{List, Task, on_list};
 use lset_schedule::{Line, Schedule};
 use lset_steps::laws::{has_account, listed_content};
@@ -194,14 +194,14 @@ fn trace_event<M: Machine>(
     })
 }
 
-/// Makes and tells the events of the lines, the first of which has the number `first`, one after another, up to the
-/// first that is not enabled, whose line and cause it answers.
-fn trace_lines<M: Machine>(
+/// Makes the events of the lines, the first of which has the number `first`, and tells the listener of them, one after
+/// another, up to the first that is not enabled, whose line and cause it answers.
+fn trace_lines<M: Machine, L: Listener>(
     alloc: Global,
     world: &mut World<M>,
     recorder: &mut Recorder,
     kept: &mut Vec<ChainKey>,
-    traced: &mut Vec<TracedEvent>,
+    listener: &mut L,
     first: u64,
     lines: &[Line],
     chains: bool,
@@ -209,9 +209,10 @@ fn trace_lines<M: Machine>(
     requires header { first ≤ 2 ^ 32 }
     requires few { sum_by event_count lines.now ≤ MOST_EVENTS }
     requires start { HasTraced M.table recorder.old.history.opening (events_from first lines.now) chains 0
-        world.old recorder.old kept.old.items traced.old.items }
-    ensures { IfOk result (λ refused. TellsEvents M.table recorder.old.history.opening
-        (events_from first lines.now) chains traced.new.items refused) }
+        world.old recorder.old kept.old.items [] }
+    requires silence { L.has_heard listener.old [] listener.old }
+    ensures { IfOk result (λ refused. HearsEvents (λ events. L.has_heard listener.old events listener.new) M.table recorder.old.history.opening
+        (events_from first lines.now) chains refused) }
 {
     has_account::<M>();
     listed_content::<M>();
@@ -221,7 +222,7 @@ fn trace_lines<M: Machine>(
         for _done in 0..times {
             moment += 1;
             match trace_event(alloc, world, recorder, kept, next, moment, chains) {
-                Ok(told) => traced.push(told)?,
+                Ok(told) => listener.hear(moment, told)?,
                 Err(Stop::Refused(cause)) => return Ok(Some((next.line, cause))),
                 Err(Stop::Memory) => return Err(AllocError),
             }
@@ -231,54 +232,90 @@ fn trace_lines<M: Machine>(
 }
 
 /// Traces a schedule on the list of the machine `M`.
-fn trace_on<M: Machine>(
+fn trace_on<M: Machine, L: Listener + Drop>(
     alloc: Global,
     schedule: &Schedule,
     chains: bool,
-) -> Result<Trace, AllocError>
-    requires { IsSchedule (view schedule.now) }
-    ensures { IfOk result (λ t. IsTraceOf M.table (view schedule.now) chains t) }
+    listener: L,
+) -> Result<(L, Option<(u64, StepFault)>), AllocError>
+    requires schedule { IsSchedule (view schedule.now) }
+    requires silence { L.has_heard listener [] listener }
+    ensures { IfOk result (λ r. HearsEvents (λ events. L.has_heard listener events r.0) M.table (opening_in (view schedule.now))
+        (events_of (view schedule.now)) chains r.1) }
 {
+    let mut listener = listener;
     let (mut world, mut recorder) = start_of::<M>(alloc, schedule)?;
     let mut kept = world.chain()?;
-    let mut events = Vec::new(alloc);
     let refused = trace_lines(
         alloc,
         &mut world,
         &mut recorder,
         &mut kept,
-        &mut events,
+        &mut listener,
         schedule.first_event_line(),
         &schedule.lines,
         chains,
     )?;
-    Ok(Trace {
-        kind: schedule.kind,
-        threads: schedule.threads,
-        quota: schedule.quota,
-        opening: schedule.opening.to_vec(alloc)?,
-        events,
-        refused,
-    })
+    Ok((listener, refused))
 }
 
-/// The trace of a schedule, whatever its list.
-#[derive(Clone, Copy)]
-struct Tracing<'a> {
+/// The tracing of a schedule, whatever its list.
+#[derive(Drop)]
+struct Tracing<'a, L: Listener> {
     alloc: Global,
     schedule: &'a Schedule,
     chains: bool,
+    listener: L,
 }
 
-impl Task for Tracing<'_> {
-    type Out = Result<Trace, AllocError>;
+impl<L: Listener + Drop> Task for Tracing<'_, L> {
+    type Out = Result<(L, Option<(u64, StepFault)>), AllocError>;
 
-    ghost may = { λ task kind. IsSchedule (view task.schedule.now) };
+    ghost may = { λ task kind. IsSchedule (view task.schedule.now) × L.has_heard task.listener [] task.listener };
 
-    ghost done = { λ task table result. IfOk result (λ t. IsTraceOf table (view task.schedule.now) task.chains t) };
+    ghost done = { λ task table result. IfOk result (λ r. HearsEvents (λ events. L.has_heard task.listener events r.0) table
+        (opening_in (view task.schedule.now)) (events_of (view task.schedule.now)) task.chains r.1) };
 
-    fn run<M: List>(self) -> Result<Trace, AllocError> {
-        trace_on::<M>(self.alloc, self.schedule, self.chains)
+    fn run<M: List>(self) -> Result<(L, Option<(u64, StepFault)>), AllocError> {
+        trace_on::<M, L>(self.alloc, self.schedule, self.chains, self.listener)
+    }
+}
+
+/// Tells a listener of the events that `trace` has of a schedule, one after another, and gives it back; and of the first
+/// event that is not enabled the number of its line and the first cause. The schedule is within its limits, as what
+/// `read_schedule` gives. It fails only where memory was refused, also by the listener. (This project's own.)
+pub fn trace_to<L: Listener + Drop>(
+    alloc: Global,
+    schedule: &Schedule,
+    chains: bool,
+    listener: L,
+) -> Result<(L, Option<(u64, StepFault)>), AllocError>
+    requires schedule { IsSchedule (view schedule.now) }
+    requires silence { L.has_heard listener [] listener }
+    ensures { IfOk result (λ r. HearsEvents (λ events. L.has_heard listener events r.0) (table_of schedule.now.kind) (opening_in (view schedule.now))
+        (events_of (view schedule.now)) chains r.1) }
+{
+    let task = Tracing {
+        alloc,
+        schedule,
+        chains,
+        listener,
+    };
+    on_list(schedule.kind, task)
+}
+
+/// The events themselves.
+#[derive(Drop)]
+struct Events {
+    heard: Vec<TracedEvent>,
+}
+
+impl Listener for Events {
+    ghost has_heard = { λ first events now. now.heard.items ≡ first.heard.items ++ events };
+
+    fn hear(&mut self, _number: u32, event: TracedEvent) -> Result<(), AllocError> {
+        self.heard.push(event)?;
+        Ok(())
     }
 }
 
@@ -292,10 +329,16 @@ pub fn trace(alloc: Global, schedule: &Schedule, chains: bool) -> Result<Trace, 
     requires { IsSchedule (view schedule.now) }
     ensures { IfOk result (λ t. IsTraceOf (table_of schedule.now.kind) (view schedule.now) chains t) }
 {
-    let task = Tracing {
-        alloc,
-        schedule,
-        chains,
+    let silent = Events {
+        heard: Vec::new(alloc),
     };
-    on_list(schedule.kind, task)
+    let (events, refused) = trace_to(alloc, schedule, chains, silent)?;
+    Ok(Trace {
+        kind: schedule.kind,
+        threads: schedule.threads,
+        quota: schedule.quota,
+        opening: schedule.opening.to_vec(alloc)?,
+        events: events.heard,
+        refused,
+    })
 }

@@ -1,6 +1,7 @@
 -- What `trace` makes of an input.
 use Rattle.std.specs.Prelude.{◌≡◌, ℕ, ◌⊎◌, Bool, List, Option, Some, None, Result, Ok, Err}
 use Rattle.lset_lists.specs.Tables.{table_of}
+use Rattle.lset_steps.specs.Steps.{Table}
 use Rattle.lset_steps.specs.declared.world.StepFault.{StepFault}
 use Rattle.lset_schedule.specs.declared.fault.ScheduleFault.{ScheduleFault}
 use Rattle.lset_schedule.specs.Plan.{Plan, IsSchedule, schedule_text}
@@ -25,6 +26,13 @@ status_of (Some refusal) = 1
 
 abbrev pub answer_of : Trace → AnswerValue
 answer_of t = record { text = trace_text t; status = status_of t.refused }
+
+-- this is the text of the trace of a schedule, which ends so
+pub record IsTold (T : Table) (p : Plan) (chains : Bool) (text : List ℕ) (refused : Option (ℕ × StepFault)) : Type 0 where
+  pub trace : Trace
+  pub is_of : IsTraceOf T p chains trace
+  pub text_is : text ≡ trace_text trace
+  pub ends : trace.refused ≡ refused
 
 -- the first fault of the text; a schedule has a trace, also where one of its events is refused
 abbrev pub IsFirstFault : Result Plan ScheduleFault → Trouble → Type 0

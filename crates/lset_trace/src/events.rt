@@ -159,7 +159,11 @@ fn put_chain(out: &mut String, chain: &[ChainKey]) -> Result<(), AllocError>
 }
 
 /// The line of an event, and after it that of the chain where the event has one.
-fn put_event(out: &mut String, number: usize, event: &TracedEvent) -> Result<(), AllocError>
+pub(crate) fn put_event(
+    out: &mut String,
+    number: usize,
+    event: &TracedEvent,
+) -> Result<(), AllocError>
     ensures { OnOk result (string_bytes out.new ≡ string_bytes out.old ++ text_of (lines_of_event number event.now)) }
 {
     put_line(out, number, event)?;

@@ -4,17 +4,17 @@ ghost use Rattle.lset_tools.specs.Tools.{Ends, IsTaken, view};
 ghost use Rattle.lset_tools.specs.declared.trouble.Trouble.TheVariants.{Memory};
 ghost use Rattle.lset_trace.specs.Tracing.{IsFirstFault, Traces, status_of};
 
-use crate::writing::write_trace;
-use lset_replay::{Trace, trace};
+use crate::writing::write_run;
 use lset_schedule::read_schedule;
+use lset_steps::StepFault;
 use lset_tools::{Answer, LONGEST, Trouble, deliver, input_of};
 use std::alloc::Global;
 use std::io::{Read, Write};
 
-fn status_of(trace: &Trace) -> u8
-    ensures { result ≡ status_of trace.now.refused }
+fn status_of(refused: Option<(u64, StepFault)>) -> u8
+    ensures { result ≡ status_of refused }
 {
-    match trace.refused {
+    match refused {
         None => 0,
         Some(_) => 1,
     }
@@ -27,9 +27,8 @@ fn trace_of(alloc: Global, bytes: &[u8], chains: bool) -> Result<Answer, Trouble
     ensures trouble { IfErr result (λ t. (t ≡ Memory) ⊎ IsFirstFault (reading bytes.now) t) }
 {
     let schedule = read_schedule(alloc, bytes)?;
-    let trace = trace(alloc, &schedule, chains)?;
-    let text = write_trace(alloc, &trace)?;
-    let status = status_of(&trace);
+    let (text, refused) = write_run(alloc, &schedule, chains)?;
+    let status = status_of(refused);
     Ok(Answer { text, status })
 }
 

@@ -1,6 +1,6 @@
 use Rattle.std.proofs.Common.{◌≡◌, length, take}
 use Rattle.lset_replay.specs.Events.{events_from}
-use Rattle.lset_replay.specs.Tracer.{HasTraced}
+use Rattle.lset_replay.specs.Tracer.{IsHeard}
 use Rattle.lset_replay.proofs.EventLists.{AreBehind}
 use Rattle.lset_replay.proofs.tracing.trace_lines.Given as goal
 
@@ -8,14 +8,14 @@ use Rattle.lset_replay.proofs.tracing.trace_lines.Given as goal
 abbrev pub invariant-loop-index : goal.invariant-loop-index
 invariant-loop-index g l = record {
   count : l.moment ≡ length (events_from l.first (take l.index l.lines));
-  told : HasTraced g.M.Machine.table l.fn.recorder.history.opening (events_from l.first l.lines) l.chains l.moment l.world
-      l.recorder l.kept.items l.traced.items;
+  told : IsHeard (λ traced. g.L.Listener.has_heard l.fn.listener traced l.listener) g.M.Machine.table l.fn.recorder.history.opening (events_from l.first l.lines)
+      l.chains l.moment l.world l.recorder l.kept.items;
 }
 
 -- and some of the next line
 abbrev pub invariant-loop-done : goal.invariant-loop-done
 invariant-loop-done g l = record {
   count : AreBehind l.first l.lines l.index l._done l.moment;
-  told : HasTraced g.M.Machine.table l.fn.recorder.history.opening (events_from l.first l.lines) l.chains l.moment l.world
-      l.recorder l.kept.items l.traced.items;
+  told : IsHeard (λ traced. g.L.Listener.has_heard l.fn.listener traced l.listener) g.M.Machine.table l.fn.recorder.history.opening (events_from l.first l.lines)
+      l.chains l.moment l.world l.recorder l.kept.items;
 }

@@ -1,9 +1,9 @@
-use Rattle.std.proofs.Common.{rules, refl, ◌∙◌}
+use Rattle.std.proofs.Common.{refl, rules}
 use Rattle.lset_schedule.specs.Plan.{view}
 use Rattle.lset_replay.specs.Events.{events_from}
 use Rattle.lset_replay.specs.Follows.{HasFollowed}
 use Rattle.lset_replay.proofs.EventLists.{same_events}
-use Rattle.lset_replay.proofs.Telling.{traced_none, trace_is}
+use Rattle.lset_replay.proofs.Telling.{traced_none, heard_is}
 use Rattle.lset_replay.proofs.tracing.trace_on.Goals as goal
 
 pub trace_lines-requires-clause-start : goal.trace_lines-requires-clause-start
@@ -11,13 +11,12 @@ trace_lines-requires-clause-start g c =
     let followed : HasFollowed g.M.Machine.table c.in_ok-world.recorder.history.opening
     (events_from c.first_event_line.result c.deref.result.now) 0 c.in_ok-world.world c.in_ok-world.recorder = search rules in
     traced_none g.M.Machine.table c.in_ok-world.recorder.history.opening (events_from c.first_event_line.result c.deref.result.now)
-    c.args.chains c.in_ok-world.world c.in_ok-world.recorder c.in_ok-kept.kept.items c.new-events.result.items
-    followed c.new-events.ensures.items c.in_ok-kept.ensures.keys
+    c.args.chains c.in_ok-world.world c.in_ok-world.recorder c.in_ok-kept.kept.items _ followed refl c.in_ok-kept.ensures.keys
 
 pub returns : goal.returns
 returns g c =
-    trace_is g.M.Machine.table (view c.args.schedule.now) c.args.chains c.in_ok-world.recorder.history.opening
+    heard_is _ g.M.Machine.table (view c.args.schedule.now) c.args.chains c.in_ok-world.recorder.history.opening
     (events_from c.first_event_line.result c.deref.result.now) _
     c.in_ok-world.ensures.opening
     (same_events c.first_event_line.result _ c.deref.result.now _ c.first_event_line.ensures c.deref.ensures.value)
-    refl refl refl (c.in_ok-to_vec.ensures.items_if_clones_equal (λ x y e. e) ∙ c.deref-2.ensures.value) c.in_ok-refused.ensures
+    c.in_ok-refused.ensures

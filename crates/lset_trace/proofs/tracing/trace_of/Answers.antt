@@ -1,6 +1,7 @@
-use Rattle.std.proofs.Common.{◌≡◌, ℕ, List}
+use Rattle.std.proofs.Common.{◌≡◌, ◌∙◌, ℕ, List, ap, sym}
 use Rattle.lset_schedule.specs.Plan.{view}
 use Rattle.lset_tools.specs.Tools.{AnswerValue}
+use Rattle.lset_trace.specs.Tracing.{status_of}
 use Rattle.lset_trace.proofs.tracing.trace_of.Goals as goal
 
 abbrev answer : List ℕ → ℕ → AnswerValue
@@ -11,14 +12,15 @@ same_answer : (text text' : List ℕ) (status status' : ℕ) → text ≡ text' 
 same_answer text text' status status' t s = cc
 
 pub returns-clause-traces : goal.returns-clause-traces
-returns-clause-traces c = (
-  c.requires,
-  view c.in_ok-schedule.schedule,
-  c.in_ok-trace.trace,
-  record {
-    schedule = c.in_ok-schedule.ensures.found.0;
-    text = c.in_ok-schedule.ensures.found.1;
-    trace = c.in_ok-trace.ensures;
-  },
-  same_answer _ _ _ _ c.in_ok-text.ensures c.status_of-status.ensures,
-)
+returns-clause-traces c =
+    let told = c.in_ok-text.ensures in (
+      c.requires,
+      view c.in_ok-schedule.schedule,
+      told.trace,
+      record {
+        schedule = c.in_ok-schedule.ensures.found.0;
+        text = c.in_ok-schedule.ensures.found.1;
+        trace = told.is_of;
+      },
+      same_answer _ _ _ _ told.text_is (c.status_of-status.ensures ∙ ap status_of (sym told.ends)),
+    )
