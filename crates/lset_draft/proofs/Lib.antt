@@ -1,0 +1,6 @@
+pub mod Stepped
+pub mod Versions
+pub mod Made
+pub mod Whole
+pub mod Lines
+pub mod Found

@@ -1,0 +1,5 @@
+use Rattle.lset_draft.proofs.Found.{found_in}
+use Rattle.lset_draft.proofs.reading.read_draft.Goals as goal
+
+pub returns-clause-found : goal.returns-clause-found
+returns-clause-found c = found_in c.args.bytes.now c.draft.result c.draft.ensures.exact
