@@ -4,3 +4,4 @@ pub mod Made
 pub mod Whole
 pub mod Lines
 pub mod Found
+pub mod Again

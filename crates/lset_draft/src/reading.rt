@@ -1,7 +1,7 @@
-ghost use Rattle.std.specs.Prelude.{◌≡◌, ◌≤◌, ◌<◌, ◌^◌, IfOk};
+ghost use Rattle.std.specs.Prelude.{◌≡◌, ◌≤◌, ◌<◌, ◌^◌, IfOk, MatchResult};
 ghost use Rattle.lset_text.specs.Parts.{cut_at};
 ghost use Rattle.lset_schedule.specs.ScheduleReading.{Gives};
-ghost use Rattle.lset_draft.specs.Drafts.{IsDraft, draft_text, view};
+ghost use Rattle.lset_draft.specs.Drafts.{DraftValue, IsDraft, draft_text, view};
 ghost use Rattle.lset_draft.specs.DraftReading.{draft_line_of, line_after, lines_at, out_in, out_of, reading, stop_of_pieces, to_in, to_of};
 
 use crate::value::{Draft, DraftLine};
@@ -143,6 +143,9 @@ fn draft(alloc: Global, bytes: &[u8]) -> Result<Draft, ScheduleFault>
 pub fn read_draft(alloc: Global, bytes: &[u8]) -> Result<Draft, ScheduleFault>
     // What is read is a draft, and the bytes are its text.
     ensures found { IfOk result (λ d. IsDraft (view d) × (bytes.now ≡ draft_text (view d))) }
+    // The text of a draft is read, unless memory runs out.
+    ensures only { (d : DraftValue) → IsDraft d → bytes.now ≡ draft_text d
+        → MatchResult result (λ x. view x ≡ d) (λ e. e.cause ≡ Cause.Memory) }
     // Which fault it is.
     ensures exact { Gives view result (reading bytes.now) }
 {
