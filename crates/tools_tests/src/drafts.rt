@@ -2,15 +2,20 @@ use super::runs::draft_run;
 use std::test::Fail;
 
 /// The steps of a schedule without the counts of its ends: what stands in a draft in their place.
-const STALE_PRED: &str = "listset-draft 2\nlist optimistic\nthreads 2\nquota 4\nbegin 1 add 3\ngo 1 out\nbegin 0 add 5\ngo 0 to 4\nbegin 1 remove 3\ngo 1 out\ngo 0 out\n";
+const STALE_PRED: &str =
+    "listset-draft 2\nlist optimistic\nthreads 2\nquota 4\nbegin 1 add 3\ngo 1 out\nbegin 0 add 5\ngo 0 to 4\nbegin 1 remove 3\ngo 1 out\ngo 0 out\n";
 
-const MARKED_PRED: &str = "listset-draft 2\nlist lazy\nthreads 2\nquota 4\nbegin 1 add 3\ngo 1 out\nbegin 0 add 5\ngo 0 to 4\nbegin 1 remove 3\ngo 1 out\ngo 0 out\n";
+const MARKED_PRED: &str =
+    "listset-draft 2\nlist lazy\nthreads 2\nquota 4\nbegin 1 add 3\ngo 1 out\nbegin 0 add 5\ngo 0 to 4\nbegin 1 remove 3\ngo 1 out\ngo 0 out\n";
 
-const FAILED_TRIES: &str = "listset-draft 2\nlist coarse\nthreads 2\nquota 4\nbegin 0 add 5\nbegin 1 add 5\ngo 0 to 2\ngo 1 3\ngo 0 out\ngo 1 out\n";
+const FAILED_TRIES: &str =
+    "listset-draft 2\nlist coarse\nthreads 2\nquota 4\nbegin 0 add 5\nbegin 1 add 5\ngo 0 to 2\ngo 1 3\ngo 0 out\ngo 1 out\n";
 
-const FULL: &str = "listset-draft 2\nlist coarse\nthreads 1\nquota 1\nbegin 0 add 5\ngo 0 out\nbegin 0 remove 5\ngo 0 out\nbegin 0 add 7\ngo 0 out\n";
+const FULL: &str =
+    "listset-draft 2\nlist coarse\nthreads 1\nquota 1\nbegin 0 add 5\ngo 0 out\nbegin 0 remove 5\ngo 0 out\nbegin 0 add 7\ngo 0 out\n";
 
-const BEHIND_THE_WALK: &str = "listset-draft 2\nlist lock-free\nthreads 2\nquota 4\nbegin 1 add 9\ngo 1 out\nbegin 0 ceiling 3\ngo 0 to 24\nbegin 1 add 5\ngo 1 out\ngo 0 out\n";
+const BEHIND_THE_WALK: &str =
+    "listset-draft 2\nlist lock-free\nthreads 2\nquota 4\nbegin 1 add 9\ngo 1 out\nbegin 0 ceiling 3\ngo 0 to 24\nbegin 1 add 5\ngo 1 out\ngo 0 out\n";
 
 const HEADER: &str = "listset-draft 2\nlist coarse\nthreads 2\nquota 1\n";
 
@@ -48,7 +53,10 @@ fn drafts_give_the_classic_schedules(rt: HostRuntime) -> Result<(), Fail> {
 #[test]
 fn a_draft_without_a_schedule_gets_one_line(rt: HostRuntime) -> Result<(), Fail> {
     let rows = [
-        ("begin 0 add 5\ngo 0 to 2\nbegin 1 add 5\ngo 1 out\n", "listset: line 8: Waits\n"),
+        (
+            "begin 0 add 5\ngo 0 to 2\nbegin 1 add 5\ngo 1 out\n",
+            "listset: line 8: Waits\n",
+        ),
         ("begin 0 add 5\ngo 0 to 30\n", "listset: line 6: Idle\n"),
         ("go 0 out\n", "listset: line 5: Idle\n"),
         ("go 2 to 4\n", "listset: line 5: NoThread\n"),
@@ -76,7 +84,8 @@ fn a_draft_without_a_schedule_gets_one_line(rt: HostRuntime) -> Result<(), Fail>
 
 #[test]
 fn a_draft_with_counts_stays_as_it_is(rt: HostRuntime) -> Result<(), Fail> {
-    let lines = "list lazy\nthreads 2\nquota 4\nopening 5\nopening 9\nbegin 0 remove 5\ngo 0 3\nbegin 1 contains 9\ngo 1 2\n";
+    let lines =
+        "list lazy\nthreads 2\nquota 4\nopening 5\nopening 9\nbegin 0 remove 5\ngo 0 3\nbegin 1 contains 9\ngo 1 2\n";
     let mut draft = String::new(rt.alloc());
     draft.push_str("listset-draft 2\n")?;
     draft.push_str(lines)?;
