@@ -13,7 +13,7 @@ pub use draws::programs;
 pub use fault::{Cause, GenFault, ScheduleFault};
 pub use generator::generate;
 pub use lset_text::Version;
-pub use reading::{read_schedule, schedules_read_back};
+pub use reading::{read_event, read_openings, read_schedule, schedules_read_back};
 pub use value::{Line, Schedule};
 pub use writing::write_schedule;
 
@@ -24,7 +24,7 @@ const TITLE_ONE: &str = "listset-schedule 1";
 const TITLE_TWO: &str = "listset-schedule 2";
 
 /// The first line after the header of a schedule's text, counted from 1.
-const FIRST_LINE: u64 = 5;
+pub const FIRST_LINE: u64 = 5;
 
 /// The most events of a schedule, the steps of a `go` line counted one by one. (This project's own limit, as
 /// are those below.)

@@ -82,6 +82,14 @@ fn event(version: Version, line: &[u8]) -> Result<Line, Cause>
     begin(version, first, second, third, fourth)
 }
 
+/// The event that a line of a text of this version tells, without its newline. `Event` where the line has not the pieces and
+/// words of one, `Number` where a number is none, or outside its limits.
+pub fn read_event(version: Version, line: &[u8]) -> Result<Line, Cause>
+    ensures { result ≡ event_of version line.now }
+{
+    event(version, line)
+}
+
 /// The event of a line that comes after `total` events.
 fn counted_event(version: Version, line: &[u8], total: u32) -> Result<Line, Cause>
     requires { total ≤ MOST_EVENTS }
@@ -174,6 +182,21 @@ fn openings(
         Version::One => Ok((Vec::new(alloc), text)),
         Version::Two => opening_keys(alloc, text),
     }
+}
+
+/// The opening keys that the lines at the head of a text tell, and what comes after these lines, where the text is what stands
+/// after the header of one of this version; or the first fault of these lines, which are numbered from 5 on. A text of the first
+/// version has no such lines.
+pub fn read_openings(
+    alloc: Global,
+    version: Version,
+    text: &[u8],
+) -> Result<(Vec<u32>, &[u8]), ScheduleFault>
+    ensures exact { Gives (λ p. (p.0.items, cut_at 10 p.1.now)) result (openings_of version (cut_at 10 text.now)) }
+    ensures few { IfOk result (λ p. length p.0.items ≤ MOST_OPENING) }
+    ensures memory { IfErr result (λ e. e.cause ≡ Cause.Memory → IsGoodOpening version (cut_at 10 text.now) e.line) }
+{
+    openings(alloc, version, text)
 }
 
 /// The lines of events of a text of this version, of which the first has the number `first_line`.

@@ -16,7 +16,7 @@ pub enum Line {
 
 impl Line {
     /// How many events the line counts for.
-    pub(crate) fn event_count(self) -> u32
+    pub fn event_count(self) -> u32
         ensures { result ≡ event_count self }
     {
         match self {

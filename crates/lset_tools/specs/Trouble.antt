@@ -85,6 +85,7 @@ abbrev pub name_of : LineCause → List ℕ
 name_of line.NoThread = codes "NoThread"
 name_of line.Busy = codes "Busy"
 name_of line.Idle = codes "Idle"
+name_of line.Waits = codes "Waits"
 name_of (line.Schedule schedule.Header) = codes "Header"
 name_of (line.Schedule schedule.Kind) = codes "Kind"
 name_of (line.Schedule schedule.Threads) = codes "Threads"

@@ -34,6 +34,8 @@ pub enum LineCause {
     Busy,
     /// A thread makes a step on the line and has no call open.
     Idle,
+    /// A thread does not come to where the line of a draft sends it.
+    Waits,
     /// The text is no report.
     Report(ReportCause),
     /// The text is not one of rising keys.
@@ -193,6 +195,7 @@ impl LineCause {
             LineCause::NoThread => "NoThread",
             LineCause::Busy => "Busy",
             LineCause::Idle => "Idle",
+            LineCause::Waits => "Waits",
             LineCause::Schedule(cause) => match cause {
                 Cause::Header => "Header",
                 Cause::Kind => "Kind",

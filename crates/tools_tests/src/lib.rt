@@ -11,6 +11,8 @@ mod commands;
 #[cfg(test)]
 mod devices;
 #[cfg(test)]
+mod drafts;
+#[cfg(test)]
 mod examples;
 #[cfg(test)]
 mod generating;

@@ -1,5 +1,6 @@
 //! Runs of the tools, and of the program, on devices in memory.
 use lset_dispatch::run_words;
+use lset_draft::tool_draft;
 use lset_examples::tool_example;
 use lset_run::tool_run;
 use lset_tools::{tool_check, tool_gen, tool_replay};
@@ -51,6 +52,12 @@ impl Run {
             .find_map(|line| line.strip_prefix(name));
         Ok(front.and_then(|rest| rest.trim().parse().ok()))
     }
+}
+
+pub fn draft_run<R: Read>(alloc: Global, input: &mut R) -> Run {
+    let mut run = Run::new(alloc);
+    run.status = tool_draft(alloc, input, &mut run.output, &mut run.faults);
+    run
 }
 
 pub fn replay_run<R: Read>(alloc: Global, input: &mut R) -> Run {

@@ -1,0 +1,7 @@
+pub mod Stepped
+pub mod Versions
+pub mod Made
+pub mod Whole
+pub mod Lines
+pub mod Found
+pub mod Again
