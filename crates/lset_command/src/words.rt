@@ -28,6 +28,8 @@ pub enum Command {
     Show,
     /// Tells what each step of a schedule did.
     Trace,
+    /// Makes a schedule of a draft.
+    Draft,
     /// Prints a classic schedule.
     Example,
     /// Generates a schedule.
@@ -70,13 +72,14 @@ impl Words {
     }
 
     /// The path of the file that the command reads, where the words name one: the first value of `replay`, `check`,
-    /// `show` and `trace`, which read the standard input without one, and the sixth of `serve`, which reads nothing
+    /// `show`, `trace` and `draft`, which read the standard input without one, and the sixth of `serve`, which reads nothing
     /// without one. The others read nothing.
     pub fn file(&self) -> Option<&str>
         ensures { option_map (λ path. path.now) result ≡ file_of (choice_in self.now) }
     {
         match self.command {
-            Command::Replay | Command::Check | Command::Show | Command::Trace => self.first_value(),
+            Command::Replay | Command::Check | Command::Show | Command::Trace | Command::Draft =>
+                self.first_value(),
             Command::Serve => Some(self.values.get(SERVE_FILE)?.as_str()),
             Command::Example | Command::Gen | Command::Run => None,
         }
@@ -169,6 +172,18 @@ fn trace_command<'a>(alloc: Global) -> Result<clap::Command<'a>, AllocError>
         "chain",
         "Tells the chain after each step that changed it",
     ))
+}
+
+fn draft_command<'a>(alloc: Global) -> Result<clap::Command<'a>, AllocError>
+    ensures app { IfOk result (λ c. app_of c ≡ file_app (codes "draft")) }
+    ensures local { IfOk result (λ c. (out-Command c).has_globals ≡ false) }
+{
+    file_command(
+        alloc,
+        "draft",
+        "Makes a schedule of a draft, whose lines may say where a thread stops in place of how many steps it takes",
+        "The draft; standard input where it is left out",
+    )
 }
 
 fn example_command<'a>(alloc: Global) -> Result<clap::Command<'a>, AllocError>
@@ -332,6 +347,7 @@ fn program_command<'a>(alloc: Global) -> Result<clap::Command<'a>, AllocError>
         .subcommand(check_command(alloc)?)?
         .subcommand(show_command(alloc)?)?
         .subcommand(trace_command(alloc)?)?
+        .subcommand(draft_command(alloc)?)?
         .subcommand(example_command(alloc)?)?
         .subcommand(gen_command(alloc)?)?
         .subcommand(run_command(alloc)?)?
@@ -437,6 +453,8 @@ fn command_named(name: &str) -> Command
         Command::Show
     } else if name == "trace" {
         Command::Trace
+    } else if name == "draft" {
+        Command::Draft
     } else if name == "example" {
         Command::Example
     } else if name == "gen" {
@@ -451,8 +469,8 @@ fn command_named(name: &str) -> Command
 }
 
 /// Reads the words that stand after the program's name, by `clap`: `replay [FILE]`, `check [FILE]`,
-/// `show [--svg] [--from M] [--to M] [FILE]`, `trace [--chain] [FILE]`, `example [--broken] [NAME]`,
-/// `gen KIND THREADS QUOTA CALLS KEYS SEED`, `run` with the same values and `[LIVES]` after them, or
+/// `show [--svg] [--from M] [--to M] [FILE]`, `trace [--chain] [FILE]`, `draft [FILE]`,
+/// `example [--broken] [NAME]`, `gen KIND THREADS QUOTA CALLS KEYS SEED`, `run` with the same values and `[LIVES]` after them, or
 /// `serve KIND SEATS QUOTA PORT SESSIONS [FILE]`. Values and options come as they are written; some or all may be
 /// missing, and `gen`, `run` and `serve` may have more values. No word at all gives `replay` without values. A value
 /// that begins with `-` needs a word `--` before it.

@@ -5,6 +5,7 @@ ghost use Rattle.lset_tools.specs.Tools.{Ends};
 ghost use Rattle.lset_dispatch.specs.Dispatch.{CommandEnds, Does, ShowsBy};
 
 use lset_command::{Command, Options, Words};
+use lset_draft::tool_draft;
 use lset_drawing::Window;
 use lset_examples::tool_example;
 use lset_run::tool_run;
@@ -48,7 +49,7 @@ fn show<R: Read, W: Write, F: Write>(
     }
 }
 
-/// Does the command of the words with its tool, `replay`, `check`, `show` and `trace` on the input, the others on their
+/// Does the command of the words with its tool, `replay`, `check`, `show`, `trace` and `draft` on the input, the others on their
 /// values, and `serve` with the keys of the input where the words name a file. Gives the tool's exit status. `run` and
 /// `serve` start threads on `rt`, and wait for them; `serve` listens there.
 pub fn run_command<
@@ -66,6 +67,7 @@ pub fn run_command<
         Command::Check => tool_check(alloc, input, output, faults),
         Command::Show => show(alloc, options, input, output, faults),
         Command::Trace => tool_trace(alloc, options.chain, input, output, faults),
+        Command::Draft => tool_draft(alloc, input, output, faults),
         Command::Example => tool_example(
             alloc,
             options.broken,
