@@ -9,7 +9,7 @@ use Rattle.clap.specs.Words.{App, Row, Rule, Text, all_of, first_of, new_app, ne
 use Rattle.clap.specs.Simple.{on_top}
 use Rattle.clap.specs.declared.builder.action.ArgAction.TheVariants.{SetTrue}
 use Rattle.lset_command.specs.declared.words.Command.{Command}
-use Rattle.lset_command.specs.declared.words.Command.TheVariants.{Replay, Check, Show, Trace, Example, Gen, Run, Serve, Faults}
+use Rattle.lset_command.specs.declared.words.Command.TheVariants.{Replay, Check, Show, Trace, Draft, Example, Gen, Run, Serve, Faults}
 use Rattle.lset_command.specs.declared.faults.TheConstants.{FAULTS}
 use Rattle.lset_command.specs.declared.words.Options.{Options}
 use Rattle.lset_command.specs.declared.words.Words.{Words}
@@ -82,11 +82,12 @@ serve_app =
 abbrev pub listset : App
 listset =
     with_subcommand (with_subcommand (with_subcommand (with_subcommand (with_subcommand
-    (with_subcommand (with_subcommand (with_subcommand (with_subcommand (on_top (λ s. record s { no_binary_name = true; has_version = true }) (new_app (codes "listset")))
+    (with_subcommand (with_subcommand (with_subcommand (with_subcommand (with_subcommand (on_top (λ s. record s { no_binary_name = true; has_version = true }) (new_app (codes "listset")))
     (file_app (codes "replay")).top)
     (file_app (codes "check")).top)
     show_app.top)
     trace_app.top)
+    (file_app (codes "draft")).top)
     example_app.top)
     gen_app.top)
     run_app.top)
@@ -141,12 +142,13 @@ command_named name =
     if bytes_eq name (codes "check") then Check
     else (if bytes_eq name (codes "show") then Show
     else (if bytes_eq name (codes "trace") then Trace
+    else (if bytes_eq name (codes "draft") then Draft
     else (if bytes_eq name (codes "example") then Example
     else (if bytes_eq name (codes "gen") then Gen
     else (if bytes_eq name (codes "run") then Run
     else (if bytes_eq name (codes "serve") then Serve
     else (if bytes_eq name (codes "faults") then Faults
-    else Replay)))))))
+    else Replay))))))))
 
 -- a command with its values, its flags and its options
 pub record Choice : Type 0 where
@@ -183,6 +185,7 @@ file_by Replay values = slice_get values 0
 file_by Check values = slice_get values 0
 file_by Show values = slice_get values 0
 file_by Trace values = slice_get values 0
+file_by Draft values = slice_get values 0
 file_by Example values = None
 file_by Gen values = None
 file_by Run values = None

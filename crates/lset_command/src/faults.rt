@@ -19,6 +19,11 @@ listset: line L: CAUSE, of a schedule, status 1
   Busy      A thread begins a call and has one open.
   Idle      A thread makes a step and has no call open.
 
+listset: line L: CAUSE, of a draft, status 1
+  Header    Line 1 is not 'listset-draft 2'.
+  Waits     The thread does not come there within 10000 steps and the events that are left, as where it waits for a lock.
+  (others)  As in a schedule.
+
 listset: line L: CAUSE, of a report, status 1
   Header    Line 1 is neither 'listset-report 1' nor 'listset-report 2'.
   Kind      As in a schedule.

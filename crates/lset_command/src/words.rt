@@ -14,7 +14,7 @@ use clap::{Arg, ArgAction, ArgMatches, Error};
 use std::alloc::{AllocError, Global};
 
 /// What `--version` tells behind the program's name: its version, and in a line below the kit with which it is proved.
-pub const VERSION: &str = "0.1.0\nrattle-kit-13f logic dac8208d650f15bf";
+pub const VERSION: &str = "0.1.0\nrattle-kit-13b logic dac8208d650f15bf";
 
 const KIND_HELP: &str = "The list: coarse, fine, optimistic, lazy or lock-free";
 
@@ -32,6 +32,8 @@ pub enum Command {
     Show,
     /// Tells what each step of a schedule did.
     Trace,
+    /// Makes a schedule of a draft.
+    Draft,
     /// Prints a classic schedule.
     Example,
     /// Generates a schedule.
@@ -77,14 +79,15 @@ impl Words {
         Some(self.values.first()?.as_str())
     }
 
-    /// The word for what the command reads, where there is one: the first value of `replay`, `check`, `show` and `trace`,
-    /// which read the standard input without one, and the sixth of `serve`, which reads nothing without one. The others
-    /// read nothing.
+    /// The word for what the command reads, where there is one: the first value of `replay`, `check`, `show`, `trace` and
+    /// `draft`, which read the standard input without one, and the sixth of `serve`, which reads nothing without one. The
+    /// others read nothing.
     pub fn file(&self) -> Option<&str>
         ensures { option_map (λ path. path.now) result ≡ file_of (choice_in self.now) }
     {
         match self.command {
-            Command::Replay | Command::Check | Command::Show | Command::Trace => self.first_value(),
+            Command::Replay | Command::Check | Command::Show | Command::Trace | Command::Draft =>
+                self.first_value(),
             Command::Serve => Some(self.values.get(SERVE_FILE)?.as_str()),
             Command::Example | Command::Gen | Command::Run | Command::Faults => None,
         }
@@ -201,6 +204,19 @@ fn trace_command<'a>(alloc: Global) -> Result<clap::Command<'a>, AllocError>
         "chain",
         "Tells the chain after each step that changed it",
     ))
+}
+
+fn draft_command<'a>(alloc: Global) -> Result<clap::Command<'a>, AllocError>
+    ensures app { IfOk result (λ c. app_of c ≡ file_app (codes "draft")) }
+    ensures local { IfOk result (λ c. (out-Command c).has_globals ≡ false) }
+{
+    file_command(
+        alloc,
+        "draft",
+        "Makes a schedule of a draft, whose lines may say where a thread stops in place of how many steps it takes",
+        "The draft; standard input where it is - or left out",
+        "Example: listset draft a.draft | listset show",
+    )
 }
 
 fn example_command<'a>(alloc: Global) -> Result<clap::Command<'a>, AllocError>
@@ -383,6 +399,7 @@ fn program_command<'a>(alloc: Global) -> Result<clap::Command<'a>, AllocError>
         .subcommand(check_command(alloc)?)?
         .subcommand(show_command(alloc)?)?
         .subcommand(trace_command(alloc)?)?
+        .subcommand(draft_command(alloc)?)?
         .subcommand(example_command(alloc)?)?
         .subcommand(gen_command(alloc)?)?
         .subcommand(run_command(alloc)?)?
@@ -496,6 +513,8 @@ fn command_named(name: &str) -> Command
         Command::Show
     } else if name == "trace" {
         Command::Trace
+    } else if name == "draft" {
+        Command::Draft
     } else if name == "example" {
         Command::Example
     } else if name == "gen" {
@@ -512,8 +531,8 @@ fn command_named(name: &str) -> Command
 }
 
 /// Reads the words that stand after the program's name, by `clap`: `replay [FILE]`, `check [FILE]`,
-/// `show [--svg] [--from M] [--to M] [--width N] [FILE]`, `trace [--chain] [FILE]`, `example [--broken] [NAME]`,
-/// `gen KIND THREADS QUOTA CALLS KEYS SEED`, `run` with the same values and `[LIVES]` after them,
+/// `show [--svg] [--from M] [--to M] [--width N] [FILE]`, `trace [--chain] [FILE]`, `draft [FILE]`,
+/// `example [--broken] [NAME]`, `gen KIND THREADS QUOTA CALLS KEYS SEED`, `run` with the same values and `[LIVES]` after them,
 /// `serve KIND SEATS QUOTA PORT SESSIONS [FILE]`, or `faults`. Values and options come as they are written; some or all may be
 /// missing, and `gen`, `run` and `serve` may have more values. No word at all gives `replay` without values. A value
 /// that begins with `-` and has more letters needs a word `--` before it.

@@ -7,7 +7,7 @@ use Rattle.clap.specs.declared.error.kind.ErrorKind.{ErrorKind}
 use Rattle.clap.specs.declared.error.kind.ErrorKind.TheVariants.{OutOfMemory, DisplayHelp, DisplayVersion}
 use Rattle.lset_command.specs.CommandLine.{Choice, OptionValues, choice_of, faults_text, file_by, listset, path_of}
 use Rattle.lset_command.specs.declared.words.Command.{Command}
-use Rattle.lset_command.specs.declared.words.Command.TheVariants.{Replay, Check, Show, Trace, Example, Gen, Run, Serve, Faults}
+use Rattle.lset_command.specs.declared.words.Command.TheVariants.{Replay, Check, Show, Trace, Draft, Example, Gen, Run, Serve, Faults}
 use Rattle.lset_tools.specs.declared.trouble.ValueName.{ValueName}
 use Rattle.lset_tools.specs.declared.trouble.Trouble.TheVariants.{CannotRead, Memory, Bad}
 use Rattle.lset_tools.specs.Tools.{Made, Ends, AppendsFront}
@@ -19,6 +19,7 @@ use Rattle.lset_show.specs.declared.asking.Form.{Form}
 use Rattle.lset_show.specs.Asking.{asked_of}
 use Rattle.lset_show.specs.Showing.{Shows}
 use Rattle.lset_trace.specs.Tracing.{Traces}
+use Rattle.lset_draft.specs.Drafting.{Drafts}
 use Rattle.lset_examples.specs.Exampling.{Exampled}
 use Rattle.lset_run.specs.Running as run
 use Rattle.lset_serve.specs.Serving as serve
@@ -49,6 +50,7 @@ DoesBy Replay values options input old first made = (first ≡ old) × IfSome in
 DoesBy Check values options input old first made = (first ≡ old) × IfSome input (λ bytes. Checks bytes made)
 DoesBy Show values options input old first made = (first ≡ old) × ShowsBy options input made
 DoesBy Trace values options input old first made = (first ≡ old) × IfSome input (λ bytes. Traces options.chain bytes made)
+DoesBy Draft values options input old first made = (first ≡ old) × IfSome input (λ bytes. Drafts bytes made)
 DoesBy Example values options input old first made = (first ≡ old) × Exampled options.broken (slice_get values 0) made
 DoesBy Gen values options input old first made = (first ≡ old) × Generates values made
 DoesBy Run values options input old first made = (first ≡ old) × run.Runs values made

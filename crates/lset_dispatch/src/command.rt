@@ -5,6 +5,7 @@ ghost use Rattle.lset_tools.specs.Tools.{Ends, view};
 ghost use Rattle.lset_dispatch.specs.Dispatch.{CommandEnds, Does, ShowsBy, TellsFaults};
 
 use lset_command::{Command, Options, Words, faults_text};
+use lset_draft::tool_draft;
 use lset_examples::tool_example;
 use lset_run::tool_run;
 use lset_serve::{tool_serve, tool_serve_with};
@@ -52,7 +53,7 @@ fn faults_told(alloc: Global) -> Result<Answer, Trouble>
     Ok(Answer { text, status: 0 })
 }
 
-/// Does the command of the words with its tool, `replay`, `check`, `show` and `trace` on the input, the others on their
+/// Does the command of the words with its tool, `replay`, `check`, `show`, `trace` and `draft` on the input, the others on their
 /// values, and `serve` with the keys of the input where the words have one for it. Gives the tool's exit status. `run` and
 /// `serve` start threads on `rt`, and wait for them; `serve` listens there.
 pub fn run_command<
@@ -70,6 +71,7 @@ pub fn run_command<
         Command::Check => tool_check(alloc, input, output, faults),
         Command::Show => show(alloc, options, input, output, faults),
         Command::Trace => tool_trace(alloc, options.chain, input, output, faults),
+        Command::Draft => tool_draft(alloc, input, output, faults),
         Command::Example => tool_example(
             alloc,
             options.broken,

@@ -38,6 +38,7 @@ fn words_give_a_command_and_its_values(rt: HostRuntime) -> Result<(), Fail> {
         (&["show", "--svg", "a.report"], Command::Show, " a.report"),
         (&["show", "a", "--from", "3", "--to=9"], Command::Show, " a"),
         (&["show", "--width", "80", "a"], Command::Show, " a"),
+        (&["draft", "a.draft"], Command::Draft, " a.draft"),
         (&["trace", "a.schedule"], Command::Trace, " a.schedule"),
         (&["trace", "--chain", "--", "-a"], Command::Trace, " -a"),
         (&["example"], Command::Example, ""),
@@ -109,7 +110,7 @@ fn words_give_flags_and_options(rt: HostRuntime) -> Result<(), Fail> {
 
 #[test]
 fn some_commands_read_the_file_of_their_words(rt: HostRuntime) -> Result<(), Fail> {
-    for word in ["replay", "check", "show", "trace"] {
+    for word in ["replay", "check", "show", "trace", "draft"] {
         let named = tool_words(rt.alloc(), &[word, "a.report"])?;
         assert_eq!(rt; named.file(), Some("a.report"));
         assert_eq!(rt; named.path(), Some("a.report"));

@@ -77,6 +77,10 @@ fn faults_tells_each_cause(rt: HostRuntime) -> Result<(), Fail> {
             " Header Kind Threads Quota Event Number TooMany Opening NotEnded NoThread Busy Idle",
         ),
         (
+            "\nlistset: line L: CAUSE, of a draft",
+            " Header Waits (others)",
+        ),
+        (
             "\nlistset: line L: CAUSE, of a report",
             " Header Kind Threads Quota Line Number TooMany Opening History NotEnded",
         ),

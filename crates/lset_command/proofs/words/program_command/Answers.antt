@@ -15,9 +15,10 @@ returns c =
     let check = IsApp-subcommand c.in_ok-subcommand-2.ensures replay (c.in_ok-check_command.ensures.app, c.in_ok-check_command.ensures.local) in
     let show = IsApp-subcommand c.in_ok-subcommand-3.ensures check (c.in_ok-show_command.ensures.app, c.in_ok-show_command.ensures.local) in
     let trace = IsApp-subcommand c.in_ok-subcommand-4.ensures show (c.in_ok-trace_command.ensures.app, c.in_ok-trace_command.ensures.local) in
-    let example = IsApp-subcommand c.in_ok-subcommand-5.ensures trace (c.in_ok-example_command.ensures.app, c.in_ok-example_command.ensures.local) in
-    let gen = IsApp-subcommand c.in_ok-subcommand-6.ensures example (c.in_ok-gen_command.ensures.app, c.in_ok-gen_command.ensures.local) in
-    let run = IsApp-subcommand c.in_ok-subcommand-7.ensures gen (c.in_ok-run_command.ensures.app, c.in_ok-run_command.ensures.local) in
-    let serve = IsApp-subcommand c.in_ok-subcommand-8.ensures run (c.in_ok-serve_command.ensures.app, c.in_ok-serve_command.ensures.local) in
+    let draft = IsApp-subcommand c.in_ok-subcommand-5.ensures trace (c.in_ok-draft_command.ensures.app, c.in_ok-draft_command.ensures.local) in
+    let example = IsApp-subcommand c.in_ok-subcommand-6.ensures draft (c.in_ok-example_command.ensures.app, c.in_ok-example_command.ensures.local) in
+    let gen = IsApp-subcommand c.in_ok-subcommand-7.ensures example (c.in_ok-gen_command.ensures.app, c.in_ok-gen_command.ensures.local) in
+    let run = IsApp-subcommand c.in_ok-subcommand-8.ensures gen (c.in_ok-run_command.ensures.app, c.in_ok-run_command.ensures.local) in
+    let serve = IsApp-subcommand c.in_ok-subcommand-9.ensures run (c.in_ok-serve_command.ensures.app, c.in_ok-serve_command.ensures.local) in
     let faults : IsApp c.faults_command.result _ = (c.faults_command.ensures.app, c.faults_command.ensures.local) in
-    IfOk-weaker c.subcommand-9.result _ _ (λ r adds. (IsApp-subcommand adds serve faults).0) c.subcommand-9.ensures
+    IfOk-weaker c.subcommand-10.result _ _ (λ r adds. (IsApp-subcommand adds serve faults).0) c.subcommand-10.ensures

@@ -1,7 +1,7 @@
 use Rattle.std.proofs.Common.{◌≡◌, ◌∙◌, Some, None, ap, map, refl}
 use Rattle.std.specs.String.{string_bytes}
 use Rattle.lset_command.specs.CommandLine.{file_by, options_of}
-use Rattle.lset_command.specs.declared.words.Command.TheVariants.{Replay, Check, Show, Trace, Example, Gen, Run, Serve, Faults}
+use Rattle.lset_command.specs.declared.words.Command.TheVariants.{Replay, Check, Show, Trace, Draft, Example, Gen, Run, Serve, Faults}
 use Rattle.lset_examples.specs.Exampling.{Exampled}
 use Rattle.lset_dispatch.proofs.Endings.{at_command, at_once, ends_with, served, with_argument}
 use Rattle.lset_dispatch.specs.Dispatch.{TellsFaults}
@@ -22,6 +22,10 @@ returns-in-Show g c =
 pub returns-in-Trace : goal.returns-in-Trace
 returns-in-Trace g c =
     at_command _ _ _ _ _ _ Trace _ _ _ _ c.in-Trace.is refl (at_once _ _ _ _ _ _ c.tool_trace.ensures)
+
+pub returns-in-Draft : goal.returns-in-Draft
+returns-in-Draft g c =
+    at_command _ _ _ _ _ _ Draft _ _ _ _ c.in-Draft.is refl (at_once _ _ _ _ _ _ c.tool_draft.ensures)
 
 pub returns-in-Example : goal.returns-in-Example
 returns-in-Example g c =
