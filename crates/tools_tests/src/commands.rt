@@ -5,7 +5,7 @@ use std::test::Fail;
 
 #[test]
 fn words_give_a_command_and_its_values(rt: HostRuntime) -> Result<(), Fail> {
-    let rows: [(&[&str], Command, &str); 21] = [
+    let rows: [(&[&str], Command, &str); 22] = [
         (&[], Command::Replay, ""),
         (&["replay"], Command::Replay, ""),
         (&["replay", "a.schedule"], Command::Replay, " a.schedule"),
