@@ -17,7 +17,6 @@ use std::sync::atomic::{AtomicBool, AtomicU64, Ordering};
 use std::test::Fail;
 use std::thread::{Threads, join};
 use std::time::Clock;
-use stepped_lists::Stepped;
 
 /// Holds each of two threads at its first step until the other has made one too.
 impl<'a, R: Clock> Pause for Meeting<'a, R> {
@@ -41,28 +40,22 @@ fn has_added<M: Running, R: Wait + Clock, P: Pause>(
     set.call(rt, &mut seat, Call::Add(Key(key)), pause)
 }
 
-/// Two seats add a key each, in two threads, each with a pause of its own, the second once the flag is set.
-fn at_once<
-    M: Running + Send + Sync,
-    R: Threads + Wait + Clock + Sync,
-    P: Pause + Sync,
-    Q: Pause + Sync,
->(
+/// Two seats add a key each, in two threads, the second once the flag is set.
+fn at_once<M: Running + Send + Sync, R: Threads + Wait + Clock + Sync, P: Pause + Sync>(
     rt: &R,
     set: &LiveSet<M>,
     zero: Seat<M>,
     one: Seat<M>,
-    pauses: (&P, &Q),
+    pause: &P,
     start_of_one: &AtomicBool,
 ) -> (Reply, Reply)
     requires { (zero.set ≡ set.now) × (one.set ≡ set.now) }
 {
-    let (pause_of_zero, pause_of_one) = pauses;
     let start = AtomicBool::new(true);
     join(
         rt,
-        move || has_added(rt, set, zero, 1, pause_of_zero, &start),
-        move || has_added(rt, set, one, 2, pause_of_one, start_of_one),
+        move || has_added(rt, set, zero, 1, pause, &start),
+        move || has_added(rt, set, one, 2, pause, start_of_one),
     )
 }
 
@@ -72,8 +65,7 @@ fn calls_meet<M: Running + Send + Sync, R: Threads + Wait + Clock + Abort + Sync
 ) -> Result<(), Fail> {
     let (set, zero, one) = two_seats::<M>(alloc)?;
     let meeting = Meeting::new(rt);
-    let pauses = (&meeting, &meeting);
-    let replies = at_once(rt, &set, zero, one, pauses, &AtomicBool::new(true));
+    let replies = at_once(rt, &set, zero, one, &meeting, &AtomicBool::new(true));
     assert!(rt; meeting.was_held());
     assert_eq!(rt; replies, (Reply::True, Reply::True));
     Ok(())
@@ -117,21 +109,6 @@ impl<'a, R: Clock> Pause for Holder<'a, R> {
     }
 }
 
-/// Another pause, which is to be asked after failed steps alone.
-#[derive(Drop)]
-struct AfterFailures<'a, P> {
-    pause: &'a P,
-}
-
-impl<'a, P: Pause> Pause for AfterFailures<'a, P> {
-    const EACH_STEP: bool = false;
-
-    fn moved(&self, thread: u32, failed: bool) {
-        self.pause.moved(thread, failed);
-    }
-}
-
-/// The pause of thread 1 is to be asked after failed steps alone.
 fn is_told_of_a_lock<M: Running + Send + Sync, R: Threads + Wait + Clock + Abort + Sync>(
     rt: &R,
     alloc: Global,
@@ -147,8 +124,7 @@ fn is_told_of_a_lock<M: Running + Send + Sync, R: Threads + Wait + Clock + Abort
         zero_failed: AtomicBool::new(false),
         missed: AtomicBool::new(false),
     };
-    let pauses = (&holder, &AfterFailures { pause: &holder });
-    let replies = at_once(rt, &set, zero, one, pauses, &holder.is_locked);
+    let replies = at_once(rt, &set, zero, one, &holder, &holder.is_locked);
     assert!(rt; holder.one_failed.load(Ordering::SeqCst));
     assert!(rt; !holder.missed.load(Ordering::SeqCst));
     assert!(rt; !holder.zero_failed.load(Ordering::SeqCst));
@@ -156,22 +132,12 @@ fn is_told_of_a_lock<M: Running + Send + Sync, R: Threads + Wait + Clock + Abort
     Ok(())
 }
 
-/// So it is where the calls are made by the interpreter.
-fn both_are_told<M: Running + Send + Sync, R: Threads + Wait + Clock + Abort + Sync>(
-    rt: &R,
-    alloc: Global,
-    locks_at: u64,
-) -> Result<(), Fail> {
-    is_told_of_a_lock::<M, R>(rt, alloc, locks_at)?;
-    is_told_of_a_lock::<Stepped<M>, R>(rt, alloc, locks_at)
-}
-
 /// Thread 0 has a lock that thread 1 tries: its first step takes the lock of the list or of the head, or its third one that
 /// of the head.
 #[test]
 fn a_pause_is_told_of_a_lock_that_another_seat_has(rt: HostRuntime) -> Result<(), Fail> {
-    both_are_told::<CoarseList, HostRuntime>(&rt, rt.alloc(), 0)?;
-    both_are_told::<FineList, HostRuntime>(&rt, rt.alloc(), 0)?;
-    both_are_told::<OptimisticList, HostRuntime>(&rt, rt.alloc(), 2)?;
-    both_are_told::<LazyList, HostRuntime>(&rt, rt.alloc(), 2)
+    is_told_of_a_lock::<CoarseList, HostRuntime>(&rt, rt.alloc(), 0)?;
+    is_told_of_a_lock::<FineList, HostRuntime>(&rt, rt.alloc(), 0)?;
+    is_told_of_a_lock::<OptimisticList, HostRuntime>(&rt, rt.alloc(), 2)?;
+    is_told_of_a_lock::<LazyList, HostRuntime>(&rt, rt.alloc(), 2)
 }
