@@ -185,7 +185,7 @@ fn help_names_the_commands_and_their_values(rt: HostRuntime) -> Result<(), Fail>
         ),
         (
             &["help", "show"],
-            "\n      --from <M>  The first moment to draw: 1 to 4294967295;",
+            "\n      --from <M>   The first moment to draw: 1 to 4294967295;",
         ),
         (
             &["trace", "-h"],
