@@ -30,11 +30,12 @@ use Rattle.lset_rule.specs.Pasts.{calls_of, root}
 use Rattle.lset_rule.specs.Runs.{Here, log_by, at_end, IsRunOf, history_of}
 use Rattle.lset_rule.specs.Views.{Stands, AreIdle, HasAside, HasThread}
 use Rattle.lset_rule.specs.Calls.{Makes}
+use Rattle.lset_rule.specs.Seats.{IsSeat, Place}
 use Rattle.lset_rule.proofs.Stepped.{Tied, tied}
 use Rattle.lset_live.specs.Records.{Keeps, called, thread_of}
 use Rattle.lset_live.specs.Dated.{call_of, record_of}
-use Rattle.lset_live.specs.Explained.{IsAnswered, IsExplained}
-use Rattle.lset_live.specs.Seats.{reply_of, is_true}
+use Rattle.lset_live.specs.Explained.{HasAnswered, IsAnswered, IsExplained}
+use Rattle.lset_live.specs.Seats.{SeatValue, SetValue, reply_of, is_true}
 use Rattle.lset_live.proofs.Dated.{root_is, said_by}
 use Rattle.lset_live.proofs.Histories.{of_thread, ended_record, thread_records, MayBegin, thread_calls}
 use Rattle.lset_live.proofs.Orders.{keeps}
@@ -147,6 +148,34 @@ module _ (T : Table) (law : Lawful T) (c : Call) (v : View) (r : Reply) (w : Vie
     number = entry.0;
     call = entry.1 ∙ ap (λ l. some (record { thread = w.thread; call = c; begun = length l + 1; ended = Some (length w.seen, r) })) m.before.1;
   }
+
+-- THE CONTRACT OF A CALL, from what the call did to the view of its seat
+abbrev seat_at : Place → SeatValue
+seat_at s = record {
+  set = record { table = s.table_id; shape = s.me.0.shape };
+  past = record_of s.me.0.past;
+  held = length s.me.0.others + 1;
+  events = s.me.0.seen;
+}
+
+module _ (T : Table) (law : Lawful T) (linear : RunsAreLinearizable T) (c : Call) (s : Place) (r : Reply) (s' : Place)
+    (seat : IsSeat s s') (made : Makes T c s.me.0 r s'.me.0) where
+  at_seat : HasAnswered T (seat_at s').set (seat_at s) c r (seat_at s')
+  at_seat = record {
+    of_set = refl;
+    held = ap (λ l. length l + 1) made.same.3;
+    past = ap record_of made.past;
+    answered = made_answered T law c s.me.0 r s'.me.0 made;
+    explained = made_explained T law linear c s.me.0 r s'.me.0 made;
+  }
+
+  same_set : (seat_at s').set ≡ (seat_at s).set
+  same_set i = record { table = seat.0 i; shape = made.same.1 i }
+
+  pub has_answered : (set : SetValue) (old : SeatValue) → seat_at s ≡ old → old.set ≡ set → HasAnswered T set old c r (seat_at s')
+  has_answered set old is of_set =
+      let sets : (seat_at s').set ≡ set = same_set ∙ (ap (λ (z : SeatValue). z.set) is ∙ of_set) in
+      subst (λ (z : SetValue × SeatValue). HasAnswered T z.0 z.1 c r (seat_at s')) (λ i. (sets i, is i)) at_seat
 
 -- A `contains` answers True or False.
 abbrev IsTruth : Reply → Type 0

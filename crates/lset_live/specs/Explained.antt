@@ -11,7 +11,8 @@ use Rattle.lset_steps.specs.declared.Event.{Event}
 use Rattle.lset_steps.specs.declared.Event.TheVariants.{Begin, Go}
 use Rattle.lset_steps.specs.Steps.{Table}
 use Rattle.lset_rule.specs.Runs.{IsRunOf, history_of}
-use Rattle.lset_live.specs.Records.{Record, Names, Keeps, calls_by}
+use Rattle.lset_live.specs.Records.{Record, Names, Keeps, called, calls_by, thread_of}
+use Rattle.lset_live.specs.Seats.{SeatValue, SetValue}
 use Rattle.lset_words.specs.Words.{Opening}
 
 -- The call c of thread t answered r: it began after the events that were seen before it, and its answering step is the last of
@@ -35,6 +36,16 @@ pub record IsExplained (T : Table) (k : Opening) (events : List Event) (r : Reco
   pub order : List Placed
   pub linearizes : Linearizes k.quota (opening_set k) (history_of T k events) order
   pub keeps : Keeps (map (answered (history_of T k events)) order) r
+
+-- A call of the set was made from the seat `old`, answered r, and left the seat as `new`: it is a seat of the set and holds as many
+-- seats as before, its record grew by just this call, which began after all that the seat had seen, and one order explains all that
+-- it has now seen.
+pub record HasAnswered (T : Table) (set : SetValue) (old : SeatValue) (c : Call) (r : Reply) (new : SeatValue) : Type 0 where
+  pub of_set : new.set ≡ set
+  pub held : new.held ≡ old.held
+  pub past : new.past ≡ called old.past (record { call = c; reply = r })
+  pub answered : IsAnswered T set.shape (thread_of old.past) c r old.events new.events
+  pub explained : IsExplained T set.shape new.events new.past
 
 -- some record of the list names the thread
 abbrev pub NamedIn : ℕ → List Record → Type 0

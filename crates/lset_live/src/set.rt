@@ -9,8 +9,8 @@ ghost use Rattle.lset_rule.specs.Seats.{IsOf};
 ghost use Rattle.lset_rule.specs.Runs.{StartsWith};
 ghost use Rattle.lset_rule.specs.Rule.{left_view, right_view};
 ghost use Rattle.lset_live.specs.Closes.{HasKeys};
-ghost use Rattle.lset_live.specs.Explained.{Explains, IsAnswered, IsExplained};
-ghost use Rattle.lset_live.specs.Records.{called, gathered, thread_of};
+ghost use Rattle.lset_live.specs.Explained.{Explains, HasAnswered};
+ghost use Rattle.lset_live.specs.Records.{gathered};
 ghost use Rattle.lset_live.specs.Seats.{is_true, reply_of};
 
 use crate::closed::Closed;
@@ -83,11 +83,7 @@ impl<M: Running> LiveSet<M> {
         pause: &P,
     ) -> Reply
         requires { seat.old.set ≡ self.now }
-        ensures seat { (seat.new.set ≡ self.now) × (seat.new.held ≡ seat.old.held) }
-        ensures record { seat.new.past ≡ called seat.old.past (record { call = call; reply = result }) }
-        ensures answered { IsAnswered M.table self.now.shape (thread_of seat.old.past) call result
-            seat.old.events seat.new.events }
-        ensures explained { IsExplained M.table self.now.shape seat.new.events seat.new.past }
+        ensures { HasAnswered M.table self.now seat.old call result seat.new }
     {
         runs_are_linearizable::<M>();
         let (slots, reply) = call_on::<M, R, P>(
@@ -106,11 +102,7 @@ impl<M: Running> LiveSet<M> {
     /// slots. As `call` with `Spin`.
     pub fn add<R: Wait>(&self, rt: &R, seat: &mut Seat<M>, key: Key) -> Reply
         requires { seat.old.set ≡ self.now }
-        ensures seat { (seat.new.set ≡ self.now) × (seat.new.held ≡ seat.old.held) }
-        ensures record { seat.new.past ≡ called seat.old.past (record { call = Add key; reply = result }) }
-        ensures answered { IsAnswered M.table self.now.shape (thread_of seat.old.past) (Add key) result
-            seat.old.events seat.new.events }
-        ensures explained { IsExplained M.table self.now.shape seat.new.events seat.new.past }
+        ensures { HasAnswered M.table self.now seat.old (Add key) result seat.new }
     {
         self.call(rt, seat, Call::Add(key), &Spin::new())
     }
@@ -118,11 +110,7 @@ impl<M: Running> LiveSet<M> {
     /// Takes the key out, and answers `True`, if it was there. As `call` with `Spin`.
     pub fn remove<R: Wait>(&self, rt: &R, seat: &mut Seat<M>, key: Key) -> Reply
         requires { seat.old.set ≡ self.now }
-        ensures seat { (seat.new.set ≡ self.now) × (seat.new.held ≡ seat.old.held) }
-        ensures record { seat.new.past ≡ called seat.old.past (record { call = Remove key; reply = result }) }
-        ensures answered { IsAnswered M.table self.now.shape (thread_of seat.old.past) (Remove key) result
-            seat.old.events seat.new.events }
-        ensures explained { IsExplained M.table self.now.shape seat.new.events seat.new.past }
+        ensures { HasAnswered M.table self.now seat.old (Remove key) result seat.new }
     {
         self.call(rt, seat, Call::Remove(key), &Spin::new())
     }
@@ -130,11 +118,7 @@ impl<M: Running> LiveSet<M> {
     /// Answers whether the key is there. As `call` with `Spin`.
     pub fn contains<R: Wait>(&self, rt: &R, seat: &mut Seat<M>, key: Key) -> Reply
         requires { seat.old.set ≡ self.now }
-        ensures seat { (seat.new.set ≡ self.now) × (seat.new.held ≡ seat.old.held) }
-        ensures record { seat.new.past ≡ called seat.old.past (record { call = Contains key; reply = result }) }
-        ensures answered { IsAnswered M.table self.now.shape (thread_of seat.old.past) (Contains key) result
-            seat.old.events seat.new.events }
-        ensures explained { IsExplained M.table self.now.shape seat.new.events seat.new.past }
+        ensures { HasAnswered M.table self.now seat.old (Contains key) result seat.new }
     {
         self.call(rt, seat, Call::Contains(key), &Spin::new())
     }
@@ -142,11 +126,7 @@ impl<M: Running> LiveSet<M> {
     /// Answers the least key at or above this one, or that there is none. As `call` with `Spin`.
     pub fn ceiling<R: Wait>(&self, rt: &R, seat: &mut Seat<M>, key: Key) -> Reply
         requires { seat.old.set ≡ self.now }
-        ensures seat { (seat.new.set ≡ self.now) × (seat.new.held ≡ seat.old.held) }
-        ensures record { seat.new.past ≡ called seat.old.past (record { call = Ceiling key; reply = result }) }
-        ensures answered { IsAnswered M.table self.now.shape (thread_of seat.old.past) (Ceiling key) result
-            seat.old.events seat.new.events }
-        ensures explained { IsExplained M.table self.now.shape seat.new.events seat.new.past }
+        ensures { HasAnswered M.table self.now seat.old (Ceiling key) result seat.new }
     {
         self.call(rt, seat, Call::Ceiling(key), &Spin::new())
     }
@@ -225,11 +205,7 @@ impl<M: RunningReads> LiveSet<M> {
     /// load (`lset_steps::OpenReads`). The answer counts as the reply `True` or `False`.
     pub fn contains_now(&self, seat: &mut Seat<M>, key: Key) -> bool
         requires { seat.old.set ≡ self.now }
-        ensures seat { (seat.new.set ≡ self.now) × (seat.new.held ≡ seat.old.held) }
-        ensures record { seat.new.past ≡ called seat.old.past (record { call = Contains key; reply = reply_of result }) }
-        ensures answered { IsAnswered M.table self.now.shape (thread_of seat.old.past) (Contains key) (reply_of result)
-            seat.old.events seat.new.events }
-        ensures explained { IsExplained M.table self.now.shape seat.new.events seat.new.past }
+        ensures { HasAnswered M.table self.now seat.old (Contains key) (reply_of result) seat.new }
     {
         runs_are_linearizable::<M>();
         let (slots, reply) = M::contains_now_on(

@@ -1,6 +1,6 @@
 //! Sessions: the lines of a reader are answered on a writer.
 ghost use Rattle.std.specs.Prelude.{◌≡◌, ◌≤◌, ◌↔◌, ◌∷◌, [], Bool, true, false, IsTrue, if◌then◌else◌, length, None};
-ghost use Rattle.lset_live.specs.Records.{called, with_calls};
+ghost use Rattle.lset_live.specs.Records.{with_calls};
 ghost use Rattle.lset_session.specs.Devices.{Writes};
 ghost use Rattle.lset_session.specs.SessionText.{Exchange, turn_of, line, answer_of, call_of, reply_word};
 ghost use Rattle.lset_session.specs.Sessions.{IsSession};
@@ -13,7 +13,7 @@ use crate::{LONGEST_LINE, MOST_LINES};
 use arrayvec::ArrayString;
 use itoa::Buffer;
 use lset_live::SetCalls;
-use lset_words::{Call, Reply};
+use lset_words::Reply;
 use std::sync::Wait;
 
 /// Why a session has ended.
@@ -69,20 +69,6 @@ fn reply_line(reply: Reply) -> ArrayString<14>
     line
 }
 
-/// Makes the call on the seat.
-fn make_call<R: Wait, S: SetCalls>(rt: &R, set: &S, seat: &mut S::Seat, call: Call) -> Reply
-    requires { S.is_of set.now seat.old }
-    ensures record { S.record_of seat.new ≡ called (S.record_of seat.old) (record { call = call; reply = result }) }
-    ensures seat { S.is_of set.now seat.new × (S.held_by seat.new ≡ S.held_by seat.old) }
-{
-    match call {
-        Call::Add(key) => set.add(rt, seat, key),
-        Call::Remove(key) => set.remove(rt, seat, key),
-        Call::Contains(key) => set.contains(rt, seat, key),
-        Call::Ceiling(key) => set.ceiling(rt, seat, key),
-    }
-}
-
 /// Answers a request, and tells whether the answer was written whole.
 fn answer<R: Wait, W: Sink, S: SetCalls>(
     rt: &R,
@@ -101,7 +87,7 @@ fn answer<R: Wait, W: Sink, S: SetCalls>(
 {
     match request {
         Request::Call(made) => {
-            let reply = make_call(rt, set, seat, made);
+            let reply = set.make_call(rt, seat, made);
             write_all(writer, reply_line(reply).as_str().as_bytes())
         }
         Request::Quit => write_all(writer, b"BYE\n"),

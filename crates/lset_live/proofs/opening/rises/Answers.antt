@@ -1,4 +1,4 @@
-use Rattle.std.proofs.Common.{ℕ, ◌<◌, ◌≡◌, ◌+◌, ◌-◌, inl, inr, refl, subst, sym, arith}
+use Rattle.std.proofs.Common.{◌<◌, ◌≡◌, ◌+◌, ◌-◌, inl, inr, refl, subst, sym, arith}
 use Rattle.std.specs.Prelude.{slice_index}
 use Rattle.lset_words.proofs.Numbers.{same_or_not}
 use Rattle.lset_live.proofs.opening.rises.Goals as goal

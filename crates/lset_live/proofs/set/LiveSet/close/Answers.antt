@@ -4,7 +4,7 @@ use Rattle.lset_live.specs.Explained.{Explains}
 use Rattle.lset_live.specs.Seats.{SeatValue, SetValue}
 use Rattle.lset_live.proofs.Closing.{last_explains}
 use Rattle.lset_live.proofs.set.LiveSet.close.Goals as goal
-use Rattle.lset_words.specs.Words.{Opening, sizes, Sizes}
+use Rattle.lset_words.specs.Words.{Opening, Sizes}
 
 pub returns-clause-closed : goal.returns-clause-closed
 returns-clause-closed g c = λ keys has.

@@ -3,7 +3,7 @@ use Rattle.lset_rule.proofs.Joins.{joins, learns}
 use Rattle.lset_rule.proofs.Counts.{held_few, some_words}
 use Rattle.lset_live.specs.Seats.{SeatValue, SetValue}
 use Rattle.lset_live.proofs.set.LiveSet.gather.Goals as goal
-use Rattle.lset_words.specs.Words.{Opening, Sizes}
+use Rattle.lset_words.specs.Words.{Sizes}
 
 pub join_seat-requires : goal.join_seat-requires
 join_seat-requires g c =
