@@ -102,6 +102,8 @@ impl Recorder {
         first
     }
 
+    // Few events begin, change or end anything: what follows those lies outside the loop of the many that tell nothing.
+    #[inline(never)]
     fn begin(&mut self, thread: u32, call: Call, moment: u32) -> Result<(), AllocError>
         requires may { MayBegin self.old.history thread moment }
         requires seat { thread < length self.old.under_way.items }
@@ -125,6 +127,7 @@ impl Recorder {
         Ok(())
     }
 
+    #[inline(never)]
     fn change(
         &mut self,
         thread: u32,
@@ -149,6 +152,7 @@ impl Recorder {
         Ok(())
     }
 
+    #[inline(never)]
     fn end(&mut self, thread: u32, reply: Reply, moment: u32)
         requires { MayStep self.old.history self.old.under_way.items self.old.places.items thread moment }
         ensures history { self.new.history
@@ -172,6 +176,7 @@ impl Recorder {
     }
 
     /// Follows the event that leads to a moment, and what it told.
+    #[inline(always)]
     pub fn follow(&mut self, event: Event, told: Told, moment: u32) -> Result<(), AllocError>
         requires { MayFollow self.old moment event told }
         ensures trace { OnOk result (trace_of self.new ≡ trace_after moment (entry_told event told) (trace_of self.old)) }

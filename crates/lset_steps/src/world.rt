@@ -173,6 +173,7 @@ fn idle_locals(alloc: Global, layout: &Layout) -> Result<Vec<Local>, AllocError>
 }
 
 /// Does one access, and tells what it saw.
+#[inline(always)]
 fn access(words: &mut Vec<u64>, action: Action) -> u64
     requires { word_named action < length words.old.items }
     ensures seen { result ≡ seen_by words.old.items action }
@@ -347,6 +348,7 @@ impl<M: Machine> World<M> {
         unpack(self.words[link_index(node) as usize]).1
     }
 
+    #[inline(always)]
     fn local(&self, t: u32) -> Local
         requires { t < self.now.sizes.threads }
         ensures { result ≡ local_of self.now.state t }
@@ -379,14 +381,17 @@ impl<M: Machine> World<M> {
         }
     }
 
-    fn go(&mut self, t: u32) -> Told
-        requires { Enabled self.old.state (Event.Go t) }
+    /// Makes the next step of a thread, given what it holds.
+    #[inline(always)]
+    fn go_holding(&mut self, t: u32, local: Local) -> Told
+        requires call { Enabled self.old.state (Event.Go t) }
+        requires held { local ≡ local_of self.old.state t }
         ensures new { self.new ≡ record self.old { state = after M.table self.old.state (Event.Go t) } }
         ensures told { result ≡ told M.table self.old.state (Event.Go t) }
     {
-        let local = self.local(t);
+        let words = &mut self.words;
         let action = M::next(&local);
-        let seen = access(&mut self.words, action);
+        let seen = access(words, action);
         let fed = M::feed(&local, seen);
         let change = M::effect(&local, seen);
         self.locals[t as usize] = fed.local;
@@ -396,8 +401,67 @@ impl<M: Machine> World<M> {
         }
     }
 
+    /// Makes the next step of a thread whose call stands at the row `PC`. The row is a number that the compiler knows, so that of
+    /// the machine's `next`, `feed` and `effect` this row alone is left, and of what the thread holds only what the row changes
+    /// is written.
+    #[inline(always)]
+    fn go_at<const PC: u8>(&mut self, t: u32) -> Told
+        requires call { Enabled self.old.state (Event.Go t) }
+        requires row { (local_of self.old.state t).pc ≡ PC }
+        ensures new { self.new ≡ record self.old { state = after M.table self.old.state (Event.Go t) } }
+        ensures told { result ≡ told M.table self.old.state (Event.Go t) }
+    {
+        let held = self.locals[t as usize];
+        self.go_holding(t, Local { pc: PC, ..held })
+    }
+
+    /// Makes the next step of a thread whose call stands at a row that `go` does not name.
+    fn go_elsewhere(&mut self, t: u32) -> Told
+        requires { Enabled self.old.state (Event.Go t) }
+        ensures new { self.new ≡ record self.old { state = after M.table self.old.state (Event.Go t) } }
+        ensures told { result ≡ told M.table self.old.state (Event.Go t) }
+    {
+        let held = self.locals[t as usize];
+        self.go_holding(t, held)
+    }
+
+    /// Makes the next step of a thread, by the code of its row. It names each row of the five tables; a table with further rows
+    /// is right without an arm for them here, and slower there.
+    #[inline(always)]
+    fn go(&mut self, t: u32) -> Told
+        requires { Enabled self.old.state (Event.Go t) }
+        ensures new { self.new ≡ record self.old { state = after M.table self.old.state (Event.Go t) } }
+        ensures told { result ≡ told M.table self.old.state (Event.Go t) }
+    {
+        match self.locals[t as usize].pc {
+            1 => self.go_at::<1>(t),
+            2 => self.go_at::<2>(t),
+            3 => self.go_at::<3>(t),
+            4 => self.go_at::<4>(t),
+            5 => self.go_at::<5>(t),
+            6 => self.go_at::<6>(t),
+            7 => self.go_at::<7>(t),
+            8 => self.go_at::<8>(t),
+            9 => self.go_at::<9>(t),
+            10 => self.go_at::<10>(t),
+            11 => self.go_at::<11>(t),
+            12 => self.go_at::<12>(t),
+            13 => self.go_at::<13>(t),
+            14 => self.go_at::<14>(t),
+            15 => self.go_at::<15>(t),
+            20 => self.go_at::<20>(t),
+            21 => self.go_at::<21>(t),
+            22 => self.go_at::<22>(t),
+            23 => self.go_at::<23>(t),
+            24 => self.go_at::<24>(t),
+            25 => self.go_at::<25>(t),
+            _ => self.go_elsewhere(t),
+        }
+    }
+
     /// Makes one event, and tells what it answered and changed. An event that is not enabled is refused
     /// with the first cause that applies, of `NoThread`, `Busy` and `Idle`, and changes nothing.
+    #[inline(always)]
     pub fn step(&mut self, event: Event) -> Result<Told, StepFault>
         ensures { StepResult M.table self.old event result self.new }
     {
