@@ -1,8 +1,8 @@
 //! The classic interleavings by name.
 use crate::calls::{Calls, Wrong, check, text_of};
-use lset_examples::{ALL, Example, exampled};
 use lset_tools::Trouble;
 use std::alloc::Global;
+use tool_examples::{ALL, Example, exampled};
 
 /// The list of names, a schedule, and a broken report.
 pub fn examples(alloc: Global, calls: &mut Calls) -> Result<(), Wrong> {

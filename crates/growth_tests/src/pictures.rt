@@ -5,10 +5,10 @@ use lset_drawing::{Picture, Window};
 use lset_history::Refusal;
 use lset_replay::{ReplayFault, replay_with_points};
 use lset_report::{ReportCause, ReportFault, read_report};
-use lset_show::{Form, picture_of_replay, picture_of_report, shown};
 use lset_tools::Trouble;
 use lset_words::{Point, Reply};
 use std::alloc::{AllocError, Global};
+use tool_show::{Form, picture_of_replay, picture_of_report, shown};
 
 /// Every moment.
 pub const ALL: Window = Window {

@@ -4,11 +4,11 @@ use crate::pictures::{
 };
 use crate::texts::{DRAWN, ONE_ADD, ONE_ADD_REPORT};
 use crate::traces::{EARLY, EARLY_TRACE, TRACE};
-use lset_examples::{Example, tool_example};
-use lset_show::{Form, tool_show};
 use lset_tools::{tool_check, tool_gen, tool_replay};
-use lset_trace::tool_trace;
 use std::alloc::{AllocError, Global};
+use tool_examples::{Example, tool_example};
+use tool_show::{Form, tool_show};
+use tool_trace::tool_trace;
 
 /// What a tool gives and writes.
 #[derive(Clone, Copy)]

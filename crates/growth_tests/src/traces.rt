@@ -3,8 +3,8 @@ use crate::calls::{Calls, Wrong, check, text_of};
 use crate::texts::one_add;
 use lset_replay::trace;
 use lset_tools::Trouble;
-use lset_trace::{traced, write_trace};
 use std::alloc::{AllocError, Global};
+use tool_trace::{traced, write_trace};
 
 /// The trace of one add with the chains.
 pub const TRACE: &str = "\

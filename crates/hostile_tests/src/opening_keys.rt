@@ -3,7 +3,6 @@
 use crate::devices::{Failure, NEVER, Plan, Reader};
 use crate::row_texts::CANNOT_READ;
 use crate::rows::texts_of;
-use lset_serve::{KeysFault, read_keys, tool_serve_with};
 use lset_tools::KeyCause;
 use lset_words::MOST_OPENING;
 use std::alloc::{AllocError, Global};
@@ -12,6 +11,7 @@ use std::sync::Wait;
 use std::test::Fail;
 use std::thread::Threads;
 use std::time::Clock;
+use tool_serve::{KeysFault, read_keys, tool_serve_with};
 
 /// What a server printed that left one key.
 const PRINTED: &str = "listening 127.0.0.1:4711\nsessions 1\ncalls 1\nkey 7\n";

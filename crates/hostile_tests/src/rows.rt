@@ -5,14 +5,14 @@ use crate::row_texts::{
     PICTURE, REFUSED_PICTURE, REPORT, SCHEDULE, SHEET, TRACE,
 };
 use lset_drawing::Window;
-use lset_examples::{Example, tool_example};
-use lset_run::tool_run;
-use lset_show::{Form, tool_show};
 use lset_tools::{tool_check, tool_gen, tool_replay};
-use lset_trace::tool_trace;
 use std::alloc::{AllocError, Global};
 use std::sync::Wait;
 use std::thread::Threads;
+use tool_examples::{Example, tool_example};
+use tool_run::tool_run;
+use tool_show::{Form, tool_show};
+use tool_trace::tool_trace;
 
 /// Every moment.
 const ALL: Window = Window {

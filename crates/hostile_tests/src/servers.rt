@@ -2,7 +2,6 @@
 use crate::devices::{Failure, Plan, WHOLE, Writer};
 use crate::row_texts::CANNOT_WRITE;
 use crate::rows::texts_of;
-use lset_serve::tool_serve;
 use std::alloc::{AllocError, Global};
 use std::io::{self, Read, Write};
 use std::net::{Net, Shutdown, TcpListener, TcpStream};
@@ -11,6 +10,7 @@ use std::sync::Wait;
 use std::test::Fail;
 use std::thread::Threads;
 use std::time::Clock;
+use tool_serve::tool_serve;
 
 const LISTENING: &str = "listening 127.0.0.1:";
 

@@ -8,11 +8,11 @@ use Rattle.clap.specs.Lexer.{usize_max}
 use Rattle.clap.specs.Words.{App, Row, Rule, Text, all_of, first_of, new_app, new_rule, with_rule, with_subcommand}
 use Rattle.clap.specs.Simple.{on_top}
 use Rattle.clap.specs.declared.builder.action.ArgAction.TheVariants.{SetTrue}
-use Rattle.lset_command.specs.declared.words.Command.{Command}
-use Rattle.lset_command.specs.declared.words.Command.TheVariants.{Replay, Check, Show, Trace, Draft, Example, Gen, Run, Serve, Faults}
+use Rattle.lset_command.specs.declared.command_line.Command.{Command}
+use Rattle.lset_command.specs.declared.command_line.Command.TheVariants.{Replay, Check, Show, Trace, Draft, Example, Gen, Run, Serve, Faults}
 use Rattle.lset_command.specs.declared.faults.TheConstants.{FAULTS}
-use Rattle.lset_command.specs.declared.words.Options.{Options}
-use Rattle.lset_command.specs.declared.words.Words.{Words}
+use Rattle.lset_command.specs.declared.command_line.Options.{Options}
+use Rattle.lset_command.specs.declared.command_line.Words.{Words}
 
 -- a flag, `--NAME`
 abbrev pub flag_rule : Text → Rule

@@ -1,8 +1,8 @@
 //! The words of the program's command line: which command they name, its values, its flags and its options.
 #![tactic(auto)]
 
+mod command_line;
 mod faults;
-mod words;
 
+pub use command_line::{Command, Options, VERSION, Words, is_out_of_memory, tool_words};
 pub use faults::faults_text;
-pub use words::{Command, Options, VERSION, Words, is_out_of_memory, tool_words};

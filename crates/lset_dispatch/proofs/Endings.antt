@@ -5,11 +5,11 @@ use Rattle.clap.specs.declared.error.kind.ErrorKind.{ErrorKind}
 use Rattle.clap.specs.declared.error.kind.ErrorKind.TheVariants as kind
 use Rattle.clap.specs.Words.{Text}
 use Rattle.lset_command.specs.CommandLine.{Choice, OptionValues, file_by, path_of}
-use Rattle.lset_command.specs.declared.words.Command.{Command}
-use Rattle.lset_command.specs.declared.words.Command.TheVariants.{Serve}
+use Rattle.lset_command.specs.declared.command_line.Command.{Command}
+use Rattle.lset_command.specs.declared.command_line.Command.TheVariants.{Serve}
 use Rattle.lset_tools.specs.declared.trouble.ValueName.{ValueName}
 use Rattle.lset_tools.specs.declared.trouble.Trouble.TheVariants.{CannotRead, Bad}
-use Rattle.lset_show.specs.Asking.{asked_of}
+use Rattle.tool_show.specs.Asking.{asked_of}
 use Rattle.lset_tools.specs.Tools.{Made, Outcome, Delivers, AppendsFront, Ends, line_of, status_of}
 use Rattle.lset_dispatch.specs.Dispatch.{CommandEnds, Does, DoesBy, DoesOn, DoesOnInput, IsHelp, ServesBy, ShowsBy, ShowsAsked}
 

@@ -6,8 +6,8 @@ use Rattle.clap.specs.declared.error.Error.{Error}
 use Rattle.clap.specs.declared.error.kind.ErrorKind.{ErrorKind}
 use Rattle.clap.specs.declared.error.kind.ErrorKind.TheVariants.{OutOfMemory, DisplayHelp, DisplayVersion}
 use Rattle.lset_command.specs.CommandLine.{Choice, OptionValues, choice_of, faults_text, file_by, listset, path_of}
-use Rattle.lset_command.specs.declared.words.Command.{Command}
-use Rattle.lset_command.specs.declared.words.Command.TheVariants.{Replay, Check, Show, Trace, Draft, Example, Gen, Run, Serve, Faults}
+use Rattle.lset_command.specs.declared.command_line.Command.{Command}
+use Rattle.lset_command.specs.declared.command_line.Command.TheVariants.{Replay, Check, Show, Trace, Draft, Example, Gen, Run, Serve, Faults}
 use Rattle.lset_tools.specs.declared.trouble.ValueName.{ValueName}
 use Rattle.lset_tools.specs.declared.trouble.Trouble.TheVariants.{CannotRead, Memory, Bad}
 use Rattle.lset_tools.specs.Tools.{Made, Ends, AppendsFront}
@@ -15,14 +15,14 @@ use Rattle.lset_tools.specs.Replaying.{Replays}
 use Rattle.lset_tools.specs.Checking.{Checks}
 use Rattle.lset_tools.specs.Generating.{Generates}
 use Rattle.lset_drawing.specs.declared.picture.Window.{Window}
-use Rattle.lset_show.specs.declared.asking.Form.{Form}
-use Rattle.lset_show.specs.Asking.{asked_of}
-use Rattle.lset_show.specs.Showing.{Shows}
-use Rattle.lset_trace.specs.Tracing.{Traces}
-use Rattle.lset_draft.specs.Drafting.{Drafts}
-use Rattle.lset_examples.specs.Exampling.{Exampled}
-use Rattle.lset_run.specs.Running as run
-use Rattle.lset_serve.specs.Serving as serve
+use Rattle.tool_show.specs.declared.asking.Form.{Form}
+use Rattle.tool_show.specs.Asking.{asked_of}
+use Rattle.tool_show.specs.Showing.{Shows}
+use Rattle.tool_trace.specs.Tracing.{Traces}
+use Rattle.tool_draft.specs.Drafting.{Drafts}
+use Rattle.tool_examples.specs.Exampling.{Exampled}
+use Rattle.tool_run.specs.Running as run
+use Rattle.tool_serve.specs.Serving as serve
 
 -- ---- words that are taken
 
@@ -36,8 +36,8 @@ ShowsBy options input made = ShowsAsked (asked_of options.svg options.from optio
 
 -- what `serve` makes of its values: with the keys of its input where it has a word for one, and else on an empty set
 abbrev pub ServesBy : Option Text → List Text → Option (List ℕ) → Option (List ℕ) → Option (List ℕ) → Made → Type 0
-ServesBy None values input old first made = serve.Serves (serve.request_of values) old first made
-ServesBy (Some word) values input old first made = serve.ServesWith (serve.request_of values) input old first made
+ServesBy None values input old first made = serve.Serves (serve.serve_request_of values) old first made
+ServesBy (Some word) values input old first made = serve.ServesWith (serve.serve_request_of values) input old first made
 
 -- what `faults` makes: its text, where memory is found
 abbrev pub TellsFaults : Made → Type 0

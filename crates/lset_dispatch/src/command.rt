@@ -5,19 +5,19 @@ ghost use Rattle.lset_tools.specs.Tools.{Ends, view};
 ghost use Rattle.lset_dispatch.specs.Dispatch.{CommandEnds, Does, ShowsBy, TellsFaults};
 
 use lset_command::{Command, Options, Words, faults_text};
-use lset_draft::tool_draft;
-use lset_examples::tool_example;
-use lset_run::tool_run;
-use lset_serve::{tool_serve, tool_serve_with};
-use lset_show::{read_asked, tool_show};
 use lset_tools::{Answer, Trouble, deliver, tool_check, tool_gen, tool_replay};
-use lset_trace::tool_trace;
 use std::alloc::Global;
 use std::io::{Read, Write};
 use std::net::{Net, TcpListener, TcpStream};
 use std::sync::Wait;
 use std::thread::Threads;
 use std::time::Clock;
+use tool_draft::tool_draft;
+use tool_examples::tool_example;
+use tool_run::tool_run;
+use tool_serve::{tool_serve, tool_serve_with};
+use tool_show::{read_asked, tool_show};
+use tool_trace::tool_trace;
 
 fn text_of(option: &Option<String>) -> Option<&str>
     ensures { option_copied result ≡ option_map string_bytes option.now }

@@ -3,7 +3,7 @@
 #![tactic(auto)]
 
 mod command;
-mod words;
+mod dispatching;
 
 pub use command::run_command;
-pub use words::{decline, run_words};
+pub use dispatching::{decline, run_words};

@@ -4,11 +4,11 @@ use Rattle.std.specs.Str.{IsAscii, IsUtf8}
 use Rattle.std.proofs.lemmas.Bool.{and_parts, ltb-true}
 use Rattle.std.proofs.lemmas.Str.{IsUtf8-from_ascii}
 use Rattle.std.proofs.lemmas.Str.Ascii.{IsAscii-cons, IsAscii-nil}
-use Rattle.lset_examples.specs.Examples.{name_of}
-use Rattle.lset_examples.specs.declared.example.Example.{Example}
-use Rattle.lset_examples.specs.declared.example.Example.TheVariants.{FailedTries, Full, HandOverHand, SameGap, StalePred, MarkedInChain}
-use Rattle.lset_examples.specs.declared.example.Example.TheVariants.{MarkedPred, ReadInAnothersStep, OpensWithKeys, TwoRemovers, Snip, TriesAgain, LeftInChain}
-use Rattle.lset_examples.specs.declared.example.Example.TheVariants.{CeilingMeetsMark, CeilingLeftInChain, BehindTheWalk}
+use Rattle.tool_examples.specs.Examples.{name_of}
+use Rattle.tool_examples.specs.declared.example.Example.{Example}
+use Rattle.tool_examples.specs.declared.example.Example.TheVariants.{FailedTries, Full, HandOverHand, SameGap, StalePred, MarkedInChain}
+use Rattle.tool_examples.specs.declared.example.Example.TheVariants.{MarkedPred, ReadInAnothersStep, OpensWithKeys, TwoRemovers, Snip, TriesAgain, LeftInChain}
+use Rattle.tool_examples.specs.declared.example.Example.TheVariants.{CeilingMeetsMark, CeilingLeftInChain, BehindTheWalk}
 
 abbrev is_ascii : List ℕ → Bool
 is_ascii [] = true

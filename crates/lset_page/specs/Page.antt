@@ -5,9 +5,9 @@ use Rattle.lset_tools.specs.declared.trouble.Trouble.TheVariants.{CannotRead, Ba
 use Rattle.lset_tools.specs.declared.trouble.ValueName.{ValueName}
 use Rattle.lset_tools.specs.Tools.{Made}
 use Rattle.lset_tools.specs.Trouble as trouble
-use Rattle.lset_show.specs.declared.asking.Form.{Form}
-use Rattle.lset_show.specs.Asking.{asked_of}
-use Rattle.lset_show.specs.Showing.{Shows}
+use Rattle.tool_show.specs.declared.asking.Form.{Form}
+use Rattle.tool_show.specs.Asking.{asked_of}
+use Rattle.tool_show.specs.Showing.{Shows}
 
 -- what the program prints of it: the answer's text, or the line about the trouble
 abbrev pub text_of : Made → List ℕ

@@ -13,17 +13,17 @@ mod showing;
 ghost use Rattle.std.specs.Prelude.{true, false, None, Some};
 ghost use Rattle.lset_tools.specs.Replaying.{Replays};
 ghost use Rattle.lset_tools.specs.Checking.{Checks};
-ghost use Rattle.lset_trace.specs.Tracing.{Traces};
-ghost use Rattle.lset_examples.specs.Exampling.{Exampled};
+ghost use Rattle.tool_trace.specs.Tracing.{Traces};
+ghost use Rattle.tool_examples.specs.Exampling.{Exampled};
 ghost use Rattle.lset_page.specs.Page.{Hands, OfText, ShowsAll};
 
 use handing::hand;
-use lset_examples::exampled;
 use lset_tools::{checked, replayed};
-use lset_trace::traced;
 use naming::exampled_by;
 use showing::shown_whole;
 use std::alloc::Global;
+use tool_examples::exampled;
+use tool_trace::traced;
 
 /// What `listset replay` prints of the schedule whose text is given: its report, or the line about the first fault of the
 /// text or the first event that is not enabled, or about a text of more than 67,108,864 bytes.

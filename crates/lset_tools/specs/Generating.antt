@@ -17,7 +17,7 @@ use Rattle.lset_tools.specs.declared.trouble.Trouble.{Trouble}
 use Rattle.lset_tools.specs.declared.trouble.Trouble.TheVariants.{Memory, Bad}
 use Rattle.lset_tools.specs.declared.trouble.ValueName.{ValueName}
 use Rattle.lset_tools.specs.declared.trouble.ValueName.TheVariants as name
-use Rattle.lset_tools.specs.declared.values.Request.{Request}
+use Rattle.lset_tools.specs.declared.values.RandomRequest.{RandomRequest}
 use Rattle.lset_tools.specs.declared.values.TheConstants.{MOST_CALLS_ASKED, MOST_KEYS_ASKED, MOST_SEED}
 use Rattle.lset_tools.specs.Tools.{Made}
 
@@ -32,8 +32,8 @@ abbrev pub number_at : List (List ℕ) → ℕ → ℕ → ℕ → Option ℕ
 number_at values index low high = option_and_then (number_in low high) (slice_get values index)
 
 -- What the values ask for, or the first of them that is missing or wrong.
-unfoldable pub request_of : List (List ℕ) → Result Request ValueName
-request_of values = do
+unfoldable pub random_request_of : List (List ℕ) → Result RandomRequest ValueName
+random_request_of values = do
   kind ← or_fail name.Kind (kind_at values 0)
   threads ← or_fail name.Threads (number_at values 1 1 MOST_THREADS)
   quota ← or_fail name.Quota (number_at values 2 0 MOST_QUOTA)
@@ -45,7 +45,7 @@ request_of values = do
 -- ---- what is made of them
 
 -- A schedule as a request asks for it, of the machine of this table:
-pub record IsRequested (T : Table) (request : Request) (p : Plan) : Type 0 where
+pub record IsRequested (T : Table) (request : RandomRequest) (p : Plan) : Type 0 where
   pub version_is : p.version ≡ One
   pub kind_is : p.kind ≡ request.kind
   pub threads_are : p.threads ≡ request.threads
@@ -57,14 +57,14 @@ pub record IsRequested (T : Table) (request : Request) (p : Plan) : Type 0 where
   pub drawn : AreOfSeed T request.threads request.quota request.calls request.keys request.seed p.lines
 
 -- what is made of a request: the text of a schedule as it asks for it, where memory is found; a wrong value is named
-abbrev pub Answers : Result Request ValueName → Made → Type 0
+abbrev pub Answers : Result RandomRequest ValueName → Made → Type 0
 Answers (Ok request) (Ok answer) =
     (p : Plan) × IsRequested (table_of request.kind) request p × (answer ≡ record { text = schedule_text p; status = 0 })
 Answers (Ok request) (Err t) = t ≡ Memory
 Answers (Err wrong) made = made ≡ Err (Bad wrong)
 
 abbrev pub Generates : List (List ℕ) → Made → Type 0
-Generates values made = Answers (request_of values) made
+Generates values made = Answers (random_request_of values) made
 
 -- ---- what the functions on the way say
 

@@ -10,7 +10,7 @@ ghost use Rattle.lset_tools.specs.declared.trouble.Trouble.TheVariants.{Bad};
 
 use crate::answer::{Answer, deliver};
 use crate::trouble::{Trouble, ValueName};
-use crate::values::{Request, read_request};
+use crate::values::{RandomRequest, read_random_request};
 use lset_lists::{List, Task, on_list};
 use lset_schedule::{GenFault, Schedule, generate, write_schedule};
 use std::alloc::Global;
@@ -41,7 +41,7 @@ impl From<GenFault> for Trouble {
 #[derive(Clone, Copy)]
 struct Generating {
     alloc: Global,
-    request: Request,
+    request: RandomRequest,
 }
 
 impl Task for Generating {
@@ -53,7 +53,7 @@ impl Task for Generating {
     ghost done = { λ task table result. MatchResult result (λ s. IsRequested table task.request (view s)) (λ fault. fault ≡ Memory) };
 
     fn run<M: List>(self) -> Result<Schedule, GenFault> {
-        let Request {
+        let RandomRequest {
             threads,
             quota,
             calls,
@@ -66,7 +66,7 @@ impl Task for Generating {
 }
 
 /// A schedule of the list that the request names.
-fn schedule_for(alloc: Global, request: Request) -> Result<Schedule, GenFault>
+fn schedule_for(alloc: Global, request: RandomRequest) -> Result<Schedule, GenFault>
     requires { IsAccepted request.threads request.quota request.keys }
     ensures { MatchResult result (λ s. IsRequested (table_of request.kind) request (view s)) (λ fault. fault ≡ Memory) }
 {
@@ -76,7 +76,7 @@ fn schedule_for(alloc: Global, request: Request) -> Result<Schedule, GenFault>
 fn generated(alloc: Global, values: &[String]) -> Result<Answer, Trouble>
     ensures { Generates (map string_bytes values.now) (tools.view result) }
 {
-    let request = read_request(values)?;
+    let request = read_random_request(values)?;
     let schedule = schedule_for(alloc, request)?;
     let text = write_schedule(alloc, &schedule)?;
     Ok(Answer { text, status: 0 })

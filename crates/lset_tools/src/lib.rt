@@ -19,5 +19,6 @@ pub use replaying::{replayed, tool_replay};
 pub use streams::{InputFault, LONGEST, input_of, put};
 pub use trouble::{KeyCause, LineCause, ServeName, Trouble, ValueName, WorkName};
 pub use values::{
-    MOST_CALLS_ASKED, MOST_KEYS_ASKED, MOST_SEED, Request, kind_at, number_at, read_request,
+    MOST_CALLS_ASKED, MOST_KEYS_ASKED, MOST_SEED, RandomRequest, kind_at, number_at,
+    read_random_request,
 };

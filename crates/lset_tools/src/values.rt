@@ -1,7 +1,7 @@
 ghost use Rattle.std.specs.Prelude.{◌≡◌, ◌≤◌, ◌↔◌, IsTrue, IfOk, IfSome, map, string_bytes};
 ghost use Rattle.lset_text.specs.Numbers.{number_in};
 ghost use Rattle.lset_schedule.specs.Generating.{IsAccepted};
-ghost use Rattle.lset_tools.specs.Generating.{IsPlain, kind_at, number_at, request_of};
+ghost use Rattle.lset_tools.specs.Generating.{IsPlain, kind_at, number_at, random_request_of};
 
 use crate::trouble::ValueName;
 use lset_text::{number, read_kind};
@@ -19,7 +19,7 @@ pub const MOST_SEED: u64 = u64::MAX;
 /// What a command takes from its values: a list, the sizes and the calls of a run, and the seed from which
 /// they are drawn.
 #[derive(Clone, Copy, Debug, PartialEq, Eq)]
-pub struct Request {
+pub struct RandomRequest {
     /// The list.
     pub kind: Kind,
     /// 1 to `MOST_THREADS`.
@@ -75,11 +75,11 @@ fn seed_at(values: &[String], index: usize) -> Option<u64>
 }
 
 /// What the values ask for, in the order KIND, THREADS, QUOTA, CALLS, KEYS, SEED, with the ranges of
-/// `Request`; numbers are decimals without leading zeros. The error names the first value that is missing or
+/// `RandomRequest`; numbers are decimals without leading zeros. The error names the first value that is missing or
 /// wrong. Values past the last are not looked at.
-#[tactic(auto, unfolding(crate::specs::Generating::request_of))]
-pub fn read_request(values: &[String]) -> Result<Request, ValueName>
-    ensures value { result ≡ request_of (map string_bytes values.now) }
+#[tactic(auto, unfolding(crate::specs::Generating::random_request_of))]
+pub fn read_random_request(values: &[String]) -> Result<RandomRequest, ValueName>
+    ensures value { result ≡ random_request_of (map string_bytes values.now) }
     ensures known { IfOk result (λ request. IsAccepted request.threads request.quota request.keys) }
 {
     let kind = kind_at(values, 0).ok_or(ValueName::Kind)?;
@@ -88,7 +88,7 @@ pub fn read_request(values: &[String]) -> Result<Request, ValueName>
     let calls = number_at(values, 3, 0, MOST_CALLS_ASKED).ok_or(ValueName::Calls)?;
     let keys = number_at(values, 4, 1, MOST_KEYS_ASKED).ok_or(ValueName::Keys)?;
     let seed = seed_at(values, 5).ok_or(ValueName::Seed)?;
-    Ok(Request {
+    Ok(RandomRequest {
         kind,
         threads,
         quota,

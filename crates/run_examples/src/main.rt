@@ -1,6 +1,6 @@
 //! Runs the examples, as a program over the library would. Of each file of the folder that it runs in, by name: `NAME.schedule`
 //! is replayed and its report compared with `NAME.report`; the order of `NAME.report` is checked against its calls and keys. Then
-//! the files of the classic interleavings are compared with the texts that `lset_examples` has; and last a set is run, closed, and
+//! the files of the classic interleavings are compared with the texts that `tool_examples` has; and last a set is run, closed, and
 //! opened again with its keys, as another list.
 #![tactic(auto)]
 
@@ -14,7 +14,6 @@ ghost use Rattle.lset_replay.specs.Reports.{IsExplained};
 ghost use Rattle.lset_report.specs.Texts.{report_text};
 
 use lives::two_lives;
-use lset_examples::{ALL, Example};
 use lset_history::{OrderFault, check_order};
 use lset_replay::{ReplayFault, replay};
 use lset_report::{ReportFault, read_report, write_report};
@@ -22,6 +21,7 @@ use lset_schedule::{ScheduleFault, read_schedule};
 use std::alloc::{AllocError, Global};
 use std::{fs, io};
 use thiserror::Error;
+use tool_examples::{ALL, Example};
 
 /// Why a text is refused.
 #[derive(Debug, Drop, Error)]

@@ -1,8 +1,8 @@
 ghost use Rattle.std.specs.Prelude.{◌≡◌, IsTrue};
 
 use super::runs::{check_run, example_run, replay_run};
-use lset_examples::{ALL, Example, names_are_distinct};
 use std::test::Fail;
+use tool_examples::{ALL, Example, names_are_distinct};
 
 /// The list of names.
 const NAMES: &str = "\

@@ -27,9 +27,9 @@ mod pictures;
 #[cfg(test)]
 mod programs;
 #[cfg(test)]
-mod replaying;
+mod random_runs;
 #[cfg(test)]
-mod running;
+mod replaying;
 #[cfg(test)]
 mod runs;
 #[cfg(test)]

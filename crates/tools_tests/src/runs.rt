@@ -1,10 +1,6 @@
 //! Runs of the tools, and of the program, on devices in memory.
 use lset_dispatch::run_words;
-use lset_draft::tool_draft;
-use lset_examples::tool_example;
-use lset_run::tool_run;
 use lset_tools::{tool_check, tool_gen, tool_replay};
-use lset_trace::tool_trace;
 use std::alloc::Global;
 use std::io::Read;
 use std::net::{Net, TcpListener, TcpStream};
@@ -13,6 +9,10 @@ use std::sync::Wait;
 use std::test::Fail;
 use std::thread::Threads;
 use std::time::Clock;
+use tool_draft::tool_draft;
+use tool_examples::tool_example;
+use tool_run::tool_run;
+use tool_trace::tool_trace;
 
 pub const KINDS: [&str; 5] = ["coarse", "fine", "optimistic", "lazy", "lock-free"];
 

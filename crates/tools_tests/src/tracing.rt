@@ -1,13 +1,13 @@
 ghost use Rattle.std.specs.Prelude.{◌≡◌, IsTrue};
-ghost use Rattle.lset_trace.specs.WordTexts.{name_text, word_at};
+ghost use Rattle.tool_trace.specs.WordTexts.{name_text, word_at};
 
 use super::runs::trace_run;
 use super::traces;
-use lset_examples::{ALL, Example};
 use lset_tools::Answer;
-use lset_trace::{texts_are_apart, traced};
 use std::alloc::Global;
 use std::test::Fail;
+use tool_examples::{ALL, Example};
+use tool_trace::{texts_are_apart, traced};
 
 /// The lines that tell no chain.
 fn without_chains(alloc: Global, text: &str) -> Result<String, Fail> {

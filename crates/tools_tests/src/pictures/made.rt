@@ -2,7 +2,7 @@ ghost use Rattle.lset_words.specs.Words.{IsWithin};
 
 use lset_drawing::{Picture, Window};
 use lset_history::History;
-use lset_picture::write_picture;
+use lset_text_picture::write_picture;
 use lset_words::{Call, Key, Kind, Placed, Point, Reply};
 use std::alloc::{AllocError, Global};
 use std::process::Abort;

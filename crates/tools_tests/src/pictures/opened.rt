@@ -2,7 +2,7 @@
 use super::made::{ALL, Stand, assert_text, contains, picture_of, remove};
 use lset_drawing::{Picture, Window};
 use lset_history::History;
-use lset_picture::write_picture;
+use lset_text_picture::write_picture;
 use lset_words::{Kind, Reply};
 use std::alloc::{AllocError, Global};
 use std::test::Fail;

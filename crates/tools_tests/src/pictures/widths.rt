@@ -1,6 +1,6 @@
 use super::made::{ALL, assert_text, hand_over_hand};
 use lset_drawing::Window;
-use lset_picture::fitted_window;
+use lset_text_picture::fitted_window;
 use std::test::Fail;
 
 #[test]

@@ -1,6 +1,6 @@
 use super::made::{ALL, assert_text, contains, hand_over_hand, no_calls, picture_of};
 use lset_drawing::Window;
-use lset_picture::write_picture;
+use lset_text_picture::write_picture;
 use lset_words::{Kind, Reply};
 use std::test::Fail;
 

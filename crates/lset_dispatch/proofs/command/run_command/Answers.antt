@@ -1,8 +1,8 @@
 use Rattle.std.proofs.Common.{◌≡◌, ◌∙◌, Some, None, ap, map, refl}
 use Rattle.std.specs.String.{string_bytes}
 use Rattle.lset_command.specs.CommandLine.{file_by, options_of}
-use Rattle.lset_command.specs.declared.words.Command.TheVariants.{Replay, Check, Show, Trace, Draft, Example, Gen, Run, Serve, Faults}
-use Rattle.lset_examples.specs.Exampling.{Exampled}
+use Rattle.lset_command.specs.declared.command_line.Command.TheVariants.{Replay, Check, Show, Trace, Draft, Example, Gen, Run, Serve, Faults}
+use Rattle.tool_examples.specs.Exampling.{Exampled}
 use Rattle.lset_dispatch.proofs.Endings.{at_command, at_once, ends_with, served, with_argument}
 use Rattle.lset_dispatch.specs.Dispatch.{TellsFaults}
 use Rattle.lset_dispatch.proofs.command.run_command.Goals as goal

@@ -1,5 +1,0 @@
-use Rattle.lset_examples.proofs.Plans.{is_listed}
-use Rattle.lset_examples.proofs.example.names_are_distinct.Goals as goal
-
-pub returns-clause-listed : goal.returns-clause-listed
-returns-clause-listed c = is_listed

@@ -1,0 +1,76 @@
+-- Steps of one thread, one after another.
+use Rattle.std.proofs.Common.{◌≡◌, ◌≢◌, ℕ, zero, suc, ◌+◌, ◌<◌, ◌≤◌, ◌⊎◌, inl, inr, length, length-set, refl, sym, ap, subst, ◌∙◌, add-one, arith}
+use Rattle.lset_steps.specs.declared.Event.TheVariants.{Go}
+use Rattle.lset_steps.specs.declared.world.StepFault.{StepFault}
+use Rattle.lset_steps.specs.Steps.{Table, State, Enabled, after, local_of, seen_next}
+use Rattle.lset_steps.specs.Worlds.{WorldState, Refused}
+use Rattle.tool_draft.specs.Counts.{steps_on, world_on, row_on, AreEnabled, IsNotYet, IsLeastCount, IsRefusedAt, HasCome}
+
+locals_on : (T : Table) (s : State) (t n : ℕ) → length (steps_on T s t n).locals ≡ length s.locals
+locals_on T s t zero = refl
+locals_on T s t (suc n) =
+    let before : State = steps_on T s t n in
+    length-set before.locals t (T.feed (local_of before t) (seen_next T before t)).local ∙ locals_on T s t n
+
+-- n steps of the thread lead from the first world to the second
+pub record HasStepped (T : Table) (w : WorldState) (t n : ℕ) (w' : WorldState) : Type 0 where
+  pub enabled : AreEnabled T w.state t n
+  pub world : w' ≡ world_on T w t n
+
+pub stepped_none : (T : Table) (w : WorldState) (t : ℕ) → HasStepped T w t 0 w
+stepped_none T w t = record { enabled = λ m l. absurd (omega arith); world = refl }
+
+last_or_before : (m n : ℕ) → m < suc n → (m ≡ n) ⊎ (m < n)
+last_or_before m n l = grind arith
+
+last_or_upto : (m n : ℕ) → m ≤ n + 1 → (m ≡ n + 1) ⊎ (m ≤ n)
+last_or_upto m n l = grind arith
+
+module _ (T : Table) (w : WorldState) (t n : ℕ) (w' : WorldState) (h : HasStepped T w t n w') where
+  pub stepped_more : (w'' : WorldState) → Enabled w'.state (Go t) → w'' ≡ record w' { state = after T w'.state (Go t) }
+      → HasStepped T w t (n + 1) w''
+  stepped_more w'' en is =
+      let now : Enabled (steps_on T w.state t n) (Go t) = subst (λ (z : WorldState). Enabled z.state (Go t)) h.world en in
+      let one_more : HasStepped T w t (suc n) w'' = record {
+        enabled = λ m l. elim (last_or_before m n l) [
+          | inl y ↦ subst (λ z. Enabled (steps_on T w.state t z) (Go t)) (sym y) now
+          | inr y ↦ h.enabled m y
+        ];
+        world = is ∙ ap (λ (z : WorldState). record z { state = after T z.state (Go t) }) h.world;
+      } in
+      subst (λ k. HasStepped T w t k w'') (sym (add-one n)) one_more
+
+  pub refused_at : (why : StepFault) → Refused w' (Go t) why → IsRefusedAt T w t n why
+  refused_at why refused = record { enabled = h.enabled; refused = subst (λ z. Refused z (Go t) why) h.world refused }
+
+  pub come : (row before most : ℕ) → n ≡ before + 1 → n ≤ most → IsNotYet T w.state t row before → (local_of w'.state t).pc ≡ row
+      → HasCome T w t row most n w'
+  come row before most is few not_yet there = record {
+    few = few;
+    enabled = h.enabled;
+    count = record {
+      some = omega arith;
+      there = subst (λ (z : WorldState). (local_of z.state t).pc ≡ row) h.world there;
+      least = λ m p l. not_yet m p (omega arith);
+    };
+    world = h.world;
+  }
+
+  pub not_yet_more : (row before : ℕ) → n ≡ before + 1 → IsNotYet T w.state t row before → (local_of w'.state t).pc ≢ row
+      → IsNotYet T w.state t row n
+  not_yet_more row before is not_yet other = λ m p l. elim (last_or_upto m before (omega arith)) [
+    | inl y ↦ subst (λ z. row_on T w.state t z ≢ row) (is ∙ sym y)
+        (subst (λ (z : WorldState). (local_of z.state t).pc ≢ row) h.world other)
+    | inr y ↦ not_yet m p y
+  ]
+
+  -- a thread that steps is one of the world's
+  pub seat : (w'' : WorldState) → length w.state.locals ≡ w.sizes.threads → Enabled w'.state (Go t)
+      → w'' ≡ record w' { state = after T w'.state (Go t) } → t < w''.sizes.threads
+  seat w'' seats en is =
+      let many : length w'.state.locals ≡ w.sizes.threads =
+      ap (λ (z : WorldState). length z.state.locals) h.world ∙ locals_on T w.state t n ∙ seats in
+      let same : w''.sizes.threads ≡ w.sizes.threads =
+      ap (λ (z : WorldState). z.sizes.threads) is ∙ ap (λ (z : WorldState). z.sizes.threads) h.world in
+      let below : t < length w'.state.locals = en.0 in
+      omega arith

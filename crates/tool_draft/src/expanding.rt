@@ -1,0 +1,144 @@
+ghost use Rattle.std.specs.Prelude.{◌≡◌, ◌≤◌, length, IfOk, MatchResult};
+ghost use Rattle.lset_words.specs.Words.{Opens, sizes};
+ghost use Rattle.lset_steps.specs.Steps.{opening};
+ghost use Rattle.lset_schedule.specs.Plan as plan;
+ghost use Rattle.lset_schedule.specs.declared.TheConstants.{MOST_EVENTS};
+ghost use Rattle.lset_lists.specs.Tables.{table_of};
+ghost use Rattle.tool_draft.specs.Drafts.{IsDraft, IsDraftLine, opening_in, view};
+ghost use Rattle.tool_draft.specs.Counts.{TakesSteps};
+ghost use Rattle.tool_draft.specs.Expanding.{AreLinesOfDraft, Expands, IsRefusal, MakesLine, MakesPlain, most_steps};
+
+use crate::fault::{DraftCause, DraftFault};
+use crate::stepping::{steps_to, take_steps};
+use crate::value::{Draft, DraftLine};
+use crate::version::least_version;
+use lset_lists::{List, Task, on_list};
+use lset_schedule::{Line, MOST_EVENTS, MOST_STEPS, Schedule};
+use lset_steps::{Event, Machine, World};
+use lset_words::layout_opening;
+use std::alloc::{AllocError, Global};
+
+/// Makes the events of a line of a schedule, where so many events are left.
+fn make_plain<M: Machine>(world: &mut World<M>, line: Line, left: u32) -> Result<(), DraftCause>
+    ensures { MakesPlain M.table world.old left line result world.new }
+{
+    if line.event_count() > left {
+        return Err(DraftCause::TooMany);
+    }
+    match line {
+        Line::Begin(thread, call) => {
+            world.step(Event::Begin(thread, call))?;
+        }
+        Line::Go(thread, steps) => take_steps(world, thread, steps)?,
+    }
+    Ok(())
+}
+
+/// Makes the events for which a line stands, where so many events are left, and answers the line of a schedule.
+fn make_line<M: Machine>(
+    world: &mut World<M>,
+    line: DraftLine,
+    left: u32,
+) -> Result<Line, DraftCause>
+    requires seats { length world.old.state.locals ≡ world.old.sizes.threads }
+    requires fits { IsDraftLine line }
+    ensures { MakesLine M.table world.old left line result world.new }
+{
+    let most = left.min(MOST_STEPS);
+    match line {
+        DraftLine::Plain(line) => {
+            make_plain(world, line, left)?;
+            Ok(line)
+        }
+        DraftLine::Out(thread) => {
+            let steps = steps_to(world, thread, 0, most)?;
+            Ok(Line::Go(thread, steps))
+        }
+        DraftLine::To(thread, row) => {
+            let steps = steps_to(world, thread, row, most)?;
+            Ok(Line::Go(thread, steps))
+        }
+    }
+}
+
+/// The world before any event of a draft.
+fn start_of<M: Machine>(alloc: Global, draft: &Draft) -> Result<World<M>, AllocError>
+    requires { Opens (opening_in (view draft.now)) }
+    ensures { IfOk result (λ w. w ≡ record {
+      sizes = sizes (opening_in (view draft.now));
+      state = opening (opening_in (view draft.now));
+    }) }
+{
+    let keys = draft.opening.as_slice();
+    let Ok(layout) = layout_opening(draft.threads, draft.quota, keys.len() as u32) else {
+        unreachable!();
+    };
+    World::<M>::opened(alloc, layout, keys)
+}
+
+/// The lines of a schedule for which the lines of a draft stand on the list of the machine `M`.
+fn lines_on<M: Machine>(alloc: Global, draft: &Draft) -> Result<Vec<Line>, DraftFault>
+    requires { IsDraft (view draft.now) }
+    ensures { MatchResult result (λ v. AreLinesOfDraft M.table (view draft.now) v.items) (IsRefusal M.table (view draft.now)) }
+{
+    let mut world = start_of::<M>(alloc, draft)?;
+    let first = draft.first_event_line();
+    let mut lines = Vec::new(alloc);
+    let mut left = MOST_EVENTS;
+    for (index, line) in draft.lines.iter().enumerate() {
+        let made = match make_line(&mut world, *line, left) {
+            Ok(made) => made,
+            Err(cause) => return Err(DraftFault::Line(first + index as u64, cause)),
+        };
+        if lines.push(made).is_err() {
+            return Err(DraftFault::Memory);
+        }
+        left -= made.event_count();
+    }
+    Ok(lines)
+}
+
+/// The lines of the schedule of a draft, whatever its list.
+#[derive(Clone, Copy)]
+struct Expanding<'a> {
+    alloc: Global,
+    draft: &'a Draft,
+}
+
+impl Task for Expanding<'_> {
+    type Out = Result<Vec<Line>, DraftFault>;
+
+    ghost may = { λ task kind. IsDraft (view task.draft.now) };
+
+    ghost done = { λ task table result.
+        MatchResult result (λ v. AreLinesOfDraft table (view task.draft.now) v.items) (IsRefusal table (view task.draft.now)) };
+
+    fn run<M: List>(self) -> Result<Vec<Line>, DraftFault> {
+        lines_on::<M>(self.alloc, self.draft)
+    }
+}
+
+/// The schedule of a draft on the list of its kind: each line without a count gets the least one, at least 1, after which
+/// the call of the thread has ended, or the thread stands before the row; all else stays as it is. It is of the first version
+/// where it opens with no keys and begins no `ceiling`, and else of the second. The draft is within its limits, as what
+/// `read_draft` gives. (This project's own.)
+///
+/// It is refused at the first line that stands for none of a schedule, with the number of the line: `TooMany` where a line has
+/// more events than are left of 1,000,000, `Refused` where an event is not enabled, `Waits` where a thread does not come
+/// to where the line sends it within 10,000 steps and the events that are left. `Memory` where memory was refused.
+pub fn schedule_of(alloc: Global, draft: &Draft) -> Result<Schedule, DraftFault>
+    requires { IsDraft (view draft.now) }
+    ensures { MatchResult result (λ s. Expands (table_of draft.now.kind) (view draft.now) (plan.view s))
+        (IsRefusal (table_of draft.now.kind) (view draft.now)) }
+{
+    let lines = on_list(draft.kind, Expanding { alloc, draft })?;
+    let opening = draft.opening.to_vec(alloc)?;
+    Ok(Schedule {
+        version: least_version(&opening, &lines),
+        kind: draft.kind,
+        threads: draft.threads,
+        quota: draft.quota,
+        opening,
+        lines,
+    })
+}

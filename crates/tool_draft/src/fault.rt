@@ -1,0 +1,45 @@
+ghost use Rattle.std.specs.Prelude.{◌≡◌};
+ghost use Rattle.tool_draft.specs.declared.fault.DraftCause.TheVariants.{Refused};
+ghost use Rattle.tool_draft.specs.declared.fault.DraftFault.TheVariants.{Memory};
+
+use lset_steps::StepFault;
+use std::alloc::AllocError;
+use thiserror::Error;
+
+/// Why a line of a draft is no line of a schedule.
+#[derive(Clone, Copy, Debug, PartialEq, Eq)]
+pub enum DraftCause {
+    /// The events up to and with this line are more than 1,000,000.
+    TooMany,
+    /// An event of the line is not enabled.
+    Refused(StepFault),
+    /// The thread does not come to where the line sends it, within the 10,000 steps that a line may have and the events that
+    /// are left.
+    Waits,
+}
+
+impl From<StepFault> for DraftCause {
+    ghost from_gives = { λ cause d. d ≡ Refused cause };
+
+    fn from(cause: StepFault) -> DraftCause {
+        DraftCause::Refused(cause)
+    }
+}
+
+/// Why there is no schedule of a draft: the first of its lines that is no line of a schedule, by its number in the draft's text,
+/// or that there was no memory.
+#[derive(Clone, Copy, Debug, PartialEq, Eq, Error)]
+pub enum DraftFault {
+    #[error("line {0}: {1:?}")]
+    Line(u64, DraftCause),
+    #[error("out of memory")]
+    Memory,
+}
+
+impl From<AllocError> for DraftFault {
+    ghost from_gives = { λ _ fault. fault ≡ Memory };
+
+    fn from(_refused: AllocError) -> DraftFault {
+        DraftFault::Memory
+    }
+}

@@ -1,0 +1,23 @@
+//! Drafts of schedules: texts in which a line may say where a thread is to stop in place of how many steps it takes. They are
+//! read, and made schedules by counting. (This project's own format.)
+#![tactic(auto)]
+
+mod expanding;
+mod fault;
+mod reading;
+mod stepping;
+mod tool;
+mod value;
+mod version;
+
+pub use expanding::schedule_of;
+pub use fault::{DraftCause, DraftFault};
+pub use reading::read_draft;
+pub use tool::{drafted, tool_draft};
+pub use value::{Draft, DraftLine};
+
+/// The first line of a draft's text.
+const TITLE: &str = "listset-draft 2";
+
+/// The greatest row at which a line of a draft may send a thread.
+pub const MOST_ROW: u32 = 255;

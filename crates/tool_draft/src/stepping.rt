@@ -1,0 +1,51 @@
+//! A thread steps: so many times, or until it stands before a row.
+ghost use Rattle.std.specs.Prelude.{◌≡◌, ◌<◌, length, ◌==◌};
+ghost use Rattle.lset_steps.specs.Steps.{local_of};
+ghost use Rattle.tool_draft.specs.Counts.{StepsTo, TakesSteps};
+
+use crate::DraftCause;
+use lset_steps::{Event, Machine, StepFault, World};
+
+/// Whether a thread stands before a row, or, where the row is 0, has no call open.
+fn stands_before<M: Machine>(world: &World<M>, thread: u32, row: u32) -> bool
+    requires { thread < world.now.sizes.threads }
+    ensures { result ≡ (local_of world.now.state thread).pc == row }
+{
+    match world.holds(thread) {
+        Some(local) => u32::from(local.pc) == row,
+        None => unreachable!(),
+    }
+}
+
+/// Steps a thread until it stands before a row, at least once and at most so many times; it answers how many steps it took.
+pub fn steps_to<M: Machine>(
+    world: &mut World<M>,
+    thread: u32,
+    row: u32,
+    most: u32,
+) -> Result<u32, DraftCause>
+    requires { length world.old.state.locals ≡ world.old.sizes.threads }
+    ensures { StepsTo M.table world.old thread row most result world.new }
+{
+    for taken in 0..most {
+        world.step(Event::Go(thread))?;
+        if stands_before(world, thread, row) {
+            return Ok(taken + 1);
+        }
+    }
+    Err(DraftCause::Waits)
+}
+
+/// Takes so many steps of a thread.
+pub fn take_steps<M: Machine>(
+    world: &mut World<M>,
+    thread: u32,
+    steps: u32,
+) -> Result<(), StepFault>
+    ensures { TakesSteps M.table world.old thread steps result world.new }
+{
+    for _taken in 0..steps {
+        world.step(Event::Go(thread))?;
+    }
+    Ok(())
+}

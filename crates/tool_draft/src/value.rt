@@ -1,0 +1,47 @@
+ghost use Rattle.std.specs.Prelude.{◌≡◌};
+ghost use Rattle.tool_draft.specs.Drafts.{first_event_line, least_count, view};
+
+use lset_schedule::{FIRST_LINE, Line};
+use lset_words::Kind;
+
+/// A line of a draft. `Plain` is a line of a schedule. In `Out(thread)` the thread takes steps until its call has ended, in
+/// `To(thread, row)` until it stands before that row of its list's table, 1 to 255; in both it takes one step at least.
+#[derive(Clone, Copy, Debug, PartialEq, Eq)]
+pub enum DraftLine {
+    Plain(Line),
+    Out(u32),
+    To(u32, u32),
+}
+
+impl DraftLine {
+    /// The least number of events for which the line can come to stand.
+    pub(crate) fn least_count(self) -> u32
+        ensures { result ≡ least_count self }
+    {
+        match self {
+            DraftLine::Plain(line) => line.event_count(),
+            DraftLine::Out(_) | DraftLine::To(_, _) => 1,
+        }
+    }
+}
+
+/// A draft of a schedule: the kind of list, its threads, 1 to 64, the slots of each, 0 to 16,384, the keys with which its set
+/// opens, at most 1,048,576 and rising strictly, and its lines, for at most 1,000,000 events where each line without a count
+/// is taken for one.
+#[derive(Debug, Drop)]
+pub struct Draft {
+    pub kind: Kind,
+    pub threads: u32,
+    pub quota: u32,
+    pub opening: Vec<u32>,
+    pub lines: Vec<DraftLine>,
+}
+
+impl Draft {
+    /// The number of the line of the first event in the text of this draft, and in that of its schedule, counted from 1.
+    pub fn first_event_line(&self) -> u64
+        ensures { result ≡ first_event_line (view self.now) }
+    {
+        FIRST_LINE + self.opening.len() as u64
+    }
+}

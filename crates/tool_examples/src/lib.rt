@@ -1,0 +1,10 @@
+//! The classic interleavings of the five lists by name, as schedules, and for six of them the report of a list that lacks the
+//! check which the example shows.
+#![tactic(auto)]
+
+mod example;
+mod texts;
+mod tool;
+
+pub use example::{ALL, Example, named, names_are_distinct};
+pub use tool::{exampled, tool_example};

@@ -1,0 +1,10 @@
+use Rattle.std.proofs.Common.{◌∙◌, sym}
+use Rattle.lset_text.proofs.PartLaws.{some_part}
+use Rattle.tool_serve.proofs.HeadLaws.{without_goes}
+use Rattle.tool_serve.proofs.keys.Left.without.Goals as goal
+
+pub returns-in-Some-clause-lines : goal.returns-in-Some-clause-lines
+returns-in-Some-clause-lines c =
+    rw c.in-Some.ensures.parts
+    (without_goes c.args.word.now c.args.self.line c.in-Some.first.now _ (some_part 10 c.in-Some.rest.now)
+    (sym c.is_word_and_piece.ensures ∙ c.if-is_word_and_piece.true))

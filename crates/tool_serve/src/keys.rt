@@ -1,0 +1,161 @@
+//! The keys with which a set opens, as the lines of a text.
+ghost use Rattle.std.specs.Prelude.{◌≡◌, ◌<◌, ◌≤◌, ◌+◌, ◌^◌, IfOk, option_map};
+ghost use Rattle.lset_words.specs.declared.TheConstants.{MOST_OPENING};
+ghost use Rattle.tool_serve.specs.Keys.{AreKeys, Gives, after_head, is_word_and_piece, key_after, key_in, keys_at, keys_in, lines_of, of_keys, two_pieces, without};
+ghost use Rattle.tool_serve.specs.Printed.{PrintedKeysAreRead};
+
+use lset_text::{cut, number};
+use lset_tools::{KeyCause, LineCause, Trouble};
+use lset_words::MOST_OPENING;
+use std::alloc::Global;
+
+/// Why a text gives no keys.
+#[derive(Clone, Copy, Debug, PartialEq, Eq)]
+pub enum KeysFault {
+    /// A line, counted from 1, is refused.
+    Line(u64, KeyCause),
+    /// Memory was refused.
+    Memory,
+}
+
+impl From<KeysFault> for Trouble {
+    ghost from_gives = { λ f t. t ≡ of_keys f };
+
+    fn from(fault: KeysFault) -> Trouble {
+        match fault {
+            KeysFault::Line(line, cause) => Trouble::Line(line, LineCause::Keys(cause)),
+            KeysFault::Memory => Trouble::Memory,
+        }
+    }
+}
+
+/// What is left of a text, and the number of its first line.
+#[derive(Clone, Copy)]
+struct Left<'a> {
+    line: u64,
+    text: &'a [u8],
+}
+
+/// The pieces of a line that has just two.
+fn two_pieces(line: &[u8]) -> Option<(&[u8], &[u8])>
+    ensures { option_map (λ p. (p.0.now, p.1.now)) result ≡ two_pieces line.now }
+{
+    let (first, second) = cut(line, b' ')?;
+    match cut(second, b' ') {
+        Some((_, _more)) => None,
+        None => Some((first, second)),
+    }
+}
+
+/// Whether the line is the word and one further piece.
+fn is_word_and_piece(line: &[u8], word: &[u8]) -> bool
+    ensures { result ≡ is_word_and_piece word.now line.now }
+{
+    match two_pieces(line) {
+        Some((first, _)) => first == word,
+        None => false,
+    }
+}
+
+impl<'a> Left<'a> {
+    /// The same without its first line, where that is the word and one further piece.
+    fn without(self, word: &[u8]) -> Left<'a>
+        requires { self.line < 2 ^ 32 }
+        ensures lines { lines_of result ≡ without word.now (lines_of self.entry) }
+        ensures next { result.line ≤ self.entry.line + 1 }
+    {
+        match cut(self.text, b'\n') {
+            Some((first, rest)) if is_word_and_piece(first, word) => Left {
+                line: self.line + 1,
+                text: rest,
+            },
+            _ => self,
+        }
+    }
+}
+
+/// What comes after the lines that a server prints before its keys, as far as they stand there.
+fn after_head(text: &[u8]) -> Left<'_>
+    ensures lines { lines_of result ≡ after_head text.now }
+    ensures first { result.line ≤ 4 }
+{
+    let whole = Left { line: 1, text };
+    whole
+        .without(b"listening")
+        .without(b"sessions")
+        .without(b"calls")
+}
+
+/// The key that a line tells.
+fn key_of_line(line: &[u8]) -> Result<u32, KeyCause>
+    ensures { result ≡ key_in line.now }
+{
+    let (word, key) = two_pieces(line).ok_or(KeyCause::Line)?;
+    if word != b"key".as_slice() {
+        return Err(KeyCause::Line);
+    }
+    number(key, 0, u32::MAX).ok_or(KeyCause::Number)
+}
+
+/// The key of a line that comes after `many` keys, and may tell `least` or a greater one.
+fn next_key(line: &[u8], many: usize, least: u64) -> Result<u32, KeyCause>
+    ensures { result ≡ key_after many least line.now }
+{
+    let key = key_of_line(line)?;
+    if many >= MOST_OPENING as usize {
+        return Err(KeyCause::TooMany);
+    }
+    if u64::from(key) < least {
+        return Err(KeyCause::Opening);
+    }
+    Ok(key)
+}
+
+/// The keys of the lines that are left, all of them lines of keys.
+fn keys_of_lines(alloc: Global, left: Left<'_>) -> Result<Vec<u32>, KeysFault>
+    requires { left.line < 2 ^ 32 }
+    ensures { Gives (λ v. v.items) result (keys_at (lines_of left.entry).line 0 0 (lines_of left.entry).parts) }
+{
+    let mut keys = Vec::new(alloc);
+    let mut least: u64 = 0;
+    let mut line = left.line;
+    let mut rest = left.text;
+    while !rest.is_empty() {
+        let Some((first, after)) = cut(rest, b'\n') else {
+            return Err(KeysFault::Line(line, KeyCause::NotEnded));
+        };
+        let key = match next_key(first, keys.len(), least) {
+            Ok(key) => key,
+            Err(cause) => return Err(KeysFault::Line(line, cause)),
+        };
+        if keys.push(key).is_err() {
+            return Err(KeysFault::Memory);
+        }
+        least = u64::from(key) + 1;
+        line += 1;
+        rest = after;
+    }
+    Ok(keys)
+}
+
+/// The keys of a text with which a set is to open: lines `key K`, each K above the one before. The lines that a server
+/// prints before its keys, `listening A`, `sessions N` and `calls N`, may stand at the head, each of them or not, in this
+/// order; what A and N are is not looked at. So all that one server printed opens the next.
+///
+/// `KeysFault::Line` is of the first line that is refused, and of the first check of it that fails: `NotEnded` where the
+/// line has bytes and no newline, `Line` where it is not `key` and one further piece, `Number` where the key is no number up
+/// to 4294967295 (a decimal without leading zeros), `TooMany` where `MOST_OPENING` keys stand above it, `Opening` where the
+/// key is not above the one before. `KeysFault::Memory` where memory was refused.
+pub fn read_keys(alloc: Global, text: &[u8]) -> Result<Vec<u32>, KeysFault>
+    // Which keys, and which fault it is.
+    ensures exact { Gives (λ v. v.items) result (keys_in text.now) }
+    // A set opens with them.
+    ensures opens { IfOk result (λ v. AreKeys v.items) }
+{
+    keys_of_lines(alloc, after_head(text))
+}
+
+/// What a server prints gives the keys that it leaves: all of it, what it prints at its end, and the lines of the keys alone.
+pub fn printed_keys_are_read()
+    ensures { PrintedKeysAreRead }
+{}

@@ -1,0 +1,49 @@
+//! What the values of `serve` ask for.
+ghost use Rattle.std.specs.Prelude.{◌≡◌, IfOk, map, string_bytes};
+ghost use Rattle.tool_serve.specs.Serving.{IsWithinLimits, serve_request_of};
+
+use lset_tools::{ValueName, kind_at, number_at};
+use lset_words::{Kind, MOST_QUOTA, MOST_THREADS};
+
+/// The most sessions that the command asks for. (This project's own limit.)
+pub const MOST_SESSIONS_ASKED: u32 = 10_000;
+
+/// The greatest port.
+pub const MOST_PORT: u32 = 65_535;
+
+/// A list, the size of its set, and what is served.
+#[derive(Clone, Copy, Debug, PartialEq, Eq)]
+pub struct ServeRequest {
+    /// The list.
+    pub kind: Kind,
+    /// 1 to `MOST_THREADS`.
+    pub seats: u32,
+    /// The slots of each seat, 0 to `MOST_QUOTA`.
+    pub quota: u32,
+    /// 0 to `MOST_PORT`; 0 lets the system choose.
+    pub port: u32,
+    /// How many connections are served, 0 to `MOST_SESSIONS_ASKED`.
+    pub sessions: u32,
+}
+
+/// What the values ask for, in the order KIND, SEATS, QUOTA, PORT, SESSIONS, with the ranges of `ServeRequest`; numbers
+/// are decimals without leading zeros. The error names the first value that is missing or wrong. Values past the last are
+/// not looked at.
+#[tactic(auto, unfolding(crate::specs::Serving::serve_request_of))]
+pub fn read_serve_request(values: &[String]) -> Result<ServeRequest, ValueName>
+    ensures value { result ≡ serve_request_of (map string_bytes values.now) }
+    ensures known { IfOk result IsWithinLimits }
+{
+    let kind = kind_at(values, 0).ok_or(ValueName::Kind)?;
+    let seats = number_at(values, 1, 1, MOST_THREADS).ok_or(ValueName::Seats)?;
+    let quota = number_at(values, 2, 0, MOST_QUOTA).ok_or(ValueName::Quota)?;
+    let port = number_at(values, 3, 0, MOST_PORT).ok_or(ValueName::Port)?;
+    let sessions = number_at(values, 4, 0, MOST_SESSIONS_ASKED).ok_or(ValueName::Sessions)?;
+    Ok(ServeRequest {
+        kind,
+        seats,
+        quota,
+        port,
+        sessions,
+    })
+}

@@ -1,0 +1,196 @@
+//! The tool.
+ghost use Rattle.std.specs.Prelude.{◌≡◌, [], IfErr, IfOk, OnOk, map, string_bytes};
+ghost use Rattle.std.specs.Io.KnownBytes.{Appends};
+ghost use Rattle.lset_tools.specs.Tools as tools;
+ghost use Rattle.tool_serve.specs.Keys.{AreKeys};
+ghost use Rattle.tool_serve.specs.Serving.{AreKeysOf, IsTroubleOf, IsWithinLimits};
+ghost use Rattle.tool_serve.specs.Serving.{Announces, Answers, EndsServer, ServeEnds, ServeWithEnds, Serves, ServesFrom, ServesWith, first_line, of_server, serve_request_of};
+
+use crate::keys::read_keys;
+use crate::request::{ServeRequest, read_serve_request};
+use crate::text::{first_line, served_text};
+use lset_coarse::CoarseList;
+use lset_fine::FineList;
+use lset_lazy::LazyList;
+use lset_live::{OpenFault, Running, open_with};
+use lset_lock_free::LockFreeList;
+use lset_optimistic::OptimisticList;
+use lset_server::{ServeCause, serve};
+use lset_tools::{Answer, ServeName, Trouble, deliver, input_of, put};
+use lset_words::Kind;
+use std::alloc::Global;
+use std::io::{Read, Write};
+use std::net::{Ipv4Addr, Net, TcpListener, TcpStream};
+use std::sync::Wait;
+use std::thread::Threads;
+use std::time::Clock;
+
+fn trouble_of(cause: ServeCause) -> Trouble
+    ensures { result ≡ of_server cause }
+{
+    match cause {
+        ServeCause::Seats => Trouble::Serve(ServeName::Seats),
+        ServeCause::Accept => Trouble::Serve(ServeName::Accept),
+        ServeCause::Spawn => Trouble::Serve(ServeName::Spawn),
+        ServeCause::Send => Trouble::Serve(ServeName::Send),
+        ServeCause::Memory => Trouble::Memory,
+        ServeCause::Left => Trouble::Serve(ServeName::Left),
+    }
+}
+
+/// Writes the line that names the port, whole and at once.
+fn announce<W: Write>(alloc: Global, output: &mut W, port: u16) -> Result<(), Trouble>
+    ensures whole { OnOk result (Appends (W.contents output.old) (W.contents output.new) (first_line port)) }
+    ensures trouble { IfErr result (λ t. EndsServer t (first_line port) (W.contents output.old) (W.contents output.new)) }
+{
+    let line = first_line(alloc, port)?;
+    if put(output, line.as_bytes()) && output.flush().is_ok() {
+        Ok(())
+    } else {
+        Err(Trouble::CannotWrite)
+    }
+}
+
+/// Opens a set of the list `M`, which is that of the request, with these keys, listens, says so, and serves.
+fn serve_list<
+    M: Running + Send + Sync,
+    R: Net<Listener = TcpListener, Stream = TcpStream> + Threads + Wait + Clock + Sync,
+    W: Write,
+>(
+    rt: &R,
+    alloc: Global,
+    request: ServeRequest,
+    keys: &[u32],
+    output: &mut W,
+) -> Result<Answer, Trouble>
+    requires kind { M.KIND ≡ request.kind }
+    requires sizes { IsWithinLimits request }
+    requires keys { AreKeys keys.now }
+    ensures first { Announces (tools.view result) (W.contents output.old) (W.contents output.new) }
+    ensures made { IfOk (tools.view result) (Answers request keys.now) }
+{
+    let (set, seats) = match open_with::<M>(alloc, request.seats, request.quota, keys) {
+        Ok(opened) => opened,
+        Err(OpenFault::Memory) => return Err(Trouble::Memory),
+        Err(_) => unreachable!(),
+    };
+    let Ok(listener) = TcpListener::bind(rt, (Ipv4Addr::LOCALHOST, request.port as u16)) else {
+        return Err(Trouble::CannotListen);
+    };
+    let Ok(address) = listener.local_addr() else {
+        return Err(Trouble::CannotListen);
+    };
+    announce(alloc, output, address.port())?;
+    match serve(rt, alloc, listener, set, seats, request.sessions) {
+        Ok(served) => {
+            let text = served_text(alloc, &served)?;
+            Ok(Answer { text, status: 0 })
+        }
+        Err(fault) => Err(trouble_of(fault.cause)),
+    }
+}
+
+/// Serves as the request asks, on a set that opens with these keys, and gives the text of what was served. The list is
+/// chosen by a `match` of its own, since the tasks of `lset_lists::on_list` are for machines, and not for running sets.
+fn serve_request<
+    R: Net<Listener = TcpListener, Stream = TcpStream> + Threads + Wait + Clock + Sync,
+    W: Write,
+>(
+    rt: &R,
+    alloc: Global,
+    request: ServeRequest,
+    keys: &[u32],
+    output: &mut W,
+) -> Result<Answer, Trouble>
+    requires sizes { IsWithinLimits request }
+    requires keys { AreKeys keys.now }
+    ensures { ServesFrom request keys.now (W.contents output.old) (W.contents output.new) (tools.view result) }
+{
+    match request.kind {
+        Kind::Coarse => serve_list::<CoarseList, R, W>(rt, alloc, request, keys, output),
+        Kind::Fine => serve_list::<FineList, R, W>(rt, alloc, request, keys, output),
+        Kind::Optimistic => serve_list::<OptimisticList, R, W>(rt, alloc, request, keys, output),
+        Kind::Lazy => serve_list::<LazyList, R, W>(rt, alloc, request, keys, output),
+        Kind::LockFree => serve_list::<LockFreeList, R, W>(rt, alloc, request, keys, output),
+    }
+}
+
+/// Serves as the values ask, on an empty set.
+fn serve_values<
+    R: Net<Listener = TcpListener, Stream = TcpStream> + Threads + Wait + Clock + Sync,
+    W: Write,
+>(rt: &R, alloc: Global, values: &[String], output: &mut W) -> Result<Answer, Trouble>
+    ensures { Serves (serve_request_of (map string_bytes values.now))
+        (W.contents output.old) (W.contents output.new) (tools.view result) }
+{
+    let request = read_serve_request(values)?;
+    serve_request(rt, alloc, request, &[], output)
+}
+
+/// The keys of the input.
+fn input_keys<I: Read>(alloc: Global, input: &mut I) -> Result<Vec<u32>, Trouble>
+    ensures keys { IfOk result (λ v. AreKeysOf (I.remaining input.old) v.items) }
+    ensures trouble { IfErr result (λ t. IsTroubleOf (I.remaining input.old) t) }
+{
+    let bytes = input_of(alloc, input)?;
+    Ok(read_keys(alloc, &bytes)?)
+}
+
+/// Serves as the values ask, on a set that opens with the keys of the input.
+fn serve_values_with<
+    R: Net<Listener = TcpListener, Stream = TcpStream> + Threads + Wait + Clock + Sync,
+    I: Read,
+    W: Write,
+>(
+    rt: &R,
+    alloc: Global,
+    values: &[String],
+    input: &mut I,
+    output: &mut W,
+) -> Result<Answer, Trouble>
+    ensures { ServesWith (serve_request_of (map string_bytes values.now)) (I.remaining input.old)
+        (W.contents output.old) (W.contents output.new) (tools.view result) }
+{
+    let request = read_serve_request(values)?;
+    let keys = input_keys(alloc, input)?;
+    serve_request(rt, alloc, request, &keys, output)
+}
+
+/// Serves a set on the loopback, which opens empty: KIND SEATS QUOTA PORT SESSIONS in this order say which list, how many seats (and so how
+/// many connections at once), how many successful adds each seat may make, which port of 127.0.0.1, and how many
+/// connections are served before the server ends. Opens the set, then listens, writes `listening 127.0.0.1:P` and flushes
+/// it, and only then accepts. At the end writes `sessions N`, `calls N` and each key that is left (`key k`), rising, on
+/// `output`; or one line about the first wrong value, or about what went wrong, on `faults`. Gives the exit status: 0 where
+/// all was written, 2 where a value is wrong, 3 where memory was refused, else 1. KIND is the word for a list; numbers are
+/// decimals without leading zeros, SEATS 1 to 64, QUOTA 0 to 16,384, PORT 0 to 65,535 (0 lets the system choose), SESSIONS
+/// 0 to 10,000. A value that is missing is a wrong one, and values past the last are not looked at. A failing write on
+/// `faults` leaves the status as it is. It waits for its connections.
+pub fn tool_serve<
+    R: Net<Listener = TcpListener, Stream = TcpStream> + Threads + Wait + Clock + Sync,
+    W: Write,
+    F: Write,
+>(rt: &R, alloc: Global, values: &[String], output: &mut W, faults: &mut F) -> u8
+    ensures { ServeEnds (map string_bytes values.now)
+        (W.contents output.old) (W.contents output.new) (F.contents faults.old) (F.contents faults.new) result }
+{
+    let made = serve_values(rt, alloc, values, output);
+    deliver(alloc, made, output, faults)
+}
+
+/// Serves a set as `tool_serve` does, but one that opens with the keys of the input, as `read_keys` reads them: what
+/// `tool_serve` or `tool_serve_with` has printed opens the next. The values come first, and the input is read only where
+/// none of them is wrong; then the set opens, and then it listens. Where the input cannot be read, has more than `LONGEST`
+/// bytes or a line that is refused, it writes one line about that on `faults`, nothing on `output`, and the status is 1. The
+/// server itself keeps nothing: the keys are those on `output` at its end.
+pub fn tool_serve_with<
+    R: Net<Listener = TcpListener, Stream = TcpStream> + Threads + Wait + Clock + Sync,
+    I: Read,
+    W: Write,
+    F: Write,
+>(rt: &R, alloc: Global, values: &[String], input: &mut I, output: &mut W, faults: &mut F) -> u8
+    ensures { ServeWithEnds (map string_bytes values.now) (I.remaining input.old)
+        (W.contents output.old) (W.contents output.new) (F.contents faults.old) (F.contents faults.new) result }
+{
+    let made = serve_values_with(rt, alloc, values, input, output);
+    deliver(alloc, made, output, faults)
+}

@@ -1,0 +1,69 @@
+-- What `show` makes of an input.
+use Rattle.std.specs.Prelude.{◌≡◌, ◌⊎◌, ◌==◌, ℕ, Bool, true, false, ◌&&◌, ◌||◌, List, is_none, Result, Ok, Err, if◌then◌else◌}
+use Rattle.std.specs.List.{starts_with}
+use Rattle.lset_schedule.specs.Plan.{Plan, IsSchedule, schedule_text}
+use Rattle.lset_schedule.specs.ScheduleReading as schedule
+use Rattle.lset_schedule.specs.declared.fault.ScheduleFault.{ScheduleFault}
+use Rattle.lset_report.specs.Report.{ReportValue}
+use Rattle.lset_report.specs.ReportReading.{IsReport}
+use Rattle.lset_report.specs.ReportReading as report
+use Rattle.lset_report.specs.Texts.{title, report_text}
+use Rattle.lset_text.specs.Parts.{ended}
+use Rattle.lset_text.specs.declared.words.Version.TheVariants.{One, Two}
+use Rattle.lset_drawing.specs.declared.picture.Window.{Window}
+use Rattle.lset_drawing.specs.Pictures.{PictureValue}
+use Rattle.lset_text_picture.specs.PictureTexts.{picture_text}
+use Rattle.lset_text_picture.specs.Widths.{IsFitted}
+use Rattle.lset_svg.specs.Svg.{svg_text}
+use Rattle.lset_tools.specs.declared.trouble.Trouble.{Trouble}
+use Rattle.lset_tools.specs.Tools.{Made, IsTaken, IsInputTrouble}
+use Rattle.lset_tools.specs.Trouble.{of_schedule}
+use Rattle.lset_tools.specs.Checking as checking
+use Rattle.tool_show.specs.declared.asking.Form.{Form}
+use Rattle.tool_show.specs.declared.asking.Form.TheVariants.{Text, Svg}
+use Rattle.tool_show.specs.ReportPictures.{IsPictureOfReport}
+use Rattle.tool_show.specs.SchedulePictures.{IsPictureOfSchedule}
+
+-- the picture of the schedule whose text the bytes are
+abbrev pub ShowsSchedule : List ℕ → PictureValue → Type 0
+ShowsSchedule bytes v = (p : Plan) × IsSchedule p × (bytes ≡ schedule_text p) × IsPictureOfSchedule p v
+
+-- the picture of the report whose text the bytes are
+abbrev pub ShowsReport : List ℕ → PictureValue → Type 0
+ShowsReport bytes v = (r : ReportValue) × IsReport r × (bytes ≡ report_text r) × IsPictureOfReport r v
+
+-- the first line is this title
+abbrev pub has_title : List ℕ → List ℕ → Bool
+has_title title bytes = starts_with (λ a b. a == b) bytes (ended title)
+
+-- the first line is that of a report, of either version
+abbrev pub has_report_title : List ℕ → Bool
+has_report_title bytes = has_title (title One) bytes || has_title (title Two) bytes
+
+-- the first fault of a text that is no schedule; a schedule has a picture, also where one of its events is refused
+abbrev pub IsScheduleFault : Result Plan ScheduleFault → Trouble → Type 0
+IsScheduleFault (Err fault) t = t ≡ of_schedule fault
+IsScheduleFault (Ok p) t = ⊥
+
+-- the first fault of the text: of a report where it has the title of one, and else of a schedule
+abbrev pub IsFirstFault : List ℕ → Trouble → Type 0
+IsFirstFault bytes t =
+    (has_report_title bytes ≡ true) × checking.IsFirstFault (report.reading bytes) t
+    ⊎ (has_report_title bytes ≡ false) × IsScheduleFault (schedule.reading bytes) t
+
+-- the text of a picture, of the window that fits its width, or its SVG
+abbrev pub Draws : Form → PictureValue → Window → List ℕ → Type 0
+Draws (Text width) v window text = (fitted : Window) × IsFitted width v window fitted × (text ≡ picture_text v fitted)
+Draws Svg v window text = text ≡ svg_text v window
+
+-- 1 where a refusal is told, of an order or of an event
+abbrev pub status_of : PictureValue → ℕ
+status_of v = if is_none v.refusal && is_none v.refused then 0 else 1
+
+-- what is made of the bytes of an input: the picture of the schedule or the report whose text they are, or a trouble with the
+-- input, or its first fault
+abbrev pub Shows : Form → Window → List ℕ → Made → Type 0
+Shows form window bytes (Ok answer) =
+    IsTaken bytes × (v : PictureValue) × (ShowsSchedule bytes v ⊎ ShowsReport bytes v)
+    × Draws form v window answer.text × (answer.status ≡ status_of v)
+Shows form window bytes (Err t) = IsInputTrouble bytes t ⊎ (IsTaken bytes × IsFirstFault bytes t)

@@ -1,0 +1,42 @@
+ghost use Rattle.std.specs.Prelude.{◌≡◌, option_map};
+ghost use Rattle.tool_show.specs.Asking.{form_of, asked_of};
+
+use lset_drawing::Window;
+use lset_tools::{ValueName, read_moments, read_width};
+
+/// How a picture is drawn.
+#[derive(Clone, Copy, Debug, PartialEq, Eq)]
+pub enum Form {
+    /// As text, with as many columns as let its rows have at most so many characters.
+    Text(u32),
+    /// As an SVG.
+    Svg,
+}
+
+fn form_of(svg: bool, width: u32) -> Form
+    ensures { result ≡ form_of svg width }
+{
+    if svg { Form::Svg } else { Form::Text(width) }
+}
+
+/// What the options of `show` ask for: whether `--svg` is on, and the texts of `--from`, `--to` and `--width`, as
+/// `read_moments` and `read_width` read them. An SVG has no width, and a width that is given with it is read all the same. The
+/// error names the first option that is wrong.
+#[tactic(auto, unfolding(crate::specs::Asking::asked_of))]
+pub fn read_asked(
+    svg: bool,
+    from: Option<&str>,
+    to: Option<&str>,
+    width: Option<&str>,
+) -> Result<(Form, Window), ValueName>
+    ensures { result ≡ asked_of svg (option_map (λ t. t.now) from.entry) (option_map (λ t. t.now) to.entry)
+        (option_map (λ t. t.now) width.entry) }
+{
+    let moments = read_moments(from, to)?;
+    let width = read_width(width)?;
+    let window = Window {
+        from: moments.from,
+        to: moments.to,
+    };
+    Ok((form_of(svg, width), window))
+}

@@ -1,0 +1,14 @@
+//! Pictures of schedules and of reports, and the tool that draws them: the bars of the calls, the points at which they stand
+//! in the order, of a refused order why, and of a refused event which.
+#![tactic(auto)]
+
+mod asking;
+mod bars;
+mod reports;
+mod schedules;
+mod tool;
+
+pub use asking::{Form, read_asked};
+pub use reports::picture_of_report;
+pub use schedules::picture_of_replay;
+pub use tool::{shown, tool_show};

@@ -1,0 +1,89 @@
+ghost use Rattle.std.specs.Prelude.{◌≡◌, IfOk};
+ghost use Rattle.lset_report.specs.Report as reports;
+ghost use Rattle.lset_drawing.specs.Pictures.{view};
+ghost use Rattle.tool_show.specs.ReportPictures.{IsPictureOfReport, changes_set, point_at, first_marked, drawn_points};
+
+use crate::bars::{bars_are_apart, order_has_its_points};
+use lset_drawing::Picture;
+use lset_history::{CallRecord, History, Placed, Refusal, first_points, why_refused};
+use lset_report::Report;
+use lset_words::{Call, Point, Reply};
+use std::alloc::{AllocError, Global};
+
+/// Whether a call with this reply changes the set.
+fn changes_set(call: Call, reply: Reply) -> bool
+    ensures { result ≡ changes_set call reply }
+{
+    match call {
+        Call::Add(_) | Call::Remove(_) => reply == Reply::True,
+        Call::Contains(_) | Call::Ceiling(_) => false,
+    }
+}
+
+/// The point of a place at a moment.
+fn point_at(calls: &[CallRecord], place: Placed, moment: u32) -> Point
+    ensures { result ≡ point_at calls.now (place, moment) }
+{
+    let change = match calls.get(place.call as usize) {
+        Some(call_record) => changes_set(call_record.call, place.reply),
+        None => false,
+    };
+    Point { moment, change }
+}
+
+/// The first points of an order, each with whether its call changes the set there.
+fn first_marked(
+    alloc: Global,
+    history: &History,
+    order: &[Placed],
+) -> Result<Vec<Point>, AllocError>
+    ensures { IfOk result (λ v. v.items ≡ first_marked history.now.calls order.now) }
+{
+    let calls = history.calls();
+    let moments = first_points(alloc, history, order)?;
+    order
+        .iter()
+        .zip(moments.iter())
+        .map(|(place, moment)| point_at(calls, *place, *moment))
+        .collect(alloc)
+}
+
+/// The points that are drawn of an order, of which this refusal is told.
+fn drawn_points(
+    alloc: Global,
+    history: &History,
+    order: &[Placed],
+    refusal: &Option<Refusal>,
+) -> Result<Vec<Point>, AllocError>
+    ensures { IfOk result (λ v. v.items ≡ drawn_points refusal.now history.now.calls order.now) }
+{
+    match refusal {
+        None => first_marked(alloc, history, order),
+        Some(_) => Ok(Vec::new(alloc)),
+    }
+}
+
+/// The picture of a report, whose order and keys may be any: its history, its order and its keys, with the first points of
+/// the order (`first_points`) where the order explains the history and leaves just the keys, and else with the refusal
+/// (`why_refused`) and no points. An error is want of memory. The time is that of `check_order`.
+/// (The pictures of Herlihy and Wing's histories.)
+pub fn picture_of_report(alloc: Global, report: Report) -> Result<Picture, AllocError>
+    ensures { IfOk result (λ p. IsPictureOfReport (reports.view report) (view p)) }
+{
+    let order = report.order.as_slice();
+    let keys = report.keys.as_slice();
+    let refusal = why_refused(alloc, &report.history, order, keys)?;
+    let points = drawn_points(alloc, &report.history, order, &refusal)?;
+    bars_are_apart(&report.history);
+    order_has_its_points(&report.history, order);
+    Ok(Picture {
+        kind: report.kind,
+        history: report.history,
+        events: None,
+        order: report.order,
+        points,
+        keys: report.keys,
+        refusal,
+        refused: None,
+    })
+}

@@ -1,0 +1,47 @@
+ghost use Rattle.std.specs.Prelude.{IfOk};
+ghost use Rattle.lset_schedule.specs.Plan.{IsSchedule};
+ghost use Rattle.lset_schedule.specs.Plan as plan;
+ghost use Rattle.lset_drawing.specs.Pictures.{view};
+ghost use Rattle.tool_show.specs.SchedulePictures.{IsPictureOfSchedule};
+
+use crate::bars::bars_are_apart;
+use lset_drawing::Picture;
+use lset_replay::{FrontReport, PlacedReport, replay_upto};
+use lset_report::Report;
+use lset_schedule::Schedule;
+use std::alloc::{AllocError, Global};
+
+/// The picture of a schedule's replay: the calls of its history, the order that explains it, with the points at which the
+/// calls of the run stand (`replay_upto`), and the keys that are left. The schedule is within its limits, as what
+/// `read_schedule` gives. Where an event is not enabled, it is the picture of the events before the first such one, and tells the
+/// number of its line and the cause (`NoThread`, `Busy` or `Idle`). An error is want of memory. (The pictures of Herlihy and
+/// Wing's histories, with their linearization points.)
+pub fn picture_of_replay(alloc: Global, schedule: &Schedule) -> Result<Picture, AllocError>
+    requires { IsSchedule (plan.view schedule.now) }
+    ensures { IfOk result (λ p. IsPictureOfSchedule (plan.view schedule.now) (view p)) }
+{
+    let FrontReport {
+        placed,
+        events,
+        refused,
+    } = replay_upto(alloc, schedule)?;
+    let PlacedReport { report, points } = placed;
+    let Report {
+        kind,
+        history,
+        order,
+        keys,
+        ..
+    } = report;
+    bars_are_apart(&history);
+    Ok(Picture {
+        kind,
+        history,
+        events: Some(events),
+        order,
+        points,
+        keys,
+        refusal: None,
+        refused,
+    })
+}

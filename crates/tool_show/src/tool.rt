@@ -1,0 +1,164 @@
+ghost use Rattle.std.specs.Prelude.{◌≡◌, ◌≢◌, ◌⊎◌, IfOk, IfErr, IfSome, IsTrue};
+ghost use Rattle.lset_schedule.specs.ScheduleReading as schedules;
+ghost use Rattle.lset_report.specs.ReportReading as reports;
+ghost use Rattle.lset_drawing.specs.Pictures.{view};
+ghost use Rattle.lset_tools.specs.Tools.{Ends, IsTaken};
+ghost use Rattle.lset_tools.specs.Tools as tools;
+ghost use Rattle.lset_tools.specs.Checking as checking;
+ghost use Rattle.lset_tools.specs.declared.trouble.Trouble.TheVariants.{Memory};
+ghost use Rattle.tool_show.specs.Showing.{
+  ShowsSchedule,
+  ShowsReport,
+  Shows,
+  IsFirstFault,
+  IsScheduleFault,
+  has_report_title,
+  Draws,
+  status_of,
+};
+
+use crate::{Form, picture_of_replay, picture_of_report};
+use lset_drawing::{Picture, Window};
+use lset_report::read_report;
+use lset_schedule::read_schedule;
+use lset_svg::write_svg;
+use lset_text_picture::{fitted_window, write_picture};
+use lset_tools::{Answer, LONGEST, Trouble, deliver, input_of};
+use std::alloc::{AllocError, Global};
+use std::io::{Read, Write};
+
+/// The first line of a report's text of version 1.
+const TITLE_ONE: &[u8] = b"listset-report 1\n";
+
+/// The first line of a report's text of version 2.
+const TITLE_TWO: &[u8] = b"listset-report 2\n";
+
+fn has_report_title(bytes: &[u8]) -> bool
+    ensures { result ≡ has_report_title bytes.now }
+{
+    bytes.starts_with(TITLE_ONE) || bytes.starts_with(TITLE_TWO)
+}
+
+/// The picture of the schedule whose text the bytes are.
+fn of_schedule(alloc: Global, bytes: &[u8]) -> Result<Picture, Trouble>
+    ensures shows { IfOk result (λ p. ShowsSchedule bytes.now (view p)) }
+    ensures trouble { IfErr result (λ t. (t ≡ Memory) ⊎ IsScheduleFault (schedules.reading bytes.now) t) }
+{
+    let schedule = read_schedule(alloc, bytes)?;
+    let picture = picture_of_replay(alloc, &schedule)?;
+    Ok(picture)
+}
+
+/// The picture of the report whose text the bytes are.
+fn of_report(alloc: Global, bytes: &[u8]) -> Result<Picture, Trouble>
+    ensures shows { IfOk result (λ p. ShowsReport bytes.now (view p)) }
+    ensures trouble { IfErr result (λ t. (t ≡ Memory) ⊎ checking.IsFirstFault (reports.reading bytes.now) t) }
+{
+    let report = read_report(alloc, bytes)?;
+    let picture = picture_of_report(alloc, report)?;
+    Ok(picture)
+}
+
+/// The picture of the schedule or the report whose text the bytes are.
+fn picture_of(alloc: Global, bytes: &[u8]) -> Result<Picture, Trouble>
+    ensures shows { IfOk result (λ p. ShowsSchedule bytes.now (view p) ⊎ ShowsReport bytes.now (view p)) }
+    ensures trouble { IfErr result (λ t. (t ≡ Memory) ⊎ IsFirstFault bytes.now t) }
+{
+    if has_report_title(bytes) {
+        of_report(alloc, bytes)
+    } else {
+        of_schedule(alloc, bytes)
+    }
+}
+
+/// The text of the picture, of the window that fits its width, or its SVG.
+fn text_of(
+    alloc: Global,
+    picture: &Picture,
+    form: Form,
+    window: Window,
+) -> Result<Vec<u8>, AllocError>
+    ensures { IfOk result (λ v. Draws form (view picture.now) window v.items) }
+{
+    match form {
+        Form::Text(width) => {
+            let fitted = fitted_window(alloc, picture, window, width)?;
+            write_picture(alloc, picture, fitted)
+        }
+        Form::Svg => write_svg(alloc, picture, window),
+    }
+}
+
+/// 1 where the picture tells a refusal, of an order or of an event, and else 0.
+fn status_of(picture: &Picture) -> u8
+    ensures { result ≡ status_of (view picture.now) }
+{
+    if picture.refusal.is_none() && picture.refused.is_none() {
+        0
+    } else {
+        1
+    }
+}
+
+/// The picture of the schedule or the report whose text the bytes are, as text or as an SVG.
+fn answer_of(alloc: Global, bytes: &[u8], form: Form, window: Window) -> Result<Answer, Trouble>
+    requires { IsTaken bytes.now }
+    ensures shows { Shows form window bytes.now (tools.view result) }
+    ensures trouble { IfErr result (λ t. (t ≡ Memory) ⊎ IsFirstFault bytes.now t) }
+{
+    let picture = picture_of(alloc, bytes)?;
+    let text = text_of(alloc, &picture, form, window)?;
+    Ok(Answer {
+        text,
+        status: status_of(&picture),
+    })
+}
+
+/// The answer of `show` on an input of these bytes: the picture of the schedule or the report whose text they are, of the
+/// moments in `window`, in that form; its status is 1 where the order of the report or an event of the schedule is refused, and
+/// else 0. A schedule with such an event is drawn up to it.
+///
+/// The error is `TooLong` where there are more than `LONGEST` bytes. A text with the first line of a report, of either
+/// version, that is none has the first fault of `read_report`; any other text that is no schedule has that of
+/// `read_schedule`. `Memory` where memory was refused.
+pub fn shown(alloc: Global, bytes: &[u8], form: Form, window: Window) -> Result<Answer, Trouble>
+    ensures shows { Shows form window bytes.now (tools.view result) }
+    // Bytes that are here can be read.
+    ensures read { IfErr result (λ t. t ≢ Trouble.CannotRead) }
+{
+    if bytes.len() > LONGEST {
+        return Err(Trouble::TooLong);
+    }
+    answer_of(alloc, bytes, form, window)
+}
+
+fn drawn_of<R: Read>(
+    alloc: Global,
+    form: Form,
+    window: Window,
+    input: &mut R,
+) -> Result<Answer, Trouble>
+    ensures { IfSome (R.remaining input.old) (λ bytes. Shows form window bytes (tools.view result)) }
+{
+    let bytes = input_of(alloc, input)?;
+    shown(alloc, &bytes, form, window)
+}
+
+/// Draws the schedule or the report on the input: writes its picture on the output, in that form, of the
+/// moments in the window, or one line about what is wrong on `faults` and nothing on the output. The first line of the
+/// input says which it is. Gives the exit status: 0 where the picture was written, 1 where it was written and tells why the order or
+/// which event is refused, 3 where memory was refused, else 1. A failing write on `faults` leaves the status as it is.
+pub fn tool_show<R: Read, W: Write, F: Write>(
+    alloc: Global,
+    form: Form,
+    window: Window,
+    input: &mut R,
+    output: &mut W,
+    faults: &mut F,
+) -> u8
+    ensures { Ends (λ made. IfSome (R.remaining input.old) (λ bytes. Shows form window bytes made))
+        (W.contents output.old) (W.contents output.new) (F.contents faults.old) (F.contents faults.new) result }
+{
+    let answer = drawn_of(alloc, form, window, input);
+    deliver(alloc, answer, output, faults)
+}
