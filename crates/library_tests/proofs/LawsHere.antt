@@ -5,14 +5,17 @@ use Rattle.lset_words.specs.Words.{empty}
 use Rattle.lset_words.specs.Account.{Account, Enters}
 use Rattle.lset_words.specs.SequentialSet.{opening_set}
 use Rattle.lset_words.specs.declared.Reply.TheVariants.{False}
-use Rattle.lset_history.specs.Laws.{PlacementLinearizes, EveryCallHasAPlace, LogsTellHistories, FitsAreReplies, PlacementIsOneOrder, contents_of_lists}
+use Rattle.lset_history.specs.Laws.{PlacementLinearizes, EveryCallHasAPlace, LogsTellHistories, FitsAreReplies}
+use Rattle.lset_history.specs.Laws.{PlacementIsOneOrder, contents_of_lists}
 use Rattle.lset_steps.specs.Steps.{Table, State, event_at}
-use Rattle.lset_steps.specs.Promises.{InRange, SortedChain, UnmarkedNodesInChain, NoLinkIsMarked, LockWords, LockUses, UnlinkedNodesStay, FrozenNodes, SeenInThePast, TrueMeansChange}
+use Rattle.lset_steps.specs.Promises.{InRange, SortedChain, UnmarkedNodesInChain, NoLinkIsMarked, LockWords, LockUses}
+use Rattle.lset_steps.specs.Promises.{UnlinkedNodesStay, FrozenNodes, SeenInThePast, TrueMeansChange}
 use Rattle.lset_steps.specs.BoundedReads.{BoundedReads, WalkWasInChain}
 use Rattle.lset_steps.specs.Worlds.{IsRun, WorldState}
 use Rattle.lset_optimistic.specs.Optimistic.{optimistic}
 use Rattle.lset_optimistic.specs.Promises.{ValidatedWalk, OptimisticRepliesFit}
-use Rattle.library_tests.specs.Laws.{IsInOrder, KeepsOrder, KeepsReads, KeepsWalks, HasRun, IsLawful, OneCallIsPlaced, one_begin, one_call, no_keys, no_adds}
+use Rattle.library_tests.specs.Laws.{IsInOrder, KeepsOrder, KeepsReads, KeepsWalks, HasRun, IsLawful, OneCallIsPlaced, one_begin}
+use Rattle.library_tests.specs.Laws.{one_call, no_keys, no_adds}
 
 module _ (T : Table) (w : WorldState) (r : IsRun T w) where
   in_order : InRange T → SortedChain T → UnmarkedNodesInChain T → NoLinkIsMarked T → IsInOrder T w
@@ -29,7 +32,8 @@ module _ (T : Table) (w : WorldState) (r : IsRun T w) where
   keeps_order words uses stays frozen seen changes = record {
     locks = λ x is l. words r.opening (length r.events) (length r.events) x (event_at r.events) r.run (omega arith) is l;
     uses = λ k t l e. uses r.opening (length r.events) k t (event_at r.events) r.run l e;
-    stays = λ i p. stays r.opening (length r.events) 0 (length r.events) i (event_at r.events) r.run (omega arith) (omega arith) p;
+    stays = λ i p. stays r.opening (length r.events) 0 (length r.events) i (event_at r.events) r.run (omega arith) (omega arith)
+        p;
     freezes = λ i p. frozen r.opening (length r.events) 0 i (event_at r.events) r.run (omega arith) p;
     seen = λ b p. seen r.opening (length r.events) 0 (length r.events) b (event_at r.events) r.run (omega arith) (omega arith) p;
     changes = λ k t change l e. changes r.opening (length r.events) k t (event_at r.events) change r.run l e;
@@ -45,8 +49,10 @@ module _ (T : Table) (w : WorldState) (r : IsRun T w) where
   keeps_reads t reads walk = (
     r,
     record {
-      next = λ l busy read. reads r.opening (length r.events) (length r.events) t (event_at r.events) r.run (omega arith) l busy read;
-      passed = λ a l read p. walk r.opening (length r.events) (length r.events) t a l (event_at r.events) r.run (omega arith) read p;
+      next = λ l busy read. reads r.opening (length r.events) (length r.events) t (event_at r.events) r.run (omega arith) l busy
+          read;
+      passed = λ a l read p. walk r.opening (length r.events) (length r.events) t a l (event_at r.events) r.run (omega arith) read
+          p;
     },
   )
 

@@ -2,7 +2,8 @@
 use Rattle.std.proofs.Common.{◌≡◌, List, [], Option, Some, None, Result, Ok, Err, refl, true, subst, sym, ap, ◌∙◌}
 use Rattle.std.specs.Prelude.{option_map, Box, IsErrAnd}
 use Rattle.std.specs.Box.{box_value}
-use Rattle.clap.specs.Words.{App, HasMatchesOf, Row, Text, fault_of, is_simple, is_simple_and_free, subcommand_of, subcommand_name_of, subcommand_rows, subcommand_rows_of}
+use Rattle.clap.specs.Words.{App, HasMatchesOf, Row, Text, fault_of, is_simple, is_simple_and_free, subcommand_of}
+use Rattle.clap.specs.Words.{subcommand_name_of, subcommand_rows, subcommand_rows_of}
 use Rattle.clap.specs.Kinds.{FailsBy, HasKind, Kinds}
 use Rattle.clap.specs.declared.error.Error.{Error}
 use Rattle.clap.specs.declared.parser.matches.ArgMatches.{ArgMatches}
@@ -23,21 +24,27 @@ abbrev pub chosen : Command → List Text → OptionValues → Choice
 chosen command values options = record { command = command; values = values; options = options }
 
 -- what clap says of a command that is the program
-pub program_matches : (m : ArgMatches) (a : App) (words : List Text) → a ≡ listset → HasMatchesOf a words m → subcommand_rows_of m ≡ subcommand_of listset words
+pub program_matches : (m : ArgMatches) (a : App) (words : List Text) → a ≡ listset → HasMatchesOf a words m →
+    subcommand_rows_of m ≡ subcommand_of listset words
 program_matches m a words is matches = (subst (λ (x : App). HasMatchesOf x words m) is matches is_simple-listset).1
 
-pub program_faults : (P : Kinds → Type 0) (a : App) (words : List Text) → a ≡ listset → (is_simple_and_free a ≡ true → P (fault_of a words))
+pub program_faults : (P : Kinds → Type 0) (a : App) (words : List Text) → a ≡ listset →
+    (is_simple_and_free a ≡ true → P (fault_of a words))
     → P (fault_of listset words)
-program_faults P a words is faults = subst (λ (x : App). is_simple_and_free x ≡ true → P (fault_of x words)) is faults is_simple_and_free-listset
+program_faults P a words is faults = subst (λ (x : App). is_simple_and_free x ≡ true → P (fault_of x words)) is faults
+    is_simple_and_free-listset
 
-pub no_command : (m : ArgMatches) (found : Option (Text × List Row)) → None ≡ subcommand_name_of m → subcommand_rows_of m ≡ found → found ≡ None
+pub no_command : (m : ArgMatches) (found : Option (Text × List Row)) → None ≡ subcommand_name_of m → subcommand_rows_of m ≡ found
+    → found ≡ None
 no_command m found = go (out-ArgMatches m).subcommand
   where
-    go : {Z : Type 0} (b : Option (Box SubCommand Z)) → None ≡ option_map (λ b. (out-SubCommand (box_value b)).name.now) b → subcommand_rows b ≡ found → found ≡ None
+    go : {Z : Type 0} (b : Option (Box SubCommand Z)) → None ≡ option_map (λ b. (out-SubCommand (box_value b)).name.now) b →
+        subcommand_rows b ≡ found → found ≡ None
     go None none is = sym is
     go (Some b) none is = absurd cc
 
-pub one_command : (m : ArgMatches) (found : Option (Text × List Row)) (name : Text) (rows : List Row) → Some name ≡ subcommand_name_of m
+pub one_command : (m : ArgMatches) (found : Option (Text × List Row)) (name : Text) (rows : List Row) →
+    Some name ≡ subcommand_name_of m
     → Some rows ≡ option_map (λ p. p.1) (subcommand_rows_of m) → subcommand_rows_of m ≡ found → found ≡ Some (name, rows)
 one_command m found name rows = go (out-ArgMatches m).subcommand
   where
@@ -46,16 +53,21 @@ one_command m found name rows = go (out-ArgMatches m).subcommand
     go None named with_rows is = absurd cc
     go (Some b) named with_rows is = cc
 
-pub chosen_command : (command : Command) (name : Text) (values : List Text) (options : OptionValues) (rows : List Row) (found : Option (Text × List Row)) → found ≡ Some (name, rows)
+pub chosen_command : (command : Command) (name : Text) (values : List Text) (options : OptionValues) (rows : List Row)
+    (found : Option (Text × List Row)) → found ≡ Some (name, rows)
     → command ≡ command_named name → values ≡ values_in rows → options ≡ options_in rows
     → chosen command values options ≡ choice_of found
 chosen_command command name values options rows found is named all flags =
-    ap (λ n. chosen n values options) named ∙ ap (λ v. chosen (command_named name) v options) all ∙ ap (chosen (command_named name) (values_in rows)) flags ∙ sym (ap choice_of is)
+    ap (λ n. chosen n values options) named ∙ ap (λ v. chosen (command_named name) v options) all
+    ∙ ap (chosen (command_named name) (values_in rows)) flags ∙ sym (ap choice_of is)
 
-pub chosen_replay : (values : List Text) (options : OptionValues) (found : Option (Text × List Row)) → found ≡ None → values ≡ [] → options ≡ options_in [] → chosen Replay values options ≡ choice_of found
-chosen_replay values options found is empty none = ap (λ v. chosen Replay v options) empty ∙ ap (chosen Replay []) none ∙ sym (ap choice_of is)
+pub chosen_replay : (values : List Text) (options : OptionValues) (found : Option (Text × List Row)) → found ≡ None → values ≡ []
+    → options ≡ options_in [] → chosen Replay values options ≡ choice_of found
+chosen_replay values options found is empty none = ap (λ v. chosen Replay v options) empty ∙ ap (chosen Replay []) none
+    ∙ sym (ap choice_of is)
 
 -- the same error, handed on
-pub fails_as : (kinds : Kinds) (r : Result Words Error) (e : Error) → IsErrAnd r (λ given. given ≡ e) → HasKind kinds e → FailsBy kinds r
+pub fails_as : (kinds : Kinds) (r : Result Words Error) (e : Error) → IsErrAnd r (λ given. given ≡ e) → HasKind kinds e →
+    FailsBy kinds r
 fails_as kinds (Ok words) e same kind = absurd same
 fails_as kinds (Err given) e same kind = subst (HasKind kinds) (sym same) kind

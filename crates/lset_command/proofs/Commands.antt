@@ -11,18 +11,22 @@ use Rattle.clap.specs.declared.builder.command.Command.TheOpen.{Command-F}
 abbrev pub IsApp : Command → App → Type 0
 IsApp c a = (app_of c ≡ a) × ((out-Command c).has_globals ≡ false)
 
-pub IsApp-arg : {old new : Command} {arg : Arg} {a : App} {r : Rule} → AddsArg old arg new → IsApp old a → rule_of arg ≡ r → arg.global ≡ false
+pub IsApp-arg : {old new : Command} {arg : Arg} {a : App} {r : Rule} → AddsArg old arg new → IsApp old a → rule_of arg ≡ r →
+    arg.global ≡ false
     → IsApp new (with_rule a r)
 IsApp-arg {old} {new} {arg} {a} {r} adds (is, local) rule own =
-    let app : app_of new ≡ with_rule a r = adds.shape own ∙ ap (λ (x : App). with_rule x (rule_of arg)) is ∙ ap (with_rule a) rule in
+    let app : app_of new ≡ with_rule a r = adds.shape own ∙ ap (λ (x : App). with_rule x (rule_of arg)) is
+    ∙ ap (with_rule a) rule in
     let globals : (out-Command new).has_globals ≡ false = adds.globals ∙ ap (λ b. b || arg.global) local ∙ own in
     (app, globals)
 
-pub IsApp-subcommand : {old sub new : Command} {a b : App} → AddsSubcommand old sub new → IsApp old a → IsApp sub b → IsApp new (with_subcommand a b.top)
+pub IsApp-subcommand : {old sub new : Command} {a b : App} → AddsSubcommand old sub new → IsApp old a → IsApp sub b →
+    IsApp new (with_subcommand a b.top)
 IsApp-subcommand {old} {sub} {new} {a} {b} adds (is, local) (leaf, own) =
     let app : app_of new ≡ with_subcommand a b.top =
     adds.shape own ∙ ap (λ (x : App). with_subcommand x (app_of sub).top) is ∙ ap (λ (x : App). with_subcommand a x.top) leaf in
-    let globals : (out-Command new).has_globals ≡ false = adds.globals ∙ ap (λ b. b || (out-Command sub).has_globals) local ∙ own in
+    let globals : (out-Command new).has_globals ≡ false = adds.globals ∙ ap (λ b. b || (out-Command sub).has_globals) local
+    ∙ own in
     (app, globals)
 
 -- a setting that a parse does not read

@@ -1,5 +1,6 @@
 -- The values that the rows of a parse have, name by name.
-use Rattle.std.proofs.Common.{◌≡◌, List, [], ◌∷◌, ◌++◌, map, drop, Option, Some, None, true, false, ap, sym, ◌∙◌, append_assoc, append-nil}
+use Rattle.std.proofs.Common.{◌≡◌, List, [], ◌∷◌, ◌++◌, map, drop, Option, Some, None, true, false, ap, sym, ◌∙◌, append_assoc}
+use Rattle.std.proofs.Common.{append-nil}
 use Rattle.std.specs.Prelude.{codes, if◌then◌else◌, option_map, slice_get, unwrap_or}
 use Rattle.std.specs.Option.{option_map_or}
 use Rattle.std.specs.Str.{bytes_eq}
@@ -15,16 +16,20 @@ use Rattle.lset_command.specs.CommandLine.{is_on, is_option, values_by, values_i
 abbrev pub values_by_names : List Row → List Text → List Text
 values_by_names rows names = flat_map (λ name. values_by name rows) names
 
-pub by_all_names : (f : Found) (names : List Text) → names ≡ map (λ e. e.0.now) f.entries.items → values_by_names (rows_of f) names ≡ values_in (rows_of f)
+pub by_all_names : (f : Found) (names : List Text) → names ≡ map (λ e. e.0.now) f.entries.items →
+    values_by_names (rows_of f) names ≡ values_in (rows_of f)
 by_all_names f names all =
-    ap (values_by_names (rows_of f)) all ∙ flat_map-map (λ name. values_by name (rows_of f)) (λ (e : Entry). e.0.now) f.entries.items
+    ap (values_by_names (rows_of f)) all ∙ flat_map-map (λ name. values_by name (rows_of f)) (λ (e : Entry). e.0.now)
+    f.entries.items
     ∙ sym (flat_map-map (λ (row : Row). values_by row.id (rows_of f)) row_of f.entries.items)
 
 -- what a getter tells of a name that is one of values
-pub got : (f : Found) (name : Text) (values : Option (List Text)) → is_option name ≡ false → values ≡ option_map raw_values (matched_of f name)
+pub got : (f : Found) (name : Text) (values : Option (List Text)) → is_option name ≡ false →
+    values ≡ option_map raw_values (matched_of f name)
     → values_by name (rows_of f) ≡ unwrap_or values []
 got f name values plain is =
-    ap (λ b. if b then [] else unwrap_or (all_of name (rows_of f)) []) plain ∙ ap (λ o. unwrap_or o []) (sym (raw_values-rows f name) ∙ sym is)
+    ap (λ b. if b then [] else unwrap_or (all_of name (rows_of f)) []) plain
+    ∙ ap (λ o. unwrap_or o []) (sym (raw_values-rows f name) ∙ sym is)
 
 -- a flag or an option has no values
 pub none_of_option : (name : Text) (rows : List Row) → is_option name ≡ true → values_by name rows ≡ []
@@ -43,12 +48,15 @@ first_and_rest name [] after first rest = absurd cc
 first_and_rest name (x ∷ xs) after first rest = cc
 
 -- the values of one more name
-pub one_more : (rows : List Row) (all had has : List Text) (name : Text) (left after : List Text) → had ++ values_by_names rows left ≡ all
-    → Some name ≡ slice_get left 0 → after ≡ drop 1 left → has ≡ had ++ values_by name rows → has ++ values_by_names rows after ≡ all
+pub one_more : (rows : List Row) (all had has : List Text) (name : Text) (left after : List Text) → had
+    ++ values_by_names rows left ≡ all
+    → Some name ≡ slice_get left 0 → after ≡ drop 1 left → has ≡ had ++ values_by name rows → has
+    ++ values_by_names rows after ≡ all
 one_more rows all had has name left after before first rest grown =
     ap (λ l. l ++ values_by_names rows after) grown ∙ append_assoc had (values_by name rows) (values_by_names rows after)
     ∙ ap (λ l. had ++ values_by_names rows l) (sym (first_and_rest name left after first rest)) ∙ before
 
-pub no_more : (rows : List Row) (all had left : List Text) → had ++ values_by_names rows left ≡ all → None ≡ slice_get left 0 → had ≡ all
+pub no_more : (rows : List Row) (all had left : List Text) → had ++ values_by_names rows left ≡ all → None ≡ slice_get left 0 →
+    had ≡ all
 no_more rows all had [] before none = sym (append-nil had) ∙ before
 no_more rows all had (x ∷ xs) before none = absurd cc

@@ -1,6 +1,7 @@
 -- The words that the program takes: its commands and their values, as a simple command of clap, whose
 -- definitions say which values the words give.
-use Rattle.std.specs.Prelude.{List, [], map, codes, Bool, true, false, ◌||◌, Option, Some, None, option_map, unwrap_or, slice_get, string_bytes, if◌then◌else◌, option_and_then}
+use Rattle.std.specs.Prelude.{List, [], map, codes, Bool, true, false, ◌||◌, Option, Some, None, option_map, unwrap_or, slice_get}
+use Rattle.std.specs.Prelude.{string_bytes, if◌then◌else◌, option_and_then}
 use Rattle.std.specs.List.{flat_map}
 use Rattle.std.specs.Option.{option_map_or}
 use Rattle.std.specs.Str.{bytes_eq}
@@ -9,7 +10,8 @@ use Rattle.clap.specs.Words.{App, Row, Rule, Text, all_of, first_of, new_app, ne
 use Rattle.clap.specs.Simple.{on_top}
 use Rattle.clap.specs.declared.builder.action.ArgAction.TheVariants.{SetTrue}
 use Rattle.lset_command.specs.declared.command_line.Command.{Command}
-use Rattle.lset_command.specs.declared.command_line.Command.TheVariants.{Replay, Check, Show, Trace, Draft, Example, Gen, Run, Serve, Faults}
+use Rattle.lset_command.specs.declared.command_line.Command.TheVariants.{Replay, Check, Show, Trace, Draft, Example, Gen, Run}
+use Rattle.lset_command.specs.declared.command_line.Command.TheVariants.{Serve, Faults}
 use Rattle.lset_command.specs.declared.faults.TheConstants.{FAULTS}
 use Rattle.lset_command.specs.declared.command_line.Options.{Options}
 use Rattle.lset_command.specs.declared.command_line.Words.{Words}
@@ -82,7 +84,9 @@ serve_app =
 abbrev pub listset : App
 listset =
     with_subcommand (with_subcommand (with_subcommand (with_subcommand (with_subcommand
-    (with_subcommand (with_subcommand (with_subcommand (with_subcommand (with_subcommand (on_top (λ s. record s { no_binary_name = true; has_version = true }) (new_app (codes "listset")))
+    (with_subcommand (with_subcommand
+    (with_subcommand (with_subcommand
+    (with_subcommand (on_top (λ s. record s { no_binary_name = true; has_version = true }) (new_app (codes "listset")))
     (file_app (codes "replay")).top)
     (file_app (codes "check")).top)
     show_app.top)

@@ -13,61 +13,82 @@ use Rattle.tool_show.specs.Asking.{asked_of}
 use Rattle.lset_tools.specs.Tools.{Made, Outcome, Delivers, AppendsFront, Ends, line_of, status_of}
 use Rattle.lset_dispatch.specs.Dispatch.{CommandEnds, Does, DoesBy, DoesOn, DoesOnInput, IsHelp, ServesBy, ShowsBy, ShowsAsked}
 
-pub ends_with : (output_old output_new faults_old faults_new : Option (List ℕ)) (status : ℕ) (IsMade : Made → Type 0) (made : Made) → IsMade made
-    → (outcome : Outcome) × Delivers made output_old output_new outcome × AppendsFront faults_old faults_new (line_of outcome) × (status ≡ status_of outcome)
+pub ends_with : (output_old output_new faults_old faults_new : Option (List ℕ)) (status : ℕ) (IsMade : Made → Type 0)
+    (made : Made) → IsMade made
+    → (outcome : Outcome) × Delivers made output_old output_new outcome × AppendsFront faults_old faults_new (line_of outcome)
+    × (status ≡ status_of outcome)
     → Ends IsMade output_old output_new faults_old faults_new status
-ends_with output_old output_new faults_old faults_new status IsMade made is (outcome, delivered, told, ended) = (made, outcome, is, delivered, told, ended)
+ends_with output_old output_new faults_old faults_new status IsMade made is (outcome, delivered, told, ended) =
+    (made, outcome, is, delivered, told, ended)
 
 -- a tool that writes nothing before it has made something
-pub at_once : (IsMade : Made → Type 0) (output_old output_new faults_old faults_new : Option (List ℕ)) (status : ℕ) → Ends IsMade output_old output_new faults_old faults_new status
+pub at_once : (IsMade : Made → Type 0) (output_old output_new faults_old faults_new : Option (List ℕ)) (status : ℕ) →
+    Ends IsMade output_old output_new faults_old faults_new status
     → CommandEnds (λ old first made. (first ≡ old) × IsMade made) output_old output_new faults_old faults_new status
 at_once IsMade output_old output_new faults_old faults_new status (made, outcome, is, delivered, told, ended) =
     (output_old, (made, outcome, (refl, is), delivered, told, ended))
 
 -- the same of equal arguments
-pub with_argument : {A : Type 0} (IsMade : A → Made → Type 0) (output_old output_new faults_old faults_new : Option (List ℕ)) (status : ℕ) (given argument : A) → given ≡ argument
-    → Ends (IsMade given) output_old output_new faults_old faults_new status → Ends (IsMade argument) output_old output_new faults_old faults_new status
+pub with_argument : {A : Type 0} (IsMade : A → Made → Type 0) (output_old output_new faults_old faults_new : Option (List ℕ))
+    (status : ℕ) (given argument : A) → given ≡ argument
+    → Ends (IsMade given) output_old output_new faults_old faults_new status →
+    Ends (IsMade argument) output_old output_new faults_old faults_new status
 with_argument IsMade output_old output_new faults_old faults_new status given argument same ends =
     subst (λ a. Ends (IsMade a) output_old output_new faults_old faults_new status) same ends
 
 -- a tool's ending, where the words name the tool's command and have its values
-pub at_command : (input output_old output_new faults_old faults_new : Option (List ℕ)) (status : ℕ) (known command : Command) (given values : List Text) (options : OptionValues)
-    → command ≡ known → given ≡ values → CommandEnds (DoesBy known given options input) output_old output_new faults_old faults_new status
+pub at_command : (input output_old output_new faults_old faults_new : Option (List ℕ)) (status : ℕ) (known command : Command)
+    (given values : List Text) (options : OptionValues)
+    → command ≡ known → given ≡ values → CommandEnds (DoesBy known given options input) output_old output_new faults_old
+    faults_new status
     → CommandEnds (DoesBy command values options input) output_old output_new faults_old faults_new status
 at_command input output_old output_new faults_old faults_new status known command given values options is same ends =
     subst (λ v. CommandEnds (DoesBy command v options input) output_old output_new faults_old faults_new status) same
     (subst (λ c. CommandEnds (DoesBy c given options input) output_old output_new faults_old faults_new status) (sym is) ends)
 
 -- `serve`, with a file or without one
-pub served : (input output_old output_new faults_old faults_new : Option (List ℕ)) (status : ℕ) (file : Option Text) (given values : List Text) (options : OptionValues)
-    → file ≡ file_by Serve values → given ≡ values → CommandEnds (ServesBy file given input) output_old output_new faults_old faults_new status
+pub served : (input output_old output_new faults_old faults_new : Option (List ℕ)) (status : ℕ) (file : Option Text)
+    (given values : List Text) (options : OptionValues)
+    → file ≡ file_by Serve values → given ≡ values → CommandEnds (ServesBy file given input) output_old output_new faults_old
+    faults_new status
     → CommandEnds (DoesBy Serve values options input) output_old output_new faults_old faults_new status
 served input output_old output_new faults_old faults_new status file given values options named same ends =
     subst (λ f. CommandEnds (ServesBy f values input) output_old output_new faults_old faults_new status) named
     (subst (λ v. CommandEnds (ServesBy file v input) output_old output_new faults_old faults_new status) same ends)
 
-pub with_choice : (IsFile : Option (List ℕ) → Type 0) (input output_old output_new faults_old faults_new : Option (List ℕ)) (status : ℕ) (a b : Choice) → a ≡ b
-    → CommandEnds (DoesOnInput a IsFile input) output_old output_new faults_old faults_new status → CommandEnds (DoesOnInput b IsFile input) output_old output_new faults_old faults_new status
+pub with_choice : (IsFile : Option (List ℕ) → Type 0) (input output_old output_new faults_old faults_new : Option (List ℕ))
+    (status : ℕ) (a b : Choice) → a ≡ b
+    → CommandEnds (DoesOnInput a IsFile input) output_old output_new faults_old faults_new status →
+    CommandEnds (DoesOnInput b IsFile input) output_old output_new faults_old faults_new status
 with_choice IsFile input output_old output_new faults_old faults_new status a b same ends =
     subst (λ choice. CommandEnds (DoesOnInput choice IsFile input) output_old output_new faults_old faults_new status) same ends
 
 -- on the input, where no file is named
-pub on_input : (IsFile : Option (List ℕ) → Type 0) (input output_old output_new faults_old faults_new : Option (List ℕ)) (status : ℕ) (choice : Choice) → None ≡ path_of choice
-    → CommandEnds (Does choice input) output_old output_new faults_old faults_new status → CommandEnds (DoesOnInput choice IsFile input) output_old output_new faults_old faults_new status
+pub on_input : (IsFile : Option (List ℕ) → Type 0) (input output_old output_new faults_old faults_new : Option (List ℕ))
+    (status : ℕ) (choice : Choice) → None ≡ path_of choice
+    → CommandEnds (Does choice input) output_old output_new faults_old faults_new status →
+    CommandEnds (DoesOnInput choice IsFile input) output_old output_new faults_old faults_new status
 on_input IsFile input output_old output_new faults_old faults_new status choice none ends =
     subst (λ file. CommandEnds (DoesOn file choice IsFile input) output_old output_new faults_old faults_new status) none ends
 
 -- on the bytes of a file
-pub on_file : (IsFile : Option (List ℕ) → Type 0) (input bytes output_old output_new faults_old faults_new : Option (List ℕ)) (status : ℕ) (choice : Choice) (path : Text)
-    → Some path ≡ path_of choice → IsFile bytes → CommandEnds (Does choice bytes) output_old output_new faults_old faults_new status
+pub on_file : (IsFile : Option (List ℕ) → Type 0) (input bytes output_old output_new faults_old faults_new : Option (List ℕ))
+    (status : ℕ) (choice : Choice) (path : Text)
+    → Some path ≡ path_of choice → IsFile bytes → CommandEnds (Does choice bytes) output_old output_new faults_old faults_new
+    status
     → CommandEnds (DoesOnInput choice IsFile input) output_old output_new faults_old faults_new status
-on_file IsFile input bytes output_old output_new faults_old faults_new status choice path named is (first, (made, outcome, does, delivered, told, ended)) =
+on_file IsFile input bytes output_old output_new faults_old faults_new status choice path named is (
+  first,
+  (made, outcome, does, delivered, told, ended),
+) =
     subst (λ file. CommandEnds (DoesOn file choice IsFile input) output_old output_new faults_old faults_new status) named
     (first, (made, outcome, inr (bytes, is, does), delivered, told, ended))
 
-pub not_opened : (IsFile : Option (List ℕ) → Type 0) (input old : Option (List ℕ)) (choice : Choice) (path : Text) → Some path ≡ path_of choice
+pub not_opened : (IsFile : Option (List ℕ) → Type 0) (input old : Option (List ℕ)) (choice : Choice) (path : Text) →
+    Some path ≡ path_of choice
     → DoesOnInput choice IsFile input old old (Err CannotRead)
-not_opened IsFile input old choice path named = subst (λ file. DoesOn file choice IsFile input old old (Err CannotRead)) named (inl (refl, refl))
+not_opened IsFile input old choice path named = subst (λ file. DoesOn file choice IsFile input old old (Err CannotRead)) named
+    (inl (refl, refl))
 
 -- a wrong option of `show` is named
 pub wrong_option : (options : OptionValues) (input : Option (List ℕ)) (from to width : Option Text) (wrong : ValueName)

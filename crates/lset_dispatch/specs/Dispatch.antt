@@ -7,7 +7,8 @@ use Rattle.clap.specs.declared.error.kind.ErrorKind.{ErrorKind}
 use Rattle.clap.specs.declared.error.kind.ErrorKind.TheVariants.{OutOfMemory, DisplayHelp, DisplayVersion}
 use Rattle.lset_command.specs.CommandLine.{Choice, OptionValues, choice_of, faults_text, file_by, listset, path_of}
 use Rattle.lset_command.specs.declared.command_line.Command.{Command}
-use Rattle.lset_command.specs.declared.command_line.Command.TheVariants.{Replay, Check, Show, Trace, Draft, Example, Gen, Run, Serve, Faults}
+use Rattle.lset_command.specs.declared.command_line.Command.TheVariants.{Replay, Check, Show, Trace, Draft, Example, Gen, Run}
+use Rattle.lset_command.specs.declared.command_line.Command.TheVariants.{Serve, Faults}
 use Rattle.lset_tools.specs.declared.trouble.ValueName.{ValueName}
 use Rattle.lset_tools.specs.declared.trouble.Trouble.TheVariants.{CannotRead, Memory, Bad}
 use Rattle.lset_tools.specs.Tools.{Made, Ends, AppendsFront}
@@ -43,7 +44,8 @@ ServesBy (Some word) values input old first made = serve.ServesWith (serve.serve
 abbrev pub TellsFaults : Made → Type 0
 TellsFaults made = (made ≡ Err Memory) ⊎ (made ≡ Ok (record { text = faults_text; status = 0 }))
 
--- What a command makes of its values and options, and of the bytes of its input where they are known. Before that it takes the output from
+-- What a command makes of its values and options, and of the bytes of its input where they are known. Before that it takes the
+-- output from
 -- the old to the first: `serve` writes the line that names its port, the others write nothing.
 abbrev pub DoesBy : Command → List Text → OptionValues → Option (List ℕ) → Option (List ℕ) → Option (List ℕ) → Made → Type 0
 DoesBy Replay values options input old first made = (first ≡ old) × IfSome input (λ bytes. Replays bytes made)
@@ -60,9 +62,11 @@ DoesBy Faults values options input old first made = (first ≡ old) × TellsFaul
 abbrev pub Does : Choice → Option (List ℕ) → Option (List ℕ) → Option (List ℕ) → Made → Type 0
 Does choice input old first made = DoesBy choice.command choice.values choice.options input old first made
 
--- where the path of no file is named, it does so on the standard input; else on what some file holds (that it is the one of this path, or read
+-- where the path of no file is named, it does so on the standard input; else on what some file holds (that it is the one of this
+-- path, or read
 -- from its start, no clause says), or it says that it could not be read
-abbrev pub DoesOn : Option Text → Choice → (Option (List ℕ) → Type 0) → Option (List ℕ) → Option (List ℕ) → Option (List ℕ) → Made → Type 0
+abbrev pub DoesOn : Option Text → Choice → (Option (List ℕ) → Type 0) → Option (List ℕ) → Option (List ℕ) → Option (List ℕ) → Made
+    → Type 0
 DoesOn None choice IsFile input old first made = Does choice input old first made
 DoesOn (Some path) choice IsFile input old first made =
     ((first ≡ old) × (made ≡ Err CannotRead)) ⊎ ((bytes : Option (List ℕ)) × IsFile bytes × Does choice bytes old first made)
@@ -71,7 +75,8 @@ abbrev pub DoesOnInput : Choice → (Option (List ℕ) → Type 0) → Option (L
 DoesOnInput choice IsFile input old first made = DoesOn (path_of choice) choice IsFile input old first made
 
 -- HOW A COMMAND ENDS: what it writes first is written, and then what it made reaches the output, as with any tool.
-abbrev pub CommandEnds : (Option (List ℕ) → Option (List ℕ) → Made → Type 0) → Option (List ℕ) → Option (List ℕ) → Option (List ℕ) → Option (List ℕ) → ℕ → Type 0
+abbrev pub CommandEnds : (Option (List ℕ) → Option (List ℕ) → Made → Type 0) → Option (List ℕ) → Option (List ℕ) → Option (List ℕ)
+    → Option (List ℕ) → ℕ → Type 0
 CommandEnds IsMade output_old output_new faults_old faults_new status =
     (first : Option (List ℕ)) × Ends (IsMade output_old first) first output_new faults_old faults_new status
 
@@ -89,7 +94,8 @@ IsMistake kind = (kind ≢ OutOfMemory) × (kind ≢ DisplayHelp) × (kind ≢ D
 abbrev pub Helps : ErrorKind → Made → Type 0
 Helps kind made = (made ≡ Err Memory) ⊎ (IsHelp kind × (text : List ℕ) × (made ≡ Ok (record { text = text; status = 0 })))
 
--- A mistake writes nothing on the output and ends with status 2; what it writes on the other is clap's, and no clause speaks of it.
+-- A mistake writes nothing on the output and ends with status 2; what it writes on the other is clap's, and no clause speaks of
+-- it.
 abbrev pub Refuses : ErrorKind → Option (List ℕ) → Option (List ℕ) → Option (List ℕ) → Option (List ℕ) → ℕ → Type 0
 Refuses kind output_old output_new faults_old faults_new status =
     IsMistake kind × Keeps output_old output_new × (text : List ℕ) × AppendsFront faults_old faults_new text × (status ≡ 2)
@@ -101,7 +107,10 @@ Declines kind output_old output_new faults_old faults_new status =
 
 -- ---- the program on its words, by clap's definition of what they give
 
-abbrev pub Runs : List Text → (Option (List ℕ) → Type 0) → Option (List ℕ) → Option (List ℕ) → Option (List ℕ) → Option (List ℕ) → Option (List ℕ) → ℕ → Type 0
+abbrev pub Runs : List Text → (Option (List ℕ) → Type 0) → Option (List ℕ) → Option (List ℕ) → Option (List ℕ) → Option (List ℕ) →
+    Option (List ℕ) → ℕ → Type 0
 Runs words IsFile input output_old output_new faults_old faults_new status =
-    ((fault_of listset words ≡ []) × CommandEnds (DoesOnInput (choice_of (subcommand_of listset words)) IsFile input) output_old output_new faults_old faults_new status)
-    ⊎ ((error : Error) × HasKind (fault_of listset words) error × Declines (kind_of error) output_old output_new faults_old faults_new status)
+    ((fault_of listset words ≡ []) × CommandEnds (DoesOnInput (choice_of (subcommand_of listset words)) IsFile input) output_old
+    output_new faults_old faults_new status)
+    ⊎ ((error : Error) × HasKind (fault_of listset words) error × Declines (kind_of error) output_old output_new faults_old
+    faults_new status)

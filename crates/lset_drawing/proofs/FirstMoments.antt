@@ -1,5 +1,6 @@
 -- The moments that have a column are the first ones of the window at which something happens.
-use Rattle.std.proofs.Common.{◌≡◌, ℕ, zero, suc, ◌+◌, ◌<◌, ◌≤◌, ◌⊎◌, inl, inr, List, [], ◌∷◌, ◌++◌, length, map, Option, Some, None, refl, sym, ap, ◌∙◌, subst, arith}
+use Rattle.std.proofs.Common.{◌≡◌, ℕ, zero, suc, ◌+◌, ◌<◌, ◌≤◌, ◌⊎◌, inl, inr, List, [], ◌∷◌, ◌++◌, length, map, Option, Some}
+use Rattle.std.proofs.Common.{None, refl, sym, ap, ◌∙◌, subst, arith}
 use Rattle.std.specs.Prelude.{Bool, true, false, All, Contains}
 use Rattle.std.proofs.lemmas.Bool.Decides.{nat_tests}
 use Rattle.std.proofs.lemmas.List.Elements.{All-nil, All-cons, All-weaker}
@@ -7,13 +8,15 @@ use Rattle.lset_words.specs.declared.history.CallRecord.{CallRecord}
 use Rattle.lset_words.specs.declared.history.Point.{Point}
 use Rattle.lset_words.specs.Points.{moment_of}
 use Rattle.lset_words.proofs.Numbers.{below_or_not}
-use Rattle.lset_words.proofs.RisingLists.{RisesFrom, increasing_from_rises, contains-cons, contains-head, contains-tail, contains-nil}
+use Rattle.lset_words.proofs.RisingLists.{RisesFrom, increasing_from_rises, contains-cons, contains-head, contains-tail}
+use Rattle.lset_words.proofs.RisingLists.{contains-nil}
 use Rattle.lset_history.specs.History.{HistoryValue}
 use Rattle.lset_drawing.specs.declared.standings.Standing.{Standing}
 use Rattle.lset_drawing.specs.declared.picture.Window.{Window}
 use Rattle.lset_drawing.specs.declared.TheConstants.{MOST_COLUMNS}
 use Rattle.lset_drawing.specs.Pictures.{PictureValue, points_of}
-use Rattle.lset_drawing.specs.Moments.{sooner, first_from, moments_of_calls, next_moment, upto, moment_within, moments_shown, happenings, AreFirstMoments}
+use Rattle.lset_drawing.specs.Moments.{sooner, first_from, moments_of_calls, next_moment, upto, moment_within, moments_shown}
+use Rattle.lset_drawing.specs.Moments.{happenings, AreFirstMoments}
 use Rattle.lset_drawing.specs.Columns.{ColumnValue, columns_from, column_moment}
 use Rattle.lset_drawing.specs.Drawings.{columns_at, moments_of, AreColumnsOf, AreMomentsOf}
 
@@ -100,7 +103,8 @@ shown_happens calls points to from r e =
     ]
 
 -- and no such moment of the window comes before it.
-shown_first : (calls : List CallRecord) (points : List Point) (to from m : ℕ) → Contains (happenings calls points) m → from ≤ m → m ≤ to
+shown_first : (calls : List CallRecord) (points : List Point) (to from m : ℕ) → Contains (happenings calls points) m → from ≤ m →
+    m ≤ to
     → (r : ℕ) × (moment_within calls points to from ≡ Some r) × (r ≤ m)
 shown_first calls points to from m c l u =
     let f = first_of from None (happenings calls points) m c l in

@@ -4,7 +4,8 @@ use Rattle.std.specs.List.{list_any}
 use Rattle.lset_words.specs.declared.history.CallRecord.{CallRecord}
 use Rattle.lset_words.specs.Words.{key_of}
 use Rattle.lset_history.specs.declared.refusal.Refusal.{Refusal}
-use Rattle.lset_history.specs.declared.refusal.Refusal.TheVariants.{Unknown, Twice, Missing, HistoryReply, SetReply, TooEarly, WrongSet}
+use Rattle.lset_history.specs.declared.refusal.Refusal.TheVariants.{Unknown, Twice, Missing, HistoryReply, SetReply, TooEarly}
+use Rattle.lset_history.specs.declared.refusal.Refusal.TheVariants.{WrongSet}
 use Rattle.lset_drawing.specs.Pictures.{PictureValue}
 
 abbrev pub has : ℕ → List ℕ → Bool
@@ -14,7 +15,8 @@ has key keys = list_any (λ (k : ℕ). k == key) keys
 abbrev pub is_in_one : ℕ → List ℕ → List ℕ → Bool
 is_in_one key keys others = if has key keys then not (has key others) else has key others
 
--- Of a refused order, with the keys that the report tells: the calls that the refusal names; and of a wrong set, the calls of the keys
+-- Of a refused order, with the keys that the report tells: the calls that the refusal names; and of a wrong set, the calls of
+-- the keys
 -- that the order leaves and the report does not tell, or the other way round.
 abbrev pub clashes_in : List ℕ → Refusal → ℕ → CallRecord → Bool
 clashes_in keys (Unknown call calls) number x = false

@@ -4,7 +4,8 @@ use Rattle.std.specs.Fmt.{decimal}
 use Rattle.lset_words.specs.declared.Reply.{Reply}
 use Rattle.lset_text.specs.Spellings.{reply_text}
 use Rattle.lset_history.specs.declared.refusal.Refusal.{Refusal}
-use Rattle.lset_history.specs.declared.refusal.Refusal.TheVariants.{Unknown, Twice, Missing, HistoryReply, SetReply, TooEarly, WrongSet}
+use Rattle.lset_history.specs.declared.refusal.Refusal.TheVariants.{Unknown, Twice, Missing, HistoryReply, SetReply, TooEarly}
+use Rattle.lset_history.specs.declared.refusal.Refusal.TheVariants.{WrongSet}
 use Rattle.lset_drawing.specs.Sets.{set_text}
 
 abbrev pub calls_there : ℕ → List ℕ

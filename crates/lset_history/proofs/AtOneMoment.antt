@@ -15,7 +15,8 @@ use Rattle.lset_words.specs.Placement.{Standing, makes_change, reply_by, at_mome
 use Rattle.lset_words.proofs.Numbers.{equal_test}
 use Rattle.std.proofs.lemmas.Bool.{cases_Bool}
 use Rattle.lset_words.proofs.RisingLists.{RisesFrom}
-use Rattle.lset_history.proofs.Lists.{Pairs, SomeOf, all_imply, all_both, all_filter, pairs_filter, pairs_imply, one_left, filter_none, some_imply, some_filter}
+use Rattle.lset_history.proofs.Lists.{Pairs, SomeOf, all_imply, all_both, all_filter, pairs_filter, pairs_imply, one_left}
+use Rattle.lset_history.proofs.Lists.{filter_none, some_imply, some_filter}
 use Rattle.lset_history.proofs.Keys.{has_true, has_false}
 use Rattle.lset_history.proofs.Calls.{Run}
 use Rattle.lset_history.proofs.SetFitting.{SameKeys, rises_for, replies_from_fits}

@@ -1,17 +1,20 @@
 -- What a step does to the calls of a log, and what holds of the calls at every moment of an account.
-use Rattle.std.proofs.Common.{◌≡◌, ◌≢◌, ℕ, zero, suc, ◌<◌, ◌≤◌, ◌⊎◌, Bool, true, false, ◌||◌, ◌&&◌, inl, inr, List, [], ◌∷◌, map, sym, refl, subst, ◌∙◌, arith}
+use Rattle.std.proofs.Common.{◌≡◌, ◌≢◌, ℕ, zero, suc, ◌<◌, ◌≤◌, ◌⊎◌, Bool, true, false, ◌||◌, ◌&&◌, inl, inr, List, [], ◌∷◌, map}
+use Rattle.std.proofs.Common.{sym, refl, subst, ◌∙◌, arith}
 use Rattle.std.specs.Prelude.{◌==◌, Option, Some, None, is_none, is_some, if◌then◌else◌, IsSomeAnd}
 use Rattle.std.specs.List.{AllByRecursion}
 use Rattle.std.proofs.lemmas.Bool.Decides.{nat_tests}
 use Rattle.lset_words.specs.declared.Call.{Call}
 use Rattle.lset_words.specs.declared.Reply.{Reply}
-use Rattle.lset_words.specs.Log.{Log, Entry, Change, TracedCall, is_under_way, traced_on, changed_by, ended_by, calls_at, calls_after, last_call, begun_at, is_open, has_changed, is_change}
+use Rattle.lset_words.specs.Log.{Log, Entry, Change, TracedCall, is_under_way, traced_on, changed_by, ended_by, calls_at}
+use Rattle.lset_words.specs.Log.{calls_after, last_call, begun_at, is_open, has_changed, is_change}
 use Rattle.lset_words.specs.Log.Entry.{began, stepped}
 use Rattle.lset_words.specs.Account.{Contents, Counts, FitsSometime, RightReply, MayChange, Enters, Account}
 use Rattle.lset_words.proofs.Numbers.{equal_test, unequal_test, same_or_not}
 use Rattle.std.proofs.lemmas.Bool.{cases_Bool}
 use Rattle.lset_history.proofs.Lists.{Pairs, SomeOf, all_imply, all_map, pairs_map, some_imply, some_of_all, some_map}
-use Rattle.lset_history.proofs.Calls.{Run, ChangedBy, ReplyOf, OpenAt, EndedBy, Traced, Later, IsOpenOf, ChangesAt, Calls, open_is, call_is, begun_is, changed_is, stays_stepped, changed_on, after_beginning}
+use Rattle.lset_history.proofs.Calls.{Run, ChangedBy, ReplyOf, OpenAt, EndedBy, Traced, Later, IsOpenOf, ChangesAt, Calls}
+use Rattle.lset_history.proofs.Calls.{open_is, call_is, begun_is, changed_is, stays_stepped, changed_on, after_beginning}
 use Rattle.lset_words.specs.Words.{Opening}
 
 -- a step of a thread, as the account tells of it

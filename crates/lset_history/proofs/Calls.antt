@@ -1,11 +1,13 @@
 -- The calls of a log: what holds of each call, of two calls, and which calls there are, at every moment of an account.
-use Rattle.std.proofs.Common.{◌≡◌, ◌≢◌, ℕ, suc, ◌<◌, ◌≤◌, Bool, true, false, inl, inr, List, [], ◌∷◌, ◌++◌, sym, refl, subst, ap, ◌∙◌, arith}
+use Rattle.std.proofs.Common.{◌≡◌, ◌≢◌, ℕ, suc, ◌<◌, ◌≤◌, Bool, true, false, inl, inr, List, [], ◌∷◌, ◌++◌, sym, refl, subst, ap}
+use Rattle.std.proofs.Common.{◌∙◌, arith}
 use Rattle.std.specs.Prelude.{◌==◌, Option, Some, None, is_some, IsSomeAnd}
 use Rattle.std.specs.List.{AllByRecursion}
 use Rattle.lset_words.specs.declared.Call.{Call}
 use Rattle.lset_words.specs.declared.Reply.{Reply}
 use Rattle.lset_words.specs.declared.Reply.TheVariants.{True}
-use Rattle.lset_words.specs.Log.{Log, Entry, Change, TracedCall, last_call, begun_at, is_open, has_changed, call_after, begun_after, open_after, changed_after}
+use Rattle.lset_words.specs.Log.{Log, Entry, Change, TracedCall, last_call, begun_at, is_open, has_changed, call_after}
+use Rattle.lset_words.specs.Log.{begun_after, open_after, changed_after}
 use Rattle.lset_words.specs.Log.Entry.{began, stepped}
 use Rattle.lset_words.specs.Account.{Contents, Counts, FitsSometime, MayChange}
 use Rattle.lset_words.proofs.Numbers.{equal_test, unequal_test, same_or_not}

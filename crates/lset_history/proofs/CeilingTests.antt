@@ -1,5 +1,6 @@
 -- A test of whether a key, or none, is the least one at or above another at a moment, where all keys are below 2^32.
-use Rattle.std.proofs.Common.{◌≡◌, ℕ, ◌+◌, ◌-◌, ◌<◌, ◌≤◌, ◌⊎◌, inl, inr, Bool, true, false, List, sym, refl, subst, ap, ◌∙◌, arith}
+use Rattle.std.proofs.Common.{◌≡◌, ℕ, ◌+◌, ◌-◌, ◌<◌, ◌≤◌, ◌⊎◌, inl, inr, Bool, true, false, List, sym, refl, subst, ap, ◌∙◌}
+use Rattle.std.proofs.Common.{arith}
 use Rattle.std.specs.Prelude.{Option, Some, None, ◌==◌}
 use Rattle.lset_words.proofs.Numbers.{below_or_not, same_number, equal_test}
 use Rattle.lset_words.specs.Account.{Content, IsCeiling}
@@ -36,7 +37,8 @@ abbrev pub has_ceiling : (ℕ → List ℕ) → ℕ → Option ℕ → ℕ → B
 has_ceiling changes key found m = same_key (least_present changes key m) found
 
 module _ (changes : ℕ → List ℕ) (bounded : IsBounded changes) (key : ℕ) where
-  from_first : (m : ℕ) (o : Option ℕ) → IsFirst (λ j. is_present changes j m ≡ true) key (key + (4294967295 - key)) o → CeilingAt changes key o m
+  from_first : (m : ℕ) (o : Option ℕ) → IsFirst (λ j. is_present changes j m ≡ true) key (key + (4294967295 - key)) o →
+      CeilingAt changes key o m
   from_first m None h = λ j a p. elim (below_or_not j 4294967296) [
     | inl l ↦ h j a (omega arith) p
     | inr g ↦ absurd (let e : state_at false (changes j) m ≡ false = ap (λ ms. state_at false ms m) (bounded j g) in
@@ -65,7 +67,8 @@ module _ (changes : ℕ → List ℕ) (bounded : IsBounded changes) (key : ℕ) 
   tested found m e = subst (λ o. CeilingAt changes key o m) (same_key_is (least_present changes key m) found e) (least_is m)
 
   pub passes_test : (found : Option ℕ) (m : ℕ) → CeilingAt changes key found m → has_ceiling changes key found m ≡ true
-  passes_test found m h = same_key_same (least_present changes key m) found (one_ceiling m (least_present changes key m) found (least_is m) h)
+  passes_test found m h = same_key_same (least_present changes key m) found
+      (one_ceiling m (least_present changes key m) found (least_is m) h)
 
   first_tested : (found : Option ℕ) (from to : ℕ) (o : Option ℕ) → IsFirst (CeilingAt changes key found) from to o
       → IsFirst (λ m. has_ceiling changes key found m ≡ true) from to o
@@ -74,14 +77,17 @@ module _ (changes : ℕ → List ℕ) (bounded : IsBounded changes) (key : ℕ) 
       (h.0, h.1, passes_test found k h.2, λ m a b p. h.3 m a b (tested found m p))
 
   -- what a search finds is what the test finds, moment after moment
-  pub ceiling_search : (found : Option ℕ) (from to : ℕ) (o : Option ℕ) → from ≤ to → IsFirst (CeilingAt changes key found) from to o
+  pub ceiling_search : (found : Option ℕ) (from to : ℕ) (o : Option ℕ) → from ≤ to →
+      IsFirst (CeilingAt changes key found) from to o
       → o ≡ first_passing true (has_ceiling changes key found) from (to - from)
   ceiling_search found from to o l h =
-      one_first (λ m. has_ceiling changes key found m ≡ true) from to o (first_passing true (has_ceiling changes key found) from (to - from))
+      one_first (λ m. has_ceiling changes key found m ≡ true) from to o (first_passing true (has_ceiling changes key found) from
+      (to - from))
       (first_tested found from to o h)
       (first_passing_is true (has_ceiling changes key found) from (to - from) to (omega arith))
 
 -- a content that the changes tell has that ceiling
-pub ceiling_by : (P Q : Content) (k : ℕ) (o : Option ℕ) → ((j : ℕ) → P j → Q j) → ((j : ℕ) → Q j → P j) → IsCeiling P k o → IsCeiling Q k o
+pub ceiling_by : (P Q : Content) (k : ℕ) (o : Option ℕ) → ((j : ℕ) → P j → Q j) → ((j : ℕ) → Q j → P j) → IsCeiling P k o →
+    IsCeiling Q k o
 ceiling_by P Q k None f g h = λ j a q. h j a (g j q)
 ceiling_by P Q k (Some x) f g h = (h.0, f x h.1, λ j a b q. h.2 j a b (g j q))

@@ -85,7 +85,8 @@ ceiling_cases k (y ∷ ys) = elim (cases_Bool (nat_lt y k)) [
 ]
 
 -- so the reply is of these two kinds
-pub ceiling_not : {A : Type 0} (k : ℕ) (xs : List ℕ) (r : Reply) → ceiling_in k xs ≡ r → ((x : Key) → At x ≡ r → ⊥) → (Nothing ≡ r → ⊥) → A
+pub ceiling_not : {A : Type 0} (k : ℕ) (xs : List ℕ) (r : Reply) → ceiling_in k xs ≡ r → ((x : Key) → At x ≡ r → ⊥) →
+    (Nothing ≡ r → ⊥) → A
 ceiling_not k xs r e f g = elim (ceiling_cases k xs) [
   | inl h ↦ absurd (g (sym h ∙ e))
   | inr h ↦ absurd (f h.0 (sym h.1 ∙ e))

@@ -1,5 +1,6 @@
 -- What one more change of a key makes of whether keys are there.
-use Rattle.std.proofs.Common.{◌≡◌, ◌≢◌, ℕ, zero, suc, ◌+◌, ◌<◌, ◌≤◌, ◌⊎◌, inl, inr, Bool, true, false, not, List, [], ◌∷◌, ◌++◌, length, get_or, sym, refl, subst, ap, ◌∙◌, arith}
+use Rattle.std.proofs.Common.{◌≡◌, ◌≢◌, ℕ, zero, suc, ◌+◌, ◌<◌, ◌≤◌, ◌⊎◌, inl, inr, Bool, true, false, not, List, [], ◌∷◌, ◌++◌}
+use Rattle.std.proofs.Common.{length, get_or, sym, refl, subst, ap, ◌∙◌, arith}
 use Rattle.std.specs.Prelude.{All, ◌==◌, nat_lt, if◌then◌else◌}
 use Rattle.std.proofs.lemmas.Bool.{lt-ltb, le-ltb}
 use Rattle.std.proofs.lemmas.List.{get_or_push, get_or_append_left, length_push}
@@ -99,7 +100,8 @@ module _ (c d : ChangesValue) (key last at : ℕ) (noted : (k : ℕ) → moments
   noted_upto upto later k = subst (λ ms. All (λ m. m ≤ at) ms) (sym (noted k))
       (all_upto_change (moments_of c) key last at k (upto k) later)
 
-  pub noted_now : (present : Bool) → present ≡ not (is_present_now (moments_of c) key) → is_present_now (moments_of d) key ≡ present
+  pub noted_now : (present : Bool) → present ≡ not (is_present_now (moments_of c) key) →
+      is_present_now (moments_of d) key ≡ present
   noted_now present turn = ap (λ ms. state_after false ms) (noted key)
       ∙ ap (λ b. state_after false (if b then moments_of c key ++ at ∷ [] else moments_of c key)) (equal_test key key refl)
       ∙ state_after_change false (moments_of c key) at ∙ sym turn

@@ -1,5 +1,6 @@
 -- The calls that a refusal of an order names: at which places they are found.
-use Rattle.std.proofs.Common.{◌≡◌, ◌≢◌, ◌⊎◌, ℕ, ◌<◌, ◌≤◌, ◌+◌, List, [], length, take, get_or, Option, Some, None, refl, sym, ap, ◌∙◌, subst, ⊎_elim, arith}
+use Rattle.std.proofs.Common.{◌≡◌, ◌≢◌, ◌⊎◌, ℕ, ◌<◌, ◌≤◌, ◌+◌, List, [], length, take, get_or, Option, Some, None, refl, sym, ap}
+use Rattle.std.proofs.Common.{◌∙◌, subst, ⊎_elim, arith}
 use Rattle.std.specs.List.{All}
 use Rattle.std.specs.Option.{IfSome, IsSomeAnd}
 use Rattle.std.proofs.lemmas.Bool.{cases_lt, cases_order}
@@ -39,7 +40,8 @@ same_place order call place index once inside names under stands first = ⊎_eli
     (cases_order place index)
 
 -- THE PLACES BEFORE ONE
-pub known_before : (calls : List CallRecord) (order : List Placed) (i : ℕ) → HasKnownCalls calls order → HasKnownCalls calls (take i order)
+pub known_before : (calls : List CallRecord) (order : List Placed) (i : ℕ) → HasKnownCalls calls order →
+    HasKnownCalls calls (take i order)
 known_before calls order i known k d low =
     let P : Placed → Type 0 = λ p. p.call < length calls in
     let short : k < i = omega (arith, length-take i order) in
@@ -76,7 +78,8 @@ read_call : (h : HistoryValue) (calls : List CallRecord) (call : ℕ) (d : CallR
     → get_or calls call d ≡ call_numbered h.calls call
 read_call h calls call d e low = ap (λ (xs : List CallRecord). get_or xs call d) e ∙ get_or_default h.calls call d no_call low
 
-pub ended_otherwise : (h : HistoryValue) (order : List Placed) (calls : List CallRecord) (call index : ℕ) (d : CallRecord) (ended : Reply)
+pub ended_otherwise : (h : HistoryValue) (order : List Placed) (calls : List CallRecord) (call index : ℕ) (d : CallRecord)
+    (ended : Reply)
     → calls ≡ h.calls → HasKnownCalls h.calls order → index < length order → (place_at order index).call ≡ call
     → IsOtherEnd (get_or calls call d) (place_at order index).reply (Some ended)
     → EndedOtherwise h order call (index + 1) (place_at order index).reply ended
@@ -134,14 +137,17 @@ answered_otherwise h order calls call index d keys answer e known inside stands 
 
 -- the thread of a known call is one of the set
 pub thread_below : (h : HistoryValue) (calls : List CallRecord) (call threads : ℕ) (d : CallRecord) → calls ≡ h.calls
-    → IsHistory h.opening.threads h.calls → call < length calls → threads ≡ h.opening.threads → (get_or calls call d).thread < threads
+    → IsHistory h.opening.threads h.calls → call < length calls → threads ≡ h.opening.threads →
+    (get_or calls call d).thread < threads
 thread_below h calls call threads d e history low same =
     let P : List CallRecord → Type 0 = λ xs. All (IsCall h.opening.threads) xs in
-    let own : IsCall h.opening.threads (get_or calls call d) = subst P (sym e) (calls_of h.opening.threads h.calls history) call d low in
+    let own : IsCall h.opening.threads (get_or calls call d) = subst P (sym e) (calls_of h.opening.threads h.calls history) call d
+    low in
     rw same own.of_a_thread
 
 -- A CALL BEFORE ONE THAT PRECEDES IT
-pub stands_before : (h : HistoryValue) (order : List Placed) (calls : List CallRecord) (call index later ended : ℕ) (reply : Reply)
+pub stands_before : (h : HistoryValue) (order : List Placed) (calls : List CallRecord) (call index later ended : ℕ)
+    (reply : Reply)
     (d e : CallRecord)
     → calls ≡ h.calls → HasKnownCalls h.calls order
     → index < length order → (place_at order index).call ≡ call

@@ -1,5 +1,6 @@
 -- Looking for a moment among rising ones, and what is found there.
-use Rattle.std.proofs.Common.{◌≡◌, ℕ, zero, suc, ◌+◌, ◌-◌, ◌*◌, ◌^◌, ◌%◌, ◌<◌, ◌≤◌, ◌⊎◌, inl, inr, Bool, true, false, not, List, [], length, get_or, sym, refl, subst, ap, ◌∙◌, arith}
+use Rattle.std.proofs.Common.{◌≡◌, ℕ, zero, suc, ◌+◌, ◌-◌, ◌*◌, ◌^◌, ◌%◌, ◌<◌, ◌≤◌, ◌⊎◌, inl, inr, Bool, true, false, not, List}
+use Rattle.std.proofs.Common.{[], length, get_or, sym, refl, subst, ap, ◌∙◌, arith}
 use Rattle.std.specs.Prelude.{◌==◌, Some, None}
 use Rattle.std.specs.List.Sorted.{IsStrictlyIncreasing}
 use mathlib.Core.Bool.{beq}
@@ -83,7 +84,8 @@ module _ (ms : List ℕ) (rise : IsStrictlyIncreasing ms) (wanted : Bool) (from 
   turns n = state_between false ms (suc count) (get_or ms count 0) (omega arith)
       (λ j k. below_rises ms rise j count (omega arith) n)
       (λ k. let a : get_or ms count 0 < get_or ms (count + 1) 0 = rise count (omega arith) in
-      let e : get_or ms (count + 1) 0 ≡ get_or ms (suc count) 0 = ap (λ z. get_or ms z 0) (let f : count + 1 ≡ suc count = omega arith in f) in
+      let e : get_or ms (count + 1) 0 ≡ get_or ms (suc count) 0 = ap (λ z. get_or ms z 0) (let f : count + 1 ≡ suc count =
+      omega arith in f) in
       omega arith)
       ∙ turned_not count false
 
@@ -106,7 +108,8 @@ module _ (ms : List ℕ) (rise : IsStrictlyIncreasing ms) (wanted : Bool) (from 
 pub absent_always : (ms : List ℕ) → ms ≡ [] → (from to : ℕ) → IsFirst (λ m. state_at false ms m ≡ true) from to None
 absent_always ms e from to = λ m a b i. absurd (let f : state_at false ms m ≡ false = ap (λ z. state_at false z m) e in cc)
 
-pub absent_at_once : (ms : List ℕ) → ms ≡ [] → (from to : ℕ) → from ≤ to → IsFirst (λ m. state_at false ms m ≡ false) from to (Some from)
+pub absent_at_once : (ms : List ℕ) → ms ≡ [] → (from to : ℕ) → from ≤ to →
+    IsFirst (λ m. state_at false ms m ≡ false) from to (Some from)
 absent_at_once ms e from to order = (omega arith, order, ap (λ z. state_at false z from) e, λ m a b i. absurd (omega arith))
 
 -- the numbers of looks

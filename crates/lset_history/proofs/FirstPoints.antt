@@ -1,5 +1,6 @@
 -- Points of an order: the first points are in the bars where no place is too early, and no points are earlier.
-use Rattle.std.proofs.Common.{◌≡◌, ℕ, zero, suc, ◌<◌, ◌≤◌, max, List, [], ◌∷◌, length, get_or, Option, Some, None, refl, ap, subst, ⊎_elim, arith}
+use Rattle.std.proofs.Common.{◌≡◌, ℕ, zero, suc, ◌<◌, ◌≤◌, max, List, [], ◌∷◌, length, get_or, Option, Some, None, refl, ap}
+use Rattle.std.proofs.Common.{subst, ⊎_elim, arith}
 use Rattle.std.specs.Option.{IfSome, IsSomeAnd}
 use Rattle.std.proofs.lemmas.Bool.{cases_lt}
 use Rattle.std.proofs.lemmas.List.{get_or_default}
@@ -19,7 +20,8 @@ IsUpTo x moment = IfSome x.ended (λ (end : ℕ × Reply). moment ≤ end.0)
 abbrev pub BeginsInBar : CallRecord → Type 0
 BeginsInBar x = IsUpTo x x.begun
 
-upto_max : (o : Option (ℕ × Reply)) (a b : ℕ) → IfSome o (λ (end : ℕ × Reply). a ≤ end.0) → IfSome o (λ (end : ℕ × Reply). b ≤ end.0)
+upto_max : (o : Option (ℕ × Reply)) (a b : ℕ) → IfSome o (λ (end : ℕ × Reply). a ≤ end.0) →
+    IfSome o (λ (end : ℕ × Reply). b ≤ end.0)
     → IfSome o (λ (end : ℕ × Reply). max a b ≤ end.0)
 upto_max None a b h k = tt
 upto_max (Some end) a b h k = omega arith
@@ -43,13 +45,15 @@ never_before None begun moment low h p = p
 never_before (Some end) begun moment low h p = omega arith
 
 -- the calls of a history have begun by their Ends, and so has the call that no number has
-begins_in_bar : (threads : ℕ) (calls : List CallRecord) → IsHistory threads calls → (number : ℕ) → BeginsInBar (call_numbered calls number)
+begins_in_bar : (threads : ℕ) (calls : List CallRecord) → IsHistory threads calls → (number : ℕ) →
+    BeginsInBar (call_numbered calls number)
 begins_in_bar threads calls history number = ⊎_elim
     (λ (low : number < length calls). inside low)
     (λ (past : length calls ≤ number). outside calls number past)
     (cases_lt number (length calls))
   where
-    later : (o : Option (ℕ × Reply)) (begun : ℕ) → IfSome o (λ (end : ℕ × Reply). begun < end.0) → IfSome o (λ (end : ℕ × Reply). begun ≤ end.0)
+    later : (o : Option (ℕ × Reply)) (begun : ℕ) → IfSome o (λ (end : ℕ × Reply). begun < end.0) →
+        IfSome o (λ (end : ℕ × Reply). begun ≤ end.0)
     later None begun h = tt
     later (Some end) begun h = omega arith
 
@@ -81,7 +85,8 @@ module _ (calls : List CallRecord) where
   never_fall last [] i j low inside = absurd (omega arith)
   never_fall last (p ∷ ps) i zero low inside = absurd (omega arith)
   never_fall last (p ∷ ps) zero (suc j) low inside = from_last (max (call_numbered calls p.call).begun last) ps j (omega arith)
-  never_fall last (p ∷ ps) (suc i) (suc j) low inside = never_fall (max (call_numbered calls p.call).begun last) ps i j (omega arith) (omega arith)
+  never_fall last (p ∷ ps) (suc i) (suc j) low inside = never_fall (max (call_numbered calls p.call).begun last) ps i j
+      (omega arith) (omega arith)
 
   from_begin : (last : ℕ) (order : List Placed) (i : ℕ) → i < length order
       → (placed_call calls order i).begun ≤ get_or (points_after last calls order) i 0
@@ -137,7 +142,8 @@ module _ (calls : List CallRecord) where
       let turn : get_or points i 0 ≤ get_or points j 0 = h.in_turn i j low inside in
       never_before _ _ (get_or points j 0) (omega arith) (h.in_bars j inside).upto here
 
-pub has_first_points : (threads : ℕ) (calls : List CallRecord) (order : List Placed) → IsHistory threads calls → IsInTime calls order
+pub has_first_points : (threads : ℕ) (calls : List CallRecord) (order : List Placed) → IsHistory threads calls →
+    IsInTime calls order
     → HasPoints calls order (first_points calls order)
 has_first_points threads calls order history time = record {
   one_each = as_many calls 0 order;
@@ -153,6 +159,7 @@ points_exist threads calls order history = record {
   exactly = (in_time_from calls order (first_points calls order), has_first_points threads calls order history);
   first = λ points h. (
     has_first_points threads calls order history (in_time_from calls order points h),
-    none_earlier calls 0 order (λ i. get_or points i 0) (λ i inside. (h.in_bars i inside).from) h.in_turn (λ i inside. omega arith),
+    none_earlier calls 0 order (λ i. get_or points i 0) (λ i inside. (h.in_bars i inside).from) h.in_turn
+        (λ i inside. omega arith),
   );
 }

@@ -38,7 +38,8 @@ same_or_not true false = inr (refl, λ e. cc)
 same_or_not false true = inr (refl, λ e. cc)
 same_or_not false false = inl (refl, refl)
 
-later_first : (P : ℕ → Type 0) (first last : ℕ) (o : Option ℕ) → (P first → ⊥) → IsFirst P (suc first) last o → IsFirst P first last o
+later_first : (P : ℕ → Type 0) (first last : ℕ) (o : Option ℕ) → (P first → ⊥) → IsFirst P (suc first) last o →
+    IsFirst P first last o
 later_first P first last None n h = λ m a b i. elim (first_or_after first m a) [ inl e ↦ n (subst P e i) | inr l ↦ h m l b i ]
   where
     first_or_after : (first m : ℕ) → first ≤ m → (m ≡ first) ⊎ (suc first ≤ m)

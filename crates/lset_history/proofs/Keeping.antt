@@ -1,5 +1,7 @@
 -- What a history keeps of itself through a beginning and an end.
-use Rattle.std.proofs.Common.{◌≡◌, ℕ, suc, zero, ◌<◌, ◌≤◌, ◌^◌, ◌≢◌, ◌==◌, ◌&&◌, ◌||◌, Bool, true, false, List, [], ◌∷◌, ◌++◌, length, take, get_or, ◌+◌, max, add-one, Option, Some, None, is_none, is_some, refl, sym, ap, ◌∙◌, subst, arith, ⊎_elim, inl, inr, ◌⊎◌, replicate, length-append}
+use Rattle.std.proofs.Common.{◌≡◌, ℕ, suc, zero, ◌<◌, ◌≤◌, ◌^◌, ◌≢◌, ◌==◌, ◌&&◌, ◌||◌, Bool, true, false, List, [], ◌∷◌, ◌++◌}
+use Rattle.std.proofs.Common.{length, take, get_or, ◌+◌, max, add-one, Option, Some, None, is_none, is_some, refl, sym, ap, ◌∙◌}
+use Rattle.std.proofs.Common.{subst, arith, ⊎_elim, inl, inr, ◌⊎◌, replicate, length-append}
 use Rattle.std.proofs.Math.Bool.{or-false}
 use Rattle.lset_words.specs.declared.TheConstants.{MOST_THREADS}
 use Rattle.lset_words.specs.Words.{Opening, Opens}
@@ -9,11 +11,13 @@ use Rattle.std.proofs.Math.ListN.{set}
 use Rattle.std.proofs.lemmas.List.{take_all, get_or-set_other, get_or-replicate, get_or_default, length-set}
 use Rattle.std.proofs.lemmas.List.Folds.{list_any_more, list_any-append, list_any_none}
 use Rattle.std.proofs.lemmas.List.Elements.{All-tail}
-use Rattle.std.proofs.lemmas.Bool.{cases_eq, cases_order, ne_eqb, eq-eqb, true≢false, and_left, and_right, and_from, or_parts, or_left, or_right}
+use Rattle.std.proofs.lemmas.Bool.{cases_eq, cases_order, ne_eqb, eq-eqb, true≢false, and_left, and_right, and_from, or_parts}
+use Rattle.std.proofs.lemmas.Bool.{or_left, or_right}
 use Rattle.lset_words.specs.declared.Reply.{Reply}
 use Rattle.lset_words.specs.declared.history.CallRecord.{CallRecord}
 use Rattle.lset_words.specs.History.{IsHistory, call_numbered, no_call}
-use Rattle.lset_history.specs.History.{HistoryValue, IsLater, IsOpen, ended_with, has_open, latest_moment, last_moment, moment_of, MayBegin, MayEnd, IsKept, with_begun, with_ended}
+use Rattle.lset_history.specs.History.{HistoryValue, IsLater, IsOpen, ended_with, has_open, latest_moment, last_moment, moment_of}
+use Rattle.lset_history.specs.History.{MayBegin, MayEnd, IsKept, with_begun, with_ended}
 use Rattle.lset_history.proofs.Histories.{IsCall, Follows, history_begun, history_ended, calls_of, pairs_of, never_ended}
 use Rattle.lset_history.proofs.Pairs.{read_written, read_other}
 
@@ -98,7 +102,8 @@ none_is : (o : Option (ℕ × Reply)) → o ≡ None → is_none o ≡ true
 none_is o e = rw e refl
 
 -- A CALL BEGINS
-call_begins : (h : HistoryValue) (x : CallRecord) → IsHistory h.opening.threads h.calls → MayBegin h x.thread x.begun → x.ended ≡ None
+call_begins : (h : HistoryValue) (x : CallRecord) → IsHistory h.opening.threads h.calls → MayBegin h x.thread x.begun →
+    x.ended ≡ None
     → IsHistory h.opening.threads (h.calls ++ x ∷ [])
 call_begins h x history may e =
     history_begun h.opening.threads h.calls x history
@@ -244,7 +249,8 @@ kept_ended h busy latest n at reply kept still above fits = record {
 thread_of_call : (h : HistoryValue) (busy : List Bool) (latest n : ℕ) → IsKept h busy latest → n < length h.calls
     → (call_numbered h.calls n).thread < MOST_THREADS
 thread_of_call h busy latest n kept inside =
-    let c : IsCall h.opening.threads (call_numbered h.calls n) = calls_of h.opening.threads h.calls kept.history n no_call inside in
+    let c : IsCall h.opening.threads (call_numbered h.calls n) = calls_of h.opening.threads h.calls kept.history n no_call inside
+    in
     let few = kept.opens.within.few in
     let low = c.of_a_thread in
     omega arith
@@ -376,7 +382,8 @@ kept_of op calls busy latest n o h long all e tells fits =
       fits = fits;
     }
 
-pub thread_within : (threads : ℕ) (calls given : List CallRecord) (i : ℕ) (d : CallRecord) → given ≡ calls → IsHistory threads calls
+pub thread_within : (threads : ℕ) (calls given : List CallRecord) (i : ℕ) (d : CallRecord) → given ≡ calls →
+    IsHistory threads calls
     → threads ≤ MOST_THREADS → i < length given → (get_or given i d).thread < MOST_THREADS
 thread_within threads calls given i d e h few inside =
     let P : List CallRecord → Type 0 = λ xs. All (IsCall threads) xs in

@@ -13,13 +13,16 @@ use Rattle.lset_words.specs.History.{call_numbered, Precedes, answered, Lineariz
 use Rattle.lset_words.specs.Log.{Log, Change, TracedCall, calls_at, history_at, record_of}
 use Rattle.lset_words.specs.Log.Entry.{stepped}
 use Rattle.lset_words.specs.Account.{Contents, Counts, Account}
-use Rattle.lset_words.specs.Placement.{IsPlacement, StandsBy, StandsAt, Standing, standing, makes_change, placed_of, reply_by, at_moment, by_moments, no_traced, traced_at, place_at}
-use Rattle.lset_history.proofs.Lists.{Pairs, SomeOf, all_imply, all_at, all_map, some_at, some_map, some_imply, some_contains, pairs_map, pairs_std, pairs_imply, map_twice, get_or_mapped}
+use Rattle.lset_words.specs.Placement.{IsPlacement, StandsBy, StandsAt, Standing, standing, makes_change, placed_of, reply_by}
+use Rattle.lset_words.specs.Placement.{at_moment, by_moments, no_traced, traced_at, place_at}
+use Rattle.lset_history.proofs.Lists.{Pairs, SomeOf, all_imply, all_at, all_map, some_at, some_map, some_imply, some_contains}
+use Rattle.lset_history.proofs.Lists.{pairs_map, pairs_std, pairs_imply, map_twice, get_or_mapped}
 use Rattle.lset_words.proofs.RisingLists.{same_rising, rises_from_increasing}
 use Rattle.lset_history.proofs.Calls.{Run, Traced, ChangesAt, Calls}
 use Rattle.lset_history.proofs.CallSteps.{run_of, calls_of}
 use Rattle.lset_history.proofs.States.{Shows, set_at, shows_at}
-use Rattle.lset_history.proofs.Standings.{Stood, Follows, IsStanding, During, during, ended_place, EndedPlace, reading, stood, follow, has_place}
+use Rattle.lset_history.proofs.Standings.{Stood, Follows, IsStanding, During, during, ended_place, EndedPlace, reading, stood}
+use Rattle.lset_history.proofs.Standings.{follow, has_place}
 use Rattle.lset_history.proofs.Order.{Ahead, ahead, all_by_moments, some_by_moments, Leads, Stays, order_leads}
 use Rattle.lset_history.proofs.AtOneMoment.{answered_of, reading_stays, none_changes, turns}
 use Rattle.lset_words.specs.Words.{Opening}

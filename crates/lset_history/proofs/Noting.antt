@@ -1,5 +1,6 @@
 -- What the map of changes holds after one more change.
-use Rattle.std.proofs.Common.{◌≡◌, ◌≢◌, ℕ, ◌+◌, ◌<◌, ◌^◌, ◌⊎◌, inl, inr, Bool, true, false, List, [], ◌∷◌, ◌++◌, length, get_or, map, sym, refl, subst, ap, ◌∙◌, arith}
+use Rattle.std.proofs.Common.{◌≡◌, ◌≢◌, ℕ, ◌+◌, ◌<◌, ◌^◌, ◌⊎◌, inl, inr, Bool, true, false, List, [], ◌∷◌, ◌++◌, length, get_or}
+use Rattle.std.proofs.Common.{map, sym, refl, subst, ap, ◌∙◌, arith}
 use Rattle.std.specs.Prelude.{All, IsTrue, not, ◌==◌, Option, Some, None, Vec, if◌then◌else◌}
 use Rattle.std.specs.declared.alloc.Global.{Global}
 use Rattle.std.specs.Ordering.{nat_cmp, is_eq}
@@ -14,7 +15,8 @@ use Rattle.std.proofs.lemmas.List.{get_or_push, get_or_append_left, length_push}
 use Rattle.std.proofs.lemmas.List.Elements.{All-get_or, All-from_get_or, All-push}
 use mathlib.Core.Bool.{cond}
 use Rattle.lset_words.proofs.Numbers.{same_number, same_or_not, unequal_test, if_other}
-use Rattle.lset_history.specs.Changes.{ChangesValue, changes_in, moments_in, moments_of, state_after, is_present_now, with_change, IsLaterThanAll, Rise, IsBounded, IsListed, AreKept}
+use Rattle.lset_history.specs.Changes.{ChangesValue, changes_in, moments_in, moments_of, state_after, is_present_now, with_change}
+use Rattle.lset_history.specs.Changes.{IsLaterThanAll, Rise, IsBounded, IsListed, AreKept}
 use Rattle.lset_history.proofs.KeySets.{same_test}
 use Rattle.lset_history.proofs.ChangeLaws.{noted_now}
 
@@ -89,7 +91,8 @@ module _ (c d : ChangesValue) (key at : ℕ) (noted : (k : ℕ) → moments_of d
   listed_noted keys_at is listed k = subst (λ ms. All (IsListed keys_at k) ms) (sym (noted k)) (by_test (k == key) refl)
     where
       by_test : (b : Bool) → (k == key) ≡ b → All (IsListed keys_at k) (if b then moments_of c k ++ at ∷ [] else moments_of c k)
-      by_test true e = All-push (IsListed keys_at k) (moments_of c k) at (listed k) (λ some. is some ∙ ap Some (sym (same_number k key e)))
+      by_test true e = All-push (IsListed keys_at k) (moments_of c k) at (listed k) (λ some. is some
+          ∙ ap Some (sym (same_number k key e)))
       by_test false e = listed k
 
   present_noted : (present : Bool) (old new : BTreeSet ℕ) → present ≡ not (is_present_now (moments_of c) key)
@@ -109,7 +112,8 @@ module _ (c : ChangesValue) (key at : ℕ) (later : IsLaterThanAll (moments_of c
   listed_beside : (old new : BTreeMap ℕ ℕ) → UpdatesBy nat_cmp (nat_cmp at) old new (Some key)
       → ((k : ℕ) → All (IsListed old k) (moments_of c k)) → (k : ℕ) → All (IsListed new k) (moments_of c k)
   listed_beside old new up listed k = all_both (λ m. m < at) (IsListed old k) (IsListed new k)
-      (λ m l e some. up.2 m (sym (same_test at m) ∙ unequal_test m at (λ s. omega arith)) ∙ e some) (moments_of c k) (later.1 k) (listed k)
+      (λ m l e some. up.2 m (sym (same_test at m) ∙ unequal_test m at (λ s. omega arith)) ∙ e some) (moments_of c k) (later.1 k)
+      (listed k)
 
   pub kept_beside : (old new : BTreeMap ℕ ℕ) (now : BTreeSet ℕ) → UpdatesBy nat_cmp (nat_cmp at) old new (Some key)
       → AreKept c old now → AreKept c new now
@@ -133,7 +137,8 @@ module _ (c : ChangesValue) (key at : ℕ) (later : IsLaterThanAll (moments_of c
   }
 
 -- the same of lists that have as much
-pub kept_listed : (c : ChangesValue) (old new : BTreeMap ℕ ℕ) (now : BTreeSet ℕ) → new.entries ≡ old.entries → AreKept c old now → AreKept c new now
+pub kept_listed : (c : ChangesValue) (old new : BTreeMap ℕ ℕ) (now : BTreeSet ℕ) → new.entries ≡ old.entries → AreKept c old now →
+    AreKept c new now
 kept_listed c old new now e kept = record {
   rise = kept.rise;
   bounded = kept.bounded;
@@ -142,7 +147,8 @@ kept_listed c old new now e kept = record {
 }
 
 pub kept_present : (c : ChangesValue) (keys_at : BTreeMap ℕ ℕ) (old new : BTreeSet ℕ)
-    → ((k : ℕ) → IsTrue (contains nat_cmp old k) → IsTrue (contains nat_cmp new k)) → AreKept c keys_at old → AreKept c keys_at new
+    → ((k : ℕ) → IsTrue (contains nat_cmp old k) → IsTrue (contains nat_cmp new k)) → AreKept c keys_at old →
+    AreKept c keys_at new
 kept_present c keys_at old new more kept = record {
   rise = kept.rise;
   bounded = kept.bounded;
@@ -163,8 +169,10 @@ pub others_after : (key : ℕ) (old new : BTreeSet ℕ) → set.UpdatesBy nat_cm
 others_after key old new up k n has = up.2 k (sym (same_test key k) ∙ unequal_test k key n) ∙ has
 
 -- a key without changes is there from the beginning
-pub kept_opened : (c d : ChangesValue) (key : ℕ) (keys_at : BTreeMap ℕ ℕ) (before now : BTreeSet ℕ) → key < 2 ^ 32 → moments_of c key ≡ []
-    → ((k : ℕ) → moments_of d k ≡ with_change (moments_of c) key 0 k) → Updates nat_cmp before now key true → AreKept c keys_at before
+pub kept_opened : (c d : ChangesValue) (key : ℕ) (keys_at : BTreeMap ℕ ℕ) (before now : BTreeSet ℕ) → key < 2 ^ 32 →
+    moments_of c key ≡ []
+    → ((k : ℕ) → moments_of d k ≡ with_change (moments_of c) key 0 k) → Updates nat_cmp before now key true →
+    AreKept c keys_at before
     → AreKept d keys_at now
 kept_opened c d key keys_at before now low none noted up kept = record {
   rise = λ k. subst (λ ms. IsStrictlyIncreasing ms) (sym (noted k)) (rises k (k == key) refl);
@@ -193,7 +201,8 @@ same_by true x es rest v w o e f g =
     ap (λ z. (x.0, z) ∷ shown es) (f ∙ ap (λ (z : Vec ℕ Global). z.items) (sym (some_same x.1 v e)))
 same_by false x es rest v w o e f g = ap (λ z. (x.0, x.1.items) ∷ z) (g e)
 
-pub same_items : (test : ℕ → Bool) (es : List (ℕ × Vec ℕ Global)) (v w : Vec ℕ Global) → lookup test es ≡ Some v → w.items ≡ v.items
+pub same_items : (test : ℕ → Bool) (es : List (ℕ × Vec ℕ Global)) (v w : Vec ℕ Global) → lookup test es ≡ Some v →
+    w.items ≡ v.items
     → shown (set_value test es w) ≡ shown es
 same_items test [] v w e f = refl
 same_items test (x ∷ es) v w e f =

@@ -1,12 +1,14 @@
 -- The order by moments: it holds what stands, once each, its moments rise, and it leads the sequential set on.
-use Rattle.std.proofs.Common.{◌≡◌, ◌≢◌, ℕ, zero, suc, ◌<◌, ◌≤◌, ◌⊎◌, Bool, true, false, not, inl, inr, List, [], ◌∷◌, ◌++◌, map, sym, refl, subst, ◌∙◌, arith}
+use Rattle.std.proofs.Common.{◌≡◌, ◌≢◌, ℕ, zero, suc, ◌<◌, ◌≤◌, ◌⊎◌, Bool, true, false, not, inl, inr, List, [], ◌∷◌, ◌++◌, map}
+use Rattle.std.proofs.Common.{sym, refl, subst, ◌∙◌, arith}
 use Rattle.std.specs.Prelude.{◌==◌, filter}
 use Rattle.std.specs.List.{AllByRecursion}
 use Rattle.lset_words.specs.SequentialSet.{SetState, Answered, reply_to, after_call, IsLegal, set_left}
 use Rattle.lset_words.specs.Placement.{Standing, makes_change, at_moment, block, by_moments}
 use Rattle.lset_words.proofs.Numbers.{equal_test, same_number}
 use Rattle.std.proofs.lemmas.Bool.{cases_Bool}
-use Rattle.lset_history.proofs.Lists.{Pairs, SomeOf, all_imply, all_both, all_filter, all-append, all_left, all_across, pairs_filter, pairs-append, pairs_imply, some_imply, some_first, some_second, some_filter}
+use Rattle.lset_history.proofs.Lists.{Pairs, SomeOf, all_imply, all_both, all_filter, all-append, all_left, all_across}
+use Rattle.lset_history.proofs.Lists.{pairs_filter, pairs-append, pairs_imply, some_imply, some_first, some_second, some_filter}
 
 -- WHAT HOLDS OF EACH
 module _ (P : Standing → Type 0) (ss : List Standing) (h : AllByRecursion P ss) where

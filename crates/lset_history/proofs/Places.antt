@@ -1,5 +1,6 @@
 -- Places of an order: which calls stand at the earlier ones, and what their replies come to.
-use Rattle.std.proofs.Common.{◌⊎◌, ◌≡◌, ◌≢◌, ℕ, zero, suc, ◌<◌, ◌≤◌, ◌+◌, ◌==◌, ◌||◌, Bool, true, false, List, [], ◌∷◌, length, get_or, take, map, Option, Some, None, refl, sym, ap, ◌∙◌, subst, ⊎_elim, inl, inr, arith, add-one}
+use Rattle.std.proofs.Common.{◌⊎◌, ◌≡◌, ◌≢◌, ℕ, zero, suc, ◌<◌, ◌≤◌, ◌+◌, ◌==◌, ◌||◌, Bool, true, false, List, [], ◌∷◌, length}
+use Rattle.std.proofs.Common.{get_or, take, map, Option, Some, None, refl, sym, ap, ◌∙◌, subst, ⊎_elim, inl, inr, arith, add-one}
 use Rattle.std.specs.List.{All}
 use Rattle.std.specs.Prelude.{set}
 use Rattle.std.proofs.lemmas.List.{take-take, get_or-take, length-take, get_or_past, get_or-set_same, get_or-set_other}
@@ -56,7 +57,8 @@ marks_more marks order i inside low holds q =
     let more = list_any_more (λ (p : Placed). p.call == q) order i (place_at [] 0) inside in
     ⊎_elim
     (λ (e : call ≡ q).
-    subst (λ n. get_or (set marks call true) n false ≡ true) e (get_or-set_same marks call true false low) ∙ sym (more ∙ or_right _ _ (eq-eqb call q e)))
+    subst (λ n. get_or (set marks call true) n false ≡ true) e (get_or-set_same marks call true false low)
+    ∙ sym (more ∙ or_right _ _ (eq-eqb call q e)))
     (λ (ne : call ≢ q).
     get_or-set_other marks call q true false (λ e. ne (sym e))
     ∙ holds q ∙ sym (more ∙ ap (λ b. stands (take i order) q || b) (ne_eqb call q ne) ∙ or-false _))

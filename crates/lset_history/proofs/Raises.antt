@@ -1,5 +1,6 @@
 -- A search for the first moment at which a key, or none, is the least one at or above another: from note to note, and at the end.
-use Rattle.std.proofs.Common.{◌≡◌, ◌≢◌, ℕ, ◌+◌, ◌<◌, ◌≤◌, inl, inr, Bool, true, false, not, List, [], ◌∷◌, sym, refl, subst, ap, ◌∙◌, arith}
+use Rattle.std.proofs.Common.{◌≡◌, ◌≢◌, ℕ, ◌+◌, ◌<◌, ◌≤◌, inl, inr, Bool, true, false, not, List, [], ◌∷◌, sym, refl, subst, ap}
+use Rattle.std.proofs.Common.{◌∙◌, arith}
 use Rattle.std.specs.Prelude.{Option, Some, None, All, IsTrue, IsSome, ◌==◌, nat_lt, if◌then◌else◌}
 use Rattle.std.specs.declared.cmp.Ordering.TheVariants.{Less, Equal, Greater}
 use Rattle.std.specs.declared.ops.Bound.TheVariants.{Excluded, Unbounded}
@@ -12,7 +13,8 @@ use Rattle.std.proofs.lemmas.List.Elements.{All-head, All-tail, All-nil, All-con
 use Rattle.lset_words.proofs.Numbers.{below_or_not, same_or_not, equal_test, unequal_test, if_below, if_not_below}
 use Rattle.lset_words.specs.Account.{IsCeiling}
 use Rattle.lset_history.specs.Changes.{IsFirst, is_present, is_present_now, state_at, IsListed}
-use Rattle.lset_history.specs.Raising.{IsNextNote, is_against, IsCandidateUpTo, IsCandidate, IsBelow, IsSomeThere, CameAfter, IsNextPresent}
+use Rattle.lset_history.specs.Raising.{IsNextNote, is_against, IsCandidateUpTo, IsCandidate, IsBelow, IsSomeThere, CameAfter}
+use Rattle.lset_history.specs.Raising.{IsNextPresent}
 use Rattle.lset_history.proofs.ChangeLaws.{present_past}
 
 abbrev pub CeilingAt : (ℕ → List ℕ) → ℕ → Option ℕ → ℕ → Type 0
@@ -31,7 +33,8 @@ quiet_upto x ms a b u q = elim (below_or_not a x) [
 quiet_state : (present : Bool) (ms : List ℕ) (a b : ℕ) → a ≤ b → IsQuiet ms a b → state_at present ms b ≡ state_at present ms a
 quiet_state present [] a b l q = refl
 quiet_state present (x ∷ ms) a b l q = elim (below_or_not b x) [
-  | inl u ↦ if_below b x u present (state_at (not present) ms b) ∙ sym (if_below a x (omega arith) present (state_at (not present) ms a))
+  | inl u ↦ if_below b x u present (state_at (not present) ms b)
+      ∙ sym (if_below a x (omega arith) present (state_at (not present) ms a))
   | inr u ↦ if_not_below b x u present (state_at (not present) ms b)
       ∙ quiet_state (not present) ms a b l (All-tail (λ m. a < m → m ≤ b → ⊥) x ms q)
       ∙ sym (if_not_below a x (quiet_upto x ms a b u q) present (state_at (not present) ms a))
@@ -46,12 +49,14 @@ is_absent true n = absurd (n refl)
 is_absent false n = refl
 
 module _ (changes : ℕ → List ℕ) (key : ℕ) (found : Option ℕ) where
-  against_same : (o : Option ℕ) (j m n : ℕ) → is_present changes j n ≡ is_present changes j m → is_against changes key o j n ≡ is_against changes key o j m
+  against_same : (o : Option ℕ) (j m n : ℕ) → is_present changes j n ≡ is_present changes j m →
+      is_against changes key o j n ≡ is_against changes key o j m
   against_same None j m n e = ap (λ b. if nat_lt j key then false else b) e
   against_same (Some x) j m n e =
       ap (λ b. if nat_lt j key then false else if nat_lt x j then false else if x == j then not b else b) e
 
-  quiet_against : (j a b : ℕ) → a ≤ b → IsQuiet (changes j) a b → is_against changes key found j b ≡ is_against changes key found j a
+  quiet_against : (j a b : ℕ) → a ≤ b → IsQuiet (changes j) a b → is_against changes key found j b ≡ is_against changes key found
+      j a
   quiet_against j a b l q = against_same found j a b (quiet_state false (changes j) a b l q)
 
   -- ---- from note to note
@@ -70,23 +75,33 @@ module _ (changes : ℕ → List ℕ) (key : ℕ) (found : Option ℕ) where
       stays_at_last : (j : ℕ) → is_against changes key found j moment ≡ true → is_against changes key found j last ≡ true
       stays_at_last j h = s.stays j last h up (omega arith)
 
-      stays_before : (j m : ℕ) → is_against changes key found j moment ≡ true → moment ≤ m → m < note.0 → is_against changes key found j m ≡ true
+      stays_before : (j m : ℕ) → is_against changes key found j moment ≡ true → moment ≤ m → m < note.0 →
+          is_against changes key found j m ≡ true
       stays_before j m h l u = elim (below_or_not last m) [
         | inl a ↦ before_note j m (omega arith) u ∙ stays_at_last j h
         | inr b ↦ s.stays j m h l b
       ]
 
-      pub candidate_raised : is_against changes key found note.1 moment ≡ true → IsCandidateUpTo changes key found from note.0 note.0
+      pub candidate_raised : is_against changes key found note.1 moment ≡ true →
+          IsCandidateUpTo changes key found from note.0 note.0
       candidate_raised h =
           let low : from ≤ moment = s.low in
           let later : last < note.0 = next.0 in
           record {
             low = omega arith;
-            before = λ m a b. elim (below_or_not m moment) [ inl l ↦ s.before m a l | inr g ↦ (note.1, stays_before note.1 m h g b) ];
-            stays = λ j m against l u. subst (λ z. is_against changes key found j z ≡ true) (let e : note.0 ≡ m = omega arith in e) against;
+            before = λ m a b. elim (below_or_not m moment) [
+              | inl l ↦ s.before m a l
+              | inr g ↦ (
+                note.1,
+                stays_before note.1 m h g b,
+              )
+            ];
+            stays = λ j m against l u. subst (λ z. is_against changes key found j z ≡ true) (let e : note.0 ≡ m = omega arith in
+                e) against;
           }
 
-      pub candidate_kept : is_against changes key found note.1 moment ≡ false → IsCandidateUpTo changes key found from moment note.0
+      pub candidate_kept : is_against changes key found note.1 moment ≡ false →
+          IsCandidateUpTo changes key found from moment note.0
       candidate_kept n = record {
         low = s.low;
         before = s.before;
@@ -111,7 +126,8 @@ module _ (changes : ℕ → List ℕ) (key : ℕ) (found : Option ℕ) where
     low = s.low;
     before = s.before;
     stays = λ j m h a b. elim (below_or_not last m) [
-      | inl u ↦ quiet_against j last m (omega arith) (All-weaker (λ c. c ≤ last) (λ c. last < c → c ≤ m → ⊥) (λ c x y z. omega arith)
+      | inl u ↦ quiet_against j last m (omega arith)
+          (All-weaker (λ c. c ≤ last) (λ c. last < c → c ≤ m → ⊥) (λ c x y z. omega arith)
           (changes j) (none j)) ∙ s.stays j last h up (omega arith)
       | inr u ↦ s.stays j m h a u
     ];
@@ -123,16 +139,22 @@ module _ (changes : ℕ → List ℕ) (key : ℕ) (found : Option ℕ) where
 against_below : (changes : ℕ → List ℕ) (key : ℕ) (o : Option ℕ) (j m : ℕ) → key ≤ j → IsBelow j o
     → is_against changes key o j m ≡ is_present changes j m
 against_below changes key None j m l u = if_not_below j key l false (is_present changes j m)
-against_below changes key (Some x) j m l u = rw (if_not_below j key l, if_not_below x j (omega arith), unequal_test x j (λ e. omega arith)) refl
+against_below changes key (Some x) j m l u = rw (
+  if_not_below j key l,
+  if_not_below x j (omega arith),
+  unequal_test x j (λ e. omega arith),
+) refl
 
-against_itself : (changes : ℕ → List ℕ) (key x m : ℕ) → key ≤ x → is_against changes key (Some x) x m ≡ not (is_present changes x m)
+against_itself : (changes : ℕ → List ℕ) (key x m : ℕ) → key ≤ x →
+    is_against changes key (Some x) x m ≡ not (is_present changes x m)
 against_itself changes key x m l = rw (if_not_below x key l, if_not_below x x (omega arith), equal_test x x refl) refl
 
 not_true : (b : Bool) → not b ≡ true → b ≡ true → ⊥
 not_true true e f = cc
 not_true false e f = cc
 
-against_is_not : (changes : ℕ → List ℕ) (key : ℕ) (o : Option ℕ) (j m : ℕ) → is_against changes key o j m ≡ true → CeilingAt changes key o m → ⊥
+against_is_not : (changes : ℕ → List ℕ) (key : ℕ) (o : Option ℕ) (j m : ℕ) → is_against changes key o j m ≡ true →
+    CeilingAt changes key o m → ⊥
 against_is_not changes key None j m e h = elim (below_or_not j key) [
   | inl l ↦ not_both (is_against changes key None j m) e (if_below j key l false (is_present changes j m))
   | inr g ↦ h j g (sym (against_below changes key None j m g tt) ∙ e)
@@ -169,10 +191,12 @@ module _ (changes : ℕ → List ℕ) (key : ℕ) (found : Option ℕ) (from mom
       ∙ sym (against_below changes key found j late l u)
       ∙ (s late (omega arith)).stays j late (against_below changes key found j moment l u ∙ e) (omega arith) (omega arith)
 
-  absent_at_candidate : CameAfter changes key found moment → (j : ℕ) → key ≤ j → IsBelow j found → is_present changes j moment ≡ true → ⊥
+  absent_at_candidate : CameAfter changes key found moment → (j : ℕ) → key ≤ j → IsBelow j found →
+      is_present changes j moment ≡ true → ⊥
   absent_at_candidate came j l u e = not_both (is_present changes j moment) e (came j l u (stays_now j l u e))
 
-  against_from_then : (to j : ℕ) → is_against changes key found j moment ≡ true → IsFirst (CeilingAt changes key found) from to None
+  against_from_then : (to j : ℕ) → is_against changes key found j moment ≡ true →
+      IsFirst (CeilingAt changes key found) from to None
   against_from_then to j e = λ m a b h. elim (below_or_not m moment) [
     | inl l ↦ (let k = (s moment (omega arith)).before m a l in against_is_not changes key found k.0 m k.1 h)
     | inr g ↦ against_is_not changes key found j m ((s m g).stays j m e g (omega arith)) h
@@ -180,12 +204,14 @@ module _ (changes : ℕ → List ℕ) (key : ℕ) (found : Option ℕ) (from mom
 
   -- the answers
   pub past_the_end : (to : ℕ) → to < moment → IsFirst (CeilingAt changes key found) from to None
-  past_the_end to l = λ m a b h. let k = (s moment (omega arith)).before m a (omega arith) in against_is_not changes key found k.0 m k.1 h
+  past_the_end to l = λ m a b h. let k = (s moment (omega arith)).before m a (omega arith) in
+      against_is_not changes key found k.0 m k.1 h
 
   pub some_there : (to : ℕ) → IsSomeThere changes key found moment → IsFirst (CeilingAt changes key found) from to None
   some_there to k = against_from_then to k.0 (against_below changes key found k.0 moment k.1 k.2 ∙ k.3)
 
-  candidate_is_first : (to : ℕ) → moment ≤ to → CeilingAt changes key found moment → IsFirst (CeilingAt changes key found) from to (Some moment)
+  candidate_is_first : (to : ℕ) → moment ≤ to → CeilingAt changes key found moment →
+      IsFirst (CeilingAt changes key found) from to (Some moment)
   candidate_is_first to l h = (
     (s moment (omega arith)).low,
     l,
@@ -198,20 +224,24 @@ module _ (changes : ℕ → List ℕ) (key : ℕ) (found : Option ℕ) (from mom
   none_is_least to e l came = candidate_is_first to l (subst (λ o. CeilingAt changes key o moment) (sym e)
       (λ j a p. absent_at_candidate came j a (subst (IsBelow j) (sym e) tt) p))
 
-  pub it_is_least : (to x : ℕ) → found ≡ Some x → key ≤ x → is_present changes x moment ≡ true → moment ≤ to → CameAfter changes key found moment
+  pub it_is_least : (to x : ℕ) → found ≡ Some x → key ≤ x → is_present changes x moment ≡ true → moment ≤ to →
+      CameAfter changes key found moment
       → IsFirst (CeilingAt changes key found) from to (Some moment)
   it_is_least to x e low there l came = candidate_is_first to l (subst (λ o. CeilingAt changes key o moment) (sym e)
       (low, there, λ j a b p. absent_at_candidate came j a (subst (IsBelow j) (sym e) b) p))
 
-  pub it_is_absent : (to x : ℕ) → found ≡ Some x → is_present changes x moment ≡ false → IsFirst (CeilingAt changes key found) from to None
+  pub it_is_absent : (to x : ℕ) → found ≡ Some x → is_present changes x moment ≡ false →
+      IsFirst (CeilingAt changes key found) from to None
   it_is_absent to x e absent = elim (below_or_not x key) [
-    | inl l ↦ subst (λ o. IsFirst (CeilingAt changes key o) from to None) (sym e) (λ m a b h. let g : key ≤ x = h.0 in omega arith)
+    | inl l ↦ subst (λ o. IsFirst (CeilingAt changes key o) from to None) (sym e) (λ m a b h. let g : key ≤ x = h.0 in
+        omega arith)
     | inr g ↦ against_from_then to x (subst (λ o. is_against changes key o x moment ≡ true) (sym e)
         (against_itself changes key x moment g ∙ ap not absent))
   ]
 
   pub it_is_too_low : (to x : ℕ) → found ≡ Some x → x < key → IsFirst (CeilingAt changes key found) from to None
-  it_is_too_low to x e l = subst (λ o. IsFirst (CeilingAt changes key o) from to None) (sym e) (λ m a b h. let g : key ≤ x = h.0 in omega arith)
+  it_is_too_low to x e l = subst (λ o. IsFirst (CeilingAt changes key o) from to None) (sym e) (λ m a b h. let g : key ≤ x = h.0
+      in omega arith)
 
 -- ---- the keys that are there now
 
@@ -231,7 +261,8 @@ pub after_is_from : (changes : ℕ → List ℕ) (key k : ℕ) (o : Option ℕ) 
 after_is_from changes key k None l a = tt
 after_is_from changes key k (Some n) l a = let b : k < n = a.0 in omega arith
 
-not_now_between : (changes : ℕ → List ℕ) (k j : ℕ) (o : Option ℕ) → IsNextPresent changes k o → k < j → IsBelow j o → is_present_now changes j ≡ false
+not_now_between : (changes : ℕ → List ℕ) (k j : ℕ) (o : Option ℕ) → IsNextPresent changes k o → k < j → IsBelow j o →
+    is_present_now changes j ≡ false
 not_now_between changes k j None a l u = a j l
 not_now_between changes k j (Some n) a l u = a.1 j l u
 
@@ -254,7 +285,8 @@ pub came_to_the_end : (changes : ℕ → List ℕ) (key k : ℕ) (end : Option �
     → CameUpTo changes key (Some k) end moment → CameAfter changes key end moment
 came_to_the_end changes key k end moment past came = λ j l e now. came j l (reaches j k end past e) e now
 
-pub all_came : (changes : ℕ → List ℕ) (key : ℕ) (end : Option ℕ) (moment : ℕ) → CameUpTo changes key None end moment → CameAfter changes key end moment
+pub all_came : (changes : ℕ → List ℕ) (key : ℕ) (end : Option ℕ) (moment : ℕ) → CameUpTo changes key None end moment →
+    CameAfter changes key end moment
 all_came changes key end moment came = λ j l e now. came j l tt e now
 
 pub below_unless : (k : ℕ) (end : Option ℕ) (b : Bool) → b ≡ false → ((IsBelow k end → ⊥) → IsTrue b) → IsBelow k end

@@ -63,21 +63,34 @@ module _ (quota : ℕ) (content : Content) (s : SetState) (same : SameKeys conte
   replies_from_fits t n (call.Add k) (reply.At x) rising e f = absurd f
   replies_from_fits t n (call.Add k) reply.Nothing rising e f = absurd f
   replies_from_fits t n (call.Remove k) True rising e f = absurd f
-  replies_from_fits t n (call.Remove k) False rising e f = let a : has_key k.0 s.keys ≡ false = no_member k.0 f in (rw a refl, refl)
+  replies_from_fits t n (call.Remove k) False rising e f =
+      let a : has_key k.0 s.keys ≡ false = no_member k.0 f in
+      (rw a refl, refl)
   replies_from_fits t n (call.Remove k) Full rising e f = absurd f
   replies_from_fits t n (call.Remove k) (reply.At x) rising e f = absurd f
   replies_from_fits t n (call.Remove k) reply.Nothing rising e f = absurd f
   replies_from_fits t n (call.Contains k) True rising e f = let a : has_key k.0 s.keys ≡ true = member k.0 f in (rw a refl, refl)
-  replies_from_fits t n (call.Contains k) False rising e f = let a : has_key k.0 s.keys ≡ false = no_member k.0 f in (rw a refl, refl)
+  replies_from_fits t n (call.Contains k) False rising e f =
+      let a : has_key k.0 s.keys ≡ false = no_member k.0 f in
+      (rw a refl, refl)
   replies_from_fits t n (call.Contains k) Full rising e f = absurd f
   replies_from_fits t n (call.Contains k) (reply.At x) rising e f = absurd f
   replies_from_fits t n (call.Contains k) reply.Nothing rising e f = absurd f
   replies_from_fits t n (call.Ceiling k) True rising e f = absurd f
   replies_from_fits t n (call.Ceiling k) False rising e f = absurd f
   replies_from_fits t n (call.Ceiling k) Full rising e f = absurd f
-  replies_from_fits t n (call.Ceiling k) (reply.At x) rising e f =
-      (ceiling_found k.0 0 x s.keys (rises_from_increasing s.keys rising) (f.0, (same x.0).0 f.1, λ j lo hi m. f.2 j lo hi ((same j).1 m)), refl)
-  replies_from_fits t n (call.Ceiling k) reply.Nothing rising e f = (ceiling_none k.0 s.keys (λ j lo m. f j lo ((same j).1 m)), refl)
+  replies_from_fits t n (call.Ceiling k) (reply.At x) rising e f = (
+    ceiling_found k.0 0 x s.keys (rises_from_increasing s.keys rising) (
+      f.0,
+      (same x.0).0 f.1,
+      λ j lo hi m. f.2 j lo hi ((same j).1 m),
+    ),
+    refl,
+  )
+  replies_from_fits t n (call.Ceiling k) reply.Nothing rising e f = (
+    ceiling_none k.0 s.keys (λ j lo m. f j lo ((same j).1 m)),
+    refl,
+  )
 
   -- and the set's reply fits, where the set stays as it is
   pub fits_from_replies : (thread count : ℕ) (call : Call) (reply : Reply) → RisesFor call s.keys → count_of s thread ≡ count
@@ -160,7 +173,8 @@ module _ (quota : ℕ) (content : Content) (s : SetState) (same : SameKeys conte
   fits_from_replies t n (call.Ceiling k) False rising e f = ceiling_not k.0 s.keys False f.0 (λ x g. cc) (λ g. cc)
   fits_from_replies t n (call.Ceiling k) Full rising e f = ceiling_not k.0 s.keys Full f.0 (λ x g. cc) (λ g. cc)
   fits_from_replies t n (call.Ceiling k) (reply.At x) rising e f =
-      let c = found_ceiling k.0 0 x s.keys (rises_from_increasing s.keys rising) f.0 in (c.0, (same x.0).1 c.1, λ j lo hi m. c.2 j lo hi ((same j).0 m))
+      let c = found_ceiling k.0 0 x s.keys (rises_from_increasing s.keys rising) f.0 in
+      (c.0, (same x.0).1 c.1, λ j lo hi m. c.2 j lo hi ((same j).0 m))
   fits_from_replies t n (call.Ceiling k) reply.Nothing rising e f = λ j lo m. none_ceiling k.0 s.keys f.0 j lo ((same j).0 m)
 
   -- a content with a list of its keys tells of each reply whether it fits
@@ -194,14 +208,20 @@ module _ (quota : ℕ) (content : Content) (s : SetState) (same : SameKeys conte
   fits_or_not rising n (call.Ceiling k) False = inr (λ f. f)
   fits_or_not rising n (call.Ceiling k) Full = inr (λ f. f)
   fits_or_not rising n (call.Ceiling k) (reply.At x) = elim (ceiling_cases k.0 s.keys) [
-    | inl e ↦ inr (λ f. let g : reply.Nothing ≡ reply.At x = sym e ∙ (replies_from_fits 0 (count_of s 0) (call.Ceiling k) (reply.At x) (increasing_from_rises 0 s.keys rising) refl f).0 in absurd (cc))
+    | inl e ↦ inr (λ f. let g : reply.Nothing ≡ reply.At x = sym e
+        ∙ (replies_from_fits 0 (count_of s 0) (call.Ceiling k) (reply.At x) (increasing_from_rises 0 s.keys rising) refl f).0 in
+        absurd (cc))
     | inr p ↦ elim (same_or_not p.0.0 x.0) [
       | inl y ↦ inl (fits_from_replies 0 (count_of s 0) (call.Ceiling k) (reply.At x) (increasing_from_rises 0 s.keys rising) refl
           (p.1 ∙ ap (λ z. reply.At (record { 0 = z })) y, refl))
-      | inr y ↦ inr (λ f. y (ap key_told (sym p.1 ∙ (replies_from_fits 0 (count_of s 0) (call.Ceiling k) (reply.At x) (increasing_from_rises 0 s.keys rising) refl f).0)))
+      | inr y ↦ inr (λ f. y (ap key_told (sym p.1
+          ∙ (replies_from_fits 0 (count_of s 0) (call.Ceiling k) (reply.At x) (increasing_from_rises 0 s.keys rising) refl f).0)))
     ]
   ]
   fits_or_not rising n (call.Ceiling k) reply.Nothing = elim (ceiling_cases k.0 s.keys) [
-    | inl e ↦ inl (fits_from_replies 0 (count_of s 0) (call.Ceiling k) reply.Nothing (increasing_from_rises 0 s.keys rising) refl (e, refl))
-    | inr p ↦ inr (λ f. let g : reply.At p.0 ≡ reply.Nothing = sym p.1 ∙ (replies_from_fits 0 (count_of s 0) (call.Ceiling k) reply.Nothing (increasing_from_rises 0 s.keys rising) refl f).0 in absurd (cc))
+    | inl e ↦ inl (fits_from_replies 0 (count_of s 0) (call.Ceiling k) reply.Nothing (increasing_from_rises 0 s.keys rising) refl
+        (e, refl))
+    | inr p ↦ inr (λ f. let g : reply.At p.0 ≡ reply.Nothing = sym p.1
+        ∙ (replies_from_fits 0 (count_of s 0) (call.Ceiling k) reply.Nothing (increasing_from_rises 0 s.keys rising) refl f).0 in
+        absurd (cc))
   ]

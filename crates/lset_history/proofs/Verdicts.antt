@@ -1,5 +1,6 @@
 -- What the single checks of an order come to: its faults, and that it explains the history.
-use Rattle.std.proofs.Common.{◌≡◌, ◌≢◌, ℕ, ◌<◌, ◌==◌, Bool, true, false, List, [], length, get_or, Option, Some, None, is_some, refl, sym, ap, ◌∙◌, subst, ⊎_elim, inl, inr, ◌⊎◌, arith}
+use Rattle.std.proofs.Common.{◌≡◌, ◌≢◌, ℕ, ◌<◌, ◌==◌, Bool, true, false, List, [], length, get_or, Option, Some, None, is_some}
+use Rattle.std.proofs.Common.{refl, sym, ap, ◌∙◌, subst, ⊎_elim, inl, inr, ◌⊎◌, arith}
 use Rattle.std.specs.List.{All, AllPairs, Contains}
 use Rattle.std.specs.List.Sorted.{IsStrictlyIncreasing}
 use Rattle.std.specs.Option.{IfSome, IsSomeAnd, IsSome}
@@ -14,8 +15,10 @@ use Rattle.lset_words.specs.History.{call_numbered, Precedes, Linearizes, IsHist
 use Rattle.lset_history.specs.History.{HistoryValue}
 use Rattle.lset_history.specs.Oracle.{OracleValue, set_opened}
 use Rattle.lset_history.specs.declared.fault.OrderFault.{OrderFault}
-use Rattle.lset_history.specs.declared.fault.OrderFault.TheVariants.{Unknown, Twice, Missing, WrongReply, TooEarly, WrongSet, Memory}
-use Rattle.lset_history.specs.Faults.{Explains, IsFault, Passes, RefusesFirst, MissesNone, MissesFirst, IsMissing, IsUnknown, IsTwice, HasWrongReply, IsTooEarly, place_at, set_left_by}
+use Rattle.lset_history.specs.declared.fault.OrderFault.TheVariants.{Unknown, Twice, Missing, WrongReply, TooEarly, WrongSet}
+use Rattle.lset_history.specs.declared.fault.OrderFault.TheVariants.{Memory}
+use Rattle.lset_history.specs.Faults.{Explains, IsFault, Passes, RefusesFirst, MissesNone, MissesFirst, IsMissing, IsUnknown}
+use Rattle.lset_history.specs.Faults.{IsTwice, HasWrongReply, IsTooEarly, place_at, set_left_by}
 use Rattle.lset_history.specs.Checks.{HasKnownCalls, stands, MarksCalls, IsLeftOut, HasReplies, after_order}
 use Rattle.lset_history.proofs.Histories.{IsCall, calls_of}
 use Rattle.lset_history.proofs.Places.{stands_earlier, stands_nowhere, legal_at, passes_replies}
@@ -149,7 +152,8 @@ pub threads_below : (h : HistoryValue) (calls : List CallRecord) (oracle : Oracl
     → All (λ (x : CallRecord). x.thread < oracle.threads) calls
 threads_below h calls oracle e history opens k d low =
     let P : List CallRecord → Type 0 = λ xs. All (IsCall h.opening.threads) xs in
-    let call : IsCall h.opening.threads (get_or calls k d) = subst P (sym e) (calls_of h.opening.threads h.calls history) k d low in
+    let call : IsCall h.opening.threads (get_or calls k d) = subst P (sym e) (calls_of h.opening.threads h.calls history) k d low
+    in
     let own : (get_or calls k d).thread < h.opening.threads = call.of_a_thread in
     rw opens own
 
@@ -157,7 +161,8 @@ none_missing : (h : HistoryValue) (order : List Placed) (marks : List Bool) (ora
     → LeavesNoneOut h h.calls order marks oracle → MissesNone h.calls order
 none_missing h order marks oracle l = misses_none h.calls order marks l.stands_once.holds l.none_out
 
-pub missing_fault : (h : HistoryValue) (calls : List CallRecord) (order : List Placed) (keys : List ℕ) (marks : List Bool) (number : ℕ)
+pub missing_fault : (h : HistoryValue) (calls : List CallRecord) (order : List Placed) (keys : List ℕ) (marks : List Bool)
+    (number : ℕ)
     → StandsOnce h calls order marks
     → IsLeftOut calls marks number × ((smaller : ℕ) → smaller < number → IsLeftOut calls marks smaller → ⊥)
     → IsFault h order keys (Missing number)
@@ -189,7 +194,8 @@ pub wrong_reply_fault : (h : HistoryValue) (calls : List CallRecord) (order : Li
 wrong_reply_fault h calls order keys marks oracle number l w =
     let own = settled h calls order marks oracle l in
     let P : OracleValue → Type 0 = λ o. RefusesFirst (HasWrongReply o.quota o.state calls order) order number in
-    let Q : List CallRecord → Type 0 = λ xs. RefusesFirst (HasWrongReply h.opening.quota (opening_set h.opening) xs order) order number in (
+    let Q : List CallRecord → Type 0 = λ xs. RefusesFirst (HasWrongReply h.opening.quota (opening_set h.opening) xs order) order
+    number in (
       passes_known h.calls order own.stands_once.known,
       own.stands_once.once,
       none_missing h order marks _ own,
@@ -242,7 +248,8 @@ wrong_set_fault h calls order keys marks oracle now l r e after other =
       λ same. other (ap (λ (o : OracleValue). o.state.keys) after ∙ keys_after h calls order marks oracle l ∙ sym same),
     )
 
-pub explained : (h : HistoryValue) (calls : List CallRecord) (order : List Placed) (keys : List ℕ) (marks : List Bool) (oracle now : OracleValue)
+pub explained : (h : HistoryValue) (calls : List CallRecord) (order : List Placed) (keys : List ℕ) (marks : List Bool)
+    (oracle now : OracleValue)
     → LeavesNoneOut h calls order marks oracle → HasReplies oracle calls order → Passes (IsTooEarly calls order) order
     → now ≡ after_order oracle calls order → now.state.keys ≡ keys → IsStrictlyIncreasing now.state.keys
     → Explains h order keys

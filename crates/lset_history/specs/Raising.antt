@@ -1,5 +1,6 @@
 -- How the first moment at which a key, or none, is the least one at or above another is searched for: words of private contracts.
-use Rattle.std.specs.Prelude.{◌≡◌, ℕ, ◌<◌, ◌≤◌, ◌==◌, nat_lt, Bool, true, false, not, if◌then◌else◌, List, All, Option, Some, None}
+use Rattle.std.specs.Prelude.{◌≡◌, ℕ, ◌<◌, ◌≤◌, ◌==◌, nat_lt, Bool, true, false, not, if◌then◌else◌, List, All, Option, Some}
+use Rattle.std.specs.Prelude.{None}
 use Rattle.lset_history.specs.Changes.{is_present, is_present_now}
 
 -- the next moment after one at which a key comes or goes, and that key
@@ -17,13 +18,15 @@ IsNextPresent changes key (Some k) = (key < k) × ((j : ℕ) → key < j → j <
 abbrev pub is_against : (ℕ → List ℕ) → ℕ → Option ℕ → ℕ → ℕ → Bool
 is_against changes key None j moment = if nat_lt j key then false else is_present changes j moment
 is_against changes key (Some x) j moment =
-    if nat_lt j key then false else if nat_lt x j then false else if x == j then not (is_present changes j moment) else is_present changes j moment
+    if nat_lt j key then false else if nat_lt x j then false else if x == j then not (is_present changes j moment)
+    else is_present changes j moment
 
 -- Below this moment, from `from` on, there is always such a key; and one that there is at this moment is one up to `last`.
 pub record IsCandidateUpTo (changes : ℕ → List ℕ) (key : ℕ) (found : Option ℕ) (from moment last : ℕ) : Type 0 where
   pub low : from ≤ moment
   pub before : (m : ℕ) → from ≤ m → m < moment → (j : ℕ) × (is_against changes key found j m ≡ true)
-  pub stays : (j m : ℕ) → is_against changes key found j moment ≡ true → moment ≤ m → m ≤ last → is_against changes key found j m ≡ true
+  pub stays : (j m : ℕ) → is_against changes key found j moment ≡ true → moment ≤ m → m ≤ last →
+      is_against changes key found j m ≡ true
 
 abbrev pub IsCandidate : (ℕ → List ℕ) → ℕ → Option ℕ → ℕ → ℕ → Type 0
 IsCandidate changes key found from moment = (last : ℕ) → moment ≤ last → IsCandidateUpTo changes key found from moment last
@@ -38,4 +41,5 @@ IsSomeThere changes key end moment = (j : ℕ) × (key ≤ j) × IsBelow j end �
 
 -- none of those that are there now was there
 abbrev pub CameAfter : (ℕ → List ℕ) → ℕ → Option ℕ → ℕ → Type 0
-CameAfter changes key end moment = (j : ℕ) → key ≤ j → IsBelow j end → is_present_now changes j ≡ true → is_present changes j moment ≡ false
+CameAfter changes key end moment = (j : ℕ) → key ≤ j → IsBelow j end → is_present_now changes j ≡ true →
+    is_present changes j moment ≡ false

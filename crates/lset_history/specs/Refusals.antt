@@ -8,7 +8,8 @@ use Rattle.lset_words.specs.History.{call_numbered, Precedes}
 use Rattle.lset_history.specs.declared.fault.OrderFault.{OrderFault}
 use Rattle.lset_history.specs.declared.fault.OrderFault.TheVariants as fault
 use Rattle.lset_history.specs.declared.refusal.Refusal.{Refusal}
-use Rattle.lset_history.specs.declared.refusal.Refusal.TheVariants.{Unknown, Twice, Missing, HistoryReply, SetReply, TooEarly, WrongSet}
+use Rattle.lset_history.specs.declared.refusal.Refusal.TheVariants.{Unknown, Twice, Missing, HistoryReply, SetReply, TooEarly}
+use Rattle.lset_history.specs.declared.refusal.Refusal.TheVariants.{WrongSet}
 use Rattle.lset_history.specs.History.{HistoryValue}
 use Rattle.lset_history.specs.Faults.{Explains, IsFault, place_at, placed_call, set_left_by}
 
@@ -57,7 +58,8 @@ pub record AnsweredOtherwise (h : HistoryValue) (order : List Placed) (call plac
   pub at : IsPlace order call place index
   pub says_is : says ≡ (place_at order index).reply
   pub keys_are : keys ≡ (set_before h order index).keys
-  pub answer_is : answer ≡ reply_to h.opening.quota (set_before h order index) (call_numbered h.calls call).thread (call_numbered h.calls call).call
+  pub answer_is : answer ≡ reply_to h.opening.quota (set_before h order index) (call_numbered h.calls call).thread
+      (call_numbered h.calls call).call
   pub differ : answer ≢ says
   pub recorded : IfSome (call_numbered h.calls call).ended (λ (end : ℕ × Reply). end.1 ≡ says)
 

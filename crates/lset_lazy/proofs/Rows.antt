@@ -29,11 +29,14 @@ decides_by (Contains k) l true room e f = rw e refl
 decides_by (Contains k) l false room e f = rw e refl
 decides_by (Ceiling k) l found room e f = refl
 
-decides_or_leaves : (l : Local) (seen : ℕ) → continued (at_curr seen l) ≡ (if seen % 2 == 0 then decides l.call (record l { succ = seen / 2 }) else leaves None l)
+decides_or_leaves : (l : Local) (seen : ℕ) →
+    continued (at_curr seen l) ≡ (if seen % 2 == 0 then decides l.call (record l { succ = seen / 2 }) else leaves None l)
 decides_or_leaves l seen = by_mark (seen % 2 == 0) refl
   where
-    by_mark : (b : Bool) → (seen % 2 == 0) ≡ b → continued (at_curr seen l) ≡ (if seen % 2 == 0 then decides l.call (record l { succ = seen / 2 }) else leaves None l)
-    by_mark true e = rw e (decides_by l.call (record l { succ = seen / 2 }) (l.ckey == target l.call) (nat_lt l.used l.quota) refl refl)
+    by_mark : (b : Bool) → (seen % 2 == 0) ≡ b →
+        continued (at_curr seen l) ≡ (if seen % 2 == 0 then decides l.call (record l { succ = seen / 2 }) else leaves None l)
+    by_mark true e = rw e (decides_by l.call (record l { succ = seen / 2 }) (l.ckey == target l.call) (nat_lt l.used l.quota) refl
+        refl)
     by_mark false e = rw e refl
 
 ends_by : (r : Option Reply) (l : Local) → released r l ≡ answers_or_walks r l

@@ -1,5 +1,6 @@
 -- What the seat with all threads knows of the last words.
-use Rattle.std.proofs.Common.{◌≡◌, inl, ℕ, zero, suc, ◌+◌, ◌/◌, ◌<◌, false, List, [], ◌∷◌, map, length, None, refl, sym, ap, ◌∙◌, subst, arith}
+use Rattle.std.proofs.Common.{◌≡◌, inl, ℕ, zero, suc, ◌+◌, ◌/◌, ◌<◌, false, List, [], ◌∷◌, map, length, None, refl, sym, ap, ◌∙◌}
+use Rattle.std.proofs.Common.{subst, arith}
 use mathlib.Core.Option.{some, some-injective, some-ne-none}
 use lib.ListN.{get_elem?}
 use Rattle.std.specs.Prelude.{slice_index, if◌then◌else◌, nat_lt, ◌&&◌, ◌==◌, ◌%◌, ◌-◌}
@@ -41,7 +42,8 @@ module _ (sz : Sizes) (ws : List ℕ) (used other : ℕ → ℕ) where
 
   same_keys : (ns : List ℕ) → keys_in (view sz ws used) ns ≡ keys_in (view sz ws other) ns
   same_keys [] = refl
-  same_keys (b ∷ bs) = ap (λ (l : List ℕ). if nat_lt 1 b && (view sz ws used).link b % 2 == 0 then ((view sz ws used).key b - 1) ∷ l else l) (same_keys bs)
+  same_keys (b ∷ bs) = ap (λ (l : List ℕ). if nat_lt 1 b && (view sz ws used).link b % 2 == 0 then ((view sz ws used).key b - 1)
+      ∷ l else l) (same_keys bs)
 
   pub same_content : (keys : List ℕ) → IsContent (view sz ws used) keys → IsContent (view sz ws other) keys
   same_content keys c = ((c.0.0, same_segment 0 c.0.0 1 c.0.1, c.0.2 ∙ same_keys c.0.0), c.1)
@@ -66,29 +68,37 @@ module _ (T : Table) (law : Lawful T) (v : View) (st : Stands T v) (idle : v.und
   H = history_of T v.shape v.seen
 
   -- each call is of a thread
-  of_threads : (ps : List Placed) → AllByRecursion (λ (p : Placed). p.call < length H) ps → AllByRecursion (λ (a : Answered). a.thread < k.threads) (map (answered H) ps)
+  of_threads : (ps : List Placed) → AllByRecursion (λ (p : Placed). p.call < length H) ps →
+      AllByRecursion (λ (a : Answered). a.thread < k.threads) (map (answered H) ps)
   of_threads [] a = tt
   of_threads (p ∷ ps) a = (((part T law v st idle linear).calls p.call no_call a.0).of_a_thread, of_threads ps a.1)
 
-  pub closed_explains : (ws : List ℕ) → ws ≡ (end_of T k v.seen).words → (keys : List ℕ) → HasKeys (record { sizes = sizes k; words = ws }) keys
+  pub closed_explains : (ws : List ℕ) → ws ≡ (end_of T k v.seen).words → (keys : List ℕ) →
+      HasKeys (record { sizes = sizes k; words = ws }) keys
       → Explains k (record_of v.past ∷ []) keys
   closed_explains ws is keys has =
       let ex = explains T law v st idle linear in
       let P : List Placed = order T law v st idle linear in
       let known = recursion_from_All (λ (x : Placed). x.call < length H) P ex.linearizes.known in
-      let now : IsContent (view (sizes k) (end_of T k v.seen).words (λ t. 0)) keys = subst (λ z. IsContent (view (sizes k) z (λ t. 0)) keys) is has in record {
+      let now : IsContent (view (sizes k) (end_of T k v.seen).words (λ t. 0)) keys =
+      subst (λ z. IsContent (view (sizes k) z (λ t. 0)) keys) is has in
+      record {
         order = map (answered H) P;
         legal = ex.linearizes.legal;
-        keeps = All-cons (Keeps (map (answered H) P)) (record_of v.past) [] (kept T law v st idle linear) (All-nil (Keeps (map (answered H) P)));
+        keeps = All-cons (Keeps (map (answered H) P)) (record_of v.past) [] (kept T law v st idle linear)
+            (All-nil (Keeps (map (answered H) P)));
         threads = All-from_recursion (λ (a : Answered). a.thread < k.threads) (map (answered H) P) (of_threads P known);
-        no_other = λ u low out. calls_by_is k.quota (opening_set k) H P ex.linearizes (turns T law v st idle linear) u (calls_of u v.past) (own T law v st idle u (has_all T v st full u low))
+        no_other = λ u low out. calls_by_is k.quota (opening_set k) H P ex.linearizes (turns T law v st idle linear) u
+            (calls_of u v.past) (own T law v st idle u (has_all T v st full u low))
             ∙ ap (map (said_by u)) (none_in u v.past (λ n. out (inl (in_named u v.past n))));
-        leaves = one_content (view (sizes k) (end_of T k v.seen).words (used_in (end_of T k v.seen))) (set_left (opening_set k) (map (answered H) P)).keys keys
+        leaves = one_content (view (sizes k) (end_of T k v.seen).words (used_in (end_of T k v.seen)))
+            (set_left (opening_set k) (map (answered H) P)).keys keys
             ex.content (same_content (sizes k) (end_of T k v.seen).words (λ t. 0) (used_in (end_of T k v.seen)) keys now);
       }
 
 -- what is so of the words with which a table is closed
-module _ (T : Table) (law : Lawful T) (v : View) (st : Stands T v) (sp : v.spent ≡ false) (idle : v.under ≡ None) (k : Opening) (shape : v.shape ≡ k)
+module _ (T : Table) (law : Lawful T) (v : View) (st : Stands T v) (sp : v.spent ≡ false) (idle : v.under ≡ None) (k : Opening)
+    (shape : v.shape ≡ k)
     (full : length v.others + 1 ≡ k.threads) (id : ℕ) (ws : List ℕ) (xs : List (Unit {0})) (final : Final (Seen (Holds T k) id v) ws xs) where
   last : ws ≡ (end_of T v.shape v.seen).words
   last = closes T law k id v ws xs shape sp full final ∙ ap (λ (z : Opening). (end_of T z v.seen).words) (sym shape)
@@ -97,8 +107,10 @@ module _ (T : Table) (law : Lawful T) (v : View) (st : Stands T v) (sp : v.spent
   last_words = subst (λ (z : Opening). IsLast (record { sizes = sizes z; words = ws })) shape
       (record { opening = v.shape; of_sizes = refl; machine = T; law = law; events = v.seen; run = st.ran; words = last })
 
-  pub last_explains : RunsAreLinearizable T → (keys : List ℕ) → HasKeys (record { sizes = sizes k; words = ws }) keys → Explains k (record_of v.past ∷ []) keys
-  last_explains linear = subst (λ (z : Opening). (keys : List ℕ) → HasKeys (record { sizes = sizes z; words = ws }) keys → Explains z (record_of v.past ∷ []) keys) shape
+  pub last_explains : RunsAreLinearizable T → (keys : List ℕ) → HasKeys (record { sizes = sizes k; words = ws }) keys →
+      Explains k (record_of v.past ∷ []) keys
+  last_explains linear = subst (λ (z : Opening). (keys : List ℕ) → HasKeys (record { sizes = sizes z; words = ws }) keys →
+      Explains z (record_of v.past ∷ []) keys) shape
       (closed_explains T law v st idle linear (full ∙ sym (ap (λ (z : Opening). z.threads) shape)) ws last)
 
 -- THE LAST WORDS

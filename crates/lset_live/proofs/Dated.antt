@@ -43,5 +43,7 @@ has_gathered u (Called' p r c) n = has_gathered u r n
 has_gathered u (Gathered' p r q g) (inl n) = inl (has_gathered u r n)
 has_gathered u (Gathered' p r q g) (inr n) = inr (named_in u g n)
 
-pub has_own : (order : List Answered) (r : Past) → calls_by (root r) order ≡ map (said_by (root r)) (dated.own_calls r) → HasOwnCalls order (record_of r)
-has_own order r e = subst (λ t. calls_by t order ≡ map (placed_by t) (own_calls (record_of r))) (sym (root_is r)) (e ∙ sym (own_are (root r) r))
+pub has_own : (order : List Answered) (r : Past) → calls_by (root r) order ≡ map (said_by (root r)) (dated.own_calls r) →
+    HasOwnCalls order (record_of r)
+has_own order r e = subst (λ t. calls_by t order ≡ map (placed_by t) (own_calls (record_of r))) (sym (root_is r)) (e
+    ∙ sym (own_are (root r) r))

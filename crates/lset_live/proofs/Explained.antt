@@ -1,5 +1,6 @@
 -- What a seat has seen is explained by an order of calls that keeps its record.
-use Rattle.std.proofs.Common.{◌≡◌, ⊎_elim, inl, ℕ, suc, ◌+◌, ◌<◌, ◌==◌, Bool, true, false, cond, List, [], ◌∷◌, ◌++◌, map, length, Option, Some, None, refl, sym, ap, ◌∙◌, subst, arith, append-nil, append_assoc}
+use Rattle.std.proofs.Common.{◌≡◌, ⊎_elim, inl, ℕ, suc, ◌+◌, ◌<◌, ◌==◌, Bool, true, false, cond, List, [], ◌∷◌, ◌++◌, map, length}
+use Rattle.std.proofs.Common.{Option, Some, None, refl, sym, ap, ◌∙◌, subst, arith, append-nil, append_assoc}
 use Rattle.std.specs.Prelude.{if◌then◌else◌}
 use Rattle.std.proofs.lemmas.List.{map-append}
 use mathlib.Core.Option.{some}
@@ -42,7 +43,8 @@ use Rattle.lset_live.proofs.Orders.{keeps}
 use Rattle.lset_words.specs.Words.{Opening}
 
 -- a thread that begins a call has none under way
-may_begin : (T : Table) (s : State) (e : Event) (u : ℕ) (o : Option Under) → Tied o (local_of s u) → Enabled s e → MayBegin (entry_of T s e) u o
+may_begin : (T : Table) (s : State) (e : Event) (u : ℕ) (o : Option Under) → Tied o (local_of s u) → Enabled s e →
+    MayBegin (entry_of T s e) u o
 may_begin T s (Begin t c) u None ti en = λ is. refl
 may_begin T s (Begin t c) u (Some x) ti en = λ is. absurd (ti.0 (ap (λ z. (local_of s z).pc) (sym is) ∙ en.1))
 may_begin T s (Go t) u o ti en = tt
@@ -51,19 +53,24 @@ may_begin T s (Go t) u o ti en = tt
 calls_of_thread : (T : Table) (law : Lawful T) (k : Opening) (es : List Event) → IsRunOf T k es → (u : ℕ) → u < k.threads
     → of_thread u (history_of T k es) ≡ thread_records u (at_end T k es u).done (at_end T k es u).under
 calls_of_thread T law k es r u low = thread_calls (log_by T k es) u (length es)
-    (λ j l. may_begin T (state_at T k (event_at es) j) (event_at es j) u _ (tied T law k (event_at es) (length es) r u j low (omega arith)) (r.enabled j l)) (length es) (omega arith)
+    (λ j l. may_begin T (state_at T k (event_at es) j) (event_at es j) u _
+    (tied T law k (event_at es) (length es) r u j low (omega arith)) (r.enabled j l)) (length es) (omega arith)
 
 -- a further thread of a view is idle, and its calls are those of the record
-aside_idle : (w : ℕ → Here) (t : ℕ) (r : Past) (os : List Aside) → AreIdle w t r os → (u : ℕ) → HasAside os u → ((w u).under ≡ None) × ((w u).done ≡ calls_of u r)
+aside_idle : (w : ℕ → Here) (t : ℕ) (r : Past) (os : List Aside) → AreIdle w t r os → (u : ℕ) → HasAside os u →
+    ((w u).under ≡ None) × ((w u).done ≡ calls_of u r)
 aside_idle w t r [] a u h = absurd h
 aside_idle w t r (o ∷ os) a u h = ⊎_elim
-    (λ (e : u ≡ o.thread). subst (λ z. ((w z).under ≡ None) × ((w z).done ≡ calls_of z r)) (sym e) (ap (λ (x : Here). x.under) a.1, ap (λ (x : Here). x.done) a.1))
+    (λ (e : u ≡ o.thread). subst (λ z. ((w z).under ≡ None) × ((w z).done ≡ calls_of z r)) (sym e)
+    (ap (λ (x : Here). x.under) a.1, ap (λ (x : Here). x.done) a.1))
     (λ x. aside_idle w t r os a.3 u x) h
 
 module _ (T : Table) (law : Lawful T) (v : View) (st : Stands T v) (idle : v.under ≡ None) where
-  at_rest : (u : ℕ) → HasThread v u → ((at_end T v.shape v.seen u).under ≡ None) × ((at_end T v.shape v.seen u).done ≡ calls_of u v.past)
+  at_rest : (u : ℕ) → HasThread v u → ((at_end T v.shape v.seen u).under ≡ None)
+      × ((at_end T v.shape v.seen u).done ≡ calls_of u v.past)
   at_rest u h = ⊎_elim
-      (λ (e : u ≡ v.thread). subst (λ z. ((at_end T v.shape v.seen z).under ≡ None) × ((at_end T v.shape v.seen z).done ≡ calls_of z v.past)) (sym e)
+      (λ (e : u ≡ v.thread). subst (λ z. ((at_end T v.shape v.seen z).under ≡ None)
+      × ((at_end T v.shape v.seen z).done ≡ calls_of z v.past)) (sym e)
       (ap (λ (x : Here). x.under) st.own ∙ idle, ap (λ (x : Here). x.done) st.own))
       (λ x. aside_idle (at_end T v.shape v.seen) v.thread v.past v.others st.others u x) h
 
@@ -95,7 +102,8 @@ module _ (T : Table) (law : Lawful T) (v : View) (st : Stands T v) (idle : v.und
     pub explained : IsExplained T v.shape v.seen (record_of v.past)
     explained = record { run = st.ran; order = order; linearizes = explains.linearizes; keeps = kept }
 
-pub made_explained : (T : Table) (law : Lawful T) → RunsAreLinearizable T → (c : Call) (v : View) (r : Reply) (w : View) → Makes T c v r w
+pub made_explained : (T : Table) (law : Lawful T) → RunsAreLinearizable T → (c : Call) (v : View) (r : Reply) (w : View) →
+    Makes T c v r w
     → IsExplained T w.shape w.seen (record_of w.past)
 made_explained T law linear c v r w m = explained T law w m.stands m.idle linear
 
@@ -109,7 +117,8 @@ tail_of [] = []
 tail_of (x ∷ xs) = xs
 
 -- the last call of a thread has a number in the history
-last_numbered : (u : ℕ) (H xs : List CallRecord) (y : CallRecord) → of_thread u H ≡ xs ++ y ∷ [] → (n : ℕ) × (get_elem? H n ≡ some y)
+last_numbered : (u : ℕ) (H xs : List CallRecord) (y : CallRecord) → of_thread u H ≡ xs ++ y ∷ [] → (n : ℕ)
+    × (get_elem? H n ≡ some y)
 last_numbered u [] [] y e = let l = ap length e in absurd (omega arith)
 last_numbered u [] (x ∷ xs) y e = let l = ap length e in absurd (omega arith)
 last_numbered u (h ∷ H) xs y e = by_test (h.thread == u) xs (λ ys e'. last_numbered u H ys y e') e
@@ -117,7 +126,8 @@ last_numbered u (h ∷ H) xs y e = by_test (h.thread == u) xs (λ ys e'. last_nu
     next : (n : ℕ) × (get_elem? H n ≡ some y) → (n : ℕ) × (get_elem? (h ∷ H) n ≡ some y)
     next (n, at) = (suc n, at)
 
-    by_test : (b : Bool) (ys : List CallRecord) → ((zs : List CallRecord) → of_thread u H ≡ zs ++ y ∷ [] → (n : ℕ) × (get_elem? H n ≡ some y))
+    by_test : (b : Bool) (ys : List CallRecord) → ((zs : List CallRecord) → of_thread u H ≡ zs ++ y ∷ [] → (n : ℕ)
+        × (get_elem? H n ≡ some y))
         → cond b (h ∷ of_thread u H) (of_thread u H) ≡ ys ++ y ∷ [] → (n : ℕ) × (get_elem? (h ∷ H) n ≡ some y)
     by_test false ys rest e = next (rest ys e)
     by_test true [] rest e = (0, ap some (ap (head_of h) e))
@@ -130,14 +140,17 @@ module _ (T : Table) (law : Lawful T) (c : Call) (v : View) (r : Reply) (w : Vie
   rooted : root v.past ≡ w.thread
   rooted = sym (ap root m.past) ∙ m.stands.of_thread
 
-  calls_now : of_thread w.thread (history_of T w.shape w.seen) ≡ map (ended_record w.thread) (calls_of w.thread v.past) ++ ended_record w.thread made ∷ []
+  calls_now : of_thread w.thread (history_of T w.shape w.seen) ≡ map (ended_record w.thread) (calls_of w.thread v.past)
+      ++ ended_record w.thread made ∷ []
   calls_now = own T law w m.stands m.idle w.thread (inl refl)
       ∙ (ap (λ p. map (ended_record w.thread) (calls_of w.thread p)) m.past
-      ∙ (ap (λ b. map (ended_record w.thread) (calls_of w.thread v.past ++ cond b (made ∷ []) [])) (equal_test w.thread (root v.past) (sym rooted))
+      ∙ (ap (λ b. map (ended_record w.thread) (calls_of w.thread v.past ++ cond b (made ∷ []) []))
+      (equal_test w.thread (root v.past) (sym rooted))
       ∙ map-append (ended_record w.thread) (calls_of w.thread v.past) (made ∷ [])))
 
   entry : (n : ℕ) × (get_elem? (history_of T w.shape w.seen) n ≡ some (ended_record w.thread made))
-  entry = last_numbered w.thread (history_of T w.shape w.seen) (map (ended_record w.thread) (calls_of w.thread v.past)) (ended_record w.thread made) calls_now
+  entry = last_numbered w.thread (history_of T w.shape w.seen) (map (ended_record w.thread) (calls_of w.thread v.past))
+      (ended_record w.thread made) calls_now
 
   pub made_answered : IsAnswered T w.shape (thread_of (record_of v.past)) c r v.seen w.seen
   made_answered = subst (λ t. IsAnswered T w.shape t c r v.seen w.seen) (sym (root_is v.past ∙ rooted)) record {
@@ -146,7 +159,12 @@ module _ (T : Table) (law : Lawful T) (c : Call) (v : View) (r : Reply) (w : Vie
     is = m.seen ∙ (ap (λ l. l ++ Go v.thread ∷ []) (append_assoc m.log (Begin v.thread c ∷ []) m.between)
         ∙ (λ i. m.before.1 i ++ Begin (sym m.same.2 i) c ∷ m.between ++ Go (sym m.same.2 i) ∷ []));
     number = entry.0;
-    call = entry.1 ∙ ap (λ l. some (record { thread = w.thread; call = c; begun = length l + 1; ended = Some (length w.seen, r) })) m.before.1;
+    call = entry.1 ∙ ap (λ l. some (record {
+      thread = w.thread;
+      call = c;
+      begun = length l + 1;
+      ended = Some (length w.seen, r);
+    })) m.before.1;
   }
 
 -- THE CONTRACT OF A CALL, from what the call did to the view of its seat
@@ -185,7 +203,8 @@ IsTruth Full = ⊥
 IsTruth (reply.At k) = ⊥
 IsTruth reply.Nothing = ⊥
 
-legal_at : (q : ℕ) (s : SetState) (xs : List Answered) (a : Answered) (ys : List Answered) → IsLegal q s (xs ++ a ∷ ys) → (z : SetState) × (reply_to q z a.thread a.call ≡ a.reply)
+legal_at : (q : ℕ) (s : SetState) (xs : List Answered) (a : Answered) (ys : List Answered) → IsLegal q s (xs ++ a ∷ ys) →
+    (z : SetState) × (reply_to q z a.thread a.call ≡ a.reply)
 legal_at q s [] a ys l = (s, l.0)
 legal_at q s (x ∷ xs) a ys l = legal_at q (after_call s x.thread x.call x.reply) xs a ys l.1
 
@@ -204,7 +223,8 @@ read_is_truth T law linear key v r w m =
     (subst (λ o. IsLegal w.shape.quota (opening_set w.shape) o) at.is ex.linearizes.legal) in
     is_truth (has_key key.0 l.0.keys) r l.1
 
-pub as_bool : (T : Table) (law : Lawful T) → RunsAreLinearizable T → (key : Key) (v : View) (r : Reply) (w : View) → Makes T (Contains key) v r w
+pub as_bool : (T : Table) (law : Lawful T) → RunsAreLinearizable T → (key : Key) (v : View) (r : Reply) (w : View) →
+    Makes T (Contains key) v r w
     → (b : Bool) → b ≡ is_true r → Makes T (Contains key) v (reply_of b) w
 as_bool T law linear key v True w m b e = subst (λ z. Makes T (Contains key) v (reply_of z) w) (sym e) m
 as_bool T law linear key v False w m b e = subst (λ z. Makes T (Contains key) v (reply_of z) w) (sym e) m

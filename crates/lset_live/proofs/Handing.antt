@@ -5,7 +5,8 @@ use Rattle.std.proofs.lemmas.List.Sums.{sum_by-cons}
 use Rattle.std.proofs.lemmas.List.Elements.{All-head, All-tail, All-append, All-cons, All-nil}
 
 -- one item has moved from those that are left to those that have gone
-pub moved_more : {H T : Type 0} (f : H → T) (hs hs' : List H) (h : H) (rest rest' all : List T) (x : T) → hs' ≡ hs ++ h ∷ [] → f h ≡ x → rest ≡ x ∷ rest'
+pub moved_more : {H T : Type 0} (f : H → T) (hs hs' : List H) (h : H) (rest rest' all : List T) (x : T) → hs' ≡ hs ++ h ∷ [] →
+    f h ≡ x → rest ≡ x ∷ rest'
     → map f hs ++ rest ≡ all → map f hs' ++ rest' ≡ all
 moved_more f hs hs' h rest rest' all x e is step before =
     ap (λ l. map f l ++ rest') e ∙ ap (λ l. l ++ rest') (map-append f hs (h ∷ [])) ∙ append_assoc (map f hs) (f h ∷ []) rest'
@@ -22,7 +23,8 @@ pub all_more : {H : Type 0} (hs hs' : List H) (h : H) (P : H → Type 0) → hs'
 all_more hs hs' h P e all one = subst (All P) (sym e) (All-append P hs (h ∷ []) all (All-cons P h [] one (All-nil P)))
 
 -- a total, of which one item's share has come
-pub held_next : {H : Type 0} (f : H → ℕ) (rest rest' : List H) (h : H) (a a' k total : ℕ) → rest ≡ h ∷ rest' → a + sum_by f rest ≡ total → a' ≡ a + k → k ≡ f h
+pub held_next : {H : Type 0} (f : H → ℕ) (rest rest' : List H) (h : H) (a a' k total : ℕ) → rest ≡ h ∷ rest' →
+    a + sum_by f rest ≡ total → a' ≡ a + k → k ≡ f h
     → a' + sum_by f rest' ≡ total
 held_next f rest rest' h a a' k total step before e is = omega (arith, before, e, is, ap (sum_by f) step ∙ sum_by-cons f h rest')
 

@@ -1,10 +1,12 @@
 -- The calls of one thread in the history of a run are those that the thread is at.
-use Rattle.std.proofs.Common.{◌≡◌, ◌≢◌, ⊎_elim, ℕ, zero, suc, ◌<◌, ◌≤◌, ◌==◌, Bool, true, false, cond, List, [], ◌∷◌, ◌++◌, map, Option, Some, None, refl, sym, ap, ◌∙◌, arith, append-nil, if◌then◌else◌}
+use Rattle.std.proofs.Common.{◌≡◌, ◌≢◌, ⊎_elim, ℕ, zero, suc, ◌<◌, ◌≤◌, ◌==◌, Bool, true, false, cond, List, [], ◌∷◌, ◌++◌, map}
+use Rattle.std.proofs.Common.{Option, Some, None, refl, sym, ap, ◌∙◌, arith, append-nil, if◌then◌else◌}
 use Rattle.std.specs.Prelude.{filter, ◌&&◌, is_none}
 use Rattle.lset_words.proofs.Numbers.{same_or_not, equal_test, unequal_test, same_number}
 use Rattle.lset_words.specs.declared.Reply.{Reply}
 use Rattle.lset_words.specs.declared.history.CallRecord.{CallRecord}
-use Rattle.lset_words.specs.Log.{Log, Entry, Change, TracedCall, is_under_way, traced_on, ended_by, calls_after, calls_at, record_of, history_at}
+use Rattle.lset_words.specs.Log.{Log, Entry, Change, TracedCall, is_under_way, traced_on, ended_by, calls_after, calls_at}
+use Rattle.lset_words.specs.Log.{record_of, history_at}
 use Rattle.lset_words.specs.Log.Entry.{began, stepped}
 use Rattle.lset_history.proofs.CallSteps.{way_of}
 use Rattle.lset_rule.specs.declared.view.OwnCall.{OwnCall}
@@ -29,7 +31,8 @@ filter-append : (p : CallRecord → Bool) (xs ys : List CallRecord) → filter p
 filter-append p [] ys = refl
 filter-append p (x ∷ xs) ys = by_test (p x) (filter-append p xs ys)
   where
-    by_test : (b : Bool) → filter p (xs ++ ys) ≡ filter p xs ++ filter p ys → cond b (x ∷ filter p (xs ++ ys)) (filter p (xs ++ ys)) ≡ cond b (x ∷ filter p xs) (filter p xs) ++ filter p ys
+    by_test : (b : Bool) → filter p (xs ++ ys) ≡ filter p xs ++ filter p ys →
+        cond b (x ∷ filter p (xs ++ ys)) (filter p (xs ++ ys)) ≡ cond b (x ∷ filter p xs) (filter p xs) ++ filter p ys
     by_test true ih = ap (λ l. x ∷ l) ih
     by_test false ih = ih
 
@@ -42,16 +45,19 @@ module _ (m : ℕ) (ch : Option Change) (a : Option Reply) where
   on t x = if is_under_way t x then traced_on m ch a x else x
 
   -- a step of another thread
-  step_other : (t u : ℕ) → t ≢ u → (xs : List TracedCall) → of_thread u (map record_of (map (on t) xs)) ≡ of_thread u (map record_of xs)
+  step_other : (t u : ℕ) → t ≢ u → (xs : List TracedCall) → of_thread u (map record_of (map (on t) xs)) ≡ of_thread u
+      (map record_of xs)
   step_other t u ne [] = refl
   step_other t u ne (x ∷ xs) = by_way (is_under_way t x) refl (step_other t u ne xs)
     where
       by_way : (b : Bool) → is_under_way t x ≡ b → of_thread u (map record_of (map (on t) xs)) ≡ of_thread u (map record_of xs)
-          → cond ((record_of (if b then traced_on m ch a x else x)).thread == u) (record_of (if b then traced_on m ch a x else x) ∷ of_thread u (map record_of (map (on t) xs))) (of_thread u (map record_of (map (on t) xs)))
+          → cond ((record_of (if b then traced_on m ch a x else x)).thread == u) (record_of (if b then traced_on m ch a x else x)
+          ∷ of_thread u (map record_of (map (on t) xs))) (of_thread u (map record_of (map (on t) xs)))
           ≡ cond (x.thread == u) (record_of x ∷ of_thread u (map record_of xs)) (of_thread u (map record_of xs))
       by_way false e ih = ap (λ l. cond (x.thread == u) (record_of x ∷ l) l) ih
       by_way true e ih = let not : (x.thread == u) ≡ false = unequal_test x.thread u (λ z. ne ((way_of t x e).0 ∙ z)) in
-          ap (λ b. cond b (record_of (traced_on m ch a x) ∷ of_thread u (map record_of (map (on t) xs))) (of_thread u (map record_of (map (on t) xs)))) not
+          ap (λ b. cond b (record_of (traced_on m ch a x) ∷ of_thread u (map record_of (map (on t) xs)))
+          (of_thread u (map record_of (map (on t) xs)))) not
           ∙ (ih ∙ sym (ap (λ b. cond b (record_of x ∷ of_thread u (map record_of xs)) (of_thread u (map record_of xs))) not))
 
   -- a step of the thread
@@ -62,18 +68,24 @@ module _ (m : ℕ) (ch : Option Change) (a : Option Reply) where
   thread_kept true x = refl
   thread_kept false x = refl
 
-  step_own : (u : ℕ) (xs : List TracedCall) → of_thread u (map record_of (map (on u) xs)) ≡ map ends (of_thread u (map record_of xs))
+  step_own : (u : ℕ) (xs : List TracedCall) →
+      of_thread u (map record_of (map (on u) xs)) ≡ map ends (of_thread u (map record_of xs))
   step_own u [] = refl
   step_own u (x ∷ xs) =
-      ap (λ z. cond (z == u) (record_of (on u x) ∷ of_thread u (map record_of (map (on u) xs))) (of_thread u (map record_of (map (on u) xs)))) (thread_kept (is_under_way u x) x)
+      ap (λ z. cond (z == u) (record_of (on u x) ∷ of_thread u (map record_of (map (on u) xs)))
+      (of_thread u (map record_of (map (on u) xs)))) (thread_kept (is_under_way u x) x)
       ∙ by_case (x.thread == u) x.ended refl (step_own u xs)
     where
-      by_case : (c : Bool) (o : Option (ℕ × Reply)) → x.ended ≡ o → of_thread u (map record_of (map (on u) xs)) ≡ map ends (of_thread u (map record_of xs))
-          → cond c (record_of (if c && is_none o then traced_on m ch a x else x) ∷ of_thread u (map record_of (map (on u) xs))) (of_thread u (map record_of (map (on u) xs)))
+      by_case : (c : Bool) (o : Option (ℕ × Reply)) → x.ended ≡ o →
+          of_thread u (map record_of (map (on u) xs)) ≡ map ends (of_thread u (map record_of xs))
+          → cond c (record_of (if c && is_none o then traced_on m ch a x else x) ∷ of_thread u (map record_of (map (on u) xs)))
+          (of_thread u (map record_of (map (on u) xs)))
           ≡ map ends (cond c (record_of x ∷ of_thread u (map record_of xs)) (of_thread u (map record_of xs)))
       by_case false o e ih = ih
-      by_case true None e ih = (λ i. (ap (λ z. if is_none z then record (record_of x) { ended = ended_by m a } else record_of x) (sym e) i) ∷ ih i)
-      by_case true (Some end) e ih = (λ i. (ap (λ z. if is_none z then record (record_of x) { ended = ended_by m a } else record_of x) (sym e) i) ∷ ih i)
+      by_case true None e ih = (λ i. (ap (λ z. if is_none z then record (record_of x) { ended = ended_by m a } else record_of x)
+          (sym e) i) ∷ ih i)
+      by_case true (Some end) e ih = (λ i. (ap (λ z. if is_none z then record (record_of x) { ended = ended_by m a }
+          else record_of x) (sym e) i) ∷ ih i)
 
   ends_done : (u : ℕ) (done : List OwnCall) → map ends (map (ended_record u) done) ≡ map (ended_record u) done
   ends_done u [] = refl
@@ -82,10 +94,13 @@ module _ (m : ℕ) (ch : Option Change) (a : Option Reply) where
 -- the open call where the thread makes a step
 open_step : (m u : ℕ) (ch : Option Change) (a : Option Reply) (done : List OwnCall) (o : Option Under)
     → map (ends m ch a) (thread_records u done o) ≡ thread_records u (done ++ ending a o m) (under_after a o)
-open_step m u ch a done o = map-append (ends m ch a) (map (ended_record u) done) (open_records u o) ∙ (ap (λ l. l ++ map (ends m ch a) (open_records u o)) (ends_done m ch a u done) ∙ last a o)
+open_step m u ch a done o = map-append (ends m ch a) (map (ended_record u) done) (open_records u o)
+    ∙ (ap (λ l. l ++ map (ends m ch a) (open_records u o)) (ends_done m ch a u done) ∙ last a o)
   where
-    last : (a : Option Reply) (o : Option Under) → map (ended_record u) done ++ map (ends m ch a) (open_records u o) ≡ thread_records u (done ++ ending a o m) (under_after a o)
-    last (Some r) (Some x) = sym (append-nil (map (ended_record u) done ++ map (ends m ch (Some r)) (open_records u (Some x)))) ∙ ap (λ l. l ++ []) (sym (map-append (ended_record u) done _))
+    last : (a : Option Reply) (o : Option Under) → map (ended_record u) done
+        ++ map (ends m ch a) (open_records u o) ≡ thread_records u (done ++ ending a o m) (under_after a o)
+    last (Some r) (Some x) = sym (append-nil (map (ended_record u) done ++ map (ends m ch (Some r)) (open_records u (Some x))))
+        ∙ ap (λ l. l ++ []) (sym (map-append (ended_record u) done _))
     last (Some r) None = ap (λ l. map (ended_record u) l ++ []) (sym (append-nil done))
     last None (Some x) = ap (λ l. map (ended_record u) l ++ open_records u (Some x)) (sym (append-nil done))
     last None None = ap (λ l. map (ended_record u) l ++ []) (sym (append-nil done))
@@ -99,25 +114,33 @@ pub thread_next : (m : ℕ) (e : Entry) (u : ℕ) (xs : List TracedCall) (done :
     → of_thread u (map record_of xs) ≡ thread_records u done o
     → of_thread u (map record_of (calls_after m e xs)) ≡ thread_records u (done_next m e u o done) (under_next m e u o)
 thread_next m (began t c) u xs done o may h =
-    ap (of_thread u) (map-append record_of xs _) ∙ (filter-append (λ (x : CallRecord). x.thread == u) (map record_of xs) _ ∙ (ap (λ l. l ++ of_thread u (x ∷ [])) h ∙ by_test (t == u) refl))
+    ap (of_thread u) (map-append record_of xs _) ∙ (filter-append (λ (x : CallRecord). x.thread == u) (map record_of xs) _
+    ∙ (ap (λ l. l ++ of_thread u (x ∷ [])) h ∙ by_test (t == u) refl))
   where
     x : CallRecord
     x = record { thread = t; call = c; begun = m; ended = None }
 
-    by_test : (b : Bool) → (t == u) ≡ b → thread_records u done o ++ cond b (record { thread = t; call = c; begun = m; ended = None } ∷ []) [] ≡ thread_records u done (if b then Some (record { call = c; begun = m; steps = 0 }) else o)
+    by_test : (b : Bool) → (t == u) ≡ b → thread_records u done o
+        ++ cond b (record { thread = t; call = c; begun = m; ended = None } ∷ []) [] ≡ thread_records u done (if b
+        then Some (record { call = c; begun = m; steps = 0 }) else o)
     by_test true e = let is : t ≡ u = same_number t u e in
-        (λ i. thread_records u done (may is i) ++ record { thread = is i; call = c; begun = m; ended = None } ∷ []) ∙ ap (λ l. l ++ record { thread = u; call = c; begun = m; ended = None } ∷ []) (append-nil (map (ended_record u) done))
+        (λ i. thread_records u done (may is i) ++ record { thread = is i; call = c; begun = m; ended = None } ∷ [])
+        ∙ ap (λ l. l ++ record { thread = u; call = c; begun = m; ended = None } ∷ [])
+        (append-nil (map (ended_record u) done))
     by_test false e = append-nil (thread_records u done o)
 thread_next m (stepped t ch a) u xs done o may h = ⊎_elim
     (λ (y : t ≡ u). let yes : (t == u) ≡ true = equal_test t u y in
-    ap (λ z. of_thread u (map record_of (map (on m ch a z) xs))) y ∙ (step_own m ch a u xs ∙ (ap (map (ends m ch a)) h ∙ (open_step m u ch a done o
+    ap (λ z. of_thread u (map record_of (map (on m ch a z) xs))) y
+    ∙ (step_own m ch a u xs ∙ (ap (map (ends m ch a)) h ∙ (open_step m u ch a done o
     ∙ (λ i. thread_records u (if sym yes i then done ++ ending a o m else done) (if sym yes i then under_after a o else o))))))
     (λ (y : t ≢ u). let no : (t == u) ≡ false = unequal_test t u y in
-    step_other m ch a t u y xs ∙ (h ∙ (λ i. thread_records u (if sym no i then done ++ ending a o m else done) (if sym no i then under_after a o else o))))
+    step_other m ch a t u y xs ∙ (h
+    ∙ (λ i. thread_records u (if sym no i then done ++ ending a o m else done) (if sym no i then under_after a o else o))))
     (same_or_not t u)
 
 -- the calls of a thread in the history
 pub thread_calls : (log : Log) (u last : ℕ) → ((k : ℕ) → k < last → MayBegin (log k) u (under_at log u k)) → (k : ℕ) → k ≤ last
     → of_thread u (history_at log k) ≡ thread_records u (done_at log u k) (under_at log u k)
 thread_calls log u last may zero l = refl
-thread_calls log u last may (suc k) l = thread_next (suc k) (log k) u (calls_at log k) (done_at log u k) (under_at log u k) (may k (omega arith)) (thread_calls log u last may k (omega arith))
+thread_calls log u last may (suc k) l = thread_next (suc k) (log k) u (calls_at log k) (done_at log u k) (under_at log u k)
+    (may k (omega arith)) (thread_calls log u last may k (omega arith))

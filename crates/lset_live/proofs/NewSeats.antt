@@ -32,7 +32,8 @@ new_value z k t s new i = record {
 }
 
 -- one seat more
-pub seats_more : (z : TableId) (k : Opening) (t : ℕ) (s : Seat (Unit {0}) View) (before after : List SeatValue) → before ≡ map (new_seat (opened z k)) (range_with_len 0 t) → IsNew z k t s
+pub seats_more : (z : TableId) (k : Opening) (t : ℕ) (s : Seat (Unit {0}) View) (before after : List SeatValue) →
+    before ≡ map (new_seat (opened z k)) (range_with_len 0 t) → IsNew z k t s
     → after ≡ before ++ value_of s ∷ [] → after ≡ map (new_seat (opened z k)) (range_with_len 0 (t + 1))
 seats_more z k t s before after is new more = more ∙ ((λ i. is i ++ new_value z k t s new i ∷ [])
     ∙ sym (map-range_with_len_more (new_seat (opened z k)) 0 t t (omega arith)))
@@ -42,5 +43,7 @@ new_of set [] = All-nil (λ (s : SeatValue). s.set ≡ set)
 new_of set (t ∷ ts) = All-cons (λ (s : SeatValue). s.set ≡ set) (new_seat set t) (map (new_seat set) ts) refl (new_of set ts)
 
 -- the seats of a set that was just opened are seats of it
-pub opened_of : (set : SetValue) (opening : Opening) (seats : List SeatValue) → IsOpened set opening seats → All (λ (s : SeatValue). s.set ≡ set) seats
-opened_of set opening seats is = subst (All (λ (s : SeatValue). s.set ≡ set)) (sym is.1) (new_of set (range_with_len 0 opening.threads))
+pub opened_of : (set : SetValue) (opening : Opening) (seats : List SeatValue) → IsOpened set opening seats →
+    All (λ (s : SeatValue). s.set ≡ set) seats
+opened_of set opening seats is =
+    subst (All (λ (s : SeatValue). s.set ≡ set)) (sym is.1) (new_of set (range_with_len 0 opening.threads))

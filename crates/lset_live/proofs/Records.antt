@@ -16,31 +16,36 @@ same_thread r [] = refl
 same_thread r (c ∷ cs) = same_thread (called r c) cs
 
 -- one record more
-pub gather_more : (o : Option Record) (rs : List Record) (q : Record) → gather_onto o (rs ++ q ∷ []) ≡ gather_onto (gather_onto o rs) (q ∷ [])
+pub gather_more : (o : Option Record) (rs : List Record) (q : Record) →
+    gather_onto o (rs ++ q ∷ []) ≡ gather_onto (gather_onto o rs) (q ∷ [])
 gather_more o [] q = refl
 gather_more None (p ∷ ps) q = gather_more (Some p) ps q
 gather_more (Some r) (p ∷ ps) q = gather_more (Some (gathered r p)) ps q
 
 -- what is kept of a gathered record is kept of those that were gathered
-keeps_each : (order : List Answered) (o : Option Record) (rs : List Record) → IfSome (gather_onto o rs) (Keeps order) → IfSome o (Keeps order) × All (Keeps order) rs
+keeps_each : (order : List Answered) (o : Option Record) (rs : List Record) → IfSome (gather_onto o rs) (Keeps order) →
+    IfSome o (Keeps order) × All (Keeps order) rs
 keeps_each order o [] k = (k, All-nil (Keeps order))
 keeps_each order None (q ∷ qs) k = let both = keeps_each order (Some q) qs k in (tt, All-cons (Keeps order) q qs both.0 both.1)
 keeps_each order (Some p) (q ∷ qs) k =
     let both = keeps_each order (Some (gathered p q)) qs k in
     ((both.0.0, both.0.1.0), All-cons (Keeps order) q qs (both.0.1.1, both.0.1.2) both.1)
 
-unnamed : (u : ℕ) (o : Option Record) (rs : List Record) → IfSome o (λ r. ¬ (Names u r)) → ¬ (NamedIn u rs) → IfSome (gather_onto o rs) (λ r. ¬ (Names u r))
+unnamed : (u : ℕ) (o : Option Record) (rs : List Record) → IfSome o (λ r. ¬ (Names u r)) → ¬ (NamedIn u rs) →
+    IfSome (gather_onto o rs) (λ r. ¬ (Names u r))
 unnamed u o [] h n = h
 unnamed u None (q ∷ qs) h n = unnamed u (Some q) qs (λ x. n (inl x)) (λ x. n (inr x))
 unnamed u (Some p) (q ∷ qs) h n = unnamed u (Some (gathered p q)) qs (λ x. ⊎_elim h (λ y. n (inl y)) x) (λ x. n (inr x))
 
 -- an order that explains the gathered record explains each of those that were gathered
-pub gathered_explains : (k : Opening) (r : Record) (rs : List Record) (keys : List ℕ) → Some r ≡ gather_onto None rs → Explains k (r ∷ []) keys → Explains k rs keys
+pub gathered_explains : (k : Opening) (r : Record) (rs : List Record) (keys : List ℕ) → Some r ≡ gather_onto None rs →
+    Explains k (r ∷ []) keys → Explains k rs keys
 gathered_explains k r rs keys e x = record {
   order = x.order;
   legal = x.legal;
   keeps = (keeps_each x.order None rs (subst (λ o. IfSome o (Keeps x.order)) e (All-head (Keeps x.order) r [] x.keeps))).1;
   threads = x.threads;
-  no_other = λ u lt out. x.no_other u lt (λ n. ⊎_elim (subst (λ o. IfSome o (λ q. ¬ (Names u q))) (sym e) (unnamed u None rs tt out)) (λ y. y) n);
+  no_other = λ u lt out. x.no_other u lt (λ n.
+      ⊎_elim (subst (λ o. IfSome o (λ q. ¬ (Names u q))) (sym e) (unnamed u None rs tt out)) (λ y. y) n);
   leaves = x.leaves;
 }

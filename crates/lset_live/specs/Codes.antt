@@ -31,7 +31,8 @@ reads (fresh t) rs is = refl
 reads (called r c) rs is = ap (read_items rs) (append_assoc (items_of r) (call c ∷ []) is) ∙ reads r rs (call c ∷ is)
 reads (gathered r g) rs is =
     ap (read_items rs)
-    (append_assoc (items_of r) (items_of g ++ take ∷ []) is ∙ ap (λ l. items_of r ++ l) (append_assoc (items_of g) (take ∷ []) is))
+    (append_assoc (items_of r) (items_of g ++ take ∷ []) is
+    ∙ ap (λ l. items_of r ++ l) (append_assoc (items_of g) (take ∷ []) is))
     ∙ (reads r rs (items_of g ++ take ∷ is) ∙ reads g (r ∷ rs) (take ∷ is))
 
 pub read_back : (r : Record) → first_of (read_items [] (items_of r)) ≡ r

@@ -37,8 +37,10 @@ pub record IsExplained (T : Table) (k : Opening) (events : List Event) (r : Reco
   pub linearizes : Linearizes k.quota (opening_set k) (history_of T k events) order
   pub keeps : Keeps (map (answered (history_of T k events)) order) r
 
--- A call of the set was made from the seat `old`, answered r, and left the seat as `new`: it is a seat of the set and holds as many
--- seats as before, its record grew by just this call, which began after all that the seat had seen, and one order explains all that
+-- A call of the set was made from the seat `old`, answered r, and left the seat as `new`: it is a seat of the set and holds as
+-- many
+-- seats as before, its record grew by just this call, which began after all that the seat had seen, and one order explains all
+-- that
 -- it has now seen.
 pub record HasAnswered (T : Table) (set : SetValue) (old : SeatValue) (c : Call) (r : Reply) (new : SeatValue) : Type 0 where
   pub of_set : new.set ≡ set

@@ -24,8 +24,10 @@ decides_by (Contains k) l false room seen e f = rw e refl
 decides_by (Ceiling k) l found room seen e f = refl
 
 walks_or_decides : (l : Local) (seen : ℕ) → at_key seen l
-    ≡ (if nat_lt seen (target l.call) then continued (record l { pc = 2; pred = l.curr; curr = l.succ }) else decides l.call l seen)
-walks_or_decides l seen = ap (λ d. if nat_lt seen (target l.call) then continued (record l { pc = 2; pred = l.curr; curr = l.succ }) else d)
+    ≡ (if nat_lt seen (target l.call) then continued (record l { pc = 2; pred = l.curr; curr = l.succ })
+    else decides l.call l seen)
+walks_or_decides l seen = ap (λ d. if nat_lt seen (target l.call)
+    then continued (record l { pc = 2; pred = l.curr; curr = l.succ }) else d)
     (decides_by l.call l (seen == target l.call) (nat_lt l.used l.quota) seen refl refl)
 
 fed_4 : (l : Local) → l.pc ≡ 4 → (seen : ℕ) → lock_free.feed l seen ≡ at_key seen l

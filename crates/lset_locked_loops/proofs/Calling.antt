@@ -22,7 +22,8 @@ use Rattle.lset_rule.specs.Calls.{Goes, Starts}
 use Rattle.lset_rule.proofs.Calls.{comes_first, comes_next, is_mid, mid_open}
 use Rattle.lset_rule.proofs.Keeps.{stands_at, in_words}
 use Rattle.lset_locked_loops.specs.Begun.{Begun, begun_at, IsCall}
-use Rattle.lset_locked_loops.specs.Calling.{Holds, MayStep, HasStepped, MayLock, MayEnd, HasEnded, MayBegin, first, Rest, row, HasAnswered}
+use Rattle.lset_locked_loops.specs.Calling.{Holds, MayStep, HasStepped, MayLock, MayEnd, HasEnded, MayBegin, first, Rest, row}
+use Rattle.lset_locked_loops.specs.Calling.{HasAnswered}
 
 module _ (m : Table) (b : Begun) where
   -- the seat of a step
@@ -39,7 +40,8 @@ module _ (m : Table) (b : Begun) where
   pub onward : (l : Local) (s : Place) (n : ℕ) (s' : Place) → IsSeat s s' → Goes m s.me.0 n s'.me.0 → (m.feed l n).answer ≡ None
       → Holds m b l s → Holds m b (m.feed l n).local s'
   onward l s n s' seat g none h =
-      let come = comes_next m b.call b.me.0 s.me.0 (continued l) n s'.me.0 (m.feed l n) (h.local, (h.mid, h.stands)) refl g refl in
+      let come = comes_next m b.call b.me.0 s.me.0 (continued l) n s'.me.0 (m.feed l n) (h.local, (h.mid, h.stands)) refl g refl
+      in
       let now = is_mid m b.call b.me.0 s'.me.0 (m.feed l n) come none in record {
         words = h.words;
         used = h.used;
@@ -50,7 +52,8 @@ module _ (m : Table) (b : Begun) where
       }
 
   -- a step that does not answer leads on, whatever it is known to hold
-  pub leads : (a : Action) (s : Place) (n : ℕ) (s' : Place) → MayStep m b a s → IsSeat s s' → Goes m s.me.0 n s'.me.0 → HasStepped m b s n s'
+  pub leads : (a : Action) (s : Place) (n : ℕ) (s' : Place) → MayStep m b a s → IsSeat s s' → Goes m s.me.0 n s'.me.0 →
+      HasStepped m b s n s'
   leads a s n s' h seat g l holds =
       let same : h.held ≡ l = sym h.holds.local ∙ holds.local in
       onward l s n s' seat g (subst (λ x. (m.feed x n).answer ≡ None) same (h.goes_on n)) holds
@@ -59,10 +62,12 @@ module _ (m : Table) (b : Begun) where
   pub few_held : Lawful m → (l : Local) (a : Action) (s : Place) → Holds m b l s → a ≡ m.next l → word_named a < MOST_WORDS
   few_held law l a s h acts =
       let o = open_now l s h in
-      let w : word_named a < b.table_id.words = in_words m law s.me.0.shape _ _ s.me.0.local (stands_at m law s.me.0 o.1 o.0) a (acts ∙ ap m.next (sym h.local)) b.me.0.shape h.mid.same.1 b.table_id.words h.words in
+      let w : word_named a < b.table_id.words = in_words m law s.me.0.shape _ _ s.me.0.local (stands_at m law s.me.0 o.1 o.0) a
+      (acts ∙ ap m.next (sym h.local)) b.me.0.shape h.mid.same.1 b.table_id.words h.words in
       let n : b.table_id.words ≡ word_count (sizes b.me.0.shape) = h.words in
       let few : node_count (sizes s.me.0.shape) ≤ MOST_NODES = nodes_within (sizes s.me.0.shape) o.1.ran.opens.within in
-      let few' : node_count (sizes b.me.0.shape) ≤ MOST_NODES = subst (λ (q : Opening). node_count (sizes q) ≤ MOST_NODES) h.mid.same.1 few in
+      let few' : node_count (sizes b.me.0.shape) ≤ MOST_NODES = subst (λ (q : Opening). node_count (sizes q) ≤ MOST_NODES)
+      h.mid.same.1 few in
       omega arith
 
   pub few_words : Lawful m → (a : Action) (s : Place) → MayStep m b a s → word_named a < MOST_WORDS
@@ -82,10 +87,18 @@ module _ (m : Table) (b : Begun) where
   same_held l l' s h h' = sym h.local ∙ h'.local
 
   pub now_holds : (l l' : Local) (s : Place) → l ≡ l' → Holds m b l s → Holds m b l' s
-  now_holds l l' s same h = record { words = h.words; used = h.used; seat = h.seat; mid = h.mid; stands = h.stands; local = h.local ∙ same }
+  now_holds l l' s same h = record {
+    words = h.words;
+    used = h.used;
+    seat = h.seat;
+    mid = h.mid;
+    stands = h.stands;
+    local = h.local ∙ same;
+  }
 
   -- a try of a lock that fails
-  pub tried : (word thread : ℕ) (s0 s : Place) (n : ℕ) (s' : Place) → MayLock m b word thread s0 → n ≢ 0 → Holds m b s0.me.0.local s
+  pub tried : (word thread : ℕ) (s0 s : Place) (n : ℕ) (s' : Place) → MayLock m b word thread s0 → n ≢ 0 →
+      Holds m b s0.me.0.local s
       → IsSeat s s' → Goes m s.me.0 n s'.me.0 → Holds m b s0.me.0.local s'
   tried word thread s0 s n s' lk ne h seat g =
       let at : Holds m b lk.held s = now_holds s0.me.0.local lk.held s lk.holds.local h in
@@ -93,20 +106,25 @@ module _ (m : Table) (b : Begun) where
       (onward lk.held s n s' seat g (ap (λ (f : Fed). f.answer) (lk.again n ne)) at)
 
   -- then the same lock is tried on,
-  pub still : (word thread : ℕ) (s0 : Place) (n : ℕ) (s' : Place) → MayLock m b word thread s0 → n ≢ 0 → IsSeat s0 s' → Goes m s0.me.0 n s'.me.0 → MayLock m b word thread s'
+  pub still : (word thread : ℕ) (s0 : Place) (n : ℕ) (s' : Place) → MayLock m b word thread s0 → n ≢ 0 → IsSeat s0 s' →
+      Goes m s0.me.0 n s'.me.0 → MayLock m b word thread s'
   still word thread s0 n s' lk ne seat g = record {
     held = lk.held;
-    holds = now_holds s0.me.0.local lk.held s' lk.holds.local (tried word thread s0 s0 n s' lk ne (itself lk.held s0 lk.holds) seat g);
+    holds = now_holds s0.me.0.local lk.held s' lk.holds.local (tried word thread s0 s0 n s' lk ne (itself lk.held s0 lk.holds)
+        seat g);
     acts = lk.acts;
     again = lk.again;
     goes_on = lk.goes_on;
   }
 
-  pub leads_still : (word thread : ℕ) (s0 : Place) (n : ℕ) (s s' : Place) → MayLock m b word thread s0 → n ≢ 0 → IsSeat s0 s → Goes m s0.me.0 n s.me.0 → HasStepped m b s 0 s' → HasStepped m b s0 0 s'
-  leads_still word thread s0 n s s' lk ne seat g on l h = on l (now_holds s0.me.0.local l s h.local (tried word thread s0 s0 n s lk ne (itself lk.held s0 lk.holds) seat g))
+  pub leads_still : (word thread : ℕ) (s0 : Place) (n : ℕ) (s s' : Place) → MayLock m b word thread s0 → n ≢ 0 → IsSeat s0 s →
+      Goes m s0.me.0 n s.me.0 → HasStepped m b s 0 s' → HasStepped m b s0 0 s'
+  leads_still word thread s0 n s s' lk ne seat g on l h =
+      on l (now_holds s0.me.0.local l s h.local (tried word thread s0 s0 n s lk ne (itself lk.held s0 lk.holds) seat g))
 
   -- and one that succeeds leads on
-  pub leads_had : (word thread : ℕ) (s0 : Place) (n : ℕ) (s' : Place) → MayLock m b word thread s0 → n ≡ 0 → IsSeat s0 s' → Goes m s0.me.0 n s'.me.0 → HasStepped m b s0 0 s'
+  pub leads_had : (word thread : ℕ) (s0 : Place) (n : ℕ) (s' : Place) → MayLock m b word thread s0 → n ≡ 0 → IsSeat s0 s' →
+      Goes m s0.me.0 n s'.me.0 → HasStepped m b s0 0 s'
   leads_had word thread s0 n s' lk zero seat g l h = onward l s0 0 s' seat (subst (λ i. Goes m s0.me.0 i s'.me.0) zero g)
       (subst (λ x. (m.feed x 0).answer ≡ None) (same_held lk.held l s0 lk.holds h) lk.goes_on) h
 
@@ -114,7 +132,8 @@ module _ (m : Table) (b : Begun) where
   pub answers : (s s' : Place) → IsSeat s s' → Goes m s.me.0 0 s'.me.0 → HasEnded m b s s'
   answers s s' seat g l l' r h is =
       let f : Fed = record { local = l'; answer = Some r } in
-      let come = comes_next m b.call b.me.0 s.me.0 (continued l) 0 s'.me.0 f (h.local, (h.mid, h.stands)) refl g (sym is) in record {
+      let come = comes_next m b.call b.me.0 s.me.0 (continued l) 0 s'.me.0 f (h.local, (h.mid, h.stands)) refl g (sym is) in
+      record {
         seat = (seat.0 ∙ h.seat.0, seat.1 ∙ h.seat.1, seat.2 ∙ h.seat.2);
         makes = come.1;
         local = come.0;
@@ -124,24 +143,30 @@ module _ (m : Table) (b : Begun) where
 begun_is : (m : Table) → Lawful m → (b : Begun) (own : Slots) (l : Local) → own ≡ slots_of l → m.begin b.call l ≡ first m b own
 begun_is m law b own l same = (law.begins b.call l).alike ∙ ap (λ s. m.begin b.call (resting s)) (sym same)
 
-pub of_table_first : (m : Table) (b : Begun) (c : Call) (z : TableId) (k : Opening) (own : Slots) (s : Place) → IsCall b c z k → MayBegin m b own s → IsOf z k s
+pub of_table_first : (m : Table) (b : Begun) (c : Call) (z : TableId) (k : Opening) (own : Slots) (s : Place) → IsCall b c z k →
+    MayBegin m b own s → IsOf z k s
 of_table_first m b c z k own s is may = let P : TableId × Opening → Type 0 = λ q. IsOf q.0 q.1 s in
     subst P (λ i. (is.1 i, is.2 i)) may.may.place
 
-pub acts_first : (m : Table) → Lawful m → (b : Begun) (own : Slots) (s : Place) (c : Call) (a : Action) → b.call ≡ c → MayBegin m b own s
+pub acts_first : (m : Table) → Lawful m → (b : Begun) (own : Slots) (s : Place) (c : Call) (a : Action) → b.call ≡ c →
+    MayBegin m b own s
     → a ≡ m.next (first m b own) → a ≡ m.next (m.begin c s.me.0.local)
 acts_first m law b own s c a same may is =
     is ∙ (ap m.next (sym (begun_is m law b own s.me.0.local may.may.slots)) ∙ ap (λ x. m.next (m.begin x s.me.0.local)) same)
 
-pub begins_holding : (m : Table) → Lawful m → (b : Begun) (own : Slots) (s : Place) (n : ℕ) (s' : Place) (c : Call) → b.call ≡ c → MayBegin m b own s
-    → IsSeat s s' → Starts m c s.me.0 n s'.me.0 → (m.feed (first m b own) n).answer ≡ None → Holds m b (m.feed (first m b own) n).local s'
+pub begins_holding : (m : Table) → Lawful m → (b : Begun) (own : Slots) (s : Place) (n : ℕ) (s' : Place) (c : Call) → b.call ≡ c →
+    MayBegin m b own s
+    → IsSeat s s' → Starts m c s.me.0 n s'.me.0 → (m.feed (first m b own) n).answer ≡ None →
+    Holds m b (m.feed (first m b own) n).local s'
 begins_holding m law b own s n s' c same may seat starts none =
     let f : Fed = m.feed (first m b own) n in
-    let is : f ≡ m.feed (m.begin b.call s.me.0.local) n = ap (λ l. m.feed l n) (sym (begun_is m law b own s.me.0.local may.may.slots)) in
+    let is : f ≡ m.feed (m.begin b.call s.me.0.local) n =
+    ap (λ l. m.feed l n) (sym (begun_is m law b own s.me.0.local may.may.slots)) in
     let come = comes_first m b.call s.me.0 n s'.me.0 f (subst (λ x. Starts m x s.me.0 n s'.me.0) (sym same) starts) is in
     let now = is_mid m b.call s.me.0 s'.me.0 f come none in
     let here : Holds m (begun_at b.call s) f.local s' = record {
-      words = ap (λ (t : TableId). t.words) may.may.place.0 ∙ (may.may.place.2 ∙ ap (λ k. word_count (sizes k)) (sym may.may.place.1));
+      words = ap (λ (t : TableId). t.words) may.may.place.0
+          ∙ (may.may.place.2 ∙ ap (λ k. word_count (sizes k)) (sym may.may.place.1));
       used = may.may.idle.0;
       seat = seat;
       mid = now.0;
@@ -150,8 +175,10 @@ begins_holding m law b own s n s' c same may seat starts none =
     } in subst (λ x. Holds m x f.local s') (sym may.now) here
 
 -- which was the try of a lock that failed
-pub first_tried : (m : Table) → Lawful m → (b : Begun) (own : Slots) (s : Place) (n : ℕ) (s' : Place) (c : Call) → b.call ≡ c → MayBegin m b own s
-    → IsSeat s s' → Starts m c s.me.0 n s'.me.0 → ((i : ℕ) → i ≢ 0 → m.feed (first m b own) i ≡ continued (first m b own)) → n ≢ 0 → Holds m b (first m b own) s'
+pub first_tried : (m : Table) → Lawful m → (b : Begun) (own : Slots) (s : Place) (n : ℕ) (s' : Place) (c : Call) → b.call ≡ c →
+    MayBegin m b own s
+    → IsSeat s s' → Starts m c s.me.0 n s'.me.0 → ((i : ℕ) → i ≢ 0 → m.feed (first m b own) i ≡ continued (first m b own)) → n ≢ 0
+    → Holds m b (first m b own) s'
 first_tried m law b own s n s' c same may seat starts again ne =
     now_holds m b (m.feed (first m b own) n).local (first m b own) s' (ap (λ (f : Fed). f.local) (again n ne))
     (begins_holding m law b own s n s' c same may seat starts (ap (λ (f : Fed). f.answer) (again n ne)))
@@ -173,19 +200,27 @@ abbrev pub no_rest : Rest
 no_rest = record { succ = 0; node = 0; pkey = 0; ckey = 0 }
 
 -- A WHOLE CALL
-pub may_begin : {m : Table} {z : TableId} {k : Opening} {own : Slots} {s : Place} (c : Call) → MayCall m z k own s → MayBegin m (begun_at c s) own s
+pub may_begin : {m : Table} {z : TableId} {k : Opening} {own : Slots} {s : Place} (c : Call) → MayCall m z k own s →
+    MayBegin m (begun_at c s) own s
 may_begin c may = record {
   now = refl;
   may = record {
-    place = (refl, refl, ap (λ (t : TableId). t.words) may.place.0 ∙ (may.place.2 ∙ ap (λ k. word_count (sizes k)) (sym may.place.1)));
+    place = (
+      refl,
+      refl,
+      ap (λ (t : TableId). t.words) may.place.0
+          ∙ (may.place.2 ∙ ap (λ k. word_count (sizes k)) (sym may.place.1)),
+    );
     idle = may.idle;
     stands = may.stands;
     slots = may.slots;
   };
 }
 
-pub is_call : {m : Table} {z : TableId} {k : Opening} {own : Slots} {s : Place} (c : Call) → MayCall m z k own s → IsCall (begun_at c s) c z k
+pub is_call : {m : Table} {z : TableId} {k : Opening} {own : Slots} {s : Place} (c : Call) → MayCall m z k own s →
+    IsCall (begun_at c s) c z k
 is_call c may = (refl, may.place.0, may.place.1)
 
-pub called : {m : Table} {c : Call} {s s' : Place} {answer : Slots × Reply} → HasAnswered m (begun_at c s) answer s' → HasCalled m c s answer s'
+pub called : {m : Table} {c : Call} {s s' : Place} {answer : Slots × Reply} → HasAnswered m (begun_at c s) answer s' →
+    HasCalled m c s answer s'
 called e = record { place = e.1.seat; slots = e.2 ∙ ap slots_of (sym e.1.local); made = e.1.makes }

@@ -86,7 +86,8 @@ pub record MayEnd (m : Table) (b : Begun) (word : ℕ) (s : Place) : Type 0 wher
   pub acts : Store word 0 ≡ m.next held
 
 abbrev pub HasEnded : Table → Begun → Place → Place → Type 0
-HasEnded m b s s' = (l l' : Local) (r : Reply) → Holds m b l s → m.feed l 0 ≡ record { local = l'; answer = Some r } → Answered m b r l' s'
+HasEnded m b s s' = (l l' : Local) (r : Reply) → Holds m b l s → m.feed l 0 ≡ record { local = l'; answer = Some r } →
+    Answered m b r l' s'
 
 -- the registers that no loop has a variable for
 pub record Rest : Type 0 where
@@ -120,7 +121,8 @@ done t (Answer r) l = goes_to t.leaves (Some r) l
 
 -- what is decided of a key word
 abbrev pub Decides : Call → Slots → ℕ → Decision → Type 0
-Decides c own word d = (t : Targets) (l : Local) → l.call ≡ c → l.used ≡ own.used → l.quota ≡ own.quota → decided_on t word l ≡ done t d l
+Decides c own word d = (t : Targets) (l : Local) → l.call ≡ c → l.used ≡ own.used → l.quota ≡ own.quota →
+    decided_on t word l ≡ done t d l
 
 -- a slot more is used
 abbrev pub one_more : Slots → Slots

@@ -19,7 +19,8 @@ AtKey b own p x s = (j : Rest) × Holds coarse b (row own b.call 3 None p x j) s
 
 -- Its walk has stopped there.
 abbrev pub StopsAt : Begun → Slots → Found → Place → Type 0
-StopsAt b own f s = (j : Rest) × Holds coarse b (decided_on targets f.word (row own b.call 3 None f.pred.number f.curr.number j)) s
+StopsAt b own f s = (j : Rest) × Holds coarse b (decided_on targets f.word (row own b.call 3 None f.pred.number f.curr.number j))
+    s
 
 -- It is about to give the lock back, with these slots and this reply.
 abbrev pub Leaves : Begun → Slots × Reply → Place → Type 0

@@ -25,7 +25,8 @@ HasLocked b own f s = (j : Rest) × Holds lazy b (row own b.call 6 None f.pred.n
 -- The two nodes are neighbours, and the second leads to n.
 abbrev pub AreNeighbours : Begun → Slots → Found → Node → Place → Type 0
 AreNeighbours b own f n s = (j : Rest)
-    × Holds lazy b (decided_on targets f.word (row own b.call 7 None f.pred.number f.curr.number (record j { ckey = f.word; succ = n.number }))) s
+    × Holds lazy b (decided_on targets f.word
+    (row own b.call 7 None f.pred.number f.curr.number (record j { ckey = f.word; succ = n.number }))) s
 
 -- It is about to give both locks back: with this reply, or with none, to start over.
 abbrev pub GivesBack : Begun → Found → Slots → Option Reply → Place → Type 0

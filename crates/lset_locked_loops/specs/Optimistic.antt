@@ -18,26 +18,38 @@ AtKey b own p x before s = (j : Rest) × Holds optimistic b (row own b.call 2 No
 -- Its walk has stopped there, and it is about to lock the first node.
 abbrev pub StopsAt : Begun → Slots → Stopped → Place → Type 0
 StopsAt b own f s = (j : Rest)
-    × Holds optimistic b (row own b.call 4 None f.found.pred.number f.found.curr.number (record j { pkey = f.before; ckey = f.found.word })) s
+    × Holds optimistic b (row own b.call 4 None f.found.pred.number f.found.curr.number (record j {
+      pkey = f.before;
+      ckey = f.found.word;
+    })) s
 
 -- It has locked both nodes, and is about to walk again, if the first is not the head.
 abbrev pub HasLocked : Begun → Slots → Stopped → Place → Type 0
 HasLocked b own f s = (j : Rest)
-    × Holds optimistic b (at_locks (row own b.call 5 None f.found.pred.number f.found.curr.number (record j { pkey = f.before; ckey = f.found.word }))) s
+    × Holds optimistic b (at_locks (row own b.call 5 None f.found.pred.number f.found.curr.number (record j {
+      pkey = f.before;
+      ckey = f.found.word;
+    }))) s
 
 -- In its second walk it is about to load the link of the node n.
 abbrev pub AtNode : Begun → Slots → Stopped → Node → Place → Type 0
 AtNode b own f n s = (j : Rest)
-    × Holds optimistic b (row own b.call 6 None f.found.pred.number f.found.curr.number (record j { pkey = f.before; ckey = f.found.word; node = n.number })) s
+    × Holds optimistic b (row own b.call 6 None f.found.pred.number f.found.curr.number (record j {
+      pkey = f.before;
+      ckey = f.found.word;
+      node = n.number;
+    })) s
 
 -- It is about to load the link of the first node, which it found in the list.
 abbrev pub AtPred : Begun → Slots → Found → Place → Type 0
-AtPred b own f s = (j : Rest) × Holds optimistic b (row own b.call 8 None f.pred.number f.curr.number (record j { ckey = f.word })) s
+AtPred b own f s = (j : Rest) × Holds optimistic b
+    (row own b.call 8 None f.pred.number f.curr.number (record j { ckey = f.word })) s
 
 -- The two nodes are neighbours.
 abbrev pub AreNeighbours : Begun → Slots → Found → Place → Type 0
 AreNeighbours b own f s = (j : Rest)
-    × Holds optimistic b (decided_on targets f.word (row own b.call 8 None f.pred.number f.curr.number (record j { ckey = f.word }))) s
+    × Holds optimistic b (decided_on targets f.word
+    (row own b.call 8 None f.pred.number f.curr.number (record j { ckey = f.word }))) s
 
 -- It is about to give both locks back: with this reply, or with none, to start over.
 abbrev pub GivesBack : Begun → Found → Slots → Option Reply → Place → Type 0

@@ -1,5 +1,6 @@
 -- That the replies of OptimisticList fit the moment of a load.
-use Rattle.std.specs.Prelude.{◌≡◌, ◌≢◌, ℕ, zero, suc, ◌+◌, ◌/◌, ◌<◌, ◌≤◌, ◌⊎◌, Bool, true, false, Option, Some, None, List, if◌then◌else◌, ◌==◌, ◌||◌, nat_lt, slice_index_or, slice_set, length, refl}
+use Rattle.std.specs.Prelude.{◌≡◌, ◌≢◌, ℕ, zero, suc, ◌+◌, ◌/◌, ◌<◌, ◌≤◌, ◌⊎◌, Bool, true, false, Option, Some, None, List}
+use Rattle.std.specs.Prelude.{if◌then◌else◌, ◌==◌, ◌||◌, nat_lt, slice_index_or, slice_set, length, refl}
 use Rattle.std.proofs.Common.{arith, inl, inr, sym, ◌∙◌, ap, subst, get_or-set_other, get_or-set_same}
 use Rattle.std.proofs.lemmas.List.FromFn.{get_or-map-range_with_len}
 use Rattle.lset_words.proofs.Numbers.{same_or_not, if_same, if_other}
@@ -22,7 +23,8 @@ use Rattle.lset_steps.proofs.Turns.{discipline_of, node_locks}
 use Rattle.lset_optimistic.specs.Optimistic.{optimistic, targets, at_node, at_link, at_end, local_after}
 use Rattle.lset_optimistic.specs.Lawful.{optimistic_lawful}
 use Rattle.lset_optimistic.specs.Lawful.Outline.{At, Window, optimistic_follows, decision}
-use Rattle.lset_optimistic.specs.Lawful.Outline.At.{at0, at1, at2, at3, at4, at5, at6, at7, at8, at9, at10, at11, at12, at13, at14, at15}
+use Rattle.lset_optimistic.specs.Lawful.Outline.At.{at0, at1, at2, at3, at4, at5, at6, at7, at8, at9, at10, at11, at12, at13}
+use Rattle.lset_optimistic.specs.Lawful.Outline.At.{at14, at15}
 use Rattle.lset_optimistic.specs.Promises.{held_at, world_at, FitsAtALoad, OptimisticRepliesFit}
 use Rattle.lset_optimistic.proofs.SecondWalks.{known}
 
@@ -33,7 +35,8 @@ none_is_not reply e = absurd (cc)
 some_is : (a b : Reply) → Some a ≡ Some b → a ≡ b
 some_is a b e = cc
 
-module _ (sz : Sizes) (t : ℕ) (vs : ℕ → View) (first now : ℕ) (ws : List ℕ) (used : ℕ → ℕ) (done : Bool) (l : Local) (reply : Reply)
+module _ (sz : Sizes) (t : ℕ) (vs : ℕ → View) (first now : ℕ) (ws : List ℕ) (used : ℕ → ℕ) (done : Bool) (l : Local)
+    (reply : Reply)
     (m : Memory false sz ws used) (th : Thread At sz t vs first now ws used done l) (tn : t < sz.threads) (e : l.pc ≡ 8) where
   fits_link : Window (view sz ws used) l → node_lock ws l.curr ≡ t + 1 → Held (view sz ws used) t l.pred
       → (at_link (node_link ws l.pred) (record l { pc = 8 })).reply ≡ Some reply
@@ -44,7 +47,8 @@ module _ (sz : Sizes) (t : ℕ) (vs : ℕ → View) (first now : ℕ) (ws : List
         (decided_on targets l.ckey (record l { pc = 8 })) (record l { pc = 14; reply = None }))) ∙ y in (
           z,
           elim made.1 [
-            | inl r ↦ subst (FitsIn sz.quota (view sz ws used) t l.call) (some_is r.0 reply (sym (ap (λ (k : Local). k.reply) r.1) ∙ told)) r.2
+            | inl r ↦ subst (FitsIn sz.quota (view sz ws used) t l.call) (some_is r.0 reply (sym (ap (λ (k : Local). k.reply) r.1)
+                ∙ told)) r.2
             | inr o ↦ elim o [
               | inl r ↦ none_is_not reply (sym (ap (λ (k : Local). k.reply) r.0) ∙ told)
               | inr r ↦ none_is_not reply (sym (ap (λ (k : Local). k.reply) r.0) ∙ told)
@@ -84,20 +88,23 @@ link_row : (ws : List ℕ) (l : Local) → l.pc ≡ 8
 link_row ws l e = rw e refl
 
 -- where a thread at 8 makes its step, and has a reply then
-fits_at : (op : Opening) (last : ℕ) (es : ℕ → Event) (r : Run optimistic op es last) (t : ℕ) (tn : t < op.threads) (k : ℕ) → k < last → es k ≡ Go t
+fits_at : (op : Opening) (last : ℕ) (es : ℕ → Event) (r : Run optimistic op es last) (t : ℕ) (tn : t < op.threads) (k : ℕ) →
+    k < last → es k ≡ Go t
     → (held_at op es k t).pc ≡ 8 → (reply : Reply)
     → (local_after (held_at op es k t) (seen_next optimistic (state_at optimistic op es k) t)).reply ≡ Some reply
     → ((world_at op es k).link (held_at op es k t).pred / 2 ≡ (held_at op es k t).curr)
     × FitsIn op.quota (world_at op es k) t (held_at op es k t).call reply
 fits_at op last es r t tn k l goes e reply y =
-    let i = inv_at optimistic false At (discipline_of optimistic (node_locks false) At optimistic_follows) op es last r k (omega arith) in
+    let i = inv_at optimistic false At (discipline_of optimistic (node_locks false) At optimistic_follows) op es last r k
+    (omega arith) in
     let s : State = state_at optimistic op es k in
     let th = i.threads t tn in
     fits_row (sizes op) t (views optimistic op es) (begun_at (log_of optimistic op es) t k) k s.words (used_in s)
     (has_changed (log_of optimistic op es) t k) (local_of s t) reply i.memory th tn e th.at
     (ap (λ (x : Local). x.reply) (sym (link_row s.words (local_of s t) e)) ∙ y)
 
--- WHERE A REPLY COMES FROM: a step to a row that gives a lock back (14, 15), with a reply, is the load of pc 8, or a change, or one from
+-- WHERE A REPLY COMES FROM: a step to a row that gives a lock back (14, 15), with a reply, is the load of pc 8, or a change, or
+-- one from
 -- 14 with that reply.
 abbrev Came : Local → ℕ → Reply → Type 0
 Came l seen reply = (l.pc ≡ 8) ⊎ (is_change (optimistic.effect l seen) ≡ true) ⊎ ((l.pc ≡ 14) × (l.reply ≡ Some reply))
@@ -143,7 +150,8 @@ module _ (l : Local) (seen : ℕ) where
   row_15 : l.pc ≡ 15 → (local_after l seen).pc < 14
   row_15 e = rw e (end_early l.reply (record l { pc = 15 }))
 
-  came : {q t : ℕ} {vs : ℕ → View} {first now : ℕ} {v : View} {done : Bool} → At q t vs first now v done l → l.pc ≢ 0 → (reply : Reply)
+  came : {q t : ℕ} {vs : ℕ → View} {first now : ℕ} {v : View} {done : Bool} → At q t vs first now v done l → l.pc ≢ 0 →
+      (reply : Reply)
       → 14 ≤ (local_after l seen).pc → (local_after l seen).reply ≡ Some reply → Came l seen reply
   came (at0 e) busy reply h k = absurd (busy e)
   came (at1 e d) busy reply h k = too_early h (rw e (omega arith))
@@ -264,12 +272,14 @@ module _ (op : Opening) (last : ℕ) (es : ℕ → Event) (r : Run optimistic op
 
   settled_at : (k : ℕ) → k ≤ last → Now k
   settled_at zero l = λ reply h y u.
-      too_early (subst (λ (x : Local). 14 ≤ x.pc) (get_or-map-range_with_len (idle op.quota) 0 op.threads t t (idle 0 0) tn (omega arith)) h)
+      too_early (subst (λ (x : Local). 14 ≤ x.pc) (get_or-map-range_with_len (idle op.quota) 0 op.threads t t (idle 0 0) tn
+      (omega arith)) h)
       (omega arith)
   settled_at (suc k) l = settle k (omega arith) (es k) refl (r.enabled k (omega arith)) (settled_at k (omega arith))
 
 -- a thread that answers stands at 15 with that reply
-answers_at_the_end : (l : Local) (reply : Reply) → (if l.pc == 15 then l.reply else None) ≡ Some reply → (l.pc ≡ 15) × (l.reply ≡ Some reply)
+answers_at_the_end : (l : Local) (reply : Reply) → (if l.pc == 15 then l.reply else None) ≡ Some reply → (l.pc ≡ 15)
+    × (l.reply ≡ Some reply)
 answers_at_the_end l reply e = elim (same_or_not l.pc 15) [
   | inl f ↦ (f, sym (if_same l.pc 15 f l.reply None) ∙ e)
   | inr f ↦ none_is_not reply (sym (if_other l.pc 15 f l.reply None) ∙ e)

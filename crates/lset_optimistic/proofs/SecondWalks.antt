@@ -1,5 +1,6 @@
 -- That the second walks of OptimisticList are valid.
-use Rattle.std.specs.Prelude.{◌≡◌, ◌≢◌, ℕ, zero, suc, ◌+◌, ◌-◌, ◌/◌, ◌<◌, ◌≤◌, ◌⊎◌, Bool, true, false, None, if◌then◌else◌, ◌==◌, nat_lt, slice_index_or, slice_set, length, refl}
+use Rattle.std.specs.Prelude.{◌≡◌, ◌≢◌, ℕ, zero, suc, ◌+◌, ◌-◌, ◌/◌, ◌<◌, ◌≤◌, ◌⊎◌, Bool, true, false, None, if◌then◌else◌, ◌==◌}
+use Rattle.std.specs.Prelude.{nat_lt, slice_index_or, slice_set, length, refl}
 use Rattle.std.proofs.Common.{arith, inl, inr, sym, ◌∙◌, ap, subst, get_or-set_other, get_or-set_same}
 use Rattle.lset_words.proofs.Numbers.{same_or_not, below_or_not, if_same, if_other, if_below, if_not_below}
 use Rattle.lset_words.specs.declared.Call.{Call}
@@ -20,8 +21,10 @@ use Rattle.lset_steps.proofs.Discipline.{Thread, inv_at}
 use Rattle.lset_steps.proofs.Turns.{discipline_of, node_locks}
 use Rattle.lset_optimistic.specs.Optimistic.{optimistic, targets, at_node, at_link, local_after}
 use Rattle.lset_optimistic.specs.Lawful.Outline.{At, optimistic_follows}
-use Rattle.lset_optimistic.specs.Lawful.Outline.At.{at0, at1, at2, at3, at4, at5, at6, at7, at8, at9, at10, at11, at12, at13, at14, at15}
-use Rattle.lset_optimistic.specs.Promises.{held_at, world_at, IsWalking, HasArrived, GivesBack, WasInChain, IsLockedInChain, ValidatedWalk}
+use Rattle.lset_optimistic.specs.Lawful.Outline.At.{at0, at1, at2, at3, at4, at5, at6, at7, at8, at9, at10, at11, at12, at13}
+use Rattle.lset_optimistic.specs.Lawful.Outline.At.{at14, at15}
+use Rattle.lset_optimistic.specs.Promises.{held_at, world_at, IsWalking, HasArrived, GivesBack, WasInChain, IsLockedInChain}
+use Rattle.lset_optimistic.specs.Promises.{ValidatedWalk}
 
 -- WHAT IS KNOWN AT A PLACE
 record Facts (vs : ℕ → View) (first now : ℕ) (v : View) (t : ℕ) (l : Local) : Type 0 where
@@ -117,7 +120,8 @@ link_stays : (seen : ℕ) (l : Local) → l.node ≡ l.pred → Stays l (at_link
 link_stays seen l a = elim (same_or_not (seen / 2) l.curr) [
   | inl e ↦ subst (Stays l) (sym (if_same (seen / 2) l.curr e (decided_on targets l.ckey l) (record l { pc = 14; reply = None })))
       (decided_stays l.call (l.ckey == target l.call) (nat_lt l.used l.quota) l.ckey l a)
-  | inr e ↦ subst (Stays l) (sym (if_other (seen / 2) l.curr e (decided_on targets l.ckey l) (record l { pc = 14; reply = None })))
+  | inr e ↦ subst (Stays l) (sym (if_other (seen / 2) l.curr e (decided_on targets l.ckey l)
+      (record l { pc = 14; reply = None })))
       (record { from = omega arith; upto = omega arith; there = a }, refl)
 ]
 
@@ -140,8 +144,14 @@ module _ (l : Local) (seen : ℕ) (a : l.node ≡ l.pred) where
   row_stays p e (inr (inr (inl f))) = rw (e ∙ f) (record { from = omega arith; upto = omega arith; there = a }, refl)
   row_stays p e (inr (inr (inr (inl f)))) = rw (e ∙ f) (record { from = omega arith; upto = omega arith; there = a }, refl)
   row_stays p e (inr (inr (inr (inr (inl f))))) = rw (e ∙ f) (record { from = omega arith; upto = omega arith; there = a }, refl)
-  row_stays p e (inr (inr (inr (inr (inr (inl f)))))) = rw (e ∙ f) (record { from = omega arith; upto = omega arith; there = a }, refl)
-  row_stays p e (inr (inr (inr (inr (inr (inr f)))))) = rw (e ∙ f) (record { from = omega arith; upto = omega arith; there = a }, refl)
+  row_stays p e (inr (inr (inr (inr (inr (inl f)))))) = rw (e ∙ f) (
+    record { from = omega arith; upto = omega arith; there = a },
+    refl,
+  )
+  row_stays p e (inr (inr (inr (inr (inr (inr f)))))) = rw (e ∙ f) (
+    record { from = omega arith; upto = omega arith; there = a },
+    refl,
+  )
 
 which_row : (p : ℕ) → 7 ≤ p → p ≤ 14 → p ≢ 14 → (p ≡ 7) ⊎ (p ≡ 8) ⊎ (p ≡ 9) ⊎ (p ≡ 10) ⊎ (p ≡ 11) ⊎ (p ≡ 12) ⊎ (p ≡ 13)
 which_row p from upto d = grind arith
@@ -183,7 +193,8 @@ module _ (op : Opening) (last : ℕ) (es : ℕ → Event) (r : Run optimistic op
       → Thread At (sizes op) t (views optimistic op es) (begun_at (log_of optimistic op es) t k) k
       (state_at optimistic op es k).words (used_in (state_at optimistic op es k))
       (has_changed (log_of optimistic op es) t k) (held_at op es k t)
-  known k l = (inv_at optimistic false At (discipline_of optimistic (node_locks false) At optimistic_follows) op es last r k l).threads t tn
+  known k l = (inv_at optimistic false At (discipline_of optimistic (node_locks false) At optimistic_follows) op es last r k
+      l).threads t tn
 
   facts_at : (k : ℕ) → k ≤ last
       → Facts (views optimistic op es) (begun_at (log_of optimistic op es) t k) k (world_at op es k) t (held_at op es k t)

@@ -72,7 +72,8 @@ pub record WalksAreValid (op : Opening) (last t : ℕ) (es : ℕ → Event) : Ty
 -- [Validated walk]: where the second walk arrives at pred, pred is in the chain from then to the storing of 0 in its lock,
 -- although the walk may have passed through nodes that were being unlinked.
 abbrev pub ValidatedWalk : Type 0
-ValidatedWalk = (op : Opening) (last t : ℕ) (es : ℕ → Event) → Run optimistic op es last → t < op.threads → WalksAreValid op last t es
+ValidatedWalk = (op : Opening) (last t : ℕ) (es : ℕ → Event) → Run optimistic op es last → t < op.threads →
+    WalksAreValid op last t es
 
 -- At a moment from `first` on and before `now` thread t made its load of the link of pred (row 8) and saw that it leads to curr,
 -- and the reply fits that moment.
@@ -88,7 +89,8 @@ pub record FitsAtALoad (op : Opening) (es : ℕ → Event) (first now t : ℕ) (
 -- [Optimistic replies fit]: where a call ends that changed nothing, its reply fits a moment of the call, one at which the thread
 -- saw that pred leads to curr, after a walk that had arrived (row 8).
 abbrev pub OptimisticRepliesFit : Type 0
-OptimisticRepliesFit = (op : Opening) (last k t : ℕ) (es : ℕ → Event) (reply : Reply) → Run optimistic op es last → k < last → t < op.threads
+OptimisticRepliesFit = (op : Opening) (last k t : ℕ) (es : ℕ → Event) (reply : Reply) → Run optimistic op es last → k < last →
+    t < op.threads
     → es k ≡ Go t → (told optimistic (state_at optimistic op es k) (Go t)).answer ≡ Some reply
     → has_changed (log_of optimistic op es) t k ≡ false
     → FitsAtALoad op es (begun_at (log_of optimistic op es) t k) k t (held_at op es k t).call reply

@@ -6,8 +6,10 @@ use Rattle.std.proofs.lemmas.Str.{IsUtf8-from_ascii}
 use Rattle.std.proofs.lemmas.Str.Ascii.{IsAscii-cons, IsAscii-nil}
 use Rattle.tool_examples.specs.Examples.{name_of}
 use Rattle.tool_examples.specs.declared.example.Example.{Example}
-use Rattle.tool_examples.specs.declared.example.Example.TheVariants.{FailedTries, Full, HandOverHand, SameGap, StalePred, MarkedInChain}
-use Rattle.tool_examples.specs.declared.example.Example.TheVariants.{MarkedPred, ReadInAnothersStep, OpensWithKeys, TwoRemovers, Snip, TriesAgain, LeftInChain}
+use Rattle.tool_examples.specs.declared.example.Example.TheVariants.{FailedTries, Full, HandOverHand, SameGap, StalePred}
+use Rattle.tool_examples.specs.declared.example.Example.TheVariants.{MarkedInChain}
+use Rattle.tool_examples.specs.declared.example.Example.TheVariants.{MarkedPred, ReadInAnothersStep, OpensWithKeys, TwoRemovers}
+use Rattle.tool_examples.specs.declared.example.Example.TheVariants.{Snip, TriesAgain, LeftInChain}
 use Rattle.tool_examples.specs.declared.example.Example.TheVariants.{CeilingMeetsMark, CeilingLeftInChain, BehindTheWalk}
 
 abbrev is_ascii : List ℕ → Bool

@@ -34,7 +34,8 @@ pub record IsHanded (made : Made) (old new : List ℕ) (status count : ℕ) : Ty
 abbrev pub OfText : (List ℕ → Made → Type 0) → List ℕ → Made → Type 0
 OfText Makes text made = Makes text made × (made ≢ Err CannotRead)
 
--- What `show` makes of the bytes as options ask for it, as in the program (`ShowsAsked` of lset_dispatch); a wrong option is named.
+-- What `show` makes of the bytes as options ask for it, as in the program (`ShowsAsked` of lset_dispatch); a wrong option is
+-- named.
 abbrev pub ShowsAsked : Result (Form × Window) ValueName → List ℕ → Made → Type 0
 ShowsAsked (Ok asked) bytes made = Shows asked.0 asked.1 bytes made
 ShowsAsked (Err wrong) bytes made = made ≡ Err (Bad wrong)

@@ -1,5 +1,6 @@
 -- A deed that writes no key and no link of a node leaves the chain as it was.
-use Rattle.std.proofs.Common.{◌≡◌, ◌≢◌, ℕ, ◌/◌, ◌%◌, ◌≤◌, ◌⊎◌, inl, inr, Bool, true, false, List, [], ◌∷◌, sym, refl, subst, ◌∙◌, arith, rules, get_or-set_other}
+use Rattle.std.proofs.Common.{◌≡◌, ◌≢◌, ℕ, ◌/◌, ◌%◌, ◌≤◌, ◌⊎◌, inl, inr, Bool, true, false, List, [], ◌∷◌, sym, refl, subst, ◌∙◌}
+use Rattle.std.proofs.Common.{arith, rules, get_or-set_other}
 use Rattle.std.specs.Prelude.{nat_lt, ◌==◌, slice_index, slice_set}
 use Rattle.std.proofs.lemmas.Bool.{cases_Bool}
 use Rattle.lset_words.specs.Words.{key_index, link_index}

@@ -1,8 +1,10 @@
 -- The events of a schedule's lines: one line after another, and how many there are.
-use Rattle.std.proofs.Common.{◌≡◌, ℕ, zero, suc, take, arith, ◌-◌, ◌+◌, ◌<◌, ◌≤◌, List, [], ◌∷◌, ◌++◌, replicate, length, get_or, refl, sym, ap, ◌∙◌, length-append}
+use Rattle.std.proofs.Common.{◌≡◌, ℕ, zero, suc, take, arith, ◌-◌, ◌+◌, ◌<◌, ◌≤◌, List, [], ◌∷◌, ◌++◌, replicate, length, get_or}
+use Rattle.std.proofs.Common.{refl, sym, ap, ◌∙◌, length-append}
 use Rattle.std.specs.List.{sum_by}
 use Rattle.std.proofs.lemmas.List.Sums.{sum_by-cons}
-use Rattle.std.proofs.lemmas.List.{length-replicate, get_or-replicate, get_or_append_left, get_or-append_right, get_or-map, get_or_default, length-map}
+use Rattle.std.proofs.lemmas.List.{length-replicate, get_or-replicate, get_or_append_left, get_or-append_right, get_or-map}
+use Rattle.std.proofs.lemmas.List.{get_or_default, length-map}
 use Rattle.lset_schedule.specs.declared.value.Line.{Line}
 use Rattle.lset_schedule.specs.declared.value.Line.TheVariants as line
 use Rattle.lset_schedule.specs.Plan.{event_count}
@@ -57,7 +59,8 @@ pub lines_taken : (n i : ℕ) (ls : List Line) → length (events_from n (take i
 lines_taken n zero ls = omega arith
 lines_taken n (suc i) [] = omega arith
 lines_taken n (suc i) (x ∷ ls) =
-    let a : length (events_of_line n x ++ events_from (n + 1) ls) ≡ length (events_of_line n x) + length (events_from (n + 1) ls) =
+    let a : length (events_of_line n x ++ events_from (n + 1) ls) ≡ length (events_of_line n x) + length (events_from (n + 1) ls)
+    =
     length-append (events_of_line n x) (events_from (n + 1) ls) in
     let b : length (events_of_line n x ++ events_from (n + 1) (take i ls))
     ≡ length (events_of_line n x) + length (events_from (n + 1) (take i ls)) =
@@ -93,7 +96,8 @@ next_there : (n : ℕ) (ls : List Line) (i j k times : ℕ) (l : Line) (next d :
     → (k < length (events_from n ls)) × (get_or (events_from n ls) k d ≡ next)
 next_there n ls i j k times l next d below is line inside at =
     let a : length (events_of_line (n + i) l) ≡ event_count l = length_of_line (n + i) l in
-    let b : length (events_of_line (n + i) l) ≡ times = ap (λ (es : List LineEvent). length es) line ∙ length-replicate times next in
+    let b : length (events_of_line (n + i) l) ≡ times = ap (λ (es : List LineEvent). length es) line
+    ∙ length-replicate times next in
     let c : length (events_from n (take (suc i) ls)) ≡ length (events_from n (take i ls)) + event_count l =
     one_line_more n i ls l below is in
     let e : length (events_from n (take (suc i) ls)) ≤ length (events_from n ls) = lines_taken n (suc i) ls in (
@@ -147,7 +151,8 @@ line_done n ls i j k times next below line past end behind =
     let l : Line = get_or ls i no_line in
     let is : l ≡ get_or ls i l = same_line ls i below in
     let a : length (events_of_line (n + i) l) ≡ event_count l = length_of_line (n + i) l in
-    let b : length (events_of_line (n + i) l) ≡ times = ap (λ (es : List LineEvent). length es) line ∙ length-replicate times next in
+    let b : length (events_of_line (n + i) l) ≡ times = ap (λ (es : List LineEvent). length es) line
+    ∙ length-replicate times next in
     let c : length (events_from n (take (suc i) ls)) ≡ length (events_from n (take i ls)) + event_count l =
     one_line_more n i ls l below is in
     let e : k ≡ length (events_from n (take (suc i) ls)) = omega arith in

@@ -91,7 +91,8 @@ module _ (T : Table) (accounts : TellsKeys T) (op : Opening) (events : List Line
     world = world ∙ ap (λ (z : WorldState). record z { state = after T z.state e }) h.world
         ∙ ap (λ z. record { sizes = sizes op; state = after T (state_at T op es k) z }) (sym is);
     trace = trace ∙ ap (λ z. trace_after (suc k) (entry_told e z) (trace_of r)) says
-        ∙ ap (λ z. trace_after (suc k) z (trace_of r)) (told_entry T w.state e ∙ ap (λ z. entry_of T z e) state_is ∙ sym entry_now)
+        ∙ ap (λ z. trace_after (suc k) z (trace_of r)) (told_entry T w.state e ∙ ap (λ z. entry_of T z e) state_is
+        ∙ sym entry_now)
         ∙ ap (λ z. trace_after (suc k) (log_of T op es k) z) h.trace;
     opening_is = opens ∙ h.opening_is;
   }

@@ -1,11 +1,13 @@
 -- What replay keeps after the first events of a run: the run's history, what each open call has seen, the places of the calls.
-use Rattle.std.proofs.Common.{◌≡◌, ◌≢◌, ℕ, suc, ◌+◌, ◌<◌, ◌≤◌, ◌⊎◌, Bool, true, false, inl, inr, List, [], ◌∷◌, ◌++◌, length, map, sym, refl, subst, ap, ◌∙◌, arith, length-set, get_or-set_same, get_or-set_other}
+use Rattle.std.proofs.Common.{◌≡◌, ◌≢◌, ℕ, suc, ◌+◌, ◌<◌, ◌≤◌, ◌⊎◌, Bool, true, false, inl, inr, List, [], ◌∷◌, ◌++◌, length, map}
+use Rattle.std.proofs.Common.{sym, refl, subst, ap, ◌∙◌, arith, length-set, get_or-set_same, get_or-set_other}
 use Rattle.std.specs.Prelude.{All, ◌==◌, Option, Some, None, if◌then◌else◌}
 use Rattle.std.proofs.lemmas.List.{length-map, length_push, get_or_push, get_or_append_left, map-append}
 use Rattle.lset_words.specs.declared.Call.{Call}
 use Rattle.lset_words.specs.declared.Reply.{Reply}
 use Rattle.lset_words.specs.declared.history.CallRecord.{CallRecord}
-use Rattle.lset_words.specs.Log.{Log, Entry, Change, TracedCall, calls_at, calls_after, history_at, record_of, last_call, begun_at, is_open, has_changed}
+use Rattle.lset_words.specs.Log.{Log, Entry, Change, TracedCall, calls_at, calls_after, history_at, record_of, last_call}
+use Rattle.lset_words.specs.Log.{begun_at, is_open, has_changed}
 use Rattle.lset_words.specs.Log.Entry.{began}
 use Rattle.lset_words.specs.Account.{Contents, Counts, Enters}
 use Rattle.lset_words.specs.Placement.{traced_at, no_traced, IsLeastFit}
@@ -15,7 +17,8 @@ use Rattle.lset_history.proofs.Calls.{open_is, call_is, begun_is, changed_is, ne
 use Rattle.lset_history.proofs.OpenCalls.{last_number, number_after, length_began}
 use Rattle.lset_replay.specs.declared.places.OpenCall.{OpenCall}
 use Rattle.lset_replay.specs.declared.places.Place.{Place}
-use Rattle.lset_replay.specs.Trace.{Trace, open_call_at, place_at, number_of, fit, changed_at, settled, begun_on, changed_on, ended_on}
+use Rattle.lset_replay.specs.Trace.{Trace, open_call_at, place_at, number_of, fit, changed_at, settled, begun_on, changed_on}
+use Rattle.lset_replay.specs.Trace.{ended_on}
 use Rattle.lset_history.specs.Changes.{is_present, IsBounded}
 use Rattle.lset_history.proofs.ChangeLaws.{all_upto_later}
 use Rattle.lset_replay.proofs.KeyChanges.{Tells, changes_by, quiet_keys}
@@ -117,7 +120,8 @@ module _ (m t : ℕ) where
   ended_other (Some x) s o i e d = get_or-set_other s.places (number_of (open_call_at s.under_way t)) i _ None (λ z. d (z
       ∙ ap number_of e))
 
-  pub ended_here : (r : Option Reply) (s : Trace) (o : OpenCall) → open_call_at s.under_way t ≡ Some o → o.number < length s.places
+  pub ended_here : (r : Option Reply) (s : Trace) (o : OpenCall) → open_call_at s.under_way t ≡ Some o →
+      o.number < length s.places
       → place_at (ended_on m t r s).places o.number ≡ end_place s.changes m r o (place_at s.places o.number)
   ended_here None s o e l = refl
   ended_here (Some x) s o e l = rw e (get_or-set_same s.places o.number (settled (place_at s.places o.number)
@@ -184,7 +188,8 @@ module _ (op : Opening) (log : Log) (contents : Contents) (counts : Counts) (k t
   begun_keys : (j m : ℕ) → m ≤ suc k → Tells (is_present s.changes j m) (contents m j)
   begun_keys j m l = quiet_keys contents k s.changes f.upto f.keys j m l (en.content j).0 (en.content j).1
 
-  begun_idle : (u : ℕ) → u < op.threads → is_open log u (suc k) ≡ false → open_call_at (begun_on (suc k) t call s).under_way u ≡ None
+  begun_idle : (u : ℕ) → u < op.threads → is_open log u (suc k) ≡ false →
+      open_call_at (begun_on (suc k) t call s).under_way u ≡ None
   begun_idle u l e = elim (same_or_not t u) [
     | inl y ↦ absurd (let g : true ≡ false = sym (pick (t == u) true (is_open log u k) (equal_test t u y))
         ∙ sym (open_is log k (began t call) at u) ∙ e in cc)
@@ -210,7 +215,8 @@ module _ (op : Opening) (log : Log) (contents : Contents) (counts : Counts) (k t
               (get_or-set_same s.under_way t _ None (let th : t < op.threads = en.of_a_thread in omega arith)),
           record {
             number_is = count_calls
-                ∙ sym (last_number_is log k (began t call) at u ∙ pick (t == u) (length (calls_at log k)) (last_number log u k) b);
+                ∙ sym (last_number_is log k (began t call) at u ∙ pick (t == u) (length (calls_at log k)) (last_number log u k)
+                b);
             call_is = sym (call_is log k (began t call) at u
                 ∙ pick (t == u) call (last_call log u k) b);
             begun_is = sym first;

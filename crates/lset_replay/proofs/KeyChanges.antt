@@ -1,12 +1,14 @@
 -- The noted changes tell at each moment which keys are in the set, from moment to moment.
-use Rattle.std.proofs.Common.{◌≡◌, ◌≢◌, ℕ, suc, ◌<◌, ◌≤◌, ◌^◌, [], ◌∷◌, ◌++◌, ◌⊎◌, inl, inr, Bool, true, false, not, List, sym, refl, subst, ap, ◌∙◌, arith}
+use Rattle.std.proofs.Common.{◌≡◌, ◌≢◌, ℕ, suc, ◌<◌, ◌≤◌, ◌^◌, [], ◌∷◌, ◌++◌, ◌⊎◌, inl, inr, Bool, true, false, not, List, sym}
+use Rattle.std.proofs.Common.{refl, subst, ap, ◌∙◌, arith}
 use Rattle.std.specs.Prelude.{All, Option, Some, None}
 use Rattle.lset_words.specs.declared.Key.{Key}
 use Rattle.lset_words.specs.Log.{Change}
 use Rattle.lset_words.specs.Account.{Contents, Changes}
 use Rattle.lset_words.proofs.Numbers.{same_or_not, if_other}
 use Rattle.lset_history.specs.Changes.{is_present, is_present_now, with_change, IsBounded}
-use Rattle.lset_history.proofs.ChangeLaws.{others_stay, earlier_stays, turns_there, present_past, all_below, all_upto_later, all_upto_change}
+use Rattle.lset_history.proofs.ChangeLaws.{others_stay, earlier_stays, turns_there, present_past, all_below, all_upto_later}
+use Rattle.lset_history.proofs.ChangeLaws.{all_upto_change}
 use Rattle.lset_replay.specs.Trace.{MayChange}
 
 -- the contents up to a moment hold keys of `u32` alone
@@ -91,7 +93,8 @@ module _ (contents : Contents) (k : ℕ) (changes : ℕ → List ℕ) (upto : (j
   changed_upto None j = all_upto_later (changes j) k (suc k) (omega arith) (upto j)
   changed_upto (Some (x, present)) j = all_upto_change changes x.0 k (suc k) j (upto j) (omega arith)
 
-  pub changed_bounded : (ch : Option Change) → Changes ch (contents k) (contents (suc k)) → ((j m : ℕ) → m ≤ suc k → contents m j → j < 2 ^ 32)
+  pub changed_bounded : (ch : Option Change) → Changes ch (contents k) (contents (suc k)) →
+      ((j m : ℕ) → m ≤ suc k → contents m j → j < 2 ^ 32)
       → IsBounded changes → IsBounded (changes_by ch (suc k) changes)
   changed_bounded None c low b = b
   changed_bounded (Some (x, true)) c low b = λ j high.

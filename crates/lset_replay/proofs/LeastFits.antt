@@ -61,8 +61,10 @@ module _ (q : ℕ) (contents : Contents) (counts : Counts) (first last t : ℕ) 
   -- what the function finds is the first such moment
   pub fit_is_first : (changes : ℕ → List ℕ) (c : Call) (r : Reply) (more : ℕ) → last ≡ first + more
       → IsFirst (λ m. Passes changes c r m) first last (fit_by changes c r first more)
-  fit_is_first changes (call.Add k) r more e = first_passing_is (needs_key (call.Add k) r) (λ m. is_present changes k.0 m) first more last e
-  fit_is_first changes (call.Remove k) r more e = first_passing_is (needs_key (call.Remove k) r) (λ m. is_present changes k.0 m) first more last e
+  fit_is_first changes (call.Add k) r more e = first_passing_is (needs_key (call.Add k) r) (λ m. is_present changes k.0 m) first
+      more last e
+  fit_is_first changes (call.Remove k) r more e = first_passing_is (needs_key (call.Remove k) r) (λ m. is_present changes k.0 m)
+      first more last e
   fit_is_first changes (call.Contains k) r more e =
       first_passing_is (needs_key (call.Contains k) r) (λ m. is_present changes k.0 m) first more last e
   fit_is_first changes (call.Ceiling k) r more e = first_passing_is true (has_ceiling changes k.0 (found_in r)) first more last e
@@ -96,7 +98,8 @@ module _ (q : ℕ) (contents : Contents) (counts : Counts) (first last t : ℕ) 
   fit_least changes (call.Add k) reply.Full o bounded keys h steady f =
       least_first (λ m. is_present changes k.0 m ≡ false) (FitsAt (call.Add k) reply.Full) first last
       (λ m x y g. told_no (is_present changes k.0 m) (keys k.0 m y) g.0)
-      (λ m x y g. ((keys k.0 m y).1 g, steady m x y ∙ sym (steady f.moment f.from f.upto) ∙ f.fits.1)) o h f.moment f.from f.upto f.fits
+      (λ m x y g. ((keys k.0 m y).1 g, steady m x y ∙ sym (steady f.moment f.from f.upto) ∙ f.fits.1)) o h f.moment f.from f.upto
+      f.fits
   fit_least changes (call.Remove k) reply.True o bounded keys h steady f = absurd (f.fits)
   fit_least changes (call.Remove k) reply.False o bounded keys h steady f =
       least_first (λ m. is_present changes k.0 m ≡ false) (FitsAt (call.Remove k) reply.False) first last

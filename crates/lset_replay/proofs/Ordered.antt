@@ -1,12 +1,14 @@
 -- The order that is made of the places is [Placement].
-use Rattle.std.proofs.Common.{◌≡◌, ℕ, zero, suc, ◌<◌, ◌≤◌, Bool, true, false, ◌&&◌, List, [], ◌∷◌, ◌++◌, length, map, sym, refl, subst, ap, ◌∙◌, arith, not}
+use Rattle.std.proofs.Common.{◌≡◌, ℕ, zero, suc, ◌<◌, ◌≤◌, Bool, true, false, ◌&&◌, List, [], ◌∷◌, ◌++◌, length, map, sym, refl}
+use Rattle.std.proofs.Common.{subst, ap, ◌∙◌, arith, not}
 use Rattle.std.specs.Prelude.{◌==◌, Option, Some, None, IfSome, filter, if◌then◌else◌}
 use Rattle.std.proofs.lemmas.List.{length-map, get_or-map, map-append}
 use Rattle.lset_words.specs.declared.Reply.{Reply}
 use Rattle.lset_words.specs.declared.history.Placed.{Placed}
 use Rattle.lset_words.specs.Log.{Log, TracedCall, calls_at}
 use Rattle.lset_words.specs.Account.{Contents, Counts, Account}
-use Rattle.lset_words.specs.Placement.{Standing, standing, placed_of, makes_change, at_moment, block, by_moments, traced_at, no_traced, StandsBy, StandsAt, IsPlacement, reply_by}
+use Rattle.lset_words.specs.Placement.{Standing, standing, placed_of, makes_change, at_moment, block, by_moments, traced_at}
+use Rattle.lset_words.specs.Placement.{no_traced, StandsBy, StandsAt, IsPlacement, reply_by}
 use Rattle.lset_words.specs.Words.{Opening}
 use Rattle.lset_history.proofs.Lists.{all_at}
 use Rattle.lset_history.proofs.Calls.{Traced, ChangedBy, EndedBy}
@@ -130,7 +132,8 @@ module _ (q : ℕ) (contents : Contents) (counts : Counts) where
     }
 
 -- and no call stands after the last moment
-module _ (op : Opening) (last : ℕ) (log : Log) (contents : Contents) (counts : Counts) (account : Account op last log contents counts)
+module _ (op : Opening) (last : ℕ) (log : Log) (contents : Contents) (counts : Counts)
+    (account : Account op last log contents counts)
     (low : HoldsKeys last contents) where
   upto : (x : TracedCall) (changed : Option ℕ) (ended : Option (ℕ × Reply)) (p : Option Place)
       → PlaceBy op.quota contents counts x changed ended p

@@ -93,8 +93,10 @@ module _ (op : Opening) (last : ℕ) (log : Log) (contents : Contents) (counts :
 
     point_is : (i : ℕ) (l : i < length order) → IsPointOf op.quota contents counts (traced i) (point_numbered points i)
     point_is i l = subst (λ p. IsPointOf op.quota contents counts (traced i) p) (sym (h.there i l).2) (record {
-      stands = stands_there op.quota contents counts (traced i) (traced i).changed (traced i).ended (Some (h.there i l).0) (placed_there i l);
-      change = change_tells op.quota contents counts (traced i) (traced i).changed (traced i).ended (h.there i l).0 (placed_there i l);
+      stands = stands_there op.quota contents counts (traced i) (traced i).changed (traced i).ended (Some (h.there i l).0)
+          (placed_there i l);
+      change = change_tells op.quota contents counts (traced i) (traced i).changed (traced i).ended (h.there i l).0
+          (placed_there i l);
     })
 
     pub stand : StandAsPlaced op.quota (calls_at log last) contents counts order points
@@ -106,12 +108,15 @@ module _ (op : Opening) (last : ℕ) (log : Log) (contents : Contents) (counts :
     pub lie : LieInBars last (history_at log last) order points
     lie = record {
       one_each = h.one_each;
-      known = λ i l. let a : length (history_at log last) ≡ length (calls_at log last) = length-map (calls_at log last) record_of in
+      known = λ i l. let a : length (history_at log last) ≡ length (calls_at log last) =
+          length-map (calls_at log last) record_of in
           let b : (place_numbered order i).call < length (calls_at log last) = inside i l in omega arith;
       from = λ i l. subst (λ (p : Point). (call_placed (history_at log last) order i).begun ≤ p.moment) (sym (h.there i l).2)
           (subst (λ (x : CallRecord). x.begun ≤ (h.there i l).0.moment) (sym (recorded i))
-          (after_begin (traced i) (traced i).changed (traced i).ended (h.there i l).0 (placed_there i l) (is_traced i l).changes));
-      upto = λ i l. subst (λ (p : Point). p.moment ≤ bar_end last (call_placed (history_at log last) order i).ended) (sym (h.there i l).2)
+          (after_begin (traced i) (traced i).changed (traced i).ended (h.there i l).0 (placed_there i l)
+          (is_traced i l).changes));
+      upto = λ i l. subst (λ (p : Point). p.moment ≤ bar_end last (call_placed (history_at log last) order i).ended)
+          (sym (h.there i l).2)
           (subst (λ (x : CallRecord). (h.there i l).0.moment ≤ bar_end last x.ended) (sym (recorded i))
           (before_end (traced i) (traced i).changed (traced i).ended (h.there i l).0 (placed_there i l) (is_traced i l).changes
           (is_traced i l).ends));

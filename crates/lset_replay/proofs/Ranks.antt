@@ -1,5 +1,6 @@
 -- Calls that are sorted by their ranks, those of one rank by their numbers, stand block after block.
-use Rattle.std.proofs.Common.{◌≡◌, ℕ, zero, suc, ◌+◌, ◌*◌, ◌<◌, ◌≤◌, ◌⊎◌, inl, inr, Bool, true, false, not, ◌&&◌, List, [], ◌∷◌, ◌++◌, Option, Some, None, map, length, get_or, refl, sym, subst, ap, ◌∙◌, arith, append_assoc}
+use Rattle.std.proofs.Common.{◌≡◌, ℕ, zero, suc, ◌+◌, ◌*◌, ◌<◌, ◌≤◌, ◌⊎◌, inl, inr, Bool, true, false, not, ◌&&◌, List, [], ◌∷◌}
+use Rattle.std.proofs.Common.{◌++◌, Option, Some, None, map, length, get_or, refl, sym, subst, ap, ◌∙◌, arith, append_assoc}
 use Rattle.std.specs.Prelude.{◌==◌, nat_lt, if◌then◌else◌, All, IfSome}
 use Rattle.std.specs.List.{filter}
 use Rattle.std.specs.List.Sorted.{IsNonDecreasingBy, IsPermutation, ties}
@@ -34,7 +35,8 @@ none_below n (x ∷ xs) d h = rw (le-ltb x.rank n (h 0 (omega arith))) (none_bel
 
 all_below : (n : ℕ) (xs : List Ranked) (d : Ranked) → ((i : ℕ) → i < length xs → (get_or xs i d).rank < n) → below_rank n xs ≡ xs
 all_below n [] d h = refl
-all_below n (x ∷ xs) d h = rw (lt-ltb x.rank n (h 0 (omega arith))) (ap (λ z. x ∷ z) (all_below n xs d (λ i l. h (suc i) (omega arith))))
+all_below n (x ∷ xs) d h = rw (lt-ltb x.rank n (h 0 (omega arith)))
+    (ap (λ z. x ∷ z) (all_below n xs d (λ i l. h (suc i) (omega arith))))
 
 -- where the ranks do not fall, those of a rank stand after all below it
 next_rank : (n : ℕ) (xs : List Ranked) → IsNonDecreasingBy (λ (x : Ranked). x.rank) xs
@@ -96,7 +98,8 @@ of_kind c m number [] = refl
 of_kind c m number (None ∷ ps) = of_kind c m (suc number) ps
 of_kind c m number (Some p ∷ ps) =
     let x : Ranked = record { rank = rank_at p.moment p.change; placed = record { call = number; reply = p.reply } } in
-    ap (λ b. placed_in (if b then x ∷ of_rank (rank_at m c) (ranked_from (suc number) ps) else of_rank (rank_at m c) (ranked_from (suc number) ps)))
+    ap (λ b. placed_in (if b then x ∷ of_rank (rank_at m c) (ranked_from (suc number) ps)
+    else of_rank (rank_at m c) (ranked_from (suc number) ps)))
     (rank_test c p.change p.moment m)
     ∙ one_more (p.moment == m && is_same c p.change) x (of_rank (rank_at m c) (ranked_from (suc number) ps))
     (placed_at c m (suc number) ps) (of_kind c m (suc number) ps)
@@ -111,7 +114,12 @@ tie_is a b = elim (order a b) [
   | inl l ↦ rw (lt-ltb a b l, unequal_test b a (λ e. omega arith)) refl
   | inr o ↦ elim o [
     | inl e ↦ rw (le-ltb a b (omega arith), le-ltb b a (omega arith), equal_test a b e, equal_test b a (sym e)) refl
-    | inr g ↦ rw (le-ltb a b (omega arith), lt-ltb b a g, unequal_test a b (λ e. omega arith), unequal_test b a (λ e. omega arith)) refl
+    | inr g ↦ rw (
+      le-ltb a b (omega arith),
+      lt-ltb b a g,
+      unequal_test a b (λ e. omega arith),
+      unequal_test b a (λ e. omega arith),
+    ) refl
   ]
 ]
 
@@ -134,7 +142,8 @@ module _ (ps : List (Option Place)) (ys : List Ranked) (rise : IsNonDecreasingBy
       ∙ ap (λ zs. zs ++ of_rank (2 * m + 1) ys) (next_rank (2 * m) ys rise) in
       ap placed_in two
       ∙ map-append (λ (x : Ranked). x.placed) (below_rank (2 * m) ys ++ of_rank (2 * m) ys) (of_rank (2 * m + 1) ys)
-      ∙ ap (λ zs. zs ++ placed_in (of_rank (2 * m + 1) ys)) (map-append (λ (x : Ranked). x.placed) (below_rank (2 * m) ys) (of_rank (2 * m) ys))
+      ∙ ap (λ zs. zs ++ placed_in (of_rank (2 * m + 1) ys)) (map-append (λ (x : Ranked). x.placed) (below_rank (2 * m) ys)
+      (of_rank (2 * m) ys))
       ∙ append_assoc (placed_in (below_rank (2 * m) ys)) (placed_in (of_rank (2 * m) ys)) (placed_in (of_rank (2 * m + 1) ys))
       ∙ ap (λ zs. placed_in (below_rank (2 * m) ys) ++ zs) (ap (λ zs. zs ++ placed_in (of_rank (2 * m + 1) ys)) (one_kind true m)
       ∙ ap (λ zs. placed_at true m 0 ps ++ zs) (one_kind false m))
@@ -166,7 +175,8 @@ ranks_upto last number (Some p ∷ ps) h d (suc i) l =
 pub sorted_upto : (last : ℕ) (ps : List (Option Place)) (xs ys : List Ranked) → xs ≡ ranked_from 0 ps → IsPermutation xs ys
     → StandUpTo last ps → (d : Ranked) (i : ℕ) → i < length ys → (get_or ys i d).rank < 2 * last + 2
 sorted_upto last ps xs ys is moved h d i l =
-    let all : All (λ (x : Ranked). x.rank < 2 * last + 2) xs = subst (λ zs. All (λ (x : Ranked). x.rank < 2 * last + 2) zs) (sym is)
+    let all : All (λ (x : Ranked). x.rank < 2 * last + 2) xs = subst (λ zs. All (λ (x : Ranked). x.rank < 2 * last + 2) zs)
+    (sym is)
     (All-from_get_or (λ (x : Ranked). x.rank < 2 * last + 2) (ranked_from 0 ps) d (ranks_upto last 0 ps h d)) in
     All-get_or (λ (x : Ranked). x.rank < 2 * last + 2) ys i d l
     (All-permutation (λ (x : Ranked). x.rank < 2 * last + 2) xs ys moved all)

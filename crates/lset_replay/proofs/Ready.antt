@@ -1,5 +1,6 @@
 -- A run's next event finds the recorder ready for it.
-use Rattle.std.proofs.Common.{◌≡◌, ℕ, zero, suc, ◌<◌, ◌≤◌, Bool, true, false, ◌&&◌, inl, inr, List, [], ◌∷◌, length, sym, refl, subst, ap, ◌∙◌, arith}
+use Rattle.std.proofs.Common.{◌≡◌, ℕ, zero, suc, ◌<◌, ◌≤◌, Bool, true, false, ◌&&◌, inl, inr, List, [], ◌∷◌, length, sym, refl}
+use Rattle.std.proofs.Common.{subst, ap, ◌∙◌, arith}
 use Rattle.std.specs.Prelude.{◌==◌, Option, Some, None, is_none, IfSome, IsSomeAnd}
 use Rattle.std.specs.List.{AllByRecursion, list_any}
 use Rattle.std.proofs.lemmas.List.{length-map, length-replicate, get_or-replicate}
@@ -32,7 +33,8 @@ none_passes : {X : Type 0} (p : X → Bool) (xs : List X) → AllByRecursion (λ
 none_passes p [] h = refl
 none_passes p (x ∷ xs) h = rw (h.0, none_passes p xs h.1) refl
 
-module _ (op : Opening) (last : ℕ) (log : Log) (contents : Contents) (counts : Counts) (account : Account op last log contents counts)
+module _ (op : Opening) (last : ℕ) (log : Log) (contents : Contents) (counts : Counts)
+    (account : Account op last log contents counts)
     (low : HoldsKeys last contents) where
   -- THE TRACE of a run is what it has to be
   entered : (k : ℕ) → k < last → (s : Trace) → (e : Entry) → log k ≡ e → Enters op.threads op.quota log contents counts k e
@@ -70,7 +72,8 @@ module _ (op : Opening) (last : ℕ) (log : Log) (contents : Contents) (counts :
         → IfSome (record_of x).ended (λ (e : ℕ × Reply). e.0 < suc k)
     ended_before x t = at x.ended t.ends
       where
-        at : (ended : Option (ℕ × Reply)) → EndedBy (run_of op.threads op.quota log contents counts) k x.thread x.call x.begun x.changed ended
+        at : (ended : Option (ℕ × Reply)) → EndedBy (run_of op.threads op.quota log contents counts) k x.thread x.call x.begun
+            x.changed ended
             → IfSome ended (λ (e : ℕ × Reply). e.0 < suc k)
         at None h = tt
         at (Some e) h = let a : e.0 ≤ k = h.0 in omega arith
@@ -80,7 +83,8 @@ module _ (op : Opening) (last : ℕ) (log : Log) (contents : Contents) (counts :
       counted = omega arith;
       begins = All-from_recursion (λ (y : CallRecord). y.begun < suc k) (history_at log k)
           (all_map record_of (λ (y : CallRecord). y.begun < suc k) (calls_at log k) (all_imply (Traced
-          (run_of op.threads op.quota log contents counts) k) (λ x. (record_of x).begun < suc k) begun_before (calls_at log k) each));
+          (run_of op.threads op.quota log contents counts) k) (λ x. (record_of x).begun < suc k) begun_before (calls_at log k)
+          each));
       ends = All-from_recursion (λ (y : CallRecord). IfSome y.ended (λ (e : ℕ × Reply). e.0 < suc k)) (history_at log k)
           (all_map record_of (λ (y : CallRecord). IfSome y.ended (λ (e : ℕ × Reply). e.0 < suc k)) (calls_at log k)
           (all_imply (Traced (run_of op.threads op.quota log contents counts) k) (λ x. IfSome (record_of x).ended

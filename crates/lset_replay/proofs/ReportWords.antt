@@ -1,5 +1,6 @@
 -- A replay tells calls and replies that its schedule's version has words for.
-use Rattle.std.proofs.Common.{ap, ◌≡◌, ℕ, zero, suc, ◌+◌, ◌<◌, Bool, true, false, List, [], ◌∷◌, length, get_or, map, replicate, take, refl, sym, subst, ◌∙◌, arith}
+use Rattle.std.proofs.Common.{ap, ◌≡◌, ℕ, zero, suc, ◌+◌, ◌<◌, Bool, true, false, List, [], ◌∷◌, length, get_or, map, replicate}
+use Rattle.std.proofs.Common.{take, refl, sym, subst, ◌∙◌, arith}
 use Rattle.std.specs.Prelude.{Option, Some, None, ◌==◌, Contains, if◌then◌else◌}
 use Rattle.std.specs.List.{AllByRecursion}
 use Rattle.std.proofs.lemmas.List.{get_or_default}
@@ -9,7 +10,8 @@ use Rattle.lset_words.specs.declared.Reply.{Reply}
 use Rattle.lset_words.specs.declared.Reply.TheVariants as reply
 use Rattle.lset_words.specs.declared.history.CallRecord.{CallRecord}
 use Rattle.lset_words.specs.declared.history.Placed.{Placed}
-use Rattle.lset_words.specs.Log.{Log, Entry, Change, TracedCall, calls_at, calls_after, history_at, record_of, is_under_way, traced_on}
+use Rattle.lset_words.specs.Log.{Log, Entry, Change, TracedCall, calls_at, calls_after, history_at, record_of, is_under_way}
+use Rattle.lset_words.specs.Log.{traced_on}
 use Rattle.lset_words.specs.Log.Entry.{began, stepped}
 use Rattle.lset_words.specs.History.{Linearizes, no_call, call_numbered, answered}
 use Rattle.lset_words.specs.SequentialSet.{SetState, IsLegal, after_call, count_of, opening_set, has_key, reply_to}
@@ -42,7 +44,8 @@ BeginsIn v (event.Go t) = Unit {0}
 abbrev BeginsLineIn : Version → LineEvent → Type 0
 BeginsLineIn v e = BeginsIn v e.event
 
-steps_begin_none : (v : Version) (e : LineEvent) (times : ℕ) → BeginsLineIn v e → AllByRecursion (BeginsLineIn v) (replicate times e)
+steps_begin_none : (v : Version) (e : LineEvent) (times : ℕ) → BeginsLineIn v e →
+    AllByRecursion (BeginsLineIn v) (replicate times e)
 steps_begin_none v e zero h = tt
 steps_begin_none v e (suc times) h = (h, steps_begin_none v e times h)
 
@@ -123,7 +126,8 @@ either true x y g h = g
 either false x y g h = h
 
 reply_is_in : (q : ℕ) (s : SetState) (t : ℕ) (c : Call) → HasCall One c → HasReply One (reply_to q s t c)
-reply_is_in q s t (call.Add k) h = either (has_key k.0 s.keys) reply.False (if count_of s t == q then reply.Full else reply.True) tt
+reply_is_in q s t (call.Add k) h = either (has_key k.0 s.keys) reply.False (if count_of s t == q then reply.Full else reply.True)
+    tt
     (either (count_of s t == q) reply.Full reply.True tt tt)
 reply_is_in q s t (call.Remove k) h = either (has_key k.0 s.keys) reply.True reply.False tt tt
 reply_is_in q s t (call.Contains k) h = either (has_key k.0 s.keys) reply.True reply.False tt tt
@@ -155,7 +159,8 @@ end_is_in order number (Some e) h there =
     let place : Contains order p = there e.0 e.1 refl in
     subst IsReplyIn (get_or_default order place.0 p _ place.1 ∙ place.2) (all_at IsReplyIn order p place.0 place.1 h)
 
-all_there : {X : Type 0} (P : X → Type 0) (xs : List X) (d : X) → ((i : ℕ) → i < length xs → P (get_or xs i d)) → AllByRecursion P xs
+all_there : {X : Type 0} (P : X → Type 0) (xs : List X) (d : X) → ((i : ℕ) → i < length xs → P (get_or xs i d)) →
+    AllByRecursion P xs
 all_there P [] d h = tt
 all_there P (x ∷ xs) d h = (h 0 (omega arith), all_there P xs d (λ i l. h (suc i) (omega arith)))
 
@@ -191,5 +196,6 @@ words_of_version T p k r is explained words =
       opening = subst (λ (v : Version). HasOpening v r.history.opening.keys) (sym is.version_is)
           (subst (HasOpening p.version) (sym (ap (λ (o : Opening). o.keys) is.opening_is)) words.0);
       words = subst (λ v. HasWordsIn v r.history.calls r.order) (sym is.version_is)
-          (words_in p.version r.history.opening.quota (opening_set r.history.opening) r.history.calls r.order explained.linearizes are);
+          (words_in p.version r.history.opening.quota (opening_set r.history.opening) r.history.calls r.order explained.linearizes
+          are);
     }

@@ -68,12 +68,19 @@ module _ (T : Table) (accounts : TellsKeys T) (op : Opening) (events : List Line
         (subst (λ (z : WorldState). IsContent (view_of z.sizes z.state) keys) h.world c);
   }
 
-pub replay_is : (T : Table) (accounts : TellsKeys T) (p : Plan) (op : Opening) (events : List LineEvent) (w : WorldState) (r : Recorder)
+pub replay_is : (T : Table) (accounts : TellsKeys T) (p : Plan) (op : Opening) (events : List LineEvent) (w : WorldState)
+    (r : Recorder)
     (order : List Placed) (keys : List ℕ)
     → HasFollowed T op events (length events) w r → op ≡ opening_in p
     → order ≡ blocks_upto r.places.items (length events)
     → IsContent (view_of w.sizes w.state) keys
-    → IsReplayOf T p (only_events events) (record { version = p.version; kind = p.kind; history = r.history; order = order; keys = keys })
+    → IsReplayOf T p (only_events events) (record {
+      version = p.version;
+      kind = p.kind;
+      history = r.history;
+      order = order;
+      keys = keys;
+    })
 replay_is T accounts p op events w r order keys h a o c = record {
   version_is = refl;
   kind_is = refl;
@@ -101,7 +108,8 @@ module _ (T : Table) (headline : RunsAreLinearizable T) (op : Opening) (events :
       ∙ content_once (views T op (event_at events) (length events))
       (keys_left op (history_of T op (event_at events) (length events)) order) keys run_explained.content h.content
 
-pub explained_is : (T : Table) → RunsAreLinearizable T → (p : Plan) (events : List Event) (v : ReportValue) → IsReplayOf T p events v
+pub explained_is : (T : Table) → RunsAreLinearizable T → (p : Plan) (events : List Event) (v : ReportValue) →
+    IsReplayOf T p events v
     → IsExplained v
 explained_is T headline p events v h = record {
   linearizes = subst (λ (o : Opening). Linearizes o.quota (opening_set o) v.history.calls v.order) (sym h.opening_is)

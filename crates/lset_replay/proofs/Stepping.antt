@@ -1,9 +1,11 @@
 -- What replay keeps at a step: the history, the open calls, the places and the keys after it.
-use Rattle.std.proofs.Common.{◌≡◌, ◌≢◌, ℕ, suc, ◌<◌, ◌≤◌, Bool, true, false, ◌||◌, inl, inr, List, length, map, set, sym, refl, subst, ap, ◌∙◌, arith, get_or-set_same, get_or-set_other}
+use Rattle.std.proofs.Common.{◌≡◌, ◌≢◌, ℕ, suc, ◌<◌, ◌≤◌, Bool, true, false, ◌||◌, inl, inr, List, length, map, set, sym, refl}
+use Rattle.std.proofs.Common.{subst, ap, ◌∙◌, arith, get_or-set_same, get_or-set_other}
 use Rattle.std.specs.Prelude.{All, ◌==◌, ◌-◌, Option, Some, None, is_some}
 use Rattle.std.proofs.lemmas.List.{map-set, set-get_or}
 use Rattle.lset_words.specs.declared.Reply.{Reply}
-use Rattle.lset_words.specs.Log.{Log, Change, TracedCall, traced_on, changed_by, ended_by, calls_at, history_at, record_of, last_call, begun_at, is_open, has_changed, is_change, open_after}
+use Rattle.lset_words.specs.Log.{Log, Change, TracedCall, traced_on, changed_by, ended_by, calls_at, history_at, record_of}
+use Rattle.lset_words.specs.Log.{last_call, begun_at, is_open, has_changed, is_change, open_after}
 use Rattle.lset_words.specs.Log.Entry.{stepped}
 use Rattle.lset_words.specs.Account.{Contents, Counts, FitsSometime, RightReply, Enters, Account, count_after}
 use Rattle.lset_words.specs.Placement.{traced_at, no_traced, IsLeastFit}
@@ -17,11 +19,15 @@ use Rattle.lset_history.proofs.CallSteps.{run_of, calls_of}
 use Rattle.lset_history.proofs.OpenCalls.{OpenNumber, open_number, last_number, length_stepped, step_sets}
 use Rattle.lset_replay.specs.declared.places.OpenCall.{OpenCall}
 use Rattle.lset_replay.specs.declared.places.Place.{Place}
-use Rattle.lset_replay.specs.Trace.{Trace, open_call_at, place_at, number_of, fit, fit_by, changed_at, read_at, settled, changed_on, ended_on}
+use Rattle.lset_replay.specs.Trace.{Trace, open_call_at, place_at, number_of, fit, fit_by, changed_at, read_at, settled}
+use Rattle.lset_replay.specs.Trace.{changed_on, ended_on}
 use Rattle.lset_history.specs.Changes.{IsFirst, is_present, IsBounded}
 use Rattle.lset_replay.proofs.KeyChanges.{HoldsKeys, Tells, changes_by, changed_keys, changed_upto, changed_bounded}
 use Rattle.lset_replay.proofs.LeastFits.{fit_least, least_of, Passes, fit_is_first}
-use Rattle.lset_replay.proofs.Following.{IsWatched, Follows, PlaceBy, PlaceOf, change_place, end_place, changed_calls, changed_seats, changed_open, changed_changes, changed_count, changed_other, changed_here, ended_seats, ended_others, ended_seat, ended_count, ended_other, ended_here, ended_changes, last_number_is, calls_are, pick, pick_not, watched_next}
+use Rattle.lset_replay.proofs.Following.{IsWatched, Follows, PlaceBy, PlaceOf, change_place, end_place, changed_calls}
+use Rattle.lset_replay.proofs.Following.{changed_seats, changed_open, changed_changes, changed_count, changed_other, changed_here}
+use Rattle.lset_replay.proofs.Following.{ended_seats, ended_others, ended_seat, ended_count, ended_other, ended_here}
+use Rattle.lset_replay.proofs.Following.{ended_changes, last_number_is, calls_are, pick, pick_not, watched_next}
 
 -- the place of the call that steps
 module _ (q : ℕ) (contents : Contents) (counts : Counts) (x : TracedCall) (m : ℕ) (changes : ℕ → List ℕ) (o : OpenCall) where
@@ -81,7 +87,8 @@ no_count (Some x) c e = absurd (cc)
 or_nothing : (b : Bool) → b ≡ false → (b || false) ≡ false
 or_nothing b e = rw e refl
 
-module _ (op : Opening) (last : ℕ) (log : Log) (contents : Contents) (counts : Counts) (account : Account op last log contents counts)
+module _ (op : Opening) (last : ℕ) (log : Log) (contents : Contents) (counts : Counts)
+    (account : Account op last log contents counts)
     (low : HoldsKeys last contents) (k : ℕ) (below : k ≤ last) (next : suc k ≤ last)
     (t : ℕ) (ch : Option Change) (r : Option Reply) (s : Trace)
     (at : log k ≡ stepped t ch r) (en : Enters op.threads op.quota log contents counts k (stepped t ch r))
@@ -177,7 +184,8 @@ module _ (op : Opening) (last : ℕ) (log : Log) (contents : Contents) (counts :
         (unequal_test t u d)) ∙ e)))
   ]
 
-  open_other : (a : Option Reply) (u : ℕ) → t ≢ u → open_after (stepped t ch a) u (is_open log u k) ≡ true → is_open log u k ≡ true
+  open_other : (a : Option Reply) (u : ℕ) → t ≢ u → open_after (stepped t ch a) u (is_open log u k) ≡ true →
+      is_open log u k ≡ true
   open_other None u d e = e
   open_other (Some a) u d e = sym (pick_not (t == u) false (is_open log u k) (unequal_test t u d)) ∙ e
 
@@ -255,8 +263,10 @@ module _ (op : Opening) (last : ℕ) (log : Log) (contents : Contents) (counts :
       let inside : last_number log t k < length (calls_at log k) = number.below in
       let count1 : length changed.places ≡ length s.places = changed_count (suc k) t ch s in
       elim (same_or_not i number_here) [
-        | inl y ↦ subst (λ z. PlaceOf op.quota contents counts (traced_at (calls_at log (suc k)) z) (place_at kept.places z)) (sym y)
-            (subst (λ xs. PlaceOf op.quota contents counts (traced_at xs number_here) (place_at kept.places number_here)) (sym calls_next)
+        | inl y ↦ subst (λ z. PlaceOf op.quota contents counts (traced_at (calls_at log (suc k)) z) (place_at kept.places z))
+            (sym y)
+            (subst (λ xs. PlaceOf op.quota contents counts (traced_at xs number_here) (place_at kept.places number_here))
+            (sym calls_next)
             (subst (λ z. PlaceOf op.quota contents counts z (place_at kept.places number_here))
             (sym (get_or-set_same (calls_at log k) number_here (traced_on (suc k) ch r here) no_traced inside))
             (subst (λ z. PlaceOf op.quota contents counts (traced_on (suc k) ch r here) z)

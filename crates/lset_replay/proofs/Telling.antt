@@ -1,5 +1,6 @@
 -- From event to event of a trace: what the tracer tells of each is what the run has there.
-use Rattle.std.proofs.Common.{◌≡◌, ℕ, suc, ◌+◌, ◌<◌, ◌≤◌, ◌⊎◌, inl, inr, Bool, true, false, List, [], ◌∷◌, ◌++◌, length, map, sym, refl, subst, ap, ◌∙◌, arith, get_or-set_same}
+use Rattle.std.proofs.Common.{◌≡◌, ℕ, suc, ◌+◌, ◌<◌, ◌≤◌, ◌⊎◌, inl, inr, Bool, true, false, List, [], ◌∷◌, ◌++◌, length, map, sym}
+use Rattle.std.proofs.Common.{refl, subst, ap, ◌∙◌, arith, get_or-set_same}
 use Rattle.std.specs.Prelude.{Option, Some, None, IsSomeAnd}
 use Rattle.std.proofs.lemmas.List.{length_push, get_or_push, get_or_append_left}
 use Rattle.lset_words.specs.declared.Reply.{Reply}
@@ -33,7 +34,8 @@ use Rattle.lset_replay.specs.Events.{only_events, events_of, line_at}
 use Rattle.lset_replay.specs.Trace.{trace_of, MayFollow, open_call_at, place_at, changed_at}
 use Rattle.lset_replay.specs.Follows.{HasFollowed}
 use Rattle.lset_replay.specs.Tracing.{IsDeedAt, EndsCall, TellsEnd, TellsChain, TellsEvent, TellsEvents, HearsEvents, IsTraceOf}
-use Rattle.lset_replay.specs.Tracer.{deed_ahead, open_number_of, end_there, end_with, NotesChain, MadeEvent, KeepsChain, HasTraced}
+use Rattle.lset_replay.specs.Tracer.{deed_ahead, open_number_of, end_there, end_with, NotesChain, MadeEvent, KeepsChain}
+use Rattle.lset_replay.specs.Tracer.{HasTraced}
 use Rattle.lset_replay.proofs.EventSteps.{ready, followed, stopped}
 use Rattle.lset_replay.proofs.Following.{Follows, IsWatched, PlaceBy, PlaceOf, calls_are}
 use Rattle.lset_replay.proofs.Ordered.{moment_of, stands_there}
@@ -86,9 +88,11 @@ module _ (T : Table) (accounts : TellsKeys T) (op : Opening) (events : List Line
   did_there (Begin t call) i d e = (
     length r.places.items,
     e,
-    ap (λ xs. call_numbered (map record_of xs) (length r.places.items)) (calls_are log k (began t call) (entry_now (Begin t call) i))
+    ap (λ xs. call_numbered (map record_of xs) (length r.places.items))
+        (calls_are log k (began t call) (entry_now (Begin t call) i))
         ∙ get_or_mapped record_of (calls_at log k ++ new_call k t call ∷ []) (length r.places.items) no_traced
-        ∙ ap record_of (get_or_push (calls_at log k) (new_call k t call) no_traced (length r.places.items) (sym earlier.numbered)),
+        ∙ ap record_of (get_or_push (calls_at log k) (new_call k t call) no_traced (length r.places.items)
+        (sym earlier.numbered)),
   )
   did_there (Go t) i d e = e ∙ ap (λ s. deed.Access (T.next (local_of s t)) (seen_next T s t)) state_is
 
@@ -119,7 +123,8 @@ module _ (T : Table) (accounts : TellsKeys T) (op : Opening) (events : List Line
       later.placed (last_number log t k) (omega arith) in
       let there : (p : Place) × (place_at r'.places.items (last_number log t k) ≡ Some p) =
       has_place op.quota contents counts (traced_at (calls_at log (suc k)) (last_number log t k))
-      (traced_at (calls_at log (suc k)) (last_number log t k)).changed (traced_at (calls_at log (suc k)) (last_number log t k)).ended
+      (traced_at (calls_at log (suc k)) (last_number log t k)).changed
+      (traced_at (calls_at log (suc k)) (last_number log t k)).ended
       (suc k, reply) (place_at r'.places.items (last_number log t k)) ended placed in
       let end_is : end ≡ Some (record { call = last_number log t k; reply = reply; moment = there.0.moment }) =
       e ∙ ap (λ z. end_with (Some reply) (open_number_of z) r'.places.items) o.1
@@ -129,21 +134,24 @@ module _ (T : Table) (accounts : TellsKeys T) (op : Opening) (events : List Line
         of_thread = ap (λ (z : TracedCall). z.thread) call ∙ number.open_call.0;
         ended = ended;
         reply_is = refl;
-        stands = subst (λ z. StandsAt op.quota contents counts (traced_at (calls_at log (suc k)) (last_number log t k)) (moment_of z)) there.1
+        stands = subst (λ z. StandsAt op.quota contents counts (traced_at (calls_at log (suc k)) (last_number log t k))
+            (moment_of z)) there.1
             (stands_there op.quota contents counts (traced_at (calls_at log (suc k)) (last_number log t k))
             (traced_at (calls_at log (suc k)) (last_number log t k)).changed
             (traced_at (calls_at log (suc k)) (last_number log t k)).ended
             (place_at r'.places.items (last_number log t k)) placed);
       })
 
-  by_answer : (t : ℕ) → es k ≡ Go t → (a : Option Reply) → (told T (state_at T op es k) (Go t)).answer ≡ a → (end : Option CallEnd)
+  by_answer : (t : ℕ) → es k ≡ Go t → (a : Option Reply) → (told T (state_at T op es k) (Go t)).answer ≡ a →
+      (end : Option CallEnd)
       → end ≡ end_with a (open_number_of (open_call_at r.under_way.items t)) r'.places.items
       → TellsEnd T op es k t a end
   by_answer t i None says end e = e
   by_answer t i (Some reply) says end e =
       ended_there t (told T (state_at T op es k) (Go t)).change reply
       (entry_now (Go t) i ∙ ap (λ z. stepped t (told T (state_at T op es k) (Go t)).change z) says)
-      (subst (λ z. Enters op.threads op.quota log contents counts k (stepped t (told T (state_at T op es k) (Go t)).change z)) says (entered (Go t) i))
+      (subst (λ z. Enters op.threads op.quota log contents counts k (stepped t (told T (state_at T op es k) (Go t)).change z))
+      says (entered (Go t) i))
       end e
 
   end_there_is : (e : Event) → es k ≡ e → (end : Option CallEnd)
@@ -151,7 +159,8 @@ module _ (T : Table) (accounts : TellsKeys T) (op : Opening) (events : List Line
       → TellsEnd T op es k (thread_of e) (told T (state_at T op es k) e).answer end
   end_there_is (Begin t call) i end e = e
   end_there_is (Go t) i end e = by_answer t i (told T (state_at T op es k) (Go t)).answer refl end
-      (e ∙ ap (λ s. end_with (told T s (Go t)).answer (open_number_of (open_call_at r.under_way.items t)) r'.places.items) state_is)
+      (e ∙ ap (λ s. end_with (told T s (Go t)).answer (open_number_of (open_call_at r.under_way.items t)) r'.places.items)
+      state_is)
 
   -- the chain
   chain_there : (c : Bool) → KeepsChain c (view_of w.sizes w.state) kept
@@ -202,7 +211,8 @@ module _ (T : Table) (accounts : TellsKeys T) (op : Opening) (events : List Line
         → HasTraced T op events chains (suc k) w' r' kept' (traced ++ x ∷ [])
     traced_more w' r' kept' x line made =
         let more : HasFollowed T op events (suc k) w' r' =
-        followed T accounts op events k w r h.followed next.event is w' r' (told T w.state next.event) made.enabled made.world refl
+        followed T accounts op events k w r h.followed next.event is w' r' (told T w.state next.event) made.enabled made.world
+        refl
         made.trace made.opening in
         let count : length traced ≡ k = h.count in
         let long : length (traced ++ x ∷ []) ≡ length traced + 1 = length_push traced x in
@@ -265,7 +275,8 @@ traced_none T op events chains w r kept traced followed none chain =
 
 -- the trace of a schedule
 pub trace_is : (T : Table) (p : Plan) (chains : Bool) (op : Opening) (events : List LineEvent) (t : Trace)
-    → op ≡ opening_in p → events ≡ events_of p → t.kind ≡ p.kind → t.threads ≡ p.threads → t.quota ≡ p.quota → t.opening.items ≡ p.opening
+    → op ≡ opening_in p → events ≡ events_of p → t.kind ≡ p.kind → t.threads ≡ p.threads → t.quota ≡ p.quota →
+    t.opening.items ≡ p.opening
     → TellsEvents T op events chains t.events.items t.refused → IsTraceOf T p chains t
 trace_is T p chains op events t a d kind threads quota keys tells = record {
   kind_is = kind;
@@ -277,7 +288,8 @@ trace_is T p chains op events t a d kind threads quota keys tells = record {
 }
 
 -- somebody has heard of the events of a schedule
-pub heard_is : (HasHeard : List TracedEvent → Type 0) (T : Table) (p : Plan) (chains : Bool) (op : Opening) (events : List LineEvent)
+pub heard_is : (HasHeard : List TracedEvent → Type 0) (T : Table) (p : Plan) (chains : Bool) (op : Opening)
+    (events : List LineEvent)
     (refused : Option (ℕ × StepFault)) → op ≡ opening_in p → events ≡ events_of p
     → HearsEvents HasHeard T op events chains refused → HearsEvents HasHeard T (opening_in p) (events_of p) chains refused
 heard_is HasHeard T p chains op events refused a d h =

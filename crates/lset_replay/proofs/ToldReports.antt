@@ -1,5 +1,6 @@
 -- Each ended call of a run is told by just one event of its trace.
-use Rattle.std.proofs.Common.{◌≡◌, ℕ, zero, suc, ◌<◌, ◌≤◌, ◌⊎◌, inl, inr, Bool, true, false, ◌&&◌, List, [], ◌∷◌, length, get_or, sym, refl, subst, ap, ◌∙◌, arith}
+use Rattle.std.proofs.Common.{◌≡◌, ℕ, zero, suc, ◌<◌, ◌≤◌, ◌⊎◌, inl, inr, Bool, true, false, ◌&&◌, List, [], ◌∷◌, length, get_or}
+use Rattle.std.proofs.Common.{sym, refl, subst, ap, ◌∙◌, arith}
 use Rattle.std.specs.Prelude.{Option, Some, None, IsSomeAnd, ◌==◌, is_none, Contains, if◌then◌else◌}
 use Rattle.std.proofs.lemmas.List.{get_or-map, get_or_append_left, get_or_default}
 use Rattle.lset_words.specs.declared.Reply.{Reply}
@@ -97,9 +98,12 @@ module _ (op : Opening) (last : ℕ) (log : Log) (contents : Contents) (counts :
 
   end_at : (i : ℕ) (e : ℕ × Reply) → (traced_at (calls_at log last) i).ended ≡ Some e
       → (e.0 ≤ last) × EndAt (run_of op.threads op.quota log contents counts) (traced_at (calls_at log last) i).thread
-      (traced_at (calls_at log last) i).call (traced_at (calls_at log last) i).begun (traced_at (calls_at log last) i).changed e.0 e.1
-  end_at i e h = subst (λ z. EndedBy (run_of op.threads op.quota log contents counts) last (traced_at (calls_at log last) i).thread
-      (traced_at (calls_at log last) i).call (traced_at (calls_at log last) i).begun (traced_at (calls_at log last) i).changed z) h
+      (traced_at (calls_at log last) i).call (traced_at (calls_at log last) i).begun (traced_at (calls_at log last) i).changed e.0
+      e.1
+  end_at i e h = subst (λ z. EndedBy (run_of op.threads op.quota log contents counts) last
+      (traced_at (calls_at log last) i).thread
+      (traced_at (calls_at log last) i).call (traced_at (calls_at log last) i).begun (traced_at (calls_at log last) i).changed z)
+      h
       (all_at (Traced (run_of op.threads op.quota log contents counts) last) (calls_at log last) no_traced i
       (known_ended (calls_at log last) i e h) calls.each).ends
 
@@ -156,7 +160,8 @@ module _ (q : ℕ) (contents : Contents) (counts : Counts) (x : TracedCall) wher
 
 -- ---- what an event answered
 
-answered : (T : Table) (s : State) (e : Event) (t : ℕ) (change : Option Change) (a : Option Reply) → entry_of T s e ≡ stepped t change a
+answered : (T : Table) (s : State) (e : Event) (t : ℕ) (change : Option Change) (a : Option Reply) →
+    entry_of T s e ≡ stepped t change a
     → (told T s e).answer ≡ a
 answered T s (Begin u call) t change a h = absurd (cc)
 answered T s (Go u) t change a h = cc
@@ -179,7 +184,8 @@ same_end : {a b : ℕ} {c d : Reply} {e f : ℕ} → a ≡ b → c ≡ d → e �
 same_end p q r = cc
 
 -- THE LAW
-module _ (T : Table) (accounts : HasAccount T) (headline : RunsAreLinearizable T) (p : Plan) (r : ReportValue) (points : List Point)
+module _ (T : Table) (accounts : HasAccount T) (headline : RunsAreLinearizable T) (p : Plan) (r : ReportValue)
+    (points : List Point)
     (chains : Bool) (traced : List TracedEvent)
     (rep : IsReplay T p r) (pts : ArePointsOf T (opening_in p) (only_events (events_of p)) r.history.calls r.order points)
     (tells : TellsEvents T (opening_in p) (events_of p) chains traced None) where
@@ -207,7 +213,8 @@ module _ (T : Table) (accounts : HasAccount T) (headline : RunsAreLinearizable T
   -- what an event tells of an end is so at the last moment too
   call_then : (k t : ℕ) (reply : Reply) (c : CallEnd) → k < length traced → EndsCall T (opening_in p) es k t reply c
       → traced_at (calls_at log last) c.call ≡ traced_call T (opening_in p) es (suc k) c.call
-  call_then k t reply c l e = stays log last (suc k) c.call (suc k, reply) (let a : length traced ≡ last = as_long in omega arith) e.ended
+  call_then k t reply c l e = stays log last (suc k) c.call (suc k, reply) (let a : length traced ≡ last = as_long in omega arith)
+      e.ended
 
   module _ (number end : ℕ) (reply : Reply) (known : number < length r.history.calls)
       (ended : (call_numbered r.history.calls number).ended ≡ Some (end, reply)) where
@@ -218,14 +225,19 @@ module _ (T : Table) (accounts : HasAccount T) (headline : RunsAreLinearizable T
     ended_here = sym (ap (λ (x : CallRecord). x.ended) (ap (λ xs. call_numbered xs number) rep.report.history_is
         ∙ get_or_mapped record_of (calls_at log last) number no_traced)) ∙ ended
 
-    at_end : (end ≤ last) × EndAt (run_of (opening_in p).threads (opening_in p).quota log contents counts) here.thread here.call here.begun here.changed end reply
+    at_end : (end ≤ last) × EndAt (run_of (opening_in p).threads (opening_in p).quota log contents counts) here.thread here.call
+        here.begun here.changed end reply
     at_end = end_at (opening_in p) last log contents counts account number (end, reply) ended_here
 
     abbrev event : ℕ
     event = at_end.1.before
 
     inside : event < length traced
-    inside = let a : length traced ≡ last = as_long in let b : end ≡ suc event = at_end.1.is in let c : end ≤ last = at_end.0 in omega arith
+    inside =
+        let a : length traced ≡ last = as_long in
+        let b : end ≡ suc event = at_end.1.is in
+        let c : end ≤ last = at_end.0 in
+        omega arith
 
     told_there : (none : TracedEvent) → (c : CallEnd) × ((get_or traced event none).end ≡ Some c)
         × EndsCall T (opening_in p) es event (thread_of (es event)) reply c
@@ -275,7 +287,8 @@ module _ (T : Table) (accounts : HasAccount T) (headline : RunsAreLinearizable T
         subst (λ (x : Placed). StandsAt p.quota contents counts (traced_at (calls_at log last) x.call)
         (Some (point_numbered points place.0).moment)) place_there (pts.stand.each place.0 place.1).stands in
         same_end call e.reply_is
-        (one_moment p.quota contents counts here here.changed here.ended c.moment (point_numbered points place.0).moment stands point)
+        (one_moment p.quota contents counts here here.changed here.ended c.moment (point_numbered points place.0).moment stands
+        point)
 
     pub told_once : IsToldOnce traced r.order points number end reply
     told_once = record {

@@ -1,5 +1,6 @@
 -- What a replay keeps while it follows a run, as a function of what the events tell.
-use Rattle.std.specs.Prelude.{◌≡◌, ℕ, zero, suc, ◌-◌, ◌<◌, ◌≤◌, Bool, true, false, not, List, [], ◌∷◌, ◌++◌, length, replicate, Option, Some, None, slice_index_or, slice_set, IsSomeAnd}
+use Rattle.std.specs.Prelude.{◌≡◌, ℕ, zero, suc, ◌-◌, ◌<◌, ◌≤◌, Bool, true, false, not, List, [], ◌∷◌, ◌++◌, length, replicate}
+use Rattle.std.specs.Prelude.{Option, Some, None, slice_index_or, slice_set, IsSomeAnd}
 use Rattle.lset_words.specs.declared.Call.{Call}
 use Rattle.lset_words.specs.declared.Call.TheVariants as call
 use Rattle.lset_words.specs.declared.Reply.{Reply}
@@ -48,7 +49,8 @@ found_in reply.Full = None
 -- the first moment from one on, among itself and so many after it, at which a call with that reply finds the set as it has to be
 abbrev pub fit_by : (ℕ → List ℕ) → Call → Reply → ℕ → ℕ → Option ℕ
 fit_by changes (call.Add k) r first more = first_passing (needs_key (call.Add k) r) (λ m. is_present changes k.0 m) first more
-fit_by changes (call.Remove k) r first more = first_passing (needs_key (call.Remove k) r) (λ m. is_present changes k.0 m) first more
+fit_by changes (call.Remove k) r first more = first_passing (needs_key (call.Remove k) r) (λ m. is_present changes k.0 m) first
+    more
 fit_by changes (call.Contains k) r first more =
     first_passing (needs_key (call.Contains k) r) (λ m. is_present changes k.0 m) first more
 fit_by changes (call.Ceiling k) r first more = first_passing true (has_ceiling changes k.0 (found_in r)) first more

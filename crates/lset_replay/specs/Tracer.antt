@@ -1,5 +1,6 @@
 -- How far a trace has come, and what each part of the tracer answers.
-use Rattle.std.specs.Prelude.{◌≡◌, ℕ, ◌%◌, ◌<◌, Bool, true, false, not, nat_lt, ◌==◌, ◌&&◌, List, length, Option, Some, None, Result, Ok, Err, slice_index_or, Vec}
+use Rattle.std.specs.Prelude.{◌≡◌, ℕ, ◌%◌, ◌<◌, Bool, true, false, not, nat_lt, ◌==◌, ◌&&◌, List, length, Option, Some, None}
+use Rattle.std.specs.Prelude.{Result, Ok, Err, slice_index_or, Vec}
 use Rattle.std.specs.declared.alloc.Global.{Global}
 use Rattle.lset_words.specs.declared.Reply.{Reply}
 use Rattle.lset_words.specs.Words.{Opening}
@@ -100,7 +101,8 @@ pub record HasTraced (T : Table) (op : Opening) (events : List LineEvent) (chain
       → TellsEvent T op events (event_at (only_events events)) chains i (slice_index_or traced i none)
 
 -- And somebody has heard of them, and of no other.
-pub record IsHeard (HasHeard : List TracedEvent → Type 0) (T : Table) (op : Opening) (events : List LineEvent) (chains : Bool) (k : ℕ)
+pub record IsHeard (HasHeard : List TracedEvent → Type 0) (T : Table) (op : Opening) (events : List LineEvent) (chains : Bool)
+    (k : ℕ)
     (w : WorldState) (r : Recorder) (kept : List ChainKey) : Type 0 where
   pub traced : List TracedEvent
   pub heard : HasHeard traced

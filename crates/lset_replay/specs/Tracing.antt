@@ -1,5 +1,6 @@
 -- [Trace]: what is told of the events of a run, one after another.
-use Rattle.std.specs.Prelude.{◌≡◌, ◌≢◌, ℕ, suc, ◌<◌, Bool, true, false, List, length, Option, Some, None, IsSomeAnd, slice_index_or, Vec}
+use Rattle.std.specs.Prelude.{◌≡◌, ◌≢◌, ℕ, suc, ◌<◌, Bool, true, false, List, length, Option, Some, None, IsSomeAnd}
+use Rattle.std.specs.Prelude.{slice_index_or, Vec}
 use Rattle.std.specs.declared.alloc.Global.{Global}
 use Rattle.lset_words.specs.declared.Reply.{Reply}
 use Rattle.lset_words.specs.Log.{TracedCall, calls_at}
@@ -65,7 +66,8 @@ TellsChain true v w chain = (before : List ChainKey) × (later : List ChainKey) 
 
 -- WHAT IS TOLD OF AN EVENT: its line and thread, what the thread holds before and after, what it did, the change that it made,
 -- the call that it ended, and the chain.
-pub record TellsEvent (T : Table) (op : Opening) (events : List LineEvent) (es : ℕ → Event) (chains : Bool) (k : ℕ) (x : TracedEvent)
+pub record TellsEvent (T : Table) (op : Opening) (events : List LineEvent) (es : ℕ → Event) (chains : Bool) (k : ℕ)
+    (x : TracedEvent)
     : Type 0 where
   pub line_is : x.line ≡ line_at events k
   pub thread_is : x.thread ≡ thread_of (es k)

@@ -38,7 +38,8 @@ use Rattle.lset_report.specs.declared.report_fault.ReportFault.{ReportFault}
 use Rattle.lset_report.specs.Report.{ReportValue, view}
 use Rattle.lset_report.specs.Texts.{title, header_in, call_lines, place_line, key_line, last_line}
 use Rattle.lset_report.specs.Texts.{report_lines, report_text}
-use Rattle.lset_report.specs.ReportReading.{IsEnd, IsCall, IsPlace, IsReport, most_keys, takes_opening, takes_calls, takes_places, takes_keys}
+use Rattle.lset_report.specs.ReportReading.{IsEnd, IsCall, IsPlace, IsReport, most_keys, takes_opening, takes_calls, takes_places}
+use Rattle.lset_report.specs.ReportReading.{takes_keys}
 use Rattle.lset_report.specs.ReportReading.{judged, line_after, section_after, with_line, report_from, no_lines}
 use Rattle.lset_report.specs.ReportReading.{first_line, version_told}
 use Rattle.lset_report.specs.ReportReading.{report_of, reading, Gives}
@@ -124,7 +125,8 @@ openings_again v h q os (x ∷ xs) tail line some has long rising are rest =
     (some_after (opening_lines xs) tail some) (may_come v x xs has) are.0
     (omega arith, above_before os x xs rising) more
 
-calls_again : (v : Version) (h : Header) (q : ReportValue) (os : List ℕ) (cs xs : List CallRecord) (tail : List (List ℕ)) (line : ℕ)
+calls_again : (v : Version) (h : Header) (q : ReportValue) (os : List ℕ) (cs xs : List CallRecord) (tail : List (List ℕ))
+    (line : ℕ)
     (s : Section) → h.threads ≤ 64 → 0 < length tail → takes_calls s ≡ true
     → length (cs ++ xs) ≤ MOST_CALLS → ContinuesHistory h.threads cs xs → AllByRecursion (IsCall v) xs
     → ((t : Section) → takes_calls t ≡ true → ReadsAs t (value v h os (cs ++ xs) [] []) tail q)
@@ -152,7 +154,8 @@ calls_again v h q os cs (x ∷ xs) tail line s few some may long history are res
     (low, refl, may_again h.threads cs x history.0)
     (ap (report_from (line + 1) section.Calls (value v h os (cs ++ x ∷ []) [] [])) numbered ∙ more)
 
-places_again : (v : Version) (h : Header) (q : ReportValue) (os : List ℕ) (cs : List CallRecord) (ps xs : List Placed) (tail : List (List ℕ)) (line : ℕ)
+places_again : (v : Version) (h : Header) (q : ReportValue) (os : List ℕ) (cs : List CallRecord) (ps xs : List Placed)
+    (tail : List (List ℕ)) (line : ℕ)
     (s : Section)
     → 0 < length tail → takes_places s ≡ true → length (ps ++ xs) ≤ MOST_PLACES → AllByRecursion (IsPlace v) xs
     → ((t : Section) → takes_places t ≡ true → ReadsAs t (value v h os cs (ps ++ xs) []) tail q)
@@ -170,7 +173,8 @@ places_again v h q os cs ps (x ∷ xs) tail line s some may long are rest =
     (map place_line xs) tail some) may are.0
     (omega arith) more
 
-keys_again : (v : Version) (h : Header) (q : ReportValue) (os : List ℕ) (cs : List CallRecord) (ps : List Placed) (ks xs : List ℕ) (tail : List (List ℕ))
+keys_again : (v : Version) (h : Header) (q : ReportValue) (os : List ℕ) (cs : List CallRecord) (ps : List Placed) (ks xs : List ℕ)
+    (tail : List (List ℕ))
     (line : ℕ)
     (s : Section) → 0 < length tail → takes_keys s ≡ true → length (ks ++ xs) ≤ most_keys v → AllByRecursion (λ k. k < 2 ^ 32) xs
     → ((t : Section) → takes_keys t ≡ true → ReadsAs t (value v h os cs ps (ks ++ xs)) tail q)
@@ -182,8 +186,10 @@ keys_again v h q os cs ps ks (x ∷ xs) tail line s some may long are rest =
     let counted = length-append ks (x ∷ xs) in
     let more = keys_again v h q os cs ps (ks ++ x ∷ []) xs tail (line + 1) section.Keys some refl
     (omega (arith, long, ap (λ (ys : List ℕ). length ys) regrouped)) are.1
-    (λ t takes_t i. subst (λ (ys : List ℕ). report_from i t (value v h os cs ps ys) tail ≡ Ok q) (sym regrouped) (rest t takes_t i)) in
-    one_goes line s (value v h os cs ps ks) q (told.Key x) (map key_line xs ++ tail) (some_after (map key_line xs) tail some) may are.0
+    (λ t takes_t i. subst (λ (ys : List ℕ). report_from i t (value v h os cs ps ys) tail ≡ Ok q) (sym regrouped)
+    (rest t takes_t i)) in
+    one_goes line s (value v h os cs ps ks) q (told.Key x) (map key_line xs ++ tail) (some_after (map key_line xs) tail some) may
+    are.0
     (omega arith) more
 
 nothing_more : (line : ℕ) (r : ReportValue) → report_from line section.Done r ([] ∷ []) ≡ Ok r
@@ -221,9 +227,11 @@ lines_again r is =
     let some_calls = some_after (call_lines 0 cs) after_calls some_places in
     openings_again v h r [] os after_openings first_line some_calls is.opening is.opens.within.opens is.opens.rising
     (opening_keys r is.opens) (λ i.
-    calls_again v h r os [] cs after_calls i section.Opening is.opens.within.few some_places refl is.few_calls is.history is.calls (λ t may j.
+    calls_again v h r os [] cs after_calls i section.Opening is.opens.within.few some_places refl is.few_calls is.history is.calls
+    (λ t may j.
     places_again v h r os cs [] r.order after_places j t some_keys (takes_more t may) is.few_places is.places (λ u takes_u k.
-    keys_again v h r os cs r.order [] r.keys last_lines k u (omega arith) (takes_most u takes_u) is.few_keys is.keys (λ w takes_w l.
+    keys_again v h r os cs r.order [] r.keys last_lines k u (omega arith) (takes_most u takes_u) is.few_keys is.keys
+    (λ w takes_w l.
     end_again l w r takes_w))))
 
 some_more : (xs : List (List ℕ)) → 0 < length xs → (y : List ℕ) × (more : List (List ℕ)) × (xs ≡ y ∷ more)
@@ -252,7 +260,8 @@ report_again r is =
 
 -- ---- no line has a newline in it
 
-calls_lack : (v : Version) (h : Header) (cs xs : List CallRecord) → h.threads ≤ 64 → length (cs ++ xs) ≤ MOST_CALLS → ContinuesHistory h.threads cs xs
+calls_lack : (v : Version) (h : Header) (cs xs : List CallRecord) → h.threads ≤ 64 → length (cs ++ xs) ≤ MOST_CALLS →
+    ContinuesHistory h.threads cs xs
     → AllByRecursion (IsCall v) xs → AllByRecursion (Lacks 10) (call_lines (length cs) xs)
 calls_lack v h cs [] few long history are = tt
 calls_lack v h cs (x ∷ xs) few long history are =

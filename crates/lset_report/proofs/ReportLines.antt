@@ -15,13 +15,15 @@ use Rattle.lset_words.specs.Words.{key_of}
 use Rattle.lset_text.specs.declared.words.CallWord.{CallWord}
 use Rattle.lset_text.specs.Parts.{cut_at, line_of, Lacks}
 use Rattle.lset_text.specs.Numbers.{number_in, max_number}
-use Rattle.lset_text.specs.Spellings.{call_text, call_word_text, call_word_in, word_of, with_key, reply_text, reply_in, is_reply_in}
+use Rattle.lset_text.specs.Spellings.{call_text, call_word_text, call_word_in, word_of, with_key, reply_text, reply_in}
+use Rattle.lset_text.specs.Spellings.{is_reply_in}
 use Rattle.lset_text.specs.Spellings.{HasWord, HasCall, HasReply}
 use Rattle.lset_text.specs.declared.words.Version.{Version}
 use Rattle.lset_text.specs.Results.{◌>>=◌, or_fail}
 use Rattle.lset_text.proofs.PartLaws.{Lacks-below, line_lacks, cut_line, line_from_cut}
 use Rattle.lset_text.proofs.NumberLaws.{number_ok, number_again, decimal_lacks}
-use Rattle.lset_text.proofs.WordLaws.{same_bytes, call_in_ok, call_in_again, call_lacks, with_key-word_of, word_of-with_key, key_of-with_key, reply_ok}
+use Rattle.lset_text.proofs.WordLaws.{same_bytes, call_in_ok, call_in_again, call_lacks, with_key-word_of, word_of-with_key}
+use Rattle.lset_text.proofs.WordLaws.{key_of-with_key, reply_ok}
 use Rattle.lset_text.proofs.WordLaws.{reply_again, reply_lacks}
 use Rattle.lset_text.proofs.ReadingLaws.{bind_ok, or_fail_ok, ok_is}
 use Rattle.lset_report.specs.declared.reading.lines.Line.{Line}
@@ -30,7 +32,8 @@ use Rattle.lset_report.specs.declared.reading.lines.Section.{Section}
 use Rattle.lset_report.specs.declared.report_fault.ReportCause.{ReportCause}
 use Rattle.lset_report.specs.declared.report_fault.ReportCause.TheVariants as wrong
 use Rattle.lset_report.specs.Texts.{end_pieces}
-use Rattle.lset_report.specs.ReportReading.{takes_opening, takes_calls, takes_places, takes_keys, any_number, moment, begun_of, reply_told}
+use Rattle.lset_report.specs.ReportReading.{takes_opening, takes_calls, takes_places, takes_keys, any_number, moment, begun_of}
+use Rattle.lset_report.specs.ReportReading.{reply_told}
 use Rattle.lset_report.specs.ReportReading.{IsPlace, open_of, ended_of, call_of, place_of}
 use Rattle.lset_report.specs.ReportReading.{key_of_line, opening_or_key, end_of, line_of_pieces, line_in}
 
@@ -182,8 +185,11 @@ open_ok v s i t a k b o l may is =
     let ends : o ∷ [] ≡ end_pieces None = ap (λ (z : List ℕ). z ∷ []) (same_bytes o (codes "open") test.0) in
     let same : record x.0.1 { ended = None } ≡ x.0.1 = again x.0.1 begun.not_ended in
     let m = begun.small in
-    let one : AreOf v s (codes "call" ∷ i ∷ t ∷ a ∷ k ∷ b ∷ o ∷ []) (told.Call x.0.0 (record x.0.1 { ended = None })) =
-    (call_are w.0 i t a k b (o ∷ []) x.0 None begun word.1 ends, (m.0, m.1, m.2, m.3, m.4, tt, subst (HasWord v) (sym begun.word_is) word.0), may) in
+    let one : AreOf v s (codes "call" ∷ i ∷ t ∷ a ∷ k ∷ b ∷ o ∷ []) (told.Call x.0.0 (record x.0.1 { ended = None })) = (
+      call_are w.0 i t a k b (o ∷ []) x.0 None begun word.1 ends,
+      (m.0, m.1, m.2, m.3, m.4, tt, subst (HasWord v) (sym begun.word_is) word.0),
+      may,
+    ) in
     subst (AreOf v s (codes "call" ∷ i ∷ t ∷ a ∷ k ∷ b ∷ o ∷ []))
     (ap (λ (y : CallRecord). told.Call x.0.0 y) same ∙ ok_is (told.Call x.0.0 x.0.1) l x.2) one
   where
@@ -202,7 +208,8 @@ from_reply i t k b e w r = begun_of w i t k b >>= from_begun e r
 abbrev from_word : Version → List ℕ → List ℕ → List ℕ → List ℕ → List ℕ → List ℕ → CallWord → Result Line ReportCause
 from_word v i t k b e a w = reply_told v a >>= from_reply i t k b e w
 
-ended_ok : (v : Version) (s : Section) (i t a k b e c : List ℕ) (l : Line) → takes_calls s ≡ true → ended_of v i t a k b e c ≡ Ok l
+ended_ok : (v : Version) (s : Section) (i t a k b e c : List ℕ) (l : Line) → takes_calls s ≡ true →
+    ended_of v i t a k b e c ≡ Ok l
     → AreOf v s (codes "call" ∷ i ∷ t ∷ a ∷ k ∷ b ∷ e ∷ c ∷ []) l
 unfolding ended_of
 ended_ok v s i t a k b e c l may is =
@@ -218,11 +225,20 @@ ended_ok v s i t a k b e c l may is =
     let n = begun.small in
     subst (AreOf v s (codes "call" ∷ i ∷ t ∷ a ∷ k ∷ b ∷ e ∷ c ∷ [])) (ok_is (ended_with r.0 x.0 m.0) l m.2) (
       call_are w.0 i t a k b (e ∷ c ∷ []) x.0 (Some (m.0, r.0)) begun word.1 ends,
-      (n.0, n.1, n.2, n.3, n.4, (omega (arith, end.1), omega (arith, end.2), reply.0), subst (HasWord v) (sym begun.word_is) word.0),
+      (
+        n.0,
+        n.1,
+        n.2,
+        n.3,
+        n.4,
+        (omega (arith, end.1), omega (arith, end.2), reply.0),
+        subst (HasWord v) (sym begun.word_is) word.0,
+      ),
       may,
     )
 
-call_ok : (v : Version) (s : Section) (i t : List ℕ) (ps : List (List ℕ)) (l : Line) → takes_calls s ≡ true → call_of v i t ps ≡ Ok l
+call_ok : (v : Version) (s : Section) (i t : List ℕ) (ps : List (List ℕ)) (l : Line) → takes_calls s ≡ true →
+    call_of v i t ps ≡ Ok l
     → AreOf v s (codes "call" ∷ i ∷ t ∷ ps) l
 call_ok v s i t [] l may is = absurd cc
 call_ok v s i t (a ∷ []) l may is = absurd cc
@@ -261,7 +277,8 @@ key_ok v s a k l is =
     subst (AreOf v s (a ∷ k ∷ [])) (ok_is (told.Key n.0) l n.2)
     (two a k (codes "key") (decimal n.0) (same_bytes a (codes "key") parts.1) number.0, omega (arith, number.2), parts.0)
 
-opening_or_key_ok : (v : Version) (s : Section) (a k : List ℕ) (l : Line) → opening_or_key v s a k ≡ Ok l → AreOf v s (a ∷ k ∷ []) l
+opening_or_key_ok : (v : Version) (s : Section) (a k : List ℕ) (l : Line) → opening_or_key v s a k ≡ Ok l →
+    AreOf v s (a ∷ k ∷ []) l
 unfolding opening_or_key
 opening_or_key_ok v s a k l is = either (takes_opening v s && bytes_eq a (codes "opening")) refl is
   where
@@ -271,8 +288,11 @@ opening_or_key_ok v s a k l is = either (takes_opening v s && bytes_eq a (codes 
         let parts = and_parts (takes_opening v s) (bytes_eq a (codes "opening")) opens in
         let n = bind_ok (any_number k) (λ n. Ok (told.Opening n)) l read in
         let number = number_told 0 max_number k n.0 (omega arith) n.1 in
-        subst (AreOf v s (a ∷ k ∷ [])) (ok_is (told.Opening n.0) l n.2)
-        (two a k (codes "opening") (decimal n.0) (same_bytes a (codes "opening") parts.1) number.0, omega (arith, number.2), parts.0)
+        subst (AreOf v s (a ∷ k ∷ [])) (ok_is (told.Opening n.0) l n.2) (
+          two a k (codes "opening") (decimal n.0) (same_bytes a (codes "opening") parts.1) number.0,
+          omega (arith, number.2),
+          parts.0,
+        )
 
     either : (b : Bool) → takes_opening v s && bytes_eq a (codes "opening") ≡ b
         → cond b (any_number k >>= (λ n. Ok (told.Opening n))) (key_of_line s a k) ≡ Ok l → AreOf v s (a ∷ k ∷ []) l
@@ -350,9 +370,13 @@ pieces_again v s (told.Place p) may h = rw (may, reply_told_again v p.reply h.1,
 pieces_again v s (told.Key k) may h = rw (and-false (takes_opening v s), may, any_again k h) refl
 pieces_again v s told.End may h = rw may refl
 
-ends_lack : (byte : ℕ) (v : Version) (o : Option (ℕ × Reply)) → byte < 45 → IsEndLine v o → AllByRecursion (Lacks byte) (end_pieces o)
+ends_lack : (byte : ℕ) (v : Version) (o : Option (ℕ × Reply)) → byte < 45 → IsEndLine v o →
+    AllByRecursion (Lacks byte) (end_pieces o)
 ends_lack byte v None low h = (Lacks-below 45 byte (codes "open") low refl, tt)
-ends_lack byte v (Some e) low h = (decimal_lacks byte e.0 (omega arith) (omega (arith, h.1)), (reply_lacks byte v e.1 h.2 low, tt))
+ends_lack byte v (Some e) low h = (
+  decimal_lacks byte e.0 (omega arith) (omega (arith, h.1)),
+  (reply_lacks byte v e.1 h.2 low, tt),
+)
 
 pieces_lack : (byte : ℕ) (v : Version) (l : Line) → byte < 45 → IsLine v l → AllByRecursion (Lacks byte) (pieces_of l)
 pieces_lack byte v (told.Opening k) low h =
@@ -395,6 +419,7 @@ call_many v i t a b c d e [] h = absurd (omega arith)
 call_many v i t a b c d e (f ∷ more) h = refl
 
 pub call_pieces : (v : Version) (s : Section) (a b c : List ℕ) (parts : List (List ℕ)) → 0 < length parts
-    → line_of_pieces v s (a ∷ b ∷ c ∷ parts) ≡ cond (takes_calls s && bytes_eq a (codes "call")) (call_of v b c parts) (Err wrong.Line)
+    → line_of_pieces v s (a ∷ b ∷ c ∷ parts) ≡ cond (takes_calls s && bytes_eq a (codes "call")) (call_of v b c parts)
+    (Err wrong.Line)
 call_pieces v s a b c [] h = absurd (omega arith)
 call_pieces v s a b c (d ∷ more) h = refl

@@ -20,7 +20,8 @@ use Rattle.lset_report.specs.declared.report_fault.ReportCause.{ReportCause}
 use Rattle.lset_report.specs.declared.report_fault.ReportCause.TheVariants as wrong
 use Rattle.lset_report.specs.declared.report_fault.ReportFault.{ReportFault}
 use Rattle.lset_report.specs.Report.{ReportValue}
-use Rattle.lset_report.specs.ReportReading.{fault, line_in, may_follow, most_keys, is_next, judged, counted, rising, following, line_after, section_after}
+use Rattle.lset_report.specs.ReportReading.{fault, line_in, may_follow, most_keys, is_next, judged, counted, rising, following}
+use Rattle.lset_report.specs.ReportReading.{line_after, section_after}
 use Rattle.lset_report.specs.ReportReading.{with_line}
 use Rattle.lset_report.specs.ReportReading.{last_of_header, first_line, ended_in, report_from, report_of, in_report, reading}
 use Rattle.lset_report.specs.ReportReading.{version_told, no_lines, IsGoodUpTo, RunsOut}
@@ -236,7 +237,8 @@ runs_out_after_header bytes rest word v h version_is word_is header_is =
     let after = after_header bytes rest word v h version_is word_is header_is in
     let good = good_from last_of_header first_line section.Opening (no_lines v h) (cut_at 10 rest) (omega arith) in
     let long : length (cut_at 10 bytes) ≡ length (header_lines (title v) h ++ cut_at 10 rest) = ap length after.1 in
-    let here : get_or (cut_at 10 bytes) 3 [] ≡ number_line (codes "quota") h.quota = ap (λ (ps : List (List ℕ)). get_or ps 3 []) after.1 in
+    let here : get_or (cut_at 10 bytes) 3 [] ≡ number_line (codes "quota") h.quota =
+    ap (λ (ps : List (List ℕ)). get_or ps 3 []) after.1 in
     record {
       cause = refl;
       after_header = omega arith;

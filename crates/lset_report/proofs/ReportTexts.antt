@@ -35,7 +35,8 @@ use Rattle.lset_report.specs.declared.report_fault.ReportFault.{ReportFault}
 use Rattle.lset_report.specs.Report.{ReportValue, view}
 use Rattle.lset_report.specs.Texts.{title, header_in, call_line, call_lines, place_line, key_line, last_line}
 use Rattle.lset_report.specs.Texts.{report_lines, report_text, HasEnd, HasWordsIn, HasWordsOfVersion}
-use Rattle.lset_report.specs.ReportReading.{IsEnd, IsCall, IsPlace, IsReport, fault, in_report, takes_opening, takes_calls, takes_places, takes_keys}
+use Rattle.lset_report.specs.ReportReading.{IsEnd, IsCall, IsPlace, IsReport, fault, in_report, takes_opening, takes_calls}
+use Rattle.lset_report.specs.ReportReading.{takes_places, takes_keys}
 use Rattle.lset_report.specs.ReportReading.{line_in}
 use Rattle.lset_report.specs.ReportReading.{judged, line_after, section_after, with_key_opened, with_line, ended_in}
 use Rattle.lset_report.specs.ReportReading.{first_line, report_from, no_lines, version_told}
@@ -222,7 +223,8 @@ opens_more o k is low room above = record {
   low = let P : ℕ → Type 0 = λ j. j < 2 ^ 32 in All-append P o.keys (k ∷ []) is.low (All-cons P k [] low (All-nil P));
 }
 
-report_more : (s : Section) (r : ReportValue) (l : Line) → IsReport r → takes r.version s l ≡ true → IsLine r.version l → IsGood r l
+report_more : (s : Section) (r : ReportValue) (l : Line) → IsReport r → takes r.version s l ≡ true → IsLine r.version l →
+    IsGood r l
     → IsReport (with_line r l)
 report_more s r (told.Opening k) is may line good = record {
   opens = opens_more r.history.opening k is.opens line good.0 good.1;
@@ -239,7 +241,15 @@ report_more s r (told.Call n x) is may line good = record {
   opens = is.opens;
   opening = is.opening;
   history = history_more r.history.opening.threads r.history.calls x is.history good.2;
-  calls = all_join (IsCall r.version) r.history.calls (x ∷ []) is.calls ((line.4, line.2, is_end r.version x.ended line.5, line.6), tt);
+  calls = all_join (IsCall r.version) r.history.calls (x ∷ []) is.calls (
+    (
+      line.4,
+      line.2,
+      is_end r.version x.ended line.5,
+      line.6,
+    ),
+    tt,
+  );
   places = is.places;
   keys = is.keys;
   few_calls = let long = length-one r.history.calls x in omega (arith, long, good.0);
@@ -391,7 +401,8 @@ words_found bytes (Err e) gives = tt
 
 pub text_parts : (r : ReportValue)
     → report_text r ≡ text_of (header_lines (title r.version) (header_in r)) ++ text_of (opening_lines r.history.opening.keys)
-    ++ text_of (call_lines 0 r.history.calls) ++ text_of (map place_line r.order) ++ text_of (map key_line r.keys) ++ ended last_line
+    ++ text_of (call_lines 0 r.history.calls) ++ text_of (map place_line r.order) ++ text_of (map key_line r.keys)
+    ++ ended last_line
 text_parts r =
     let header = header_lines (title r.version) (header_in r) in
     let openings = opening_lines r.history.opening.keys in

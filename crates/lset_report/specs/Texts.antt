@@ -46,7 +46,8 @@ abbrev pub last_line : List ℕ
 last_line = codes "end"
 
 abbrev pub report_lines : ReportValue → List (List ℕ)
-report_lines r = header_lines (title r.version) (header_in r) ++ opening_lines r.history.opening.keys ++ call_lines 0 r.history.calls
+report_lines r = header_lines (title r.version) (header_in r) ++ opening_lines r.history.opening.keys
+    ++ call_lines 0 r.history.calls
     ++ map place_line r.order ++ map key_line r.keys ++ last_line ∷ []
 
 abbrev pub report_text : ReportValue → List ℕ

@@ -1,5 +1,6 @@
 -- A view with as many threads as there are has them all.
-use Rattle.std.proofs.Common.{◌≡◌, ◌≢◌, ◌⊎◌, inl, inr, ⊎_elim, ℕ, zero, suc, ◌+◌, ◌<◌, ◌≤◌, List, [], ◌∷◌, length, refl, sym, ap, ◌∙◌, subst, arith, ◌++◌, false, append-nil, length-append}
+use Rattle.std.proofs.Common.{◌≡◌, ◌≢◌, ◌⊎◌, inl, inr, ⊎_elim, ℕ, zero, suc, ◌+◌, ◌<◌, ◌≤◌, List, [], ◌∷◌, length, refl, sym, ap}
+use Rattle.std.proofs.Common.{◌∙◌, subst, arith, ◌++◌, false, append-nil, length-append}
 use mathlib.Core.Logic.{dite}
 use native.Mathlib.Decide.{ℕ_discrete}
 use Rattle.lset_rule.specs.declared.view.Aside.{Aside}
@@ -26,23 +27,32 @@ Distinct [] = Unit {0}
 Distinct (x ∷ xs) = (¬ (In xs x)) × Distinct xs
 
 -- the list without n, of which it has one
-dropping : (n : ℕ) (xs : List ℕ) → Distinct xs → In xs n → (ys : List ℕ) × (length xs ≡ suc (length ys)) × Distinct ys × ((t : ℕ) → In ys t → In xs t × (t ≢ n))
+dropping : (n : ℕ) (xs : List ℕ) → Distinct xs → In xs n → (ys : List ℕ) × (length xs ≡ suc (length ys)) × Distinct ys
+    × ((t : ℕ) → In ys t → In xs t × (t ≢ n))
 dropping n [] d h = absurd h
 dropping n (x ∷ xs) d h = ⊎_elim
     (λ (e : n ≡ x). (xs, refl, d.1, λ t i. (inr i, λ (e' : t ≡ n). d.0 (subst (In xs) (e' ∙ e) i))))
-    (λ (i : In xs n). let r = dropping n xs d.1 i in
-    (x ∷ r.0, ap suc r.1, ((λ j. d.0 (r.3 x j).0), r.2), λ t j. ⊎_elim (λ (e : t ≡ x). (inl e, λ (e' : t ≡ n). d.0 (subst (In xs) (sym e' ∙ e) i))) (λ k. let q = r.3 t k in (inr q.0, q.1)) j)) h
+    (λ (i : In xs n). let r = dropping n xs d.1 i in (
+      x ∷ r.0,
+      ap suc r.1,
+      ((λ j. d.0 (r.3 x j).0), r.2),
+      λ t j. ⊎_elim (λ (e : t ≡ x). (inl e, λ (e' : t ≡ n). d.0 (subst (In xs) (sym e' ∙ e) i))) (λ k. let q = r.3 t k in
+          (inr q.0, q.1)) j,
+    )) h
 
 in_dec : (xs : List ℕ) (n : ℕ) → In xs n ⊎ (¬ (In xs n))
 in_dec [] n = inr (λ x. x)
-in_dec (x ∷ xs) n = dite (ℕ_discrete n x) (λ e. inl (inl e)) (λ ne. ⊎_elim (λ i. inl (inr i)) (λ out. inr (λ j. ⊎_elim ne out j)) (in_dec xs n))
+in_dec (x ∷ xs) n = dite (ℕ_discrete n x) (λ e. inl (inl e)) (λ ne. ⊎_elim (λ i. inl (inr i)) (λ out. inr (λ j. ⊎_elim ne out j))
+    (in_dec xs n))
 
 few : (n : ℕ) (xs : List ℕ) → Distinct xs → ((t : ℕ) → In xs t → t < n) → length xs ≤ n
 few zero [] d b = omega arith
 few zero (x ∷ xs) d b = let a = b x (inl refl) in absurd (omega arith)
 few (suc n) xs d b = ⊎_elim
-    (λ i. let r = dropping n xs d i in let c = few n r.0 r.2 (λ t j. let q = r.3 t j in let e = b t q.0 in let ne = q.1 in omega arith) in let l = r.1 in omega arith)
-    (λ out. let c = few n xs d (λ t j. let e = b t j in let ne : t ≢ n = λ (e' : t ≡ n). out (subst (In xs) e' j) in omega arith) in omega arith) (in_dec xs n)
+    (λ i. let r = dropping n xs d i in let c = few n r.0 r.2 (λ t j. let q = r.3 t j in let e = b t q.0 in let ne = q.1 in
+    omega arith) in let l = r.1 in omega arith)
+    (λ out. let c = few n xs d (λ t j. let e = b t j in let ne : t ≢ n = λ (e' : t ≡ n). out (subst (In xs) e' j) in omega arith)
+    in omega arith) (in_dec xs n)
 
 abbrev threads_of : List Aside → List ℕ
 threads_of [] = []
@@ -69,7 +79,10 @@ apart w t r (o ∷ os) a = ((λ i. a.2 (in_has os o.thread i)), apart w t r os a
 
 module _ (m : Table) (v : View) (st : Stands m v) where
   all_apart : Distinct (names v)
-  all_apart = ((λ i. not_own (at_end m v.shape v.seen) v.thread v.past v.others st.others (in_has v.others v.thread i)), apart (at_end m v.shape v.seen) v.thread v.past v.others st.others)
+  all_apart = (
+    (λ i. not_own (at_end m v.shape v.seen) v.thread v.past v.others st.others (in_has v.others v.thread i)),
+    apart (at_end m v.shape v.seen) v.thread v.past v.others st.others,
+  )
 
   below : (t : ℕ) → In (names v) t → t < v.shape.threads
   below t i = st.in_range t (⊎_elim inl (λ j. inr (in_has v.others t j)) i)
@@ -81,7 +94,11 @@ module _ (m : Table) (v : View) (st : Stands m v) where
   -- and as many as there are only where it has them all
   pub has_all : length v.others + 1 ≡ v.shape.threads → (t : ℕ) → t < v.shape.threads → HasThread v t
   has_all full t lt = ⊎_elim (λ i. ⊎_elim inl (λ j. inr (in_has v.others t j)) i)
-      (λ out. let a = few v.shape.threads (t ∷ names v) (out, all_apart) (λ u i. ⊎_elim (λ (e : u ≡ t). subst (λ (z : ℕ). z < v.shape.threads) (sym e) lt) (below u) i) in let b = long v.others in absurd (omega arith))
+      (λ out. let a = few v.shape.threads (t ∷ names v) (
+        out,
+        all_apart,
+      ) (λ u i. ⊎_elim (λ (e : u ≡ t). subst (λ (z : ℕ). z < v.shape.threads) (sym e) lt) (below u) i) in let b =
+      long v.others in absurd (omega arith))
       (in_dec (names v) t)
 
 event_first : (es rest : List Event) (e : Event) → event_at (es ++ e ∷ rest) (length es) ≡ e
@@ -93,21 +110,25 @@ by_small s (Begin t c) en = en.0
 by_small s (Go t) en = en.0
 
 -- after a run in which a view has all threads there is no event without one of them
-no_more : (m : Table) (law : Lawful m) (k : Opening) (v : View) (es rest : List Event) → ((t : ℕ) → t < k.threads → HasThread v t) → IsRunOf m k (es ++ rest) → IsQuiet v rest → rest ≡ []
+no_more : (m : Table) (law : Lawful m) (k : Opening) (v : View) (es rest : List Event) → ((t : ℕ) → t < k.threads → HasThread v t)
+    → IsRunOf m k (es ++ rest) → IsQuiet v rest → rest ≡ []
 no_more m law k v es [] all r quiet = refl
 no_more m law k v es (e ∷ rest) all r quiet =
     let l = length-append es (e ∷ rest) in
     let s : State = state_at m k (event_at (es ++ e ∷ rest)) (length es) in
-    let laws : StateLaws m.marks (sizes k) s = law.states k (length (es ++ e ∷ rest)) (length es) (event_at (es ++ e ∷ rest)) r (omega arith) in
+    let laws : StateLaws m.marks (sizes k) s = law.states k (length (es ++ e ∷ rest)) (length es) (event_at (es ++ e ∷ rest)) r
+    (omega arith) in
     let en : Enabled s e = subst (λ z. Enabled s z) (event_first es rest e) (r.enabled (length es) (omega arith)) in
     absurd (quiet.0 (all (thread_of e) (subst (λ z. thread_of e < z) laws.locals (by_small s e en))))
 
 -- at the end the words are those that the seat with all threads knows
-pub closes : (m : Table) (law : Lawful m) (k : Opening) (id : ℕ) (v : View) (ws : List ℕ) (xs : List (Unit {0})) → v.shape ≡ k → v.spent ≡ false → length v.others + 1 ≡ k.threads → Final (Seen (Holds m k) id v) ws xs
+pub closes : (m : Table) (law : Lawful m) (k : Opening) (id : ℕ) (v : View) (ws : List ℕ) (xs : List (Unit {0})) → v.shape ≡ k →
+    v.spent ≡ false → length v.others + 1 ≡ k.threads → Final (Seen (Holds m k) id v) ws xs
     → ws ≡ (end_of m k v.seen).words
 closes m law k id v ws xs shape sp full (s, seen, words, homes, slots) =
     let h = seen.0 in let f = h.each id v seen.1 sp in
-    let all : (t : ℕ) → t < k.threads → HasThread v t = subst (λ (z : Opening). (t : ℕ) → t < z.threads → HasThread v t) shape (has_all m v f.stands (full ∙ ap (λ (z : Opening). z.threads) (sym shape))) in
+    let all : (t : ℕ) → t < k.threads → HasThread v t = subst (λ (z : Opening). (t : ℕ) → t < z.threads → HasThread v t) shape
+    (has_all m v f.stands (full ∙ ap (λ (z : Opening). z.threads) (sym shape))) in
     let none : f.rest ≡ [] = no_more m law k v v.seen f.rest all (subst (IsRunOf m k) f.is h.ran) f.quiet in
     sym words ∙ (h.words ∙ ap (λ l. (end_of m k l).words) (f.is ∙ (ap (λ l. v.seen ++ l) none ∙ append-nil v.seen)))
 

@@ -1,5 +1,7 @@
 -- Each move keeps the rule.
-use Rattle.std.proofs.Common.{◌≡◌, ◌≢◌, inl, inr, ⊎_elim, ℕ, zero, suc, ◌+◌, ◌<◌, ◌≤◌, false, List, [], ◌∷◌, ◌++◌, length, set, slice_index, slice_set, Option, Some, None, refl, sym, ap, ◌∙◌, subst, arith, append-nil, append_assoc, length-append}
+use Rattle.std.proofs.Common.{◌≡◌, ◌≢◌, inl, inr, ⊎_elim, ℕ, zero, suc, ◌+◌, ◌<◌, ◌≤◌, false, List, [], ◌∷◌, ◌++◌, length, set}
+use Rattle.std.proofs.Common.{slice_index, slice_set, Option, Some, None, refl, sym, ap, ◌∙◌, subst, arith, append-nil}
+use Rattle.std.proofs.Common.{append_assoc, length-append}
 use mathlib.Core.Option.{some, some-injective, some-ne-none}
 use mathlib.Core.Logic.{dite}
 use native.Mathlib.Decide.{ℕ_discrete}
@@ -26,8 +28,11 @@ use Rattle.lset_rule.proofs.Stepped.{left, found, gone, begins}
 use Rattle.lset_rule.specs.Rule.{Holds, Fits, StandsIn}
 use Rattle.lset_rule.specs.Views.{Stands, HasThread, InTime, IsOpen, IsIdle}
 use Rattle.lset_rule.specs.Calls.{gone_view, begun_view, record_after, Goes, Starts}
-use Rattle.lset_rule.proofs.Stepped.{left_is, found_is, Tied, end_more, is_run_more, end_other, end_begin, end_go, end_laws, end_tied, in_locals}
-use Rattle.lset_rule.proofs.Runs.{still_quiet, quiet_append, starts_more, asides_stay, before_more, after_calls, after_calls_other, after_root, after_apart, after_in, after_in_order, after_before, BegunBy, begun_by, after_in_time}
+use Rattle.lset_rule.proofs.Stepped.{left_is, found_is, Tied, end_more, is_run_more, end_other, end_begin, end_go, end_laws}
+use Rattle.lset_rule.proofs.Stepped.{end_tied, in_locals}
+use Rattle.lset_rule.proofs.Runs.{still_quiet, quiet_append, starts_more, asides_stay, before_more, after_calls}
+use Rattle.lset_rule.proofs.Runs.{after_calls_other, after_root, after_apart, after_in, after_in_order, after_before, BegunBy}
+use Rattle.lset_rule.proofs.Runs.{begun_by, after_in_time}
 
 abbrev pub St : Type 0
 St = table.State (Unit {0}) View
@@ -46,7 +51,8 @@ set_there (x ∷ xs) zero a b e = refl
 set_there (x ∷ xs) (suc i) a b e = set_there xs i a b e
 
 -- a thread still stands in its view when one view becomes another that has it too
-pub stands_still : (views : List View) (id j t : ℕ) (v w : View) → get_elem? views id ≡ some v → w.spent ≡ false → (HasThread v t → HasThread w t) → StandsIn views j t → StandsIn (set views id w) j t
+pub stands_still : (views : List View) (id j t : ℕ) (v w : View) → get_elem? views id ≡ some v → w.spent ≡ false →
+    (HasThread v t → HasThread w t) → StandsIn views j t → StandsIn (set views id w) j t
 stands_still views id j t v w at alive more st = dite (ℕ_discrete j id)
     (λ (e : j ≡ id). (
       w,
@@ -58,11 +64,13 @@ stands_still views id j t v w at alive more st = dite (ℕ_discrete j id)
 
 module _ (m : Table) where
   -- what the events of all say of a thread of the view
-  pub still : (k : Opening) (log : List Event) (so : ℕ → ℕ) (j : ℕ) (v : View) (f : Fits m k log so j v) (t : ℕ) → HasThread v t → at_end m k log t ≡ at_end m k v.seen t
+  pub still : (k : Opening) (log : List Event) (so : ℕ → ℕ) (j : ℕ) (v : View) (f : Fits m k log so j v) (t : ℕ) → HasThread v t →
+      at_end m k log t ≡ at_end m k v.seen t
   still k log so j v f t h = ap (λ l. at_end m k l t) f.is ∙ still_quiet m k v v.seen f.rest t h f.quiet
 
   -- a view that another thread's event leaves as it is
-  pub others_fit : (k : Opening) (log : List Event) (so : ℕ → ℕ) (j : ℕ) (v : View) (e : Event) → ¬ (HasThread v (thread_of e)) → Fits m k log so j v → Fits m k (log ++ e ∷ []) so j v
+  pub others_fit : (k : Opening) (log : List Event) (so : ℕ → ℕ) (j : ℕ) (v : View) (e : Event) → ¬ (HasThread v (thread_of e)) →
+      Fits m k log so j v → Fits m k (log ++ e ∷ []) so j v
   others_fit k log so j v e other f = record {
     shape = f.shape;
     rest = f.rest ++ e ∷ [];
@@ -100,17 +108,26 @@ module _ (m : Table) where
     inside = in_locals m law v.shape h.log h.ran v.thread small
 
     tied_stood : Tied v.under (local_of W v.thread)
-    tied_stood = subst (λ z. Tied z (local_of W v.thread)) (ap (λ (x : Here). x.under) stood) (end_tied m law v.shape h.log h.ran v.thread small)
+    tied_stood = subst (λ z. Tied z (local_of W v.thread)) (ap (λ (x : Here). x.under) stood)
+        (end_tied m law v.shape h.log h.ran v.thread small)
 
     begun_so_far : BegunBy v.under (length h.log)
-    begun_so_far = subst (λ o. BegunBy o (length h.log)) (ap (λ (x : Here). x.under) stood) (begun_by (log_by m v.shape h.log) v.thread (length h.log))
+    begun_so_far = subst (λ o. BegunBy o (length h.log)) (ap (λ (x : Here). x.under) stood)
+        (begun_by (log_by m v.shape h.log) v.thread (length h.log))
 
     pub all_ended : (n : ℕ) → length h.log < n → Before n v.past
-    all_ended n lt = let le = length_seen h.log v.seen fit.rest fit.is in before_more (length v.seen + 1) n v.past (omega arith) fit.stands.ended
+    all_ended n lt =
+        let le = length_seen h.log v.seen fit.rest fit.is in
+        before_more (length v.seen + 1) n v.past (omega arith) fit.stands.ended
 
-    pub moves : (e : Event) (l : Local) (u : Option Under) (r : Past) (ws : List ℕ) → thread_of e ≡ v.thread → Enabled W e → ws ≡ (after m W e).words
-        → at_end m v.shape (h.log ++ e ∷ []) v.thread ≡ here l u (calls_of v.thread r) → ((x : ℕ) → x ≢ v.thread → calls_of x r ≡ calls_of x v.past) → root r ≡ root v.past → (Apart v.past → Apart r) → ((x : ℕ) → IsIn x r → IsIn x v.past) → InOrder r → Before (length h.log + 2) r → InTime u r
-        → Stands m (later v h.log e l u r) × ((h' : Holds m v.shape record { words = ws; homes = s.homes; views = set s.views id (later v h.log e l u r) }) × (h'.log ≡ h.log ++ e ∷ []))
+    pub moves : (e : Event) (l : Local) (u : Option Under) (r : Past) (ws : List ℕ) → thread_of e ≡ v.thread → Enabled W e →
+        ws ≡ (after m W e).words
+        → at_end m v.shape (h.log ++ e ∷ []) v.thread ≡ here l u (calls_of v.thread r) →
+        ((x : ℕ) → x ≢ v.thread → calls_of x r ≡ calls_of x v.past) → root r ≡ root v.past → (Apart v.past → Apart r) →
+        ((x : ℕ) → IsIn x r → IsIn x v.past) → InOrder r → Before (length h.log + 2) r → InTime u r
+        → Stands m (later v h.log e l u r)
+        × ((h' : Holds m v.shape record { words = ws; homes = s.homes; views = set s.views id (later v h.log e l u r) })
+        × (h'.log ≡ h.log ++ e ∷ []))
     moves e l u r ws mine enabled words me others same_root apart is_in in_order before in_time =
         let w : View = later v h.log e l u r in
         let ran' : IsRunOf m v.shape (h.log ++ e ∷ []) = is_run_more m v.shape h.log e h.ran len enabled in
@@ -119,7 +136,8 @@ module _ (m : Table) where
           ran = ran';
           own = me;
           others = asides_stay (at_end m v.shape v.seen) (at_end m v.shape (h.log ++ e ∷ [])) v.thread v.past r v.others
-              (λ x has ne. end_other m v.shape h.log e x (λ is. ne (is ∙ mine)) ∙ still v.shape h.log h.seat_of id v fit x (inr has)) others fit.stands.others;
+              (λ x has ne. end_other m v.shape h.log e x (λ is. ne (is ∙ mine))
+              ∙ still v.shape h.log h.seat_of id v fit x (inr has)) others fit.stands.others;
           in_range = fit.stands.in_range;
           of_thread = same_root ∙ fit.stands.of_thread;
           apart = apart fit.stands.apart;
@@ -145,9 +163,11 @@ module _ (m : Table) where
               ran = ran';
               words = words ∙ ap (λ (z : State). z.words) (sym (end_more m v.shape h.log e));
               seat_of = h.seat_of;
-              each = λ j x is alive. ⊎_elim (λ (t : (j ≡ id) × (w ≡ x)). subst (λ (z : ℕ × View). Fits m v.shape (h.log ++ e ∷ []) h.seat_of z.0 z.1) (λ i. (sym t.0 i, t.1 i)) mine_fits)
+              each = λ j x is alive. ⊎_elim (λ (t : (j ≡ id) × (w ≡ x)). subst
+                  (λ (z : ℕ × View). Fits m v.shape (h.log ++ e ∷ []) h.seat_of z.0 z.1) (λ i. (sym t.0 i, t.1 i)) mine_fits)
                   (λ (t : (j ≢ id) × (get_elem? s.views j ≡ some x)). let f = h.each j x t.1 alive in
-                  others_fit v.shape h.log h.seat_of j x e (λ has. t.0 (sym (f.seat (thread_of e) has) ∙ (ap h.seat_of mine ∙ fit.seat v.thread (inl refl)))) f)
+                  others_fit v.shape h.log h.seat_of j x e
+                  (λ has. t.0 (sym (f.seat (thread_of e) has) ∙ (ap h.seat_of mine ∙ fit.seat v.thread (inl refl)))) f)
                   (at_set s.views id j w x is);
               placed = λ t lt. stands_still s.views id (h.seat_of t) t v w at sp (λ has. has) (h.placed t lt);
             },
@@ -166,8 +186,14 @@ module _ (m : Table) where
       is_at = (record { run = h.ran; thread = small; open_call = busy }, local_stood)
 
       -- the step of the view's own row
-      pub steps : let a = m.next v.local in let n = slice_index s.words (word_named a) in let w = gone_view m h.log (found a n) v in
-          Goes m v (found a n) w × Holds m v.shape record { words = slice_set s.words (word_named a) (left a n); homes = s.homes; views = set s.views id w }
+      pub steps : let a = m.next v.local in
+          let n = slice_index s.words (word_named a) in
+          let w = gone_view m h.log (found a n) v in
+          Goes m v (found a n) w × Holds m v.shape record {
+            words = slice_set s.words (word_named a) (left a n);
+            homes = s.homes;
+            views = set s.views id w;
+          }
       steps =
           let a : Action = m.next v.local in
           let n : ℕ = slice_index s.words (word_named a) in
@@ -175,26 +201,50 @@ module _ (m : Table) where
           let e : Event = Go v.thread in
           let now : ℕ = length h.log + 1 in
           let r : Past = record_after v.past f.answer v.under now in
-          let seen_is : seen_next m W v.thread ≡ found a n = (λ i. seen_by (sym h.words i) (m.next (local_stood i))) ∙ sym (found_is s.words a) in
-          let words : slice_set s.words (word_named a) (left a n) ≡ (after m W e).words = left_is s.words a ∙ (λ i. left_by (h.words i) (m.next (sym local_stood i))) in
-          let me : at_end m v.shape (h.log ++ e ∷ []) v.thread ≡ here f.local (under_after f.answer v.under) (calls_of v.thread r) =
+          let seen_is : seen_next m W v.thread ≡ found a n = (λ i. seen_by (sym h.words i) (m.next (local_stood i)))
+          ∙ sym (found_is s.words a) in
+          let words : slice_set s.words (word_named a) (left a n) ≡ (after m W e).words = left_is s.words a
+          ∙ (λ i. left_by (h.words i) (m.next (sym local_stood i))) in
+          let me : at_end m v.shape (h.log ++ e ∷ []) v.thread ≡ here f.local (under_after f.answer v.under) (calls_of v.thread r)
+          =
           end_go m v.shape h.log v.thread inside ∙ ((λ i. gone (stood i) (m.feed (local_stood i) (seen_is i)) now)
-          ∙ ap (here f.local (under_after f.answer v.under)) (after_calls v.thread v.past f.answer v.under now fit.stands.of_thread)) in
-          let b = moves e f.local (under_after f.answer v.under) r (slice_set s.words (word_named a) (left a n)) refl may_go words me
-          (λ x ne. after_calls_other x v.past f.answer v.under now (λ is. ne (is ∙ fit.stands.of_thread))) (after_root v.past f.answer v.under now)
+          ∙ ap (here f.local (under_after f.answer v.under))
+          (after_calls v.thread v.past f.answer v.under now fit.stands.of_thread)) in
+          let b = moves e f.local (under_after f.answer v.under) r (slice_set s.words (word_named a) (left a n)) refl may_go words
+          me
+          (λ x ne. after_calls_other x v.past f.answer v.under now (λ is. ne (is ∙ fit.stands.of_thread)))
+          (after_root v.past f.answer v.under now)
           (after_apart v.past f.answer v.under now) (after_in v.past f.answer v.under now)
-          (after_in_order v.past f.answer v.under now fit.stands.ordered fit.stands.before) (after_before v.past f.answer v.under (length h.log) now (length h.log + 2) begun_so_far (omega arith) (omega arith) (all_ended (length h.log + 2) (omega arith)))
-          (after_in_time v.past f.answer v.under now fit.stands.before) in
-          ((h.log, (fit.rest, fit.is), (v.shape, event_at h.log, length h.log, v.thread, is_at.0, is_at.1, seen_is), refl, b.0, seen_is), b.1.0)
+          (after_in_order v.past f.answer v.under now fit.stands.ordered fit.stands.before)
+          (after_before v.past f.answer v.under (length h.log) now (length h.log + 2) begun_so_far (omega arith) (omega arith)
+          (all_ended (length h.log + 2) (omega arith)))
+          (after_in_time v.past f.answer v.under now fit.stands.before) in (
+            (
+              h.log,
+              (fit.rest, fit.is),
+              (v.shape, event_at h.log, length h.log, v.thread, is_at.0, is_at.1, seen_is),
+              refl,
+              b.0,
+              seen_is,
+            ),
+            b.1.0,
+          )
 
     -- a call begins
-    pub starts : (c : Call) → target c < tail_word → v.under ≡ None → let b = begun_view m h.log c v in Stands m b × ((h' : Holds m v.shape record { words = s.words; homes = s.homes; views = set s.views id b }) × (h'.log ≡ b.seen))
+    pub starts : (c : Call) → target c < tail_word → v.under ≡ None → let b = begun_view m h.log c v in
+        Stands m b × ((h' : Holds m v.shape record { words = s.words; homes = s.homes; views = set s.views id b })
+        × (h'.log ≡ b.seen))
     starts c low idle =
         let e : Event = Begin v.thread c in
         let now : ℕ = length h.log + 1 in
         let pc : (local_of W v.thread).pc ≡ 0 = subst (λ o. Tied o (local_of W v.thread)) idle tied_stood in
-        moves e (m.begin c v.local) (Some (record { call = c; begun = now; steps = 0 })) v.past s.words refl (inside, pc, low) h.words
-        (end_begin m v.shape h.log v.thread c inside ∙ (λ i. begins m (stood i) c now)) (λ x _. refl) refl (λ a. a) (λ x h. h) fit.stands.ordered (all_ended (length h.log + 2) (omega arith)) (all_ended now (omega arith))
+        moves e (m.begin c v.local) (Some (record { call = c; begun = now; steps = 0 })) v.past s.words refl (
+          inside,
+          pc,
+          low,
+        ) h.words
+        (end_begin m v.shape h.log v.thread c inside ∙ (λ i. begins m (stood i) c now)) (λ x _. refl) refl (λ a. a) (λ x h. h)
+        fit.stands.ordered (all_ended (length h.log + 2) (omega arith)) (all_ended now (omega arith))
 
 set_twice : (l : List View) (i : ℕ) (a b : View) → set (set l i a) i b ≡ set l i b
 set_twice [] i a b = refl
@@ -205,19 +255,28 @@ abbrev pub M : Type 0
 M = Me (Unit {0}) View
 
 -- the step of the row at which the view stands keeps the rule, whatever its kind
-pub goes_on : (m : Table) (law : Lawful m) (slots id : ℕ) (me : M) (k : Opening) (a : Action) → a ≡ m.next me.0.local → me.0.shape ≡ k → IsOpen me.0
+pub goes_on : (m : Table) (law : Lawful m) (slots id : ℕ) (me : M) (k : Opening) (a : Action) → a ≡ m.next me.0.local →
+    me.0.shape ≡ k → IsOpen me.0
     → Allows (Holds m k) slots id me (word_named a) (left a) (λ n me'. Goes m me.0 (found a n) me'.0 × (me'.1 ≡ me.1))
 goes_on m law slots id me k a acts shape is_open = let v : View = me.0 in
-    let P : Opening × Action → Type 0 = λ z. Allows (Holds m z.0) slots id me (word_named z.1) (left z.1) (λ n me'. Goes m me.0 (found z.1 n) me'.0 × (me'.1 ≡ me.1)) in
-    subst P (λ i. (shape i, sym acts i)) (λ s h _ at _. let r = steps m law s v id h at is_open.0 is_open.1.0 is_open.1.1 in
-    (gone_view m h.log (found (m.next v.local) (slice_index s.words (word_named (m.next v.local)))) v, keeps, tt, r.1, (r.0, refl)))
+    let P : Opening × Action → Type 0 = λ z. Allows (Holds m z.0) slots id me (word_named z.1) (left z.1)
+    (λ n me'. Goes m me.0 (found z.1 n) me'.0 × (me'.1 ≡ me.1)) in
+    subst P (λ i. (shape i, sym acts i)) (λ s h _ at _. let r = steps m law s v id h at is_open.0 is_open.1.0 is_open.1.1 in (
+      gone_view m h.log (found (m.next v.local) (slice_index s.words (word_named (m.next v.local)))) v,
+      keeps,
+      tt,
+      r.1,
+      (r.0, refl),
+    ))
 
 -- and so does the first step of a call
-pub goes_first : (m : Table) (law : Lawful m) (slots id : ℕ) (me : M) (k : Opening) (c : Call) → target c < tail_word → (a : Action) → a ≡ m.next (m.begin c me.0.local) → me.0.shape ≡ k → IsIdle me.0
+pub goes_first : (m : Table) (law : Lawful m) (slots id : ℕ) (me : M) (k : Opening) (c : Call) → target c < tail_word →
+    (a : Action) → a ≡ m.next (m.begin c me.0.local) → me.0.shape ≡ k → IsIdle me.0
     → Allows (Holds m k) slots id me (word_named a) (left a) (λ n me'. Starts m c me.0 (found a n) me'.0 × (me'.1 ≡ me.1))
 unfolding starts steps
 goes_first m law slots id me k c low a acts shape is_idle = let v : View = me.0 in
-    let P : Opening × Action → Type 0 = λ z. Allows (Holds m z.0) slots id me (word_named z.1) (left z.1) (λ n me'. Starts m c me.0 (found z.1 n) me'.0 × (me'.1 ≡ me.1)) in
+    let P : Opening × Action → Type 0 = λ z. Allows (Holds m z.0) slots id me (word_named z.1) (left z.1)
+    (λ n me'. Starts m c me.0 (found z.1 n) me'.0 × (me'.1 ≡ me.1)) in
     subst P (λ i. (shape i, sym acts i)) (λ s h _ at _.
     let b : View = begun_view m h.log c v in
     let st = starts m law s v id h at is_idle.0 c low is_idle.1 in
@@ -231,8 +290,25 @@ goes_first m law slots id me k c low a acts shape is_idle = let v : View = me.0 
       w,
       keeps,
       tt,
-      subst (λ (vs : List View). Holds m v.shape record { words = slice_set s.words (word_named (m.next b.local)) (left (m.next b.local) (slice_index s.words (word_named (m.next b.local)))); homes = s.homes; views = vs }) (set_twice s.views id b w) r.1,
-      ((h.log, ((h.each id v at is_idle.0).rest, (h.each id v at is_idle.0).is), r.0.2, ap (λ l. gone_view m l n b) st.1.1, r.0.4, ap (λ l. seen_next m (end_of m v.shape l) v.thread) (sym st.1.1) ∙ r.0.5), refl),
+      subst (λ (vs : List View). Holds m v.shape record {
+        words =
+            slice_set s.words (word_named (m.next b.local))
+            (left (m.next b.local) (slice_index s.words (word_named (m.next b.local))));
+        homes = s.homes;
+        views = vs;
+      })
+          (set_twice s.views id b w) r.1,
+      (
+        (
+          h.log,
+          ((h.each id v at is_idle.0).rest, (h.each id v at is_idle.0).is),
+          r.0.2,
+          ap (λ l. gone_view m l n b) st.1.1,
+          r.0.4,
+          ap (λ l. seen_next m (end_of m v.shape l) v.thread) (sym st.1.1) ∙ r.0.5,
+        ),
+        refl,
+      ),
     ))
 
 -- where a view with a call under way stands
@@ -245,20 +321,32 @@ module _ (m : Table) (law : Lawful m) (v : View) (st : Stands m v) where
 
   -- the number in its registers is its own
   pub own_number : v.local.thread ≡ v.thread
-  own_number = ap (λ (x : Here). x.local.thread) (sym st.own) ∙ ((end_laws m law v.shape v.seen st.ran).threads v.thread own_small).thread
+  own_number = ap (λ (x : Here). x.local.thread) (sym st.own)
+      ∙ ((end_laws m law v.shape v.seen st.ran).threads v.thread own_small).thread
 
   pub own_tied : Tied v.under (local_of (end_of m v.shape v.seen) v.thread)
-  own_tied = subst (λ z. Tied z (local_of (end_of m v.shape v.seen) v.thread)) (ap (λ (x : Here). x.under) st.own) (end_tied m law v.shape v.seen st.ran v.thread own_small)
+  own_tied = subst (λ z. Tied z (local_of (end_of m v.shape v.seen) v.thread)) (ap (λ (x : Here). x.under) st.own)
+      (end_tied m law v.shape v.seen st.ran v.thread own_small)
 
   pub stands_at : IsOpen v → IsAt m v.shape v.seen v.thread v.local
-  stands_at is_open = (record { run = st.ran; thread = own_small; open_call = (subst (λ o. Tied o (local_of (end_of m v.shape v.seen) v.thread)) is_open.1.1 own_tied).0 }, ap (λ (x : Here). x.local) st.own)
+  stands_at is_open = (
+    record {
+      run = st.ran;
+      thread = own_small;
+      open_call = (subst (λ o. Tied o (local_of (end_of m v.shape v.seen) v.thread)) is_open.1.1 own_tied).0;
+    },
+    ap (λ (x : Here). x.local) st.own,
+  )
 
   -- and where it stands once it has begun a call, before its first step
-  pub begun_at : (c : Call) → target c < tail_word → IsIdle v → IsAt m v.shape (v.seen ++ Begin v.thread c ∷ []) v.thread (m.begin c v.local)
+  pub begun_at : (c : Call) → target c < tail_word → IsIdle v → IsAt m v.shape (v.seen ++ Begin v.thread c ∷ []) v.thread
+      (m.begin c v.local)
   begun_at c low is_idle =
       let e : Event = Begin v.thread c in
-      let pc : (local_of (end_of m v.shape v.seen) v.thread).pc ≡ 0 = subst (λ o. Tied o (local_of (end_of m v.shape v.seen) v.thread)) is_idle.1 own_tied in
-      let now : at_end m v.shape (v.seen ++ e ∷ []) v.thread ≡ begins m (here v.local v.under (calls_of v.thread v.past)) c (length v.seen + 1) =
+      let pc : (local_of (end_of m v.shape v.seen) v.thread).pc ≡ 0 =
+      subst (λ o. Tied o (local_of (end_of m v.shape v.seen) v.thread)) is_idle.1 own_tied in
+      let now : at_end m v.shape (v.seen ++ e ∷ []) v.thread ≡ begins m (here v.local v.under (calls_of v.thread v.past)) c
+      (length v.seen + 1) =
       end_begin m v.shape v.seen v.thread c own_inside ∙ ap (λ h. begins m h c (length v.seen + 1)) st.own in
       let is : local_of (end_of m v.shape (v.seen ++ e ∷ [])) v.thread ≡ m.begin c v.local = ap (λ (x : Here). x.local) now in (
         record {
@@ -270,15 +358,27 @@ module _ (m : Table) (law : Lawful m) (v : View) (st : Stands m v) where
       )
 
 -- the step of a row names a word of the table
-in_table : (m : Table) → Lawful m → (k : Opening) (es : List Event) (t : ℕ) (l : Local) → IsAt m k es t l → word_named (m.next l) < word_count (sizes k)
+in_table : (m : Table) → Lawful m → (k : Opening) (es : List Event) (t : ℕ) (l : Local) → IsAt m k es t l →
+    word_named (m.next l) < word_count (sizes k)
 in_table m law k es t l at =
     let s : State = end_of m k es in
     let laws : StateLaws m.marks (sizes k) s = end_laws m law k es at.0.run in
     let w : WorldState = record { sizes = sizes k; state = s } in
-    let r : IsRun m w = record { opening = k; of_sizes = refl; events = es; run = at.0.run; is = refl; words = laws.words; locals = laws.locals } in
+    let r : IsRun m w = record {
+      opening = k;
+      of_sizes = refl;
+      events = es;
+      run = at.0.run;
+      is = refl;
+      words = laws.words;
+      locals = laws.locals;
+    } in
     let b = named_in m w t law r (in_locals m law k es at.0.run t at.0.thread, at.0.open_call) in
     subst (λ z. word_named (m.next l) < z) laws.words (subst (λ (x : Local). word_named (m.next x) < length s.words) at.1 b)
 
-pub in_words : (m : Table) → Lawful m → (k : Opening) (es : List Event) (t : ℕ) (l : Local) → IsAt m k es t l → (a : Action) → a ≡ m.next l → (key : Opening) → k ≡ key → (n : ℕ) → n ≡ word_count (sizes key) → word_named a < n
-in_words m law k es t l at a acts key same n count = let b = in_table m law k es t l at in let P : ℕ × ℕ → Type 0 = λ z. z.0 < z.1 in
+pub in_words : (m : Table) → Lawful m → (k : Opening) (es : List Event) (t : ℕ) (l : Local) → IsAt m k es t l → (a : Action) →
+    a ≡ m.next l → (key : Opening) → k ≡ key → (n : ℕ) → n ≡ word_count (sizes key) → word_named a < n
+in_words m law k es t l at a acts key same n count =
+    let b = in_table m law k es t l at in
+    let P : ℕ × ℕ → Type 0 = λ z. z.0 < z.1 in
     subst P (λ i. (word_named (sym acts i), (ap (λ (q : Opening). word_count (sizes q)) same ∙ sym count) i)) b

@@ -1,5 +1,6 @@
 -- The rule holds as a set is opened.
-use Rattle.std.proofs.Common.{◌≡◌, ◌≢◌, inl, inr, ⊎_elim, ℕ, zero, suc, ◌+◌, ◌-◌, ◌<◌, ◌≤◌, List, [], ◌∷◌, ◌++◌, length, None, refl, sym, ap, ◌∙◌, subst, arith}
+use Rattle.std.proofs.Common.{◌≡◌, ◌≢◌, inl, inr, ⊎_elim, ℕ, zero, suc, ◌+◌, ◌-◌, ◌<◌, ◌≤◌, List, [], ◌∷◌, ◌++◌, length, None}
+use Rattle.std.proofs.Common.{refl, sym, ap, ◌∙◌, subst, arith}
 use mathlib.Core.Option.{some, some-injective, some-ne-none}
 use mathlib.Core.Logic.{dite}
 use native.Mathlib.Decide.{ℕ_discrete}
@@ -35,15 +36,18 @@ IsNew z k t s = (s.table_id ≡ z) × (s.me ≡ (fresh k t, []))
 
 between : (k : Opening) (t n u : ℕ) → HasAside (asides_from k t n) u → (t ≤ u) × (u < t + n)
 between k t zero u h = absurd h
-between k t (suc n) u h = ⊎_elim (λ (e : u ≡ t). (omega arith, omega arith)) (λ x. let b = between k (t + 1) n u x in let p = b.0 in let q = b.1 in (omega arith, omega arith)) h
+between k t (suc n) u h = ⊎_elim (λ (e : u ≡ t). (omega arith, omega arith)) (λ x. let b = between k (t + 1) n u x in let p = b.0
+    in let q = b.1 in (omega arith, omega arith)) h
 
 among : (k : Opening) (t n u : ℕ) → t ≤ u → u < t + n → HasAside (asides_from k t n) u
 among k t zero u le lt = absurd (omega arith)
-among k t (suc n) u le lt = dite (ℕ_discrete u t) (λ (e : u ≡ t). inl e) (λ (ne : u ≢ t). inr (among k (t + 1) n u (omega arith) (omega arith)))
+among k t (suc n) u le lt = dite (ℕ_discrete u t) (λ (e : u ≡ t). inl e)
+    (λ (ne : u ≢ t). inr (among k (t + 1) n u (omega arith) (omega arith)))
 
 -- the first seat has all threads
 all_there : (k : Opening) (t : ℕ) → t < k.threads → HasThread (opener k) t
-all_there k t lt = dite (ℕ_discrete t (k.threads - 1)) (λ (e : t ≡ k.threads - 1). inl e) (λ (ne : t ≢ k.threads - 1). inr (among k 0 (k.threads - 1) t (omega arith) (omega arith)))
+all_there k t lt = dite (ℕ_discrete t (k.threads - 1)) (λ (e : t ≡ k.threads - 1). inl e)
+    (λ (ne : t ≢ k.threads - 1). inr (among k 0 (k.threads - 1) t (omega arith) (omega arith)))
 
 -- before any event each thread is idle
 at_opening : (m : Table) (k : Opening) (t : ℕ) → t < k.threads → at_end m k [] t ≡ here (idle k.quota t) None []
@@ -52,16 +56,23 @@ at_opening m k t lt = λ i. here (get_or-map-range_with_len (idle k.quota) 0 k.t
 no_events : (m : Table) (k : Opening) → Opens k → IsRunOf m k []
 no_events m k lim = (runs_to_opening m k lim).run
 
-all_idle : (m : Table) (k : Opening) (t n : ℕ) → t + n < k.threads → AreIdle (at_end m k []) (k.threads - 1) (Fresh (k.threads - 1)) (asides_from k t n)
+all_idle : (m : Table) (k : Opening) (t n : ℕ) → t + n < k.threads →
+    AreIdle (at_end m k []) (k.threads - 1) (Fresh (k.threads - 1)) (asides_from k t n)
 all_idle m k t zero lt = tt
-all_idle m k t (suc n) lt = ((λ (e : t ≡ k.threads - 1). omega arith), at_opening m k t (omega arith), (λ x. let b = between k (t + 1) n t x in let p = b.0 in omega arith), all_idle m k (t + 1) n (omega arith))
+all_idle m k t (suc n) lt = (
+  (λ (e : t ≡ k.threads - 1). omega arith),
+  at_opening m k t (omega arith),
+  (λ x. let b = between k (t + 1) n t x in let p = b.0 in omega arith),
+  all_idle m k (t + 1) n (omega arith),
+)
 
 pub opener_stands : (m : Table) (k : Opening) → Opens k → Stands m (opener k)
 opener_stands m k lim = let some_thread : 0 < k.threads = lim.within.some in record {
   ran = no_events m k lim;
   own = at_opening m k (k.threads - 1) (omega arith);
   others = all_idle m k 0 (k.threads - 1) (omega arith);
-  in_range = λ t h. ⊎_elim (λ (e : t ≡ k.threads - 1). omega arith) (λ x. let b = between k 0 (k.threads - 1) t x in let q = b.1 in omega arith) h;
+  in_range = λ t h. ⊎_elim (λ (e : t ≡ k.threads - 1). omega arith) (λ x. let b = between k 0 (k.threads - 1) t x in let q = b.1
+      in omega arith) h;
   of_thread = refl;
   apart = tt;
   named = λ u e. inl e;
@@ -80,20 +91,24 @@ opens m k lim = record {
   ran = no_events m k lim;
   words = refl;
   seat_of = λ _. 0;
-  each = λ j x at alive. let o = one_view (opener k) x j at in subst (λ (z : ℕ × View). Fits m k [] (λ _. 0) z.0 z.1) (λ i. (sym o.0 i, o.1 i)) record {
-    shape = refl;
-    rest = [];
-    is = refl;
-    quiet = tt;
-    stands = opener_stands m k lim;
-    seat = λ _ _. refl;
-    ours = ([], refl);
-    theirs = ([], refl);
-  };
+  each = λ j x at alive. let o = one_view (opener k) x j at in
+      subst (λ (z : ℕ × View). Fits m k [] (λ _. 0) z.0 z.1) (λ i. (sym o.0 i, o.1 i)) record {
+        shape = refl;
+        rest = [];
+        is = refl;
+        quiet = tt;
+        stands = opener_stands m k lim;
+        seat = λ _ _. refl;
+        ours = ([], refl);
+        theirs = ([], refl);
+      };
   placed = λ t lt. (opener k, refl, refl, all_there k t lt);
 }
 
-next_aside : (k : Opening) (t : ℕ) → t + 1 < k.threads → asides_from k t (k.threads - 1 - t) ≡ record { thread = t; local = idle k.quota t } ∷ asides_from k (t + 1) (k.threads - 1 - (t + 1))
+next_aside : (k : Opening) (t : ℕ) → t + 1 < k.threads → asides_from k t (k.threads - 1 - t) ≡ record {
+  thread = t;
+  local = idle k.quota t;
+} ∷ asides_from k (t + 1) (k.threads - 1 - (t + 1))
 next_aside k t lt = let e : k.threads - 1 - t ≡ suc (k.threads - 1 - (t + 1)) = omega arith in ap (asides_from k t) e
 
 pub cut_left : (k : Opening) (t : ℕ) → t + 1 < k.threads → left_view (spare k t) ≡ spare k (t + 1)
@@ -124,10 +139,13 @@ fresh_stands m k t lim lt = record {
 }
 
 pub spare_all : (k : Opening) → opener k ≡ spare k 0
-spare_all k = let e : k.threads - 1 ≡ k.threads - 1 - 0 = omega arith in ap (λ n. record (opener k) { others = asides_from k 0 n }) e
+spare_all k =
+    let e : k.threads - 1 ≡ k.threads - 1 - 0 = omega arith in
+    ap (λ n. record (opener k) { others = asides_from k 0 n }) e
 
 -- what a new seat's fields have to be
-pub new_seat : (m : Table) (k : Opening) (t : ℕ) (me : T.Me (Unit {0}) View) → Opens k → t < k.threads → me ≡ (fresh k t, []) → (slots : Slots) → slots ≡ slots_of (idle k.quota t)
+pub new_seat : (m : Table) (k : Opening) (t : ℕ) (me : T.Me (Unit {0}) View) → Opens k → t < k.threads → me ≡ (fresh k t, []) →
+    (slots : Slots) → slots ≡ slots_of (idle k.quota t)
     → IsIdle me.0 × Stands m me.0 × (slots ≡ slots_of me.0.local) × (1 ≡ length me.0.others + 1) × (me.1 ≡ [])
 new_seat m k t me lim lt is slots l = (
   (ap (λ z. z.0.spent) is, ap (λ z. z.0.under) is),
@@ -138,7 +156,8 @@ new_seat m k t me lim lt is slots l = (
 )
 
 -- one seat more
-pub each_more : (z : TableId) (k : Opening) (seats : List (Seat (Unit {0}) View)) (s : Seat (Unit {0}) View) (t : ℕ) → length seats ≡ t
+pub each_more : (z : TableId) (k : Opening) (seats : List (Seat (Unit {0}) View)) (s : Seat (Unit {0}) View) (t : ℕ) →
+    length seats ≡ t
     → ((i : ℕ) (x : Seat (Unit {0}) View) → get_elem? seats i ≡ some x → IsNew z k i x) → IsNew z k t s
     → (i : ℕ) (x : Seat (Unit {0}) View) → get_elem? (seats ++ s ∷ []) i ≡ some x → IsNew z k i x
 each_more z k seats s t len each new i x at = ⊎_elim (λ old. each i x old)

@@ -16,7 +16,8 @@ abbrev pub Reached : Table → Call → Place → Fed → Place → Type 0
 Reached m c s f s' = Comes m c s.me.0 f s'.me.0 × IsSeat s s'
 
 -- a call that has not answered may make its next step
-pub may_step : (m : Table) → Lawful m → (c : Call) (z : TableId) (k : Opening) (own : Slots) (s s' : Place) (f : Fed) → MayCall m z k own s → Reached m c s f s' → f.answer ≡ None → MayStep m z k f.local s'
+pub may_step : (m : Table) → Lawful m → (c : Call) (z : TableId) (k : Opening) (own : Slots) (s s' : Place) (f : Fed) →
+    MayCall m z k own s → Reached m c s f s' → f.answer ≡ None → MayStep m z k f.local s'
 may_step m law c z k own s s' f may (come, seat) none = let mid = is_mid m c s.me.0 s'.me.0 f come none in record {
   place = (seat.0 ∙ may.place.0, mid.0.same.1 ∙ may.place.1, may.place.2);
   under_way = mid_open c s.me.0 s'.me.0 may.idle.0 mid.0;
@@ -26,7 +27,8 @@ may_step m law c z k own s s' f may (come, seat) none = let mid = is_mid m c s.m
 }
 
 -- and has come one step further after it
-pub stepped : (m : Table) (c : Call) (s s' s'' : Place) (f f' : Fed) → Reached m c s f s' → f.answer ≡ None → HasStepped m f.local s' f' s'' → Reached m c s f' s''
+pub stepped : (m : Table) (c : Call) (s s' s'' : Place) (f f' : Fed) → Reached m c s f s' → f.answer ≡ None →
+    HasStepped m f.local s' f' s'' → Reached m c s f' s''
 stepped m c s s' s'' f f' (come, seat) none step = (
   comes_next m c s.me.0 s'.me.0 f step.seen s''.me.0 f' come none step.goes step.fed,
   (step.place.0 ∙ seat.0, step.place.1 ∙ seat.1, step.place.2 ∙ seat.2),

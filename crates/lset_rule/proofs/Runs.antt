@@ -1,5 +1,7 @@
 -- Runs of a machine, and what a record says of each thread.
-use Rattle.std.proofs.Common.{◌≡◌, ◌≢◌, ◌⊎◌, inl, inr, ⊎_elim, ℕ, zero, suc, ◌<◌, ◌≤◌, ◌==◌, Bool, true, false, if◌then◌else◌, cond, List, [], ◌∷◌, ◌++◌, Option, Some, None, refl, sym, ap, ◌∙◌, subst, arith, eq-eqb, ne_eqb, append-nil, append_assoc}
+use Rattle.std.proofs.Common.{◌≡◌, ◌≢◌, ◌⊎◌, inl, inr, ⊎_elim, ℕ, zero, suc, ◌<◌, ◌≤◌, ◌==◌, Bool, true, false, if◌then◌else◌}
+use Rattle.std.proofs.Common.{cond, List, [], ◌∷◌, ◌++◌, Option, Some, None, refl, sym, ap, ◌∙◌, subst, arith, eq-eqb, ne_eqb}
+use Rattle.std.proofs.Common.{append-nil, append_assoc}
 use Rattle.lset_words.specs.declared.Reply.{Reply}
 use Rattle.lset_words.specs.Log.{Log, Entry}
 use Rattle.lset_words.specs.Log.Entry.{began, stepped}
@@ -22,19 +24,22 @@ use Rattle.lset_words.specs.Words.{Opening}
 
 module _ (T : Table) (k : Opening) where
   -- events of other threads leave a thread as it is
-  pub still_quiet : (v : View) (es rest : List Event) (t : ℕ) → HasThread v t → IsQuiet v rest → at_end T k (es ++ rest) t ≡ at_end T k es t
+  pub still_quiet : (v : View) (es rest : List Event) (t : ℕ) → HasThread v t → IsQuiet v rest →
+      at_end T k (es ++ rest) t ≡ at_end T k es t
   still_quiet v es [] t h quiet = ap (λ l. at_end T k l t) (append-nil es)
   still_quiet v es (e ∷ rest) t h quiet = ap (λ l. at_end T k l t) (sym (append_assoc es (e ∷ []) rest))
       ∙ (still_quiet v (es ++ e ∷ []) rest t h quiet.1 ∙ end_other T k es e t (λ same. quiet.0 (subst (HasThread v) same h)))
 
-pub quiet_append : (v : View) (es : List Event) (e : Event) → IsQuiet v es → ¬ (HasThread v (thread_of e)) → IsQuiet v (es ++ e ∷ [])
+pub quiet_append : (v : View) (es : List Event) (e : Event) → IsQuiet v es → ¬ (HasThread v (thread_of e)) →
+    IsQuiet v (es ++ e ∷ [])
 quiet_append v [] e q n = (n, tt)
 quiet_append v (x ∷ xs) e q n = (q.0, quiet_append v xs e q.1 n)
 
 pub starts_more : (log seen : List Event) (e : Event) → StartsWith log seen → StartsWith (log ++ e ∷ []) seen
 starts_more log seen e (rest, is) = (rest ++ e ∷ [], ap (λ l. l ++ e ∷ []) is ∙ append_assoc seen rest (e ∷ []))
 
-pub asides_stay : (w w' : ℕ → Here) (t : ℕ) (r r' : Past) (os : List Aside) → ((u : ℕ) → HasAside os u → u ≢ t → w' u ≡ w u) → ((u : ℕ) → u ≢ t → calls_of u r' ≡ calls_of u r)
+pub asides_stay : (w w' : ℕ → Here) (t : ℕ) (r r' : Past) (os : List Aside) → ((u : ℕ) → HasAside os u → u ≢ t → w' u ≡ w u) →
+    ((u : ℕ) → u ≢ t → calls_of u r' ≡ calls_of u r)
     → AreIdle w t r os → AreIdle w' t r' os
 asides_stay w w' t r r' [] same calls a = tt
 asides_stay w w' t r r' (o ∷ os) same calls a = (
@@ -73,8 +78,11 @@ begun_after None None n h = tt
 begun_after None (Some u) n h = h
 
 begun_next : (e : Entry) (t n : ℕ) (o : Option Under) → BegunBy o n → BegunBy (under_next (suc n) e t o) (suc n)
-begun_next (began u c) t n o h = let now : suc n ≤ suc n = omega arith in begun_if (u == t) (Some (record { call = c; begun = suc n; steps = 0 })) o (suc n) now (begun_later o n h)
-begun_next (stepped u change answer) t n o h = begun_if (u == t) (under_after answer o) o (suc n) (begun_after answer o (suc n) (begun_later o n h)) (begun_later o n h)
+begun_next (began u c) t n o h =
+    let now : suc n ≤ suc n = omega arith in
+    begun_if (u == t) (Some (record { call = c; begun = suc n; steps = 0 })) o (suc n) now (begun_later o n h)
+begun_next (stepped u change answer) t n o h =
+    begun_if (u == t) (under_after answer o) o (suc n) (begun_after answer o (suc n) (begun_later o n h)) (begun_later o n h)
 
 pub begun_by : (log : Log) (t n : ℕ) → BegunBy (under_at log t n) n
 begun_by log t zero = tt
@@ -104,7 +112,8 @@ none_of_another u (Fresh t) out = refl
 none_of_another u (Called' p r c) out =
     ap (λ b. calls_of u r ++ cond b (c ∷ []) []) (ne_eqb u (root r) (λ e. out (subst (λ z. IsIn z r) (sym e) (root_in r))))
     ∙ (append-nil (calls_of u r) ∙ none_of_another u r out)
-none_of_another u (Gathered' p r q g) out = λ i. none_of_another u r (λ h. out (inl h)) i ++ none_of_another u g (λ h. out (inr h)) i
+none_of_another u (Gathered' p r q g) out = λ i. none_of_another u r (λ h. out (inl h)) i
+    ++ none_of_another u g (λ h. out (inr h)) i
 
 -- a record that was gathered is another thread's
 pub gathered_in : (u : ℕ) (r : Past) → HasGathered u r → IsIn u r
@@ -115,14 +124,17 @@ gathered_in u (Gathered' p r q g) h = ⊎_elim (λ x. inl (gathered_in u r x)) (
 gathered_other : (u : ℕ) (r : Past) → Apart r → HasGathered u r → u ≢ root r
 gathered_other u (Fresh t) apart h = absurd h
 gathered_other u (Called' p r c) apart h = gathered_other u r apart h
-gathered_other u (Gathered' p r q g) apart h = ⊎_elim (gathered_other u r apart.0) (λ x e. apart.2 u (subst (λ z. IsIn z r) (sym e) (root_in r)) x) h
+gathered_other u (Gathered' p r q g) apart h =
+    ⊎_elim (gathered_other u r apart.0) (λ x e. apart.2 u (subst (λ z. IsIn z r) (sym e) (root_in r)) x) h
 
 -- the calls of its own thread are its own calls
 pub calls_are_own_calls : (r : Past) → Apart r → calls_of (root r) r ≡ own_calls r
 calls_are_own_calls (Fresh t) apart = refl
-calls_are_own_calls (Called' p r c) apart = ap (λ b. calls_of (root r) r ++ cond b (c ∷ []) []) (eq-eqb (root r) (root r) refl) ∙ ap (λ l. l ++ c ∷ []) (calls_are_own_calls r apart)
+calls_are_own_calls (Called' p r c) apart = ap (λ b. calls_of (root r) r ++ cond b (c ∷ []) []) (eq-eqb (root r) (root r) refl)
+    ∙ ap (λ l. l ++ c ∷ []) (calls_are_own_calls r apart)
 calls_are_own_calls (Gathered' p r q g) apart =
-    ap (λ l. calls_of (root r) r ++ l) (none_of_another (root r) g (λ h. apart.2 (root r) (root_in r) h)) ∙ (append-nil (calls_of (root r) r) ∙ calls_are_own_calls r apart.0)
+    ap (λ l. calls_of (root r) r ++ l) (none_of_another (root r) g (λ h. apart.2 (root r) (root_in r) h))
+    ∙ (append-nil (calls_of (root r) r) ∙ calls_are_own_calls r apart.0)
 
 -- each gathered record has as its own calls the ended ones of its thread
 abbrev pub GatheredHave : (ℕ → List OwnCall) → Past → Type 0
@@ -130,24 +142,33 @@ GatheredHave ended (Fresh t) = Unit {0}
 GatheredHave ended (Called' p r c) = GatheredHave ended r
 GatheredHave ended (Gathered' p r q g) = GatheredHave ended r × (ended (root g) ≡ own_calls g) × GatheredHave ended g
 
-pub gathered_have : (ended : ℕ → List OwnCall) (r : Past) → Apart r → ((u : ℕ) → HasGathered u r → ended u ≡ calls_of u r) → GatheredHave ended r
+pub gathered_have : (ended : ℕ → List OwnCall) (r : Past) → Apart r → ((u : ℕ) → HasGathered u r → ended u ≡ calls_of u r) →
+    GatheredHave ended r
 gathered_have ended (Fresh t) apart is = tt
 gathered_have ended (Called' p r c) apart is = gathered_have ended r apart
-    (λ u h. is u h ∙ (ap (λ b. calls_of u r ++ cond b (c ∷ []) []) (ne_eqb u (root r) (gathered_other u r apart h)) ∙ append-nil (calls_of u r)))
+    (λ u h. is u h ∙ (ap (λ b. calls_of u r ++ cond b (c ∷ []) []) (ne_eqb u (root r) (gathered_other u r apart h))
+    ∙ append-nil (calls_of u r)))
 gathered_have ended (Gathered' p r q g) apart is = (
-  gathered_have ended r apart.0 (λ u h. is u (inl h) ∙ (ap (λ l. calls_of u r ++ l) (none_of_another u g (λ x. apart.2 u (gathered_in u r h) x)) ∙ append-nil (calls_of u r))),
-  is (root g) (inr (root_in g)) ∙ (ap (λ l. l ++ calls_of (root g) g) (none_of_another (root g) r (λ x. apart.2 (root g) x (root_in g))) ∙ calls_are_own_calls g apart.1),
-  gathered_have ended g apart.1 (λ u h. is u (inr (gathered_in u g h)) ∙ ap (λ l. l ++ calls_of u g) (none_of_another u r (λ x. apart.2 u x (gathered_in u g h)))),
+  gathered_have ended r apart.0 (λ u h. is u (inl h)
+      ∙ (ap (λ l. calls_of u r ++ l) (none_of_another u g (λ x. apart.2 u (gathered_in u r h) x)) ∙ append-nil (calls_of u r))),
+  is (root g) (inr (root_in g)) ∙
+      (ap (λ l. l ++ calls_of (root g) g) (none_of_another (root g) r (λ x. apart.2 (root g) x (root_in g)))
+      ∙ calls_are_own_calls g apart.1),
+  gathered_have ended g apart.1 (λ u h. is u (inr (gathered_in u g h))
+      ∙ ap (λ l. l ++ calls_of u g) (none_of_another u r (λ x. apart.2 u x (gathered_in u g h)))),
 )
 
 -- the record after a step
-pub after_calls : (t : ℕ) (r : Past) (a : Option Reply) (u : Option Under) (n : ℕ) → root r ≡ t → calls_of t r ++ ending a u n ≡ calls_of t (record_after r a u n)
+pub after_calls : (t : ℕ) (r : Past) (a : Option Reply) (u : Option Under) (n : ℕ) → root r ≡ t → calls_of t r
+    ++ ending a u n ≡ calls_of t (record_after r a u n)
 after_calls t r (Some x) (Some u) n is = ap (λ b. calls_of t r ++ cond b (own u x n ∷ []) []) (sym (eq-eqb t (root r) (sym is)))
 after_calls t r (Some x) None n is = append-nil (calls_of t r)
 after_calls t r None u n is = append-nil (calls_of t r)
 
-pub after_calls_other : (t : ℕ) (r : Past) (a : Option Reply) (u : Option Under) (n : ℕ) → t ≢ root r → calls_of t (record_after r a u n) ≡ calls_of t r
-after_calls_other t r (Some x) (Some u) n ne = ap (λ b. calls_of t r ++ cond b (own u x n ∷ []) []) (ne_eqb t (root r) ne) ∙ append-nil (calls_of t r)
+pub after_calls_other : (t : ℕ) (r : Past) (a : Option Reply) (u : Option Under) (n : ℕ) → t ≢ root r →
+    calls_of t (record_after r a u n) ≡ calls_of t r
+after_calls_other t r (Some x) (Some u) n ne = ap (λ b. calls_of t r ++ cond b (own u x n ∷ []) []) (ne_eqb t (root r) ne)
+    ∙ append-nil (calls_of t r)
 after_calls_other t r (Some x) None n ne = refl
 after_calls_other t r None u n ne = refl
 
@@ -166,17 +187,20 @@ after_in r (Some x) (Some u) n t h = h
 after_in r (Some x) None n t h = h
 after_in r None u n t h = h
 
-pub after_in_order : (r : Past) (a : Option Reply) (u : Option Under) (n : ℕ) → InOrder r → InTime u r → InOrder (record_after r a u n)
+pub after_in_order : (r : Past) (a : Option Reply) (u : Option Under) (n : ℕ) → InOrder r → InTime u r →
+    InOrder (record_after r a u n)
 after_in_order r (Some x) (Some u) n o b = (o, before_gathered u.begun r b)
 after_in_order r (Some x) None n o b = o
 after_in_order r None u n o b = o
 
-pub after_before : (r : Past) (a : Option Reply) (u : Option Under) (i n k : ℕ) → BegunBy u i → i < k → n < k → Before k r → Before k (record_after r a u n)
+pub after_before : (r : Past) (a : Option Reply) (u : Option Under) (i n k : ℕ) → BegunBy u i → i < k → n < k → Before k r →
+    Before k (record_after r a u n)
 after_before r (Some x) (Some u) i n k begun low l b = let first : u.begun ≤ i = begun in (b, l, omega arith)
 after_before r (Some x) None i n k begun low l b = b
 after_before r None u i n k begun low l b = b
 
-pub after_in_time : (r : Past) (a : Option Reply) (u : Option Under) (n : ℕ) → InTime u r → InTime (under_after a u) (record_after r a u n)
+pub after_in_time : (r : Past) (a : Option Reply) (u : Option Under) (n : ℕ) → InTime u r →
+    InTime (under_after a u) (record_after r a u n)
 after_in_time r (Some x) (Some u) n b = tt
 after_in_time r (Some x) None n b = tt
 after_in_time r None None n b = b

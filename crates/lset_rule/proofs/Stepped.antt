@@ -1,5 +1,7 @@
 -- One event more of a run, and what it leaves of each thread.
-use Rattle.std.proofs.Common.{◌≡◌, ◌≢◌, ⊎_elim, ℕ, zero, suc, ◌+◌, ◌<◌, ◌≤◌, ◌==◌, Bool, true, false, List, [], ◌∷◌, ◌++◌, length, Option, Some, None, refl, sym, ap, ◌∙◌, subst, arith, slice_index, slice_set, get_or-set_other, get_or-set_same, if◌then◌else◌}
+use Rattle.std.proofs.Common.{◌≡◌, ◌≢◌, ⊎_elim, ℕ, zero, suc, ◌+◌, ◌<◌, ◌≤◌, ◌==◌, Bool, true, false, List, [], ◌∷◌, ◌++◌, length}
+use Rattle.std.proofs.Common.{Option, Some, None, refl, sym, ap, ◌∙◌, subst, arith, slice_index, slice_set, get_or-set_other}
+use Rattle.std.proofs.Common.{get_or-set_same, if◌then◌else◌}
 use Rattle.std.proofs.lemmas.List.FromFn.{get_or-map-range_with_len}
 use lib.Seq.{set-get_or}
 use prog.Atomic.{either}
@@ -13,13 +15,15 @@ use Rattle.lset_steps.specs.declared.Action.TheVariants.{Load, Store, Exchange}
 use Rattle.lset_steps.specs.declared.Fed.{Fed}
 use Rattle.lset_steps.specs.declared.Event.{Event}
 use Rattle.lset_steps.specs.declared.Event.TheVariants.{Begin, Go}
-use Rattle.lset_steps.specs.Steps.{Table, State, Run, Enabled, state_at, event_at, after, local_of, log_of, entry_of, idle, seen_by, seen_next, left_by}
+use Rattle.lset_steps.specs.Steps.{Table, State, Run, Enabled, state_at, event_at, after, local_of, log_of, entry_of, idle}
+use Rattle.lset_steps.specs.Steps.{seen_by, seen_next, left_by}
 use Rattle.lset_steps.specs.Laws.{Lawful, StateLaws, StepAt, Answered, views, word_named}
 use Rattle.lset_steps.specs.Worlds.{thread_of}
 use Rattle.lset_steps.proofs.MoreEvents.{state_agree, run_more}
 use Rattle.lset_rule.specs.declared.view.OwnCall.{OwnCall}
 use Rattle.lset_rule.specs.declared.view.Under.{Under}
-use Rattle.lset_rule.specs.Runs.{Here, here, under_after, ending, under_next, done_next, under_at, done_at, here_at, log_by, end_of, at_end, IsRunOf}
+use Rattle.lset_rule.specs.Runs.{Here, here, under_after, ending, under_next, done_next, under_at, done_at, here_at, log_by}
+use Rattle.lset_rule.specs.Runs.{end_of, at_end, IsRunOf}
 use Rattle.lset_words.specs.Words.{Opening, sizes}
 
 pick_yes : {A : Type 0} (b : Bool) (x y : A) → b ≡ true → (if b then x else y) ≡ x
@@ -81,25 +85,35 @@ module _ (T : Table) (op : Opening) (es : ℕ → Event) (k t : ℕ) where
   at_begin c e lt =
       let s : State = state_at T op es k in
       let b : (t == t) ≡ true = equal_test t t refl in
-      let l : local_of (after T s (es k)) t ≡ T.begin c (local_of s t) = ap (λ z. local_of (after T s z) t) e ∙ get_or-set_same s.locals t (T.begin c (local_of s t)) (idle 0 0) lt in
-      let u : under_next (suc k) (entry_of T s (es k)) t (under_at (log_of T op es) t k) ≡ Some (record { call = c; begun = suc k; steps = 0 }) =
+      let l : local_of (after T s (es k)) t ≡ T.begin c (local_of s t) = ap (λ z. local_of (after T s z) t) e
+      ∙ get_or-set_same s.locals t (T.begin c (local_of s t)) (idle 0 0) lt in
+      let u : under_next (suc k) (entry_of T s (es k)) t (under_at (log_of T op es) t k) ≡ Some (record {
+        call = c;
+        begun = suc k;
+        steps = 0;
+      }) =
       ap (λ z. under_next (suc k) (entry_of T s z) t (under_at (log_of T op es) t k)) e ∙ pick_yes (t == t) _ _ b in
-      let d : done_next (suc k) (entry_of T s (es k)) t (under_at (log_of T op es) t k) (done_at (log_of T op es) t k) ≡ done_at (log_of T op es) t k =
+      let d : done_next (suc k) (entry_of T s (es k)) t (under_at (log_of T op es) t k) (done_at (log_of T op es) t k) ≡ done_at
+      (log_of T op es) t k =
       ap (λ z. done_next (suc k) (entry_of T s z) t (under_at (log_of T op es) t k) (done_at (log_of T op es) t k)) e in
       λ i. here (l i) (u i) (d i)
 
   at_go : es k ≡ Go t → t < length (state_at T op es k).locals
-      → here_at T op es t (suc k) ≡ gone (here_at T op es t k) (T.feed (local_of (state_at T op es k) t) (seen_next T (state_at T op es k) t)) (suc k)
+      → here_at T op es t (suc k) ≡ gone (here_at T op es t k)
+      (T.feed (local_of (state_at T op es k) t) (seen_next T (state_at T op es k) t)) (suc k)
   at_go e lt =
       let s : State = state_at T op es k in
       let f : Fed = T.feed (local_of s t) (seen_next T s t) in
       let b : (t == t) ≡ true = equal_test t t refl in
-      let l : local_of (after T s (es k)) t ≡ f.local = ap (λ z. local_of (after T s z) t) e ∙ get_or-set_same s.locals t f.local (idle 0 0) lt in
-      let u : under_next (suc k) (entry_of T s (es k)) t (under_at (log_of T op es) t k) ≡ under_after f.answer (under_at (log_of T op es) t k) =
+      let l : local_of (after T s (es k)) t ≡ f.local = ap (λ z. local_of (after T s z) t) e
+      ∙ get_or-set_same s.locals t f.local (idle 0 0) lt in
+      let u : under_next (suc k) (entry_of T s (es k)) t (under_at (log_of T op es) t k) ≡ under_after f.answer
+      (under_at (log_of T op es) t k) =
       ap (λ z. under_next (suc k) (entry_of T s z) t (under_at (log_of T op es) t k)) e ∙ pick_yes (t == t) _ _ b in
       let d : done_next (suc k) (entry_of T s (es k)) t (under_at (log_of T op es) t k) (done_at (log_of T op es) t k)
       ≡ done_at (log_of T op es) t k ++ ending f.answer (under_at (log_of T op es) t k) (suc k) =
-      ap (λ z. done_next (suc k) (entry_of T s z) t (under_at (log_of T op es) t k) (done_at (log_of T op es) t k)) e ∙ pick_yes (t == t) _ _ b in
+      ap (λ z. done_next (suc k) (entry_of T s z) t (under_at (log_of T op es) t k) (done_at (log_of T op es) t k)) e
+      ∙ pick_yes (t == t) _ _ b in
       λ i. here (l i) (u i) (d i)
 
   other_local : (s : State) (e : Event) → t ≢ thread_of e → local_of (after T s e) t ≡ local_of s t
@@ -110,7 +124,8 @@ module _ (T : Table) (op : Opening) (es : ℕ → Event) (k t : ℕ) where
   other_under s (Begin u c) o ne = pick_not (u == t) _ _ (unequal_test u t (λ z. ne (sym z)))
   other_under s (Go u) o ne = pick_not (u == t) _ _ (unequal_test u t (λ z. ne (sym z)))
 
-  other_done : (s : State) (e : Event) (o : Option Under) (d : List OwnCall) → t ≢ thread_of e → done_next (suc k) (entry_of T s e) t o d ≡ d
+  other_done : (s : State) (e : Event) (o : Option Under) (d : List OwnCall) → t ≢ thread_of e →
+      done_next (suc k) (entry_of T s e) t o d ≡ d
   other_done s (Begin u c) o d ne = refl
   other_done s (Go u) o d ne = pick_not (u == t) _ _ (unequal_test u t (λ z. ne (sym z)))
 
@@ -136,7 +151,8 @@ module _ (T : Table) (law : Lawful T) (op : Opening) (es : ℕ → Event) (last 
   tied_answer None done first now t c l u same h = (h, same)
   tied_answer (Some x) done first now t c l u same h = h.0
 
-  tied_go : (t k : ℕ) → k < last → es k ≡ Go t → (u : Under) → under_at (log_of T op es) t k ≡ Some u → (local_of (state_at T op es k) t).call ≡ u.call
+  tied_go : (t k : ℕ) → k < last → es k ≡ Go t → (u : Under) → under_at (log_of T op es) t k ≡ Some u →
+      (local_of (state_at T op es k) t).call ≡ u.call
       → let f : Fed = T.feed (local_of (state_at T op es k) t) (seen_next T (state_at T op es k) t) in
       Tied (under_after f.answer (under_at (log_of T op es) t k)) f.local
   tied_go t k l e u is same =
@@ -149,23 +165,30 @@ module _ (T : Table) (law : Lawful T) (op : Opening) (es : ℕ → Event) (last 
   under_some None l t ne = absurd (ne t)
   under_some (Some u) l t ne = (u, refl, t.1)
 
-  tied_by : (t k : ℕ) → t < op.threads → k < last → (e : Event) → es k ≡ e → Tied (here_at T op es t k).under (here_at T op es t k).local
+  tied_by : (t k : ℕ) → t < op.threads → k < last → (e : Event) → es k ≡ e →
+      Tied (here_at T op es t k).under (here_at T op es t k).local
       → Tied (here_at T op es t (suc k)).under (here_at T op es t (suc k)).local
   tied_by t k th l (Begin u c) e ti = ⊎_elim
-      (λ (y : t ≡ u). let h = at_begin T op es k t c (e ∙ ap (λ z. Begin z c) (sym y)) (subst (λ z. t < z) (sym (len_locals k (omega arith))) th) in
-      subst (λ (z : Here). Tied z.under z.local) (sym h) ((law.begins c (local_of (state_at T op es k) t)).opened, (law.begins c (local_of (state_at T op es k) t)).called))
+      (λ (y : t ≡ u). let h = at_begin T op es k t c (e ∙ ap (λ z. Begin z c) (sym y))
+      (subst (λ z. t < z) (sym (len_locals k (omega arith))) th) in
+      subst (λ (z : Here). Tied z.under z.local) (sym h) (
+        (law.begins c (local_of (state_at T op es k) t)).opened,
+        (law.begins c (local_of (state_at T op es k) t)).called,
+      ))
       (λ (y : t ≢ u). let h = at_other T op es k t (λ z. y (z ∙ ap thread_of e)) in
       subst (λ (z : Here). Tied z.under z.local) (sym h) ti) (same_or_not t u)
   tied_by t k th l (Go u) e ti = ⊎_elim
       (λ (y : t ≡ u). let e' : es k ≡ Go t = e ∙ ap (λ z. Go z) (sym y) in
       let h = at_go T op es k t e' (subst (λ z. t < z) (sym (len_locals k (omega arith))) th) in
-      let on = under_some (under_at (log_of T op es) t k) (local_of (state_at T op es k) t) ti (subst (λ z. Enabled (state_at T op es k) z) e' (r.enabled k l)).1 in
+      let on = under_some (under_at (log_of T op es) t k) (local_of (state_at T op es k) t) ti
+      (subst (λ z. Enabled (state_at T op es k) z) e' (r.enabled k l)).1 in
       subst (λ (z : Here). Tied z.under z.local) (sym h) (tied_go t k l e' on.0 on.1 on.2))
       (λ (y : t ≢ u). let h = at_other T op es k t (λ z. y (z ∙ ap thread_of e)) in
       subst (λ (z : Here). Tied z.under z.local) (sym h) ti) (same_or_not t u)
 
   pub tied : (t k : ℕ) → t < op.threads → k ≤ last → Tied (here_at T op es t k).under (here_at T op es t k).local
-  tied t zero th l = ap (λ (x : Local). x.pc) (get_or-map-range_with_len (idle op.quota) 0 op.threads t t (idle 0 0) th (omega arith))
+  tied t zero th l = ap (λ (x : Local). x.pc) (get_or-map-range_with_len (idle op.quota) 0 op.threads t t (idle 0 0) th
+      (omega arith))
   tied t (suc k) th l = tied_by t k th (omega arith) (es k) refl (tied t k th (omega arith))
 
 -- LISTS OF EVENTS
@@ -190,11 +213,13 @@ module _ (T : Table) (k : Opening) (es : List Event) (e : Event) where
   states_before j l = state_agree T k (event_at es) more j (λ i m. event_before es e i (omega arith))
 
   logs_before : (j : ℕ) → j < length es → log_of T k more j ≡ log_of T k (event_at es) j
-  logs_before j l = ap (λ s. entry_of T s (more j)) (states_before j (omega arith)) ∙ ap (λ x. entry_of T (state_at T k (event_at es) j) x) (event_before es e j l)
+  logs_before j l = ap (λ s. entry_of T s (more j)) (states_before j (omega arith))
+      ∙ ap (λ x. entry_of T (state_at T k (event_at es) j) x) (event_before es e j l)
 
   here_before : (t : ℕ) → here_at T k more t (length es) ≡ at_end T k es t
   here_before t =
-      let l : local_of (state_at T k more (length es)) t ≡ local_of (end_of T k es) t = ap (λ s. local_of s t) (states_before (length es) (omega arith)) in
+      let l : local_of (state_at T k more (length es)) t ≡ local_of (end_of T k es) t =
+      ap (λ s. local_of s t) (states_before (length es) (omega arith)) in
       let u = under_agree (log_by T k es) (log_of T k more) t (length es) logs_before in
       let d = done_agree (log_by T k es) (log_of T k more) t (length es) logs_before in
       λ i. here (l i) (u i) (d i)
@@ -207,7 +232,8 @@ module _ (T : Table) (k : Opening) (es : List Event) (e : Event) where
       ∙ (ap (λ x. after T (state_at T k more (length es)) x) (event_last es e)
       ∙ ap (λ s. after T s e) (states_before (length es) (omega arith)))
 
-  pub is_run_more : IsRunOf T k es → length (end_of T k es).locals ≡ k.threads → Enabled (end_of T k es) e → IsRunOf T k (es ++ e ∷ [])
+  pub is_run_more : IsRunOf T k es → length (end_of T k es).locals ≡ k.threads → Enabled (end_of T k es) e →
+      IsRunOf T k (es ++ e ∷ [])
   is_run_more r len en = subst (λ z. Run T k more z) (sym (length_more es e))
       (run_more T k es (end_of T k es) e (record { run = r; is = refl; locals = len }) en)
 
@@ -224,13 +250,15 @@ end_begin T k es t c lt =
     ∙ (λ i. begins T (here_before T k es e t i) c (one i)))
 
 pub end_go : (T : Table) (k : Opening) (es : List Event) (t : ℕ) → t < length (end_of T k es).locals
-    → at_end T k (es ++ Go t ∷ []) t ≡ gone (at_end T k es t) (T.feed (at_end T k es t).local (seen_next T (end_of T k es) t)) (length es + 1)
+    → at_end T k (es ++ Go t ∷ []) t ≡ gone (at_end T k es t) (T.feed (at_end T k es t).local (seen_next T (end_of T k es) t))
+    (length es + 1)
 end_go T k es t lt =
     let e : Event = Go t in
     let one : suc (length es) ≡ length es + 1 = omega arith in
     here_more T k es e t ∙ (at_go T k (more T k es e) (length es) t (event_last es e)
     (subst (λ (s : State). t < length s.locals) (sym (states_before T k es e (length es) (omega arith))) lt)
-    ∙ (λ i. gone (here_before T k es e t i) (T.feed (local_of (states_before T k es e (length es) (omega arith) i) t) (seen_next T (states_before T k es e (length es) (omega arith) i) t)) (one i)))
+    ∙ (λ i. gone (here_before T k es e t i) (T.feed (local_of (states_before T k es e (length es) (omega arith) i) t)
+    (seen_next T (states_before T k es e (length es) (omega arith) i) t)) (one i)))
 
 -- what the law says of the end of a run
 module _ (T : Table) (law : Lawful T) (k : Opening) (es : List Event) (r : IsRunOf T k es) where

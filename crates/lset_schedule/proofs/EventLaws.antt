@@ -16,7 +16,8 @@ use Rattle.lset_text.specs.declared.words.Version.{Version}
 use Rattle.lset_text.specs.Results.{◌>>=◌, or_fail}
 use Rattle.lset_text.proofs.PartLaws.{Lacks-below, line_lacks, cut_line, line_from_cut}
 use Rattle.lset_text.proofs.NumberLaws.{number_ok, number_again, decimal_lacks}
-use Rattle.lset_text.proofs.WordLaws.{same_bytes, call_in_ok, call_in_again, call_lacks, with_key-word_of, word_of-with_key, key_of-with_key}
+use Rattle.lset_text.proofs.WordLaws.{same_bytes, call_in_ok, call_in_again, call_lacks, with_key-word_of, word_of-with_key}
+use Rattle.lset_text.proofs.WordLaws.{key_of-with_key}
 use Rattle.lset_text.proofs.ReadingLaws.{bind_ok, or_fail_ok, ok_is}
 use Rattle.lset_schedule.specs.declared.value.Line.{Line}
 use Rattle.lset_schedule.specs.declared.value.Line.TheVariants.{Begin, Go}

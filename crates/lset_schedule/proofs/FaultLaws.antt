@@ -1,5 +1,6 @@
 -- At which lines faults stand, and that no line has the fault of want of memory.
-use Rattle.std.proofs.Common.{◌≡◌, ℕ, ◌+◌, ◌<◌, ◌≤◌, ◌⊎◌, inl, inr, Bool, true, false, cond, eqb, ltb, List, [], ◌∷◌, ◌++◌, length, length-append}
+use Rattle.std.proofs.Common.{◌≡◌, ℕ, ◌+◌, ◌<◌, ◌≤◌, ◌⊎◌, inl, inr, Bool, true, false, cond, eqb, ltb, List, [], ◌∷◌, ◌++◌}
+use Rattle.std.proofs.Common.{length, length-append}
 use Rattle.std.proofs.Common.{Option, Some, None, Result, Ok, Err, refl, sym, ap, subst, ◌∙◌, arith, codes}
 use Rattle.std.specs.Prelude.{IfErr, nat_lt}
 use Rattle.std.specs.Result.{IsErrAnd}
@@ -26,8 +27,10 @@ use Rattle.lset_schedule.specs.declared.fault.Cause.TheVariants.{Event, Number, 
 use Rattle.lset_schedule.specs.declared.fault.ScheduleFault.{ScheduleFault}
 use Rattle.lset_schedule.specs.Plan.{planned, title, first_line, event_count}
 use Rattle.lset_schedule.specs.ScheduleReading.{fault, go_of, begin_of, event_of_pieces, event_of, within, event_after, events_at}
-use Rattle.lset_schedule.specs.ScheduleReading.{is_opening, key_after, openings_from, openings_of, body_of, plan_in, version_told, reading}
-use Rattle.lset_schedule.specs.ScheduleReading.{IsFaultlessTo, IsOpeningTo, IsGoodOpening, IsGoodEvent, IsGoodAfterHeader, IsGoodLine}
+use Rattle.lset_schedule.specs.ScheduleReading.{is_opening, key_after, openings_from, openings_of, body_of, plan_in, version_told}
+use Rattle.lset_schedule.specs.ScheduleReading.{reading}
+use Rattle.lset_schedule.specs.ScheduleReading.{IsFaultlessTo, IsOpeningTo, IsGoodOpening, IsGoodEvent, IsGoodAfterHeader}
+use Rattle.lset_schedule.specs.ScheduleReading.{IsGoodLine}
 use Rattle.lset_schedule.proofs.LoopLaws.{with_front, goes_on}
 use Rattle.lset_schedule.proofs.OpeningLaws.{goes, openings_ok}
 
@@ -53,7 +56,8 @@ line_not_ended false line es e is =
 no_fault : (es : List Line) (e : ScheduleFault) → Ok es ≡ Err e → ⊥
 no_fault es e is = cc
 
-faults_below : (v : Version) (line total : ℕ) (parts : List (List ℕ)) (e : ScheduleFault) → events_at v line total parts ≡ Err e → line ≤ e.line
+faults_below : (v : Version) (line total : ℕ) (parts : List (List ℕ)) (e : ScheduleFault) → events_at v line total parts ≡ Err e →
+    line ≤ e.line
 unfolding events_at
 faults_below v line total [] e is = absurd cc
 faults_below v line total (x ∷ []) e is = omega (arith, line_not_ended (eqb (length x) 0) line [] e is)
@@ -102,7 +106,8 @@ go_fails true (Some t) None is = cc
 go_fails true (Some t) (Some n) is = cc
 
 begin_fails : (b : Bool) (w : Option CallWord) (o p : Option ℕ)
-    → cond b (or_fail Event w >>= λ v. or_fail Number o >>= λ t. or_fail Number p >>= λ k. Ok (Begin t (with_key v (record { 0 = k }))))
+    → cond b (or_fail Event w >>= λ v. or_fail Number o >>= λ t. or_fail Number p >>= λ k. Ok
+    (Begin t (with_key v (record { 0 = k }))))
     (Err Event) ≡ Err Memory → ⊥
 begin_fails false w o p is = cc
 begin_fails true None o p is = cc
@@ -124,7 +129,8 @@ room_fails : (b : Bool) (e : Line) → cond b (Err TooMany) (Ok e) ≡ Err Memor
 room_fails true e is = cc
 room_fails false e is = cc
 
-pub event_fails : (v : Version) (total : ℕ) (line : List ℕ) (cause : Cause) → Err cause ≡ event_after v total line → cause ≡ Memory → ⊥
+pub event_fails : (v : Version) (total : ℕ) (line : List ℕ) (cause : Cause) → Err cause ≡ event_after v total line →
+    cause ≡ Memory → ⊥
 event_fails v total line cause is memory =
     elim (bind_err (event_of v line) (within total) Memory (sym is ∙ ap (λ (c : Cause). Err c) memory)) [
       | inl bad ↦ pieces_fail v (cut_at 32 line) bad
@@ -138,7 +144,8 @@ abbrev IsPast : ℕ → List ℕ → Result (List ℕ × List (List ℕ)) Schedu
 IsPast line keys (Ok opens) = length keys ≤ length opens.0
 IsPast line keys (Err e) = line ≤ e.line
 
-past_more : (line : ℕ) (keys : List ℕ) (key : ℕ) (r : Result (List ℕ × List (List ℕ)) ScheduleFault) → IsPast (line + 1) (keys ++ key ∷ []) r
+past_more : (line : ℕ) (keys : List ℕ) (key : ℕ) (r : Result (List ℕ × List (List ℕ)) ScheduleFault) →
+    IsPast (line + 1) (keys ++ key ∷ []) r
     → IsPast line keys r
 past_more line keys key (Ok opens) past = omega (arith, past, length-append keys (key ∷ []))
 past_more line keys key (Err e) past = omega (arith, past)
@@ -155,7 +162,8 @@ unfolding openings_from
 past line keys [] = omega arith
 past line keys (x ∷ []) = omega arith
 past line keys (x ∷ y ∷ more) =
-    past_line (is_opening x) line keys (key_after keys x) (λ key. openings_from (line + 1) (keys ++ key ∷ []) (y ∷ more)) (x ∷ y ∷ more)
+    past_line (is_opening x) line keys (key_after keys x) (λ key. openings_from (line + 1) (keys ++ key ∷ []) (y ∷ more)) (x ∷ y
+    ∷ more)
     (λ key. past (line + 1) (keys ++ key ∷ []) (y ∷ more))
 
 opening_to : (line : ℕ) (keys : List ℕ) (r : Result (List ℕ × List (List ℕ)) ScheduleFault) → IsPast (line + 1) keys r
@@ -176,7 +184,8 @@ good_opening keys line text rest first after key parts word is at left so_far =
     let counted = one_more (cut_at 10 rest) (cut_at 10 after) first parts in (
       omega (arith, at),
       omega (arith, left, counted, some_part 10 after),
-      subst (IsOpeningTo line) whole (opening_to line (keys ++ key ∷ []) (openings_from (line + 1) (keys ++ key ∷ []) (cut_at 10 after))
+      subst (IsOpeningTo line) whole (opening_to line (keys ++ key ∷ [])
+          (openings_from (line + 1) (keys ++ key ∷ []) (cut_at 10 after))
           (past (line + 1) (keys ++ key ∷ []) (cut_at 10 after)) (omega (arith, at, length-append keys (key ∷ [])))),
     )
 
@@ -187,17 +196,20 @@ key_room_fails false c key is = cc
 
 pub key_fails : (keys line : List ℕ) (cause : Cause) → Err cause ≡ key_after keys line → cause ≡ Memory → ⊥
 unfolding key_after
-key_fails keys line cause is memory = by_number (number_after (codes "opening") 0 max_number line) (sym is ∙ ap (λ (c : Cause). Err c) memory)
+key_fails keys line cause is memory = by_number (number_after (codes "opening") 0 max_number line) (sym is
+    ∙ ap (λ (c : Cause). Err c) memory)
   where
     by_number : (o : Option ℕ)
-        → (or_fail Number o >>= λ key. cond (nat_lt (length keys) MOST_OPENING) (cond (is_above keys key) (Ok key) (Err Opening)) (Err TooMany))
+        → (or_fail Number o >>= λ key. cond (nat_lt (length keys) MOST_OPENING) (cond (is_above keys key) (Ok key) (Err Opening))
+        (Err TooMany))
         ≡ Err Memory → ⊥
     by_number None bad = cc
     by_number (Some key) bad = key_room_fails (nat_lt (length keys) MOST_OPENING) (is_above keys key) key bad
 
 -- ---- a fault that is passed on
 
-pub passed_on : {X : Type 0} (IsGood : ℕ → Type 0) (e : ScheduleFault) (answer : Result X ScheduleFault) → IsErrAnd answer (λ f. f ≡ e)
+pub passed_on : {X : Type 0} (IsGood : ℕ → Type 0) (e : ScheduleFault) (answer : Result X ScheduleFault) →
+    IsErrAnd answer (λ f. f ≡ e)
     → (e.cause ≡ Memory → IsGood e.line) → IfErr answer (λ f. f.cause ≡ Memory → IsGood f.line)
 passed_on IsGood e (Ok x) is good = tt
 passed_on IsGood e (Err f) is good = λ memory.
@@ -216,14 +228,16 @@ past_openings v line opens (Ok lines) low is = tt
 past_openings v line opens (Err e) low is = omega (arith, low, faults_below v (first_line + length opens.0) 0 opens.1 e is)
 
 opening_faultless : (v : Version) (line : ℕ) (r : Result (List ℕ × List (List ℕ)) ScheduleFault) → IsOpeningTo line r
-    → IsFaultlessTo {X = List ℕ × List Line} line (r >>= λ opens. events_at v (first_line + length opens.0) 0 opens.1 >>= λ lines. Ok (opens.0, lines))
+    → IsFaultlessTo {X = List ℕ × List Line} line (r >>= λ opens. events_at v (first_line + length opens.0) 0 opens.1 >>= λ lines.
+    Ok (opens.0, lines))
 opening_faultless v line (Ok opens) low =
     plan_faultless line (events_at v (first_line + length opens.0) 0 opens.1) (λ lines. (opens.0, lines))
     (past_openings v line opens (events_at v (first_line + length opens.0) 0 opens.1) low refl)
 opening_faultless v line (Err e) low = low
 
 -- want of memory for a line of an opening key, and for one of an event
-pub opening_in_body : (v : Version) (parts : List (List ℕ)) (line : ℕ) → IsGoodOpening v parts line → IsGoodAfterHeader v parts line
+pub opening_in_body : (v : Version) (parts : List (List ℕ)) (line : ℕ) → IsGoodOpening v parts line →
+    IsGoodAfterHeader v parts line
 unfolding body_of
 opening_in_body v parts line good = (good.0, good.1, opening_faultless v line (openings_of v parts) good.2)
 

@@ -86,7 +86,8 @@ within_ok total d e is =
     over false good = (refl, cc)
 
 -- an event that was counted keeps the total small
-pub total_few : (v : Version) (total : ℕ) (x : List ℕ) (e : Line) → Ok e ≡ event_after v total x → total + event_count e ≤ MOST_EVENTS
+pub total_few : (v : Version) (total : ℕ) (x : List ℕ) (e : Line) → Ok e ≡ event_after v total x →
+    total + event_count e ≤ MOST_EVENTS
 total_few v total x e is = counted (event_of v x) (sym is)
   where
     counted : (r : Result Line Cause) → (r >>= within total) ≡ Ok e → total + event_count e ≤ MOST_EVENTS

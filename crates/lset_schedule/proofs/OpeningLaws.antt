@@ -35,7 +35,8 @@ AreKeys keys = IsStrictlyIncreasing keys × All (λ (k : ℕ). k < 2 ^ 32) keys 
 abbrev room : List ℕ → ℕ → Result ℕ Cause
 room keys key = cond (nat_lt (length keys) MOST_OPENING) (cond (is_above keys key) (Ok key) (Err Opening)) (Err TooMany)
 
-room_ok : (b c : Bool) (k key : ℕ) → cond b (cond c (Ok k) (Err Opening)) (Err TooMany) ≡ Ok key → (b ≡ true) × (c ≡ true) × (k ≡ key)
+room_ok : (b c : Bool) (k key : ℕ) → cond b (cond c (Ok k) (Err Opening)) (Err TooMany) ≡ Ok key → (b ≡ true) × (c ≡ true)
+    × (k ≡ key)
 room_ok true true k key is = (refl, refl, ok_is k key is)
 room_ok true false k key is = absurd cc
 room_ok false c k key is = absurd cc
@@ -56,7 +57,8 @@ pub keys_more : (keys : List ℕ) (key : ℕ) → AreKeys keys → key < 2 ^ 32 
     → AreKeys (keys ++ key ∷ [])
 keys_more keys key are low few above = (
   rises_more keys key are.0 above,
-  All-append (λ (k : ℕ). k < 2 ^ 32) keys (key ∷ []) are.1 (All-cons (λ (k : ℕ). k < 2 ^ 32) key [] low (All-nil (λ (k : ℕ). k < 2 ^ 32))),
+  All-append (λ (k : ℕ). k < 2 ^ 32) keys (key ∷ []) are.1
+      (All-cons (λ (k : ℕ). k < 2 ^ 32) key [] low (All-nil (λ (k : ℕ). k < 2 ^ 32))),
   omega (arith, few, length-append keys (key ∷ [])),
 )
 
@@ -124,7 +126,8 @@ unfolding openings_from
 from_ok line keys x [] told are is =
     subst (AreTold keys (x ∷ [])) (ok_is (keys, x ∷ []) told is) ([], sym (append-nil keys), refl, omega arith, are)
 from_ok line keys x (y ∷ more) told are is =
-    one_line_ok (is_opening x) line keys x (y ∷ more) told are (λ key have rest. from_ok (line + 1) (keys ++ key ∷ []) y more told have rest) is
+    one_line_ok (is_opening x) line keys x (y ∷ more) told are (λ key have rest. from_ok (line + 1) (keys ++ key ∷ []) y more told
+    have rest) is
 
 no_keys : AreKeys []
 no_keys = ((λ k l. absurd (omega arith)), All-nil (λ (k : ℕ). k < 2 ^ 32), omega arith)
@@ -141,13 +144,15 @@ openings_ok Two (x ∷ parts) told some is =
     (all.2 ∙ ap (λ ks. opening_lines ks ++ told.1) (sym all.1), all.4, tt, all.3)
 
 -- parts of which the first is no such line
-pub not_due : (line : ℕ) (keys : List ℕ) (parts : List (List ℕ)) → is_due parts ≡ false → openings_from line keys parts ≡ Ok (keys, parts)
+pub not_due : (line : ℕ) (keys : List ℕ) (parts : List (List ℕ)) → is_due parts ≡ false →
+    openings_from line keys parts ≡ Ok (keys, parts)
 unfolding openings_from
 not_due line keys [] other = refl
 not_due line keys (x ∷ []) other = refl
 not_due line keys (x ∷ y ∷ more) other = rw other refl
 
-pub goes : (line : ℕ) (keys x : List ℕ) (parts : List (List ℕ)) (key : ℕ) → 0 < length parts → is_opening x ≡ true → key_after keys x ≡ Ok key
+pub goes : (line : ℕ) (keys x : List ℕ) (parts : List (List ℕ)) (key : ℕ) → 0 < length parts → is_opening x ≡ true →
+    key_after keys x ≡ Ok key
     → openings_from line keys (x ∷ parts) ≡ openings_from (line + 1) (keys ++ key ∷ []) parts
 unfolding openings_from
 goes line keys x [] key some word is = absurd (omega arith)
@@ -159,14 +164,17 @@ unfolding openings_from
 fails line keys x [] cause some word is = absurd (omega arith)
 fails line keys x (y ∷ more) cause some word is = rw (word, is) refl
 
-from_again : (line : ℕ) (keys ks : List ℕ) (parts : List (List ℕ)) → AreKeys (keys ++ ks) → AllByRecursion (λ (k : ℕ). k < 2 ^ 32) ks
+from_again : (line : ℕ) (keys ks : List ℕ) (parts : List (List ℕ)) → AreKeys (keys ++ ks) →
+    AllByRecursion (λ (k : ℕ). k < 2 ^ 32) ks
     → is_due parts ≡ false → 0 < length parts → openings_from line keys (opening_lines ks ++ parts) ≡ Ok (keys ++ ks, parts)
-from_again line keys [] parts are low other some = not_due line keys parts other ∙ ap (λ (t : List ℕ). Ok (t, parts)) (sym (append-nil keys))
+from_again line keys [] parts are low other some = not_due line keys parts other
+    ∙ ap (λ (t : List ℕ). Ok (t, parts)) (sym (append-nil keys))
 from_again line keys (k ∷ ks) parts are low other some =
     let few : length keys < MOST_OPENING = omega (arith, are.2, length-append keys (k ∷ ks)) in
     let above = above_before keys k ks are.0 in
     let more : 0 < length (opening_lines ks ++ parts) = omega (arith, some, length-append (opening_lines ks) parts) in
-    let step = goes line keys (opening_line k) (opening_lines ks ++ parts) k more (opening_word k low.0) (key_again keys k low.0 few above) in
+    let step = goes line keys (opening_line k) (opening_lines ks ++ parts) k more (opening_word k low.0)
+    (key_again keys k low.0 few above) in
     let grouped : (keys ++ k ∷ []) ++ ks ≡ keys ++ k ∷ ks = append_assoc keys (k ∷ []) ks in
     step ∙ from_again (line + 1) (keys ++ k ∷ []) ks parts (subst AreKeys (sym grouped) are) low.1 other some
     ∙ ap (λ (t : List ℕ). Ok (t, parts)) grouped

@@ -29,7 +29,8 @@ use Rattle.lset_schedule.specs.declared.fault.Cause.TheVariants.{TooMany, Openin
 use Rattle.lset_schedule.specs.declared.fault.ScheduleFault.{ScheduleFault}
 use Rattle.lset_schedule.specs.Plan.{Plan, view, planned, header_in, line_text, title, schedule_lines, schedule_text, event_count}
 use Rattle.lset_schedule.specs.Plan.{first_line, IsLine, IsSchedule}
-use Rattle.lset_schedule.specs.ScheduleReading.{fault, in_schedule, event_of, within, event_after, events_at, plan_in, version_told, plan_of, reading, Gives}
+use Rattle.lset_schedule.specs.ScheduleReading.{fault, in_schedule, event_of, within, event_after, events_at, plan_in}
+use Rattle.lset_schedule.specs.ScheduleReading.{version_told, plan_of, reading, Gives}
 use Rattle.lset_schedule.specs.ScheduleReading.{is_due, openings_of, body_of}
 use Rattle.lset_schedule.proofs.EventLaws.{event_ok, event_again, event_lacks, no_opening}
 use Rattle.lset_schedule.proofs.OpeningLaws.{AreKeys, openings_ok, openings_again}
@@ -97,7 +98,8 @@ events_go : (v : Version) (line total : ℕ) (x : List ℕ) (parts : List (List 
 unfolding events_at
 events_go v line total x parts e some is = rw some.2 (rw is refl)
 
-events_again : (v : Version) (line total : ℕ) (es : List Line) → AllByRecursion (IsLine v) es → total + sum_by event_count es ≤ MOST_EVENTS
+events_again : (v : Version) (line total : ℕ) (es : List Line) → AllByRecursion (IsLine v) es →
+    total + sum_by event_count es ≤ MOST_EVENTS
     → events_at v line total (map line_text es ++ [] ∷ []) ≡ Ok es
 unfolding events_at
 events_again v line total [] are few = refl
@@ -112,7 +114,8 @@ events_again v line total (e ∷ es) are few =
 abbrev IsFound : List (List ℕ) → Plan → Type 0
 IsFound parts p = (parts ≡ schedule_lines p ++ [] ∷ []) × IsSchedule p
 
-events_found : (v : Version) (line : ℕ) (parts : List (List ℕ)) (es : List Line) → 0 < length parts → events_at v line 0 parts ≡ Ok es
+events_found : (v : Version) (line : ℕ) (parts : List (List ℕ)) (es : List Line) → 0 < length parts →
+    events_at v line 0 parts ≡ Ok es
     → AreRead v 0 parts es
 events_found v line [] es some is = absurd (omega arith)
 events_found v line (x ∷ parts) es some is = events_ok v line 0 x parts es (omega arith) is
@@ -150,7 +153,8 @@ plan_ok v parts p is =
     let header = header_ok (title v) parts head.0 (map_fault_ok in_schedule (header_of (title v) parts) head.0 head.1) in
     let after = body_ok v head.0.1 body.0 header.2 body.1 in
     let keys = body.0.0 in
-    let regrouped : opening_lines keys ++ (map line_text body.0.1 ++ [] ∷ []) ≡ opening_lines keys ++ map line_text body.0.1 ++ [] ∷ [] =
+    let regrouped : opening_lines keys ++ (map line_text body.0.1 ++ [] ∷ []) ≡ opening_lines keys ++ map line_text body.0.1 ++ []
+    ∷ [] =
     sym (append_assoc (opening_lines keys) (map line_text body.0.1) ([] ∷ [])) in
     let all : parts ≡ schedule_lines (planned v head.0.0 keys body.0.1) ++ [] ∷ [] =
     header.0 ∙ ap (λ (ps : List (List ℕ)). header_lines (title v) head.0.0 ++ ps) (after.0 ∙ regrouped) in
@@ -164,7 +168,12 @@ plan_ok v parts p is =
 
 -- a schedule that can be read has a header and opening keys
 header_fits : (p : Plan) → IsSchedule p → IsHeader (header_in p)
-header_fits p is = record { some = is.opens.within.some; few = is.opens.within.few; small = is.opens.within.small; opens = omega arith }
+header_fits p is = record {
+  some = is.opens.within.some;
+  few = is.opens.within.few;
+  small = is.opens.within.small;
+  opens = omega arith;
+}
 
 keys_fit : (p : Plan) → IsSchedule p → AreKeys p.opening
 keys_fit p is = (is.opens.rising, is.opens.low, is.opens.within.opens)
@@ -216,7 +225,8 @@ lines_lack : (v : Version) (es : List Line) → AllByRecursion (IsLine v) es →
 lines_lack v [] are = tt
 lines_lack v (e ∷ es) are = (event_lacks v e are.0, lines_lack v es are.1)
 
-both_lack : (xs ys : List (List ℕ)) → AllByRecursion (Lacks 10) xs → AllByRecursion (Lacks 10) ys → AllByRecursion (Lacks 10) (xs ++ ys)
+both_lack : (xs ys : List (List ℕ)) → AllByRecursion (Lacks 10) xs → AllByRecursion (Lacks 10) ys →
+    AllByRecursion (Lacks 10) (xs ++ ys)
 both_lack [] ys xl yl = yl
 both_lack (x ∷ xs) ys xl yl = (xl.0, both_lack xs ys xl.1 yl)
 

@@ -1,5 +1,6 @@
 -- The first turn of the generator, one more and the last one.
-use Rattle.std.proofs.Common.{◌≡◌, ℕ, zero, suc, ◌+◌, ◌-◌, ◌%◌, ◌<◌, ◌↔◌, IsTrue, true, inl, inr, Option, Some, None, List, [], ◌∷◌, ◌++◌}
+use Rattle.std.proofs.Common.{◌≡◌, ℕ, zero, suc, ◌+◌, ◌-◌, ◌%◌, ◌<◌, ◌↔◌, IsTrue, true, inl, inr, Option, Some, None, List, []}
+use Rattle.std.proofs.Common.{◌∷◌, ◌++◌}
 use Rattle.std.proofs.Common.{refl, sym, ap, subst, ◌∙◌, arith}
 use Rattle.rand_core.specs.Stream.{Stream, next_u32}
 use Rattle.lset_steps.specs.declared.Event.{Event}
@@ -28,7 +29,8 @@ pub made_none : (T : Table) (p : Progress) (made : Option Event) (s : State) (le
 made_none T p made s left lines answers is a b c = rw (is, a, b, c) refl
 
 module _ (T : Table) (threads keys : ℕ) where
-  pub begun_drawn : (turns n q calls : ℕ) (s : State) (made lines : List Line) (answers : Stream) → s ≡ opening (empty n q) → made ≡ []
+  pub begun_drawn : (turns n q calls : ℕ) (s : State) (made lines : List Line) (answers : Stream) → s ≡ opening (empty n q) →
+      made ≡ []
       → AreDrawn T threads keys turns (progress s calls made answers) lines
       → AreDrawn T threads keys turns (before_turns n q calls answers) lines
   begun_drawn turns n q calls s made lines answers opens none h =

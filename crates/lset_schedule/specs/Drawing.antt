@@ -1,5 +1,6 @@
 -- The lines that a seed stands for: the turns of the generator, one after another. (This project's own format.)
-use Rattle.std.specs.Prelude.{◌≡◌, ℕ, zero, suc, ◌-◌, ◌%◌, ◌<◌, ◌⊎◌, ◌==◌, if◌then◌else◌, Option, Some, None, List, [], ◌∷◌, ◌++◌, length}
+use Rattle.std.specs.Prelude.{◌≡◌, ℕ, zero, suc, ◌-◌, ◌%◌, ◌<◌, ◌⊎◌, ◌==◌, if◌then◌else◌, Option, Some, None, List, [], ◌∷◌, ◌++◌}
+use Rattle.std.specs.Prelude.{length}
 use Rattle.rand_core.specs.Stream.{Stream, next_u32}
 use Rattle.lset_schedule.specs.declared.TheConstants.{MOST_GENERATED, MOST_TURNS}
 use Rattle.lset_steps.specs.declared.Event.{Event}
@@ -65,8 +66,14 @@ AreDrawn T threads keys (suc turns) p lines =
     (IsEnd p × (lines ≡ p.lines)) ⊎ ((IsEnd p → ⊥) × AreDrawn T threads keys turns (after_turn T threads keys p) lines)
 
 abbrev pub before_turns : ℕ → ℕ → ℕ → Stream → Progress
-before_turns threads quota calls answers = record { state = opening (empty threads quota); left = calls; lines = []; answers = answers }
+before_turns threads quota calls answers = record {
+  state = opening (empty threads quota);
+  left = calls;
+  lines = [];
+  answers = answers;
+}
 
 -- the lines that a seed stands for
 abbrev pub AreOfSeed : Table → ℕ → ℕ → ℕ → ℕ → ℕ → List Line → Type 0
-AreOfSeed T threads quota calls keys seed lines = AreDrawn T threads keys MOST_TURNS (before_turns threads quota calls (seeded seed)) lines
+AreOfSeed T threads quota calls keys seed lines =
+    AreDrawn T threads keys MOST_TURNS (before_turns threads quota calls (seeded seed)) lines

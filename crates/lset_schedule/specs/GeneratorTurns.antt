@@ -16,5 +16,6 @@ IsIdle s t left = ((local_of s t).pc ≡ 0) × (left ≡ 0)
 
 -- the event that the turn of thread t makes
 abbrev pub IsNextEvent : State → ℕ → ℕ → ℕ → Event → Type 0
-IsNextEvent s t left keys (event.Begin u call) = (u ≡ t) × ((local_of s t).pc ≡ 0) × (0 < left) × ((key_of call).0 < keys) × HasCall One call
+IsNextEvent s t left keys (event.Begin u call) = (u ≡ t) × ((local_of s t).pc ≡ 0) × (0 < left) × ((key_of call).0 < keys)
+    × HasCall One call
 IsNextEvent s t left keys (event.Go u) = (u ≡ t) × HasOpenCall s t

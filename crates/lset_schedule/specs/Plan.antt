@@ -27,7 +27,14 @@ pub record Plan : Type 0 where
 
 -- a version, what a header tells, opening keys, and lines
 abbrev pub planned : Version → Header → List ℕ → List Line → Plan
-planned v h keys lines = record { version = v; kind = h.kind; threads = h.threads; quota = h.quota; opening = keys; lines = lines }
+planned v h keys lines = record {
+  version = v;
+  kind = h.kind;
+  threads = h.threads;
+  quota = h.quota;
+  opening = keys;
+  lines = lines;
+}
 
 abbrev pub view : Schedule → Plan
 view s = planned s.version (record { kind = s.kind; threads = s.threads; quota = s.quota }) s.opening.items s.lines.items

@@ -1,6 +1,8 @@
 -- What workers give back, added up.
-use Rattle.std.proofs.Common.{◌≡◌, ◌≢◌, ℕ, zero, suc, ◌+◌, ◌-◌, ◌*◌, ◌<◌, ◌≤◌, eqb, List, [], ◌∷◌, ◌++◌, length, map, sum_by, Option, None}
-use Rattle.std.proofs.Common.{refl, sym, ap, ◌∙◌, subst, append_assoc, append-nil, arith, length-append, add-one, true, false, ⊎_elim}
+use Rattle.std.proofs.Common.{◌≡◌, ◌≢◌, ℕ, zero, suc, ◌+◌, ◌-◌, ◌*◌, ◌<◌, ◌≤◌, eqb, List, [], ◌∷◌, ◌++◌, length, map, sum_by}
+use Rattle.std.proofs.Common.{Option, None}
+use Rattle.std.proofs.Common.{refl, sym, ap, ◌∙◌, subst, append_assoc, append-nil, arith, length-append, add-one, true, false}
+use Rattle.std.proofs.Common.{⊎_elim}
 use Rattle.std.proofs.lemmas.Bool.{ne_eqb, eq-eqb}
 use Rattle.std.proofs.lemmas.Bool.Decides.{eqb_tells}
 use Rattle.std.proofs.lemmas.List.{length-map}
@@ -26,7 +28,8 @@ pub worked_none : (s : SeatValue) (v : Tally) → v ≡ tally 1 [] [] → HasWor
 worked_none s v e = record { received = []; view = e; number = refl; added = []; recorded = refl; count = refl; held = refl }
 
 -- one session more
-pub worked_more : (s s1 s2 : SeatValue) (v v' : Tally) (n m k : ℕ) (ns : List ℕ) (why : Why) (i i' w w' : Option (List ℕ)) → HasWorked s s1 v n m
+pub worked_more : (s s1 s2 : SeatValue) (v v' : Tally) (n m k : ℕ) (ns : List ℕ) (why : Why) (i i' w w' : Option (List ℕ)) →
+    HasWorked s s1 v n m
     → length ns ≡ 1 → v' ≡ tally v.parts v.sent (v.received ++ ns) → IsSession why k i i' s1.past s2.past w w' → s2.held ≡ s1.held
     → HasWorked s s2 v' (n + 1) (m + k)
 worked_more s s1 s2 v v' n m k ns why i i' w w' b one e did same = record {
@@ -34,7 +37,8 @@ worked_more s s1 s2 v v' n m k ns why i i' w w' b one e did same = record {
   view = e ∙ ap (λ (u : Tally). tally u.parts u.sent (u.received ++ ns)) b.view;
   number = omega (arith, b.number, one, length-append b.received ns);
   added = b.added ++ calls_in did.talk;
-  recorded = did.recorded ∙ ap (λ (q : Record). with_calls q (calls_in did.talk)) b.recorded ∙ sym (with_calls-append s.past b.added (calls_in did.talk));
+  recorded = did.recorded ∙ ap (λ (q : Record). with_calls q (calls_in did.talk)) b.recorded
+      ∙ sym (with_calls-append s.past b.added (calls_in did.talk));
   count = omega (arith, b.count, did.count, length-append b.added (calls_in did.talk));
   held = same ∙ b.held;
 }
@@ -49,18 +53,21 @@ length-numbers zero = refl
 length-numbers (suc n) = omega (arith, length-append (numbers_below n) (n ∷ []), length-numbers n)
 
 -- one connection more was sent
-pub sent_more : (v u u' : Tally) (n : ℕ) → u ≡ tally v.parts (v.sent ++ numbers_below n) v.received → u' ≡ tally u.parts (u.sent ++ n ∷ []) u.received
+pub sent_more : (v u u' : Tally) (n : ℕ) → u ≡ tally v.parts (v.sent ++ numbers_below n) v.received →
+    u' ≡ tally u.parts (u.sent ++ n ∷ []) u.received
     → u' ≡ tally v.parts (v.sent ++ numbers_below (n + 1)) v.received
 sent_more v u u' n e f =
     f ∙ ap (λ (x : Tally). tally x.parts (x.sent ++ n ∷ []) x.received) e
-    ∙ ap (λ l. tally v.parts l v.received) (append_assoc v.sent (numbers_below n) (n ∷ []) ∙ ap (λ l. v.sent ++ l) (sym (numbers-more n)))
+    ∙ ap (λ l. tally v.parts l v.received) (append_assoc v.sent (numbers_below n) (n ∷ [])
+    ∙ ap (λ l. v.sent ++ l) (sym (numbers-more n)))
 
 -- the word that no more come changes nothing
 pub sent_none : (v u u' : Tally) → u ≡ v → u' ≡ tally u.parts (u.sent ++ []) u.received → u' ≡ v
 sent_none v u u' e f = f ∙ ap (λ l. tally u.parts l u.received) (append-nil u.sent) ∙ e
 
 -- one part more was cut off
-pub part_more : (v u u' : Tally) (n m : ℕ) → u ≡ tally (v.parts - n) v.sent v.received → u' ≡ tally (u.parts - 1) u.sent u.received → m ≡ n + 1
+pub part_more : (v u u' : Tally) (n m : ℕ) → u ≡ tally (v.parts - n) v.sent v.received →
+    u' ≡ tally (u.parts - 1) u.sent u.received → m ≡ n + 1
     → u' ≡ tally (v.parts - m) v.sent v.received
 part_more v u u' n m e f more =
     let parts : (v.parts - n) - 1 ≡ v.parts - m = omega (arith, more) in
@@ -75,10 +82,16 @@ followed_more [] (ds ∷ css) r cs e = absurd (omega (arith, e))
 followed_more (q ∷ rs) [] r cs e = absurd (omega (arith, e))
 followed_more (q ∷ rs) (ds ∷ css) r cs e = ap (λ l. with_calls q ds ∷ l) (followed_more rs css r cs (omega (arith, e)))
 
-sum_lengths : (css : List (List CallMade)) (cs : List CallMade) → sum_by (λ l. length l) (css ++ cs ∷ []) ≡ sum_by (λ l. length l) css + length cs
+sum_lengths : (css : List (List CallMade)) (cs : List CallMade) → sum_by (λ l. length l) (css ++ cs ∷ []) ≡ sum_by (λ l. length l)
+    css + length cs
 sum_lengths [] cs = omega (arith, sum_by-cons (λ (l : List CallMade). length l) cs [])
 sum_lengths (ds ∷ css) cs =
-    omega (arith, sum_by-cons (λ (l : List CallMade). length l) ds (css ++ cs ∷ []), sum_by-cons (λ (l : List CallMade). length l) ds css, sum_lengths css cs)
+    omega (
+      arith,
+      sum_by-cons (λ (l : List CallMade). length l) ds (css ++ cs ∷ []),
+      sum_by-cons (λ (l : List CallMade). length l) ds css,
+      sum_lengths css cs,
+    )
 
 same_tally : (p p' : ℕ) (a a' t t' : List ℕ) → p ≡ p' → a ≡ a' → t ≡ t' → tally p a t ≡ tally p' a' t'
 same_tally p p' a a' t t' e f g = ap (λ x. tally x a t) e ∙ ap (λ x. tally p' x t) f ∙ ap (λ x. tally p' a' x) g
@@ -94,14 +107,18 @@ joined_none f hs hs' v e = (
     count = refl;
     end_is = refl;
     received = [];
-    view = same_tally v.parts (v.parts + 0) v.sent v.sent v.received (v.received ++ []) (omega arith) refl (sym (append-nil v.received));
+    view = same_tally v.parts (v.parts + 0) v.sent v.sent v.received (v.received ++ []) (omega arith) refl
+        (sym (append-nil v.received));
     number = refl;
   },
 )
 
-pub joined_next : {H : Type 0} (f : H → Record) (hs rest rest' : List H) (h : H) (s s' : SeatValue) (end end' : Option Record) (v u u' w : Tally) (n m k c : ℕ)
-    → rest ≡ h ∷ rest' → ((done : List Record) × (done ++ map f rest ≡ map f hs) × HaveWorked done end v u (length done) n m) → f h ≡ s.past
-    → HasWorked s s' w k c → u' ≡ tally (u.parts + w.parts) (u.sent ++ w.sent) (u.received ++ w.received) → end' ≡ gather_onto end (s'.past ∷ [])
+pub joined_next : {H : Type 0} (f : H → Record) (hs rest rest' : List H) (h : H) (s s' : SeatValue) (end end' : Option Record)
+    (v u u' w : Tally) (n m k c : ℕ)
+    → rest ≡ h ∷ rest' → ((done : List Record) × (done ++ map f rest ≡ map f hs) × HaveWorked done end v u (length done) n m) →
+    f h ≡ s.past
+    → HasWorked s s' w k c → u' ≡ tally (u.parts + w.parts) (u.sent ++ w.sent) (u.received ++ w.received) →
+    end' ≡ gather_onto end (s'.past ∷ [])
     → (done : List Record) × (done ++ map f rest' ≡ map f hs) × HaveWorked done end' v u' (length done) (n + k) (m + c)
 joined_next f hs rest rest' h s s' end end' v u u' w n m k c step (done, split, j) is b both more = (
   done ++ f h ∷ [],
@@ -115,9 +132,12 @@ joined_next f hs rest rest' h s s' end end' v u u' w n m k c step (done, split, 
         ∙ ap (gather_onto None) (sym (followed_more done j.added (f h) b.added j.each));
     received = j.received ++ b.received;
     view = both ∙ ap (λ (x : Tally). tally (x.parts + w.parts) (x.sent ++ w.sent) (x.received ++ w.received)) j.view
-        ∙ ap (λ (x : Tally). tally ((v.parts + length done) + x.parts) (v.sent ++ x.sent) ((v.received ++ j.received) ++ x.received)) b.view
-        ∙ same_tally ((v.parts + length done) + 1) (v.parts + length (done ++ f h ∷ [])) (v.sent ++ []) v.sent ((v.received ++ j.received) ++ b.received)
-        (v.received ++ (j.received ++ b.received)) (omega (arith, length-append done (f h ∷ []))) (append-nil v.sent) (append_assoc v.received j.received b.received);
+        ∙ ap (λ (x : Tally). tally ((v.parts + length done) + x.parts) (v.sent ++ x.sent) ((v.received ++ j.received)
+        ++ x.received)) b.view
+        ∙ same_tally ((v.parts + length done) + 1) (v.parts + length (done ++ f h ∷ [])) (v.sent ++ []) v.sent
+        ((v.received ++ j.received) ++ b.received)
+        (v.received ++ (j.received ++ b.received)) (omega (arith, length-append done (f h ∷ []))) (append-nil v.sent)
+        (append_assoc v.received j.received b.received);
     number = omega (arith, j.number, b.number, length-append j.received b.received);
   },
 )
@@ -127,7 +147,8 @@ bound_next s d most n n' total h e small =
     let full : s + most * (n' + 1) ≤ total = subst (λ x. s + most * x ≤ total) e h in
     omega (arith, full, small)
 
-pub bound_next' : (s d most n n' total : ℕ) → s + MOST_LINES * (most * n) ≤ total → n ≡ n' + 1 → d ≤ MOST_LINES * most → s + d + MOST_LINES * (most * n') ≤ total
+pub bound_next' : (s d most n n' total : ℕ) → s + MOST_LINES * (most * n) ≤ total → n ≡ n' + 1 → d ≤ MOST_LINES * most →
+    s + d + MOST_LINES * (most * n') ≤ total
 bound_next' s d most n n' total h e small =
     let full : s + MOST_LINES * (most * (n' + 1)) ≤ total = subst (λ x. s + MOST_LINES * (most * x) ≤ total) e h in
     omega (arith, full, small)
@@ -141,19 +162,24 @@ held_map {H = H} {T = T} seat_of held hs ss e = one hs ∙ ap (sum_by held) e
     one : (xs : List H) → sum_by (λ h. held (seat_of h)) xs ≡ sum_by held (map seat_of xs)
     one [] = refl
     one (x ∷ xs) =
-        sum_by-cons (λ h. held (seat_of h)) x xs ∙ ap (λ n. held (seat_of x) + n) (one xs) ∙ sym (sum_by-cons held (seat_of x) (map seat_of xs))
+        sum_by-cons (λ h. held (seat_of h)) x xs ∙ ap (λ n. held (seat_of x) + n) (one xs)
+        ∙ sym (sum_by-cons held (seat_of x) (map seat_of xs))
 
 pub as_many : {H T : Type 0} (seat_of : H → T) (hs : List H) (ss : List T) → map seat_of hs ≡ ss → length hs ≡ length ss
 as_many seat_of hs ss e = sym (length-map hs seat_of) ∙ ap (λ l. length l) e
 
 -- the pass of the sender has all parts again, and has sent the numbers of all connections
-pub whole_again : (n many : ℕ) (v u w x y : Tally) (received : List ℕ) (k : ℕ) → v ≡ tally PARTS [] [] → n ≤ MOST_THREADS → u ≡ tally (v.parts - n) v.sent v.received
-    → w ≡ tally u.parts (u.sent ++ numbers_below many) u.received → x ≡ w → k ≡ n → y ≡ tally (x.parts + k) x.sent (x.received ++ received)
+pub whole_again : (n many : ℕ) (v u w x y : Tally) (received : List ℕ) (k : ℕ) → v ≡ tally PARTS [] [] → n ≤ MOST_THREADS →
+    u ≡ tally (v.parts - n) v.sent v.received
+    → w ≡ tally u.parts (u.sent ++ numbers_below many) u.received → x ≡ w → k ≡ n →
+    y ≡ tally (x.parts + k) x.sent (x.received ++ received)
     → y ≡ tally PARTS (numbers_below many) received
 whole_again n many v u w x y received k a few b c d e f =
     let xv : x ≡ tally (PARTS - n) (numbers_below many) [] =
-    d ∙ c ∙ ap (λ (z : Tally). tally z.parts (z.sent ++ numbers_below many) z.received) (b ∙ ap (λ (z : Tally). tally (z.parts - n) z.sent z.received) a) in
-    f ∙ ap (λ (z : Tally). tally (z.parts + k) z.sent (z.received ++ received)) xv ∙ ap (λ p. tally p (numbers_below many) received) (omega (arith, few, e))
+    d ∙ c ∙ ap (λ (z : Tally). tally z.parts (z.sent ++ numbers_below many) z.received) (b
+    ∙ ap (λ (z : Tally). tally (z.parts - n) z.sent z.received) a) in
+    f ∙ ap (λ (z : Tally). tally (z.parts + k) z.sent (z.received ++ received)) xv
+    ∙ ap (λ p. tally p (numbers_below many) received) (omega (arith, few, e))
 
 -- the weight of each number 1 is the length
 weigh-one : (xs : List ℕ) → weigh (λ _. 1) xs ≡ length xs
@@ -194,7 +220,8 @@ times-below (suc n) m lt =
     below other = omega (arith, lt, other)
 
 -- as many were received as were sent, so none is left
-pub received_once : (n : ℕ) (v : Tally) (received left : List ℕ) → v ≡ tally PARTS (numbers_below n) received → n ≡ length received
+pub received_once : (n : ℕ) (v : Tally) (received left : List ℕ) → v ≡ tally PARTS (numbers_below n) received →
+    n ≡ length received
     → ((h : ℕ → ℕ) → weigh h v.sent ≡ weigh h v.received + weigh h left) → ReceivedOnce n v
 received_once n v received left is many balance = record {
   parts = ap (λ (z : Tally). z.parts) is;
@@ -222,14 +249,18 @@ received_once n v received left is many balance = record {
     alike : (h : ℕ → ℕ) → weigh h (numbers_below n) ≡ weigh h v.received
     alike h = omega (arith, sent_is h, balance h, no_weight h left none)
 
-pub all_gathered : (starts starts' : List Record) (end : Option Record) (v v' u : Tally) (workers asked sessions calls : ℕ) (left : List ℕ) → starts ≡ starts'
-    → (j : HaveWorked starts end v v' workers sessions calls) → v' ≡ tally PARTS (numbers_below asked) j.received → sessions ≡ asked
-    → ((h : ℕ → ℕ) → weigh h v'.sent ≡ weigh h v'.received + weigh h left) → u ≡ v' → HasGathered starts' end u asked sessions calls
+pub all_gathered : (starts starts' : List Record) (end : Option Record) (v v' u : Tally) (workers asked sessions calls : ℕ)
+    (left : List ℕ) → starts ≡ starts'
+    → (j : HaveWorked starts end v v' workers sessions calls) → v' ≡ tally PARTS (numbers_below asked) j.received →
+    sessions ≡ asked
+    → ((h : ℕ → ℕ) → weigh h v'.sent ≡ weigh h v'.received + weigh h left) → u ≡ v' →
+    HasGathered starts' end u asked sessions calls
 all_gathered starts starts' end v v' u workers asked sessions calls left e j is all balance same = record {
   added = j.added;
   each = j.each ∙ ap (λ (l : List Record). length l) e;
   count = j.count;
   end_is = j.end_is ∙ ap (λ l. gather_onto None (followed l j.added)) e;
   all = all;
-  received = subst (ReceivedOnce asked) (sym same) (received_once asked v' j.received left is (omega (arith, all, j.number)) balance);
+  received = subst (ReceivedOnce asked) (sym same) (received_once asked v' j.received left is (omega (arith, all, j.number))
+      balance);
 }

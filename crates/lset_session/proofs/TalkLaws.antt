@@ -1,6 +1,8 @@
 -- How a session goes on from line to line.
-use Rattle.std.proofs.Common.{◌≡◌, ◌≢◌, ℕ, ◌+◌, ◌-◌, ◌<◌, ◌≤◌, Bool, true, false, eqb, List, [], ◌∷◌, ◌++◌, length, Option, Some, None, if◌then◌else◌}
-use Rattle.std.proofs.Common.{refl, sym, ap, ◌∙◌, subst, append_assoc, append-nil, arith, length-append, take, drop, get_or, take-append-drop, IsTrue, ◌↔◌}
+use Rattle.std.proofs.Common.{◌≡◌, ◌≢◌, ℕ, ◌+◌, ◌-◌, ◌<◌, ◌≤◌, Bool, true, false, eqb, List, [], ◌∷◌, ◌++◌, length, Option, Some}
+use Rattle.std.proofs.Common.{None, if◌then◌else◌}
+use Rattle.std.proofs.Common.{refl, sym, ap, ◌∙◌, subst, append_assoc, append-nil, arith, length-append, take, drop, get_or}
+use Rattle.std.proofs.Common.{take-append-drop, IsTrue, ◌↔◌}
 use Rattle.std.proofs.lemmas.Bool.{ne_eqb, lt-ltb, le-ltb, false≢true}
 use Rattle.std.proofs.Math.Seq.{take-suc}
 use Rattle.std.proofs.Common.{◌⊎◌, inl, inr, add-one}
@@ -20,8 +22,10 @@ use Rattle.lset_session.specs.declared.sessions.Why.TheVariants as why
 use Rattle.lset_session.specs.declared.requests.Request.{Request}
 use Rattle.lset_session.specs.declared.requests.Request.TheVariants as request
 use Rattle.lset_session.specs.Devices.{CutShort, Writes}
-use Rattle.lset_session.specs.SessionText.{Turn, line, long, limit, turns_after, turns_at, turns_of, request_of, end_after, end_of}
-use Rattle.lset_session.specs.SessionText.{Exchange, made, bad, bye, too_long, at_limit, turn_of, answer_of, call_of, turns_in, answers_in, calls_in}
+use Rattle.lset_session.specs.SessionText.{Turn, line, long, limit, turns_after, turns_at, turns_of, request_of, end_after}
+use Rattle.lset_session.specs.SessionText.{end_of}
+use Rattle.lset_session.specs.SessionText.{Exchange, made, bad, bye, too_long, at_limit, turn_of, answer_of, call_of, turns_in}
+use Rattle.lset_session.specs.SessionText.{answers_in, calls_in}
 use Rattle.lset_session.specs.Sessions.{Wrote, text_end, IsSession}
 use Rattle.lset_session.specs.Talks.{WroteSoFar, IsLast, Told, Heard, counted, failed_by, ending}
 
@@ -35,10 +39,12 @@ cut_more (b ∷ bs) x xs more e lacks =
     let not_it = All-head (λ b. eqb b 10 ≡ false) b bs lacks in
     rw (not_it, cut_more bs x xs more e (All-tail (λ b. eqb b 10 ≡ false) b bs lacks)) refl
 
-pub turns_long : (left : ℕ) (q more : List ℕ) → Lacks 10 q → LONGEST_LINE < length q → turns_at left (cut_at 10 (q ++ more)) ≡ long ∷ []
+pub turns_long : (left : ℕ) (q more : List ℕ) → Lacks 10 q → LONGEST_LINE < length q →
+    turns_at left (cut_at 10 (q ++ more)) ≡ long ∷ []
 turns_long left q more lacks many = by_parts (cut_at 10 more) refl (some_part 10 more)
   where
-    by_parts : (parts : List (List ℕ)) → cut_at 10 more ≡ parts → 0 < length parts → turns_at left (cut_at 10 (q ++ more)) ≡ long ∷ []
+    by_parts : (parts : List (List ℕ)) → cut_at 10 more ≡ parts → 0 < length parts → turns_at left (cut_at 10 (q ++ more)) ≡ long
+        ∷ []
     by_parts [] e some = absurd (omega arith)
     by_parts (x ∷ []) e some =
         let much = lt-ltb LONGEST_LINE (length (q ++ x)) (omega (arith, many, length-append q x)) in
@@ -126,7 +132,8 @@ heard_nothing left p r w n = record {
   count = omega arith;
 }
 
-pub heard_long : (left left' : ℕ) (q p' : List ℕ) (r : Record) (w w' : Option (List ℕ)) (n : ℕ) (whole : Bool) → Lacks 10 q → LONGEST_LINE < length q
+pub heard_long : (left left' : ℕ) (q p' : List ℕ) (r : Record) (w w' : Option (List ℕ)) (n : ℕ) (whole : Bool) → Lacks 10 q →
+    LONGEST_LINE < length q
     → Writes whole w w' (answer_of too_long) → Heard left q (ending whole why.Long) left' p' r r w w' n n
 heard_long left left' q p' r w w' n true lacks many wrote = record {
   talk = too_long ∷ [];
@@ -150,7 +157,8 @@ module _ (left left' : ℕ) (p p' : List ℕ) (r r' : Record) (w w' : Option (Li
   abbrev said : List ℕ → List ℕ
   said more = (p ++ 10 ∷ []) ++ more
 
-  pub line_turns : (more : List ℕ) → turns_at left (cut_at 10 ((p ++ 10 ∷ []) ++ more)) ≡ turns_after left (request_of p) (turns_at (left - 1) (cut_at 10 more))
+  pub line_turns : (more : List ℕ) → turns_at left (cut_at 10 ((p ++ 10 ∷ []) ++ more)) ≡ turns_after left (request_of p)
+      (turns_at (left - 1) (cut_at 10 more))
   line_turns more = ap (λ t. turns_at left (cut_at 10 t)) (append_assoc p (10 ∷ []) more) ∙ turns_line left p more lacks short
 
   one_recorded : r' ≡ with_calls r (call_of e ++ [])
@@ -176,7 +184,8 @@ module _ (left left' : ℕ) (p p' : List ℕ) (r r' : Record) (w w' : Option (Li
   one_wrote : Appends w w' (answer_of e) → Appends w w' (answers_in (e ∷ []))
   one_wrote wrote = subst (Appends w w') (sym (append-nil (answer_of e))) wrote
 
-  pub heard_quit : request_of p ≡ request.Quit → Appends w w' (answer_of e) → Heard left (p ++ 10 ∷ []) (Some why.Quit) left' p' r r' w w' n n'
+  pub heard_quit : request_of p ≡ request.Quit → Appends w w' (answer_of e) →
+      Heard left (p ++ 10 ∷ []) (Some why.Quit) left' p' r r' w w' n n'
   heard_quit quit wrote = record {
     talk = e ∷ [];
     told = (
@@ -189,7 +198,8 @@ module _ (left left' : ℕ) (p p' : List ℕ) (r r' : Record) (w w' : Option (Li
     count = one_count;
   }
 
-  pub heard_line : request_of p ≢ request.Quit → 1 < left → Appends w w' (answer_of e) → Heard left (p ++ 10 ∷ []) None (left - 1) [] r r' w w' n n'
+  pub heard_line : request_of p ≢ request.Quit → 1 < left → Appends w w' (answer_of e) →
+      Heard left (p ++ 10 ∷ []) None (left - 1) [] r r' w w' n n'
   heard_line other more_lines wrote = record {
     talk = e ∷ [];
     told = (
@@ -234,7 +244,16 @@ module _ (left left' : ℕ) (p p' : List ℕ) (r r' : Record) (w w' : Option (Li
       ),
     );
     recorded = one_recorded;
-    wrote = (e ∷ [], at_limit, front, b, cut, refl, all, Appends-trans w w' w'' (answers_in (e ∷ [])) front (one_wrote wrote) end);
+    wrote = (
+      e ∷ [],
+      at_limit,
+      front,
+      b,
+      cut,
+      refl,
+      all,
+      Appends-trans w w' w'' (answers_in (e ∷ [])) front (one_wrote wrote) end,
+    );
     count = one_count;
   }
 
@@ -254,7 +273,8 @@ turns_then s t rest = sym (append_assoc (turns_in s) (turns_in t) rest) ∙ ap (
 end_then : (s t : List Exchange) → end_of (turns_in s) ≡ why.End → end_of (turns_in (s ++ t)) ≡ end_of (turns_in t)
 end_then s t h = ap end_of (map-append turn_of s t) ∙ end_append (turns_in s) (turns_in t) h
 
-told_then : (l l' l'' : ℕ) (p p' p'' cs : List ℕ) (o : Option Why) (s t : List Exchange) → Told l p None l' p' s → Told l' (p' ++ cs) o l'' p'' t
+told_then : (l l' l'' : ℕ) (p p' p'' cs : List ℕ) (o : Option Why) (s t : List Exchange) → Told l p None l' p' s →
+    Told l' (p' ++ cs) o l'' p'' t
     → Told l (p ++ cs) o l'' p'' (s ++ t)
 told_then l l' l'' p p' p'' cs None s t h k = (
   end_then s t h.0 ∙ k.0,
@@ -280,7 +300,8 @@ wrote_whole : (w w' w'' : Option (List ℕ)) (s t : List Exchange) → Appends w
 wrote_whole w w' w'' s t h k =
     subst (Appends w w'') (sym (flat_map-append answer_of s t)) (Appends-trans w w' w'' (answers_in s) (answers_in t) h k)
 
-wrote_then : (o : Option Why) (w w' w'' : Option (List ℕ)) (s t : List Exchange) → Appends w w' (answers_in s) → WroteSoFar o w' w'' t → WroteSoFar o w w'' (s ++ t)
+wrote_then : (o : Option Why) (w w' w'' : Option (List ℕ)) (s t : List Exchange) → Appends w w' (answers_in s) →
+    WroteSoFar o w' w'' t → WroteSoFar o w w'' (s ++ t)
 wrote_then None w w' w'' s t h k = wrote_whole w w' w'' s t h k
 wrote_then (Some why.WriteFault) w w' w'' s t h (said, last, front, b, cut, all, is, k) = (
   s ++ said,
@@ -300,12 +321,15 @@ wrote_then (Some why.Long) w w' w'' s t h k = wrote_whole w w' w'' s t h k
 wrote_then (Some why.Limit) w w' w'' s t h k = wrote_whole w w' w'' s t h k
 wrote_then (Some why.ReadFault) w w' w'' s t h k = wrote_whole w w' w'' s t h k
 
-pub heard_then : (l l' l'' : ℕ) (p p' p'' cs : List ℕ) (o : Option Why) (r r' r'' : Record) (w w' w'' : Option (List ℕ)) (n n' n'' : ℕ)
-    → Heard l p None l' p' r r' w w' n n' → Heard l' (p' ++ cs) o l'' p'' r' r'' w' w'' n' n'' → Heard l (p ++ cs) o l'' p'' r r'' w w'' n n''
+pub heard_then : (l l' l'' : ℕ) (p p' p'' cs : List ℕ) (o : Option Why) (r r' r'' : Record) (w w' w'' : Option (List ℕ))
+    (n n' n'' : ℕ)
+    → Heard l p None l' p' r r' w w' n n' → Heard l' (p' ++ cs) o l'' p'' r' r'' w' w'' n' n'' →
+    Heard l (p ++ cs) o l'' p'' r r'' w w'' n n''
 heard_then l l' l'' p p' p'' cs o r r' r'' w w' w'' n n' n'' h k = record {
   talk = h.talk ++ k.talk;
   told = told_then l l' l'' p p' p'' cs o h.talk k.talk h.told k.told;
-  recorded = k.recorded ∙ ap (λ (q : Record). with_calls q (calls_in k.talk)) h.recorded ∙ sym (with_calls-append r (calls_in h.talk) (calls_in k.talk))
+  recorded = k.recorded ∙ ap (λ (q : Record). with_calls q (calls_in k.talk)) h.recorded
+      ∙ sym (with_calls-append r (calls_in h.talk) (calls_in k.talk))
       ∙ ap (with_calls r) (sym (flat_map-append call_of h.talk k.talk));
   wrote = wrote_then o w w' w'' h.talk k.talk h.wrote k.wrote;
   count = omega (
@@ -336,12 +360,15 @@ heard_more l l' p p' cs end r r' w w' n n' h = record {
 -- ---- the bytes of one read
 
 -- one byte more
-pub heard_byte : (l l' l'' : ℕ) (p p' p'' xs : List ℕ) (i : ℕ) (o : Option Why) (r r' r'' : Record) (w w' w'' : Option (List ℕ)) (n n' n'' : ℕ)
-    → i < length xs → Heard l (p ++ take i xs) None l' p' r r' w w' n n' → Heard l' (p' ++ get_or xs i 0 ∷ []) o l'' p'' r' r'' w' w'' n' n''
+pub heard_byte : (l l' l'' : ℕ) (p p' p'' xs : List ℕ) (i : ℕ) (o : Option Why) (r r' r'' : Record) (w w' w'' : Option (List ℕ))
+    (n n' n'' : ℕ)
+    → i < length xs → Heard l (p ++ take i xs) None l' p' r r' w w' n n' →
+    Heard l' (p' ++ get_or xs i 0 ∷ []) o l'' p'' r' r'' w' w'' n' n''
     → Heard l (p ++ take (i + 1) xs) o l'' p'' r r'' w w'' n n''
 heard_byte l l' l'' p p' p'' xs i o r r' r'' w w' w'' n n' n'' lt h k =
     let regrouped : (p ++ take i xs) ++ get_or xs i 0 ∷ [] ≡ p ++ take (i + 1) xs =
-    append_assoc p (take i xs) (get_or xs i 0 ∷ []) ∙ ap (λ t. p ++ t) (sym (take-suc xs i 0 lt) ∙ ap (λ j. take j xs) (sym (add-one i))) in
+    append_assoc p (take i xs) (get_or xs i 0 ∷ [])
+    ∙ ap (λ t. p ++ t) (sym (take-suc xs i 0 lt) ∙ ap (λ j. take j xs) (sym (add-one i))) in
     subst (λ t. Heard l t o l'' p'' r r'' w w'' n n'') regrouped
     (heard_then l l' l'' (p ++ take i xs) p' p'' (get_or xs i 0 ∷ []) o r r' r'' w w' w'' n n' n'' h k)
 
@@ -349,19 +376,23 @@ heard_byte l l' l'' p p' p'' xs i o r r' r'' w w' w'' n n' n'' lt h k =
 pub heard_rest : (l l' : ℕ) (p p' xs : List ℕ) (i : ℕ) (end : Why) (r r' : Record) (w w' : Option (List ℕ)) (n n' : ℕ)
     → Heard l (p ++ take i xs) (Some end) l' p' r r' w w' n n' → Heard l (p ++ xs) (Some end) l' p' r r' w w' n n'
 heard_rest l l' p p' xs i end r r' w w' n n' h =
-    subst (λ t. Heard l t (Some end) l' p' r r' w w' n n') (append_assoc p (take i xs) (drop i xs) ∙ ap (λ t. p ++ t) (take-append-drop i xs))
+    subst (λ t. Heard l t (Some end) l' p' r r' w w' n n') (append_assoc p (take i xs) (drop i xs)
+    ∙ ap (λ t. p ++ t) (take-append-drop i xs))
     (heard_more l l' (p ++ take i xs) p' (drop i xs) end r r' w w' n n' h)
 
 -- ---- the end
 
 -- no whole line is left, and no line has ended the session
-pub spoken_rest : (end : Why) (bytes : List ℕ) (left : ℕ) (p : List ℕ) (r r' : Record) (s s' w w' : Option (List ℕ)) (n : ℕ) → Lacks 10 p → length p ≤ LONGEST_LINE
-    → (end ≡ why.End) ⊎ (end ≡ why.ReadFault) → (end ≡ why.End → IsAtEnd s') → Consumes s s' bytes → Heard MOST_LINES bytes None left p r r' w w' 0 n
+pub spoken_rest : (end : Why) (bytes : List ℕ) (left : ℕ) (p : List ℕ) (r r' : Record) (s s' w w' : Option (List ℕ)) (n : ℕ) →
+    Lacks 10 p → length p ≤ LONGEST_LINE
+    → (end ≡ why.End) ⊎ (end ≡ why.ReadFault) → (end ≡ why.End → IsAtEnd s') → Consumes s s' bytes →
+    Heard MOST_LINES bytes None left p r r' w w' 0 n
     → IsSession end n s s' r r' w w'
 unfolding turns_of
 spoken_rest end bytes left p r r' s s' w w' n lacks short which drained read h =
     let all : turns_of bytes ≡ turns_in h.talk =
-    ap (λ b. turns_at MOST_LINES (cut_at 10 b)) (sym (append-nil bytes)) ∙ h.told.1 [] ∙ ap (λ t. turns_in h.talk ++ t) (turns_rest left p lacks short)
+    ap (λ b. turns_at MOST_LINES (cut_at 10 b)) (sym (append-nil bytes)) ∙ h.told.1 []
+    ∙ ap (λ t. turns_in h.talk ++ t) (turns_rest left p lacks short)
     ∙ append-nil (turns_in h.talk) in
     record {
       bytes = bytes;
@@ -375,7 +406,8 @@ spoken_rest end bytes left p r r' s s' w w' n lacks short which drained read h =
       drained = drained;
     }
   where
-    wrote_so : (end : Why) → (end ≡ why.End) ⊎ (end ≡ why.ReadFault) → (talk : List Exchange) → Appends w w' (answers_in talk) → Wrote end w w' talk
+    wrote_so : (end : Why) → (end ≡ why.End) ⊎ (end ≡ why.ReadFault) → (talk : List Exchange) → Appends w w' (answers_in talk) →
+        Wrote end w w' talk
     wrote_so end (inl is) talk h = rw is h
     wrote_so end (inr is) talk h = rw is h
 
@@ -388,7 +420,8 @@ pub spoken_last : (end : Why) (bytes : List ℕ) (left : ℕ) (p : List ℕ) (r 
 unfolding turns_of
 spoken_last end bytes left p r r' s s' w w' n read h =
     let last = h.told.1 [] in
-    let all : turns_of bytes ≡ turns_in h.talk ++ last.0 = ap (λ b. turns_at MOST_LINES (cut_at 10 b)) (sym (append-nil bytes)) ∙ last.1 in
+    let all : turns_of bytes ≡ turns_in h.talk ++ last.0 = ap (λ b. turns_at MOST_LINES (cut_at 10 b)) (sym (append-nil bytes))
+    ∙ last.1 in
     record {
       bytes = bytes;
       talk = h.talk;
@@ -397,7 +430,8 @@ spoken_last end bytes left p r r' s s' w w' n read h =
       count = omega (arith, h.count);
       wrote = h.wrote;
       turns = (last.0, all, λ other. (last.2 other).0);
-      ends = λ other. ap end_of (all ∙ ap (λ t. turns_in h.talk ++ t) (last.2 other).0 ∙ append-nil (turns_in h.talk)) ∙ (last.2 other).1 ∙ itself end h.told.0;
+      ends = λ other. ap end_of (all ∙ ap (λ t. turns_in h.talk ++ t) (last.2 other).0 ∙ append-nil (turns_in h.talk))
+          ∙ (last.2 other).1 ∙ itself end h.told.0;
       drained = λ is. absurd (not_end end h.told.0 is);
     }
   where

@@ -1,4 +1,5 @@
--- [Session text]: what the lines of a session ask for, and what is answered. It speaks of all bytes of the input at once, cut at newlines.
+-- [Session text]: what the lines of a session ask for, and what is answered. It speaks of all bytes of the input at once, cut at
+-- newlines.
 use Rattle.std.specs.Prelude.{ℕ, ◌-◌, ◌==◌, nat_lt, List, [], ◌∷◌, ◌++◌, map, length, codes, Option, Some, None, if◌then◌else◌}
 use Rattle.std.specs.Fmt.{decimal}
 use Rattle.std.specs.List.{flat_map}

@@ -30,7 +30,8 @@ text_end why.Limit = why.Limit
 text_end why.ReadFault = why.End
 text_end why.WriteFault = why.WriteFault
 
--- A SESSION that has ended so and made so many calls: the bytes that were left to read before and after it (s, s'), the record of its
+-- A SESSION that has ended so and made so many calls: the bytes that were left to read before and after it (s, s'), the record
+-- of its
 -- seat (r, r'), and the bytes that were written (w, w').
 pub record IsSession (end : Why) (calls : ℕ) (s s' : Option (List ℕ)) (r r' : Record) (w w' : Option (List ℕ)) : Type 0 where
   -- the bytes that were read, and what was asked and answered

@@ -1,5 +1,6 @@
 -- A session that has come so far: what the functions behind `session` say of the bytes that they were given.
-use Rattle.std.specs.Prelude.{◌≡◌, ◌≢◌, ℕ, ◌+◌, ◌*◌, ◌<◌, ◌≤◌, List, [], ◌++◌, take, length, Option, Some, None, Bool, true, false, if◌then◌else◌}
+use Rattle.std.specs.Prelude.{◌≡◌, ◌≢◌, ℕ, ◌+◌, ◌*◌, ◌<◌, ◌≤◌, List, [], ◌++◌, take, length, Option, Some, None, Bool, true}
+use Rattle.std.specs.Prelude.{false, if◌then◌else◌}
 use Rattle.std.specs.Io.KnownBytes.{Appends}
 use Rattle.lset_text.specs.Parts.{cut_at, Lacks}
 use Rattle.lset_live.specs.Records.{Record, with_calls}
@@ -31,7 +32,8 @@ IsLast why.ReadFault = ⊥
 abbrev pub Told : ℕ → List ℕ → Option Why → ℕ → List ℕ → List Exchange → Type 0
 Told left bytes None left' pending talk =
     (end_of (turns_in talk) ≡ why.End)
-    × ((more : List ℕ) → turns_at left (cut_at 10 (bytes ++ more)) ≡ turns_in talk ++ turns_at left' (cut_at 10 (pending ++ more)))
+    × ((more : List ℕ) → turns_at left (cut_at 10 (bytes ++ more)) ≡ turns_in talk
+    ++ turns_at left' (cut_at 10 (pending ++ more)))
 Told left bytes (Some w) left' pending talk =
     IsLast w × ((more : List ℕ) → (later : List Turn) × (turns_at left (cut_at 10 (bytes ++ more)) ≡ turns_in talk ++ later)
     × (w ≢ why.WriteFault → (later ≡ []) × (end_of (turns_in talk) ≡ w)))

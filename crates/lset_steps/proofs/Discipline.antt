@@ -1,5 +1,6 @@
 -- A machine whose every step is one of the changes keeps its laws over every run.
-use Rattle.std.specs.Prelude.{◌≡◌, ◌≢◌, ℕ, ◌+◌, ◌/◌, ◌%◌, ◌<◌, ◌≤◌, ◌⊎◌, ◌-◌, Bool, true, false, Option, Some, None, List, [], ◌∷◌, slice_index, slice_set, slice_index_or, length, refl, if◌then◌else◌, ◌==◌, ◌||◌}
+use Rattle.std.specs.Prelude.{◌≡◌, ◌≢◌, ℕ, ◌+◌, ◌/◌, ◌%◌, ◌<◌, ◌≤◌, ◌⊎◌, ◌-◌, Bool, true, false, Option, Some, None, List, []}
+use Rattle.std.specs.Prelude.{◌∷◌, slice_index, slice_set, slice_index_or, length, refl, if◌then◌else◌, ◌==◌, ◌||◌}
 use Rattle.std.proofs.Common.{arith, inl, inr, sym, ◌∙◌, ap, subst, zero, suc, get_or-set_other, get_or-set_same, length-set}
 use Rattle.std.proofs.lemmas.List.FromFn.{get_or-map-range_with_len, length-map-range_with_len}
 use Rattle.lset_words.proofs.Numbers.{same_or_not, equal_test, unequal_test}
@@ -11,14 +12,17 @@ use Rattle.lset_steps.specs.declared.Local.{Local}
 use Rattle.lset_steps.specs.declared.Action.{Action}
 use Rattle.lset_steps.specs.declared.Event.{Event}
 use Rattle.lset_steps.specs.declared.Event.TheVariants.{Begin, Go}
-use Rattle.lset_steps.specs.Steps.{log_of, entry_of, Table, State, opening, opening_word, idle, local_of, after, left_by, seen_by, seen_next, Enabled, Run, state_at}
+use Rattle.lset_steps.specs.Steps.{log_of, entry_of, Table, State, opening, opening_word, idle, local_of, after, left_by, seen_by}
+use Rattle.lset_steps.specs.Steps.{seen_next, Enabled, Run, state_at}
 use Rattle.lset_words.specs.Log.{is_change, begun_at, has_changed, begun_after, changed_after}
-use Rattle.lset_steps.specs.Chain.{View, view, Published, InChain, IsOrdered, UnmarkedInChain, Changed, UnlinkedStays, node_key, node_link, contents_of, counts_of}
+use Rattle.lset_steps.specs.Chain.{View, view, Published, InChain, IsOrdered, UnmarkedInChain, Changed, UnlinkedStays, node_key}
+use Rattle.lset_steps.specs.Chain.{node_link, contents_of, counts_of}
 use Rattle.lset_steps.proofs.Moves.{Move, KeepsNodes, KeepsMarked, Course}
 use Rattle.lset_words.specs.Account.{FitsSometime}
 use Rattle.lset_steps.specs.Laws.{Lawful, BeginLaws, StateLaws, Registers, StepLaws, StepAt, Answered, used_in, view_of, views}
 use Rattle.lset_words.specs.Account.{MayChange, count_after}
-use Rattle.lset_steps.proofs.Memory.{WordStep, Memory, moved, left_is, named_in, lock_use, mine_counted, others_counted, goes_on, memory_after, inside}
+use Rattle.lset_steps.proofs.Memory.{WordStep, Memory, moved, left_is, named_in, lock_use, mine_counted, others_counted, goes_on}
+use Rattle.lset_steps.proofs.Memory.{memory_after, inside}
 use Rattle.lset_steps.proofs.MoveLaws.{move-changed, marked_stays, later_same, later_more}
 use Rattle.lset_steps.proofs.Hindsight.{hindsight}
 use Rattle.lset_steps.proofs.Openings.{opening_local, none_used, opening_ordered, opening_memory}
@@ -74,7 +78,8 @@ pub record Discipline (T : Table) (marks : Bool) (At : Outline) : Type 1 where
   pub goes : (sz : Sizes) (t : ℕ) (vs : ℕ → View) (first : ℕ → ℕ) (now : ℕ) (ws : List ℕ) (used : ℕ → ℕ) (done : ℕ → Bool)
       (locals : ℕ → Local)
       → Here marks sz vs now ws used
-      → ((u : ℕ) → u < sz.threads → Thread At sz u vs (first u) now ws used (done u) (locals u)) → t < sz.threads → (locals t).pc ≢ 0
+      → ((u : ℕ) → u < sz.threads → Thread At sz u vs (first u) now ws used (done u) (locals u)) → t < sz.threads →
+      (locals t).pc ≢ 0
       → StepOf T marks At sz t vs first now ws used done locals
 
 -- THE COURSE of a run goes on
@@ -218,7 +223,8 @@ module _ (T : Table) (marks : Bool) (At : Outline) (d : Discipline T marks At) (
                 registers = x.registers;
                 counts = x.counts;
                 begun = (let b : first u ≤ k = x.begun in omega arith);
-                at = d.waits op.quota u vs (first u) k (view (sizes op) s.words (used_in s)) (done u) (local_of s u) i.present x.at;
+                at = d.waits op.quota u vs (first u) k (view (sizes op) s.words (used_in s)) (done u) (local_of s u) i.present
+                    x.at;
               }))
         ];
       }
@@ -230,10 +236,12 @@ module _ (T : Table) (marks : Bool) (At : Outline) (d : Discipline T marks At) (
         | inr y ↦ ap (λ (l : Local). l.used) (put_other s t u (T.begin call (local_of s t)) y)
       ]
 
-  moves : (k : ℕ) (s : State) (first : ℕ → ℕ) (done : ℕ → Bool) (t : ℕ) → Inv marks At (sizes op) vs k s first done → Enabled s (Go t)
+  moves : (k : ℕ) (s : State) (first : ℕ → ℕ) (done : ℕ → Bool) (t : ℕ) → Inv marks At (sizes op) vs k s first done →
+      Enabled s (Go t)
       → StepOf T marks At (sizes op) t vs first k s.words (used_in s) done (local_of s)
   moves k s first done t i en = d.goes (sizes op) t vs first k s.words (used_in s) done (local_of s)
-      (record { limits = lim.within; memory = i.memory; course = i.course; present = i.present }) i.threads (rw i.locals at en.0) en.1
+      (record { limits = lim.within; memory = i.memory; course = i.course; present = i.present }) i.threads (rw i.locals at en.0)
+      en.1
 
   -- the state after a step
   module _ (k : ℕ) (s : State) (first : ℕ → ℕ) (done : ℕ → Bool) (t : ℕ) (i : Inv marks At (sizes op) vs k s first done)
@@ -265,7 +273,8 @@ module _ (T : Table) (marks : Bool) (At : Outline) (d : Discipline T marks At) (
     used_at u = elim (same_or_not u t) [
       | inl y ↦ subst (λ z. used_in (after T s (Go t)) z ≡ m.used' z) (sym y) (ap (λ (l : Local). l.used) local_is ∙ m.counts)
       | inr y ↦ ap (λ (l : Local). l.used) (local_other u y)
-          ∙ sym (others_counted marks (sizes op) s.words (used_in s) i.memory t th u y m.action m.words' m.used' m.effect m.change)
+          ∙ sym (others_counted marks (sizes op) s.words (used_in s) i.memory t th u y m.action m.words' m.used' m.effect
+          m.change)
     ]
 
     used_is : used_in (after T s (Go t)) ≡ m.used'
@@ -293,12 +302,14 @@ module _ (T : Table) (marks : Bool) (At : Outline) (d : Discipline T marks At) (
           locals = length-set s.locals t (T.feed (local_of s t) (seen_next T s t)).local ∙ i.locals;
           course = course_more vs k i.course (subst (λ x. KeepsNodes x (vs (suc k))) (sym i.present)
               (subst (λ x. KeepsNodes (view_of (sizes op) s) x) (sym now_is) g))
-              (subst (λ x. KeepsMarked x (vs (suc k))) (sym i.present) (subst (λ x. KeepsMarked (view_of (sizes op) s) x) (sym now_is)
+              (subst (λ x. KeepsMarked x (vs (suc k))) (sym i.present)
+              (subst (λ x. KeepsMarked (view_of (sizes op) s) x) (sym now_is)
               (marked_stays marks (view_of (sizes op) s) (view (sizes op) m.words' m.used') i.memory.ordered m.effect move')))
               (subst (λ x. IsOrdered x) (sym now_is) memory'.ordered);
           present = e;
           threads = λ u h. elim (same_or_not u t) [
-            | inl y ↦ (let x : Thread At (sizes op) t vs (first t) k s.words (used_in s) (done t) (local_of s t) = i.threads t th in
+            | inl y ↦ (let x : Thread At (sizes op) t vs (first t) k s.words (used_in s) (done t) (local_of s t) =
+                i.threads t th in
                 let at_t : Thread At (sizes op) t vs (first t) (suc k) m.words' m.used' (done t || is_change m.effect)
                 m.local' = record {
                   registers = m.registers;
@@ -312,7 +323,8 @@ module _ (T : Table) (marks : Bool) (At : Outline) (d : Discipline T marks At) (
                 (thread_to t (suc k) words_are used_is refl
                 (pick_yes (t == t) (done t || is_change (T.effect (local_of s t) (seen_next T s t))) (done t)
                 (equal_test t t refl) ∙ ap (λ c. done t || is_change c) told_is) local_is at_t))
-            | inr y ↦ (let x : Thread At (sizes op) u vs (first u) k s.words (used_in s) (done u) (local_of s u) = i.threads u h in
+            | inr y ↦ (let x : Thread At (sizes op) u vs (first u) k s.words (used_in s) (done u) (local_of s u) =
+                i.threads u h in
                 let c : m.used' u ≡ used_in s u = others_counted marks (sizes op) s.words (used_in s) i.memory t th u y
                 m.action m.words' m.used' m.effect m.change in
                 thread_to u (suc k) words_are used_is refl
@@ -340,8 +352,10 @@ module _ (T : Table) (marks : Bool) (At : Outline) (d : Discipline T marks At) (
         (T.effect (local_of s t) (seen_next T s t))) (has_changed (log_of T op es) t k) (equal_test t t refl)
         ∙ ap (λ c. has_changed (log_of T op es) t k || is_change c) told_is ∙ ap (λ b. b || is_change m.effect) (sym de)) in
         record {
-          in_table = rw m.acts (named_in marks (sizes op) s.words (used_in s) i.memory t th m.action m.words' m.used' m.effect m.change);
-          lock_use = rw m.acts (lock_use marks (sizes op) s.words (used_in s) i.memory t th m.action m.words' m.used' m.effect m.change);
+          in_table = rw m.acts (named_in marks (sizes op) s.words (used_in s) i.memory t th m.action m.words' m.used' m.effect
+              m.change);
+          lock_use = rw m.acts (lock_use marks (sizes op) s.words (used_in s) i.memory t th m.action m.words' m.used' m.effect
+              m.change);
           same_call = ap (λ f. f.local.call) fed ∙ m.same_call;
           content = subst (λ c. Changed c (views T op es k) (views T op es (suc k))) (sym told_is)
               (subst (λ v. Changed m.effect v (views T op es (suc k))) (sym was)

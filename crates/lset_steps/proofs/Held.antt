@@ -1,9 +1,11 @@
 -- What the holder of node locks knows of the nodes that it has locked, and what it may do to them: for every list whose links are
 -- written under node locks.
-use Rattle.std.specs.Prelude.{◌≡◌, ◌≢◌, ℕ, ◌+◌, ◌*◌, ◌/◌, ◌%◌, ◌<◌, ◌≤◌, ◌⊎◌, Bool, true, false, Option, Some, None, List, [], ◌==◌, nat_lt, slice_set, refl}
+use Rattle.std.specs.Prelude.{◌≡◌, ◌≢◌, ℕ, ◌+◌, ◌*◌, ◌/◌, ◌%◌, ◌<◌, ◌≤◌, ◌⊎◌, Bool, true, false, Option, Some, None, List, []}
+use Rattle.std.specs.Prelude.{◌==◌, nat_lt, slice_set, refl}
 use Rattle.std.proofs.Common.{arith, inl, inr, sym, ◌∙◌, ap}
 use Rattle.lset_words.proofs.Numbers.{same_number, other_number, lower_number, not_lower_number}
-use Rattle.lset_words.specs.Words.{key_index, link_index, lock_index, tail_word, node_count, word_count, slot_node, target, key_of, Sizes}
+use Rattle.lset_words.specs.Words.{key_index, link_index, lock_index, tail_word, node_count, word_count, slot_node, target}
+use Rattle.lset_words.specs.Words.{key_of, Sizes}
 use Rattle.lset_words.specs.declared.Call.{Call}
 use Rattle.lset_words.specs.declared.Key.{Key}
 use Rattle.lset_words.specs.declared.Reply.{Reply}
@@ -13,7 +15,10 @@ use Rattle.lset_steps.specs.declared.Action.TheVariants.{Load, Store, Exchange}
 use Rattle.lset_steps.specs.declared.rows.Targets.{Targets}
 use Rattle.lset_steps.specs.Chain.{View, view, InChain, InContent, FitsIn, node_key, node_link, node_lock}
 use Rattle.lset_steps.specs.Laws.{IsLockWord}
-use Rattle.lset_steps.proofs.Memory.{WordStep, Memory, reads, fails, takes, gives, own_key, own_link, puts, sets_mark, cuts, drops, own_of, one_more, lock_after_link, link_after_link, key_after_link, lock_after_key, link_after_key, key_after_key, lock_after_lock, link_after_lock, key_after_lock, no_own, inner, apart, at_lock, at_own_key, at_own_link}
+use Rattle.lset_steps.proofs.Memory.{WordStep, Memory, reads, fails, takes, gives, own_key, own_link, puts, sets_mark, cuts}
+use Rattle.lset_steps.proofs.Memory.{drops, own_of, one_more, lock_after_link, link_after_link, key_after_link, lock_after_key}
+use Rattle.lset_steps.proofs.Memory.{link_after_key, key_after_key, lock_after_lock, link_after_lock, key_after_lock, no_own}
+use Rattle.lset_steps.proofs.Memory.{inner, apart, at_lock, at_own_key, at_own_link}
 use Rattle.lset_steps.proofs.QuietMove.{in_chain_published, quiet_keeps, chain_before, chain_on}
 use Rattle.lset_steps.proofs.Rely.{Rely, Guarded}
 use Rattle.lset_steps.specs.Rows.{decided_on, goes_to}
@@ -107,7 +112,8 @@ module _ {v w : View} {q t : ℕ} (r : Rely v w q t) where
   own_link_on x room e = rw r.used (r.own_link room ∙ e)
 
 -- STEPS: each writes links of the chain under their locks alone
-abbrev pub LockedStep : (marks : Bool) (sz : Sizes) (t : ℕ) (ws : List ℕ) (used : ℕ → ℕ) (a : Action) (ws' : List ℕ) (used' : ℕ → ℕ)
+abbrev pub LockedStep : (marks : Bool) (sz : Sizes) (t : ℕ) (ws : List ℕ) (used : ℕ → ℕ) (a : Action) (ws' : List ℕ) (used' : ℕ →
+    ℕ)
     (change : Option (Key × Bool)) → Type 0
 LockedStep marks sz t ws used a ws' used' change =
     (c : WordStep marks sz t ws used a ws' used' change) × Guarded marks sz t ws used a ws' used' change c
@@ -205,9 +211,11 @@ module _ {marks : Bool} {sz : Sizes} {ws : List ℕ} {used : ℕ → ℕ} (m : M
   -- in a list that marks: the mark, and the node with a mark left out
   pub marks_between : {pred curr : ℕ} {op : Call} (x : ℕ) → marks ≡ true → Between (view sz ws used) t (target op) pred curr
       → Removing (view sz ws used) curr op → node_link ws curr % 2 ≡ 0 → x ≡ node_link ws curr + 1 → target op < tail_word
-      → LockedStep marks sz t ws used (Store (link_index curr) x) (slice_set ws (link_index curr) x) used (Some (key_of op, false))
+      → LockedStep marks sz t ws used (Store (link_index curr) x) (slice_set ws (link_index curr) x) used
+      (Some (key_of op, false))
   marks_between {pred} {curr} {op} x lists b a even is low = (
-    sets_mark (Store (link_index curr) x) curr x (key_of op) lists (inl refl) (in_chain b.walk) (found_no_tail m a low) even is a.found,
+    sets_mark (Store (link_index curr) x) curr x (key_of op) lists (inl refl) (in_chain b.walk) (found_no_tail m a low) even is
+        a.found,
     b.mine,
   )
 
@@ -223,7 +231,8 @@ module _ {marks : Bool} {sz : Sizes} {ws : List ℕ} {used : ℕ → ℕ} (m : M
   -- THE DECISION on the key word of curr: a reply that fits now, or what the rows that add or remove need
   pub decides : {pred curr : ℕ} (rows : Targets) (c : ℕ) (l : Local) → Behind (view sz ws used) t (target l.call) pred curr
       → node_link ws curr % 2 ≡ 0
-      → c ≡ node_key ws curr → target l.call ≤ c → target l.call < tail_word → used t ≤ sz.quota → l.used ≡ used t → l.quota ≡ sz.quota
+      → c ≡ node_key ws curr → target l.call ≤ c → target l.call < tail_word → used t ≤ sz.quota → l.used ≡ used t →
+      l.quota ≡ sz.quota
       → ((r : Reply) × (decided_on rows c l ≡ goes_to rows.leaves (Some r) l) × FitsIn sz.quota (view sz ws used) t l.call r)
       ⊎ ((decided_on rows c l ≡ goes_to rows.adds None l) × Adding (view sz ws used) t sz.quota curr l.call)
       ⊎ ((decided_on rows c l ≡ goes_to rows.removes None l) × Removing (view sz ws used) curr l.call)
@@ -242,7 +251,8 @@ module _ {marks : Bool} {sz : Sizes} {ws : List ℕ} {used : ℕ → ℕ} (m : M
       (rw half (omega arith))) in
       let full : nat_lt l.used l.quota ≡ false
       → used t ≡ sz.quota = λ y. (let z : l.quota ≤ l.used = not_lower_number l.used l.quota y in omega arith) in
-      let over = ceiling_fits sz.quota t (view sz ws used) pred c (key_of l.call) m.ordered m.head_key m.tail_key b.held.at b.inner b.below
+      let over = ceiling_fits sz.quota t (view sz ws used) pred c (key_of l.call) m.ordered m.head_key m.tail_key b.held.at
+      b.inner b.below
       (is ∙ ap (node_key ws) (sym half)) above (λ x. ap (λ a. node_link ws a % 2) half ∙ even) in
       elim (decided_cases rows.adds rows.removes rows.leaves sz.quota t (view sz ws used) l.call (c == k)
       (nat_lt l.used l.quota) c l hit miss full over) [

@@ -62,6 +62,7 @@ module _ (T : Table) (law : Lawful T) (op : Opening) (es : ℕ → Event) (last 
       lock_left (state_at T op es k).words x t (T.next (local_of (state_at T op es k) t)) i (rw o.words h) st.lock_use
 
   pub lock_word : (k : ℕ) → k ≤ last → slice_index (state_at T op es k).words x ≡ holder T op es x k
-  lock_word zero l = get_or-map-range_with_len (opening_word op) 0 (word_count (sizes op)) x x 0 h (omega arith) ∙ opens_free op x i
+  lock_word zero l = get_or-map-range_with_len (opening_word op) 0 (word_count (sizes op)) x x 0 h (omega arith)
+      ∙ opens_free op x i
   lock_word (suc k) l = held_step k (omega arith) (es k) refl
       ∙ ap (λ z. held_after T (state_at T op es k) x z (es k)) (lock_word k (omega arith))

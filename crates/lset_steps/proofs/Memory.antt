@@ -1,9 +1,11 @@
 -- What a step may do to the words, and what it leaves.
-use Rattle.std.specs.Prelude.{◌≡◌, ◌≢◌, ℕ, ◌+◌, ◌*◌, ◌/◌, ◌%◌, ◌<◌, ◌≤◌, ◌⊎◌, Bool, true, false, Option, Some, None, List, [], slice_index, slice_set, length, refl, if◌then◌else◌, ◌==◌}
+use Rattle.std.specs.Prelude.{◌≡◌, ◌≢◌, ℕ, ◌+◌, ◌*◌, ◌/◌, ◌%◌, ◌<◌, ◌≤◌, ◌⊎◌, Bool, true, false, Option, Some, None, List, []}
+use Rattle.std.specs.Prelude.{slice_index, slice_set, length, refl, if◌then◌else◌, ◌==◌}
 use Rattle.std.proofs.Common.{arith, inl, inr, sym, ◌∙◌, ap, subst, get_or-set_other, get_or-set_same, length-set}
 use Rattle.std.proofs.lemmas.Bool.Decides.{nat_tests}
 use Rattle.lset_words.proofs.Numbers.{same_or_not, if_same, if_other}
-use Rattle.lset_words.specs.Words.{key_index, link_index, lock_index, tail_word, node_count, word_count, slot_node, opening_node, key_word_of, Sizes}
+use Rattle.lset_words.specs.Words.{key_index, link_index, lock_index, tail_word, node_count, word_count, slot_node, opening_node}
+use Rattle.lset_words.specs.Words.{key_word_of, Sizes}
 use Rattle.lset_words.specs.declared.Key.{Key}
 use Rattle.lset_steps.specs.declared.Action.{Action}
 use Rattle.lset_steps.specs.declared.Action.TheVariants.{Load, Store, Exchange}
@@ -112,7 +114,8 @@ pub data WordStep (marks : Bool) (sz : Sizes) (t : ℕ) (ws : List ℕ) (used : 
       → InChain (view sz ws used) p → p ≢ 1 → node_link ws p ≡ 2 * c
       → used t < sz.quota → node_link ws (own_of sz.quota t used) ≡ 2 * c → node_key ws (own_of sz.quota t used) ≡ key_word_of k
       → node_key ws p < key_word_of k → key_word_of k < node_key ws c
-      → WordStep marks sz t ws used a (slice_set ws (link_index p) (2 * own_of sz.quota t used)) (one_more used t) (Some (k, true))
+      → WordStep marks sz t ws used a (slice_set ws (link_index p) (2 * own_of sz.quota t used)) (one_more used t)
+      (Some (k, true))
   sets_mark : (a : Action) (c x : ℕ) (k : Key) → marks ≡ true → Writes ws a (link_index c) x
       → InChain (view sz ws used) c → c ≢ 1
       → node_link ws c % 2 ≡ 0 → x ≡ node_link ws c + 1 → node_key ws c ≡ key_word_of k
@@ -221,9 +224,16 @@ grown sz t used i (inr (inl h)) = inr (inl (
 ))
 
 own_shown : (sz : Sizes) (t : ℕ) (used : ℕ → ℕ) → t < sz.threads → Published sz (one_more used t) (own_of sz.quota t used)
-own_shown sz t used h = inr (inl (t, used t, h, (let z : one_more used t t ≡ used t + 1 = one_more_same used t in omega arith), refl))
+own_shown sz t used h = inr (inl (
+  t,
+  used t,
+  h,
+  (let z : one_more used t t ≡ used t + 1 = one_more_same used t in omega arith),
+  refl,
+))
 
-grown_from : (sz : Sizes) (t : ℕ) (used : ℕ → ℕ) (i : ℕ) → Published sz (one_more used t) i → Published sz used i ⊎ (i ≡ own_of sz.quota t used)
+grown_from : (sz : Sizes) (t : ℕ) (used : ℕ → ℕ) (i : ℕ) → Published sz (one_more used t) i → Published sz used i
+    ⊎ (i ≡ own_of sz.quota t used)
 grown_from sz t used i (inl h) = inl (inl h)
 grown_from sz t used i (inr (inr h)) = inl (inr (inr h))
 grown_from sz t used i (inr (inl h)) = elim (same_or_not h.0 t) [
@@ -273,7 +283,8 @@ module _ (marks : Bool) (sz : Sizes) (ws : List ℕ) (used : ℕ → ℕ) (m : M
     published_from = λ i p. p;
   }
 
-  pub at_own_key : (x : ℕ) → used t < sz.quota → Quiet (view sz ws used) (view sz (slice_set ws (key_index (own_of sz.quota t used)) x) used)
+  pub at_own_key : (x : ℕ) → used t < sz.quota →
+      Quiet (view sz ws used) (view sz (slice_set ws (key_index (own_of sz.quota t used)) x) used)
   at_own_key x r = record {
     keys = λ i p. key_after_key ws (own_of sz.quota t used) x i (no_own marks sz ws used m t i h r p);
     links = λ i p. link_after_key ws (own_of sz.quota t used) x i;
@@ -462,7 +473,8 @@ module _ (marks : Bool) (sz : Sizes) (ws : List ℕ) (used : ℕ → ℕ) (m : M
   room_after u k a ws' used' ch (own_link c r) = m.room u k
   room_after u k a ws' used' ch (puts b p c y w at nt follows r ready key above under) = elim (same_or_not u t) [
     | inl e ↦ (let z : one_more used t u ≡ used t + 1 = rw e (one_more_same used t) in omega arith)
-    | inr e ↦ (let z : one_more used t u ≡ used u = one_more_other used t u e in let y : used u ≤ sz.quota = m.room u k in omega arith)
+    | inr e ↦ (let z : one_more used t u ≡ used u = one_more_other used t u e in let y : used u ≤ sz.quota = m.room u k in
+        omega arith)
   ]
   room_after u k a ws' used' ch (sets_mark b c x y v w at inn even is key) = m.room u k
   room_after u k a ws' used' ch (cuts b p c d w at first inn follows next) = m.room u k
@@ -501,7 +513,8 @@ module _ (marks : Bool) (sz : Sizes) (ws : List ℕ) (used : ℕ → ℕ) (m : M
       even_link (own_of sz.quota t used) (2 * c) i (own_in marks sz ws used m t h r) (omega arith) (m.unmarked bare i l)
   unmarked_after bare i l a ws' used' ch (puts b p c k w at nt follows r ready key above under) =
       even_link p (2 * own_of sz.quota t used) i (chain_in marks sz ws used m p at) (omega arith) (m.unmarked bare i l)
-  unmarked_after bare i l a ws' used' ch (sets_mark b c x k y w at inn even is key) = absurd (let e : true ≡ false = sym y ∙ bare in cc)
+  unmarked_after bare i l a ws' used' ch (sets_mark b c x k y w at inn even is key) =
+      absurd (let e : true ≡ false = sym y ∙ bare in cc)
   unmarked_after bare i l a ws' used' ch (cuts b p c d w at first inn follows next) =
       even_link p (2 * d) i (chain_in marks sz ws used m p at) (omega arith) (m.unmarked bare i l)
   unmarked_after bare i l a ws' used' ch (drops b p c d k y w at first inn follows next key) =

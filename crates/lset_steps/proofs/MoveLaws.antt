@@ -6,9 +6,11 @@ use Rattle.lset_steps.specs.Chain.{View, InChain, IsOrdered, Changed, UnmarkedIn
 use Rattle.lset_steps.proofs.Moves.{KeepsNodes, Move}
 use Rattle.lset_steps.proofs.Moves.Move.{quiet, inserts, sets, clears, removes}
 use Rattle.lset_steps.proofs.QuietMove.{quiet-ordered, quiet-goes, quiet_keeps, quiet_content, quiet_back}
-use Rattle.lset_steps.proofs.InsertMove.{insert-ordered, insert-goes, insert_keeps, insert_own, insert_absent, insert_has, insert_adds, insert_only, insert_mark}
+use Rattle.lset_steps.proofs.InsertMove.{insert-ordered, insert-goes, insert_keeps, insert_own, insert_absent, insert_has}
+use Rattle.lset_steps.proofs.InsertMove.{insert_adds, insert_only, insert_mark}
 use Rattle.lset_steps.proofs.MarkMove.{mark-ordered, mark-goes, mark_keeps, mark_present, mark_absent, mark_others, mark_only}
-use Rattle.lset_steps.proofs.UnlinkMove.{unlink-ordered, unlink-goes, unlink_keeps, unlink_curr, unlink_only, unlink_others, unlink_absent, unlink_mark}
+use Rattle.lset_steps.proofs.UnlinkMove.{unlink-ordered, unlink-goes, unlink_keeps, unlink_curr, unlink_only, unlink_others}
+use Rattle.lset_steps.proofs.UnlinkMove.{unlink_absent, unlink_mark}
 
 module _ (marks : Bool) (v w : View) (ord : IsOrdered v) where
   pub move-ordered : (ch : Option (Key × Bool)) → Move marks v w ch → IsOrdered w

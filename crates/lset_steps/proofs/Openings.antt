@@ -1,12 +1,15 @@
 -- The opening world: its chain is the head, the nodes of the opening keys and the tail, and its content are these keys.
-use Rattle.std.specs.Prelude.{◌≡◌, ◌≢◌, ℕ, zero, suc, ◌+◌, ◌*◌, ◌-◌, ◌/◌, ◌%◌, ◌^◌, ◌<◌, ◌≤◌, ◌⊎◌, Bool, true, false, List, [], ◌∷◌, length, slice_index, refl, if◌then◌else◌, ◌==◌, nat_lt, Contains, All}
+use Rattle.std.specs.Prelude.{◌≡◌, ◌≢◌, ℕ, zero, suc, ◌+◌, ◌*◌, ◌-◌, ◌/◌, ◌%◌, ◌^◌, ◌<◌, ◌≤◌, ◌⊎◌, Bool, true, false, List, []}
+use Rattle.std.specs.Prelude.{◌∷◌, length, slice_index, refl, if◌then◌else◌, ◌==◌, nat_lt, Contains, All}
 use Rattle.std.specs.List.Sorted.{IsStrictlyIncreasing}
 use Rattle.std.proofs.Common.{arith, inl, inr, sym, ◌∙◌, ap, subst}
 use Rattle.std.proofs.lemmas.List.{get_or_default}
 use Rattle.std.proofs.lemmas.List.FromFn.{get_or-map-range_with_len, length-map-range_with_len}
 use Rattle.std.proofs.lemmas.List.Elements.{Contains-get_or}
-use Rattle.lset_words.proofs.Numbers.{same_or_not, below_or_not, equal_test, unequal_test, if_same, if_other, if_below, if_not_below}
-use Rattle.lset_words.specs.Words.{key_index, link_index, lock_index, tail_word, word_count, node_count, slot_node, opening_node, Sizes, Opening, Opens, sizes}
+use Rattle.lset_words.proofs.Numbers.{same_or_not, below_or_not, equal_test, unequal_test, if_same, if_other, if_below}
+use Rattle.lset_words.proofs.Numbers.{if_not_below}
+use Rattle.lset_words.specs.Words.{key_index, link_index, lock_index, tail_word, word_count, node_count, slot_node, opening_node}
+use Rattle.lset_words.specs.Words.{Sizes, Opening, Opens, sizes}
 use Rattle.lset_steps.specs.declared.Local.{Local}
 use Rattle.lset_steps.specs.Steps.{State, opening, opening_word, opening_key, opening_link, opening_next, idle, local_of}
 use Rattle.lset_steps.specs.Chain.{View, Published, InChain, InContent, IsOrdered, UnmarkedInChain, node_key, node_link}
@@ -136,7 +139,8 @@ module _ (op : Opening) where
   half_opening : (i : ℕ) → i < length op.keys
       → node_link (opening op).words (opening_node (sizes op) i) / 2 ≡ opening_next (sizes op) (suc i)
   half_opening i h =
-      let e : node_link (opening op).words (opening_node (sizes op) i) ≡ 2 * opening_next (sizes op) (suc i) = link_of_opening i h in
+      let e : node_link (opening op).words (opening_node (sizes op) i) ≡ 2 * opening_next (sizes op) (suc i) =
+      link_of_opening i h in
       omega arith
 
 module _ (op : Opening) (o : Opens op) where
@@ -152,7 +156,8 @@ module _ (op : Opening) (o : Opens op) where
   -- the key of the next node is above 0, and above that of the node before it
   above_head : node_key (opening op).words 0 < node_key (opening op).words (node_link (opening op).words 0 / 2)
   above_head = rw (head_key op, half_head op) (elim (below_or_not 0 (length op.keys)) [
-    | inl h ↦ (let e : node_key (opening op).words (opening_next (sizes op) 0) ≡ slice_index op.keys 0 + 1 = key_more 0 h in omega arith)
+    | inl h ↦ (let e : node_key (opening op).words (opening_next (sizes op) 0) ≡ slice_index op.keys 0 + 1 = key_more 0 h in
+        omega arith)
     | inr h ↦ (let e : node_key (opening op).words (opening_next (sizes op) 0) ≡ tail_word = key_last 0 h in omega arith)
   ])
 
@@ -160,7 +165,8 @@ module _ (op : Opening) (o : Opens op) where
       → node_key (opening op).words (opening_node (sizes op) i)
       < node_key (opening op).words (node_link (opening op).words (opening_node (sizes op) i) / 2)
   above_opening i h = rw (key_of_opening op i h, half_opening op i h) (elim (below_or_not (suc i) (length op.keys)) [
-    | inl l ↦ (let e : node_key (opening op).words (opening_next (sizes op) (suc i)) ≡ slice_index op.keys (suc i) + 1 = key_more (suc i) l in
+    | inl l ↦ (let e : node_key (opening op).words (opening_next (sizes op) (suc i)) ≡ slice_index op.keys (suc i) + 1 =
+        key_more (suc i) l in
         let g : suc i ≡ i + 1 = omega arith in
         let u : slice_index op.keys i < slice_index op.keys (suc i) =
         subst (λ j. slice_index op.keys i < slice_index op.keys j) (sym g) (o.rising i (omega arith)) in omega arith)
@@ -174,7 +180,8 @@ module _ (op : Opening) (o : Opens op) where
     tail_published = inl (omega arith);
     top = λ a m. rw (tail_key op) (at_each op (λ x. node_key (opening op).words x ≤ tail_word) (rw (head_key op) (omega arith))
         (rw (tail_key op) (omega arith))
-        (λ i h. (let e : node_key (opening op).words (opening_node (sizes op) i) ≡ slice_index op.keys i + 1 = key_of_opening op i h in
+        (λ i h. (let e : node_key (opening op).words (opening_node (sizes op) i) ≡ slice_index op.keys i + 1 =
+        key_of_opening op i h in
         let u : slice_index op.keys i < 2 ^ 32 = low i h in omega arith)) a m);
     next_published = λ a m d. elim (one_of op a m) [
       | inl e ↦ subst (λ x. Published (sizes op) (used_in (opening op)) (node_link (opening op).words x / 2)) (sym e)
@@ -186,11 +193,13 @@ module _ (op : Opening) (o : Opens op) where
       ]
     ];
     rises = λ a m d. elim (one_of op a m) [
-      | inl e ↦ subst (λ x. node_key (opening op).words x < node_key (opening op).words (node_link (opening op).words x / 2)) (sym e)
+      | inl e ↦ subst (λ x. node_key (opening op).words x < node_key (opening op).words (node_link (opening op).words x / 2))
+          (sym e)
           above_head
       | inr r ↦ elim r [
         | inl e ↦ absurd (d e)
-        | inr p ↦ subst (λ x. node_key (opening op).words x < node_key (opening op).words (node_link (opening op).words x / 2)) (sym p.2)
+        | inr p ↦ subst (λ x. node_key (opening op).words x < node_key (opening op).words (node_link (opening op).words x / 2))
+            (sym p.2)
             (above_opening p.0 p.1)
       ]
     ];
@@ -198,13 +207,17 @@ module _ (op : Opening) (o : Opens op) where
 
   -- each of them is in the chain
   chain_next : (i : ℕ) → InChain (view_of (sizes op) (opening op)) (opening_next (sizes op) i)
-  chain_next zero = chain_on (view_of (sizes op) (opening op)) 0 (opening_next (sizes op) 0) (opening_next (sizes op) 0) [] ([], refl)
+  chain_next zero = chain_on (view_of (sizes op) (opening op)) 0 (opening_next (sizes op) 0) (opening_next (sizes op) 0) [] (
+    [],
+    refl,
+  )
       (omega arith) (half_head op) refl
   chain_next (suc i) = elim (below_or_not i (length op.keys)) [
     | inl h ↦ chain_on (view_of (sizes op) (opening op)) (opening_node (sizes op) i) (opening_next (sizes op) (suc i))
         (opening_next (sizes op) (suc i)) [] (subst (InChain (view_of (sizes op) (opening op))) (next_more op i h) (chain_next i))
         (omega arith) (half_opening op i h) refl
-    | inr h ↦ subst (InChain (view_of (sizes op) (opening op))) (next_last op i h ∙ sym (next_last op (suc i) (omega arith))) (chain_next i)
+    | inr h ↦ subst (InChain (view_of (sizes op) (opening op))) (next_last op i h ∙ sym (next_last op (suc i) (omega arith)))
+        (chain_next i)
   ]
 
   chain_opening : (i : ℕ) → i < length op.keys → InChain (view_of (sizes op) (opening op)) (opening_node (sizes op) i)
@@ -229,7 +242,8 @@ module _ (op : Opening) (o : Opens op) where
 
   opening_marked : (marks : Bool) → UnmarkedInChain marks (view_of (sizes op) (opening op))
   opening_marked true = λ a m e. at_each op (InChain (view_of (sizes op) (opening op))) ([], refl)
-      (subst (InChain (view_of (sizes op) (opening op))) (next_last op (length op.keys) (omega arith)) (chain_next (length op.keys)))
+      (subst (InChain (view_of (sizes op) (opening op))) (next_last op (length op.keys) (omega arith))
+      (chain_next (length op.keys)))
       chain_opening a m
   opening_marked false = λ a m. at_each op (λ x. node_link (opening op).words x % 2 ≡ 0) (even_each 0 (omega arith))
       (even_each 1 (omega arith)) (λ i h. even_each (opening_node (sizes op) i) (omega arith)) a m

@@ -1,5 +1,6 @@
 -- That every lawful machine keeps the promises.
-use Rattle.std.specs.Prelude.{◌≡◌, ◌≢◌, ℕ, suc, ◌+◌, ◌/◌, ◌<◌, ◌≤◌, ◌⊎◌, Bool, true, false, if◌then◌else◌, ◌==◌, List, [], ◌∷◌, ◌++◌, map, Some, length, refl}
+use Rattle.std.specs.Prelude.{◌≡◌, ◌≢◌, ℕ, suc, ◌+◌, ◌/◌, ◌<◌, ◌≤◌, ◌⊎◌, Bool, true, false, if◌then◌else◌, ◌==◌, List, [], ◌∷◌}
+use Rattle.std.specs.Prelude.{◌++◌, map, Some, length, refl}
 use Rattle.std.proofs.Common.{arith, inl, inr, sym, ap, subst}
 use Rattle.lset_words.specs.declared.Call.{Call}
 use Rattle.lset_words.specs.declared.Call.TheVariants as call
@@ -21,7 +22,10 @@ use Rattle.lset_steps.proofs.ContentLists.{chain_is}
 use Rattle.lset_steps.proofs.RunContents.{ContentList, content_at}
 use Rattle.lset_steps.proofs.RunAccount.{account_of}
 use Rattle.lset_steps.proofs.LockWords.{lock_word}
-use Rattle.lset_steps.specs.Promises.{FrozenNodes, NoLinkIsMarked, InRange, ThreadInRange, SortedChain, ChainIsSorted, LockWords, LockUses, UnlinkedNodesStay, SeenInThePast, UnmarkedNodesInChain, ChangeIsNamed, NamedChange, RepliesFit, IsContains, TrueMeansChange, HasAccount, ContentIsListed, ListedContent}
+use Rattle.lset_steps.specs.Promises.{FrozenNodes, NoLinkIsMarked, InRange, ThreadInRange, SortedChain, ChainIsSorted, LockWords}
+use Rattle.lset_steps.specs.Promises.{LockUses, UnlinkedNodesStay, SeenInThePast, UnmarkedNodesInChain, ChangeIsNamed}
+use Rattle.lset_steps.specs.Promises.{NamedChange, RepliesFit, IsContains, TrueMeansChange, HasAccount, ContentIsListed}
+use Rattle.lset_steps.specs.Promises.{ListedContent}
 
 -- the run goes on with a step of a thread with an open call
 module _ (T : Table) (law : Lawful T) (op : Opening) (last k t : ℕ) (es : ℕ → Event) (r : Run T op es last) (l : k ≤ last)
@@ -82,7 +86,8 @@ sorted_of : (v : View) → IsOrdered v → (c : (ns : List ℕ) × IsChain v ns)
 sorted_of v ord c = record {
   nodes = c.0;
   chain = c.1;
-  rising = λ k l. increasing_from_rises (v.key 0) (map v.key (c.0 ++ 1 ∷ [])) (chain_rises v ord 0 c.0 ord.head_published c.1) k l;
+  rising = λ k l. increasing_from_rises (v.key 0) (map v.key (c.0 ++ 1 ∷ [])) (chain_rises v ord 0 c.0 ord.head_published c.1) k
+      l;
 }
 
 pub sorted_chain_of : (T : Table) → Lawful T → SortedChain T

@@ -1,5 +1,6 @@
 -- That a contains is bounded: the keys that it reads rise, so no node is met twice, and there are only so many nodes.
-use Rattle.std.specs.Prelude.{◌≡◌, ◌≢◌, ℕ, ◌+◌, ◌*◌, ◌/◌, ◌%◌, ◌<◌, ◌≤◌, ◌⊎◌, Bool, true, false, if◌then◌else◌, ◌==◌, slice_set, slice_index_or, length, refl}
+use Rattle.std.specs.Prelude.{◌≡◌, ◌≢◌, ℕ, ◌+◌, ◌*◌, ◌/◌, ◌%◌, ◌<◌, ◌≤◌, ◌⊎◌, Bool, true, false, if◌then◌else◌, ◌==◌, slice_set}
+use Rattle.std.specs.Prelude.{slice_index_or, length, refl}
 use Rattle.std.proofs.Common.{arith, inl, inr, sym, ◌∙◌, ap, subst, zero, suc, get_or-set_other, get_or-set_same}
 use Rattle.std.proofs.lemmas.List.FromFn.{get_or-map-range_with_len}
 use Rattle.lset_words.proofs.Numbers.{same_or_not, below_or_not, if_same, if_other, if_below, if_not_below}
@@ -254,12 +255,15 @@ module _ (T : Table) (law : Lawful T) (rows : HasReadRows T) (op : Opening) wher
         rows.feeds L (seen_next T s t) (inr (inr (inl e))) ∙ (rw e refl) in
         let x : ℕ = seen_next T s t in
         elim (same_or_not (x % 2) 0) [
-          | inl y ↦ goes_to (leaves_with True L) (feeds ∙ if_same (x % 2) 0 y (leaves_with True L) (leaves_with False L)) (resting refl)
-          | inr y ↦ goes_to (leaves_with False L) (feeds ∙ if_other (x % 2) 0 y (leaves_with True L) (leaves_with False L)) (resting refl)
+          | inl y ↦ goes_to (leaves_with True L) (feeds ∙ if_same (x % 2) 0 y (leaves_with True L) (leaves_with False L))
+              (resting refl)
+          | inr y ↦ goes_to (leaves_with False L) (feeds ∙ if_other (x % 2) 0 y (leaves_with True L) (leaves_with False L))
+              (resting refl)
         ]
 
   -- a begin
-  starts : (s : State) (o : StateLaws T.marks (sizes op) s) (call : Call) (l : Local) → Walked (view_of (sizes op) s) size 0 (T.begin call l)
+  starts : (s : State) (o : StateLaws T.marks (sizes op) s) (call : Call) (l : Local) →
+      Walked (view_of (sizes op) s) size 0 (T.begin call l)
   starts s o (Add k) l = writing (λ r. subst IsRead (law.begins (Add k) l).called r)
   starts s o (Remove k) l = writing (λ r. subst IsRead (law.begins (Remove k) l).called r)
   starts s o (Contains k) l =
@@ -267,9 +271,11 @@ module _ (T : Table) (law : Lawful T) (rows : HasReadRows T) (op : Opening) wher
       let head : (view_of (sizes op) s).key 0 ≡ 0 = o.head_key in
       subst (λ (x : Local). Walked (view_of (sizes op) s) size 0 x) (sym (rows.begins (Contains k) l))
       (before_link refl o.ordered.head_published (omega arith) 1
-      (tally_more 0 o.ordered.head_published (omega arith) (tally_none (view_of (sizes op) s) size ((view_of (sizes op) s).key 0))) refl)
+      (tally_more 0 o.ordered.head_published (omega arith)
+      (tally_none (view_of (sizes op) s) size ((view_of (sizes op) s).key 0))) refl)
   starts s o (Ceiling k) l =
-      subst (λ (x : Local). Walked (view_of (sizes op) s) size 0 x) (sym (rows.begins (Ceiling k) l)) (searching (λ r. r) (inl refl))
+      subst (λ (x : Local). Walked (view_of (sizes op) s) size 0 x) (sym (rows.begins (Ceiling k) l))
+      (searching (λ r. r) (inl refl))
 
   module _ (es : ℕ → Event) (last : ℕ) (r : Run T op es last) (t : ℕ) (th : t < op.threads) where
     laws : (k : ℕ) → k ≤ last → StateLaws T.marks (sizes op) (state_at T op es k)
@@ -328,7 +334,8 @@ module _ (T : Table) (law : Lawful T) (rows : HasReadRows T) (op : Opening) wher
         → Walked (views T op es k) size (steps_since es t k) (local_of (state_at T op es k) t)
     walked_at zero l = resting (ap (λ (x : Local). x.pc) opening_local)
     walked_at (suc k) l =
-        walked_on (later k (omega arith)) (walked_after k (omega arith) (es k) refl (r.enabled k (omega arith)) (walked_at k (omega arith)))
+        walked_on (later k (omega arith)) (walked_after k (omega arith) (es k) refl (r.enabled k (omega arith))
+        (walked_at k (omega arith)))
 
     reads_next : (k : ℕ) (l : k ≤ last) → (local_of (state_at T op es k) t).pc ≢ 0
         → IsContains (local_of (state_at T op es k) t).call
@@ -389,7 +396,8 @@ row_of busy reads (before_link e p lt met a m) = inl e
 row_of busy reads (before_key e p met a m) = inr (inl e)
 row_of busy reads (before_mark e p f met a m) = inr (inr (inl e))
 
-pub read_row : (T : Table) → Lawful T → HasReadRows T → (op : Opening) (last k t : ℕ) (es : ℕ → Event) → Run T op es last → k ≤ last → t < op.threads
+pub read_row : (T : Table) → Lawful T → HasReadRows T → (op : Opening) (last k t : ℕ) (es : ℕ → Event) → Run T op es last →
+    k ≤ last → t < op.threads
     → (local_of (state_at T op es k) t).pc ≢ 0 → IsRead (local_of (state_at T op es k) t).call
     → IsReadRow (local_of (state_at T op es k) t).pc
 read_row T law rows op last k t es r l th busy reads = row_of busy reads (walked_at T law rows op es last r t th k l)

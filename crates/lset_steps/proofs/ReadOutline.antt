@@ -1,6 +1,7 @@
 -- What a contains without locks knows at each of its rows, and that each row keeps it: with the reply that fits a moment of the
 -- call, which may be another thread's step (after O'Hearn and others).
-use Rattle.std.specs.Prelude.{◌≡◌, ◌≢◌, ℕ, suc, ◌-◌, ◌==◌, if◌then◌else◌, ◌/◌, ◌%◌, ◌<◌, ◌≤◌, ◌⊎◌, Bool, false, None, List, [], refl}
+use Rattle.std.specs.Prelude.{◌≡◌, ◌≢◌, ℕ, suc, ◌-◌, ◌==◌, if◌then◌else◌, ◌/◌, ◌%◌, ◌<◌, ◌≤◌, ◌⊎◌, Bool, false, None, List, []}
+use Rattle.std.specs.Prelude.{refl}
 use Rattle.std.proofs.Common.{arith, inl, inr, sym, ◌∙◌, ap, subst}
 use Rattle.lset_words.proofs.Numbers.{same_or_not, below_or_not, if_below, if_not_below, if_same, if_other}
 use Rattle.lset_words.specs.declared.Call.{Call}
@@ -18,7 +19,8 @@ use Rattle.lset_steps.specs.Chain.{View, view, FitsIn, node_key, node_link, cont
 use Rattle.lset_steps.proofs.Moves.{InPast, Had, Lacked, At20, At21, At22, At25}
 use Rattle.lset_steps.proofs.Hindsight.{later_published, key_stays, unmarked_before}
 use Rattle.lset_steps.proofs.QuietMove.{in_chain_published}
-use Rattle.lset_steps.proofs.Walk.{at20_on, at21_on, at22_on, at25_on, no_tail, from20, from21_on, from21_less, from21_same, from21_more, behind_published, from24_more, from22_true, from22_false}
+use Rattle.lset_steps.proofs.Walk.{at20_on, at21_on, at22_on, at25_on, no_tail, from20, from21_on, from21_less, from21_same}
+use Rattle.lset_steps.proofs.Walk.{from21_more, behind_published, from24_more, from22_true, from22_false}
 use Rattle.lset_steps.specs.Laws.{BeginLaws, Registers}
 use Rattle.lset_steps.proofs.Memory.{Memory, inside, inner}
 use Rattle.lset_steps.proofs.Discipline.{Outline, Here, Thread}
@@ -73,7 +75,8 @@ at_head vs first now v k from present head =
     record { past = record { at = now; from = from; upto = omega arith; in_chain = ([], refl) }; low = omega arith }
 
 -- so a call begins at row 1, or reads
-pub call_begins : (At : Outline) (q t : ℕ) (vs : ℕ → View) (now : ℕ) (v : View) (call : Call) (l : Local) → vs now ≡ v → v.key 0 ≡ 0
+pub call_begins : (At : Outline) (q t : ℕ) (vs : ℕ → View) (now : ℕ) (v : View) (call : Call) (l : Local) → vs now ≡ v →
+    v.key 0 ≡ 0
     → ((l' : Local) → l'.pc ≡ 1 → At q t vs now now v false l')
     → ((l' : Local) → Reading vs now now false l' → At q t vs now now v false l')
     → At q t vs now now v false (begun_reading call l)
@@ -138,7 +141,8 @@ module _ (T : Table) (P : Protocol T.marks) (At : Outline) (sz : Sizes) (t : ℕ
   past_published a p =
       let upto : p.at ≤ now = p.upto in
       let c : (vs p.at).published a = in_chain_published (vs p.at) (h.course.ordered p.at upto) a p.in_chain in
-      subst (λ v. v.published a) h.present (later_published vs now a (now - p.at) p.at now h.course (omega arith) (omega arith) c).0
+      subst (λ v. v.published a) h.present (later_published vs now a (now - p.at) p.at now h.course (omega arith) (omega arith)
+      c).0
 
   top : (m : ℕ) → m ≤ now → target l.call < (vs m).key 1
   top m le =
@@ -164,7 +168,8 @@ module _ (T : Table) (P : Protocol T.marks) (At : Outline) (sz : Sizes) (t : ℕ
       let on : At21 vs first now (key_of l.call).0 (s / 2) = subst (λ x. At21 vs first now (key_of l.call).0 (x / 2))
       (link_now l.curr) (from20 vs now first now (key_of l.call).0 l.curr h.course (omega arith) a) in
       passes (Load (link_index l.curr)) ws (record l { pc = 21; curr = s / 2 })
-      (rows.acts l (inl e) ∙ (rw e refl)) (rows.feeds l s (inl e) ∙ (rw e refl)) (rows.tells l s (inl e)) (P.loads sz t ws used (link_index l.curr) (omega arith))
+      (rows.acts l (inl e) ∙ (rw e refl)) (rows.feeds l s (inl e) ∙ (rw e refl)) (rows.tells l s (inl e))
+      (P.loads sz t ws used (link_index l.curr) (omega arith))
       (keep_walk sz t 21 l.pred (s / 2) l regs.pred inn regs, refl, refl, λ x. omega arith)
       (reading (record l { pc = 21; curr = s / 2 })
       (reads21 refl d c (at21_on vs first now (suc now) (key_of l.call).0 (s / 2) (omega arith) on)))
@@ -180,17 +185,21 @@ module _ (T : Table) (P : Protocol T.marks) (At : Outline) (sz : Sizes) (t : ℕ
       let feeds' : T.feed l s ≡ read_key l s = rows.feeds l s (inr (inl e)) ∙ (rw e refl) in
       elim (below_or_not s k) [
         | inl lt ↦ passes (Load (key_index l.curr)) ws (record l { pc = 20 }) acts'
-            (feeds' ∙ if_below s k lt (continued (record l { pc = 20 })) (if s == k then continued (record l { pc = 22 }) else leaves_with False l))
+            (feeds' ∙ if_below s k lt (continued (record l { pc = 20 })) (if s == k then continued (record l { pc = 22 })
+            else leaves_with False l))
             (rows.tells l s (inr (inl e))) loads (keep sz t 20 l.reply l regs, refl, refl, λ x. omega arith)
-            (reading (record l { pc = 20 }) (reads20 refl d c (at20_on vs first now (suc now) (key_of l.call).0 l.curr (omega arith)
+            (reading (record l { pc = 20 })
+            (reads20 refl d c (at20_on vs first now (suc now) (key_of l.call).0 l.curr (omega arith)
             (from21_less vs now first now (key_of l.call).0 l.curr h.course (omega arith) a top (omega arith)))))
         | inr ge ↦
-            (let skip = if_not_below s k ge (continued (record l { pc = 20 })) (if s == k then continued (record l { pc = 22 }) else leaves_with False l) in
+            (let skip = if_not_below s k ge (continued (record l { pc = 20 })) (if s == k then continued (record l { pc = 22 })
+            else leaves_with False l) in
             elim (same_or_not s k) [
               | inl y ↦ passes (Load (key_index l.curr)) ws (record l { pc = 22 }) acts'
                   (feeds' ∙ skip ∙ if_same s k y (continued (record l { pc = 22 })) (leaves_with False l))
                   (rows.tells l s (inr (inl e))) loads (keep sz t 22 l.reply l regs, refl, refl, λ x. omega arith)
-                  (reading (record l { pc = 22 }) (reads22 refl d c (at22_on vs first now (suc now) (key_of l.call).0 l.curr (omega arith)
+                  (reading (record l { pc = 22 })
+                  (reads22 refl d c (at22_on vs first now (suc now) (key_of l.call).0 l.curr (omega arith)
                   (from21_same vs now first now (key_of l.call).0 l.curr h.course (omega arith) a top (omega arith)))))
               | inr y ↦ answers (Load (key_index l.curr)) ws (record l { pc = 0 }) False acts'
                   (feeds' ∙ skip ∙ if_other s k y (continued (record l { pc = 22 })) (leaves_with False l))
@@ -225,7 +234,8 @@ module _ (T : Table) (P : Protocol T.marks) (At : Outline) (sz : Sizes) (t : ℕ
             (from22_true vs now first now (key_of l.call).0 l.curr h.course (omega arith) a (omega arith) (omega arith))))
             (keep sz t 0 l.reply l regs) refl refl refl (idle (record l { pc = 0 }) refl)
         | inr y ↦ answers (Load (link_index l.curr)) ws (record l { pc = 0 }) False acts'
-            (feeds' ∙ if_other (s % 2) 0 (omega arith) (leaves_with True l) (leaves_with False l)) (rows.tells l s (inr (inr (inl e)))) loads
+            (feeds' ∙ if_other (s % 2) 0 (omega arith) (leaves_with True l) (leaves_with False l))
+            (rows.tells l s (inr (inr (inl e)))) loads
             (due_of done sz.quota vs first now t l.call False d (fits_lacked sz.quota vs first now t l.call c
             (from22_false vs now first now (key_of l.call).0 l.curr h.course (omega arith) a (omega arith))))
             (keep sz t 0 l.reply l regs) refl refl refl (idle (record l { pc = 0 }) refl)
@@ -246,7 +256,8 @@ module _ (T : Table) (P : Protocol T.marks) (At : Outline) (sz : Sizes) (t : ℕ
       let on : At21 vs first now (key_of l.call).0 (s / 2) = subst (λ x. At21 vs first now (key_of l.call).0 (x / 2))
       (link_now l.curr) (from20 vs now first now (key_of l.call).0 l.curr h.course (omega arith) a) in
       passes (Load (link_index l.curr)) ws (record l { pc = 24; curr = s / 2 })
-      (rows.acts l (inr (inr (inr (inl e)))) ∙ (rw e refl)) (rows.feeds l s (inr (inr (inr (inl e)))) ∙ (rw e refl)) (rows.tells l s (inr (inr (inr (inl e))))) (P.loads sz t ws used (link_index l.curr) (omega arith))
+      (rows.acts l (inr (inr (inr (inl e)))) ∙ (rw e refl)) (rows.feeds l s (inr (inr (inr (inl e)))) ∙ (rw e refl))
+      (rows.tells l s (inr (inr (inr (inl e))))) (P.loads sz t ws used (link_index l.curr) (omega arith))
       (keep_walk sz t 24 l.pred (s / 2) l regs.pred inn regs, refl, refl, λ x. omega arith)
       (reading (record l { pc = 24; curr = s / 2 })
       (reads24 refl d c (at21_on vs first now (suc now) (key_of l.call).0 (s / 2) (omega arith) on)))
@@ -259,10 +270,12 @@ module _ (T : Table) (P : Protocol T.marks) (At : Outline) (sz : Sizes) (t : ℕ
       let upto : a.seen.at ≤ now = a.seen.upto in
       let ord = h.course.ordered a.seen.at upto in
       let curr : (vs a.seen.at).link a.from / 2 ≡ l.curr = ap (λ x. x / 2) a.seen.link ∙ a.next in
-      let published : (vs a.seen.at).published l.curr = behind_published vs now first now (key_of l.call).0 l.curr h.course (omega arith) a top in
+      let published : (vs a.seen.at).published l.curr = behind_published vs now first now (key_of l.call).0 l.curr h.course
+      (omega arith) a top in
       let head : (vs a.seen.at).key 0 ≡ 0 = sym (key_stays vs now 0 a.seen.at now h.course upto (omega arith) ord.head_published)
       ∙ key_now 0 ∙ M.head_key in
-      let tail : (vs a.seen.at).key 1 ≡ tail_word = sym (key_stays vs now 1 a.seen.at now h.course upto (omega arith) ord.tail_published)
+      let tail : (vs a.seen.at).key 1 ≡ tail_word =
+      sym (key_stays vs now 1 a.seen.at now h.course upto (omega arith) ord.tail_published)
       ∙ key_now 1 ∙ M.tail_key in
       record {
         moment = a.seen.at;

@@ -26,7 +26,8 @@ use Rattle.lset_steps.proofs.Discipline.{Outline, Discipline, Inv, inv_at, lawfu
 module _ (T : Table) (rows : HasReadRows T) (vs : ℕ → View) (first now : ℕ) (course : Course vs now) (done : Bool) (l : Local)
     (a : ℕ) (next : T.next l ≡ Load (link_index a)) where
   -- a load of the link of curr
-  at_curr : IsReadRow l.pc → T.next l ≡ Load (link_index l.curr) → InPast vs first now l.curr → Seen vs first now a ((vs now).link a)
+  at_curr : IsReadRow l.pc → T.next l ≡ Load (link_index l.curr) → InPast vs first now l.curr →
+      Seen vs first now a ((vs now).link a)
   at_curr row acts p =
       let e : link_index a ≡ link_index l.curr = ap word_named (sym next ∙ acts) in
       let f : l.curr ≡ a = omega arith in
@@ -87,7 +88,8 @@ same_call_on log t at k (began u call) is le from =
     let first : begun_at log t (suc k) ≡ (if u == t then suc k else begun_at log t k) = rw is refl in
     let last : last_call log t (suc k) ≡ (if u == t then call else last_call log t k) = rw is refl in
     elim (same_or_not u t) [
-      | inl y ↦ absurd (let own : begun_at log t (suc k) ≡ suc k = first ∙ if_same u t y (suc k) (begun_at log t k) in omega arith)
+      | inl y ↦ absurd (let own : begun_at log t (suc k) ≡ suc k = first ∙ if_same u t y (suc k) (begun_at log t k) in
+          omega arith)
       | inr y ↦ record {
         begun = first ∙ if_other u t y (suc k) (begun_at log t k);
         call = last ∙ if_other u t y call (last_call log t k);

@@ -12,7 +12,11 @@ use Rattle.lset_steps.proofs.QuietMove.{in_chain_published, quiet_keeps}
 use Rattle.lset_steps.proofs.InsertMove.{insert_keeps}
 use Rattle.lset_steps.proofs.MarkMove.{mark_keeps}
 use Rattle.lset_steps.proofs.UnlinkMove.{unlink_keeps}
-use Rattle.lset_steps.proofs.Memory.{WordStep, Memory, reads, fails, takes, gives, own_key, own_link, puts, sets_mark, cuts, drops, own_of, row_once, no_own, goes_on, others_counted, at_put, at_mark, at_unlink, at_lock, at_own_key, at_own_link, set_other, key_after_link, link_after_link, lock_after_link, list_lock_after_link, link_after_key, key_after_key, lock_after_key, list_lock_after_key, key_after_lock, link_after_lock}
+use Rattle.lset_steps.proofs.Memory.{WordStep, Memory, reads, fails, takes, gives, own_key, own_link, puts, sets_mark, cuts}
+use Rattle.lset_steps.proofs.Memory.{drops, own_of, row_once, no_own, goes_on, others_counted, at_put, at_mark, at_unlink}
+use Rattle.lset_steps.proofs.Memory.{at_lock, at_own_key, at_own_link, set_other, key_after_link, link_after_link}
+use Rattle.lset_steps.proofs.Memory.{lock_after_link, list_lock_after_link, link_after_key, key_after_key, lock_after_key}
+use Rattle.lset_steps.proofs.Memory.{list_lock_after_key, key_after_lock, link_after_lock}
 
 pub record Rely (v w : View) (q u : ℕ) : Type 0 where
   pub goes : KeepsNodes v w
@@ -134,7 +138,8 @@ module _ (marks : Bool) (sz : Sizes) (ws : List ℕ) (used : ℕ → ℕ) (m : M
     list_lock = λ z. list_lock_after_link ws (own_of sz.quota t used) (2 * c) ∙ z;
     lock = λ b z. lock_after_link ws (own_of sz.quota t used) (2 * c) b ∙ z;
     link = λ b p z. link_after_link ws (own_of sz.quota t used) (2 * c) b (no_own marks sz ws used m t b h r p);
-    chain = λ b z y. quiet_keeps (view sz ws used) (view sz ws' used) m.ordered (at_own_link marks sz ws used m t h (2 * c) r) b y;
+    chain = λ b z y. quiet_keeps (view sz ws used) (view sz ws' used) m.ordered (at_own_link marks sz ws used m t h (2 * c) r) b
+        y;
     own_key = λ s. key_after_link ws (own_of sz.quota t used) (2 * c) (own_of sz.quota u used);
     own_link = λ s. link_after_link ws (own_of sz.quota t used) (2 * c) (own_of sz.quota u used) (other_own s r);
   }

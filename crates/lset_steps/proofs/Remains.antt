@@ -8,7 +8,9 @@ use Rattle.lset_steps.specs.Chain.{View, view, Published, InChain}
 use Rattle.lset_steps.proofs.Moves.{KeepsNodes}
 use Rattle.lset_steps.proofs.MoveLaws.{marked_stays}
 use Rattle.lset_steps.proofs.QuietMove.{in_chain_published}
-use Rattle.lset_steps.proofs.Memory.{WordStep, Memory, reads, fails, takes, gives, own_key, own_link, puts, sets_mark, cuts, drops, own_of, row_once, no_own, moved, goes_on, others_counted, key_after_link, link_after_link, link_after_key, key_after_key, key_after_lock, link_after_lock}
+use Rattle.lset_steps.proofs.Memory.{WordStep, Memory, reads, fails, takes, gives, own_key, own_link, puts, sets_mark, cuts}
+use Rattle.lset_steps.proofs.Memory.{drops, own_of, row_once, no_own, moved, goes_on, others_counted, key_after_link}
+use Rattle.lset_steps.proofs.Memory.{link_after_link, link_after_key, key_after_key, key_after_lock, link_after_lock}
 
 pub record Remains (v w : View) (q u : ℕ) : Type 0 where
   pub goes : KeepsNodes v w
@@ -46,7 +48,8 @@ module _ (marks : Bool) (sz : Sizes) (ws : List ℕ) (used : ℕ → ℕ) (m : M
       key_after_link ws p (2 * own_of sz.quota t used) (own_of sz.quota u used)
   slot_key a ws' used' ch (sets_mark b c x k y w at inn even is key) r = key_after_link ws c x (own_of sz.quota u used)
   slot_key a ws' used' ch (cuts b p c e w at first inn follows next) r = key_after_link ws p (2 * e) (own_of sz.quota u used)
-  slot_key a ws' used' ch (drops b p c e k y w at first inn follows next key) r = key_after_link ws p (2 * e) (own_of sz.quota u used)
+  slot_key a ws' used' ch (drops b p c e k y w at first inn follows next key) r =
+      key_after_link ws p (2 * e) (own_of sz.quota u used)
 
   not_slot : (p : ℕ) → InChain (view sz ws used) p → used u < sz.quota → own_of sz.quota u used ≢ p
   not_slot p i r e = no_own marks sz ws used m u p k r (at_chain p i) (sym e)
@@ -58,7 +61,8 @@ module _ (marks : Bool) (sz : Sizes) (ws : List ℕ) (used : ℕ → ℕ) (m : M
   slot_link a ws' used' ch (takes x i k z) r = link_after_lock ws x (t + 1) (own_of sz.quota u used) k
   slot_link a ws' used' ch (gives x i k z) r = link_after_lock ws x 0 (own_of sz.quota u used) k
   slot_link a ws' used' ch (own_key x s) r = link_after_key ws (own_of sz.quota t used) x (own_of sz.quota u used)
-  slot_link a ws' used' ch (own_link c s) r = link_after_link ws (own_of sz.quota t used) (2 * c) (own_of sz.quota u used) (other_own r s)
+  slot_link a ws' used' ch (own_link c s) r = link_after_link ws (own_of sz.quota t used) (2 * c) (own_of sz.quota u used)
+      (other_own r s)
   slot_link a ws' used' ch (puts b p c k w at nt follows s ready key above under) r =
       link_after_link ws p (2 * own_of sz.quota t used) (own_of sz.quota u used) (not_slot p at r)
   slot_link a ws' used' ch (sets_mark b c x k y w at inn even is key) r =

@@ -1,5 +1,6 @@
 -- The replies that fit where a call decides, and what the proofs of all tables use.
-use Rattle.std.specs.Prelude.{◌≡◌, ◌≢◌, ℕ, ◌+◌, ◌-◌, ◌/◌, ◌%◌, ◌<◌, ◌≤◌, ◌⊎◌, Bool, true, false, Option, Some, None, List, [], ◌||◌, refl}
+use Rattle.std.specs.Prelude.{◌≡◌, ◌≢◌, ℕ, ◌+◌, ◌-◌, ◌/◌, ◌%◌, ◌<◌, ◌≤◌, ◌⊎◌, Bool, true, false, Option, Some, None, List, []}
+use Rattle.std.specs.Prelude.{◌||◌, refl}
 use Rattle.std.proofs.Common.{arith, inl, inr, sym, ap, subst, ◌∙◌}
 use Rattle.lset_words.specs.declared.Call.{Call}
 use Rattle.lset_words.specs.declared.Call.TheVariants.{Add, Remove, Contains, Ceiling}
@@ -170,7 +171,8 @@ keep_curr sz t p c l inn r = record {
 }
 
 -- a step that leaves the registers
-pub keep : (sz : Sizes) (t p : ℕ) (y : Option Reply) (l : Local) → Registers sz t l → Registers sz t (record l { pc = p; reply = y })
+pub keep : (sz : Sizes) (t p : ℕ) (y : Option Reply) (l : Local) → Registers sz t l →
+    Registers sz t (record l { pc = p; reply = y })
 keep sz t p y l r = record {
   thread = r.thread;
   quota = r.quota;
@@ -230,7 +232,8 @@ keep_walk sz t p a b l le ge r = record {
 }
 
 -- a walk that goes on by a node, and keeps the key word of the one behind
-pub keep_passed : (sz : Sizes) (t p a b c : ℕ) (l : Local) → a < node_count sz → b ≤ tail_word → c < node_count sz → Registers sz t l
+pub keep_passed : (sz : Sizes) (t p a b c : ℕ) (l : Local) → a < node_count sz → b ≤ tail_word → c < node_count sz →
+    Registers sz t l
     → Registers sz t (record l { pc = p; pred = a; pkey = b; curr = c })
 keep_passed sz t p a b c l le small ge r = record {
   thread = r.thread;

@@ -1,5 +1,6 @@
 -- A run of a lawful machine has an account: what the placement of its calls rests on.
-use Rattle.std.specs.Prelude.{◌≡◌, ◌≢◌, ℕ, ◌<◌, ◌≤◌, Bool, true, false, if◌then◌else◌, ◌==◌, Option, Some, None, slice_set, slice_index_or, length, refl}
+use Rattle.std.specs.Prelude.{◌≡◌, ◌≢◌, ℕ, ◌<◌, ◌≤◌, Bool, true, false, if◌then◌else◌, ◌==◌, Option, Some, None, slice_set}
+use Rattle.std.specs.Prelude.{slice_index_or, length, refl}
 use Rattle.std.proofs.Common.{arith, inl, inr, sym, ◌∙◌, ap, subst, zero, suc, get_or-set_other, get_or-set_same}
 use Rattle.std.proofs.lemmas.List.FromFn.{get_or-map-range_with_len}
 use Rattle.lset_words.proofs.Numbers.{same_or_not, equal_test, unequal_test}
@@ -146,7 +147,8 @@ module _ (T : Table) (law : Lawful T) (op : Opening) (es : ℕ → Event) (last 
   opened t h = ap (λ (l : Local). l.used) (opening_local T law op es last r t h)
 
   enters_at : (k : ℕ) → k < last → (e : Event) → es k ≡ e → Enabled (state_at T op es k) e
-      → Enters op.threads op.quota (log_of T op es) (contents_at T op es) (counts_at T op es) k (entry_of T (state_at T op es k) e)
+      → Enters op.threads op.quota (log_of T op es) (contents_at T op es) (counts_at T op es) k
+      (entry_of T (state_at T op es k) e)
   enters_at k l (Begin t call) ee en =
       let o : StateLaws T.marks (sizes op) (state_at T op es k) = law.states op last k es r (omega arith) in
       let th : t < op.threads = rw o.locals at en.0 in

@@ -44,5 +44,6 @@ small_occurs T law l (op, es, k, t, u, e) = subst (λ (x : Local). IsSmall x) e 
 pub small_sees : (T : Table) → Lawful T → (l : Local) (seen : ℕ) → Sees T l seen → IsSmall l
 small_sees T law l seen (op, es, k, t, u, e, f) = subst (λ (x : Local). IsSmall x) e (small_under_way T law op es k t u)
 
-pub slot_small : (thread quota used : ℕ) → thread < MOST_THREADS → quota ≤ MOST_QUOTA → used ≤ quota → 2 + thread * quota + used ≤ MOST_NODES
+pub slot_small : (thread quota used : ℕ) → thread < MOST_THREADS → quota ≤ MOST_QUOTA → used ≤ quota →
+    2 + thread * quota + used ≤ MOST_NODES
 slot_small thread quota used t q u = let row : thread * quota ≤ 63 * quota = grind arith in omega arith

@@ -1,5 +1,6 @@
 -- A list whose threads share the words by a protocol keeps its laws: what it has to say of each row, and that this is enough.
-use Rattle.std.specs.Prelude.{◌≡◌, ◌≢◌, ℕ, suc, ◌+◌, ◌<◌, ◌≤◌, Bool, true, false, Option, Some, None, List, ◌||◌, if◌then◌else◌, ◌==◌, slice_set, refl}
+use Rattle.std.specs.Prelude.{◌≡◌, ◌≢◌, ℕ, suc, ◌+◌, ◌<◌, ◌≤◌, Bool, true, false, Option, Some, None, List, ◌||◌, if◌then◌else◌}
+use Rattle.std.specs.Prelude.{◌==◌, slice_set, refl}
 use Rattle.std.proofs.Common.{arith, inl, inr, sym, ◌∙◌, ap, subst}
 use Rattle.lset_words.proofs.Numbers.{same_or_not, if_same, if_other}
 use Rattle.lset_words.specs.declared.Call.{Call}
@@ -49,8 +50,10 @@ pub record Protocol (marks : Bool) : Type 1 where
   pub is_step : (sz : Sizes) (t : ℕ) (ws : List ℕ) (used : ℕ → ℕ) (a : Action) (ws' : List ℕ) (used' : ℕ → ℕ)
       (change : Option (Key × Bool))
       → step sz t ws used a ws' used' change → WordStep marks sz t ws used a ws' used' change
-  pub loads : (sz : Sizes) (t : ℕ) (ws : List ℕ) (used : ℕ → ℕ) (x : ℕ) → x < word_count sz → step sz t ws used (Load x) ws used None
-  pub leaves : (sz : Sizes) (ws : List ℕ) (used : ℕ → ℕ) → Memory marks sz ws used → (t : ℕ) → t < sz.threads → (u : ℕ) → u < sz.threads → u ≢ t
+  pub loads : (sz : Sizes) (t : ℕ) (ws : List ℕ) (used : ℕ → ℕ) (x : ℕ) → x < word_count sz →
+      step sz t ws used (Load x) ws used None
+  pub leaves : (sz : Sizes) (ws : List ℕ) (used : ℕ → ℕ) → Memory marks sz ws used → (t : ℕ) → t < sz.threads → (u : ℕ) →
+      u < sz.threads → u ≢ t
       → (a : Action) (ws' : List ℕ) (used' : ℕ → ℕ) (change : Option (Key × Bool))
       → step sz t ws used a ws' used' change → rely (view sz ws used) (view sz ws' used') sz.quota u
   pub still : (v : View) (q u : ℕ) → rely v v q u
@@ -117,7 +120,8 @@ pub tries : {T : Table} {At : Outline} {sz : Sizes} {t : ℕ} {vs : ℕ → View
     → T.feed l (node_lock ws a) ≡ fed (if node_lock ws a == 0 then on else same) None → T.effect l (node_lock ws a) ≡ None
     → Onward sz t l on → Onward sz t l same
     → (node_lock ws a ≡ 0 → At sz.quota t vs first (suc now) (view sz (slice_set ws (lock_index a) (t + 1)) used) done on)
-    → At sz.quota t vs first (suc now) (view sz ws used) done same → Turn T (node_locks T.marks) At sz t vs first now ws used done l
+    → At sz.quota t vs first (suc now) (view sz ws used) done same → Turn T (node_locks T.marks) At sz t vs first now ws used done
+    l
 tries {t = t} {ws = ws} a on same inn acts feeds tells onward again taken stays = elim (same_or_not (node_lock ws a) 0) [
   | inl free ↦ passes (Exchange (lock_index a) 0 (t + 1)) (slice_set ws (lock_index a) (t + 1)) on acts
       (feeds ∙ ap (λ (x : Local). fed x None) (if_same (node_lock ws a) 0 free on same)) tells
@@ -145,13 +149,15 @@ or_true : (b : Bool) → (b || true) ≡ true
 or_true true = refl
 or_true false = refl
 
-module _ (T : Table) (P : Protocol T.marks) (At : Outline) (stands : Stands P At) (sz : Sizes) (t : ℕ) (vs : ℕ → View) (first : ℕ → ℕ)
+module _ (T : Table) (P : Protocol T.marks) (At : Outline) (stands : Stands P At) (sz : Sizes) (t : ℕ) (vs : ℕ → View) (first : ℕ
+    → ℕ)
     (now : ℕ) (ws : List ℕ) (used : ℕ → ℕ) (done : ℕ → Bool) (locals : ℕ → Local) (h : Here T.marks sz vs now ws used)
     (ths : (u : ℕ) → u < sz.threads → Thread At sz u vs (first u) now ws used (done u) (locals u)) (tn : t < sz.threads) where
   others_on : (a : Action) (ws' : List ℕ) (used' : ℕ → ℕ) (change : Option (Key × Bool))
       → P.step sz t ws used a ws' used' change
       → (u : ℕ) → u < sz.threads → u ≢ t → At sz.quota u vs (first u) (suc now) (view sz ws' used') (done u) (locals u)
-  others_on a ws' used' change c u k d = stands sz.quota u vs (first u) now (view sz ws used) (view sz ws' used') (done u) (locals u) h.present
+  others_on a ws' used' change c u k d = stands sz.quota u vs (first u) now (view sz ws used) (view sz ws' used') (done u)
+      (locals u) h.present
       (P.leaves sz ws used h.memory t tn u k d a ws' used' change c) (ths u k).at
 
   step_of : Turn T P At sz t vs (first t) now ws used (done t) (locals t)

@@ -1,4 +1,5 @@
--- What a walk without locks knows of the two nodes that it has come to: not that they are in the chain, but that they are published,
+-- What a walk without locks knows of the two nodes that it has come to: not that they are in the chain, but that they are
+-- published,
 -- and that the key of the call is between theirs.
 use Rattle.std.specs.Prelude.{◌≡◌, ◌≢◌, ℕ, ◌+◌, ◌/◌, ◌<◌, ◌≤◌, Bool, None, List, slice_set}
 use Rattle.std.proofs.Common.{arith, ◌∙◌, ap}

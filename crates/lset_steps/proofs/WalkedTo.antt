@@ -1,5 +1,6 @@
 -- What a walk along the chain knows: `World::walk`, and that of `Closed::keys` in the crate `lset_live`.
-use Rattle.std.proofs.Common.{◌≡◌, ◌≢◌, ℕ, ◌-◌, ◌/◌, ◌%◌, ◌<◌, ◌≤◌, Bool, true, false, inl, inr, List, [], ◌∷◌, ◌++◌, sym, refl, ap, subst, arith, rules, ◌∙◌, append-nil}
+use Rattle.std.proofs.Common.{◌≡◌, ◌≢◌, ℕ, ◌-◌, ◌/◌, ◌%◌, ◌<◌, ◌≤◌, Bool, true, false, inl, inr, List, [], ◌∷◌, ◌++◌, sym, refl}
+use Rattle.std.proofs.Common.{ap, subst, arith, rules, ◌∙◌, append-nil}
 use Rattle.std.specs.Prelude.{nat_lt, ◌==◌, IsTrue, ◌↔◌, Option, Some, None, option_to_list, filter_map, if◌then◌else◌}
 use Rattle.std.specs.List.{cons_option}
 use Rattle.std.specs.List.Sorted.{IsStrictlyIncreasing}
@@ -23,7 +24,8 @@ pub record HasPicked {A : Type 0} (answers : ChainKey → Option A → Type 0) (
 
 chain_keys-append : (v : View) (xs ys : List ℕ) → chain_keys v (xs ++ ys) ≡ chain_keys v xs ++ chain_keys v ys
 chain_keys-append v [] ys = refl
-chain_keys-append v (x ∷ xs) ys = let i : chain_keys v (xs ++ ys) ≡ chain_keys v xs ++ chain_keys v ys = chain_keys-append v xs ys in
+chain_keys-append v (x ∷ xs) ys = let i : chain_keys v (xs ++ ys) ≡ chain_keys v xs ++ chain_keys v ys =
+    chain_keys-append v xs ys in
     elim (cases_Bool (nat_lt 1 x)) [ inl e ↦ rw (e, i) refl | inr e ↦ rw (e, i) refl ]
 
 module _ {A : Type 0} (answers : ChainKey → Option A → Type 0) (v : View) (ord : IsOrdered v) where

@@ -1,5 +1,6 @@
 -- The state of a world is the last one of a run, also after a further step.
-use Rattle.std.specs.Prelude.{◌≡◌, ◌≢◌, ℕ, ◌<◌, List, [], ◌∷◌, ◌++◌, length, refl, All, ◌^◌, Bool, true, false, if◌then◌else◌, ◌==◌, slice_index, slice_set, suc}
+use Rattle.std.specs.Prelude.{◌≡◌, ◌≢◌, ℕ, ◌<◌, List, [], ◌∷◌, ◌++◌, length, refl, All, ◌^◌, Bool, true, false, if◌then◌else◌}
+use Rattle.std.specs.Prelude.{◌==◌, slice_index, slice_set, suc}
 use Rattle.std.specs.List.Sorted.{IsStrictlyIncreasing}
 use Rattle.std.proofs.Common.{arith, ◌∙◌, sym, ap, subst, length-set}
 use Rattle.std.proofs.lemmas.List.FromFn.{length-map-range_with_len}

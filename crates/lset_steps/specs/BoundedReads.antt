@@ -1,5 +1,6 @@
 -- What is promised of every run of a list with open reads, besides the law of all machines: each step of a contains is a load,
--- and there are at most 2(nq + m) + 2 of them, m the number of opening keys, whatever the others do; and each node that its walk passes was in the chain.
+-- and there are at most 2(nq + m) + 2 of them, m the number of opening keys, whatever the others do; and each node that its walk
+-- passes was in the chain.
 use Rattle.std.specs.Prelude.{◌≡◌, ◌≢◌, ℕ, zero, suc, ◌+◌, ◌*◌, ◌<◌, ◌≤◌, if◌then◌else◌, ◌==◌}
 use Rattle.lset_steps.specs.declared.Action.TheVariants.{Load}
 use Rattle.lset_steps.specs.declared.Event.{Event}
@@ -47,7 +48,8 @@ pub record HasPassed (T : Table) (op : Opening) (es : ℕ → Event) (k t a l : 
   pub loads : T.next (local_of (state_at T op es at) t) ≡ Load (link_index a)
   pub read : seen_next T (state_at T op es at) t ≡ l
 
--- Each node that the walk of a contains or a ceiling has passed was in the chain with the link that was read, at some moment of the
+-- Each node that the walk of a contains or a ceiling has passed was in the chain with the link that was read, at some moment of
+-- the
 -- call, not later than the load.
 abbrev pub WalkWasInChain : Table → Type 0
 WalkWasInChain T = (op : Opening) (last k t a l : ℕ) (es : ℕ → Event) → Run T op es last → k ≤ last

@@ -1,6 +1,7 @@
 -- What is promised of every run of a machine, each promise under its own name. In all of them op says how the set
 -- opens, es the events of a run of `last` events, and k a moment: k events have happened.
-use Rattle.std.specs.Prelude.{◌≡◌, ◌≢◌, ℕ, zero, suc, ◌+◌, ◌%◌, ◌^◌, ◌<◌, ◌≤◌, ◌⊎◌, true, false, if◌then◌else◌, ◌==◌, List, [], ◌∷◌, ◌++◌, map, Option, Some, Contains, slice_index}
+use Rattle.std.specs.Prelude.{◌≡◌, ◌≢◌, ℕ, zero, suc, ◌+◌, ◌%◌, ◌^◌, ◌<◌, ◌≤◌, ◌⊎◌, true, false, if◌then◌else◌, ◌==◌, List, []}
+use Rattle.std.specs.Prelude.{◌∷◌, ◌++◌, map, Option, Some, Contains, slice_index}
 use Rattle.std.specs.List.Sorted.{IsStrictlyIncreasing}
 use Rattle.lset_words.specs.declared.Call.{Call}
 use Rattle.lset_words.specs.declared.Call.TheVariants as call
@@ -16,7 +17,8 @@ use Rattle.lset_steps.specs.declared.Action.TheVariants.{Load, Store, Exchange}
 use Rattle.lset_steps.specs.declared.Event.{Event}
 use Rattle.lset_steps.specs.declared.Event.TheVariants.{Begin, Go}
 use Rattle.lset_steps.specs.Steps.{Table, State, Run, state_at, local_of, log_of}
-use Rattle.lset_steps.specs.Chain.{View, InContent, IsChain, InChain, UnmarkedInChain, UnlinkedStays, Seen, contents_of, counts_of}
+use Rattle.lset_steps.specs.Chain.{View, InContent, IsChain, InChain, UnmarkedInChain, UnlinkedStays, Seen, contents_of}
+use Rattle.lset_steps.specs.Chain.{counts_of}
 use Rattle.lset_steps.specs.Laws.{Registers, IsLockWord, LockUse, word_named, views}
 use Rattle.lset_steps.specs.Worlds.{IsContent}
 
@@ -56,7 +58,8 @@ holder T op es x zero = 0
 holder T op es x (suc k) = held_after T (state_at T op es k) x (holder T op es x k) (es k)
 
 abbrev pub LockWords : Table → Type 0
-LockWords T = (op : Opening) (last k x : ℕ) (es : ℕ → Event) → Run T op es last → k ≤ last → IsLockWord x → x < word_count (sizes op)
+LockWords T = (op : Opening) (last k x : ℕ) (es : ℕ → Event) → Run T op es last → k ≤ last → IsLockWord x →
+    x < word_count (sizes op)
     → slice_index (state_at T op es k).words x ≡ holder T op es x k
 
 -- An exchange of a lock word is a try of its thread, and 0 is stored there only by the thread that has the lock; nothing else is.
@@ -95,7 +98,8 @@ UnmarkedNodesInChain T = (op : Opening) (last k : ℕ) (es : ℕ → Event) → 
 
 -- In a list that does not mark no link is marked, that of a slot that no add has put in neither.
 abbrev pub NoLinkIsMarked : Table → Type 0
-NoLinkIsMarked T = (op : Opening) (last k i : ℕ) (es : ℕ → Event) → Run T op es last → k ≤ last → T.marks ≡ false → i < node_count (sizes op)
+NoLinkIsMarked T = (op : Opening) (last k i : ℕ) (es : ℕ → Event) → Run T op es last → k ≤ last → T.marks ≡ false →
+    i < node_count (sizes op)
     → (views T op es k).link i % 2 ≡ 0
 
 -- [Named change]: what the entry k of a log does to the content and to the threads' counts of successful adds, and which call may
@@ -112,11 +116,13 @@ ChangeIsNamed threads quota log contents counts k (stepped t change reply) =
 
 abbrev pub NamedChange : Table → Type 0
 NamedChange T = (op : Opening) (last k : ℕ) (es : ℕ → Event) → Run T op es last → k < last
-    → ChangeIsNamed op.threads op.quota (log_of T op es) (contents_of (views T op es)) (counts_of (views T op es)) k (log_of T op es k)
+    → ChangeIsNamed op.threads op.quota (log_of T op es) (contents_of (views T op es)) (counts_of (views T op es)) k
+    (log_of T op es k)
 
 -- [Replies fit]: a call that ends at the entry k has made a change and answers True, or its reply fits one of its moments.
 abbrev pub RepliesFit : Table → Type 0
-RepliesFit T = (op : Opening) (last k t : ℕ) (es : ℕ → Event) (change : Option Change) (reply : Reply) → Run T op es last → k < last
+RepliesFit T = (op : Opening) (last k t : ℕ) (es : ℕ → Event) (change : Option Change) (reply : Reply) → Run T op es last →
+    k < last
     → log_of T op es k ≡ stepped t change (Some reply)
     → RightReply (has_changed (log_of T op es) t (suc k)) op.quota (contents_of (views T op es)) (counts_of (views T op es))
     (begun_at (log_of T op es) t k) (suc k) t (last_call (log_of T op es) t k) (Some reply)

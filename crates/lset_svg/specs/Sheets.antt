@@ -29,7 +29,8 @@ line_y threads number = lane_y threads + 36 + 16 * (if nat_lt number MOST_LINES 
 
 -- a text of a class that begins there
 unfoldable pub text_at : List ℕ → ℕ → ℕ → List ℕ → List ℕ
-text_at class x y text = codes "<text class=\"" ++ (class ++ (codes "\" xml:space=\"preserve\" x=\"" ++ (decimal x ++ (codes "\" y=\""
+text_at
+    class x y text = codes "<text class=\"" ++ (class ++ (codes "\" xml:space=\"preserve\" x=\"" ++ (decimal x ++ (codes "\" y=\""
     ++ (decimal y ++ (codes "\">" ++ (text ++ codes "</text>")))))))
 
 -- a text that is there only where it is shown

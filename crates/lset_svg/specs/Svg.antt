@@ -40,7 +40,10 @@ sheet_width columns heading lines = max (right_edge columns + 48) (16 + 8 * clip
 
 -- what is drawn lies in a box of these numbers, so that it may be shown at any size
 unfoldable pub sheet_tag : ℕ → ℕ → List ℕ
-sheet_tag width height = codes "<svg xmlns=\"http://www.w3.org/2000/svg\" class=\"listset\" font-family=\"monospace\" font-size=\"12\" width=\""
+sheet_tag
+    width
+    height
+    = codes "<svg xmlns=\"http://www.w3.org/2000/svg\" class=\"listset\" font-family=\"monospace\" font-size=\"12\" width=\""
     ++ (decimal width ++ (codes "\" height=\"" ++ (decimal height ++ (codes "\" viewBox=\"0 0 " ++ (decimal width ++ (codes " "
     ++ (decimal height ++ codes "\">")))))))
 
@@ -68,7 +71,8 @@ head_lines p d below = sheet_for d.columns p.history.opening.threads (heading_li
 
 abbrev pub svg_elements : PictureValue → DrawingValue → List (List ℕ)
 svg_elements p d =
-    head_lines p d (text_below p d) ++ row_elements p d ++ text_lines p.history.opening.threads 0 (text_below p d) ++ codes "</svg>" ∷ []
+    head_lines p d (text_below p d) ++ row_elements p d ++ text_lines p.history.opening.threads 0 (text_below p d)
+    ++ codes "</svg>" ∷ []
 
 abbrev pub svg_text : PictureValue → Window → List ℕ
 svg_text p w = text_of (svg_elements p (drawing_of p w))

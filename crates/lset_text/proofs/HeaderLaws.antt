@@ -164,7 +164,12 @@ header_ok title parts found is =
     let is_threads = number_after_ok (codes "threads") 1 MOST_THREADS line3.0 threads.0.0 (omega arith) line3.2 in
     let is_quota = number_after_ok (codes "quota") 0 MOST_QUOTA line4.0 quota.0.0 (omega arith) line4.2 in
     let header : Header = record { kind = kind.0.0; threads = threads.0.0; quota = quota.0.0 } in
-    let within : IsHeader header = record { some = omega (arith, is_threads.1); few = is_threads.2; small = is_quota.2; opens = omega arith } in
+    let within : IsHeader header = record {
+      some = omega (arith, is_threads.1);
+      few = is_threads.2;
+      small = is_quota.2;
+      opens = omega arith;
+    } in
     let all : parts ≡ header_lines title header ++ quota.0.1 =
     joined line1.1 is_title (joined line2.1 is_kind (joined line3.1 is_threads.0 (joined line4.1 is_quota.0 refl))) in
     subst (BeginsWith title parts) (ok_is (header, quota.0.1) found quota.2) (all, within, line4.3)
@@ -172,7 +177,8 @@ header_ok title parts found is =
 title_again : (title : List ℕ) → title_in title title ≡ Some title
 title_again title = rw (same_true title) refl
 
-threads_again : (n : ℕ) → 0 < n → n ≤ MOST_THREADS → number_after (codes "threads") 1 MOST_THREADS (number_line (codes "threads") n) ≡ Some n
+threads_again : (n : ℕ) → 0 < n → n ≤ MOST_THREADS →
+    number_after (codes "threads") 1 MOST_THREADS (number_line (codes "threads") n) ≡ Some n
 threads_again n some few =
     let word = Lacks-from_test 32 (codes "threads") refl in
     number_after_again (codes "threads") 1 MOST_THREADS n word (omega arith) (omega (arith, some)) few

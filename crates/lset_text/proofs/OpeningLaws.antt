@@ -1,5 +1,6 @@
 -- Lines of opening keys, and keys that rise strictly.
-use Rattle.std.proofs.Common.{◌≡◌, ℕ, zero, suc, ◌+◌, ◌-◌, ◌<◌, ◌^◌, ◌⊎◌, inl, inr, true, List, [], ◌∷◌, ◌++◌, length, length-append, get_or}
+use Rattle.std.proofs.Common.{◌≡◌, ℕ, zero, suc, ◌+◌, ◌-◌, ◌<◌, ◌^◌, ◌⊎◌, inl, inr, true, List, [], ◌∷◌, ◌++◌, length}
+use Rattle.std.proofs.Common.{length-append, get_or}
 use Rattle.std.proofs.Common.{refl, sym, ap, subst, ◌∙◌, arith, codes}
 use Rattle.std.specs.Prelude.{nat_lt}
 use Rattle.std.specs.List.{AllByRecursion}
@@ -35,7 +36,8 @@ rises_more keys key rising above k below =
           let c : get_or keys (length keys - 1) 0 < key = ltb-true _ _ (sym (some_last keys key (omega arith)) ∙ above) in
           let d : get_or keys k 0 < key = subst (λ n. get_or keys n 0 < key) at c in
           omega arith)
-      | inr l ↦ (let a : get_or (keys ++ key ∷ []) (k + 1) 0 ≡ get_or keys (k + 1) 0 = get_or_append_left keys (key ∷ []) 0 (k + 1) l in
+      | inr l ↦ (let a : get_or (keys ++ key ∷ []) (k + 1) 0 ≡ get_or keys (k + 1) 0 =
+          get_or_append_left keys (key ∷ []) 0 (k + 1) l in
           let b : get_or (keys ++ key ∷ []) k 0 ≡ get_or keys k 0 = get_or_append_left keys (key ∷ []) 0 k (omega arith) in
           let c : get_or keys k 0 < get_or keys (k + 1) 0 = rising k l in
           omega arith)
@@ -45,14 +47,16 @@ rises_more keys key rising above k below =
     last_or_before k n l = grind arith
 
 -- in keys that rise, each lies above those before it
-pub above_before : (keys : List ℕ) (key : ℕ) (more : List ℕ) → IsStrictlyIncreasing (keys ++ key ∷ more) → is_above keys key ≡ true
+pub above_before : (keys : List ℕ) (key : ℕ) (more : List ℕ) → IsStrictlyIncreasing (keys ++ key ∷ more) →
+    is_above keys key ≡ true
 above_before [] key more rising = refl
 above_before (x ∷ xs) key more rising =
     let keys : List ℕ = x ∷ xs in
     let k = length keys - 1 in
     let a : get_or (keys ++ key ∷ more) k 0 ≡ get_or keys k 0 = get_or_append_left keys (key ∷ more) 0 k (omega arith) in
     let b : get_or (keys ++ key ∷ more) (k + 1) 0 ≡ key = get_or_at keys key more (k + 1) (omega arith) in
-    let c : get_or (keys ++ key ∷ more) k 0 < get_or (keys ++ key ∷ more) (k + 1) 0 = rising k (longer keys key more k (omega arith)) in
+    let c : get_or (keys ++ key ∷ more) k 0 < get_or (keys ++ key ∷ more) (k + 1) 0 =
+    rising k (longer keys key more k (omega arith)) in
     some_last keys key (omega arith) ∙ lt-ltb _ _ (omega (arith, a, b, c))
   where
     get_or_at : (xs : List ℕ) (y : ℕ) (ys : List ℕ) (n : ℕ) → n ≡ length xs → get_or (xs ++ y ∷ ys) n 0 ≡ y

@@ -1,5 +1,6 @@
 -- Words are read as what they were written for, and from nothing else.
-use Rattle.std.proofs.Common.{◌≡◌, ℕ, ◌<◌, ◌≤◌, ◌^◌, length, Bool, true, cond, List, [], ◌∷◌, ◌++◌, Option, Some, None, refl, sym, ap, subst, ◌∙◌, inl, inr, codes, arith}
+use Rattle.std.proofs.Common.{◌≡◌, ℕ, ◌<◌, ◌≤◌, ◌^◌, length, Bool, true, cond, List, [], ◌∷◌, ◌++◌, Option, Some, None, refl, sym}
+use Rattle.std.proofs.Common.{ap, subst, ◌∙◌, inl, inr, codes, arith}
 use Rattle.std.specs.Str.{bytes_eq}
 use Rattle.std.proofs.lemmas.Bool.{cases_Bool}
 use Rattle.std.proofs.lemmas.Slice.Eq.{bytes_eq-Decides}
@@ -15,7 +16,8 @@ use Rattle.lset_text.specs.declared.words.CallWord.{CallWord}
 use Rattle.lset_text.specs.declared.words.CallWord.TheVariants as word
 use Rattle.lset_text.specs.Parts.{Lacks}
 use Rattle.lset_text.specs.Spellings.{kind_text, kind_of, call_word_text, call_text, call_word_of, word_of, with_key}
-use Rattle.lset_text.specs.Spellings.{reply_text, reply_of, HasWord, HasReply, kept_word, call_word_in, at_key, at_number, begins_at, plain_or_at, reply_in, has_form, is_reply_in}
+use Rattle.lset_text.specs.Spellings.{reply_text, reply_of, HasWord, HasReply, kept_word, call_word_in, at_key, at_number}
+use Rattle.lset_text.specs.Spellings.{begins_at, plain_or_at, reply_in, has_form, is_reply_in}
 use Rattle.lset_text.specs.declared.words.Version.{Version}
 use Rattle.lset_text.specs.declared.words.Version.TheVariants.{One, Two}
 use Rattle.lset_text.specs.Parts.{cut_at}
@@ -225,7 +227,8 @@ reply_lacks byte v reply.False h low = Lacks-below 45 byte (codes "false") low r
 reply_lacks byte v reply.Full h low = Lacks-below 45 byte (codes "full") low refl
 reply_lacks byte v reply.Nothing h low = Lacks-below 45 byte (codes "nothing") low refl
 reply_lacks byte One (reply.At k) h low = absurd h
-reply_lacks byte Two (reply.At k) h low = Lacks-append byte (codes "at-") (decimal k.0) (Lacks-below 45 byte (codes "at-") low refl)
+reply_lacks byte Two (reply.At k) h low =
+    Lacks-append byte (codes "at-") (decimal k.0) (Lacks-below 45 byte (codes "at-") low refl)
     (decimal_lacks byte k.0 (omega arith) (omega arith))
 
 -- ---- calls of a version

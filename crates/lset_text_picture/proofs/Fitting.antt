@@ -1,5 +1,6 @@
 -- The front of a window that fits, from the columns of its drawing.
-use Rattle.std.proofs.Common.{◌≡◌, ℕ, zero, suc, ◌-◌, ◌<◌, ◌≤◌, List, [], ◌∷◌, length, take, map, Option, Some, refl, sym, ap, ◌∙◌, subst, arith, inl, inr}
+use Rattle.std.proofs.Common.{◌≡◌, ℕ, zero, suc, ◌-◌, ◌<◌, ◌≤◌, List, [], ◌∷◌, length, take, map, Option, Some, refl, sym, ap}
+use Rattle.std.proofs.Common.{◌∙◌, subst, arith, inl, inr}
 use Rattle.std.specs.Prelude.{◌≢◌, Bool, true, false, not, nat_le, ◌||◌, min, option_map, slice_get, unwrap_or, vec_len}
 use Rattle.std.proofs.Math.Seq.{take-length}
 use Rattle.std.proofs.lemmas.List.{length-map, length-take, length-take-le, take-map}
@@ -46,7 +47,8 @@ as_front width p w n count begins few shown =
     let long : length (moments_of p n) ≡ count = ap length shown ∙ length-take-le count ms few in
     let columns : columns_at p (standings_of p) (moments_of p n) ≡ take count (columns_at p (standings_of p) ms) =
     ap (columns_at p (standings_of p)) shown ∙ columns-take p (standings_of p) (are_known p) true count ms in
-    let fits : ℕ → List ColumnValue → ℕ → Bool = λ k cs from. nat_le k 1 || not (has_longer width (rows_at p cs from (are_known p))) in
+    let fits : ℕ → List ColumnValue → ℕ → Bool =
+    λ k cs from. nat_le k 1 || not (has_longer width (rows_at p cs from (are_known p))) in
     ap (λ (k : ℕ). fits k (columns_at p (standings_of p) (moments_of p n)) n.from) long
     ∙ ap (λ (cs : List ColumnValue). fits count cs n.from) columns
     ∙ ap (fits count (take count (columns_at p (standings_of p) ms))) begins
@@ -101,18 +103,21 @@ fitted_front width p w n count begins ends less is =
     let there : moments_of p n ≡ take count ms =
     ap (λ (from : ℕ). shown n.to from) begins ∙ ap (λ (to : ℕ). shown to w.from) ends
     ∙ ends_there p.history.calls (points_of p) w.to MOST_COLUMNS w.from count some inside in
-    let late : shown_to (take count ms) w.to ≤ w.to = ends_no_later p.history.calls (points_of p) w.to MOST_COLUMNS w.from count some inside in
+    let late : shown_to (take count ms) w.to ≤ w.to = ends_no_later p.history.calls (points_of p) w.to MOST_COLUMNS w.from count
+    some inside in
     fitted width p w n count begins (omega arith) there (λ e. absurd (less e)) is
 
 -- ---- from the drawing that was made
 
 -- so many moments as columns
-pub as_many : (p : PictureValue) (w : Window) (d : Drawing) → length d.columns.items ≡ vec_len d.columns → drawing_view d ≡ drawing_of p w
+pub as_many : (p : PictureValue) (w : Window) (d : Drawing) → length d.columns.items ≡ vec_len d.columns →
+    drawing_view d ≡ drawing_of p w
     → vec_len d.columns ≡ length (moments_of p w)
 as_many p w d long e = sym long ∙ sym (length-map d.columns.items column_view) ∙ ap (λ (v : DrawingValue). length v.columns) e
     ∙ columns-length p (standings_of p) (are_known p) true (moments_of p w)
 
-pub most_of : (width : ℕ) (p : PictureValue) (w : Window) (d : Drawing) (count : ℕ) → length d.columns.items ≡ vec_len d.columns → drawing_view d ≡ drawing_of p w
+pub most_of : (width : ℕ) (p : PictureValue) (w : Window) (d : Drawing) (count : ℕ) → length d.columns.items ≡ vec_len d.columns →
+    drawing_view d ≡ drawing_of p w
     → IsMost (front_fits width p (drawing_view d)) (vec_len d.columns) count
     → IsMost (front_fits width p (drawing_of p w)) (length (moments_of p w)) count
 most_of width p w d count long e is =

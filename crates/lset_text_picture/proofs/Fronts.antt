@@ -1,5 +1,6 @@
 -- The moments of the fronts of a window: those of a window that ends earlier, and of one that ends at one of its moments.
-use Rattle.std.proofs.Common.{◌≡◌, ℕ, zero, suc, ◌+◌, ◌-◌, ◌<◌, ◌≤◌, inl, inr, List, [], ◌∷◌, length, take, map, Option, Some, None, refl, sym, ap, ◌∙◌, subst, arith}
+use Rattle.std.proofs.Common.{◌≡◌, ℕ, zero, suc, ◌+◌, ◌-◌, ◌<◌, ◌≤◌, inl, inr, List, [], ◌∷◌, length, take, map, Option, Some}
+use Rattle.std.proofs.Common.{None, refl, sym, ap, ◌∙◌, subst, arith}
 use Rattle.std.specs.Prelude.{IfSome, unwrap_or, slice_get}
 use Rattle.std.proofs.lemmas.Bool.Decides.{nat_tests}
 use Rattle.lset_words.specs.declared.history.CallRecord.{CallRecord}
@@ -10,24 +11,30 @@ use Rattle.lset_drawing.specs.Moments.{sooner, first_from, moments_of_calls, nex
 
 -- ---- the next moment is not before the one from which on it is looked for
 
-sooner_not_before : (from : ℕ) (best : Option ℕ) (m : ℕ) → IfSome best (λ b. from ≤ b) → IfSome (sooner from best m) (λ b. from ≤ b)
+sooner_not_before : (from : ℕ) (best : Option ℕ) (m : ℕ) → IfSome best (λ b. from ≤ b) →
+    IfSome (sooner from best m) (λ b. from ≤ b)
 sooner_not_before from None m h = elim (below_or_not m from) [
   | inl l ↦ (let e : sooner from None m ≡ None = grind (arith, nat_tests) in subst (λ o. IfSome o (λ b. from ≤ b)) (sym e) tt)
   | inr l ↦ (let e : sooner from None m ≡ Some m = grind (arith, nat_tests) in subst (λ o. IfSome o (λ b. from ≤ b)) (sym e) l)
 ]
 sooner_not_before from (Some b) m h = elim (below_or_not m from) [
-  | inl l ↦ (let e : sooner from (Some b) m ≡ Some b = grind (arith, nat_tests) in subst (λ o. IfSome o (λ b. from ≤ b)) (sym e) h)
+  | inl l ↦ (let e : sooner from (Some b) m ≡ Some b = grind (arith, nat_tests) in
+      subst (λ o. IfSome o (λ b. from ≤ b)) (sym e) h)
   | inr l ↦ elim (below_or_not m b) [
-    | inl k ↦ (let e : sooner from (Some b) m ≡ Some m = grind (arith, nat_tests) in subst (λ o. IfSome o (λ b. from ≤ b)) (sym e) l)
-    | inr k ↦ (let e : sooner from (Some b) m ≡ Some b = grind (arith, nat_tests) in subst (λ o. IfSome o (λ b. from ≤ b)) (sym e) h)
+    | inl k ↦ (let e : sooner from (Some b) m ≡ Some m = grind (arith, nat_tests) in
+        subst (λ o. IfSome o (λ b. from ≤ b)) (sym e) l)
+    | inr k ↦ (let e : sooner from (Some b) m ≡ Some b = grind (arith, nat_tests) in
+        subst (λ o. IfSome o (λ b. from ≤ b)) (sym e) h)
   ]
 ]
 
-first_not_before : (from : ℕ) (best : Option ℕ) (ms : List ℕ) → IfSome best (λ b. from ≤ b) → IfSome (first_from from best ms) (λ b. from ≤ b)
+first_not_before : (from : ℕ) (best : Option ℕ) (ms : List ℕ) → IfSome best (λ b. from ≤ b) →
+    IfSome (first_from from best ms) (λ b. from ≤ b)
 first_not_before from best [] h = h
 first_not_before from best (m ∷ ms) h = first_not_before from (sooner from best m) ms (sooner_not_before from best m h)
 
-next_not_before : (calls : List CallRecord) (points : List Point) (from : ℕ) → IfSome (next_moment calls points from) (λ m. from ≤ m)
+next_not_before : (calls : List CallRecord) (points : List Point) (from : ℕ) →
+    IfSome (next_moment calls points from) (λ m. from ≤ m)
 next_not_before calls points from =
     first_not_before from (first_from from None (moments_of_calls calls)) (map moment_of points)
     (first_not_before from None (moments_of_calls calls) tt)
@@ -71,12 +78,14 @@ earlier_shown calls points s to (suc left) from h =
     earlier_next calls points s to left h (λ after. earlier_shown calls points s to left after h) (next_moment calls points from)
 
 -- a window that ends before it begins
-none_next : (calls : List CallRecord) (points : List Point) (to left from : ℕ) → to < from → (o : Option ℕ) → IfSome o (λ m. from ≤ m)
+none_next : (calls : List CallRecord) (points : List Point) (to left from : ℕ) → to < from → (o : Option ℕ) →
+    IfSome o (λ m. from ≤ m)
     → shown_from calls points to left (upto to o) ≡ []
 none_next calls points to left from h None l = refl
 none_next calls points to left from h (Some m) l = ap (shown_from calls points to left) (past to m (omega arith))
 
-none_shown : (calls : List CallRecord) (points : List Point) (to left from : ℕ) → to < from → moments_shown calls points to left from ≡ []
+none_shown : (calls : List CallRecord) (points : List Point) (to left from : ℕ) → to < from →
+    moments_shown calls points to left from ≡ []
 none_shown calls points to zero from h = refl
 none_shown calls points to (suc left) from h =
     none_next calls points to left from h (next_moment calls points from) (next_not_before calls points from)
@@ -94,12 +103,17 @@ last_of_more m x xs to =
     ap (λ (i : ℕ). unwrap_or (slice_get (m ∷ x ∷ xs) i) to) e
 
 -- the first moment, and then some of those after it
-ends_after : (calls : List CallRecord) (points : List Point) (to left m count : ℕ) (after : List ℕ) → m ≤ to → count ≤ length after
+ends_after : (calls : List CallRecord) (points : List Point) (to left m count : ℕ) (after : List ℕ) → m ≤ to →
+    count ≤ length after
     → ((n : ℕ) → 0 < n → n ≤ length after → Ends calls points to left (m + 1) (take n after))
-    → (shown_from calls points (shown_to (m ∷ take count after) to) left (upto (shown_to (m ∷ take count after) to) (Some m)) ≡ m ∷ take count after)
+    → (shown_from calls points (shown_to (m ∷ take count after) to) left (upto (shown_to (m ∷ take count after) to) (Some m)) ≡ m
+    ∷ take count after)
     × (shown_to (m ∷ take count after) to ≤ to)
-ends_after calls points to left m zero after l h rest =
-    (ap (shown_from calls points m left) (within m m (omega arith)) ∙ ap (λ (ns : List ℕ). m ∷ ns) (none_shown calls points m left (m + 1) (omega arith)), l)
+ends_after calls points to left m zero after l h rest = (
+  ap (shown_from calls points m left) (within m m (omega arith))
+      ∙ ap (λ (ns : List ℕ). m ∷ ns) (none_shown calls points m left (m + 1) (omega arith)),
+  l,
+)
 ends_after calls points to left m (suc count) [] l h rest = absurd (omega arith)
 ends_after calls points to left m (suc count) (x ∷ after) l h rest =
     let t : ℕ = shown_to (x ∷ take count after) to in
@@ -109,7 +123,8 @@ ends_after calls points to left m (suc count) (x ∷ after) l h rest =
           let some : moments_shown calls points t left (m + 1) ≡ x ∷ take count after = e.just in cc)
       | inr k ↦ k
     ] in
-    let P : ℕ → Type 0 = λ last. (shown_from calls points last left (upto last (Some m)) ≡ m ∷ x ∷ take count after) × (last ≤ to) in
+    let P : ℕ → Type 0 = λ last. (shown_from calls points last left (upto last (Some m)) ≡ m ∷ x ∷ take count after)
+    × (last ≤ to) in
     subst P (sym (last_of_more m x (take count after) to))
     (ap (shown_from calls points t left) (within t m low) ∙ ap (λ (ns : List ℕ). m ∷ ns) e.just, e.sooner)
 
@@ -127,7 +142,8 @@ ends_next calls points to left rest (Some m) (suc count) h k = elim (below_or_no
       let F : Option ℕ → Type 0 = λ q. let shown : List ℕ = take (suc count) (shown_from calls points to left q) in
       (shown_from calls points (shown_to shown to) left (upto (shown_to shown to) (Some m)) ≡ shown) × (shown_to shown to ≤ to) in
       let long = ap (λ (o : Option ℕ). length (shown_from calls points to left o)) e in
-      subst F (sym e) (ends_after calls points to left m count (moments_shown calls points to left (m + 1)) l (omega arith) (rest (m + 1))))
+      subst F (sym e) (ends_after calls points to left m count (moments_shown calls points to left (m + 1)) l (omega arith)
+      (rest (m + 1))))
 ]
 
 ends : (calls : List CallRecord) (points : List Point) (to left from count : ℕ) → 0 < count
@@ -135,7 +151,8 @@ ends : (calls : List CallRecord) (points : List Point) (to left from count : ℕ
     → Ends calls points to left from (take count (moments_shown calls points to left from))
 ends calls points to zero from count h k = absurd (omega arith)
 ends calls points to (suc left) from count h k =
-    let e = ends_next calls points to left (λ after n. ends calls points to left after n) (next_moment calls points from) count h k in
+    let e = ends_next calls points to left (λ after n. ends calls points to left after n) (next_moment calls points from) count h
+    k in
     record { just = e.0; sooner = e.1 }
 
 pub ends_there : (calls : List CallRecord) (points : List Point) (to left from count : ℕ) → 0 < count

@@ -2,7 +2,8 @@
 use Rattle.std.specs.Prelude.{◌≡◌, ◌≢◌, ℕ, ◌⊎◌, List, [], ◌++◌, codes, Option, Some, None, Result, Ok, Err}
 use Rattle.std.specs.Fmt.{decimal}
 use Rattle.lset_history.specs.declared.fault.OrderFault.{OrderFault}
-use Rattle.lset_history.specs.declared.fault.OrderFault.TheVariants.{Unknown, Twice, Missing, WrongReply, TooEarly, WrongSet, Memory}
+use Rattle.lset_history.specs.declared.fault.OrderFault.TheVariants.{Unknown, Twice, Missing, WrongReply, TooEarly, WrongSet}
+use Rattle.lset_history.specs.declared.fault.OrderFault.TheVariants.{Memory}
 use Rattle.lset_history.specs.Faults.{Explains, IsFault}
 use Rattle.lset_report.specs.declared.report_fault.ReportFault.{ReportFault}
 use Rattle.lset_report.specs.Report.{ReportValue}
@@ -47,7 +48,8 @@ abbrev pub IsFirstFault : Result ReportValue ReportFault → Trouble → Type 0
 IsFirstFault (Err fault) t = t ≡ of_report fault
 IsFirstFault (Ok r) t = ⊥
 
--- what is made of the bytes of an input: the answer on the report whose text they are, or a trouble with the input, or its first fault
+-- what is made of the bytes of an input: the answer on the report whose text they are, or a trouble with the input, or its first
+-- fault
 abbrev pub Checks : List ℕ → Made → Type 0
 Checks bytes (Ok answer) = IsTaken bytes × (r : ReportValue) × IsReport r × (bytes ≡ report_text r) × IsAnswerOn r answer
 Checks bytes (Err t) = IsInputTrouble bytes t ⊎ (IsTaken bytes × IsFirstFault (reading bytes) t)

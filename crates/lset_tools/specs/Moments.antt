@@ -12,7 +12,8 @@ abbrev pub moment_of : ℕ → Option (List ℕ) → ℕ → Option ℕ
 moment_of least None absent = Some absent
 moment_of least (Some text) absent = number_in least MOST_MOMENT text
 
--- The first and the last moment that the options ask for, or the first of the options that is wrong. The last is not before the first.
+-- The first and the last moment that the options ask for, or the first of the options that is wrong. The last is not before the
+-- first.
 unfoldable pub moments_of : Option (List ℕ) → Option (List ℕ) → Result Moments ValueName
 moments_of from to = do
   first ← or_fail name.From (moment_of 1 from 1)

@@ -13,7 +13,8 @@ use Rattle.lset_tools.specs.declared.trouble.Trouble.{Trouble}
 use Rattle.lset_tools.specs.Trouble.{of_schedule, of_replay}
 use Rattle.lset_tools.specs.Tools.{Made, IsTaken, IsInputTrouble}
 
--- The bytes are the text of a schedule, and this is the report of just its events, whose order explains its history and leaves its keys.
+-- The bytes are the text of a schedule, and this is the report of just its events, whose order explains its history and leaves
+-- its keys.
 pub record IsReported (bytes : List ℕ) (p : Plan) (r : ReportValue) : Type 0 where
   pub schedule : IsSchedule p
   pub text : bytes ≡ schedule_text p

@@ -4,7 +4,8 @@ use Rattle.std.specs.Io.KnownBytes.{Appends, Keeps}
 use Rattle.lset_tools.specs.declared.answer.Answer.{Answer}
 use Rattle.lset_tools.specs.declared.streams.TheConstants.{LONGEST}
 use Rattle.lset_tools.specs.declared.trouble.Trouble.{Trouble}
-use Rattle.lset_tools.specs.declared.trouble.Trouble.TheVariants.{CannotRead, TooLong, CannotWrite, Memory, Line, Bad, CannotListen, Work, Serve}
+use Rattle.lset_tools.specs.declared.trouble.Trouble.TheVariants.{CannotRead, TooLong, CannotWrite, Memory, Line, Bad}
+use Rattle.lset_tools.specs.declared.trouble.Trouble.TheVariants.{CannotListen, Work, Serve}
 use Rattle.lset_tools.specs.Trouble.{trouble_text}
 use Rattle.lset_tools.specs.Trouble as trouble
 
@@ -48,7 +49,8 @@ line_of (Err t) = trouble_text t
 abbrev pub AppendsFront : Option (List ℕ) → Option (List ℕ) → List ℕ → Type 0
 AppendsFront old new text = (front : List ℕ) × (rest : List ℕ) × (text ≡ front ++ rest) × Appends old new front
 
--- A tool that makes something of its input ends so: what it made reaches the output, a trouble gets its line, and the exit status is
+-- A tool that makes something of its input ends so: what it made reaches the output, a trouble gets its line, and the exit
+-- status is
 -- that of the outcome.
 abbrev pub Ends : (Made → Type 0) → Option (List ℕ) → Option (List ℕ) → Option (List ℕ) → Option (List ℕ) → ℕ → Type 0
 Ends IsMade output_old output_new faults_old faults_new status =

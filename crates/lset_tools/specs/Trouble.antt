@@ -22,7 +22,8 @@ use Rattle.lset_tools.specs.declared.trouble.WorkName.TheVariants as work
 use Rattle.lset_tools.specs.declared.trouble.ServeName.{ServeName}
 use Rattle.lset_tools.specs.declared.trouble.ServeName.TheVariants as serve
 use Rattle.lset_tools.specs.declared.trouble.Trouble.{Trouble}
-use Rattle.lset_tools.specs.declared.trouble.Trouble.TheVariants.{CannotRead, TooLong, CannotWrite, Memory, Line, Bad, CannotListen, Work, Serve}
+use Rattle.lset_tools.specs.declared.trouble.Trouble.TheVariants.{CannotRead, TooLong, CannotWrite, Memory, Line, Bad}
+use Rattle.lset_tools.specs.declared.trouble.Trouble.TheVariants.{CannotListen, Work, Serve}
 
 -- of an input that was not read
 abbrev pub of_input : InputFault → Trouble

@@ -1,5 +1,6 @@
 -- Histories of calls, and the orders that explain them (Herlihy and Wing, with completion of open calls).
-use Rattle.std.specs.Prelude.{◌≡◌, ◌≢◌, ℕ, ◌<◌, List, [], ◌∷◌, ◌++◌, map, length, Some, None, Contains, All, AllPairs, IfSome, IsSomeAnd, slice_index_or}
+use Rattle.std.specs.Prelude.{◌≡◌, ◌≢◌, ℕ, ◌<◌, List, [], ◌∷◌, ◌++◌, map, length, Some, None, Contains, All, AllPairs, IfSome}
+use Rattle.std.specs.Prelude.{IsSomeAnd, slice_index_or}
 use Rattle.lset_words.specs.declared.Call.TheVariants as call
 use Rattle.lset_words.specs.declared.Reply.{Reply}
 use Rattle.lset_words.specs.declared.history.CallRecord.{CallRecord}

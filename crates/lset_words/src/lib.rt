@@ -1,4 +1,9 @@
 //! Keys, calls, replies, the layout of a list's words, and the records of which histories are made.
+//!
+//! The definitions in which the whole theorem is told stand in this crate's specs: the sequential set, the history of a run, an order
+//! of the calls that explains it, the content that it leaves; what a run is, lset_steps defines. The crates that prove the theorem of each
+//! list, that run the lists in threads, that replay a schedule and that check a report have no other crate in common: whoever believes
+//! them has one place to read, and none of them bends a definition to its own proof.
 #![tactic(auto)]
 
 ghost use Rattle.std.specs.Prelude.{◌≡◌, ℕ, ◌+◌, ◌/◌, ◌%◌, ◌<◌, ◌^◌, IsTrue, ◌↔◌, Bool, IfOk, IfErr};

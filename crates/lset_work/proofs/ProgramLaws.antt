@@ -23,18 +23,22 @@ made-append [] (b ∷ ys) c a e = absurd (omega (arith, e))
 made-append (d ∷ cs) [] c a e = absurd (omega (arith, e))
 made-append (d ∷ cs) (b ∷ ys) c a e = ap (λ l. record { call = d; reply = b } ∷ l) (made-append cs ys c a (omega (arith, e)))
 
-call_more : (r r1 r2 : Record) (cs : List Call) (ys ys' : List Reply) (i : ℕ) (c : Call) (a : Reply) → i < length cs → c ≡ get_or cs i c → length ys ≡ i
+call_more : (r r1 r2 : Record) (cs : List Call) (ys ys' : List Reply) (i : ℕ) (c : Call) (a : Reply) → i < length cs →
+    c ≡ get_or cs i c → length ys ≡ i
     → ys' ≡ ys ++ a ∷ [] → r1 ≡ with_calls r (made (take i cs) ys) → r2 ≡ called r1 (record { call = c; reply = a })
     → r2 ≡ with_calls r (made (take (i + 1) cs) ys')
 call_more r r1 r2 cs ys ys' i c a lt is each more before now =
     let one : CallMade = record { call = c; reply = a } in
     let same : length (take i cs) ≡ length ys = omega (arith, length-take-le i cs (omega (arith, lt)), each) in
-    let grown : take (i + 1) cs ≡ take i cs ++ c ∷ [] = ap (λ j. take j cs) (add-one i) ∙ take-suc cs i c lt ∙ ap (λ d. take i cs ++ d ∷ []) (sym is) in
+    let grown : take (i + 1) cs ≡ take i cs ++ c ∷ [] = ap (λ j. take j cs) (add-one i) ∙ take-suc cs i c lt
+    ∙ ap (λ d. take i cs ++ d ∷ []) (sym is) in
     let all : made (take (i + 1) cs) ys' ≡ made (take i cs) ys ++ one ∷ [] =
     ap (λ l. made l ys') grown ∙ ap (made (take i cs ++ c ∷ [])) more ∙ made-append (take i cs) ys c a same in
-    now ∙ ap (λ (q : Record). called q one) before ∙ sym (with_calls-append r (made (take i cs) ys) (one ∷ [])) ∙ ap (with_calls r) (sym all)
+    now ∙ ap (λ (q : Record). called q one) before ∙ sym (with_calls-append r (made (take i cs) ys) (one ∷ []))
+    ∙ ap (with_calls r) (sym all)
 
-pub call_at : (r r1 r2 : Record) (cs : List Call) (ys ys' : List Reply) (i : ℕ) (d : Call) (a : Reply) → i < length cs → length ys ≡ i
+pub call_at : (r r1 r2 : Record) (cs : List Call) (ys ys' : List Reply) (i : ℕ) (d : Call) (a : Reply) → i < length cs →
+    length ys ≡ i
     → ys' ≡ ys ++ a ∷ [] → r1 ≡ with_calls r (made (take i cs) ys) → r2 ≡ called r1 (record { call = get_or cs i d; reply = a })
     → r2 ≡ with_calls r (made (take (i + 1) cs) ys')
 call_at r r1 r2 cs ys ys' i d a lt each more before now =
@@ -42,7 +46,8 @@ call_at r r1 r2 cs ys ys' i d a lt each more before now =
 
 -- ---- one thread more
 
-worked-append : (rs : List Record) (ps : List (List Call)) (ys : List (List Reply)) (r : Record) (p : List Call) (y : List Reply) → length ps ≡ length rs → length ys ≡ length rs
+worked-append : (rs : List Record) (ps : List (List Call)) (ys : List (List Reply)) (r : Record) (p : List Call) (y : List Reply)
+    → length ps ≡ length rs → length ys ≡ length rs
     → worked (rs ++ r ∷ []) (ps ++ p ∷ []) (ys ++ y ∷ []) ≡ worked rs ps ys ++ with_calls r (made p y) ∷ []
 worked-append [] [] [] r p y e f = refl
 worked-append [] (x ∷ ps) ys r p y e f = absurd (omega (arith, e))
@@ -55,9 +60,12 @@ worked-append (q ∷ rs) (x ∷ ps) (z ∷ ys) r p y e f =
 none_run : (set : SetValue) → HaveRun set [] [] None []
 none_run set = record { fit = refl; counted = refl; gathers = refl; held = refl; same = tt }
 
-run_more : (set : SetValue) (seats : List SeatValue) (programs : List (List Call)) (last : Option SeatValue) (replies : List (List Reply))
-    (seat done now : SeatValue) (program : List Call) (told : List Reply) → HaveRun set seats programs last replies → IsMadeOn seat.past program told done.past
-    → done.held ≡ seat.held → Some now.past ≡ gather_onto (option_map (λ s. s.past) last) (done.past ∷ []) → now.held ≡ held_in last + done.held → now.set ≡ set
+run_more : (set : SetValue) (seats : List SeatValue) (programs : List (List Call)) (last : Option SeatValue)
+    (replies : List (List Reply))
+    (seat done now : SeatValue) (program : List Call) (told : List Reply) → HaveRun set seats programs last replies →
+    IsMadeOn seat.past program told done.past
+    → done.held ≡ seat.held → Some now.past ≡ gather_onto (option_map (λ s. s.past) last) (done.past ∷ []) →
+    now.held ≡ held_in last + done.held → now.set ≡ set
     → HaveRun set (seats ++ seat ∷ []) (programs ++ program ∷ []) (Some now) (replies ++ told ∷ [])
 run_more set seats programs last replies seat done now program told h made same gathers held of =
     let past : SeatValue → Record = λ s. s.past in
@@ -66,7 +74,8 @@ run_more set seats programs last replies seat done now program told h made same 
     let ws = worked records programs replies in
     let few : length programs ≡ length records = h.fit ∙ sym (length-map seats past) in
     let counts : length replies ≡ length records =
-    sym (length-map replies (λ (l : List Reply). length l)) ∙ ap (λ l. length l) h.counted ∙ length-map programs (λ (l : List Call). length l) ∙ few in
+    sym (length-map replies (λ (l : List Reply). length l)) ∙ ap (λ l. length l) h.counted
+    ∙ length-map programs (λ (l : List Call). length l) ∙ few in
     let grown : worked (map past (seats ++ seat ∷ [])) (programs ++ program ∷ []) (replies ++ told ∷ []) ≡ ws ++ done.past ∷ [] =
     ap (λ rs. worked rs (programs ++ program ∷ []) (replies ++ told ∷ [])) (map-append past seats (seat ∷ []))
     ∙ worked-append records programs replies seat.past program told few counts ∙ ap (λ r. ws ++ r ∷ []) (sym made.1) in
@@ -74,19 +83,22 @@ run_more set seats programs last replies seat done now program told h made same 
       fit = length-append programs (program ∷ []) ∙ ap (λ n. n + 1) h.fit ∙ sym (length-append seats (seat ∷ []));
       counted = map-append (λ (l : List Reply). length l) replies (told ∷ []) ∙ (λ i. h.counted i ++ made.0 i ∷ [])
           ∙ sym (map-append (λ (l : List Call). length l) programs (program ∷ []));
-      gathers = gathers ∙ ap (λ o. gather_onto o (done.past ∷ [])) h.gathers ∙ sym (gather_more None ws done.past) ∙ ap (gather_onto None) (sym grown);
+      gathers = gathers ∙ ap (λ o. gather_onto o (done.past ∷ [])) h.gathers ∙ sym (gather_more None ws done.past)
+          ∙ ap (gather_onto None) (sym grown);
       held = omega (arith, held, h.held, same, sum_by-append holds seats (seat ∷ []), sum_by-cons holds seat []);
       same = of;
     }
 
 -- the threads that have come back, and those that are left
-pub record SoFar {H V : Type 0} (set : SetValue) (seat : H → SeatValue) (program : H → List Call) (items : V → List Reply) (hs rest : List H) (last : Option SeatValue)
+pub record SoFar {H V : Type 0} (set : SetValue) (seat : H → SeatValue) (program : H → List Call) (items : V → List Reply)
+    (hs rest : List H) (last : Option SeatValue)
     (vs : List V) : Type 0 where
   pub joined : List H
   pub all : joined ++ rest ≡ hs
   pub run : HaveRun set (map seat joined) (map program joined) last (map items vs)
 
-pub none_yet : {H V : Type 0} (set : SetValue) (seat : H → SeatValue) (program : H → List Call) (items : V → List Reply) (hs rest : List H) (vs : List V)
+pub none_yet : {H V : Type 0} (set : SetValue) (seat : H → SeatValue) (program : H → List Call) (items : V → List Reply)
+    (hs rest : List H) (vs : List V)
     → rest ≡ hs → vs ≡ [] → SoFar set seat program items hs rest None vs
 none_yet set seat program items hs rest vs e none = record {
   joined = [];
@@ -94,14 +106,18 @@ none_yet set seat program items hs rest vs e none = record {
   run = subst (λ l. HaveRun set [] [] None (map items l)) (sym none) (none_run set);
 }
 
-pub one_more : {H V : Type 0} (set : SetValue) (seat : H → SeatValue) (program : H → List Call) (items : V → List Reply) (hs rest rest' : List H) (h : H)
-    (last : Option SeatValue) (vs vs' : List V) (v : V) (done now : SeatValue) → rest ≡ h ∷ rest' → vs' ≡ vs ++ v ∷ [] → SoFar set seat program items hs rest last vs
+pub one_more : {H V : Type 0} (set : SetValue) (seat : H → SeatValue) (program : H → List Call) (items : V → List Reply)
+    (hs rest rest' : List H) (h : H)
+    (last : Option SeatValue) (vs vs' : List V) (v : V) (done now : SeatValue) → rest ≡ h ∷ rest' → vs' ≡ vs ++ v ∷ [] →
+    SoFar set seat program items hs rest last vs
     → IsMadeOn (seat h).past (program h) (items v) done.past → done.held ≡ (seat h).held
-    → Some now.past ≡ gather_onto (option_map (λ s. s.past) last) (done.past ∷ []) → now.held ≡ held_in last + done.held → now.set ≡ set
+    → Some now.past ≡ gather_onto (option_map (λ s. s.past) last) (done.past ∷ []) → now.held ≡ held_in last + done.held →
+    now.set ≡ set
     → SoFar set seat program items hs rest' (Some now) vs'
 one_more set seat program items hs rest rest' h last vs vs' v done now step more s made same gathers held of =
     let j = s.joined in
-    let next = run_more set (map seat j) (map program j) last (map items vs) (seat h) done now (program h) (items v) s.run made same gathers held of in
+    let next = run_more set (map seat j) (map program j) last (map items vs) (seat h) done now (program h) (items v) s.run made
+    same gathers held of in
     let told : map items vs' ≡ map items vs ++ items v ∷ [] = ap (map items) more ∙ map-append items vs (v ∷ []) in
     record {
       joined = j ++ h ∷ [];
@@ -111,13 +127,16 @@ one_more set seat program items hs rest rest' h last vs vs' v done now step more
           (subst (λ l. HaveRun set (map seat j ++ seat h ∷ []) (map program j ++ program h ∷ []) (Some now) l) (sym told) next));
     }
 
-pub all_run : {H V : Type 0} (set : SetValue) (seat : H → SeatValue) (program : H → List Call) (items : V → List Reply) (hs rest : List H) (last : Option SeatValue)
-    (vs : List V) → rest ≡ [] → SoFar set seat program items hs rest last vs → HaveRun set (map seat hs) (map program hs) last (map items vs)
+pub all_run : {H V : Type 0} (set : SetValue) (seat : H → SeatValue) (program : H → List Call) (items : V → List Reply)
+    (hs rest : List H) (last : Option SeatValue)
+    (vs : List V) → rest ≡ [] → SoFar set seat program items hs rest last vs →
+    HaveRun set (map seat hs) (map program hs) last (map items vs)
 all_run set seat program items hs rest last vs none s =
     let whole : s.joined ≡ hs = sym (append-nil s.joined) ∙ ap (λ l. s.joined ++ l) (sym none) ∙ s.all in
     subst (λ l. HaveRun set (map seat l) (map program l) last (map items vs)) whole s.run
 
-pub run_of : (set : SetValue) (seats seats' : List SeatValue) (programs programs' : List (List Call)) (last : Option SeatValue) (replies : List (List Reply))
+pub run_of : (set : SetValue) (seats seats' : List SeatValue) (programs programs' : List (List Call)) (last : Option SeatValue)
+    (replies : List (List Reply))
     → seats ≡ seats' → programs ≡ programs' → HaveRun set seats programs last replies → HaveRun set seats' programs' last replies
 run_of set seats seats' programs programs' last replies e f h =
     subst (λ l. HaveRun set seats' l last replies) f (subst (λ l. HaveRun set l programs last replies) e h)

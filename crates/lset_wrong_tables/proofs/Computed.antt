@@ -1,6 +1,7 @@
 -- Findings by computation: one walk over the events shows the run, and tests of its worlds the rest. Each test is a Bool, so that
 -- a finding is proved by `refl`.
-use Rattle.std.specs.Prelude.{◌≡◌, ◌≢◌, ℕ, zero, suc, ◌+◌, ◌/◌, ◌%◌, ◌<◌, ◌≤◌, ◌&&◌, not, Bool, true, false, if◌then◌else◌, ◌==◌, nat_lt, List, [], ◌∷◌, length, refl}
+use Rattle.std.specs.Prelude.{◌≡◌, ◌≢◌, ℕ, zero, suc, ◌+◌, ◌/◌, ◌%◌, ◌<◌, ◌≤◌, ◌&&◌, not, Bool, true, false, if◌then◌else◌, ◌==◌}
+use Rattle.std.specs.Prelude.{nat_lt, List, [], ◌∷◌, length, refl}
 use Rattle.std.specs.Prelude.{Option, Some, None}
 use Rattle.std.proofs.Common.{arith, rules, sym, ap, subst, inl, inr}
 use Rattle.std.proofs.lemmas.Bool.{cases_Bool}
@@ -18,7 +19,8 @@ use Rattle.lset_steps.specs.declared.Event.TheVariants.{Begin, Go}
 use Rattle.lset_steps.specs.Steps.{Table, State, opening, after, state_at, event_at, local_of, Enabled}
 use Rattle.lset_steps.specs.Chain.{View, Segment, InChain, InContent, FitsIn}
 use Rattle.lset_wrong_tables.specs.Schedules.{Schedule, Runs, world_at}
-use Rattle.lset_wrong_tables.specs.Findings.{UnlinkedNodeChanges, PublishedKeyChanges, AddedKeyIsLost, OtherKeyIsLost, AbsentKeyIsRemoved, ReplyNeverFits, log_in}
+use Rattle.lset_wrong_tables.specs.Findings.{UnlinkedNodeChanges, PublishedKeyChanges, AddedKeyIsLost, OtherKeyIsLost}
+use Rattle.lset_wrong_tables.specs.Findings.{AbsentKeyIsRemoved, ReplyNeverFits, log_in}
 use Rattle.lset_words.proofs.Bounds.{opens_empty}
 
 -- A RUN, BY ONE WALK OVER ITS EVENTS
@@ -60,7 +62,8 @@ module _ (T : Table) where
       subst (λ x. Enabled x (event_at es k)) (from_next s e es k)
       (enabled_from (after T s e) es k (both (can s e) (can_all T (after T s e) es) c).1 (omega arith))
 
-  runs_by : (s : Schedule) → IsWithin (sizes (empty s.threads s.quota)) → can_all T (opening (empty s.threads s.quota)) s.events ≡ true → Runs T s
+  runs_by : (s : Schedule) → IsWithin (sizes (empty s.threads s.quota)) → can_all T (opening (empty s.threads s.quota)) s.events ≡
+      true → Runs T s
   runs_by s limits c = record {
     opens = opens_empty s.threads s.quota limits;
     enabled = λ k h. subst (λ x. Enabled x (event_at s.events k)) (from_opening s.threads s.quota k (event_at s.events))
@@ -81,7 +84,8 @@ run_by T s e =
     let parts = both (few s) (can_all T (opening (empty s.threads s.quota)) s.events) e in
     runs_by T s (limits_by s parts.0) parts.1
 
--- WHAT A WALK OF A CHAIN DOES NOT MEET: it is at the tail after fewer steps than that, and has passed no node b, or no unmarked user
+-- WHAT A WALK OF A CHAIN DOES NOT MEET: it is at the tail after fewer steps than that, and has passed no node b, or no unmarked
+-- user
 -- node with the key
 abbrev passes : View → ℕ → ℕ → ℕ → Bool
 passes v zero i b = false

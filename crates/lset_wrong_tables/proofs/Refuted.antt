@@ -13,7 +13,8 @@ use Rattle.lset_steps.specs.Chain.{UnlinkedStays, contents_of, counts_of}
 use Rattle.lset_steps.specs.Promises.{UnlinkedNodesStay, NamedChange, ChangeIsNamed, RepliesFit}
 use Rattle.lset_steps.proofs.RunAccount.{account_of}
 use Rattle.lset_wrong_tables.specs.Schedules.{Schedule, Runs, world_at}
-use Rattle.lset_wrong_tables.specs.Findings.{Breaks, UnlinkedNodeChanges, PublishedKeyChanges, AddedKeyIsLost, OtherKeyIsLost, AbsentKeyIsRemoved, ReplyNeverFits, log_in}
+use Rattle.lset_wrong_tables.specs.Findings.{Breaks, UnlinkedNodeChanges, PublishedKeyChanges, AddedKeyIsLost, OtherKeyIsLost}
+use Rattle.lset_wrong_tables.specs.Findings.{AbsentKeyIsRemoved, ReplyNeverFits, log_in}
 use Rattle.lset_words.specs.Words.{empty}
 
 -- UNLINKED STAYS
@@ -21,7 +22,8 @@ module _ (T : Table) (s : Schedule) (moment node : ℕ) where
   link_breaks : UnlinkedNodeChanges T s moment node → UnlinkedNodesStay T → ⊥
   link_breaks f stays =
       let kept : UnlinkedStays T.marks (world_at T s moment) (world_at T s (length s.events)) node =
-      stays (empty s.threads s.quota) (length s.events) moment (length s.events) node (event_at s.events) f.runs f.earlier (omega arith)
+      stays (empty s.threads s.quota) (length s.events) moment (length s.events) node (event_at s.events) f.runs f.earlier
+      (omega arith)
       f.published in
       f.changes (kept.unlinked f.unlinked).0
 
@@ -31,7 +33,8 @@ module _ (T : Table) (s : Schedule) (moment node : ℕ) where
   key_breaks : PublishedKeyChanges T s moment node → UnlinkedNodesStay T → ⊥
   key_breaks f stays =
       let kept : UnlinkedStays T.marks (world_at T s moment) (world_at T s (length s.events)) node =
-      stays (empty s.threads s.quota) (length s.events) moment (length s.events) node (event_at s.events) f.runs f.earlier (omega arith)
+      stays (empty s.threads s.quota) (length s.events) moment (length s.events) node (event_at s.events) f.runs f.earlier
+      (omega arith)
       f.published in
       f.changes kept.key
 
@@ -71,7 +74,8 @@ module _ (T : Table) (s : Schedule) (moment thread : ℕ) where
 
   pub by_other_key : (key other : ℕ) → OtherKeyIsLost T s moment thread key other → Breaks T NamedChange
   by_other_key key other f = record {
-    not_kept = λ named. f.lost (((changed named f.runs f.within (Some (record { 0 = key }, true)) f.reply f.tells).2 other f.another).0
+    not_kept = λ named. f.lost (((changed named f.runs f.within (Some (record { 0 = key }, true)) f.reply f.tells).2 other
+        f.another).0
         f.before);
     no_machine = λ law. f.lost
         (((entered law f.runs f.within (Some (record { 0 = key }, true)) f.reply f.tells).content.2 other f.another).0 f.before);
@@ -89,7 +93,8 @@ module _ (T : Table) (s : Schedule) (moment thread : ℕ) where
       → ⊥
   unfit call reply f right =
       let sometime : FitsSometime s.quota contents counts (begun_at (log_in T s) thread moment) (suc moment) thread call reply =
-      subst (λ x. RightReply false s.quota contents counts (begun_at (log_in T s) thread moment) (suc moment) thread x (Some reply))
+      subst (λ x. RightReply false s.quota contents counts (begun_at (log_in T s) thread moment) (suc moment) thread x
+      (Some reply))
       f.of_call
       (subst (λ x. RightReply x s.quota contents counts (begun_at (log_in T s) thread moment) (suc moment) thread
       (last_call (log_in T s) thread moment) (Some reply)) f.unchanged right) in

@@ -60,7 +60,8 @@ pub record AbsentKeyIsRemoved (T : Table) (s : Schedule) (moment thread key : �
   pub tells : log_in T s moment ≡ stepped thread (Some (record { 0 = key }, false)) reply
   pub absent : InContent (world_at T s moment) key → ⊥
 
--- The event after a moment is a step of that thread which ends its call, without a change, and the reply fits no moment of the call.
+-- The event after a moment is a step of that thread which ends its call, without a change, and the reply fits no moment of the
+-- call.
 pub record ReplyNeverFits (T : Table) (s : Schedule) (moment thread : ℕ) (call : Call) (reply : Reply) : Type 0 where
   pub runs : Runs T s
   pub within : moment < length s.events

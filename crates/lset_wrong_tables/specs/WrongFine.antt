@@ -11,8 +11,10 @@ use Rattle.lset_steps.specs.Steps.{Table}
 use Rattle.lset_fine.specs.Fine.{fine, next_action, fed_by}
 use Rattle.lset_wrong_tables.specs.Schedules.{Schedule, begin, go, add, remove}
 
--- WITH THE LOCK OF PRED ALONE: where it would try the lock of curr (3), a remove loads the key of curr (4). It tries the lock only
--- where it walks on, and then gives back the lock of pred (5); a failed try goes by row 4 again. At the end it has no lock of curr to
+-- WITH THE LOCK OF PRED ALONE: where it would try the lock of curr (3), a remove loads the key of curr (4). It tries the lock
+-- only
+-- where it walks on, and then gives back the lock of pred (5); a failed try goes by row 4 again. At the end it has no lock of
+-- curr to
 -- give back (12).
 abbrev pub row_of_remove : ℕ → ℕ
 row_of_remove pc = if pc == 3 then 4 else if pc == 4 then 5 else if pc == 5 then 3 else if pc == 12 then 13 else pc
@@ -37,8 +39,10 @@ removed_under_a_lock = record {
   events = begin 0 (add 3) ++ go 0 9 ++ begin 1 (add 5) ++ go 1 10 ++ begin 0 (remove 3) ++ go 0 5 ++ go 1 1;
 }
 
--- A WALK THAT IS NOT HAND OVER HAND: where curr has become pred (6), a call gives back its lock (14) before it tries the lock of the
--- next node (3). So it decides with the lock of curr alone. Rows 5 and 13 are as they were and store 0 in that lock once more; the
+-- A WALK THAT IS NOT HAND OVER HAND: where curr has become pred (6), a call gives back its lock (14) before it tries the lock of
+-- the
+-- next node (3). So it decides with the lock of curr alone. Rows 5 and 13 are as they were and store 0 in that lock once more;
+-- the
 -- schedule ends before that.
 abbrev pub next_pred_first : Local → Action
 next_pred_first l = if l.pc == 14 then Store (lock_index l.pred) 0 else next_action l
@@ -55,7 +59,8 @@ fed_pred_first l seen =
 abbrev pub gives_back_pred_first : Table
 gives_back_pred_first = record fine { next = next_pred_first; feed = fed_pred_first }
 
--- Thread 1 has given back the lock of node 2, which has the key 3, and is about to put 5 in behind it; thread 0 takes the node out.
+-- Thread 1 has given back the lock of node 2, which has the key 3, and is about to put 5 in behind it; thread 0 takes the node
+-- out.
 abbrev pub removed_behind_a_walk : Schedule
 removed_behind_a_walk = record {
   threads = 2;

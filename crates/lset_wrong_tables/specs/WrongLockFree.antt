@@ -1,4 +1,5 @@
--- LockFreeList with exchanges that compare too little, without marks, with slots that are used twice, and with a quota that is kept
+-- LockFreeList with exchanges that compare too little, without marks, with slots that are used twice, and with a quota that is
+-- kept
 -- too soon.
 use Rattle.std.specs.Prelude.{ℕ, ◌+◌, ◌*◌, ◌/◌, ◌%◌, ◌++◌, Bool, true, false, Option, Some, None, if◌then◌else◌, ◌==◌}
 use Rattle.lset_words.specs.declared.Key.{Key}
@@ -27,8 +28,10 @@ two_removes = record {
   events = begin 0 (add 5) ++ go 0 6 ++ begin 0 (remove 5) ++ begin 1 (remove 5) ++ go 0 4 ++ go 1 4 ++ go 0 1 ++ go 1 1;
 }
 
--- AN ADD THAT IGNORES THE MARK: since an exchange compares the whole word, the add first loads the link of pred (7), keeps its mark
--- in the register pkey, and, where it leads to curr, exchanges just this word for one that leads to its own slot, with the same mark
+-- AN ADD THAT IGNORES THE MARK: since an exchange compares the whole word, the add first loads the link of pred (7), keeps its
+-- mark
+-- in the register pkey, and, where it leads to curr, exchanges just this word for one that leads to its own slot, with the same
+-- mark
 -- (11).
 abbrev pub next_whatever_mark : Local → Action
 next_whatever_mark l =
@@ -60,7 +63,8 @@ marked_before_the_exchange = record {
   events = begin 1 (add 3) ++ go 1 7 ++ begin 0 (add 5) ++ go 0 7 ++ begin 1 (remove 3) ++ go 1 6 ++ go 0 2;
 }
 
--- A REMOVE WITHOUT A MARK: from the load of the link of curr (8) it goes on to the exchange that takes curr out (10), which is its
+-- A REMOVE WITHOUT A MARK: from the load of the link of curr (8) it goes on to the exchange that takes curr out (10), which is
+-- its
 -- change.
 abbrev pub fed_without_mark : Local → ℕ → Fed
 fed_without_mark l seen =

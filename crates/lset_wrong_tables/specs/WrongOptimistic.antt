@@ -24,7 +24,8 @@ unlinked_before_it_is_locked = record {
   events = begin 1 (add 3) ++ go 1 10 ++ begin 0 (add 5) ++ go 0 4 ++ begin 1 (remove 3) ++ go 1 9 ++ go 0 6;
 }
 
--- BY THE KEY ALONE: where the second walk sees a key (7), it has arrived at the first node that has the key of pred, whichever node
+-- BY THE KEY ALONE: where the second walk sees a key (7), it has arrived at the first node that has the key of pred, whichever
+-- node
 -- that is.
 abbrev pub arrived_by_key : ℕ → Local → Local
 arrived_by_key seen l =

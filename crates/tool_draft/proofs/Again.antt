@@ -1,5 +1,6 @@
 -- The text of each draft is read.
-use Rattle.std.proofs.Common.{◌≡◌, ℕ, ◌+◌, ◌<◌, ◌≤◌, ◌^◌, Bool, true, false, List, [], ◌∷◌, ◌++◌, map, length, length-append, codes}
+use Rattle.std.proofs.Common.{◌≡◌, ℕ, ◌+◌, ◌<◌, ◌≤◌, ◌^◌, Bool, true, false, List, [], ◌∷◌, ◌++◌, map, length, length-append}
+use Rattle.std.proofs.Common.{codes}
 use Rattle.std.proofs.Common.{Option, Some, None, Result, Ok, Err, refl, sym, ap, subst, ◌∙◌, arith, append_assoc}
 use Rattle.std.specs.Prelude.{MatchResult, ◌≢◌}
 use Rattle.std.specs.Fmt.{decimal}
@@ -38,7 +39,8 @@ use Rattle.tool_draft.specs.declared.TheConstants.{MOST_ROW}
 use Rattle.tool_draft.specs.declared.value.Draft.{Draft}
 use Rattle.tool_draft.specs.declared.value.DraftLine.{DraftLine}
 use Rattle.tool_draft.specs.declared.value.DraftLine.TheVariants.{Plain, Out, To}
-use Rattle.tool_draft.specs.Drafts.{DraftValue, view, title, header_in, pieces_of, line_text, draft_lines, draft_text, least_count, IsDraftLine, IsDraft}
+use Rattle.tool_draft.specs.Drafts.{DraftValue, view, title, header_in, pieces_of, line_text, draft_lines, draft_text}
+use Rattle.tool_draft.specs.Drafts.{least_count, IsDraftLine, IsDraft}
 use Rattle.tool_draft.specs.DraftReading.{out_of, to_of, stop_of_pieces, draft_line_of, line_after, lines_at, draft_of, reading}
 
 -- ---- one line
@@ -71,7 +73,8 @@ out_again t low = rw (number_again 0 max_number t (omega arith) (omega arith) (o
 to_again : (t row : ℕ) → t < 2 ^ 32 → 1 ≤ row → row ≤ MOST_ROW → to_of (decimal t) (decimal row) ≡ Ok (To t row)
 unfolding to_of
 to_again t row low some few =
-    rw (number_again 0 max_number t (omega arith) (omega arith) (omega arith), number_again 1 MOST_ROW row (omega arith) some few) refl
+    rw (number_again 0 max_number t (omega arith) (omega arith) (omega arith), number_again 1 MOST_ROW row (omega arith) some few)
+    refl
 
 -- no space and no newline stands in a piece
 pieces_lack : (byte : ℕ) (l : DraftLine) → byte < 45 → IsDraftLine l → AllByRecursion (Lacks byte) (pieces_of l)
@@ -103,7 +106,8 @@ cut_pieces (To t row) h = cut_line (codes "go") (decimal t ∷ codes "to" ∷ de
 pieces_are : (l : DraftLine) → IsDraftLine l → cut_at 32 (line_text l) ≡ pieces_of l
 pieces_are l line = cut_pieces l (pieces_lack 32 l (omega arith) line)
 
-plain_again : (x : List ℕ) (e : Line) → stop_of_pieces (cut_at 32 x) ≡ None → event_of Two x ≡ Ok e → draft_line_of x ≡ Ok (Plain e)
+plain_again : (x : List ℕ) (e : Line) → stop_of_pieces (cut_at 32 x) ≡ None → event_of Two x ≡ Ok e →
+    draft_line_of x ≡ Ok (Plain e)
 plain_again x e none event = rw (none, event) refl
 
 stop_again : (x : List ℕ) (l : DraftLine) → stop_of_pieces (cut_at 32 x) ≡ Some (Ok l) → draft_line_of x ≡ Ok l
@@ -117,7 +121,8 @@ line_again (Out t) line =
     (ap stop_of_pieces (pieces_are (Out t) line) ∙ ap (λ (r : Result DraftLine Cause). Some r) (out_again t line))
 line_again (To t row) line =
     stop_again (line_text (To t row)) (To t row)
-    (ap stop_of_pieces (pieces_are (To t row) line) ∙ ap (λ (r : Result DraftLine Cause). Some r) (to_again t row line.0 line.1 line.2))
+    (ap stop_of_pieces (pieces_are (To t row) line)
+    ∙ ap (λ (r : Result DraftLine Cause). Some r) (to_again t row line.0 line.1 line.2))
 
 -- it has three pieces or four
 not_opening : (l : DraftLine) → IsDraftLine l → is_opening (line_text l) ≡ false
@@ -165,7 +170,12 @@ not_due (l ∷ ls) are = rw ((some_more (map line_text ls)).2) (not_opening l ar
 -- ---- the whole
 
 header_fits : (d : DraftValue) → IsDraft d → IsHeader (header_in d)
-header_fits d is = record { some = is.opens.within.some; few = is.opens.within.few; small = is.opens.within.small; opens = omega arith }
+header_fits d is = record {
+  some = is.opens.within.some;
+  few = is.opens.within.few;
+  small = is.opens.within.small;
+  opens = omega arith;
+}
 
 keys_fit : (d : DraftValue) → IsDraft d → AreKeys d.opening
 keys_fit d is = (is.opens.rising, is.opens.low, is.opens.within.opens)
@@ -184,7 +194,8 @@ draft_again d is =
     let head : header_of title (header_lines title (header_in d) ++ rest) ≡ Ok (header_in d, rest) =
     rw first (header_again title (header_in d) some.0 some.1 (header_fits d is)) in
     let opens : openings_of Two rest ≡ Ok (d.opening, after) =
-    openings_again Two d.opening after (keys_fit d is) tt (not_due d.lines is.lines) (omega (arith, length-append ls ([] ∷ []))) in
+    openings_again Two d.opening after (keys_fit d is) tt (not_due d.lines is.lines) (omega (arith, length-append ls ([] ∷ [])))
+    in
     let lines = lines_again (first_line + length d.opening) 0 d.lines is.lines (omega (arith, is.few)) in
     rw (grouped, head, opens, lines) refl
 
@@ -192,7 +203,8 @@ lines_lack : (ls : List DraftLine) → AllByRecursion IsDraftLine ls → AllByRe
 lines_lack [] are = tt
 lines_lack (l ∷ ls) are = (line_lacks (pieces_of l) (pieces_lack 10 l (omega arith) are.0), lines_lack ls are.1)
 
-both_lack : (xs ys : List (List ℕ)) → AllByRecursion (Lacks 10) xs → AllByRecursion (Lacks 10) ys → AllByRecursion (Lacks 10) (xs ++ ys)
+both_lack : (xs ys : List (List ℕ)) → AllByRecursion (Lacks 10) xs → AllByRecursion (Lacks 10) ys →
+    AllByRecursion (Lacks 10) (xs ++ ys)
 both_lack [] ys xl yl = yl
 both_lack (x ∷ xs) ys xl yl = (xl.0, both_lack xs ys xl.1 yl)
 

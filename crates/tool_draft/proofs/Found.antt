@@ -1,5 +1,6 @@
 -- What is read is the text of the draft.
-use Rattle.std.proofs.Common.{◌≡◌, ℕ, ◌+◌, ◌<◌, ◌≤◌, ◌^◌, ◌&&◌, Bool, true, false, cond, eqb, List, [], ◌∷◌, ◌++◌, map, length, codes}
+use Rattle.std.proofs.Common.{◌≡◌, ℕ, ◌+◌, ◌<◌, ◌≤◌, ◌^◌, ◌&&◌, Bool, true, false, cond, eqb, List, [], ◌∷◌, ◌++◌, map, length}
+use Rattle.std.proofs.Common.{codes}
 use Rattle.std.proofs.Common.{Option, Some, None, Result, Ok, Err, refl, sym, ap, subst, ◌∙◌, arith, append_assoc}
 use Rattle.std.specs.Prelude.{IfOk}
 use Rattle.std.specs.Fmt.{decimal}
@@ -34,8 +35,10 @@ use Rattle.tool_draft.specs.declared.TheConstants.{MOST_ROW}
 use Rattle.tool_draft.specs.declared.value.Draft.{Draft}
 use Rattle.tool_draft.specs.declared.value.DraftLine.{DraftLine}
 use Rattle.tool_draft.specs.declared.value.DraftLine.TheVariants.{Plain, Out, To}
-use Rattle.tool_draft.specs.Drafts.{DraftValue, view, drafted, title, pieces_of, line_text, draft_lines, draft_text, least_count, IsDraftLine, IsDraft}
-use Rattle.tool_draft.specs.DraftReading.{out_of, to_of, out_in, to_in, stop_of_pieces, or_plain, plain, draft_line_of, within, line_after, lines_at}
+use Rattle.tool_draft.specs.Drafts.{DraftValue, view, drafted, title, pieces_of, line_text, draft_lines, draft_text, least_count}
+use Rattle.tool_draft.specs.Drafts.{IsDraftLine, IsDraft}
+use Rattle.tool_draft.specs.DraftReading.{out_of, to_of, out_in, to_in, stop_of_pieces, or_plain, plain, draft_line_of, within}
+use Rattle.tool_draft.specs.DraftReading.{line_after, lines_at}
 use Rattle.tool_draft.specs.DraftReading.{draft_of, reading}
 use Rattle.tool_draft.proofs.Lines.{within_ok}
 
@@ -72,7 +75,8 @@ to_ok : (a b c d : List ℕ) (l : DraftLine) → to_in a b c d ≡ Some (Ok l) �
 unfolding to_of
 to_ok a b c d l is =
     let words = both (bytes_eq a (codes "go")) (bytes_eq c (codes "to")) (to_of b d) (Ok l) is in
-    let t = bind_ok (or_fail Number (number_in 0 max_number b)) (λ t. or_fail Number (number_in 1 MOST_ROW d) >>= λ r. Ok (To t r)) l words.2 in
+    let t = bind_ok (or_fail Number (number_in 0 max_number b)) (λ t. or_fail Number (number_in 1 MOST_ROW d) >>= λ r. Ok
+    (To t r)) l words.2 in
     let r = bind_ok (or_fail Number (number_in 1 MOST_ROW d)) (λ r. Ok (To t.0 r)) l t.2 in
     let thread = number_ok 0 max_number b t.0 (omega arith) (or_fail_ok Number (number_in 0 max_number b) t.0 t.1) in
     let row = number_ok 1 MOST_ROW d r.0 (omega arith) (or_fail_ok Number (number_in 1 MOST_ROW d) r.0 r.1) in
@@ -131,7 +135,8 @@ abbrev AreRead : ℕ → List (List ℕ) → List DraftLine → Type 0
 AreRead total parts ls =
     (parts ≡ map line_text ls ++ [] ∷ []) × AllByRecursion IsDraftLine ls × (total + sum_by least_count ls ≤ MOST_EVENTS)
 
-last_ok : (b : Bool) (line : ℕ) (ls : List DraftLine) → cond b (Ok []) (Err (fault line NotEnded)) ≡ Ok ls → (b ≡ true) × ([] ≡ ls)
+last_ok : (b : Bool) (line : ℕ) (ls : List DraftLine) → cond b (Ok []) (Err (fault line NotEnded)) ≡ Ok ls → (b ≡ true)
+    × ([] ≡ ls)
 last_ok true line ls is = (refl, cc)
 last_ok false line ls is = absurd cc
 

@@ -38,7 +38,8 @@ lines_go line total x [] l some is = absurd (omega arith)
 lines_go line total x (y ∷ more) l some is = rw is refl
 
 -- a whole line that is refused
-lines_fail : (line total : ℕ) (x : List ℕ) (parts : List (List ℕ)) (cause : Cause) → 0 < length parts → line_after total x ≡ Err cause
+lines_fail : (line total : ℕ) (x : List ℕ) (parts : List (List ℕ)) (cause : Cause) → 0 < length parts →
+    line_after total x ≡ Err cause
     → lines_at line total (x ∷ parts) ≡ Err (fault line cause)
 unfolding lines_at
 lines_fail line total x [] cause some is = absurd (omega arith)
@@ -61,7 +62,8 @@ goes_on front line total rest first after l whole parts is so_far =
     sym one ∙ so_far
 
 pub stops : (front : List DraftLine) (line total : ℕ) (rest first after : List ℕ) (cause : Cause)
-    (whole : Result (List DraftLine) ScheduleFault) → cut_at 10 rest ≡ first ∷ cut_at 10 after → Err cause ≡ line_after total first
+    (whole : Result (List DraftLine) ScheduleFault) → cut_at 10 rest ≡ first ∷ cut_at 10 after →
+    Err cause ≡ line_after total first
     → with_front front (lines_at line total (cut_at 10 rest)) ≡ whole → whole ≡ Err (fault line cause)
 stops front line total rest first after cause whole parts is so_far =
     let step = lines_fail line total first (cut_at 10 after) cause (some_part 10 after) (sym is) in
@@ -113,11 +115,13 @@ pub lines_err : (t : List ℕ) (parts rest after : List (List ℕ)) (h : Header)
 unfolding draft_of
 lines_err t parts rest after h keys n e named head opens many fails =
     let header : header_of title parts ≡ Ok (h, rest) = subst (λ z. header_of z parts ≡ Ok (h, rest)) named head in
-    let lines : lines_at (first_line + length keys) 0 after ≡ Err e = subst (λ k. lines_at (first_line + k) 0 after ≡ Err e) many fails in
+    let lines : lines_at (first_line + length keys) 0 after ≡ Err e = subst (λ k. lines_at (first_line + k) 0 after ≡ Err e) many
+    fails in
     rw (header, opens, lines) refl
 
 -- a fault that is handed on
-pub gives_err : {X Y : Type 0} (view : X → Y) (e : ScheduleFault) (answer : Result X ScheduleFault) (read : Result Y ScheduleFault)
+pub gives_err : {X Y : Type 0} (view : X → Y) (e : ScheduleFault) (answer : Result X ScheduleFault)
+    (read : Result Y ScheduleFault)
     → IsErrAnd answer (λ f. f ≡ e) → (e.cause ≢ Memory → read ≡ Err e) → Gives view answer read
 gives_err view e (Ok x) read is gives = absurd is
 gives_err view e (Err f) read is gives = λ other.

@@ -1,5 +1,6 @@
 -- The lines of a draft, one after another: what is made of them, and how far the run has come.
-use Rattle.std.proofs.Common.{◌≡◌, ℕ, zero, suc, ◌+◌, ◌-◌, ◌<◌, ◌≤◌, List, [], ◌∷◌, ◌++◌, length, take, get_or, replicate, refl, sym, ap, subst, ◌∙◌, append_assoc, add-one, arith}
+use Rattle.std.proofs.Common.{◌≡◌, ℕ, zero, suc, ◌+◌, ◌-◌, ◌<◌, ◌≤◌, List, [], ◌∷◌, ◌++◌, length, take, get_or, replicate, refl}
+use Rattle.std.proofs.Common.{sym, ap, subst, ◌∙◌, append_assoc, add-one, arith}
 use Rattle.std.specs.List.{AllByRecursion, sum_by}
 use Rattle.std.proofs.lemmas.Grind.{flat_map-append}
 use Rattle.std.proofs.lemmas.List.{append-nil, get_or_default}
@@ -35,7 +36,8 @@ runs_steps : (T : Table) (op : Opening) (es : List Event) (s : State) (t n : ℕ
 runs_steps T op es s t zero run enabled = subst (λ fs. RunsTo T op fs s) (sym (append-nil es)) run
 runs_steps T op es s t (suc n) run enabled =
     let before = runs_steps T op es s t n run (λ m l. enabled m (omega arith)) in
-    let here = runs_to_more T op (es ++ replicate n (event.Go t)) (steps_on T s t n) (event.Go t) before (enabled n (omega arith)) in
+    let here = runs_to_more T op (es ++ replicate n (event.Go t)) (steps_on T s t n) (event.Go t) before (enabled n (omega arith))
+    in
     let same : (es ++ replicate n (event.Go t)) ++ event.Go t ∷ [] ≡ es ++ event.Go t ∷ replicate n (event.Go t) =
     append_assoc es (replicate n (event.Go t)) (event.Go t ∷ []) ∙ ap (λ fs. es ++ fs) (last_first n (event.Go t)) in
     subst (λ fs. RunsTo T op fs (steps_on T s t (suc n))) same here
@@ -144,7 +146,8 @@ module _ (T : Table) (d : DraftValue) (i left : ℕ) (lines : List Line) (w : Wo
         enabled = h.run.run;
         few = omega (arith, h.total);
         fault = subst (λ n. IsLineFault T
-            (record { sizes = sizes (opening_in d); state = after_lines T (opening (opening_in d)) lines }) n (line_at d.lines i) why)
+            (record { sizes = sizes (opening_in d); state = after_lines T (opening (opening_in d)) lines }) n (line_at d.lines i)
+            why)
             left_is (subst (λ z. IsLineFault T z left (line_at d.lines i) why) there fault);
       }
     where

@@ -11,7 +11,8 @@ use Rattle.lset_schedule.specs.Plan.{Plan, planned, IsLine, HasCallOfLine}
 use Rattle.tool_draft.specs.Drafts.{DraftValue, IsDraft, header_in}
 use Rattle.tool_draft.specs.Expanding.{AreLinesOfDraft, Expands}
 
-lines_of_one : (ls : List Line) → AllByRecursion (IsLine Two) ls → AllByRecursion (HasCallOfLine One) ls → AllByRecursion (IsLine One) ls
+lines_of_one : (ls : List Line) → AllByRecursion (IsLine Two) ls → AllByRecursion (HasCallOfLine One) ls →
+    AllByRecursion (IsLine One) ls
 lines_of_one [] are calls = tt
 lines_of_one (Begin t c ∷ ls) are calls = ((are.0.0, are.0.1, calls.0), lines_of_one ls are.1 calls.1)
 lines_of_one (Go t n ∷ ls) are calls = (are.0, lines_of_one ls are.1 calls.1)
@@ -21,7 +22,8 @@ abbrev pub HasWordsOfFirst : List ℕ → List Line → Type 0
 HasWordsOfFirst keys lines = HasOpening One keys × AllByRecursion (HasCallOfLine One) lines
 
 pub expands_is : (T : Table) (d : DraftValue) (v : Version) (lines : List Line) → IsDraft d → AreLinesOfDraft T d lines
-    → (v ≡ One → HasWordsOfFirst d.opening lines) → (HasOpening One d.opening → AllByRecursion (HasCallOfLine One) lines → v ≡ One)
+    → (v ≡ One → HasWordsOfFirst d.opening lines) → (HasOpening One d.opening → AllByRecursion (HasCallOfLine One) lines →
+    v ≡ One)
     → Expands T d (planned v (header_in d) d.opening lines)
 expands_is T d One lines draft are first least = record {
   schedule = record {
@@ -52,7 +54,8 @@ expands_is T d Two lines draft are first least = record {
     not_one e = cc
 
 -- the same of keys that are the draft's, where the version was found by keys and lines that are these
-pub expands_along : (T : Table) (d : DraftValue) (v : Version) (keys : List ℕ) (lines : List Line) (keys' : List ℕ) (lines' : List Line)
+pub expands_along : (T : Table) (d : DraftValue) (v : Version) (keys : List ℕ) (lines : List Line) (keys' : List ℕ)
+    (lines' : List Line)
     → IsDraft d → AreLinesOfDraft T d lines → keys ≡ d.opening → keys' ≡ keys → lines' ≡ lines
     → (v ≡ One → HasWordsOfFirst keys' lines') → (HasOpening One keys' → AllByRecursion (HasCallOfLine One) lines' → v ≡ One)
     → Expands T d (planned v (header_in d) keys lines)

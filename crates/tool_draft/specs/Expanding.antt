@@ -47,7 +47,8 @@ IsLineOf T s (To t row) (line.Go u n) = (u ≡ t) × IsLeastCount T s t row n
 abbrev pub most_steps : ℕ → ℕ
 most_steps left = min left MOST_STEPS
 
--- Why a line of a schedule is not made, where so many events are left: whether it has too many is asked before its events are made.
+-- Why a line of a schedule is not made, where so many events are left: whether it has too many is asked before its events are
+-- made.
 abbrev pub IsPlainFault : Table → WorldState → ℕ → Line → DraftCause → Type 0
 IsPlainFault T w left l cause.TooMany = left < event_count l
 IsPlainFault T w left (line.Begin t call) (cause.Refused why) = (1 ≤ left) × Refused w (event.Begin t call) why

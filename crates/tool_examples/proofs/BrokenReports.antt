@@ -6,7 +6,8 @@ use Rattle.lset_report.specs.Report.{ReportValue}
 use Rattle.lset_report.specs.ReportReading.{reading, ReportsReadBack}
 use Rattle.tool_examples.specs.declared.example.Example.{Example}
 use Rattle.tool_examples.specs.declared.example.Example.TheVariants.{FailedTries, Full, HandOverHand, SameGap}
-use Rattle.tool_examples.specs.declared.example.Example.TheVariants.{StalePred, MarkedInChain, MarkedPred, ReadInAnothersStep, OpensWithKeys}
+use Rattle.tool_examples.specs.declared.example.Example.TheVariants.{StalePred, MarkedInChain, MarkedPred, ReadInAnothersStep}
+use Rattle.tool_examples.specs.declared.example.Example.TheVariants.{OpensWithKeys}
 use Rattle.tool_examples.specs.declared.example.Example.TheVariants.{TwoRemovers, Snip, TriesAgain, LeftInChain}
 use Rattle.tool_examples.specs.declared.example.Example.TheVariants.{CeilingMeetsMark, CeilingLeftInChain, BehindTheWalk}
 use Rattle.tool_examples.specs.Examples.{broken_of, kind_of, IsUnexplained, IsBrokenReportOf}
@@ -23,9 +24,11 @@ read_as back e r own text reads kind none is =
 
 is_broken_report : ReportsReadBack → (e : Example) (text : List ℕ) → broken_of e ≡ Some text → IsBrokenReportOf e text
 is_broken_report back SameGap text is =
-    read_as back SameGap read.same_gap texts.SAME_GAP_BROKEN.now text read.reads_same_gap refl unexplained.same_gap_is_unexplained is
+    read_as back SameGap read.same_gap texts.SAME_GAP_BROKEN.now text read.reads_same_gap refl unexplained.same_gap_is_unexplained
+    is
 is_broken_report back StalePred text is =
-    read_as back StalePred read.stale_pred texts.STALE_PRED_BROKEN.now text read.reads_stale_pred refl unexplained.stale_pred_is_unexplained is
+    read_as back StalePred read.stale_pred texts.STALE_PRED_BROKEN.now text read.reads_stale_pred refl
+    unexplained.stale_pred_is_unexplained is
 is_broken_report back TwoRemovers text is =
     read_as back TwoRemovers read.two_removers texts.TWO_REMOVERS_BROKEN.now text read.reads_two_removers refl
     unexplained.two_removers_is_unexplained is

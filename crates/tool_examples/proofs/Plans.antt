@@ -16,7 +16,8 @@ use Rattle.lset_schedule.specs.declared.value.Line.TheVariants.{Begin, Go}
 use Rattle.lset_schedule.specs.Plan.{Plan, IsSchedule, schedule_text}
 use Rattle.tool_examples.specs.declared.example.Example.{Example}
 use Rattle.tool_examples.specs.declared.example.Example.TheVariants.{FailedTries, Full, HandOverHand, SameGap}
-use Rattle.tool_examples.specs.declared.example.Example.TheVariants.{StalePred, MarkedInChain, MarkedPred, ReadInAnothersStep, OpensWithKeys}
+use Rattle.tool_examples.specs.declared.example.Example.TheVariants.{StalePred, MarkedInChain, MarkedPred, ReadInAnothersStep}
+use Rattle.tool_examples.specs.declared.example.Example.TheVariants.{OpensWithKeys}
 use Rattle.tool_examples.specs.declared.example.Example.TheVariants.{TwoRemovers, Snip, TriesAgain, LeftInChain}
 use Rattle.tool_examples.specs.declared.example.Example.TheVariants.{CeilingMeetsMark, CeilingLeftInChain, BehindTheWalk}
 use Rattle.tool_examples.specs.Examples.{text_of, kind_of, IsScheduleOf}
@@ -58,7 +59,8 @@ plan_of MarkedInChain = plan Lazy 2 4 (add 1 5 ∷ go 1 11 ∷ remove 1 5 ∷ go
 plan_of MarkedPred = plan Lazy 2 4 (add 1 3 ∷ go 1 11 ∷ add 0 5 ∷ go 0 4 ∷ remove 1 3 ∷ go 1 10 ∷ go 0 16 ∷ [])
 plan_of ReadInAnothersStep = plan Lazy 2 4 (add 1 5 ∷ go 1 11 ∷ contains 0 5 ∷ go 0 2 ∷ remove 1 5 ∷ go 1 10 ∷ add 1 5
     ∷ go 1 11 ∷ go 0 1 ∷ [])
-plan_of OpensWithKeys = plan_with Two Lazy 1 1 (5 ∷ 9 ∷ []) (remove 0 5 ∷ go 0 10 ∷ ceiling 0 0 ∷ go 0 3 ∷ add 0 7 ∷ go 0 11 ∷ add 0 8
+plan_of OpensWithKeys = plan_with Two Lazy 1 1 (5 ∷ 9 ∷ []) (remove 0 5 ∷ go 0 10 ∷ ceiling 0 0 ∷ go 0 3 ∷ add 0 7 ∷ go 0 11
+    ∷ add 0 8
     ∷ go 0 10 ∷ [])
 plan_of TwoRemovers = plan LockFree 2 4 (add 0 5 ∷ go 0 6 ∷ remove 0 5 ∷ remove 1 5 ∷ go 0 4 ∷ go 1 4 ∷ go 1 2 ∷ go 0 4 ∷ [])
 plan_of Snip = plan LockFree 2 4 (add 0 5 ∷ go 0 6 ∷ remove 0 5 ∷ go 0 5 ∷ add 1 7 ∷ go 1 8 ∷ go 0 1 ∷ [])

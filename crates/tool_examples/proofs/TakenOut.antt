@@ -54,7 +54,8 @@ module _ (calls : List CallRecord) (size taken : ℕ) (asked : Placed) (vain : A
       let Q : Placed → Type 0 = λ p. IsOut (after calls s p.call p.reply) in
       finds_none xs (after calls s x.call x.reply) legal.1 (subst Q (sym e) (vain.taken_out s))
       (all_tail (λ p. p.call < size) x xs known)
-      (λ k d l z. later k d l (in_time calls (get_or xs k d).call x.call 0 taken z (ap (λ (p : Placed). p.call) e) vain.put_before))
+      (λ k d l z. later k d l (in_time calls (get_or xs k d).call x.call 0 taken z (ap (λ (p : Placed). p.call) e)
+      vain.put_before))
       found
 
   -- one that is preceded by it stands after it,
@@ -81,7 +82,8 @@ module _ (calls : List CallRecord) (size taken : ℕ) (asked : Placed) (vain : A
 module _ (calls : List CallRecord) (size one two : ℕ) (vain : AsksInVain calls size one (place two))
     (other : AsksInVain calls size two (place one)) where
   pub takes_twice : (order : List Placed) (s : SetState) → IsLegal 4 s (map (answered calls) order)
-      → All (λ p. p.call < size) order → AllPairs (InTime calls) order → Contains order (place one) → Contains order (place two) → ⊥
+      → All (λ p. p.call < size) order → AllPairs (InTime calls) order → Contains order (place one) → Contains order (place two) →
+      ⊥
   takes_twice [] s legal known time first second = stands_nowhere (place one) first
   takes_twice (x ∷ xs) s legal known time first second = elim (stands_in x (place one) xs first) [
     | inl e ↦ elim (stands_in x (place two) xs second) [

@@ -14,7 +14,8 @@ use Rattle.tool_examples.specs.Examples.{IsUnexplained}
 use Rattle.tool_examples.proofs.Orders.{place, after, add_keeps, remove_keeps, add_brings, remove_brings}
 use Rattle.tool_examples.proofs.TakenOut.{IsOut, AsksInVain, finds_late, takes_twice}
 use Rattle.tool_examples.proofs.LostKey.{PutsIn, leaves_key}
-use Rattle.tool_examples.proofs.ReadReports.{same_gap, stale_pred, two_removers, snip, left_in_chain, ceiling_left_in_chain, place_at}
+use Rattle.tool_examples.proofs.ReadReports.{same_gap, stale_pred, two_removers, snip, left_in_chain, ceiling_left_in_chain}
+use Rattle.tool_examples.proofs.ReadReports.{place_at}
 
 abbrev key : ℕ → Key
 key k = record { 0 = k }
@@ -39,7 +40,8 @@ pub same_gap_is_unexplained : IsUnexplained same_gap
 same_gap_is_unexplained order e =
     let P : List ℕ → Type 0 = λ keys. Contains keys 7 in
     let l = e.linearizes in
-    let seven = leaves_key gap_calls 2 7 1 puts_seven_in_the_gap order (opening_set (empty 2 4)) l.known (l.ended 1 14 True (lit< tt) refl) in
+    let seven = leaves_key gap_calls 2 7 1 puts_seven_in_the_gap order (opening_set (empty 2 4)) l.known
+    (l.ended 1 14 True (lit< tt) refl) in
     seven_is_not_left (subst P (sym e.keys_left) seven)
 
 -- ---- stale-pred: so is the key 5
@@ -60,7 +62,8 @@ pub stale_pred_is_unexplained : IsUnexplained stale_pred
 stale_pred_is_unexplained order e =
     let P : List ℕ → Type 0 = λ keys. Contains keys 5 in
     let l = e.linearizes in
-    let five = leaves_key stale_calls 3 5 1 puts_five_behind_pred order (opening_set (empty 2 4)) l.known (l.ended 1 34 True (lit< tt) refl) in
+    let five = leaves_key stale_calls 3 5 1 puts_five_behind_pred order (opening_set (empty 2 4)) l.known
+    (l.ended 1 34 True (lit< tt) refl) in
     contains-nil 5 (subst P (sym e.keys_left) five)
 
 -- ---- snip: and so is the key 7

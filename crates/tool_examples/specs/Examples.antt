@@ -10,7 +10,8 @@ use Rattle.lset_report.specs.ReportReading.{IsReport}
 use Rattle.lset_report.specs.Texts.{report_text}
 use Rattle.tool_examples.specs.declared.example.Example.{Example}
 use Rattle.tool_examples.specs.declared.example.Example.TheVariants.{FailedTries, Full, HandOverHand, SameGap}
-use Rattle.tool_examples.specs.declared.example.Example.TheVariants.{StalePred, MarkedInChain, MarkedPred, ReadInAnothersStep, OpensWithKeys}
+use Rattle.tool_examples.specs.declared.example.Example.TheVariants.{StalePred, MarkedInChain, MarkedPred, ReadInAnothersStep}
+use Rattle.tool_examples.specs.declared.example.Example.TheVariants.{OpensWithKeys}
 use Rattle.tool_examples.specs.declared.example.Example.TheVariants.{TwoRemovers, Snip, TriesAgain, LeftInChain}
 use Rattle.tool_examples.specs.declared.example.Example.TheVariants.{CeilingMeetsMark, CeilingLeftInChain, BehindTheWalk}
 use Rattle.tool_examples.specs.declared.example.TheConstants.{ALL}

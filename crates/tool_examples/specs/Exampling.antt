@@ -1,5 +1,6 @@
 -- What `example` makes of its words.
-use Rattle.std.specs.Prelude.{◌≡◌, ℕ, ◌-◌, ◌⊎◌, List, ◌++◌, map, length, replicate, Bool, true, false, Option, Some, None, Ok, Err}
+use Rattle.std.specs.Prelude.{◌≡◌, ℕ, ◌-◌, ◌⊎◌, List, ◌++◌, map, length, replicate, Bool, true, false, Option, Some, None, Ok}
+use Rattle.std.specs.Prelude.{Err}
 use Rattle.lset_text.specs.Parts.{text_of}
 use Rattle.lset_text.specs.Spellings.{kind_text}
 use Rattle.lset_tools.specs.declared.trouble.Trouble.TheVariants.{Memory, Bad}

@@ -8,16 +8,23 @@ use Rattle.lset_text.specs.Spellings.{same_reply}
 use Rattle.tool_run.specs.declared.counts.Counts.{Counts}
 use Rattle.tool_run.specs.Counting.{HasRoom, counts_of, counts_with}
 
-count-append : (r : Reply) (xs ys : List Reply) → count_by (same_reply r) (xs ++ ys) ≡ count_by (same_reply r) xs + count_by (same_reply r) ys
+count-append : (r : Reply) (xs ys : List Reply) → count_by (same_reply r) (xs ++ ys) ≡ count_by (same_reply r) xs + count_by
+    (same_reply r) ys
 count-append r xs ys = sum_by-append (λ x. cond (same_reply r x) 1 0) xs ys
 
 pub with_append : (c : Counts) (xs ys : List Reply) → counts_with (counts_with c xs) ys ≡ counts_with c (xs ++ ys)
-with_append c xs ys i = record { calls = calls i; trues = of True c.trues i; falses = of False c.falses i; fulls = of Full c.fulls i }
+with_append c xs ys i = record {
+  calls = calls i;
+  trues = of True c.trues i;
+  falses = of False c.falses i;
+  fulls = of Full c.fulls i;
+}
   where
     calls : (c.calls + length xs) + length ys ≡ c.calls + length (xs ++ ys)
     calls = omega (arith, length-append xs ys)
 
-    of : (r : Reply) (n : ℕ) → (n + count_by (same_reply r) xs) + count_by (same_reply r) ys ≡ n + count_by (same_reply r) (xs ++ ys)
+    of : (r : Reply) (n : ℕ) → (n + count_by (same_reply r) xs) + count_by (same_reply r) ys ≡ n + count_by (same_reply r) (xs
+        ++ ys)
     of r n = omega (arith, count-append r xs ys)
 
 pub counts_append : (xs ys : List Reply) → counts_with (counts_of xs) ys ≡ counts_of (xs ++ ys)
@@ -27,7 +34,12 @@ counts_append xs ys i = record { calls = sym (length-append xs ys) i; trues = of
     of r = sym (count-append r xs ys)
 
 pub with_none : (c : Counts) → counts_with c [] ≡ c
-with_none c i = record { calls = nothing c.calls i; trues = nothing c.trues i; falses = nothing c.falses i; fulls = nothing c.fulls i }
+with_none c i = record {
+  calls = nothing c.calls i;
+  trues = nothing c.trues i;
+  falses = nothing c.falses i;
+  fulls = nothing c.fulls i;
+}
   where
     nothing : (n : ℕ) → n + 0 ≡ n
     nothing n = omega arith

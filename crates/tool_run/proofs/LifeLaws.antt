@@ -26,18 +26,23 @@ pub length-program_of : (calls keys seed t : ℕ) → length (program_of calls k
 unfolding program_of
 length-program_of calls keys seed t = length-drawn_calls keys calls (seeded ((seed + t) % 2 ^ 64))
 
-pub short_programs : (calls keys seed : ℕ) → calls < 2 ^ 32 → (ts : List ℕ) → All (λ (p : List Call). length p < 2 ^ 32) (map (program_of calls keys seed) ts)
+pub short_programs : (calls keys seed : ℕ) → calls < 2 ^ 32 → (ts : List ℕ) →
+    All (λ (p : List Call). length p < 2 ^ 32) (map (program_of calls keys seed) ts)
 short_programs calls keys seed few [] = All-nil (λ (p : List Call). length p < 2 ^ 32)
-short_programs calls keys seed few (t ∷ ts) = All-cons (λ (p : List Call). length p < 2 ^ 32) (program_of calls keys seed t) (map (program_of calls keys seed) ts)
+short_programs calls keys seed few (t ∷ ts) = All-cons (λ (p : List Call). length p < 2 ^ 32) (program_of calls keys seed t)
+    (map (program_of calls keys seed) ts)
     (omega (arith, few, length-program_of calls keys seed t)) (short_programs calls keys seed few ts)
 
-pub seen_short : {P : Type 0} (calls_of : P → List Call) (ps : List P) (lists : List (List Call)) → map calls_of ps ≡ lists → All (λ l. length l < 2 ^ 32) lists
+pub seen_short : {P : Type 0} (calls_of : P → List Call) (ps : List P) (lists : List (List Call)) → map calls_of ps ≡ lists →
+    All (λ l. length l < 2 ^ 32) lists
     → All (λ p. length (calls_of p) < 2 ^ 32) ps
 seen_short calls_of ps lists e all = go calls_of ps (subst (All (λ l. length l < 2 ^ 32)) (sym e) all)
   where
-    go : {P : Type 0} (calls_of : P → List Call) (ps : List P) → All (λ l. length l < 2 ^ 32) (map calls_of ps) → All (λ p. length (calls_of p) < 2 ^ 32) ps
+    go : {P : Type 0} (calls_of : P → List Call) (ps : List P) → All (λ l. length l < 2 ^ 32) (map calls_of ps) →
+        All (λ p. length (calls_of p) < 2 ^ 32) ps
     go calls_of [] all = All-nil (λ p. length (calls_of p) < 2 ^ 32)
-    go calls_of (p ∷ ps) all = All-cons (λ p. length (calls_of p) < 2 ^ 32) p ps (All-head (λ l. length l < 2 ^ 32) (calls_of p) (map calls_of ps) all)
+    go calls_of (p ∷ ps) all = All-cons (λ p. length (calls_of p) < 2 ^ 32) p ps
+        (All-head (λ l. length l < 2 ^ 32) (calls_of p) (map calls_of ps) all)
         (go calls_of ps (All-tail (λ l. length l < 2 ^ 32) (calls_of p) (map calls_of ps) all))
 
 pub new_records : (set : SetValue) (ts : List ℕ) → map (λ (s : SeatValue). s.past) (map (new_seat set) ts) ≡ map fresh ts
@@ -46,25 +51,35 @@ new_records set (t ∷ ts) = ap (λ l. fresh t ∷ l) (new_records set ts)
 
 new_held : (set : SetValue) (ts : List ℕ) → sum_by (λ (s : SeatValue). s.held) (map (new_seat set) ts) ≡ length ts
 new_held set [] = refl
-new_held set (t ∷ ts) = omega (arith, sum_by-cons (λ (s : SeatValue). s.held) (new_seat set t) (map (new_seat set) ts), new_held set ts)
+new_held set (t ∷ ts) = omega (
+  arith,
+  sum_by-cons (λ (s : SeatValue). s.held) (new_seat set t) (map (new_seat set) ts),
+  new_held set ts,
+)
 
 -- the seats of a new set hold all of it, and are as many as its threads
-pub opened_held : (set : SetValue) (o : Opening) (seats : List SeatValue) → IsOpened set o seats → sum_by (λ (s : SeatValue). s.held) seats ≡ o.threads
-opened_held set o seats is = ap (sum_by (λ (s : SeatValue). s.held)) is.1 ∙ new_held set (range_with_len 0 o.threads) ∙ length-range_with_len 0 o.threads
+pub opened_held : (set : SetValue) (o : Opening) (seats : List SeatValue) → IsOpened set o seats →
+    sum_by (λ (s : SeatValue). s.held) seats ≡ o.threads
+opened_held set o seats is = ap (sum_by (λ (s : SeatValue). s.held)) is.1 ∙ new_held set (range_with_len 0 o.threads)
+    ∙ length-range_with_len 0 o.threads
 
 pub opened_length : (set : SetValue) (o : Opening) (seats : List SeatValue) → IsOpened set o seats → length seats ≡ o.threads
-opened_length set o seats is = ap (λ l. length l) is.1 ∙ length-map (range_with_len 0 o.threads) (new_seat set) ∙ length-range_with_len 0 o.threads
+opened_length set o seats is = ap (λ l. length l) is.1 ∙ length-map (range_with_len 0 o.threads) (new_seat set)
+    ∙ length-range_with_len 0 o.threads
 
 pub opened_records : (set : SetValue) (o : Opening) (seats : List SeatValue) → IsOpened set o seats
     → map (λ (s : SeatValue). s.past) seats ≡ map fresh (range_with_len 0 o.threads)
 opened_records set o seats is = ap (map (λ (s : SeatValue). s.past)) is.1 ∙ new_records set (range_with_len 0 o.threads)
 
-pub programs_length : {P : Type 0} (calls_of : P → List Call) (ps : List P) (threads calls keys seed : ℕ) → map calls_of ps ≡ programs_of threads calls keys seed
+pub programs_length : {P : Type 0} (calls_of : P → List Call) (ps : List P) (threads calls keys seed : ℕ) →
+    map calls_of ps ≡ programs_of threads calls keys seed
     → length ps ≡ threads
 programs_length calls_of ps threads calls keys seed e =
-    sym (length-map ps calls_of) ∙ ap (λ l. length l) e ∙ length-map (range_with_len 0 threads) (program_of calls keys seed) ∙ length-range_with_len 0 threads
+    sym (length-map ps calls_of) ∙ ap (λ l. length l) e ∙ length-map (range_with_len 0 threads) (program_of calls keys seed)
+    ∙ length-range_with_len 0 threads
 
-pub life_trouble : (opening : List ℕ) (c : WorkCause) (F : Type 0) → F → (c ≡ cause.Programs → ¬ F) → (c ≡ cause.Gate → false ≡ true)
+pub life_trouble : (opening : List ℕ) (c : WorkCause) (F : Type 0) → F → (c ≡ cause.Programs → ¬ F) →
+    (c ≡ cause.Gate → false ≡ true)
     → (t : Trouble) → t ≡ of_work c → EndsLife opening t
 life_trouble opening cause.Programs F f other never t e = absurd (other refl f)
 life_trouble opening cause.Spawn F f other never t e = subst (EndsLife opening) (sym e) tt

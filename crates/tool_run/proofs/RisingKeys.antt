@@ -8,7 +8,8 @@ use Rattle.lset_words.specs.declared.Call.{Call}
 use Rattle.lset_words.specs.declared.Call.TheVariants.{Add, Remove, Contains, Ceiling}
 use Rattle.lset_words.specs.declared.Reply.{Reply}
 use Rattle.lset_words.specs.declared.Reply.TheVariants.{True, False, Full, At, Nothing}
-use Rattle.lset_words.specs.SequentialSet.{Answered, IsLegal, SetState, after_call, has_key, opening_set, reply_to, set_left, with_key, without_key}
+use Rattle.lset_words.specs.SequentialSet.{Answered, IsLegal, SetState, after_call, has_key, opening_set, reply_to, set_left}
+use Rattle.lset_words.specs.SequentialSet.{with_key, without_key}
 use Rattle.lset_words.specs.Words.{Opening}
 use Rattle.lset_words.proofs.RisingLists.{RisesFrom, increasing_from_rises, rises_from_increasing, rises_less}
 use Rattle.lset_live.specs.Records.{Record}
@@ -37,7 +38,8 @@ without_rises k lo (x ∷ xs) r =
       | inr f ↦ rw f (r.0, i)
     ]
 
-after_rises : (quota : ℕ) (s : SetState) (t : ℕ) (call : Call) (reply : Reply) → reply_to quota s t call ≡ reply → RisesFrom 0 s.keys
+after_rises : (quota : ℕ) (s : SetState) (t : ℕ) (call : Call) (reply : Reply) → reply_to quota s t call ≡ reply →
+    RisesFrom 0 s.keys
     → RisesFrom 0 (after_call s t call reply).keys
 after_rises quota s t (Add k) True e r = elim (cases_Bool (has_key k.0 s.keys)) [
   | inl h ↦ absurd (let g : False ≡ True = rw h at e in cc)
@@ -55,11 +57,13 @@ after_rises quota s t (Remove k) Nothing e r = r
 after_rises quota s t (Contains k) reply e r = r
 after_rises quota s t (Ceiling k) reply e r = r
 
-legal_rises : (quota : ℕ) (s : SetState) (order : List Answered) → IsLegal quota s order → RisesFrom 0 s.keys → RisesFrom 0 (set_left s order).keys
+legal_rises : (quota : ℕ) (s : SetState) (order : List Answered) → IsLegal quota s order → RisesFrom 0 s.keys →
+    RisesFrom 0 (set_left s order).keys
 legal_rises quota s [] l r = r
 legal_rises quota s (x ∷ xs) l r =
     legal_rises quota (after_call s x.thread x.call x.reply) xs l.1 (after_rises quota s x.thread x.call x.reply l.0 r)
 
-pub explained_rise : (o : Opening) (records : List Record) (keys : List ℕ) → Explains o records keys → IsStrictlyIncreasing o.keys → IsStrictlyIncreasing keys
+pub explained_rise : (o : Opening) (records : List Record) (keys : List ℕ) → Explains o records keys → IsStrictlyIncreasing o.keys
+    → IsStrictlyIncreasing keys
 explained_rise o records keys is rising = increasing_from_rises 0 keys
     (subst (RisesFrom 0) is.leaves (legal_rises o.quota (opening_set o) is.order is.legal (rises_from_increasing o.keys rising)))

@@ -12,7 +12,8 @@ use Rattle.lset_tools.specs.Tools.{view}
 use Rattle.tool_serve.specs.Serving.{Announces, EndsServer, first_line, of_server}
 
 -- where the whole first line was written, a server may end by each of its causes
-pub ends_after : (e : ServeCause) (line : List ℕ) (old new : Option (List ℕ)) → Appends old new line → EndsServer (of_server e) line old new
+pub ends_after : (e : ServeCause) (line : List ℕ) (old new : Option (List ℕ)) → Appends old new line →
+    EndsServer (of_server e) line old new
 ends_after cause.Seats line old new whole = whole
 ends_after cause.Accept line old new whole = whole
 ends_after cause.Spawn line old new whole = whole
@@ -24,5 +25,12 @@ ends_after cause.Left line old new whole = whole
 pub after_memory : (port : ℕ) (old new : Option (List ℕ)) (r : Result Answer Trouble) → IsErrAnd r (λ t. t ≡ Memory)
     → Appends old new (first_line port) → Announces (view r) old new
 after_memory port old new (Ok a) is whole = absurd is
-after_memory port old new (Err t) is whole =
-    (port, subst (λ u. EndsServer u (first_line port) old new) (sym is) (first_line port, [], sym (append-nil (first_line port)), whole))
+after_memory port old new (Err t) is whole = (
+  port,
+  subst (λ u. EndsServer u (first_line port) old new) (sym is) (
+    first_line port,
+    [],
+    sym (append-nil (first_line port)),
+    whole,
+  ),
+)

@@ -10,7 +10,8 @@ two_many a b (c ∷ more) some = refl
 abbrev pub lines : ℕ → List (List ℕ) → Lines
 lines line parts = record { line = line; parts = parts }
 
-pub without_goes : (word : List ℕ) (line : ℕ) (x : List ℕ) (parts : List (List ℕ)) → 0 < length parts → is_word_and_piece word x ≡ true
+pub without_goes : (word : List ℕ) (line : ℕ) (x : List ℕ) (parts : List (List ℕ)) → 0 < length parts →
+    is_word_and_piece word x ≡ true
     → lines (line + 1) parts ≡ without_at word line (x ∷ parts)
 without_goes word line x [] some is = absurd (omega arith)
 without_goes word line x (y ∷ more) some is = rw is refl

@@ -17,7 +17,8 @@ abbrev pub with_front : List ℕ → Result (List ℕ) KeysFault → Result (Lis
 with_front front read = read >>= λ ks. Ok (front ++ ks)
 
 -- a whole line that tells a key
-pub keys_goes : (line many least : ℕ) (x : List ℕ) (parts : List (List ℕ)) (k : ℕ) → 0 < length parts → key_after many least x ≡ Ok k
+pub keys_goes : (line many least : ℕ) (x : List ℕ) (parts : List (List ℕ)) (k : ℕ) → 0 < length parts →
+    key_after many least x ≡ Ok k
     → keys_at line many least (x ∷ parts) ≡ (keys_at (line + 1) (many + 1) (k + 1) parts >>= λ ks. Ok (k ∷ ks))
 unfolding keys_at
 keys_goes line many least x [] k some is = absurd (omega arith)
@@ -52,7 +53,8 @@ pub stops : (front : List ℕ) (line least : ℕ) (rest first after : List ℕ) 
     → with_front front (keys_at line (length front) least (cut_at 10 rest)) ≡ whole → whole ≡ Err (Line line cause)
 stops front line least rest first after cause whole parts is so_far =
     let step = keys_fail line (length front) least first (cut_at 10 after) cause (some_part 10 after) (sym is) in
-    let one : with_front front (keys_at line (length front) least (cut_at 10 rest)) ≡ Err (Line line cause) = rw (parts, step) refl in
+    let one : with_front front (keys_at line (length front) least (cut_at 10 rest)) ≡ Err (Line line cause) =
+    rw (parts, step) refl in
     sym so_far ∙ one
 
 pub not_ended : (front : List ℕ) (line many least : ℕ) (rest : List ℕ) (whole : Result (List ℕ) KeysFault)

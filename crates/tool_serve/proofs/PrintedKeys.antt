@@ -13,7 +13,8 @@ use Rattle.lset_text.specs.Parts.{Lacks, line_of, text_of}
 use Rattle.lset_text.specs.Numbers.{max_number}
 use Rattle.lset_text.proofs.PartLaws.{Lacks-append, Lacks-below, all_from, cut_line, cut_lines, line_lacks}
 use Rattle.lset_text.proofs.NumberLaws.{decimal_lacks, number_again}
-use Rattle.tool_serve.specs.Keys.{AreKeys, Lines, is_word_and_piece, key_after, key_in, keys_at, keys_in, two_pieces, without, without_at}
+use Rattle.tool_serve.specs.Keys.{AreKeys, Lines, is_word_and_piece, key_after, key_in, keys_at, keys_in, two_pieces, without}
+use Rattle.tool_serve.specs.Keys.{without_at}
 use Rattle.tool_serve.specs.Printed.{PrintedKeysAreRead}
 use Rattle.tool_serve.specs.Serving.{first_line, number_line, served_text}
 use Rattle.tool_serve.proofs.HeadLaws.{lines, without_goes, without_stays}
@@ -27,7 +28,8 @@ pair_line word piece = line_of (word ∷ piece ∷ [])
 two_told : (word piece : List ℕ) → Lacks 32 word → Lacks 32 piece → two_pieces (pair_line word piece) ≡ Some (word, piece)
 two_told word piece lacks plain = rw (cut_line word (piece ∷ []) lacks (plain, tt)) refl
 
-told_by : (word other piece : List ℕ) → Lacks 32 word → Lacks 32 piece → is_word_and_piece other (pair_line word piece) ≡ bytes_eq word other
+told_by : (word other piece : List ℕ) → Lacks 32 word → Lacks 32 piece → is_word_and_piece other (pair_line word piece) ≡ bytes_eq
+    word other
 told_by word other piece lacks plain = rw (two_told word piece lacks plain) refl
 
 letters_lack : (byte : ℕ) (word : List ℕ) → byte < 97 → all_from 97 word ≡ true → Lacks byte word
@@ -47,7 +49,8 @@ key_parts keys = map key_line keys ++ [] ∷ []
 
 key_told : (k : ℕ) → k ≤ max_number → key_in (key_line k) ≡ Ok k
 key_told k low =
-    let two = two_told (codes "key") (decimal k) (letters_lack 32 (codes "key") (omega arith) refl) (plain_number k (omega (arith, low))) in
+    let two = two_told (codes "key") (decimal k) (letters_lack 32 (codes "key") (omega arith) refl)
+    (plain_number k (omega (arith, low))) in
     rw (two, number_again 0 max_number k (omega arith) (omega arith) low) refl
 
 key_follows : (many least k : ℕ) → k ≤ max_number → many < MOST_OPENING → least ≤ k → key_after many least (key_line k) ≡ Ok k
@@ -56,14 +59,16 @@ key_follows many least k low room above = rw (key_told k low, lt-leb MOST_OPENIN
 some_parts : (keys : List ℕ) → 0 < length (key_parts keys)
 some_parts keys = omega (arith, length-append (map key_line keys) ([] ∷ []))
 
-keys_told : (line many least : ℕ) (keys : List ℕ) → RisesFrom least keys → All (λ k. k ≤ max_number) keys → many + length keys ≤ MOST_OPENING
+keys_told : (line many least : ℕ) (keys : List ℕ) → RisesFrom least keys → All (λ k. k ≤ max_number) keys →
+    many + length keys ≤ MOST_OPENING
     → keys_at line many least (key_parts keys) ≡ Ok keys
 unfolding keys_at
 keys_told line many least [] rises low few = refl
 keys_told line many least (k ∷ ks) rises low few =
     let one = key_follows many least k (All-head (λ k. k ≤ max_number) k ks low) (omega (arith, few)) rises.0 in
     let step = keys_goes line many least (key_line k) (key_parts ks) k (some_parts ks) one in
-    let others = keys_told (line + 1) (many + 1) (k + 1) ks rises.1 (All-tail (λ k. k ≤ max_number) k ks low) (omega (arith, few)) in
+    let others = keys_told (line + 1) (many + 1) (k + 1) ks rises.1 (All-tail (λ k. k ≤ max_number) k ks low) (omega (arith, few))
+    in
     rw (step, others) refl
 
 key_lines_lack : (keys : List ℕ) → All (λ k. k ≤ max_number) keys → AllByRecursion (Lacks 10) (map key_line keys)
@@ -77,14 +82,18 @@ key_lines_lack (k ∷ ks) low =
 -- ---- the head
 
 -- a line of the head is passed over where it is the one that is due
-passes : (word piece : List ℕ) (line : ℕ) (parts : List (List ℕ)) → Lacks 32 word → Lacks 32 piece → bytes_eq word word ≡ true → 0 < length parts
+passes : (word piece : List ℕ) (line : ℕ) (parts : List (List ℕ)) → Lacks 32 word → Lacks 32 piece → bytes_eq word word ≡ true →
+    0 < length parts
     → without_at word line (pair_line word piece ∷ parts) ≡ lines (line + 1) parts
-passes word piece line parts lacks plain same some = sym (without_goes word line (pair_line word piece) parts some (told_by word word piece lacks plain ∙ same))
+passes word piece line parts lacks plain same some =
+    sym (without_goes word line (pair_line word piece) parts some (told_by word word piece lacks plain ∙ same))
 
 -- and stays where it is another
-stays : (word other piece : List ℕ) (line : ℕ) (parts : List (List ℕ)) → Lacks 32 word → Lacks 32 piece → bytes_eq word other ≡ false
+stays : (word other piece : List ℕ) (line : ℕ) (parts : List (List ℕ)) → Lacks 32 word → Lacks 32 piece →
+    bytes_eq word other ≡ false
     → without_at other line (pair_line word piece ∷ parts) ≡ lines line (pair_line word piece ∷ parts)
-stays word other piece line parts lacks plain differs = sym (without_stays other line (pair_line word piece) parts (told_by word other piece lacks plain ∙ differs))
+stays word other piece line parts lacks plain differs =
+    sym (without_stays other line (pair_line word piece) parts (told_by word other piece lacks plain ∙ differs))
 
 -- the lines of keys stay
 keys_stay : (other : List ℕ) (line : ℕ) (keys : List ℕ) → bytes_eq (codes "key") other ≡ false → All (λ k. k ≤ max_number) keys
@@ -92,12 +101,14 @@ keys_stay : (other : List ℕ) (line : ℕ) (keys : List ℕ) → bytes_eq (code
 keys_stay other line [] differs low = refl
 keys_stay other line (k ∷ ks) differs low =
     let small = All-head (λ k. k ≤ max_number) k ks low in
-    stays (codes "key") other (decimal k) line (key_parts ks) (letters_lack 32 (codes "key") (omega arith) refl) (plain_number k (omega (arith, small))) differs
+    stays (codes "key") other (decimal k) line (key_parts ks) (letters_lack 32 (codes "key") (omega arith) refl)
+    (plain_number k (omega (arith, small))) differs
 
 abbrev head_of : List (List ℕ) → Lines
 head_of parts = without (codes "calls") (without (codes "sessions") (without (codes "listening") (lines 1 parts)))
 
-module _ (port sessions calls : ℕ) (keys : List ℕ) (port_fits : port < 2 ^ 16) (sessions_fit : sessions < 2 ^ 64) (calls_fit : calls < 2 ^ 64)
+module _ (port sessions calls : ℕ) (keys : List ℕ) (port_fits : port < 2 ^ 16) (sessions_fit : sessions < 2 ^ 64)
+    (calls_fit : calls < 2 ^ 64)
     (are : AreKeys keys) (low : All (λ k. k ≤ max_number) keys) where
   abbrev place : List ℕ
   place = codes "127.0.0.1:" ++ decimal port
@@ -121,30 +132,39 @@ module _ (port sessions calls : ℕ) (keys : List ℕ) (port_fits : port < 2 ^ 1
   rest_told : (line : ℕ) → keys_at line 0 0 (key_parts keys) ≡ Ok keys
   rest_told line = keys_told line 0 0 keys (rises_from_increasing keys are.0) low (omega (arith, are.1))
 
-  after_calls : (line : ℕ) → without (codes "calls") (lines line (calls_line ∷ key_parts keys)) ≡ lines (line + 1) (key_parts keys)
+  after_calls : (line : ℕ) → without (codes "calls") (lines line (calls_line ∷ key_parts keys)) ≡ lines (line + 1)
+      (key_parts keys)
   after_calls line =
-      passes (codes "calls") (decimal calls) line (key_parts keys) (letters_lack 32 (codes "calls") (omega arith) refl) (plain_number calls calls_fit) refl (some_parts keys)
+      passes (codes "calls") (decimal calls) line (key_parts keys) (letters_lack 32 (codes "calls") (omega arith) refl)
+      (plain_number calls calls_fit) refl (some_parts keys)
 
-  after_sessions : (line : ℕ) → without (codes "sessions") (lines line (sessions_line ∷ calls_line ∷ key_parts keys)) ≡ lines (line + 1) (calls_line ∷ key_parts keys)
+  after_sessions : (line : ℕ) → without (codes "sessions") (lines line (sessions_line ∷ calls_line ∷ key_parts keys)) ≡ lines
+      (line + 1) (calls_line ∷ key_parts keys)
   after_sessions line =
-      passes (codes "sessions") (decimal sessions) line (calls_line ∷ key_parts keys) (letters_lack 32 (codes "sessions") (omega arith) refl)
+      passes (codes "sessions") (decimal sessions) line (calls_line ∷ key_parts keys)
+      (letters_lack 32 (codes "sessions") (omega arith) refl)
       (plain_number sessions sessions_fit) refl (omega arith)
 
-  after_listening : without (codes "listening") (lines 1 (listening_line ∷ sessions_line ∷ calls_line ∷ key_parts keys)) ≡ lines 2 (sessions_line ∷ calls_line ∷ key_parts keys)
+  after_listening : without (codes "listening") (lines 1 (listening_line ∷ sessions_line ∷ calls_line ∷ key_parts keys)) ≡ lines 2
+      (sessions_line ∷ calls_line ∷ key_parts keys)
   after_listening =
-      passes (codes "listening") place 1 (sessions_line ∷ calls_line ∷ key_parts keys) (letters_lack 32 (codes "listening") (omega arith) refl)
+      passes (codes "listening") place 1 (sessions_line ∷ calls_line ∷ key_parts keys)
+      (letters_lack 32 (codes "listening") (omega arith) refl)
       (place_lacks 32 (omega arith)) refl (omega arith)
 
   -- the head of each of the three texts
   whole_head : head_of (listening_line ∷ sessions_line ∷ calls_line ∷ key_parts keys) ≡ lines 4 (key_parts keys)
   whole_head =
-      ap (λ l. without (codes "calls") (without (codes "sessions") l)) after_listening ∙ ap (without (codes "calls")) (after_sessions 2) ∙ after_calls 3
+      ap (λ l. without (codes "calls") (without (codes "sessions") l)) after_listening
+      ∙ ap (without (codes "calls")) (after_sessions 2) ∙ after_calls 3
 
   served_head : head_of (sessions_line ∷ calls_line ∷ key_parts keys) ≡ lines 3 (key_parts keys)
   served_head =
-      let first = stays (codes "sessions") (codes "listening") (decimal sessions) 1 (calls_line ∷ key_parts keys) (letters_lack 32 (codes "sessions") (omega arith) refl)
+      let first = stays (codes "sessions") (codes "listening") (decimal sessions) 1 (calls_line ∷ key_parts keys)
+      (letters_lack 32 (codes "sessions") (omega arith) refl)
       (plain_number sessions sessions_fit) refl in
-      ap (λ l. without (codes "calls") (without (codes "sessions") l)) first ∙ ap (without (codes "calls")) (after_sessions 1) ∙ after_calls 2
+      ap (λ l. without (codes "calls") (without (codes "sessions") l)) first ∙ ap (without (codes "calls")) (after_sessions 1)
+      ∙ after_calls 2
 
   no_head : head_of (key_parts keys) ≡ lines 1 (key_parts keys)
   no_head =
@@ -152,11 +172,13 @@ module _ (port sessions calls : ℕ) (keys : List ℕ) (port_fits : port < 2 ^ 1
       ∙ ap (without (codes "calls")) (keys_stay (codes "sessions") 1 keys refl low) ∙ keys_stay (codes "calls") 1 keys refl low
 
   -- a text of lines whose head is passed over
-  read_after : (text_lines : List (List ℕ)) (line : ℕ) → AllByRecursion (Lacks 10) text_lines → head_of (text_lines ++ [] ∷ []) ≡ lines line (key_parts keys)
+  read_after : (text_lines : List (List ℕ)) (line : ℕ) → AllByRecursion (Lacks 10) text_lines →
+      head_of (text_lines ++ [] ∷ []) ≡ lines line (key_parts keys)
       → keys_in (text_of text_lines) ≡ Ok keys
   read_after text_lines line lack head =
       let parts = cut_lines text_lines lack in
-      ap (λ ps. keys_at (head_of ps).line 0 0 (head_of ps).parts) parts ∙ ap (λ (l : Lines). keys_at l.line 0 0 l.parts) head ∙ rest_told line
+      ap (λ ps. keys_at (head_of ps).line 0 0 (head_of ps).parts) parts ∙ ap (λ (l : Lines). keys_at l.line 0 0 l.parts) head
+      ∙ rest_told line
 
   number_line_lacks : (word : List ℕ) (n : ℕ) → Lacks 10 word → n < 2 ^ 64 → Lacks 10 (number_line word n)
   number_line_lacks word n lacks small = line_lacks (word ∷ decimal n ∷ []) (lacks, (decimal_lacks 10 n (omega arith) small, tt))
@@ -164,13 +186,23 @@ module _ (port sessions calls : ℕ) (keys : List ℕ) (port_fits : port < 2 ^ 1
   served_lack : AllByRecursion (Lacks 10) (sessions_line ∷ calls_line ∷ map key_line keys)
   served_lack = (
     number_line_lacks (codes "sessions") sessions (letters_lack 10 (codes "sessions") (omega arith) refl) sessions_fit,
-    (number_line_lacks (codes "calls") calls (letters_lack 10 (codes "calls") (omega arith) refl) calls_fit, key_lines_lack keys low),
+    (
+      number_line_lacks (codes "calls") calls (letters_lack 10 (codes "calls") (omega arith) refl) calls_fit,
+      key_lines_lack keys low,
+    ),
   )
 
   whole_lack : AllByRecursion (Lacks 10) (listening_line ∷ sessions_line ∷ calls_line ∷ map key_line keys)
-  whole_lack = (line_lacks (codes "listening" ∷ place ∷ []) (letters_lack 10 (codes "listening") (omega arith) refl, (place_lacks 10 (omega arith), tt)), served_lack)
+  whole_lack = (
+    line_lacks (codes "listening" ∷ place ∷ []) (
+      letters_lack 10 (codes "listening") (omega arith) refl,
+      (place_lacks 10 (omega arith), tt),
+    ),
+    served_lack,
+  )
 
-  whole_text : first_line port ++ served_text sessions calls keys ≡ text_of (listening_line ∷ sessions_line ∷ calls_line ∷ map key_line keys)
+  whole_text : first_line port ++ served_text sessions calls keys ≡ text_of (listening_line ∷ sessions_line ∷ calls_line
+      ∷ map key_line keys)
   whole_text = refl
 
   pub printed : (keys_in (first_line port ++ served_text sessions calls keys) ≡ Ok keys)
@@ -183,4 +215,5 @@ module _ (port sessions calls : ℕ) (keys : List ℕ) (port_fits : port < 2 ^ 1
   )
 
 pub printed_are_read : PrintedKeysAreRead
-printed_are_read port sessions calls keys port_fits sessions_fit calls_fit are low = printed port sessions calls keys port_fits sessions_fit calls_fit are low
+printed_are_read port sessions calls keys port_fits sessions_fit calls_fit are low =
+    printed port sessions calls keys port_fits sessions_fit calls_fit are low

@@ -20,7 +20,8 @@ IsAllowed many least k = (many < MOST_OPENING) × (least ≤ k)
 allowed_ok : (many least j k : ℕ) → allowed many least j ≡ Ok k → IsAllowed many least k
 allowed_ok many least j k is = full (leb MOST_OPENING many) (ltb j least) refl refl is
   where
-    full : (b c : Bool) → leb MOST_OPENING many ≡ b → ltb j least ≡ c → cond b (Err cause.TooMany) (cond c (Err cause.Opening) (Ok j)) ≡ Ok k
+    full : (b c : Bool) → leb MOST_OPENING many ≡ b → ltb j least ≡ c →
+        cond b (Err cause.TooMany) (cond c (Err cause.Opening) (Ok j)) ≡ Ok k
         → IsAllowed many least k
     full true c e f bad = absurd cc
     full false true e f bad = absurd cc
@@ -44,10 +45,12 @@ last_ok : (b : Bool) (f : KeysFault) (ks : List ℕ) → cond b (Ok []) (Err f) 
 last_ok true f ks is = ok_is {E = KeysFault} [] ks is
 last_ok false f ks is = absurd cc
 
-next_keys : (line many least : ℕ) (parts : List (List ℕ)) (ks : List ℕ) → keys_at line many least parts ≡ Ok ks → AreNext many least ks
+next_keys : (line many least : ℕ) (parts : List (List ℕ)) (ks : List ℕ) → keys_at line many least parts ≡ Ok ks →
+    AreNext many least ks
 unfolding keys_at
 next_keys line many least [] ks is = next_none many least ks (ok_is {E = KeysFault} [] ks is)
-next_keys line many least (rest ∷ []) ks is = next_none many least ks (last_ok (eqb (length rest) 0) (Line line cause.NotEnded) ks is)
+next_keys line many least (rest ∷ []) ks is =
+    next_none many least ks (last_ok (eqb (length rest) 0) (Line line cause.NotEnded) ks is)
 next_keys line many least (x ∷ y ∷ more) ks is =
     let first = bind_ok (map_fault (Line line) (key_after many least x)) _ ks is in
     let k = first.0 in
@@ -63,6 +66,7 @@ are_keys text ks is =
     (increasing_from_rises 0 ks next.0, omega (arith, next.1 (omega arith)))
 
 -- what is given rises
-pub given_keys : {A : Type 0} (view : A → List ℕ) (text : List ℕ) (answer : Result A KeysFault) → Gives view answer (keys_in text) → IfOk answer (λ x. AreKeys (view x))
+pub given_keys : {A : Type 0} (view : A → List ℕ) (text : List ℕ) (answer : Result A KeysFault) → Gives view answer (keys_in text)
+    → IfOk answer (λ x. AreKeys (view x))
 given_keys view text (Ok x) is = are_keys text (view x) is
 given_keys view text (Err f) is = tt

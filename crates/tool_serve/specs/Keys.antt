@@ -1,5 +1,6 @@
 -- The keys of a text, or its first fault: line by line, and in each line in the order of the checks.
-use Rattle.std.specs.Prelude.{◌≡◌, ℕ, ◌+◌, ◌≤◌, ◌==◌, nat_lt, nat_le, Bool, false, List, [], ◌∷◌, length, codes, Option, Some, None, Result, Ok, Err}
+use Rattle.std.specs.Prelude.{◌≡◌, ℕ, ◌+◌, ◌≤◌, ◌==◌, nat_lt, nat_le, Bool, false, List, [], ◌∷◌, length, codes, Option, Some}
+use Rattle.std.specs.Prelude.{None, Result, Ok, Err}
 use Rattle.std.specs.Prelude.{if◌then◌else◌}
 use Rattle.std.specs.Option.{option_map_or}
 use Rattle.std.specs.List.Sorted.{IsStrictlyIncreasing}
@@ -49,7 +50,8 @@ abbrev pub without_at : List ℕ → ℕ → List (List ℕ) → Lines
 without_at word line [] = record { line = line; parts = [] }
 without_at word line (rest ∷ []) = record { line = line; parts = rest ∷ [] }
 without_at word line (x ∷ y ∷ more) =
-    if is_word_and_piece word x then record { line = line + 1; parts = y ∷ more } else record { line = line; parts = x ∷ y ∷ more }
+    if is_word_and_piece word x then record { line = line + 1; parts = y ∷ more }
+    else record { line = line; parts = x ∷ y ∷ more }
 
 abbrev pub without : List ℕ → Lines → Lines
 without word lines = without_at word lines.line lines.parts
@@ -57,7 +59,8 @@ without word lines = without_at word lines.line lines.parts
 -- what comes after the lines `listening A`, `sessions N` and `calls N`, as far as they stand at the head in this order
 abbrev pub after_head : List ℕ → Lines
 after_head text =
-    without (codes "calls") (without (codes "sessions") (without (codes "listening") (record { line = 1; parts = cut_at 10 text })))
+    without (codes "calls") (without (codes "sessions")
+    (without (codes "listening") (record { line = 1; parts = cut_at 10 text })))
 
 -- ---- the lines of keys
 
@@ -70,7 +73,8 @@ abbrev pub key_in : List ℕ → Result ℕ KeyCause
 key_in line = key_in_two (two_pieces line)
 
 abbrev pub allowed : ℕ → ℕ → ℕ → Result ℕ KeyCause
-allowed many least k = if nat_le MOST_OPENING many then Err cause.TooMany else (if nat_lt k least then Err cause.Opening else Ok k)
+allowed many least k = if nat_le MOST_OPENING many then Err cause.TooMany
+    else (if nat_lt k least then Err cause.Opening else Ok k)
 
 -- the key of a line that comes after so many keys, and may tell this key or a greater one
 abbrev pub key_after : ℕ → ℕ → List ℕ → Result ℕ KeyCause

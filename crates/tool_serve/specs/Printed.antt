@@ -5,7 +5,8 @@ use Rattle.lset_text.specs.Parts.{text_of}
 use Rattle.tool_serve.specs.Keys.{AreKeys, keys_in}
 use Rattle.tool_serve.specs.Serving.{first_line, number_line, served_text}
 
--- The next server reads the keys from all that one printed, from what it printed at its end, and from the lines of the keys alone.
+-- The next server reads the keys from all that one printed, from what it printed at its end, and from the lines of the keys
+-- alone.
 abbrev pub PrintedKeysAreRead : Type 0
 PrintedKeysAreRead = (port sessions calls : ℕ) (keys : List ℕ)
     → port < 2 ^ 16 → sessions < 2 ^ 64 → calls < 2 ^ 64 → AreKeys keys → All (λ k. k ≤ max_number) keys

@@ -101,12 +101,14 @@ AreKeysOf input keys = AreKeys keys × IfSome input (λ bytes. IsTaken bytes × 
 
 -- the trouble of an input of these bytes: one with the input, or its first line that is refused
 abbrev pub IsKeysTrouble : List ℕ → Trouble → Type 0
-IsKeysTrouble bytes t = IsInputTrouble bytes t ⊎ (IsTaken bytes × (fault : KeysFault) × (keys_in bytes ≡ Err fault) × (t ≡ of_keys fault))
+IsKeysTrouble bytes t = IsInputTrouble bytes t ⊎ (IsTaken bytes × (fault : KeysFault) × (keys_in bytes ≡ Err fault)
+    × (t ≡ of_keys fault))
 
 abbrev pub IsTroubleOf : Option (List ℕ) → Trouble → Type 0
 IsTroubleOf input t = IfSome input (λ bytes. IsKeysTrouble bytes t)
 
--- The set opens with the keys of the input, or there is trouble with it and nothing is written; a wrong value is named before that.
+-- The set opens with the keys of the input, or there is trouble with it and nothing is written; a wrong value is named before
+-- that.
 abbrev pub ServesWith : Result ServeRequest ValueName → Option (List ℕ) → Option (List ℕ) → Option (List ℕ) → Made → Type 0
 ServesWith (Ok request) input old new made =
     ((opening : List ℕ) × AreKeysOf input opening × ServesFrom request opening old new made)
@@ -116,12 +118,15 @@ ServesWith (Err wrong) input old new made = (made ≡ Err (Bad wrong)) × Keeps 
 -- HOW THE TOOL ENDS: the first line is written, and then what was made of the values reaches the output, as with any tool.
 abbrev pub ServeEnds : List (List ℕ) → Option (List ℕ) → Option (List ℕ) → Option (List ℕ) → Option (List ℕ) → ℕ → Type 0
 ServeEnds values output_old output_new faults_old faults_new status =
-    (first : Option (List ℕ)) × Ends (Serves (serve_request_of values) output_old first) first output_new faults_old faults_new status
+    (first : Option (List ℕ)) × Ends (Serves (serve_request_of values) output_old first) first output_new faults_old faults_new
+    status
 
 -- the same, with the keys of an input
-abbrev pub ServeWithEnds : List (List ℕ) → Option (List ℕ) → Option (List ℕ) → Option (List ℕ) → Option (List ℕ) → Option (List ℕ) → ℕ → Type 0
+abbrev pub ServeWithEnds : List (List ℕ) → Option (List ℕ) → Option (List ℕ) → Option (List ℕ) → Option (List ℕ) → Option (List ℕ)
+    → ℕ → Type 0
 ServeWithEnds values input output_old output_new faults_old faults_new status =
-    (first : Option (List ℕ)) × Ends (ServesWith (serve_request_of values) input output_old first) first output_new faults_old faults_new status
+    (first : Option (List ℕ)) × Ends (ServesWith (serve_request_of values) input output_old first) first output_new faults_old
+    faults_new status
 
 -- ---- what the functions on the way say
 

@@ -13,7 +13,8 @@ use Rattle.lset_report.specs.declared.report_fault.ReportFault.{ReportFault}
 use Rattle.lset_report.specs.ReportReading as reports
 use Rattle.lset_tools.specs.declared.answer.Answer.{Answer}
 use Rattle.lset_tools.specs.declared.trouble.Trouble.{Trouble}
-use Rattle.lset_tools.specs.declared.trouble.Trouble.TheVariants.{CannotRead, TooLong, CannotWrite, Memory, Line, Bad, CannotListen, Work, Serve}
+use Rattle.lset_tools.specs.declared.trouble.Trouble.TheVariants.{CannotRead, TooLong, CannotWrite, Memory, Line, Bad}
+use Rattle.lset_tools.specs.declared.trouble.Trouble.TheVariants.{CannotListen, Work, Serve}
 use Rattle.lset_tools.specs.Trouble.{of_schedule_line, of_report_line}
 use Rattle.lset_tools.specs.Checking as checking
 use Rattle.tool_show.specs.Showing.{IsFirstFault, IsScheduleFault}

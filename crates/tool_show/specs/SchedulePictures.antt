@@ -13,7 +13,8 @@ pub record IsPictureOfSchedule (p : Plan) (v : PictureValue) : Type 0 where
   -- tells how many events were made,
   pub made : ℕ
   pub events_are : v.events ≡ Some made
-  -- shows the report of just these, with the points at which the calls of the run stand, and after them no event, or the first that
+  -- shows the report of just these, with the points at which the calls of the run stand, and after them no event, or the first
+  -- that
   -- is not enabled,
   pub replay : IsReplayUpto (table_of p.kind) p made v.refused (report_in p.version v) v.points
   -- and an order that explains the history and leaves the keys,

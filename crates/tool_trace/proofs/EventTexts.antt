@@ -1,5 +1,6 @@
 -- The lines of events that come one after another, and a trace as a value with given events.
-use Rattle.std.proofs.Common.{◌≡◌, ℕ, ◌+◌, ◌^◌, ◌<◌, ◌≤◌, Bool, List, [], ◌∷◌, ◌++◌, length, refl, sym, ap, ◌∙◌, arith, append_assoc}
+use Rattle.std.proofs.Common.{◌≡◌, ℕ, ◌+◌, ◌^◌, ◌<◌, ◌≤◌, Bool, List, [], ◌∷◌, ◌++◌, length, refl, sym, ap, ◌∙◌, arith}
+use Rattle.std.proofs.Common.{append_assoc}
 use Rattle.std.specs.Prelude.{Option, Some, None, Vec}
 use Rattle.std.specs.declared.alloc.Global.{Global}
 use Rattle.std.proofs.lemmas.List.{append-nil}
@@ -43,7 +44,8 @@ text_parts header opening events last =
     ∙ ap (λ xs. text_of header ++ text_of opening ++ text_of events ++ xs) (append-nil (ended last)))
 
 -- a trace has no more events than its schedule
-pub few_traced : (T : Table) (p : Plan) (chains : Bool) (traced : List TracedEvent) (refused : Option (ℕ × StepFault)) → IsSchedule p
+pub few_traced : (T : Table) (p : Plan) (chains : Bool) (traced : List TracedEvent) (refused : Option (ℕ × StepFault)) →
+    IsSchedule p
     → TellsEvents T (opening_in p) (events_of p) chains traced refused → length traced < 2 ^ 63
 few_traced T p chains traced None is tells =
     let all : length (events_of p) ≡ sum_by event_count p.lines = length_of_events (first_event_line p) p.lines in

@@ -14,7 +14,8 @@ use Rattle.lset_text.proofs.PartLaws.{Lacks-below, Lacks-append, cut_joined}
 use Rattle.lset_text.proofs.NumberLaws.{decimal_lacks}
 use Rattle.tool_trace.specs.declared.table_words.TableWord.{TableWord}
 use Rattle.tool_trace.specs.declared.table_words.TableWord.TheVariants.{ListLock, Threads, Quota, Key, Link, Lock}
-use Rattle.tool_trace.specs.WordTexts.{index_of, word_at, node_text, key_text, star_text, link_text, lock_text, value_text, name_text}
+use Rattle.tool_trace.specs.WordTexts.{index_of, word_at, node_text, key_text, star_text, link_text, lock_text, value_text}
+use Rattle.tool_trace.specs.WordTexts.{name_text}
 
 -- the first byte of a text
 abbrev first : List ℕ → ℕ

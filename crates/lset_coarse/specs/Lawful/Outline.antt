@@ -1,7 +1,9 @@
 -- What is known at each place of the list with one lock.
-use Rattle.std.specs.Prelude.{◌≡◌, ◌≢◌, ℕ, suc, ◌+◌, ◌*◌, ◌/◌, ◌%◌, ◌<◌, ◌≤◌, Bool, true, false, Some, None, List, [], slice_index, slice_set, length, refl, if◌then◌else◌, ◌==◌, nat_lt}
+use Rattle.std.specs.Prelude.{◌≡◌, ◌≢◌, ℕ, suc, ◌+◌, ◌*◌, ◌/◌, ◌%◌, ◌<◌, ◌≤◌, Bool, true, false, Some, None, List, []}
+use Rattle.std.specs.Prelude.{slice_index, slice_set, length, refl, if◌then◌else◌, ◌==◌, nat_lt}
 use Rattle.std.proofs.Common.{arith, inl, inr, sym, ◌∙◌, ap, subst}
-use Rattle.lset_words.proofs.Numbers.{same_or_not, below_or_not, if_same, if_other, if_below, if_not_below, same_number, other_number, lower_number, not_lower_number}
+use Rattle.lset_words.proofs.Numbers.{same_or_not, below_or_not, if_same, if_other, if_below, if_not_below, same_number}
+use Rattle.lset_words.proofs.Numbers.{other_number, lower_number, not_lower_number}
 use Rattle.lset_words.specs.Words.{key_index, link_index, tail_word, node_count, word_count, slot_node, target, key_of, Sizes}
 use Rattle.lset_words.specs.declared.Call.{Call}
 use Rattle.lset_words.specs.declared.Key.{Key}
@@ -15,10 +17,13 @@ use Rattle.lset_steps.specs.Chain.{View, view, InChain, InContent, FitsIn, node_
 use Rattle.lset_steps.proofs.Moves.{Quiet}
 use Rattle.lset_steps.specs.Laws.{Registers, Due}
 use Rattle.lset_words.specs.Account.{MayChange}
-use Rattle.lset_steps.proofs.Memory.{WordStep, Memory, reads, fails, takes, gives, own_key, own_link, puts, drops, own_of, one_more, set_same, key_after_link, list_lock_after_link, list_lock_after_key, link_wrote, key_wrote, own_in, inner, next_in, chain_in, inside, mine_counted, at_own_key, at_own_link}
+use Rattle.lset_steps.proofs.Memory.{WordStep, Memory, reads, fails, takes, gives, own_key, own_link, puts, drops, own_of}
+use Rattle.lset_steps.proofs.Memory.{one_more, set_same, key_after_link, list_lock_after_link, list_lock_after_key, link_wrote}
+use Rattle.lset_steps.proofs.Memory.{key_wrote, own_in, inner, next_in, chain_in, inside, mine_counted, at_own_key, at_own_link}
 use Rattle.lset_steps.proofs.QuietMove.{in_chain_published, quiet_keeps}
 use Rattle.lset_steps.proofs.Discipline.{Discipline, StepOf, Here, Thread}
-use Rattle.lset_steps.proofs.Replies.{Adding, Removing, registers_begun, keep_more, decided_cases, absent_between, ceiling_fits, fitted_on, or_false, fed, fed_is, keep, keep_ckey, keep_succ, keep_walk}
+use Rattle.lset_steps.proofs.Replies.{Adding, Removing, registers_begun, keep_more, decided_cases, absent_between, ceiling_fits}
+use Rattle.lset_steps.proofs.Replies.{fitted_on, or_false, fed, fed_is, keep, keep_ckey, keep_succ, keep_walk}
 use Rattle.lset_steps.specs.Rows.{decided, goes_to, own_slot}
 use Rattle.lset_coarse.specs.Coarse.{coarse, next_action, local_after, fed_by, effect_of}
 
@@ -86,7 +91,8 @@ stands q t vs first now v w done l alien (at8 e d x a) = absurd (alien x.mine)
 stands q t vs first now v w done l alien (at9 e d x a h) = absurd (alien x.mine)
 stands q t vs first now v w done l alien (at10 e h r y z) = absurd (alien h)
 
-module _ (sz : Sizes) (t : ℕ) (vs : ℕ → View) (first : ℕ → ℕ) (now : ℕ) (ws : List ℕ) (used : ℕ → ℕ) (done : ℕ → Bool) (locals : ℕ → Local)
+module _ (sz : Sizes) (t : ℕ) (vs : ℕ → View) (first : ℕ → ℕ) (now : ℕ) (ws : List ℕ) (used : ℕ → ℕ) (done : ℕ → Bool) (locals : ℕ
+    → Local)
     (h : Here false sz vs now ws used) (ths : (u : ℕ) → u < sz.threads
     → Thread At sz u vs (first u) now ws used (done u) (locals u)) (tn : t < sz.threads) where
   M : Memory false sz ws used
@@ -105,8 +111,10 @@ module _ (sz : Sizes) (t : ℕ) (vs : ℕ → View) (first : ℕ → ℕ) (now :
   own_is = rw ((ths t tn).registers.thread, (ths t tn).registers.quota, (ths t tn).counts) refl
 
   -- while t has the lock, the others wait
-  alone : (w : View) → slice_index ws 0 ≡ t + 1 → (u : ℕ) → u < sz.threads → u ≢ t → At sz.quota u vs (first u) (suc now) w (done u) (locals u)
-  alone w mine u k d = stands sz.quota u vs (first u) now (view sz ws used) w (done u) (locals u) (λ e. d (omega arith)) (ths u k).at
+  alone : (w : View) → slice_index ws 0 ≡ t + 1 → (u : ℕ) → u < sz.threads → u ≢ t →
+      At sz.quota u vs (first u) (suc now) w (done u) (locals u)
+  alone w mine u k d = stands sz.quota u vs (first u) now (view sz ws used) w (done u) (locals u) (λ e. d (omega arith))
+      (ths u k).at
 
   -- a step without change or answer
   step : (a : Action) (ws' : List ℕ) (l' : Local) → next_action (locals t) ≡ a
@@ -336,7 +344,8 @@ module _ (sz : Sizes) (t : ℕ) (vs : ℕ → View) (first : ℕ → ℕ) (now :
   go_7 : (locals t).pc ≡ 7 → done t ≡ false
       → Walking (view sz ws used) (t + 1) (target (locals t).call) (locals t).pred (locals t).curr
       → Adding (view sz ws used) t sz.quota (locals t).curr (locals t).call
-      → node_key ws (own_of sz.quota t used) ≡ target (locals t).call → node_link ws (own_of sz.quota t used) ≡ 2 * (locals t).curr → Goal
+      → node_key ws (own_of sz.quota t used) ≡ target (locals t).call →
+      node_link ws (own_of sz.quota t used) ≡ 2 * (locals t).curr → Goal
   go_7 e d w a key link =
       let l : Local = locals t in let o : ℕ = own_of sz.quota t used in let p : ℕ = l.pred in let x : ℕ = 2 * o in
       let ws' : List ℕ = slice_set ws (link_index p) x in

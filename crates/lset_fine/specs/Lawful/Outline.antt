@@ -1,5 +1,6 @@
 -- What is known at each place of the list with node locks hand over hand.
-use Rattle.std.specs.Prelude.{◌≡◌, ◌≢◌, ℕ, suc, ◌+◌, ◌*◌, ◌/◌, ◌%◌, ◌<◌, ◌≤◌, Bool, true, false, Some, None, List, slice_set, refl}
+use Rattle.std.specs.Prelude.{◌≡◌, ◌≢◌, ℕ, suc, ◌+◌, ◌*◌, ◌/◌, ◌%◌, ◌<◌, ◌≤◌, Bool, true, false, Some, None, List, slice_set}
+use Rattle.std.specs.Prelude.{refl}
 use Rattle.std.proofs.Common.{arith, inl, inr, sym, ◌∙◌, subst}
 use Rattle.lset_words.proofs.Numbers.{if_below, if_not_below, below_or_not}
 use Rattle.lset_words.specs.Words.{key_index, link_index, lock_index, tail_word, node_count, slot_node, target, key_of, Sizes}
@@ -9,12 +10,16 @@ use Rattle.lset_steps.specs.declared.Local.{Local}
 use Rattle.lset_steps.specs.declared.Action.TheVariants.{Load, Store}
 use Rattle.lset_steps.specs.Chain.{View, view, node_key, node_link, node_lock}
 use Rattle.lset_steps.specs.Laws.{Registers, Due}
-use Rattle.lset_steps.proofs.Memory.{Memory, own_of, one_more, one_more_same, lock_after_link, lock_after_lock, key_after_lock, key_after_link, link_wrote, key_wrote, lock_wrote, own_in, inside}
+use Rattle.lset_steps.proofs.Memory.{Memory, own_of, one_more, one_more_same, lock_after_link, lock_after_lock, key_after_lock}
+use Rattle.lset_steps.proofs.Memory.{key_after_link, link_wrote, key_wrote, lock_wrote, own_in, inside}
 use Rattle.lset_steps.proofs.Rely.{Rely}
 use Rattle.lset_steps.proofs.Discipline.{Here, Thread}
 use Rattle.lset_steps.proofs.Replies.{Adding, Removing, registers_begun, keep_more, keep, keep_ckey, keep_succ, keep_walk}
 use Rattle.lset_steps.specs.Rows.{decided_on, goes_to, own_slot}
-use Rattle.lset_steps.proofs.Held.{Held, Behind, Between, Leaves, LockedStep, in_chain, head_held, leaves_of, held_on, below_on, behind_on, between_on, adding_on, removing_on, own_key_on, own_link_on, reads_word, frees, writes_own_key, writes_own_link, puts_between, held_from, behind_from, curr_is_not_pred, found_next, drops_between, decides, leaves_locked, held_past, leaves_own_key, leaves_own_link}
+use Rattle.lset_steps.proofs.Held.{Held, Behind, Between, Leaves, LockedStep, in_chain, head_held, leaves_of, held_on, below_on}
+use Rattle.lset_steps.proofs.Held.{behind_on, between_on, adding_on, removing_on, own_key_on, own_link_on, reads_word, frees}
+use Rattle.lset_steps.proofs.Held.{writes_own_key, writes_own_link, puts_between, held_from, behind_from, curr_is_not_pred}
+use Rattle.lset_steps.proofs.Held.{found_next, drops_between, decides, leaves_locked, held_past, leaves_own_key, leaves_own_link}
 use Rattle.lset_steps.proofs.Turns.{Turn, Follows, node_locks, due_on, due_now, tries}
 use Rattle.lset_steps.proofs.Turns.Turn.{passes, changes, answers}
 use Rattle.lset_fine.specs.Fine.{fine, targets}
@@ -179,7 +184,8 @@ module _ (sz : Sizes) (t : ℕ) (vs : ℕ → View) (first now : ℕ) (ws : List
       (keep sz t 8 l.reply l regs, refl, refl, λ x. omega arith)
       (at8 refl d (between_on s b) (adding_on s b.walk.next a) (key_wrote false sz ws used M o k own))
 
-  go_8 : l.pc ≡ 8 → done ≡ false → Window V t l → Adding V t sz.quota l.curr l.call → node_key ws (own_of sz.quota t used) ≡ target l.call
+  go_8 : l.pc ≡ 8 → done ≡ false → Window V t l → Adding V t sz.quota l.curr l.call →
+      node_key ws (own_of sz.quota t used) ≡ target l.call
       → Goal
   go_8 e d b a key =
       let o : ℕ = own_of sz.quota t used in let x : ℕ = 2 * l.curr in
@@ -191,7 +197,8 @@ module _ (sz : Sizes) (t : ℕ) (vs : ℕ → View) (first now : ℕ) (ws : List
       (at9 refl d (between_on s b) (adding_on s b.walk.next a) (key_after_link ws o x o ∙ key)
       (link_wrote false sz ws used M o x own))
 
-  go_9 : l.pc ≡ 9 → done ≡ false → Window V t l → Adding V t sz.quota l.curr l.call → node_key ws (own_of sz.quota t used) ≡ target l.call
+  go_9 : l.pc ≡ 9 → done ≡ false → Window V t l → Adding V t sz.quota l.curr l.call →
+      node_key ws (own_of sz.quota t used) ≡ target l.call
       → node_link ws (own_of sz.quota t used) ≡ 2 * l.curr → Goal
   go_9 e d b a key link =
       let x : ℕ = 2 * own_of sz.quota t used in
@@ -232,7 +239,8 @@ module _ (sz : Sizes) (t : ℕ) (vs : ℕ → View) (first now : ℕ) (ws : List
       (at13 refl (lock_after_lock ws l.curr 0 l.pred (λ f. apart (sym f)) ∙ pred) r ry
       (due_on done sz.quota vs first now t l.call r due))
 
-  go_13 : l.pc ≡ 13 → node_lock ws l.pred ≡ t + 1 → (r : Reply) → l.reply ≡ Some r → Due done sz.quota vs first now t l.call r → Goal
+  go_13 : l.pc ≡ 13 → node_lock ws l.pred ≡ t + 1 → (r : Reply) → l.reply ≡ Some r → Due done sz.quota vs first now t l.call r →
+      Goal
   go_13 e mine r ry due =
       answers (Store (lock_index l.pred) 0) (slice_set ws (lock_index l.pred) 0) (record l { pc = 0 }) r
       (rw e refl) (rw (e, ry) refl) (rw e refl) (frees l.pred regs.pred mine) due

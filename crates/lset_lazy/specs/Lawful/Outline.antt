@@ -1,5 +1,6 @@
 -- What is known at each place of the lazy list.
-use Rattle.std.specs.Prelude.{◌≡◌, ◌≢◌, ℕ, suc, ◌+◌, ◌*◌, ◌/◌, ◌%◌, ◌<◌, ◌≤◌, Bool, true, false, Some, None, List, slice_set, refl}
+use Rattle.std.specs.Prelude.{◌≡◌, ◌≢◌, ℕ, suc, ◌+◌, ◌*◌, ◌/◌, ◌%◌, ◌<◌, ◌≤◌, Bool, true, false, Some, None, List, slice_set}
+use Rattle.std.specs.Prelude.{refl}
 use Rattle.std.proofs.Common.{arith, inl, inr, sym, ◌∙◌, ap}
 use Rattle.lset_words.proofs.Numbers.{same_or_not, below_or_not, if_below, if_not_below, if_same, if_other}
 use Rattle.lset_words.specs.Words.{key_index, link_index, lock_index, tail_word, node_count, slot_node, target, key_of, Sizes}
@@ -10,16 +11,22 @@ use Rattle.lset_steps.specs.declared.Action.TheVariants.{Load, Store}
 use Rattle.lset_steps.specs.Chain.{View, view, node_key, node_link, node_lock}
 use Rattle.lset_steps.proofs.MarkMove.{mark_keeps}
 use Rattle.lset_steps.specs.Laws.{Registers, Due}
-use Rattle.lset_steps.proofs.Memory.{Memory, own_of, one_more, one_more_same, at_mark, inner, own_in, goes_on, lock_after_link, link_after_link, key_after_link, lock_after_lock, link_wrote, key_wrote, lock_wrote}
+use Rattle.lset_steps.proofs.Memory.{Memory, own_of, one_more, one_more_same, at_mark, inner, own_in, goes_on, lock_after_link}
+use Rattle.lset_steps.proofs.Memory.{link_after_link, key_after_link, lock_after_lock, link_wrote, key_wrote, lock_wrote}
 use Rattle.lset_steps.proofs.Rely.{Rely}
 use Rattle.lset_steps.proofs.Discipline.{Here, Thread}
-use Rattle.lset_steps.proofs.Replies.{Adding, Removing, removing_kept, registers_begun, keep_more, keep, keep_ckey, keep_succ, keep_walk}
+use Rattle.lset_steps.proofs.Replies.{Adding, Removing, removing_kept, registers_begun, keep_more, keep, keep_ckey, keep_succ}
+use Rattle.lset_steps.proofs.Replies.{keep_walk}
 use Rattle.lset_steps.specs.Rows.{decided_on, goes_to, own_slot}
 use Rattle.lset_steps.specs.ReadRows.{first_row, read_action, read_fed, continued}
 use Rattle.lset_steps.proofs.ReadTables.{HasReadRows, IsReadRow}
 use Rattle.lset_steps.proofs.ReadOutline.{Reading, begun_reading_is, reading_on, call_begins, reads_on, even_or_odd}
-use Rattle.lset_steps.proofs.Held.{Between, Leaves, LockedStep, in_chain, leaves_of, between_on, adding_on, removing_on, own_key_on, own_link_on, reads_word, frees, writes_own_key, writes_own_link, puts_between, marks_between, cuts_between, curr_is_not_pred, found_no_tail, decides, leaves_own_key, leaves_own_link}
-use Rattle.lset_steps.proofs.UnlockedWalk.{Spot, Found, spot_kept, found_kept, found_apart, spot_behind, spot_behind_head, next_inside, small_key, keeps_locked}
+use Rattle.lset_steps.proofs.Held.{Between, Leaves, LockedStep, in_chain, leaves_of, between_on, adding_on, removing_on}
+use Rattle.lset_steps.proofs.Held.{own_key_on, own_link_on, reads_word, frees, writes_own_key, writes_own_link, puts_between}
+use Rattle.lset_steps.proofs.Held.{marks_between, cuts_between, curr_is_not_pred, found_no_tail, decides, leaves_own_key}
+use Rattle.lset_steps.proofs.Held.{leaves_own_link}
+use Rattle.lset_steps.proofs.UnlockedWalk.{Spot, Found, spot_kept, found_kept, found_apart, spot_behind, spot_behind_head}
+use Rattle.lset_steps.proofs.UnlockedWalk.{next_inside, small_key, keeps_locked}
 use Rattle.lset_steps.proofs.ReadWalk.{ShowsReading, low_row}
 use Rattle.lset_steps.proofs.Turns.{Turn, Follows, node_locks, due_on, due_now, tries}
 use Rattle.lset_steps.proofs.Turns.Turn.{passes, changes, answers}
@@ -280,7 +287,8 @@ module _ (sz : Sizes) (t : ℕ) (vs : ℕ → View) (first now : ℕ) (ws : List
       (keep sz t 9 l.reply l regs, refl, refl, λ x. omega arith)
       (at9 refl d (between_on s b) (adding_on s b.walk.next a) (key_wrote true sz ws used M o k own))
 
-  go_9 : l.pc ≡ 9 → done ≡ false → Window V t l → Adding V t sz.quota l.curr l.call → node_key ws (own_of sz.quota t used) ≡ target l.call
+  go_9 : l.pc ≡ 9 → done ≡ false → Window V t l → Adding V t sz.quota l.curr l.call →
+      node_key ws (own_of sz.quota t used) ≡ target l.call
       → Goal
   go_9 e d b a key =
       let o : ℕ = own_of sz.quota t used in let x : ℕ = 2 * l.curr in
@@ -300,7 +308,8 @@ module _ (sz : Sizes) (t : ℕ) (vs : ℕ → View) (first now : ℕ) (ws : List
     distinct = curr_is_not_pred M b.walk;
   }
 
-  go_10 : l.pc ≡ 10 → done ≡ false → Window V t l → Adding V t sz.quota l.curr l.call → node_key ws (own_of sz.quota t used) ≡ target l.call
+  go_10 : l.pc ≡ 10 → done ≡ false → Window V t l → Adding V t sz.quota l.curr l.call →
+      node_key ws (own_of sz.quota t used) ≡ target l.call
       → node_link ws (own_of sz.quota t used) ≡ 2 * l.curr → Goal
   go_10 e d b a key link =
       let x : ℕ = 2 * own_of sz.quota t used in
@@ -371,7 +380,8 @@ module _ (sz : Sizes) (t : ℕ) (vs : ℕ → View) (first now : ℕ) (ws : List
       (keep sz t 14 l.reply l regs, refl, refl, λ x. omega arith)
       (at14_again refl d (freed b) ry)
 
-  go_14 : l.pc ≡ 14 → node_lock ws l.pred ≡ t + 1 → (r : Reply) → l.reply ≡ Some r → Due done sz.quota vs first now t l.call r → Goal
+  go_14 : l.pc ≡ 14 → node_lock ws l.pred ≡ t + 1 → (r : Reply) → l.reply ≡ Some r → Due done sz.quota vs first now t l.call r →
+      Goal
   go_14 e mine r ry due =
       let feeds : fed_by l 0 ≡ released l.reply l = rw e refl in
       answers (Store (lock_index l.pred) 0) (slice_set ws (lock_index l.pred) 0) (record l { pc = 0 }) r

@@ -1,7 +1,9 @@
 -- What is known at each place of the list without locks.
-use Rattle.std.specs.Prelude.{◌≡◌, ◌≢◌, ℕ, suc, ◌+◌, ◌-◌, ◌*◌, ◌/◌, ◌%◌, ◌<◌, ◌≤◌, ◌⊎◌, Bool, true, false, Some, None, List, [], slice_set, refl, ◌==◌, nat_lt}
+use Rattle.std.specs.Prelude.{◌≡◌, ◌≢◌, ℕ, suc, ◌+◌, ◌-◌, ◌*◌, ◌/◌, ◌%◌, ◌<◌, ◌≤◌, ◌⊎◌, Bool, true, false, Some, None, List, []}
+use Rattle.std.specs.Prelude.{slice_set, refl, ◌==◌, nat_lt}
 use Rattle.std.proofs.Common.{arith, inl, inr, sym, ◌∙◌, ap, subst}
-use Rattle.lset_words.proofs.Numbers.{same_or_not, below_or_not, if_below, if_not_below, if_same, if_other, same_number, other_number, lower_number, not_lower_number}
+use Rattle.lset_words.proofs.Numbers.{same_or_not, below_or_not, if_below, if_not_below, if_same, if_other, same_number}
+use Rattle.lset_words.proofs.Numbers.{other_number, lower_number, not_lower_number}
 use Rattle.lset_words.specs.Words.{key_index, link_index, tail_word, node_count, slot_node, target, key_of, Sizes}
 use Rattle.lset_words.specs.Account.{FitsSometime}
 use Rattle.lset_words.specs.declared.Call.TheVariants.{Add, Remove, Ceiling}
@@ -16,10 +18,13 @@ use Rattle.lset_steps.proofs.Moves.{KeepsNodes}
 use Rattle.lset_steps.proofs.Hindsight.{key_stays, unmarked_before}
 use Rattle.lset_steps.proofs.QuietMove.{in_chain_published, chain_on}
 use Rattle.lset_steps.specs.Laws.{Registers, Due}
-use Rattle.lset_steps.proofs.Memory.{WordStep, Memory, Writes, reads, fails, own_key, own_link, puts, sets_mark, cuts, own_of, one_more, one_more_same, not_link, next_published as next_of, inner, own_in, goes_on, memory_after, link_wrote, key_wrote, key_after_link}
+use Rattle.lset_steps.proofs.Memory.{WordStep, Memory, Writes, reads, fails, own_key, own_link, puts, sets_mark, cuts, own_of}
+use Rattle.lset_steps.proofs.Memory.{one_more, one_more_same, not_link, next_published as next_of, inner, own_in, goes_on}
+use Rattle.lset_steps.proofs.Memory.{memory_after, link_wrote, key_wrote, key_after_link}
 use Rattle.lset_steps.proofs.Remains.{Remains}
 use Rattle.lset_steps.proofs.Discipline.{Here, Thread}
-use Rattle.lset_steps.proofs.Replies.{Adding, Removing, removing_kept, adding_kept, registers_begun, keep_used, keep_curr, decided_cases, absent_between, ceiling_fits, keep, keep_succ, keep_walk}
+use Rattle.lset_steps.proofs.Replies.{Adding, Removing, removing_kept, adding_kept, registers_begun, keep_used, keep_curr}
+use Rattle.lset_steps.proofs.Replies.{decided_cases, absent_between, ceiling_fits, keep, keep_succ, keep_walk}
 use Rattle.lset_steps.specs.Rows.{ceiling_at, decided_on, goes_to, own_slot}
 use Rattle.lset_steps.specs.ReadRows.{first_row, read_action, read_fed, continued, leaves_with}
 use Rattle.lset_steps.proofs.ReadTables.{HasReadRows, IsReadRow}
@@ -308,7 +313,9 @@ module _ (sz : Sizes) (t : ℕ) (vs : ℕ → View) (first now : ℕ) (ws : List
       ⊎ ((decided_on targets s l ≡ goes_to 5 None l) × (l.call ≡ Add (key_of l.call)) × (s ≢ target l.call) × (used t < sz.quota))
       ⊎ ((decided_on targets s l ≡ goes_to 8 None l) × (l.call ≡ Remove (key_of l.call)) × (s ≡ target l.call))
   decided_at s at from upto same hit miss over =
-      let quota : l.quota ≡ sz.quota = regs.quota in let count : l.used ≡ used t = th.counts in let most : used t ≤ sz.quota = M.room t tn in
+      let quota : l.quota ≡ sz.quota = regs.quota in
+      let count : l.used ≡ used t = th.counts in
+      let most : used t ≤ sz.quota = M.room t tn in
       let full : nat_lt l.used l.quota ≡ false → (vs at).used t ≡ sz.quota = λ y.
       (let z : l.quota ≤ l.used = not_lower_number l.used l.quota y in omega arith) in
       elim (decided_cases 5 8 0 sz.quota t (vs at) l.call (s == target l.call) (nat_lt l.used l.quota) s l hit miss full over) [

@@ -1,5 +1,6 @@
 -- What is known at each place of the list that walks without locks and validates by a second walk.
-use Rattle.std.specs.Prelude.{◌≡◌, ◌≢◌, ℕ, suc, ◌+◌, ◌*◌, ◌/◌, ◌<◌, ◌≤◌, ◌⊎◌, Bool, true, false, Option, Some, None, List, if◌then◌else◌, ◌==◌, slice_set, refl}
+use Rattle.std.specs.Prelude.{◌≡◌, ◌≢◌, ℕ, suc, ◌+◌, ◌*◌, ◌/◌, ◌<◌, ◌≤◌, ◌⊎◌, Bool, true, false, Option, Some, None, List}
+use Rattle.std.specs.Prelude.{if◌then◌else◌, ◌==◌, slice_set, refl}
 use Rattle.std.proofs.Common.{arith, inl, inr, sym, ◌∙◌, ap, subst}
 use Rattle.lset_words.proofs.Numbers.{same_or_not, if_same, if_other, if_below, if_not_below, below_or_not}
 use Rattle.lset_words.specs.Words.{key_index, link_index, lock_index, node_count, slot_node, target, key_of, Sizes}
@@ -11,13 +12,19 @@ use Rattle.lset_steps.specs.declared.Action.TheVariants.{Load, Store}
 use Rattle.lset_steps.specs.Chain.{View, view, InChain, FitsIn, node_key, node_link, node_lock}
 use Rattle.lset_steps.proofs.Moves.{KeepsNodes}
 use Rattle.lset_steps.specs.Laws.{Registers, Due}
-use Rattle.lset_steps.proofs.Memory.{Memory, own_of, one_more, one_more_same, lock_after_link, lock_after_lock, key_after_link, link_wrote, key_wrote, lock_wrote, own_in, inner, inside}
+use Rattle.lset_steps.proofs.Memory.{Memory, own_of, one_more, one_more_same, lock_after_link, lock_after_lock, key_after_link}
+use Rattle.lset_steps.proofs.Memory.{link_wrote, key_wrote, lock_wrote, own_in, inner, inside}
 use Rattle.lset_steps.proofs.Rely.{Rely}
 use Rattle.lset_steps.proofs.Discipline.{Here, Thread}
-use Rattle.lset_steps.proofs.Replies.{Adding, Removing, registers_begun, keep_more, keep, keep_ckey, keep_succ, keep_passed, keep_node}
+use Rattle.lset_steps.proofs.Replies.{Adding, Removing, registers_begun, keep_more, keep, keep_ckey, keep_succ, keep_passed}
+use Rattle.lset_steps.proofs.Replies.{keep_node}
 use Rattle.lset_steps.specs.Rows.{decided_on, goes_to, own_slot}
-use Rattle.lset_steps.proofs.Held.{Held, Behind, Between, Leaves, LockedStep, head_held, rely_same, leaves_of, held_on, between_on, adding_on, removing_on, own_key_on, own_link_on, reads_word, frees, writes_own_key, writes_own_link, puts_between, held_from, behind_from, curr_is_not_pred, found_next, drops_between, stays_behind, decides, leaves_locked, leaves_own_key, leaves_own_link}
-use Rattle.lset_steps.proofs.UnlockedWalk.{Spot, Found, found_apart, same_key_kept, spot_kept, found_kept, spot_behind, spot_behind_head, next_inside, small_key, keeps_locked}
+use Rattle.lset_steps.proofs.Held.{Held, Behind, Between, Leaves, LockedStep, head_held, rely_same, leaves_of, held_on}
+use Rattle.lset_steps.proofs.Held.{between_on, adding_on, removing_on, own_key_on, own_link_on, reads_word, frees, writes_own_key}
+use Rattle.lset_steps.proofs.Held.{writes_own_link, puts_between, held_from, behind_from, curr_is_not_pred, found_next}
+use Rattle.lset_steps.proofs.Held.{drops_between, stays_behind, decides, leaves_locked, leaves_own_key, leaves_own_link}
+use Rattle.lset_steps.proofs.UnlockedWalk.{Spot, Found, found_apart, same_key_kept, spot_kept, found_kept, spot_behind}
+use Rattle.lset_steps.proofs.UnlockedWalk.{spot_behind_head, next_inside, small_key, keeps_locked}
 use Rattle.lset_steps.proofs.SecondWalk.{SecondWalk, second_walk_begins, second_walk_on, second_walk_goes, second_walk_arrives}
 use Rattle.lset_steps.proofs.Turns.{Turn, Follows, node_locks, due_on, due_now, tries}
 use Rattle.lset_steps.proofs.Turns.Turn.{passes, changes, answers}
@@ -115,7 +122,8 @@ module _ (q t : ℕ) (vs : ℕ → View) (first now : ℕ) (v w : View) (done : 
   stays (at15 e c o) = at15 e (s.locks l.curr c) (outcome_on done q vs first now t l.call l.reply o)
 
 -- the decision, where the second walk has come to pred, and pred leads to curr
-pub decision : {sz : Sizes} {t : ℕ} {ws : List ℕ} {used : ℕ → ℕ} (m : Memory false sz ws used) (l : Local) → t < sz.threads → Registers sz t l
+pub decision : {sz : Sizes} {t : ℕ} {ws : List ℕ} {used : ℕ → ℕ} (m : Memory false sz ws used) (l : Local) → t < sz.threads →
+    Registers sz t l
     → l.used ≡ used t → Window (view sz ws used) l → node_lock ws l.curr ≡ t + 1 → Held (view sz ws used) t l.pred
     → node_link ws l.pred / 2 ≡ l.curr
     → Between (view sz ws used) t (target l.call) l.pred l.curr
@@ -266,7 +274,8 @@ module _ (sz : Sizes) (t : ℕ) (vs : ℕ → View) (first now : ℕ) (ws : List
       let read : LockedStep false sz t ws used (Load (key_index l.node)) ws used None =
       reads_word (key_index l.node) (omega arith) in
       let pkey : node_key ws l.pred ≡ l.pkey = f.low in
-      let walks : SecondWalk vs start (suc now) V t l.pred l.node = second_walk_on vs h.present (leaves_of (rely_same V sz.quota t)) x in
+      let walks : SecondWalk vs start (suc now) V t l.pred l.node =
+      second_walk_on vs h.present (leaves_of (rely_same V sz.quota t)) x in
       elim (below_or_not l.pkey s) [
         | inl lt ↦
             (let is = if_below l.pkey s lt past (if l.node == l.pred then there else on) in

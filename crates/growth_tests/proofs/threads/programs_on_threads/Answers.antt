@@ -5,7 +5,8 @@ use Rattle.lset_work.specs.Programs.{GivesBack}
 use Rattle.growth_tests.proofs.threads.programs_on_threads.Goals as goal
 
 -- what holds of what was given holds of what comes back
-back_has : {G : Type 0} (P : G → Type 0) (given : G) (cause : WorkCause) (back : Option G) → GivesBack given cause back → P given → IfSome back P
+back_has : {G : Type 0} (P : G → Type 0) (given : G) (cause : WorkCause) (back : Option G) → GivesBack given cause back → P given
+    → IfSome back P
 back_has P given Programs back is p = subst (λ b. IfSome b P) (sym is) p
 back_has P given Spawn back is p = subst (λ b. IfSome b P) (sym is) tt
 back_has P given Gate back is p = subst (λ b. IfSome b P) (sym is) tt

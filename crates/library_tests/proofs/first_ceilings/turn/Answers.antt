@@ -27,7 +27,8 @@ note-requires c = record {
         (moments_of c.args.changes.now k) (c.requires.upto k),
   );
   turn = opposite c.is_none.result _ (sym c.is_none.ensures
-      ∙ told (is_present (moments_of c.args.changes.now) c.args.key) c.args.last c.first-there.result.0 c.first-there.ensures.first
+      ∙ told (is_present (moments_of c.args.changes.now) c.args.key) c.args.last c.first-there.result.0
+      c.first-there.ensures.first
       ∙ present_past (moments_of c.args.changes.now) c.args.key c.args.last (c.requires.upto c.args.key));
 }
 

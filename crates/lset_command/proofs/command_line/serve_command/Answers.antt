@@ -8,15 +8,20 @@ use Rattle.lset_command.proofs.command_line.serve_command.Goals as goal
 is_serve : (c : goal.After-arg-7) → IfOk c.arg-7.result (λ r. IsApp r serve_app)
 is_serve c =
     let named : IsApp c.new.result (new_app (codes "serve")) = (c.new.ensures.app, c.new.ensures.local) in
-    let begun : IsApp c.after_help.result (new_app (codes "serve")) =
-    (app_of_fields-same c.after_help.ensures ∙ app_of_fields-same c.override_usage.ensures ∙ app_of_fields-same c.about.ensures ∙ named.0, ap (λ f. f.has_globals) c.after_help.ensures ∙ ap (λ f. f.has_globals) c.override_usage.ensures ∙ ap (λ f. f.has_globals) c.about.ensures ∙ named.1) in
+    let begun : IsApp c.after_help.result (new_app (codes "serve")) = (
+      app_of_fields-same c.after_help.ensures ∙ app_of_fields-same c.override_usage.ensures ∙ app_of_fields-same c.about.ensures
+          ∙ named.0,
+      ap (λ f. f.has_globals) c.after_help.ensures ∙ ap (λ f. f.has_globals) c.override_usage.ensures
+          ∙ ap (λ f. f.has_globals) c.about.ensures ∙ named.1,
+    ) in
     let kind = IsApp-arg c.in_ok-arg.ensures begun c.value.ensures.rule c.value.ensures.local in
     let seats = IsApp-arg c.in_ok-arg-2.ensures kind c.value-2.ensures.rule c.value-2.ensures.local in
     let quota = IsApp-arg c.in_ok-arg-3.ensures seats c.value-3.ensures.rule c.value-3.ensures.local in
     let port = IsApp-arg c.in_ok-arg-4.ensures quota c.value-4.ensures.rule c.value-4.ensures.local in
     let sessions = IsApp-arg c.in_ok-arg-5.ensures port c.value-5.ensures.rule c.value-5.ensures.local in
     let file = IsApp-arg c.in_ok-arg-6.ensures sessions c.value-6.ensures.rule c.value-6.ensures.local in
-    IfOk-weaker c.arg-7.result _ _ (λ r adds. IsApp-arg adds file c.values_past_the_last.ensures.rule c.values_past_the_last.ensures.local) c.arg-7.ensures
+    IfOk-weaker c.arg-7.result _ _ (λ r adds. IsApp-arg adds file c.values_past_the_last.ensures.rule
+    c.values_past_the_last.ensures.local) c.arg-7.ensures
 
 pub returns-clause-app : goal.returns-clause-app
 returns-clause-app c = IfOk-weaker c.arg-7.result _ _ (λ r is. is.0) (is_serve c)

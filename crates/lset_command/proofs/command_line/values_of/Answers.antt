@@ -14,10 +14,13 @@ loop-name-init c =
 pub loop-name-preserved : goal.loop-name-preserved
 loop-name-preserved c =
     let f = found_of c.args.found.now in
-    one_more (rows_of f) (values_in (rows_of f)) (map string_bytes c.loop-name.values.items) (map string_bytes c.push_values.new.values.items) c.in-Some.name.now
-    (ids_left c.loop-name.name-iterator) (ids_left c.next.new.self) c.loop-name.invariant c.in-Some.ensures.steps.0 c.in-Some.ensures.steps.1 c.in_ok-push_values.ensures
+    one_more (rows_of f) (values_in (rows_of f)) (map string_bytes c.loop-name.values.items)
+    (map string_bytes c.push_values.new.values.items) c.in-Some.name.now
+    (ids_left c.loop-name.name-iterator) (ids_left c.next.new.self) c.loop-name.invariant c.in-Some.ensures.steps.0
+    c.in-Some.ensures.steps.1 c.in_ok-push_values.ensures
 
 pub returns : goal.returns
 returns c =
     let f = found_of c.args.found.now in
-    no_more (rows_of f) (values_in (rows_of f)) (map string_bytes c.loop-name.values.items) (ids_left c.loop-name.name-iterator) c.loop-name.invariant c.in-None.ensures.steps.0
+    no_more (rows_of f) (values_in (rows_of f)) (map string_bytes c.loop-name.values.items) (ids_left c.loop-name.name-iterator)
+    c.loop-name.invariant c.in-None.ensures.steps.0

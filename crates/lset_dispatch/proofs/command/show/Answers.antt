@@ -9,5 +9,6 @@ pub returns-in-Err : goal.returns-in-Err
 returns-in-Err g c =
     let options = options_of c.args.options.now in
     let input = g.R.Read.remaining c.args.input.now in
-    let wrong = wrong_option options input _ _ _ c.in-Err.wrong c.text_of-from.ensures c.text_of-to.ensures c.text_of-width.ensures c.in-Err.ensures in
+    let wrong = wrong_option options input _ _ _ c.in-Err.wrong c.text_of-from.ensures c.text_of-to.ensures
+    c.text_of-width.ensures c.in-Err.ensures in
     ends_with _ _ _ _ _ (ShowsBy options input) (Err (Bad c.in-Err.wrong)) wrong c.deliver.ensures

@@ -10,5 +10,6 @@ loop-key-preserved c =
     let keys = c.opening-key-items.result.now in
     let i = c.loop-key.key-index in
     c.in_ok-insert.ensures.keys ∙ ap (λ ks. insert_key nat_cmp ks (get_or keys i 0)) c.loop-key.invariant
-    ∙ next_inserted keys i (subst IsStrictlyIncreasing (sym c.opening-key-items.ensures.value) c.opening-key-items.ensures.opens.rising)
+    ∙ next_inserted keys i (subst IsStrictlyIncreasing (sym c.opening-key-items.ensures.value)
+    c.opening-key-items.ensures.opens.rising)
     c.loop-key-test.true

@@ -16,16 +16,21 @@ loop-low-preserved c =
       | then-moments-middle w ↦ (
           let middle : c.if-moments-middle.low ≡ c.loop-low.low + (c.loop-low.high - c.loop-low.low) / 2 + 1 = w.low-is in
           let top : c.if-moments-middle.high ≡ c.loop-low.high = w.high-is in
-          let test : get_or c.args.moments.now (c.loop-low.low + (c.loop-low.high - c.loop-low.low) / 2) 0 ≤ c.args.at = search rules in
+          let test : get_or c.args.moments.now (c.loop-low.low + (c.loop-low.high - c.loop-low.low) / 2) 0 ≤ c.args.at =
+          search rules in
           record {
             inside = omega arith;
             ordered = omega arith;
-            upto = λ i l. let a : get_or c.args.moments.now i 0 ≤ get_or c.args.moments.now (c.loop-low.low + (c.loop-low.high - c.loop-low.low) / 2) 0 =
-                below_rises c.args.moments.now c.requires i (c.loop-low.low + (c.loop-low.high - c.loop-low.low) / 2) (omega arith) (omega arith) in omega arith;
+            upto = λ i l. let a : get_or c.args.moments.now i 0 ≤ get_or c.args.moments.now
+                (c.loop-low.low + (c.loop-low.high - c.loop-low.low) / 2) 0 =
+                below_rises c.args.moments.now c.requires i (c.loop-low.low + (c.loop-low.high - c.loop-low.low) / 2)
+                (omega arith) (omega arith) in
+                omega arith;
             past = λ i l m. c.loop-low.invariant.past i (omega arith) m;
             looked = λ b l m. let old = c.loop-low.invariant.looked b l m in
                 let few : c.loop-low.looked ≤ b = old.0 in
-                let h = halved (b - c.loop-low.looked) c.loop-low.low c.loop-low.high c.if-moments-middle.low c.if-moments-middle.high old.1 low (omega arith) in
+                let h = halved (b - c.loop-low.looked) c.loop-low.low c.loop-low.high c.if-moments-middle.low
+                c.if-moments-middle.high old.1 low (omega arith) in
                 let more : 0 < b - c.loop-low.looked = h.0 in (
                   omega arith,
                   subst (λ z. c.if-moments-middle.high - c.if-moments-middle.low < 2 ^ z)
@@ -35,16 +40,21 @@ loop-low-preserved c =
       | else-moments-middle w ↦ (
           let middle : c.if-moments-middle.low ≡ c.loop-low.low = w.low-is in
           let top : c.if-moments-middle.high ≡ c.loop-low.low + (c.loop-low.high - c.loop-low.low) / 2 = w.high-is in
-          let test : c.args.at < get_or c.args.moments.now (c.loop-low.low + (c.loop-low.high - c.loop-low.low) / 2) 0 = search rules in
+          let test : c.args.at < get_or c.args.moments.now (c.loop-low.low + (c.loop-low.high - c.loop-low.low) / 2) 0 =
+          search rules in
           record {
             inside = omega arith;
             ordered = omega arith;
             upto = λ i l. c.loop-low.invariant.upto i (omega arith);
-            past = λ i l m. let a : get_or c.args.moments.now (c.loop-low.low + (c.loop-low.high - c.loop-low.low) / 2) 0 ≤ get_or c.args.moments.now i 0 =
-                below_rises c.args.moments.now c.requires (c.loop-low.low + (c.loop-low.high - c.loop-low.low) / 2) i (omega arith) m in omega arith;
+            past = λ i l m. let a : get_or c.args.moments.now (c.loop-low.low + (c.loop-low.high - c.loop-low.low) / 2) 0 ≤ get_or
+                c.args.moments.now i 0 =
+                below_rises c.args.moments.now c.requires (c.loop-low.low + (c.loop-low.high - c.loop-low.low) / 2) i
+                (omega arith) m in
+                omega arith;
             looked = λ b l m. let old = c.loop-low.invariant.looked b l m in
                 let few : c.loop-low.looked ≤ b = old.0 in
-                let h = halved (b - c.loop-low.looked) c.loop-low.low c.loop-low.high c.if-moments-middle.low c.if-moments-middle.high old.1 low (omega arith) in
+                let h = halved (b - c.loop-low.looked) c.loop-low.low c.loop-low.high c.if-moments-middle.low
+                c.if-moments-middle.high old.1 low (omega arith) in
                 let more : 0 < b - c.loop-low.looked = h.0 in (
                   omega arith,
                   subst (λ z. c.if-moments-middle.high - c.if-moments-middle.low < 2 ^ z)

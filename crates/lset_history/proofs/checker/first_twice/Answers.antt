@@ -22,7 +22,8 @@ loop-place-preserved c =
     let known = c.requires.known i (place_at order i) c.loop-place-test.true in
     record {
       once = below_more _ _ c.loop-place.invariant.once
-          (λ w. stands_nowhere order i _ (sym (c.loop-place.invariant.marks _) ∙ c.if-placed-place.false) w.0 w.1 (omega arith) w.2);
+          (λ w. stands_nowhere order i _ (sym (c.loop-place.invariant.marks _) ∙ c.if-placed-place.false) w.0 w.1 (omega arith)
+          w.2);
       marks = marks_more c.loop-place.placed order i c.loop-place-test.true (omega (arith, known)) c.loop-place.invariant.marks;
     }
 

@@ -3,7 +3,8 @@ use Rattle.lset_words.specs.declared.Call.TheVariants as call
 use Rattle.lset_words.specs.declared.history.CallRecord.{CallRecord}
 use Rattle.lset_words.specs.SequentialSet.{reply_to}
 use Rattle.lset_history.specs.Oracle.{OracleValue}
-use Rattle.lset_history.proofs.Clashes.{known_from_passes, known_before, replies_before, wrong_here, answered_otherwise, thread_below, known_call}
+use Rattle.lset_history.proofs.Clashes.{known_from_passes, known_before, replies_before, wrong_here, answered_otherwise}
+use Rattle.lset_history.proofs.Clashes.{thread_below, known_call}
 use Rattle.lset_history.proofs.refusal.told_wrong_reply.Goals as goal
 
 pub set_after-requires-clause-known : goal.set_after-requires-clause-known
@@ -37,7 +38,12 @@ returns c =
     let here = c.in-Some.ensures in
     let calls = c.calls.result.now in
     let i = c.in-Some.index in
-    let x : CallRecord = get_or calls c.args.call (record { thread = 0; call = call.Add (record { 0 = 0 }); begun = 0; ended = None }) in
+    let x : CallRecord = get_or calls c.args.call (record {
+      thread = 0;
+      call = call.Add (record { 0 = 0 });
+      begun = 0;
+      ended = None;
+    }) in
     let opened = c.in_ok-oracle.ensures in (
       refl,
       answered_otherwise h order calls c.args.call i _ c.in_ok-keys.keys.items c.in_ok-answer.answer c.calls.ensures.value

@@ -1,6 +1,7 @@
 use Rattle.std.specs.Prelude.{All, ◌^◌}
 use Rattle.std.specs.List.Sorted.{IsStrictlyIncreasing}
-use Rattle.std.proofs.Common.{rules, ◌≡◌, ℕ, ◌+◌, ◌-◌, ◌<◌, ◌≤◌, List, [], ◌∷◌, ◌++◌, map, length, refl, sym, ap, ◌∙◌, subst, arith}
+use Rattle.std.proofs.Common.{rules, ◌≡◌, ℕ, ◌+◌, ◌-◌, ◌<◌, ◌≤◌, List, [], ◌∷◌, ◌++◌, map, length, refl, sym, ap, ◌∙◌, subst}
+use Rattle.std.proofs.Common.{arith}
 use Rattle.lset_words.specs.Words.{Sizes, IsWithin, word_count, Opening, Opens, sizes}
 use Rattle.lset_steps.specs.Steps.{opening, opening_of, idle}
 use Rattle.lset_rule.specs.declared.view.View.{View}
@@ -18,7 +19,8 @@ use Rattle.lset_live.proofs.opening.open_on.Goals as goal
 opens_so : (sz : Sizes) (keys : List ℕ) → length keys ≡ sz.opening → IsWithin sz → IsStrictlyIncreasing keys
     → All (λ (k : ℕ). k < 2 ^ 32) keys → Opens (opening_of sz keys)
 opens_so sz keys many within rising low = record {
-  within = subst (λ (z : Sizes). IsWithin z) (λ i. record { threads = sz.threads; quota = sz.quota; opening = sym many i }) within;
+  within = subst (λ (z : Sizes). IsWithin z) (λ i. record { threads = sz.threads; quota = sz.quota; opening = sym many i })
+      within;
   rising = rising;
   low = low;
 }
@@ -35,13 +37,19 @@ sizes_so sz keys n q m a b e many = λ i. record { threads = sym a i; quota = sy
 pub of_words-requires : goal.of_words-requires
 of_words-requires g c =
     let k : Opening = opening_of c.args.layout c.args.keys.now in
-    let so : Opens k = opens_so c.args.layout c.args.keys.now c.requires.many c.threads-threads.ensures.within c.requires.rising c.in_ok-words.ensures.low in
-    let shape : c.new-shape.result ≡ k = c.new-shape.ensures ∙ shape_so c.args.layout c.args.keys.now c.threads-threads.result c.quota-quota.result _ c.threads-threads.ensures.value c.quota-quota.ensures.value c.in_ok-copied.ensures.items in
+    let so : Opens k = opens_so c.args.layout c.args.keys.now c.requires.many c.threads-threads.ensures.within c.requires.rising
+    c.in_ok-words.ensures.low in
+    let shape : c.new-shape.result ≡ k = c.new-shape.ensures ∙ shape_so c.args.layout c.args.keys.now c.threads-threads.result
+    c.quota-quota.result _ c.threads-threads.ensures.value c.quota-quota.ensures.value c.in_ok-copied.ensures.items in
     let is : c.as_slice.result.now ≡ (opening k).words = c.as_slice.ensures.value ∙ c.in_ok-words.ensures.words in
-    subst (λ (z : Opening × List ℕ). Holds g.M.Machine.table z.0 (T.opening z.1 [] (opener z.0))) (λ i. (sym shape i, sym is i)) (opens g.M.Machine.table k so)
+    subst (λ (z : Opening × List ℕ). Holds g.M.Machine.table z.0 (T.opening z.1 [] (opener z.0))) (λ i. (sym shape i, sym is i))
+    (opens g.M.Machine.table k so)
 
 pub overflow_sub-last : goal.overflow_sub-last
-overflow_sub-last g c = let a = c.threads-threads.ensures.value in let b = c.threads-threads.ensures.within.some in omega (arith, a, b)
+overflow_sub-last g c =
+    let a = c.threads-threads.ensures.value in
+    let b = c.threads-threads.ensures.within.some in
+    omega (arith, a, b)
 
 pub loop-t-init : goal.loop-t-init
 loop-t-init g c = let e = c.in_ok-table.ensures in (
@@ -53,13 +61,16 @@ loop-t-init g c = let e = c.in_ok-table.ensures in (
 pub invariant_of-set-inside : goal.invariant_of-set-inside
 invariant_of-set-inside g c =
     let k : Opening = opening_of c.args.layout c.args.keys.now in
-    let so : Opens k = opens_so c.args.layout c.args.keys.now c.requires.many c.threads-threads.ensures.within c.requires.rising c.in_ok-words.ensures.low in
-    let shape : c.new-shape.result ≡ k = c.new-shape.ensures ∙ shape_so c.args.layout c.args.keys.now c.threads-threads.result c.quota-quota.result _ c.threads-threads.ensures.value c.quota-quota.ensures.value c.in_ok-copied.ensures.items in
+    let so : Opens k = opens_so c.args.layout c.args.keys.now c.requires.many c.threads-threads.ensures.within c.requires.rising
+    c.in_ok-words.ensures.low in
+    let shape : c.new-shape.result ≡ k = c.new-shape.ensures ∙ shape_so c.args.layout c.args.keys.now c.threads-threads.result
+    c.quota-quota.result _ c.threads-threads.ensures.value c.quota-quota.ensures.value c.in_ok-copied.ensures.items in
     let is : c.as_slice.result.now ≡ (opening k).words = c.as_slice.ensures.value ∙ c.in_ok-words.ensures.words in
     let e = c.in_ok-table.ensures in
     let key = c.in_ok-table.table.shared.key in
     let key_is : c.in_ok-table.table.shared.key ≡ k = e.5 ∙ shape in
-    let sz = sizes_so c.args.layout c.args.keys.now c.threads-threads.result c.quota-quota.result c.opening-opening.result c.threads-threads.ensures.value c.quota-quota.ensures.value c.opening-opening.ensures.value c.requires.many in
+    let sz = sizes_so c.args.layout c.args.keys.now c.threads-threads.result c.quota-quota.result c.opening-opening.result
+    c.threads-threads.ensures.value c.quota-quota.ensures.value c.opening-opening.ensures.value c.requires.many in
     let lim = subst (λ (z : Sizes). IsWithin z) sz so.within in (
       (e.0 ∙ (ap length is ∙ (opening_length k ∙ ap word_count sz)), e.1),
       (ap sizes key_is ∙ sz, ((lim.some, lim.few, lim.small), tt)),
@@ -68,14 +79,18 @@ invariant_of-set-inside g c =
 pub split_off-place-requires-clause-place : goal.split_off-place-requires-clause-place
 split_off-place-requires-clause-place g c = let i = c.loop-t.invariant in
     let k : Opening = opening_of c.args.layout c.args.keys.now in
-    let so : Opens k = opens_so c.args.layout c.args.keys.now c.requires.many c.threads-threads.ensures.within c.requires.rising c.in_ok-words.ensures.low in
-    let shape : c.new-shape.result ≡ k = c.new-shape.ensures ∙ shape_so c.args.layout c.args.keys.now c.threads-threads.result c.quota-quota.result _ c.threads-threads.ensures.value c.quota-quota.ensures.value c.in_ok-copied.ensures.items in
+    let so : Opens k = opens_so c.args.layout c.args.keys.now c.requires.many c.threads-threads.ensures.within c.requires.rising
+    c.in_ok-words.ensures.low in
+    let shape : c.new-shape.result ≡ k = c.new-shape.ensures ∙ shape_so c.args.layout c.args.keys.now c.threads-threads.result
+    c.quota-quota.result _ c.threads-threads.ensures.value c.quota-quota.ensures.value c.in_ok-copied.ensures.items in
     let is : c.as_slice.result.now ≡ (opening k).words = c.as_slice.ensures.value ∙ c.in_ok-words.ensures.words in
     let e = c.in_ok-table.ensures in
     let key = c.in_ok-table.table.shared.key in
     let key_is : c.in_ok-table.table.shared.key ≡ k = e.5 ∙ shape in
-    let n : c.in_ok-table.table.shared.table_id.words ≡ word_count (sizes k) = e.0 ∙ (ap length is ∙ opening_length k) in
-    ((i.1, ap (λ z. z.0.shape) i.0, n ∙ ap (λ (z : Opening). word_count (sizes z)) (sym key_is)), (ap (λ z. z.0.spent) i.0, ap (λ z. z.0.under) i.0))
+    let n : c.in_ok-table.table.shared.table_id.words ≡ word_count (sizes k) = e.0 ∙ (ap length is ∙ opening_length k) in (
+      (i.1, ap (λ z. z.0.shape) i.0, n ∙ ap (λ (z : Opening). word_count (sizes z)) (sym key_is)),
+      (ap (λ z. z.0.spent) i.0, ap (λ z. z.0.under) i.0),
+    )
 
 pub split_off-place-requires-clause-fresh : goal.split_off-place-requires-clause-fresh
 split_off-place-requires-clause-fresh g c =
@@ -84,14 +99,19 @@ split_off-place-requires-clause-fresh g c =
     let key = c.in_ok-table.table.shared.key in
     let threads : key.threads ≡ c.threads-threads.result = ap (λ (z : Opening). z.threads) (e.5 ∙ c.new-shape.ensures) in
     let small : c.loop-t.t + 1 < key.threads = let lt = c.loop-t-test.true in omega (arith, threads, lt) in
-    subst (λ (z : View). (z.past ≡ Fresh z.thread) × (0 < length z.others)) (ap (λ z. z.0) (sym i.0)) (refl, spare_some key c.loop-t.t small)
+    subst (λ (z : View). (z.past ≡ Fresh z.thread) × (0 < length z.others)) (ap (λ z. z.0) (sym i.0)) (
+      refl,
+      spare_some key c.loop-t.t small,
+    )
 
 pub invariant_of-push : goal.invariant_of-push
 invariant_of-push g c =
     let i = c.loop-t.invariant in
     let k : Opening = opening_of c.args.layout c.args.keys.now in
-    let so : Opens k = opens_so c.args.layout c.args.keys.now c.requires.many c.threads-threads.ensures.within c.requires.rising c.in_ok-words.ensures.low in
-    let shape : c.new-shape.result ≡ k = c.new-shape.ensures ∙ shape_so c.args.layout c.args.keys.now c.threads-threads.result c.quota-quota.result _ c.threads-threads.ensures.value c.quota-quota.ensures.value c.in_ok-copied.ensures.items in
+    let so : Opens k = opens_so c.args.layout c.args.keys.now c.requires.many c.threads-threads.ensures.within c.requires.rising
+    c.in_ok-words.ensures.low in
+    let shape : c.new-shape.result ≡ k = c.new-shape.ensures ∙ shape_so c.args.layout c.args.keys.now c.threads-threads.result
+    c.quota-quota.result _ c.threads-threads.ensures.value c.quota-quota.ensures.value c.in_ok-copied.ensures.items in
     let is : c.as_slice.result.now ≡ (opening k).words = c.as_slice.ensures.value ∙ c.in_ok-words.ensures.words in
     let e = c.in_ok-table.ensures in
     let key = c.in_ok-table.table.shared.key in
@@ -100,8 +120,10 @@ invariant_of-push g c =
     let threads : key.threads ≡ c.threads-threads.result = ap (λ (z : Opening). z.threads) (e.5 ∙ c.new-shape.ensures) in
     let small : c.loop-t.t + 1 < key.threads = let lt = c.loop-t-test.true in omega (arith, threads, lt) in
     new_seat g.M.Machine.table key c.loop-t.t c.split_off-place.result.me lim (omega (arith, small))
-    (c.split_off-place.ensures.new.1 ∙ (ap (λ z. (right_view z.0, [])) i.0 ∙ ap (λ v. (v, [])) (cut_right key c.loop-t.t small))) c.unused-slots.result
-    (c.unused-slots.ensures ∙ ap (λ q. slots_of (idle q c.loop-t.t)) (sym (ap (λ (z : Opening). z.quota) (e.5 ∙ c.new-shape.ensures) ∙ c.quota-quota.ensures.value)))
+    (c.split_off-place.ensures.new.1 ∙ (ap (λ z. (right_view z.0, [])) i.0 ∙ ap (λ v. (v, [])) (cut_right key c.loop-t.t small)))
+    c.unused-slots.result
+    (c.unused-slots.ensures ∙ ap (λ q. slots_of (idle q c.loop-t.t))
+    (sym (ap (λ (z : Opening). z.quota) (e.5 ∙ c.new-shape.ensures) ∙ c.quota-quota.ensures.value)))
 
 pub loop-t-preserved : goal.loop-t-preserved
 loop-t-preserved g c =
@@ -112,8 +134,11 @@ loop-t-preserved g c =
     let threads : key.threads ≡ c.threads-threads.result = ap (λ (z : Opening). z.threads) (e.5 ∙ c.new-shape.ensures) in
     let small : c.loop-t.t + 1 < key.threads = let lt = c.loop-t-test.true in omega (arith, threads, lt) in
     let more : c.push.new.self.items ≡ c.loop-t.seats.items ++ value_of c.split_off-place.result ∷ [] = search rules in
-    let new : IsNew z key c.loop-t.t c.split_off-place.result =
-    (c.split_off-place.ensures.new.0 ∙ i.1, c.split_off-place.ensures.new.1 ∙ (ap (λ z. (right_view z.0, [])) i.0 ∙ ap (λ v. (v, [])) (cut_right key c.loop-t.t small))) in (
+    let new : IsNew z key c.loop-t.t c.split_off-place.result = (
+      c.split_off-place.ensures.new.0 ∙ i.1,
+      c.split_off-place.ensures.new.1
+          ∙ (ap (λ z. (right_view z.0, [])) i.0 ∙ ap (λ v. (v, [])) (cut_right key c.loop-t.t small)),
+    ) in (
       c.split_off-place.ensures.old.2 ∙ (ap (λ z. (left_view z.0, z.1)) i.0 ∙ ap (λ v. (v, [])) (cut_left key c.loop-t.t small)),
       c.split_off-place.ensures.old.0 ∙ i.1,
       seats_more z key c.loop-t.t c.split_off-place.result c.loop-t.seats.items c.push.new.self.items i.2 new more,
@@ -123,8 +148,10 @@ pub invariant_of-push-2 : goal.invariant_of-push-2
 invariant_of-push-2 g c =
     let i = c.loop-t.invariant in
     let k : Opening = opening_of c.args.layout c.args.keys.now in
-    let so : Opens k = opens_so c.args.layout c.args.keys.now c.requires.many c.threads-threads.ensures.within c.requires.rising c.in_ok-words.ensures.low in
-    let shape : c.new-shape.result ≡ k = c.new-shape.ensures ∙ shape_so c.args.layout c.args.keys.now c.threads-threads.result c.quota-quota.result _ c.threads-threads.ensures.value c.quota-quota.ensures.value c.in_ok-copied.ensures.items in
+    let so : Opens k = opens_so c.args.layout c.args.keys.now c.requires.many c.threads-threads.ensures.within c.requires.rising
+    c.in_ok-words.ensures.low in
+    let shape : c.new-shape.result ≡ k = c.new-shape.ensures ∙ shape_so c.args.layout c.args.keys.now c.threads-threads.result
+    c.quota-quota.result _ c.threads-threads.ensures.value c.quota-quota.ensures.value c.in_ok-copied.ensures.items in
     let is : c.as_slice.result.now ≡ (opening k).words = c.as_slice.ensures.value ∙ c.in_ok-words.ensures.words in
     let e = c.in_ok-table.ensures in
     let key = c.in_ok-table.table.shared.key in
@@ -135,19 +162,24 @@ invariant_of-push-2 g c =
     let last : c.threads-threads.result - 1 + 1 ≡ key.threads = omega (arith, threads, some) in
     let end : c.loop-t.t ≡ c.threads-threads.result - 1 = search rules in
     new_seat g.M.Machine.table key (c.threads-threads.result - 1) c.loop-t.place.me lim (omega (arith, last))
-    (i.0 ∙ (ap (λ n. (spare key n, [])) end ∙ ap (λ v. (v, [])) (spare_none key (c.threads-threads.result - 1) last))) c.unused-slots-2.result
-    (c.unused-slots-2.ensures ∙ ap (λ q. slots_of (idle q (c.threads-threads.result - 1))) (sym (ap (λ (z : Opening). z.quota) (e.5 ∙ c.new-shape.ensures) ∙ c.quota-quota.ensures.value)))
+    (i.0 ∙ (ap (λ n. (spare key n, [])) end ∙ ap (λ v. (v, [])) (spare_none key (c.threads-threads.result - 1) last)))
+    c.unused-slots-2.result
+    (c.unused-slots-2.ensures ∙ ap (λ q. slots_of (idle q (c.threads-threads.result - 1)))
+    (sym (ap (λ (z : Opening). z.quota) (e.5 ∙ c.new-shape.ensures) ∙ c.quota-quota.ensures.value)))
 
 pub invariant_of-set-inside-2 : goal.invariant_of-set-inside-2
 invariant_of-set-inside-2 g c =
     let k : Opening = opening_of c.args.layout c.args.keys.now in
-    let so : Opens k = opens_so c.args.layout c.args.keys.now c.requires.many c.threads-threads.ensures.within c.requires.rising c.in_ok-words.ensures.low in
-    let shape : c.new-shape.result ≡ k = c.new-shape.ensures ∙ shape_so c.args.layout c.args.keys.now c.threads-threads.result c.quota-quota.result _ c.threads-threads.ensures.value c.quota-quota.ensures.value c.in_ok-copied.ensures.items in
+    let so : Opens k = opens_so c.args.layout c.args.keys.now c.requires.many c.threads-threads.ensures.within c.requires.rising
+    c.in_ok-words.ensures.low in
+    let shape : c.new-shape.result ≡ k = c.new-shape.ensures ∙ shape_so c.args.layout c.args.keys.now c.threads-threads.result
+    c.quota-quota.result _ c.threads-threads.ensures.value c.quota-quota.ensures.value c.in_ok-copied.ensures.items in
     let is : c.as_slice.result.now ≡ (opening k).words = c.as_slice.ensures.value ∙ c.in_ok-words.ensures.words in
     let e = c.in_ok-table.ensures in
     let key = c.in_ok-table.table.shared.key in
     let key_is : c.in_ok-table.table.shared.key ≡ k = e.5 ∙ shape in
-    let sz = sizes_so c.args.layout c.args.keys.now c.threads-threads.result c.quota-quota.result c.opening-opening.result c.threads-threads.ensures.value c.quota-quota.ensures.value c.opening-opening.ensures.value c.requires.many in
+    let sz = sizes_so c.args.layout c.args.keys.now c.threads-threads.result c.quota-quota.result c.opening-opening.result
+    c.threads-threads.ensures.value c.quota-quota.ensures.value c.opening-opening.ensures.value c.requires.many in
     let lim = subst (λ (z : Sizes). IsWithin z) sz so.within in (
       (e.0 ∙ (ap length is ∙ (opening_length k ∙ ap word_count sz)), e.1),
       (ap sizes key_is ∙ sz, ((lim.some, lim.few, lim.small), tt)),
@@ -158,8 +190,10 @@ returns g c =
     let i = c.loop-t.invariant in
     let z = c.in_ok-table.table.shared.table_id in
     let k : Opening = opening_of c.args.layout c.args.keys.now in
-    let so : Opens k = opens_so c.args.layout c.args.keys.now c.requires.many c.threads-threads.ensures.within c.requires.rising c.in_ok-words.ensures.low in
-    let shape : c.new-shape.result ≡ k = c.new-shape.ensures ∙ shape_so c.args.layout c.args.keys.now c.threads-threads.result c.quota-quota.result _ c.threads-threads.ensures.value c.quota-quota.ensures.value c.in_ok-copied.ensures.items in
+    let so : Opens k = opens_so c.args.layout c.args.keys.now c.requires.many c.threads-threads.ensures.within c.requires.rising
+    c.in_ok-words.ensures.low in
+    let shape : c.new-shape.result ≡ k = c.new-shape.ensures ∙ shape_so c.args.layout c.args.keys.now c.threads-threads.result
+    c.quota-quota.result _ c.threads-threads.ensures.value c.quota-quota.ensures.value c.in_ok-copied.ensures.items in
     let is : c.as_slice.result.now ≡ (opening k).words = c.as_slice.ensures.value ∙ c.in_ok-words.ensures.words in
     let e = c.in_ok-table.ensures in
     let key = c.in_ok-table.table.shared.key in
@@ -175,5 +209,6 @@ returns g c =
     let all = seats_more z key (c.threads-threads.result - 1) c.loop-t.place c.loop-t.seats.items c.push-2.new.self.items
     (i.2 ∙ ap (λ n. map (seat_of_thread (opened z key)) (range_with_len 0 n)) end) new more in (
       key_is,
-      all ∙ ap (λ n. map (seat_of_thread (opened z key)) (range_with_len 0 n)) (last ∙ (threads ∙ c.threads-threads.ensures.value)),
+      all ∙ ap (λ n. map (seat_of_thread (opened z key)) (range_with_len 0 n)) (last
+          ∙ (threads ∙ c.threads-threads.ensures.value)),
     )

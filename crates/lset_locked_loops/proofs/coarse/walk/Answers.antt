@@ -6,10 +6,15 @@ use Rattle.lset_locked_loops.proofs.Calling.{moved, to_curr}
 use Rattle.lset_locked_loops.proofs.coarse.walk.Goals as goal
 
 pub returns-then-word-key : goal.returns-then-word-key
-returns-then-word-key g c = let ge : target g.O.Origin.begun.call ≤ c.load_key-word.result = omega (arith, c.args.caller.now.is_key) in
-    (_, moved (c.load_key-word.ensures _ c.loop.invariant.1) (if_not_below c.load_key-word.result (target g.O.Origin.begun.call) ge _ _))
+returns-then-word-key g c = let ge : target g.O.Origin.begun.call ≤ c.load_key-word.result =
+    omega (arith, c.args.caller.now.is_key) in (
+      _,
+      moved (c.load_key-word.ensures _ c.loop.invariant.1) (if_not_below c.load_key-word.result (target g.O.Origin.begun.call)
+          ge _ _),
+    )
 
 pub loop-preserved : goal.loop-preserved
 loop-preserved g c = let lt : c.load_key-word.result < target g.O.Origin.begun.call = omega (arith, c.args.caller.now.is_key) in
-    let at = moved (c.load_key-word.ensures _ c.loop.invariant.1) (if_below c.load_key-word.result (target g.O.Origin.begun.call) lt _ _) in
+    let at = moved (c.load_key-word.ensures _ c.loop.invariant.1) (if_below c.load_key-word.result (target g.O.Origin.begun.call)
+    lt _ _) in
     (_, to_curr c.behind-curr-in-loop.ensures (c.load_link-link.ensures _ at))

@@ -9,11 +9,22 @@ use Rattle.lset_locked_loops.proofs.Calling.{moved, to_curr, no_rest}
 use Rattle.lset_locked_loops.proofs.lazy.make.Goals as goal
 
 pub loop-init : goal.loop-init
-loop-init g c = (no_rest, moved c.begin_at_head-link.ensures (ap (λ pc. (lazy.feed (row c.args.slots g.O.Origin.begun.call pc None 0 0 no_rest) c.begin_at_head-link.result).local) c.requires.walks))
+loop-init g c = (
+  no_rest,
+  moved c.begin_at_head-link.ensures
+      (ap (λ pc. (lazy.feed (row c.args.slots g.O.Origin.begun.call pc None 0 0 no_rest) c.begin_at_head-link.result).local)
+      c.requires.walks),
+)
 
 pub lock-requires-in-loop : goal.lock-requires-in-loop
 lock-requires-in-loop g c =
-    record { held = _; holds = c.lock.ensures _ c.walk-found.ensures.1; acts = refl; again = λ n ne. ap continued (if_other n 0 ne _ _); goes_on = refl }
+    record {
+      held = _;
+      holds = c.lock.ensures _ c.walk-found.ensures.1;
+      acts = refl;
+      again = λ n ne. ap continued (if_other n 0 ne _ _);
+      goes_on = refl;
+    }
 
 pub validate-requires : goal.validate-requires
 validate-requires g c = (c.walk-found.ensures.0, c.lock-in-loop.ensures _ (c.lock.ensures _ c.walk-found.ensures.1))
@@ -22,17 +33,38 @@ pub unlock_last-requires : goal.unlock_last-requires
 unlock_last-requires g c = record { held = _; holds = c.unlock.ensures _ c.act-answer.ensures.1; acts = refl }
 
 pub returns-in-Some-validate : goal.returns-in-Some-validate
-returns-in-Some-validate g c = (_, c.unlock_last.ensures _ _ c.act-answer.result.1 (c.unlock.ensures _ c.act-answer.ensures.1) refl, refl)
+returns-in-Some-validate g c = (
+  _,
+  c.unlock_last.ensures _ _ c.act-answer.result.1 (c.unlock.ensures _ c.act-answer.ensures.1)
+      refl,
+  refl,
+)
 
 pub unlock-requires-in-None-validate : goal.unlock-requires-in-None-validate
 unlock-requires-in-None-validate g c = record { held = _; holds = c.in-None-validate.ensures.1; acts = refl; goes_on = λ n. refl }
 
 pub unlock-requires-in-None-validate-2 : goal.unlock-requires-in-None-validate-2
-unlock-requires-in-None-validate-2 g c = record { held = _; holds = c.unlock-in-None-validate.ensures _ c.in-None-validate.ensures.1; acts = refl; goes_on = λ n. refl }
+unlock-requires-in-None-validate-2 g c =
+    record {
+      held = _;
+      holds = c.unlock-in-None-validate.ensures _ c.in-None-validate.ensures.1;
+      acts = refl;
+      goes_on = λ n. refl;
+    }
 
 pub load_link-link-requires : goal.load_link-link-requires
 load_link-link-requires g c =
-    record { held = _; holds = c.unlock-in-None-validate-2.ensures _ (c.unlock-in-None-validate.ensures _ c.in-None-validate.ensures.1); acts = ap (λ n. Load (link_index n)) c.head.ensures; goes_on = λ n. refl }
+    record {
+      held = _;
+      holds = c.unlock-in-None-validate-2.ensures _
+          (c.unlock-in-None-validate.ensures _ c.in-None-validate.ensures.1);
+      acts = ap (λ n. Load (link_index n)) c.head.ensures;
+      goes_on = λ n. refl;
+    }
 
 pub loop-preserved : goal.loop-preserved
-loop-preserved g c = (_, c.load_link-link.ensures _ (c.unlock-in-None-validate-2.ensures _ (c.unlock-in-None-validate.ensures _ c.in-None-validate.ensures.1)))
+loop-preserved g c = (
+  _,
+  c.load_link-link.ensures _
+      (c.unlock-in-None-validate-2.ensures _ (c.unlock-in-None-validate.ensures _ c.in-None-validate.ensures.1)),
+)

@@ -11,7 +11,11 @@ pub unlock_last-requires : goal.unlock_last-requires
 unlock_last-requires g c = record { held = _; holds = c.unlock.ensures _ c.act-answer.ensures.1; acts = refl }
 
 pub returns-then-validate : goal.returns-then-validate
-returns-then-validate g c = (_, c.unlock_last.ensures _ _ c.act-answer.result.1 (c.unlock.ensures _ c.act-answer.ensures.1) refl, refl)
+returns-then-validate g c = (
+  _,
+  c.unlock_last.ensures _ _ c.act-answer.result.1 (c.unlock.ensures _ c.act-answer.ensures.1) refl,
+  refl,
+)
 
 pub unlock-requires-in-loop-2 : goal.unlock-requires-in-loop-2
 unlock-requires-in-loop-2 g c = let left = rw c.if-validate.false at c.validate.ensures in
@@ -19,7 +23,12 @@ unlock-requires-in-loop-2 g c = let left = rw c.if-validate.false at c.validate.
 
 pub load_link-link-requires : goal.load_link-link-requires
 load_link-link-requires g c = let left = rw c.if-validate.false at c.validate.ensures in
-    record { held = _; holds = c.unlock-in-loop-2.ensures _ (c.unlock-in-loop.ensures _ left.1); acts = ap (λ n. Load (link_index n)) c.head.ensures; goes_on = λ n. refl }
+    record {
+      held = _;
+      holds = c.unlock-in-loop-2.ensures _ (c.unlock-in-loop.ensures _ left.1);
+      acts = ap (λ n. Load (link_index n)) c.head.ensures;
+      goes_on = λ n. refl;
+    }
 
 pub loop-preserved : goal.loop-preserved
 loop-preserved g c = let left = rw c.if-validate.false at c.validate.ensures in

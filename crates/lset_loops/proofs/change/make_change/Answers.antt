@@ -11,7 +11,8 @@ loop-init g c = (c.start-window.ensures.at, c.start-window.ensures.place)
 
 pub find-found-requires-clause-place : goal.find-found-requires-clause-place
 find-found-requires-clause-place g c = let C = g.O.Origin.call in let v = g.O.Origin.from in let at = c.loop.window in
-    place_from lock_free c.args.table.now.table_id c.args.table.now.key C v (at_row C v 2 at.pred at.curr c.loop.invariant.0.0) c.args.place.now c.loop.place
+    place_from lock_free c.args.table.now.table_id c.args.table.now.key C v (at_row C v 2 at.pred at.curr c.loop.invariant.0.0)
+    c.args.place.now c.loop.place
     c.requires.from c.requires.place c.loop.invariant.1 c.loop.invariant.0.1
 
 pub find-found-requires-clause-seat : goal.find-found-requires-clause-seat
@@ -25,8 +26,10 @@ find-found-requires-clause-at g c = c.loop.invariant.0
 
 pub attempt-requires-clause-place : goal.attempt-requires-clause-place
 attempt-requires-clause-place g c = let found = c.find-found.result in
-    place_stopped c.args.table.now.table_id c.args.table.now.key g.O.Origin.call g.O.Origin.from found.window found.word c.args.place.now c.find-found.new.place
-    c.requires.from c.requires.place (seat_on c.args.place.now c.loop.place c.find-found.new.place c.loop.invariant.1 c.find-found.ensures.place)
+    place_stopped c.args.table.now.table_id c.args.table.now.key g.O.Origin.call g.O.Origin.from found.window found.word
+    c.args.place.now c.find-found.new.place
+    c.requires.from c.requires.place (seat_on c.args.place.now c.loop.place c.find-found.new.place c.loop.invariant.1
+    c.find-found.ensures.place)
     c.find-found.ensures.stops
 
 pub attempt-requires-clause-seat : goal.attempt-requires-clause-seat

@@ -10,7 +10,8 @@ abbrev pub ghosts-load_first : goal.ghosts-load_first
 ghosts-load_first g a = record { call = a.call }
 
 abbrev pub invariant-loop-slots : goal.invariant-loop-slots
-invariant-loop-slots g l = AtRead g.M.Machine.table l.fn.key l.fn.place.me.0 21 (l.link / 2) l.place.me.0 × IsSeat l.fn.place l.place
+invariant-loop-slots g l = AtRead g.M.Machine.table l.fn.key l.fn.place.me.0 21 (l.link / 2) l.place.me.0
+    × IsSeat l.fn.place l.place
 
 abbrev pub decreases-loop-slots : goal.decreases-loop-slots
 decreases-loop-slots g l = most_reads (sizes l.fn.place.me.0.shape) - steps_of l.place.me.0.under

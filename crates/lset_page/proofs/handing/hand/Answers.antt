@@ -6,7 +6,8 @@ use Rattle.lset_page.proofs.handing.hand.Goals as goal
 
 -- a text that was handed over is that of what was made
 handed_as : (made : Made) (old new text : List ℕ) (status count : ℕ)
-    → text ≡ text_of made → Handed text old new → status ≡ status_of made → count ≡ length text → IsHanded made old new status count
+    → text ≡ text_of made → Handed text old new → status ≡ status_of made → count ≡ length text →
+    IsHanded made old new status count
 handed_as made old new text status count same handed status_is counted = record {
   text = subst (λ t. Handed t old new) same handed;
   status_is = status_is;
@@ -25,7 +26,8 @@ returns-in-Ok-line_of_trouble c =
     let put = c.put-in-Ok-line_of_trouble.ensures in (
       Err c.in-Err.trouble,
       inl (rw c.in-Err.is refl),
-      handed_as _ _ _ _ _ _ (c.deref-in-Ok-line_of_trouble.ensures.value ∙ c.in-Ok-line_of_trouble.ensures) put.handed c.status.ensures put.count,
+      handed_as _ _ _ _ _ _ (c.deref-in-Ok-line_of_trouble.ensures.value ∙ c.in-Ok-line_of_trouble.ensures) put.handed
+          c.status.ensures put.count,
     )
 
 pub returns-in-Err-line_of_trouble : goal.returns-in-Err-line_of_trouble

@@ -26,7 +26,8 @@ returns-clause-order c =
     λ n. ranks_stay c.in_ok-ranked.ranked.items ys stable no_call.placed n ∙ ap (λ xs. of_rank n xs) c.in_ok-ranked.ensures in
     λ last h. c.in_ok-order.ensures ∙ ap placed_in c.deref.ensures.value
     ∙ block_after_block c.args.places.now ys rise stay no_call last
-    (sorted_upto last c.args.places.now c.in_ok-ranked.ranked.items ys c.in_ok-ranked.ensures c.sort_by_key.ensures.permutation h no_call)
+    (sorted_upto last c.args.places.now c.in_ok-ranked.ranked.items ys c.in_ok-ranked.ensures c.sort_by_key.ensures.permutation h
+    no_call)
 
 pub returns-clause-points : goal.returns-clause-points
 returns-clause-points c =
@@ -38,4 +39,5 @@ returns-clause-points c =
     (subst (λ (xs : List Point). ArePointsAt c.args.places.now (placed_in ys) xs)
     (sym (c.in_ok-points.ensures ∙ ap points_in c.deref-2.ensures.value))
     (points_are c.args.places.now ys no_call rise
-    (sorted_ranked c.args.places.now c.in_ok-ranked.ranked.items ys c.in_ok-ranked.ensures c.sort_by_key.ensures.permutation no_call)))
+    (sorted_ranked c.args.places.now c.in_ok-ranked.ranked.items ys c.in_ok-ranked.ensures c.sort_by_key.ensures.permutation
+    no_call)))

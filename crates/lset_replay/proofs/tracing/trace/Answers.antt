@@ -12,5 +12,6 @@ returns c =
     let heard = c.in_ok-events.ensures in
     trace_is (table_of c.args.schedule.now.kind) p c.args.chains (opening_in p) (events_of p) _ refl refl refl refl refl
     (c.in_ok-to_vec.ensures.items_if_clones_equal (λ x y e. e) ∙ c.deref.ensures.value)
-    (subst (λ events. TellsEvents (table_of c.args.schedule.now.kind) (opening_in p) (events_of p) c.args.chains events c.in_ok-events.refused)
+    (subst (λ events. TellsEvents (table_of c.args.schedule.now.kind) (opening_in p) (events_of p) c.args.chains events
+    c.in_ok-events.refused)
     (sym (heard.heard ∙ ap (λ xs. xs ++ heard.traced) c.new.ensures.items)) heard.tells)

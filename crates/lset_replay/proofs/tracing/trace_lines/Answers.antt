@@ -21,7 +21,8 @@ loop-index-init g c = record {
 
 pub overflow_add-moment : goal.overflow_add-moment
 overflow_add-moment g c =
-    let there = comes_next c.args.first c.args.lines.now c.loop-index.index c.loop-done._done c.loop-done.moment c.event_of-times.result.1
+    let there = comes_next c.args.first c.args.lines.now c.loop-index.index c.loop-done._done c.loop-done.moment
+    c.event_of-times.result.1
     c.event_of-times.result.0 c.loop-index-test.true c.event_of-times.ensures c.loop-done-test.true c.loop-done.invariant.count in
     let few : c.loop-done.moment < MOST_EVENTS =
     few_behind c.args.first c.args.lines.now c.loop-done.moment MOST_EVENTS c.event_of-times.result.0 c.requires.few there in
@@ -29,37 +30,45 @@ overflow_add-moment g c =
 
 pub trace_event-requires-clause-few : goal.trace_event-requires-clause-few
 trace_event-requires-clause-few g c =
-    let there = comes_next c.args.first c.args.lines.now c.loop-index.index c.loop-done._done c.loop-done.moment c.event_of-times.result.1
+    let there = comes_next c.args.first c.args.lines.now c.loop-index.index c.loop-done._done c.loop-done.moment
+    c.event_of-times.result.1
     c.event_of-times.result.0 c.loop-index-test.true c.event_of-times.ensures c.loop-done-test.true c.loop-done.invariant.count in
     let few : c.loop-done.moment < MOST_EVENTS =
     few_behind c.args.first c.args.lines.now c.loop-done.moment MOST_EVENTS c.event_of-times.result.0 c.requires.few there in
     let heard = c.loop-done.invariant.told in
     let begun : length c.loop-done.recorder.places.items ≤ c.loop-done.moment =
-    few_begun g.M.Machine.table (tells_keys g.M.Machine.table c.has_account.ensures c.listed_content.ensures) c.args.recorder.now.history.opening (events_from c.args.first c.args.lines.now)
+    few_begun g.M.Machine.table (tells_keys g.M.Machine.table c.has_account.ensures c.listed_content.ensures)
+    c.args.recorder.now.history.opening (events_from c.args.first c.args.lines.now)
     c.args.chains c.loop-done.moment c.loop-done.world c.loop-done.recorder c.loop-done.kept.items heard.traced heard.told in
     omega arith
 
 pub trace_event-requires-clause-may : goal.trace_event-requires-clause-may
 trace_event-requires-clause-may g c =
-    let there = comes_next c.args.first c.args.lines.now c.loop-index.index c.loop-done._done c.loop-done.moment c.event_of-times.result.1
+    let there = comes_next c.args.first c.args.lines.now c.loop-index.index c.loop-done._done c.loop-done.moment
+    c.event_of-times.result.1
     c.event_of-times.result.0 c.loop-index-test.true c.event_of-times.ensures c.loop-done-test.true c.loop-done.invariant.count in
     let heard = c.loop-done.invariant.told in
     λ enabled. subst (λ m. MayFollow c.loop-done.recorder m c.event_of-times.result.0.event
     (told g.M.Machine.table c.loop-done.world.state c.event_of-times.result.0.event)) (sym (add-one c.loop-done.moment))
-    (may_follow g.M.Machine.table (tells_keys g.M.Machine.table c.has_account.ensures c.listed_content.ensures) c.args.recorder.now.history.opening (events_from c.args.first c.args.lines.now)
+    (may_follow g.M.Machine.table (tells_keys g.M.Machine.table c.has_account.ensures c.listed_content.ensures)
+    c.args.recorder.now.history.opening (events_from c.args.first c.args.lines.now)
     c.args.chains c.loop-done.moment c.loop-done.world c.loop-done.recorder c.loop-done.kept.items heard.traced heard.told
     c.event_of-times.result.0 there.event_is enabled)
 
 pub returns-in-Err-Refused : goal.returns-in-Err-Refused
 returns-in-Err-Refused g c =
-    let there = comes_next c.args.first c.args.lines.now c.loop-index.index c.loop-done._done c.loop-done.moment c.event_of-times.result.1
+    let there = comes_next c.args.first c.args.lines.now c.loop-index.index c.loop-done._done c.loop-done.moment
+    c.event_of-times.result.1
     c.event_of-times.result.0 c.loop-index-test.true c.event_of-times.ensures c.loop-done-test.true c.loop-done.invariant.count in
     let heard = c.loop-done.invariant.told in
     let refused = rw c.in-Err-Refused.field-0-is at c.in-Err-Refused.ensures in
-    let t : TellsEvents g.M.Machine.table c.args.recorder.now.history.opening (events_from c.args.first c.args.lines.now) c.args.chains
+    let t : TellsEvents g.M.Machine.table c.args.recorder.now.history.opening (events_from c.args.first c.args.lines.now)
+    c.args.chains
     heard.traced (Some (c.event_of-times.result.0.line, c.in-Err-Refused.cause)) =
-    told_to_refused g.M.Machine.table (tells_keys g.M.Machine.table c.has_account.ensures c.listed_content.ensures) c.args.recorder.now.history.opening
-    (events_from c.args.first c.args.lines.now) c.args.chains c.loop-done.moment c.loop-done.world c.loop-done.recorder c.loop-done.kept.items
+    told_to_refused g.M.Machine.table (tells_keys g.M.Machine.table c.has_account.ensures c.listed_content.ensures)
+    c.args.recorder.now.history.opening
+    (events_from c.args.first c.args.lines.now) c.args.chains c.loop-done.moment c.loop-done.world c.loop-done.recorder
+    c.loop-done.kept.items
     heard.traced heard.told c.event_of-times.result.0
     there.event_is c.in-Err-Refused.cause there.known
     there.line_is refused in
@@ -73,7 +82,8 @@ returns-in-Err-Refused g c =
 
 pub loop-done-preserved : goal.loop-done-preserved
 loop-done-preserved g c =
-    let there = comes_next c.args.first c.args.lines.now c.loop-index.index c.loop-done._done c.loop-done.moment c.event_of-times.result.1
+    let there = comes_next c.args.first c.args.lines.now c.loop-index.index c.loop-done._done c.loop-done.moment
+    c.event_of-times.result.1
     c.event_of-times.result.0 c.loop-index-test.true c.event_of-times.ensures c.loop-done-test.true c.loop-done.invariant.count in
     let heard = c.loop-done.invariant.told in
     let count = heard.told.count in
@@ -82,17 +92,20 @@ loop-done-preserved g c =
       told = record {
         traced = heard.traced ++ c.in-Ok.told ∷ [];
         heard = c.in_ok-hear-in-Ok.ensures c.args.listener.now heard.traced (omega (arith, count)) heard.heard;
-        told = subst (λ m. HasTraced g.M.Machine.table c.args.recorder.now.history.opening (events_from c.args.first c.args.lines.now)
+        told = subst (λ m. HasTraced g.M.Machine.table c.args.recorder.now.history.opening
+            (events_from c.args.first c.args.lines.now)
             c.args.chains m c.trace_event.new.world c.trace_event.new.recorder c.trace_event.new.kept.items
             (heard.traced ++ c.in-Ok.told ∷ []))
             (sym (add-one c.loop-done.moment))
-            (traced_more g.M.Machine.table (tells_keys g.M.Machine.table c.has_account.ensures c.listed_content.ensures) c.args.recorder.now.history.opening
+            (traced_more g.M.Machine.table (tells_keys g.M.Machine.table c.has_account.ensures c.listed_content.ensures)
+            c.args.recorder.now.history.opening
             (events_from c.args.first c.args.lines.now) c.args.chains c.loop-done.moment c.loop-done.world c.loop-done.recorder
             c.loop-done.kept.items heard.traced heard.told c.event_of-times.result.0
             there.event_is
             c.trace_event.new.world c.trace_event.new.recorder c.trace_event.new.kept.items c.in-Ok.told
             there.line_is
-            (subst (λ m. MadeEvent g.M.Machine.table c.event_of-times.result.0 m c.args.chains c.loop-done.world c.loop-done.recorder
+            (subst (λ m. MadeEvent g.M.Machine.table c.event_of-times.result.0 m c.args.chains c.loop-done.world
+            c.loop-done.recorder
             c.loop-done.kept.items c.in-Ok.told c.trace_event.new.world c.trace_event.new.recorder c.trace_event.new.kept.items)
             (add-one c.loop-done.moment) c.in-Ok.ensures));
       };
@@ -100,7 +113,8 @@ loop-done-preserved g c =
 
 pub loop-index-preserved : goal.loop-index-preserved
 loop-index-preserved g c = record {
-  count = line_done c.args.first c.args.lines.now c.loop-index.index c.loop-done._done c.loop-done.moment c.event_of-times.result.1
+  count = line_done c.args.first c.args.lines.now c.loop-index.index c.loop-done._done c.loop-done.moment
+      c.event_of-times.result.1
       c.event_of-times.result.0 c.loop-index-test.true c.event_of-times.ensures c.loop-done-test.false c.loop-done.auto._done-end
       c.loop-done.invariant.count;
   told = c.loop-done.invariant.told;

@@ -8,7 +8,8 @@ use Rattle.lset_replay.proofs.tracing.trace_lines.Given as goal
 abbrev pub invariant-loop-index : goal.invariant-loop-index
 invariant-loop-index g l = record {
   count : l.moment ≡ length (events_from l.first (take l.index l.lines));
-  told : IsHeard (λ traced. g.L.Listener.has_heard l.fn.listener traced l.listener) g.M.Machine.table l.fn.recorder.history.opening (events_from l.first l.lines)
+  told : IsHeard (λ traced. g.L.Listener.has_heard l.fn.listener traced l.listener) g.M.Machine.table
+      l.fn.recorder.history.opening (events_from l.first l.lines)
       l.chains l.moment l.world l.recorder l.kept.items;
 }
 
@@ -16,6 +17,7 @@ invariant-loop-index g l = record {
 abbrev pub invariant-loop-done : goal.invariant-loop-done
 invariant-loop-done g l = record {
   count : AreBehind l.first l.lines l.index l._done l.moment;
-  told : IsHeard (λ traced. g.L.Listener.has_heard l.fn.listener traced l.listener) g.M.Machine.table l.fn.recorder.history.opening (events_from l.first l.lines)
+  told : IsHeard (λ traced. g.L.Listener.has_heard l.fn.listener traced l.listener) g.M.Machine.table
+      l.fn.recorder.history.opening (events_from l.first l.lines)
       l.chains l.moment l.world l.recorder l.kept.items;
 }

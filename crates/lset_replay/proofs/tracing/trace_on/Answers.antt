@@ -10,7 +10,8 @@ pub trace_lines-requires-clause-start : goal.trace_lines-requires-clause-start
 trace_lines-requires-clause-start g c =
     let followed : HasFollowed g.M.Machine.table c.in_ok-world.recorder.history.opening
     (events_from c.first_event_line.result c.deref.result.now) 0 c.in_ok-world.world c.in_ok-world.recorder = search rules in
-    traced_none g.M.Machine.table c.in_ok-world.recorder.history.opening (events_from c.first_event_line.result c.deref.result.now)
+    traced_none g.M.Machine.table c.in_ok-world.recorder.history.opening
+    (events_from c.first_event_line.result c.deref.result.now)
     c.args.chains c.in_ok-world.world c.in_ok-world.recorder c.in_ok-kept.kept.items _ followed refl c.in_ok-kept.ensures.keys
 
 pub returns : goal.returns

@@ -32,10 +32,12 @@ in_order-requires-clause-few g c =
     c.in_ok-world.recorder.history.opening (events_from c.first_event_line.result c.deref.result.now) c.in_ok-reach.reach.events
     c.follow_upto.new.world c.follow_upto.new.recorder c.in_ok-reach.ensures.followed in
     let within : c.in_ok-reach.reach.events ≤ length (events_from c.first_event_line.result c.deref.result.now) =
-    ends_within g.M.Machine.table c.in_ok-world.recorder.history.opening (events_from c.first_event_line.result c.deref.result.now)
+    ends_within g.M.Machine.table c.in_ok-world.recorder.history.opening
+    (events_from c.first_event_line.result c.deref.result.now)
     c.in_ok-reach.reach.events c.in_ok-reach.reach.refused c.in_ok-reach.ensures.ends in
     let few : length (events_from c.first_event_line.result c.deref.result.now) ≤ MOST_EVENTS =
-    few_events c.first_event_line.result c.deref.result.now c.args.schedule.now.lines.items c.deref.ensures.value c.requires.few in
+    few_events c.first_event_line.result c.deref.result.now c.args.schedule.now.lines.items c.deref.ensures.value c.requires.few
+    in
     let same : length c.deref-2.result.now ≡ length c.follow_upto.new.recorder.places.items =
     ap (λ (xs : List (Option Place)). length xs) c.deref-2.ensures.value in
     omega arith
@@ -43,10 +45,12 @@ in_order-requires-clause-few g c =
 pub in_order-requires-clause-inside : goal.in_order-requires-clause-inside
 in_order-requires-clause-inside g c =
     let within : c.in_ok-reach.reach.events ≤ length (events_from c.first_event_line.result c.deref.result.now) =
-    ends_within g.M.Machine.table c.in_ok-world.recorder.history.opening (events_from c.first_event_line.result c.deref.result.now)
+    ends_within g.M.Machine.table c.in_ok-world.recorder.history.opening
+    (events_from c.first_event_line.result c.deref.result.now)
     c.in_ok-reach.reach.events c.in_ok-reach.reach.refused c.in_ok-reach.ensures.ends in
     let few : length (events_from c.first_event_line.result c.deref.result.now) ≤ MOST_EVENTS =
-    few_events c.first_event_line.result c.deref.result.now c.args.schedule.now.lines.items c.deref.ensures.value c.requires.few in
+    few_events c.first_event_line.result c.deref.result.now c.args.schedule.now.lines.items c.deref.ensures.value c.requires.few
+    in
     stand_upto_later c.in_ok-reach.reach.events MOST_EVENTS c.deref-2.result.now
     (subst (λ xs. StandUpTo c.in_ok-reach.reach.events xs) (sym c.deref-2.ensures.value)
     (places_upto g.M.Machine.table (tells_keys g.M.Machine.table c.has_account.ensures c.listed_content.ensures)

@@ -11,7 +11,8 @@ abbrev pub ghosts-start_on : goal.ghosts-start_on
 ghosts-start_on g a = record { call = a.call }
 
 abbrev pub invariant-loop-fed : goal.invariant-loop-fed
-invariant-loop-fed g l = Comes g.M.Machine.table (Contains l.fn.key) l.fn.place.me.0 l.fed l.place.me.0 × IsSeat l.fn.place l.place
+invariant-loop-fed g l = Comes g.M.Machine.table (Contains l.fn.key) l.fn.place.me.0 l.fed l.place.me.0
+    × IsSeat l.fn.place l.place
 
 abbrev pub decreases-loop-fed : goal.decreases-loop-fed
 decreases-loop-fed g l = steps_left l.fed.answer (most_reads (sizes l.fn.place.me.0.shape)) (steps_of l.place.me.0.under)

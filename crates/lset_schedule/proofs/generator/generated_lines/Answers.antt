@@ -4,7 +4,8 @@ use Rattle.lset_steps.specs.Worlds.{WorldState}
 use Rattle.lset_schedule.proofs.Drafts.{draft_along, draft_opening, draft_idle, draft_event, goes_on}
 use Rattle.lset_schedule.proofs.TurnLaws.{progress, begun_drawn, turn_drawn, made_event, made_none, is_end, end_drawn, last_drawn}
 use Rattle.lset_schedule.proofs.generator.generated_lines.Goals as goal
-use Rattle.lset_schedule.proofs.generator.generated_lines.Goals.{in-Some+in_ok-push, in_default, else-loop-test, then-loop-test+then-is_over}
+use Rattle.lset_schedule.proofs.generator.generated_lines.Goals.{in-Some+in_ok-push, in_default, else-loop-test}
+use Rattle.lset_schedule.proofs.generator.generated_lines.Goals.{then-loop-test+then-is_over}
 
 pub loop-init : goal.loop-init
 loop-init g c = record {

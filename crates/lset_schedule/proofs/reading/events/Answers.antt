@@ -16,7 +16,8 @@ returns-in_default-clause-exact c = λ other.
 pub returns-in-Err-clause-exact : goal.returns-in-Err-clause-exact
 returns-in-Err-clause-exact c = λ other.
     rw c.at-in-Err.ensures
-    (stops c.args.version c.loop-rest.lines.items c.loop-rest.line c.loop-rest.total c.loop-rest.rest.now c.in-Some.first.now c.in-Some.after.now
+    (stops c.args.version c.loop-rest.lines.items c.loop-rest.line c.loop-rest.total c.loop-rest.rest.now c.in-Some.first.now
+    c.in-Some.after.now
     c.in-Err.cause _ c.in-Some.ensures.parts c.in-Err.ensures c.loop-rest.invariant.so_far)
 
 pub returns-in-Err-clause-memory : goal.returns-in-Err-clause-memory
@@ -28,7 +29,8 @@ pub returns-then-is_err-clause-memory : goal.returns-then-is_err-clause-memory
 returns-then-is_err-clause-memory c = λ is.
     let before = c.loop-rest.invariant in
     rw c.at-then-is_err.ensures
-    (good_event c.args.version c.args.first_line c.loop-rest.lines.items c.loop-rest.line c.loop-rest.total c.args.text.now c.loop-rest.rest.now
+    (good_event c.args.version c.args.first_line c.loop-rest.lines.items c.loop-rest.line c.loop-rest.total c.args.text.now
+    c.loop-rest.rest.now
     c.in-Some.first.now c.in-Some.after.now c.in-Ok.event c.in-Some.ensures.parts c.in-Ok.ensures
     before.lines_done before.parts_left before.so_far)
 
@@ -51,4 +53,5 @@ loop-rest-preserved c =
 pub returns-clause-exact : goal.returns-clause-exact
 returns-clause-exact c =
     let none = eqb-true _ _ (sym c.is_empty.ensures ∙ c.loop-rest-test.false) in
-    is_done c.args.version c.loop-rest.lines.items c.loop-rest.line c.loop-rest.total c.loop-rest.rest.now _ none c.loop-rest.invariant.so_far
+    is_done c.args.version c.loop-rest.lines.items c.loop-rest.line c.loop-rest.total c.loop-rest.rest.now _ none
+    c.loop-rest.invariant.so_far

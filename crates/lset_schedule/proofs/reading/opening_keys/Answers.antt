@@ -15,7 +15,8 @@ returns-in-Err-clause-exact c = λ other.
     let step = fails c.loop-first.line c.loop-first.keys.items c.in-Some.first.now (cut_at 10 c.in-Some.after.now) c.in-Err.cause
     (some_part 10 c.in-Some.after.now) c.in-Some.ensures.parts.1 refused in
     rw c.at.ensures
-    (sym c.loop-first.invariant.so_far ∙ ap (openings_from c.loop-first.line c.loop-first.keys.items) c.in-Some.ensures.parts.0 ∙ step)
+    (sym c.loop-first.invariant.so_far ∙ ap (openings_from c.loop-first.line c.loop-first.keys.items) c.in-Some.ensures.parts.0
+    ∙ step)
 
 pub returns-in-Err-clause-memory : goal.returns-in-Err-clause-memory
 returns-in-Err-clause-memory c = λ is.
@@ -29,7 +30,8 @@ returns-then-is_err-clause-memory c = λ is.
     let told : key_after c.loop-first.keys.items c.in-Some.first.now ≡ Ok c.in-Ok.key =
     sym (c.in-Ok.ensures ∙ ap (λ (ks : List ℕ). key_after ks c.in-Some.first.now) c.deref.ensures.value) in
     rw c.at-then-is_err.ensures
-    (good_opening c.loop-first.keys.items c.loop-first.line c.args.text.now c.loop-first.rest.now c.in-Some.first.now c.in-Some.after.now
+    (good_opening c.loop-first.keys.items c.loop-first.line c.args.text.now c.loop-first.rest.now c.in-Some.first.now
+    c.in-Some.after.now
     c.in-Ok.key c.in-Some.ensures.parts.0 c.in-Some.ensures.parts.1 told before.line_is before.parts_left before.so_far)
 
 pub loop-first-preserved : goal.loop-first-preserved
@@ -41,7 +43,8 @@ loop-first-preserved c =
     let one = key_ok keys c.in-Some.first.now c.in-Ok.key told in
     let step = goes c.loop-first.line keys c.in-Some.first.now (cut_at 10 c.in-Some.after.now) c.in-Ok.key
     (some_part 10 c.in-Some.after.now) c.in-Some.ensures.parts.1 told in
-    let counted = one_more (cut_at 10 c.loop-first.rest.now) (cut_at 10 c.in-Some.after.now) c.in-Some.first.now c.in-Some.ensures.parts.0 in
+    let counted = one_more (cut_at 10 c.loop-first.rest.now) (cut_at 10 c.in-Some.after.now) c.in-Some.first.now
+    c.in-Some.ensures.parts.0 in
     let pushed : c.push.new.self.items ≡ keys ++ c.in-Ok.key ∷ [] = grind (arith, common_steps) in
     record {
       so_far = rw pushed (sym step ∙ ap (openings_from c.loop-first.line keys) (sym c.in-Some.ensures.parts.0) ∙ before.so_far);

@@ -5,7 +5,8 @@ use Rattle.lset_server.proofs.lingering.drop_rest.Given as goal
 
 abbrev pub invariant-loop-left : goal.invariant-loop-left
 invariant-loop-left g l = record {
-  dropped : (bytes : List ℕ) × Consumes (g.I.Source.remaining l.initial.reader) (g.I.Source.remaining l.reader) bytes × (length bytes + l.left ≡ MOST_DROPPED);
+  dropped : (bytes : List ℕ) × Consumes (g.I.Source.remaining l.initial.reader) (g.I.Source.remaining l.reader) bytes
+      × (length bytes + l.left ≡ MOST_DROPPED);
   works : g.I.Source.has_failed l.reader ≡ false;
 }
 

@@ -8,5 +8,6 @@ use Rattle.lset_server.proofs.serving.accept_all.Given as goal
 abbrev pub invariant-loop-number : goal.invariant-loop-number
 invariant-loop-number g l = record {
   pass : IsSeatAt (sends_on l.to) l.pass;
-  view : view l.pass ≡ tally (view l.initial.pass).parts ((view l.initial.pass).sent ++ numbers_below l.number) (view l.initial.pass).received;
+  view : view l.pass ≡ tally (view l.initial.pass).parts ((view l.initial.pass).sent ++ numbers_below l.number)
+      (view l.initial.pass).received;
 }

@@ -8,7 +8,8 @@ use Rattle.lset_server.proofs.workers.join_all.Goals as goal
 
 pub loop-worker-init : goal.loop-worker-init
 loop-worker-init g c =
-    let e : into_iter_items c.into_iter-worker-iterator.result ≡ c.args.workers.items = c.into_iter-worker-iterator.ensures.into_iter_gives.0 in
+    let e : into_iter_items c.into_iter-worker-iterator.result ≡ c.args.workers.items =
+    c.into_iter-worker-iterator.ensures.into_iter_gives.0 in
     record {
       joined = joined_none _ _ _ _ e;
       held = rw e (omega arith);
@@ -26,10 +27,12 @@ loop-worker-preserved g c =
     let h = c.in-Some.worker in
     let back = c.join-back.ensures in
     let (mine, others) = all_rest _ _ h
-    (λ x. (receives_on x.promise.from.value ≡ sends_on c.args.to.now) × (x.promise.set.value ≡ c.args.set.now) × (x.promise.most ≡ c.args.most)) step inv.owed in
+    (λ x. (receives_on x.promise.from.value ≡ sends_on c.args.to.now) × (x.promise.set.value ≡ c.args.set.now)
+    × (x.promise.most ≡ c.args.most)) step inv.owed in
     let one = ap (λ l. length l) step in
     record {
-      joined = joined_next _ _ _ _ h _ _ _ _ _ _ _ _ _ _ _ _ step inv.joined refl back.2 c.take_back.ensures.told c.gather_onto.ensures.record;
+      joined = joined_next _ _ _ _ h _ _ _ _ _ _ _ _ _ _ _ _ step inv.joined refl back.2 c.take_back.ensures.told
+          c.gather_onto.ensures.record;
       held = held_next _ _ _ h _ _ _ _ step inv.held c.gather_onto.ensures.held back.2.held;
       seat = c.gather_onto.ensures.seat;
       owed = others;

@@ -12,12 +12,16 @@ use Rattle.lset_server.proofs.workers.join_all.Given as goal
 abbrev pub invariant-loop-worker : goal.invariant-loop-worker
 invariant-loop-worker g l = record {
   joined : (done : List Record)
-      × (done ++ map (λ h. h.promise.seat.value.past) (into_iter_items l.worker-iterator) ≡ map (λ h. h.promise.seat.value.past) l.fn.workers.items)
+      × (done ++ map (λ h. h.promise.seat.value.past) (into_iter_items l.worker-iterator) ≡ map (λ h. h.promise.seat.value.past)
+      l.fn.workers.items)
       × HaveWorked done (option_map (λ s. s.past) l.seat) (view l.fn.pass) (view l.pass) (length done) l.sessions l.calls;
-  held : held_in l.seat + sum_by (λ h. h.promise.seat.value.held) (into_iter_items l.worker-iterator) ≡ sum_by (λ h. h.promise.seat.value.held) l.fn.workers.items;
+  held : held_in l.seat + sum_by (λ h. h.promise.seat.value.held) (into_iter_items l.worker-iterator) ≡ sum_by
+      (λ h. h.promise.seat.value.held) l.fn.workers.items;
   seat : IfSome l.seat (λ s. s.set ≡ l.set);
-  owed : All (λ h. (receives_on h.promise.from.value ≡ sends_on l.to) × (h.promise.set.value ≡ l.set) × (h.promise.most ≡ l.most)) (into_iter_items l.worker-iterator);
+  owed : All (λ h. (receives_on h.promise.from.value ≡ sends_on l.to) × (h.promise.set.value ≡ l.set) × (h.promise.most ≡ l.most))
+      (into_iter_items l.worker-iterator);
   pass : IsSeatAt (sends_on l.to) l.pass;
   sessions : l.sessions + l.most * length (into_iter_items l.worker-iterator) ≤ l.most * vec_len l.fn.workers;
-  calls : l.calls + MOST_LINES * (l.most * length (into_iter_items l.worker-iterator)) ≤ MOST_LINES * (l.most * vec_len l.fn.workers);
+  calls : l.calls + MOST_LINES * (l.most * length (into_iter_items l.worker-iterator)) ≤ MOST_LINES *
+      (l.most * vec_len l.fn.workers);
 }

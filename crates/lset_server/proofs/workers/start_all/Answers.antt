@@ -16,7 +16,8 @@ loop-seat-preserved g c =
       seats = moved_more _ c.loop-seat.workers.items _ h _ _ _ c.in-Some.seat grown told.seat step inv.seats;
       of = (all_rest _ _ c.in-Some.seat (λ s. s.set ≡ c.args.set.now) step inv.of).1;
       owed = all_more c.loop-seat.workers.items _ h
-          (λ x. (receives_on x.promise.from.value ≡ sends_on c.args.to.now) × (x.promise.set.value ≡ c.args.set.now) × (x.promise.most ≡ c.args.most))
+          (λ x. (receives_on x.promise.from.value ≡ sends_on c.args.to.now) × (x.promise.set.value ≡ c.args.set.now)
+          × (x.promise.most ≡ c.args.most))
           grown inv.owed (told.owed.0 ∙ c.requires.pass.1, told.owed.1, told.owed.2);
       pass = c.cut_part-part.ensures.channel.0;
       view = part_more (view c.args.pass.now) _ _ (length c.loop-seat.workers.items) _ inv.view c.cut_part-part.ensures.told.0

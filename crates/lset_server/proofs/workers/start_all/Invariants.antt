@@ -9,7 +9,8 @@ abbrev pub invariant-loop-seat : goal.invariant-loop-seat
 invariant-loop-seat g l = record {
   seats : map (λ h. h.promise.seat.value) l.workers.items ++ into_iter_items l.seat-iterator ≡ l.fn.seats.items;
   of : All (λ s. s.set ≡ l.set) (into_iter_items l.seat-iterator);
-  owed : All (λ h. (receives_on h.promise.from.value ≡ sends_on l.to) × (h.promise.set.value ≡ l.set) × (h.promise.most ≡ l.most)) l.workers.items;
+  owed : All (λ h. (receives_on h.promise.from.value ≡ sends_on l.to) × (h.promise.set.value ≡ l.set) × (h.promise.most ≡ l.most))
+      l.workers.items;
   pass : IsSeatAt (sends_on l.to) l.pass;
   view : view l.pass ≡ tally ((view l.fn.pass).parts - length l.workers.items) (view l.fn.pass).sent (view l.fn.pass).received;
 }

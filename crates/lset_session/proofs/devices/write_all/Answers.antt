@@ -18,12 +18,17 @@ returns-in_default-clause-text g c =
 pub loop-rest-preserved : goal.loop-rest-preserved
 loop-rest-preserved g c =
     let (done, split, appended) = c.loop-rest.invariant.0 in (
-      (done ++ take c.in-Some.count c.loop-rest.rest.now, moves_front _ done c.loop-rest.rest.now c.in-Some.count split, Appends-trans _ _ _ _ _ appended c.in-Some.ensures.bytes),
+      (
+        done ++ take c.in-Some.count c.loop-rest.rest.now,
+        moves_front _ done c.loop-rest.rest.now c.in-Some.count split,
+        Appends-trans _ _ _ _ _ appended c.in-Some.ensures.bytes,
+      ),
       c.in-Some.ensures.failed,
     )
 
 pub returns-clause-text : goal.returns-clause-text
 returns-clause-text g c =
     let (done, split, appended) = c.loop-rest.invariant.0 in
-    let empty : c.loop-rest.rest.now ≡ [] = nil_from_length c.loop-rest.rest.now (eqb-true _ _ (sym c.is_empty.ensures ∙ c.loop-rest-test.false)) in
+    let empty : c.loop-rest.rest.now ≡ [] =
+    nil_from_length c.loop-rest.rest.now (eqb-true _ _ (sym c.is_empty.ensures ∙ c.loop-rest-test.false)) in
     subst (Appends _ _) (sym (split ∙ ap (λ l. done ++ l) empty ∙ append-nil done)) appended

@@ -7,7 +7,8 @@ pub returns-in-Some-clause-heard : goal.returns-in-Some-clause-heard
 returns-in-Some-clause-heard g c =
     let i = c.loop-byte.byte-index in
     heard_rest _ _ (pending_of c.args.talk.now) _ c.args.bytes.now (i + 1) c.in-Some.why _ _ _ _ _ _
-    (heard_byte _ _ _ (pending_of c.args.talk.now) _ _ c.args.bytes.now i (Some c.in-Some.why) _ _ _ _ _ _ _ _ _ c.loop-byte-test.true
+    (heard_byte _ _ _ (pending_of c.args.talk.now) _ _ c.args.bytes.now i (Some c.in-Some.why) _ _ _ _ _ _ _ _ _
+    c.loop-byte-test.true
     c.loop-byte.invariant.heard c.in-Some.ensures.heard)
 
 pub loop-byte-preserved : goal.loop-byte-preserved

@@ -4,7 +4,8 @@ use Rattle.lset_session.proofs.sessions.bytes_in.Given as goal
 
 abbrev pub invariant-loop-byte : goal.invariant-loop-byte
 invariant-loop-byte g l = record {
-  heard : Hears (take l.byte-index l.bytes) None l.initial.talk l.talk (g.S.SetCalls.record_of l.initial.seat) (g.S.SetCalls.record_of l.seat)
+  heard : Hears (take l.byte-index l.bytes) None l.initial.talk l.talk (g.S.SetCalls.record_of l.initial.seat)
+      (g.S.SetCalls.record_of l.seat)
       (g.W.Sink.written l.initial.writer) (g.W.Sink.written l.writer);
   talk : IsTalk l.talk;
   nearer : Nearer l.initial.talk l.talk l.byte-index;

@@ -21,7 +21,8 @@ returns-in-Quit-clause-heard g c =
     let (e, is, recorded, wrote) = c.if-not-answer.ensures.said in
     let short : length (pending_of t) ≤ LONGEST_LINE = omega (arith, length-take t.len t.line, c.requires.talk.short) in
     let count = ap (λ n. t.calls + n) (c.count_of.ensures.count ∙ ap counted h) in
-    heard_quit _ _ (pending_of t) _ _ _ _ _ _ _ e c.requires.talk.line short (is ∙ ap line h) recorded count (sym h ∙ c.in-Quit.is) wrote
+    heard_quit _ _ (pending_of t) _ _ _ _ _ _ _ e c.requires.talk.line short (is ∙ ap line h) recorded count (sym h
+    ∙ c.in-Quit.is) wrote
 
 pub returns-then-talk-eq0-clause-heard : goal.returns-then-talk-eq0-clause-heard
 returns-then-talk-eq0-clause-heard g c =

@@ -1,4 +1,5 @@
-use Rattle.std.proofs.Common.{◌≡◌, ◌++◌, ◌<◌, ◌≤◌, None, Some, take, length, refl, ◌∙◌, arith, rules, inl, inr, length-take, [], ap, subst, append-nil}
+use Rattle.std.proofs.Common.{◌≡◌, ◌++◌, ◌<◌, ◌≤◌, None, Some, take, length, refl, ◌∙◌, arith, rules, inl, inr, length-take, []}
+use Rattle.std.proofs.Common.{ap, subst, append-nil}
 use Rattle.lset_session.specs.declared.TheConstants.{LONGEST_LINE}
 use Rattle.std.specs.Io.KnownBytes.{Consumes}
 use Rattle.std.proofs.KnownBytes.{Consumes-trans, Consumes-kept}
@@ -25,7 +26,8 @@ returns-then-count-eq0-clause-session g c =
     let room : 0 < length c.read.new.buffer = search rules in
     let none : take c.in-Some.count c.read.new.buffer ≡ [] = rw c.if-count-eq0.true refl in
     let all = Consumes-trans _ _ _ bytes _ read c.in-Some.ensures.bytes.0 in
-    spoken_rest End bytes _ (pending_of t) _ _ _ _ _ _ _ is.line short (inl refl) (λ _. c.in-Some.ensures.bytes.1 c.if-count-eq0.true room)
+    spoken_rest End bytes _ (pending_of t) _ _ _ _ _ _ _ is.line short (inl refl)
+    (λ _. c.in-Some.ensures.bytes.1 c.if-count-eq0.true room)
     (subst (Consumes _ _) (ap (λ b. bytes ++ b) none ∙ append-nil bytes) all) heard
 
 pub returns-in-Some-bytes_in-clause-session : goal.returns-in-Some-bytes_in-clause-session
@@ -35,7 +37,8 @@ returns-in-Some-bytes_in-clause-session g c =
     let end = c.in-Some-bytes_in.why in
     let more = take c.in-Some.count c.read.new.buffer in
     spoken_last end (bytes ++ more) _ _ _ _ _ _ _ _ _ all
-    (heard_then _ _ _ bytes (pending_of c.loop-count.talk) _ more (Some end) _ _ _ _ _ _ _ _ _ heard c.in-Some-bytes_in.ensures.heard)
+    (heard_then _ _ _ bytes (pending_of c.loop-count.talk) _ more (Some end) _ _ _ _ _ _ _ _ _ heard
+    c.in-Some-bytes_in.ensures.heard)
 
 pub loop-count-preserved : goal.loop-count-preserved
 loop-count-preserved g c =
@@ -45,7 +48,12 @@ loop-count-preserved g c =
     let more = take c.in-Some.count c.read.new.buffer in
     let end = c.in_default-bytes_in.ensures in
     record {
-      heard = (bytes ++ more, all, heard_then _ _ _ bytes (pending_of c.loop-count.talk) _ more None _ _ _ _ _ _ _ _ _ heard end.heard);
+      heard = (
+        bytes ++ more,
+        all,
+        heard_then _ _ _ bytes (pending_of c.loop-count.talk) _ more None _ _ _ _ _ _ _ _ _ heard
+            end.heard,
+      );
       talk = (end.on refl).0;
       reads = c.in-Some.ensures.failed;
       writes = end.failed;

@@ -7,7 +7,8 @@ use Rattle.lset_session.proofs.sessions.session.Given as goal
 abbrev pub invariant-loop-count : goal.invariant-loop-count
 invariant-loop-count g l = record {
   heard : (bytes : List ℕ) × Consumes (g.I.Source.remaining l.initial.reader) (g.I.Source.remaining l.reader) bytes
-      × Heard MOST_LINES bytes None l.talk.left (pending_of l.talk) (g.S.SetCalls.record_of l.initial.seat) (g.S.SetCalls.record_of l.seat)
+      × Heard MOST_LINES bytes None l.talk.left (pending_of l.talk) (g.S.SetCalls.record_of l.initial.seat)
+      (g.S.SetCalls.record_of l.seat)
       (g.O.Sink.written l.initial.writer) (g.O.Sink.written l.writer) 0 l.talk.calls;
   talk : IsTalk l.talk;
   reads : g.I.Source.has_failed l.reader ≡ false;

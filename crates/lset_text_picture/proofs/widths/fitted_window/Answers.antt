@@ -13,8 +13,10 @@ returns-then-count-columns c =
     let w = c.args.window in
     let d = c.in_ok-drawing.drawing in
     let same = c.in_ok-drawing.ensures.drawing in
-    let long : length d.columns.items ≡ vec_len d.columns = ap length (sym c.as_slice-columns.ensures.value) ∙ c.as_slice-columns.ensures.len in
-    fitted_whole c.args.width p w c.in_ok-count.count (c.if-count-columns.true ∙ c.as_slice-columns.ensures.len ∙ as_many p w d long same)
+    let long : length d.columns.items ≡ vec_len d.columns = ap length (sym c.as_slice-columns.ensures.value)
+    ∙ c.as_slice-columns.ensures.len in
+    fitted_whole c.args.width p w c.in_ok-count.count (c.if-count-columns.true ∙ c.as_slice-columns.ensures.len
+    ∙ as_many p w d long same)
     (most_of c.args.width p w d c.in_ok-count.count long same c.in_ok-count.ensures)
 
 pub returns : goal.returns
@@ -24,7 +26,8 @@ returns c =
     let d = c.in_ok-drawing.drawing in
     let count = c.in_ok-count.count in
     let same = c.in_ok-drawing.ensures.drawing in
-    let long : length d.columns.items ≡ vec_len d.columns = ap length (sym c.as_slice-columns.ensures.value) ∙ c.as_slice-columns.ensures.len in
+    let long : length d.columns.items ≡ vec_len d.columns = ap length (sym c.as_slice-columns.ensures.value)
+    ∙ c.as_slice-columns.ensures.len in
     let last : c.last_moment.result ≡ shown_to (take count (moments_of p w)) w.to =
     c.last_moment.ensures
     ∙ ap (λ cs. shown_to (map column_moment (map column_view (take count cs))) w.to) c.as_slice-columns.ensures.value

@@ -15,6 +15,7 @@ returns c =
     let d = drawing_view c.args.drawing.now in
     let long : List ColumnValue → Bool = λ columns. has_longer c.args.width (rows_at p columns d.from d.known) in
     let front : map column_view (take c.args.count c.deref.result.now) ≡ take c.args.count d.columns =
-    sym (take-map column_view c.args.count c.deref.result.now) ∙ ap (λ cs. take c.args.count (map column_view cs)) c.deref.ensures.value in
+    sym (take-map column_view c.args.count c.deref.result.now)
+    ∙ ap (λ cs. take c.args.count (map column_view cs)) c.deref.ensures.value in
     let some : nat_le c.args.count 1 ≡ false = grind (arith, nat_tests) in
     ap not (c.in_ok-longer.ensures ∙ ap long front) ∙ ap (λ (b : Bool). b || not (long (take c.args.count d.columns))) (sym some)

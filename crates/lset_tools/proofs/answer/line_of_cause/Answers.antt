@@ -2,9 +2,11 @@ use Rattle.std.proofs.Common.{◌≡◌, ℕ, List, ◌++◌, ◌∙◌, ap, sym
 use Rattle.std.specs.Fmt.{decimal}
 use Rattle.lset_tools.proofs.answer.line_of_cause.Goals as goal
 
-regrouped : (front digits colon name end : List ℕ) → front ++ (digits ++ (colon ++ (name ++ end))) ≡ front ++ digits ++ colon ++ name ++ end
+regrouped : (front digits colon name end : List ℕ) → front ++ (digits ++ (colon ++ (name ++ end))) ≡ front ++ digits ++ colon
+    ++ name ++ end
 regrouped front digits colon name end =
-    sym (append_assoc ((front ++ digits) ++ colon) name end ∙ append_assoc (front ++ digits) colon (name ++ end) ∙ append_assoc front digits (colon ++ (name ++ end)))
+    sym (append_assoc ((front ++ digits) ++ colon) name end ∙ append_assoc (front ++ digits) colon (name ++ end)
+    ∙ append_assoc front digits (colon ++ (name ++ end)))
 
 pub returns : goal.returns
 returns c =

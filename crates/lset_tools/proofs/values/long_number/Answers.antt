@@ -1,8 +1,10 @@
-use Rattle.std.proofs.Common.{◌≡◌, ℕ, ◌<◌, ◌≤◌, ◌^◌, ◌&&◌, leb, true, List, length, get_or, None, Result, Ok, Err, refl, sym, subst, arith, inl, inr}
+use Rattle.std.proofs.Common.{◌≡◌, ℕ, ◌<◌, ◌≤◌, ◌^◌, ◌&&◌, leb, true, List, length, get_or, None, Result, Ok, Err, refl, sym}
+use Rattle.std.proofs.Common.{subst, arith, inl, inr}
 use Rattle.std.specs.Result.{OkIff, result_ok}
 use Rattle.std.specs.Str.{all_ascii_digits}
 use Rattle.std.specs.Str.Parse.{digits_value}
-use Rattle.std.proofs.lemmas.Bool.{and_left, and_parts, both_ways, eqb-false, eqb-true, false_from_ne_true, leb-true, ltb-true, not-true}
+use Rattle.std.proofs.lemmas.Bool.{and_left, and_parts, both_ways, eqb-false, eqb-true, false_from_ne_true, leb-true, ltb-true}
+use Rattle.std.proofs.lemmas.Bool.{not-true}
 use Rattle.std.proofs.lemmas.Bool.{or_cases}
 use Rattle.std.proofs.lemmas.Str.Parse.{IsNumeralModel, numerals_by_value, tells_all_ascii_digits, digit_at, parse_plain}
 use Rattle.lset_text.specs.Numbers.{number_in, is_number, is_between}
@@ -41,14 +43,17 @@ is_plain : (p : List ℕ) → IsSpelling p → IsPlain p
 is_plain p is = (is.some, λ plus. omega (arith, plus, digit_at p 0 (own.to p is.digits) is.some), is.first)
 
 small_of : (n : ℕ) → is_between 0 MOST_SEED n ≡ true → n < 2 ^ 64
-small_of n within = let high : n ≤ MOST_SEED = leb-true _ _ (and_parts (leb 0 n) (leb n MOST_SEED) within).1 in omega (arith, high)
+small_of n within =
+    let high : n ≤ MOST_SEED = leb-true _ _ (and_parts (leb 0 n) (leb n MOST_SEED) within).1 in
+    omega (arith, high)
 
 parsed : {E : Type 0} (p : List ℕ) (r : Result ℕ E)
     → OkIff r ((all_ascii_digits p ≡ true) × (0 < length p) × (digits_value 10 p < 2 ^ 64)) (digits_value 10 p)
     → IsPlain p → result_ok r ≡ number_in 0 MOST_SEED p
 unfolding number_in
 parsed p (Ok n) h plain =
-    is_spelled 0 MOST_SEED p n h.1 plain.0 (own.to p h.0.0) (λ many zero. many (plain.2 zero)) (omega arith) (omega (arith, h.1, h.0.2))
+    is_spelled 0 MOST_SEED p n h.1 plain.0 (own.to p h.0.0) (λ many zero. many (plain.2 zero)) (omega arith)
+    (omega (arith, h.1, h.0.2))
 parsed p (Err e) h plain =
     rw (false_from_ne_true (is_number p && is_between 0 MOST_SEED (digits_value 10 p)) (λ is.
     let both = and_parts (is_number p) (is_between 0 MOST_SEED (digits_value 10 p)) is in

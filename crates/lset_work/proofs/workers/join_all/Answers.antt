@@ -8,7 +8,8 @@ use Rattle.lset_work.proofs.workers.join_all.Goals as goal
 
 pub loop-worker-init : goal.loop-worker-init
 loop-worker-init g c =
-    let e : into_iter_items c.into_iter-worker-iterator.result ≡ c.args.workers.items = c.into_iter-worker-iterator.ensures.into_iter_gives.0 in
+    let e : into_iter_items c.into_iter-worker-iterator.result ≡ c.args.workers.items =
+    c.into_iter-worker-iterator.ensures.into_iter_gives.0 in
     record {
       so_far = none_yet _ _ _ _ _ _ _ e c.requires.room.0;
       started = rw e c.requires.set;
@@ -23,9 +24,11 @@ loop-worker-preserved g c =
     let w = c.in-Some.worker in
     let back = c.join-done.ensures in
     let told = c.gather_onto.ensures in
-    let made : IsMadeOn w.promise.seat.value.past w.promise.program.value.items c.in_ok-done.field-0.items c.join-done.result.seat.past = search rules in
+    let made : IsMadeOn w.promise.seat.value.past w.promise.program.value.items c.in_ok-done.field-0.items
+    c.join-done.result.seat.past = search rules in
     record {
-      so_far = one_more c.args.set.now _ _ _ _ _ _ w c.loop-worker.seat c.loop-worker.replies.items _ c.in_ok-done.field-0 c.join-done.result.seat
+      so_far = one_more c.args.set.now _ _ _ _ _ _ w c.loop-worker.seat c.loop-worker.replies.items _ c.in_ok-done.field-0
+          c.join-done.result.seat
           c.gather_onto.result step c.in-Ok.ensures.items inv.so_far made back.1 told.record told.held told.seat;
       started = (all_rest _ _ w (λ x. x.promise.set.value ≡ c.args.set.now) step inv.started).1;
       gated = (all_rest _ _ w (λ x. x.promise.gate.value ≡ c.args.gate.now) step inv.gated).1;

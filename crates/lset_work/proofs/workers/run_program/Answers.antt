@@ -11,9 +11,15 @@ loop-number-preserved g c =
     record {
       set = told.of_set;
       held = told.held ∙ inv.held;
-      each = omega (arith, inv.each, ap (λ l. length l) c.in-Ok.ensures.items, length-append c.loop-number.replies.items (c.call-reply.result ∷ []));
+      each = omega (
+        arith,
+        inv.each,
+        ap (λ l. length l) c.in-Ok.ensures.items,
+        length-append c.loop-number.replies.items (c.call-reply.result ∷ []),
+      );
       items = inv.items;
       room = grind (arith, common_steps);
-      made = call_at _ _ _ items c.loop-number.replies.items _ c.loop-number.number _ c.call-reply.result c.loop-number-test.true inv.each
+      made = call_at _ _ _ items c.loop-number.replies.items _ c.loop-number.number _ c.call-reply.result c.loop-number-test.true
+          inv.each
           c.in-Ok.ensures.items inv.made told.past;
     }

@@ -5,7 +5,8 @@ use Rattle.lset_work.proofs.workers.start_all.Given as goal
 abbrev pub invariant-loop-seat : goal.invariant-loop-seat
 invariant-loop-seat g l = record {
   seats : map (λ w. w.promise.seat.value) l.workers.items ++ into_iter_items l.seat-iterator ≡ l.fn.seats.items;
-  programs : map (λ w. w.promise.program.value.items) l.workers.items ++ map (λ p. p.calls.items) (into_iter_items l.programs) ≡ map (λ p. p.calls.items) l.fn.programs.items;
+  programs : map (λ w. w.promise.program.value.items) l.workers.items ++ map (λ p. p.calls.items) (into_iter_items l.programs) ≡
+      map (λ p. p.calls.items) l.fn.programs.items;
   same : length (into_iter_items l.programs) ≡ length (into_iter_items l.seat-iterator);
   of : All (λ s. s.set ≡ l.set) (into_iter_items l.seat-iterator);
   started : All (λ w. w.promise.set.value ≡ l.set) l.workers.items;

@@ -24,13 +24,18 @@ pub returns-in-Ok-keys-clause-outcome : goal.returns-in-Ok-keys-clause-outcome
 returns-in-Ok-keys-clause-outcome g c =
     let starts = map (λ s. s.past) c.args.seats.items in
     let replies = map (λ v. v.items) c.in-Ok.gathered.replies.items in
-    let programs = starts_map (λ p. p.calls) (λ v. v.items) c.in-Some.room.programs.items c.args.programs.items c.in-Some.ensures in
-    let told = sym (ap (option_map (λ s. s.past)) c.in-Some-seat.is) ∙ c.in-Ok.ensures.gathers ∙ ap (λ ps. gather_onto None (worked starts ps replies)) programs in
-    gathered_explains c.args.set.shape c.in-Some-seat.seat.past (worked starts (map (λ p. p.items) c.args.programs.items) replies) c.in-Ok-keys.keys.items told
+    let programs = starts_map (λ p. p.calls) (λ v. v.items) c.in-Some.room.programs.items c.args.programs.items c.in-Some.ensures
+    in
+    let told = sym (ap (option_map (λ s. s.past)) c.in-Some-seat.is) ∙ c.in-Ok.ensures.gathers
+    ∙ ap (λ ps. gather_onto None (worked starts ps replies)) programs in
+    gathered_explains c.args.set.shape c.in-Some-seat.seat.past (worked starts (map (λ p. p.items) c.args.programs.items) replies)
+    c.in-Ok-keys.keys.items told
     (c.in-Ok-close.ensures.closed _ c.in-Ok-keys.ensures)
 
 pub returns-in-Ok-keys-clause-replies : goal.returns-in-Ok-keys-clause-replies
 returns-in-Ok-keys-clause-replies g c =
-    let programs = starts_map (λ p. p.calls) (λ v. v.items) c.in-Some.room.programs.items c.args.programs.items c.in-Some.ensures in
-    starts_map (λ v. v.items) (λ l. length l) c.in-Ok.gathered.replies.items _ refl ∙ c.in-Ok.ensures.counted ∙ ap (map (λ l. length l)) programs
+    let programs = starts_map (λ p. p.calls) (λ v. v.items) c.in-Some.room.programs.items c.args.programs.items c.in-Some.ensures
+    in
+    starts_map (λ v. v.items) (λ l. length l) c.in-Ok.gathered.replies.items _ refl ∙ c.in-Ok.ensures.counted
+    ∙ ap (map (λ l. length l)) programs
     ∙ sym (starts_map (λ v. v.items) (λ l. length l) c.args.programs.items _ refl)

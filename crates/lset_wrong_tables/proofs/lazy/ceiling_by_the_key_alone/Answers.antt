@@ -8,7 +8,8 @@ use Rattle.lset_wrong_tables.proofs.Refuted.{by_reply}
 use Rattle.lset_wrong_tables.proofs.lazy.ceiling_by_the_key_alone.Goals as goal
 
 unfit : ReplyNeverFits ceiling_by_key sought_after_the_mark 23 1 (ceiling 3) (At (record { 0 = 5 }))
-unfit = reply_fits_never ceiling_by_key sought_after_the_mark 23 1 21 3 (ceiling 3) (At (record { 0 = 5 })) refl refl refl refl refl refl refl refl
+unfit = reply_fits_never ceiling_by_key sought_after_the_mark 23 1 21 3 (ceiling 3) (At (record { 0 = 5 })) refl refl refl refl
+    refl refl refl refl
 
 pub returns-clause-answers : goal.returns-clause-answers
 returns-clause-answers c = unfit

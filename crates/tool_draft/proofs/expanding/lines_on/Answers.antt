@@ -17,7 +17,8 @@ pub returns-in-Err : goal.returns-in-Err
 returns-in-Err g c =
     let same = line_is c.deref-line-items.result.now c.args.draft.now.lines.items c.loop-index.index no_line
     c.deref-line-items.ensures.value c.loop-index-test.true in
-    fault_is g.M.Machine.table (view c.args.draft.now) c.loop-index.index c.loop-index.left c.loop-index.lines.items c.loop-index.world
+    fault_is g.M.Machine.table (view c.args.draft.now) c.loop-index.index c.loop-index.left c.loop-index.lines.items
+    c.loop-index.world
     c.loop-index.invariant (c.first_event_line-first.result + c.loop-index.index) c.in-Err.cause
     (subst (λ ls. c.loop-index.index < length ls) c.deref-line-items.ensures.value c.loop-index-test.true)
     (ap (λ n. n + c.loop-index.index) c.first_event_line-first.ensures)
@@ -29,7 +30,9 @@ loop-index-preserved g c =
     c.deref-line-items.ensures.value c.loop-index-test.true in
     let pushed : c.push.new.self.items ≡ c.loop-index.lines.items ++ c.in-Ok.made ∷ [] = grind (arith, common_steps) in
     rw (pushed, c.event_count-left.ensures)
-    (made_more g.M.Machine.table (view c.args.draft.now) c.loop-index.index c.loop-index.left c.loop-index.lines.items c.loop-index.world
+    (made_more g.M.Machine.table (view c.args.draft.now) c.loop-index.index c.loop-index.left c.loop-index.lines.items
+    c.loop-index.world
     c.loop-index.invariant c.in-Ok.made c.make_line.new.world
     (subst (λ ls. c.loop-index.index < length ls) c.deref-line-items.ensures.value c.loop-index-test.true)
-    (subst (λ l. IsMade g.M.Machine.table c.loop-index.world c.loop-index.left l c.in-Ok.made c.make_line.new.world) same c.in-Ok.ensures))
+    (subst (λ l. IsMade g.M.Machine.table c.loop-index.world c.loop-index.left l c.in-Ok.made c.make_line.new.world) same
+    c.in-Ok.ensures))

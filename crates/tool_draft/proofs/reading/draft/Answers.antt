@@ -10,7 +10,8 @@ returns-in_err-lines c = record {
   exact = gives_err view c.in_err-lines.field-0.0 c.from_residual-in_err-lines.result (reading c.args.bytes.now)
       c.from_residual-in_err-lines.ensures.1
       (λ other. lines_err c.as_bytes.result.now (cut_at 10 c.args.bytes.now) (cut_at 10 c.in_ok-header.rest.now)
-      (cut_at 10 c.in_ok-opening.rest.now) c.in_ok-header.header c.in_ok-opening.opening.items c.len.result c.in_err-lines.field-0.0
+      (cut_at 10 c.in_ok-opening.rest.now) c.in_ok-header.header c.in_ok-opening.opening.items c.len.result
+      c.in_err-lines.field-0.0
       c.as_bytes.ensures.value c.in_ok-header.ensures.exact c.in_ok-opening.ensures.exact
       (c.len.ensures ∙ c.in_ok-opening.opening.ok.0) (c.in_err-lines.ensures.exact other));
 }

@@ -34,4 +34,7 @@ loop-rest-preserved c =
 pub returns : goal.returns
 returns c =
     let none = eqb-true _ _ (sym c.is_empty.ensures ∙ c.loop-rest-test.false) in
-    record { exact = is_done c.loop-rest.lines.items c.loop-rest.line c.loop-rest.total c.loop-rest.rest.now _ none c.loop-rest.invariant.so_far }
+    record {
+      exact = is_done c.loop-rest.lines.items c.loop-rest.line c.loop-rest.total c.loop-rest.rest.now _ none
+          c.loop-rest.invariant.so_far;
+    }

@@ -1,4 +1,5 @@
-use Rattle.std.proofs.Common.{◌≡◌, ◌≤◌, ◌<◌, ◌^◌, ℕ, List, sym, ap, map, length, string_bytes, lit<, arith, Option, Some, None, IfSome}
+use Rattle.std.proofs.Common.{◌≡◌, ◌≤◌, ◌<◌, ◌^◌, ℕ, List, sym, ap, map, length, string_bytes, lit<, arith, Option, Some, None}
+use Rattle.std.proofs.Common.{IfSome}
 use Rattle.std.proofs.lemmas.Bool.{ltb-false}
 use Rattle.std.proofs.lemmas.List.{length-map}
 use Rattle.std.proofs.lemmas.Option.{slice_get_past}
@@ -7,7 +8,8 @@ use Rattle.lset_text.proofs.NumberLaws.{number_ok}
 use Rattle.tool_run.specs.Asked.{lives_of}
 use Rattle.tool_run.proofs.request.lives_in.Goals as goal
 
-most_of : (high : ℕ) (piece : List ℕ) (found : Option ℕ) → high < 2 ^ 64 → found ≡ number_in 1 high piece → IfSome found (λ n. n ≤ high)
+most_of : (high : ℕ) (piece : List ℕ) (found : Option ℕ) → high < 2 ^ 64 → found ≡ number_in 1 high piece →
+    IfSome found (λ n. n ≤ high)
 most_of high piece None wide is = tt
 most_of high piece (Some n) wide is = (number_ok 1 high piece n wide (sym is)).2
 

@@ -15,12 +15,14 @@ returns-in_ok-text-in-Ok-serve-clause-made g c = (
 pub returns-in_err-text-in-Ok-serve-clause-first : goal.returns-in_err-text-in-Ok-serve-clause-first
 returns-in_err-text-in-Ok-serve-clause-first g c =
     after_memory c.port.result (g.W.Write.contents c.args.output.now) (g.W.Write.contents c.announce.new.output)
-    c.from_residual-in_err-text-in-Ok-serve.result c.from_residual-in_err-text-in-Ok-serve.ensures.1 c.in_ok-announce.ensures.whole
+    c.from_residual-in_err-text-in-Ok-serve.result c.from_residual-in_err-text-in-Ok-serve.ensures.1
+    c.in_ok-announce.ensures.whole
 
 pub returns-in-Err-serve-clause-first : goal.returns-in-Err-serve-clause-first
 returns-in-Err-serve-clause-first g c = (
   c.port.result,
-  subst (λ t. EndsServer t (first_line c.port.result) (g.W.Write.contents c.args.output.now) (g.W.Write.contents c.announce.new.output))
+  subst (λ t. EndsServer t (first_line c.port.result) (g.W.Write.contents c.args.output.now)
+      (g.W.Write.contents c.announce.new.output))
       (sym c.trouble_of.ensures)
       (ends_after c.in-Err-serve.fault.cause (first_line c.port.result) _ _ c.in_ok-announce.ensures.whole),
 )

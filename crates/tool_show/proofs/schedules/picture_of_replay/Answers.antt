@@ -6,5 +6,6 @@ use Rattle.tool_show.proofs.schedules.picture_of_replay.Goals as goal
 pub returns : goal.returns
 returns c =
     let front = c.in_ok-placed.field-0 in
-    schedule_picture (plan.view c.args.schedule.now) (view front.placed.report) front.placed.points.items front.events front.refused
+    schedule_picture (plan.view c.args.schedule.now) (view front.placed.report) front.placed.points.items front.events
+    front.refused
     c.in_ok-placed.ensures.front c.in_ok-placed.ensures.explained c.bars_are_apart.ensures

@@ -34,6 +34,7 @@ returns c =
           ∙ ap (λ xs. xs ++ text_of (opening_lines c.deref.result.now)) (c.in_ok-put_header.ensures
           ∙ ap (λ xs. xs ++ text_of (header_lines title header)) c.new-text.ensures.bytes)
           ∙ ap (λ keys. text_of (header_lines title header) ++ text_of (opening_lines keys)) c.deref.ensures.value))
-          ∙ text_parts (header_lines title header) (opening_lines schedule.opening.items) (event_lines 1 told.traced) (last_line c.in_ok-lines.refused);
+          ∙ text_parts (header_lines title header) (opening_lines schedule.opening.items) (event_lines 1 told.traced)
+          (last_line c.in_ok-lines.refused);
       ends = refl;
     }

@@ -7,9 +7,11 @@ pub loop-next-preserved : goal.loop-next-preserved
 loop-next-preserved c = record {
   from = after_is_from (moments_of c.args.self.now) c.args.key c.in-Some.reached c.present_after-next.result
       (subst (IsFrom c.args.key) c.in-Some.is c.loop-next.invariant.from) c.present_after-next.ensures;
-  came = one_more_came (moments_of c.args.self.now) c.args.key c.in-Some.reached c.args.end c.present_after-next.result c.args.moment
+  came = one_more_came (moments_of c.args.self.now) c.args.key c.in-Some.reached c.args.end c.present_after-next.result
+      c.args.moment
       c.present_after-next.ensures (sym c.was_present.ensures ∙ c.if-was_present.false)
-      (subst (λ o. CameUpTo (moments_of c.args.self.now) c.args.key o c.args.end c.args.moment) c.in-Some.is c.loop-next.invariant.came);
+      (subst (λ o. CameUpTo (moments_of c.args.self.now) c.args.key o c.args.end c.args.moment) c.in-Some.is
+      c.loop-next.invariant.came);
 }
 
 pub returns-then-was_present-clause-there : goal.returns-then-was_present-clause-there

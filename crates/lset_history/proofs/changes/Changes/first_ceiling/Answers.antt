@@ -2,7 +2,10 @@ use Rattle.std.proofs.Common.{◌≡◌, ◌≤◌, ℕ, Bool, true, false, Some
 use Rattle.lset_history.specs.Changes.{moments_of}
 use Rattle.lset_history.proofs.Raises.{past_the_end, some_there, none_is_least, it_is_least, it_is_absent, it_is_too_low}
 use Rattle.lset_history.proofs.changes.Changes.first_ceiling.Goals as goal
-use Rattle.lset_history.proofs.changes.Changes.first_ceiling.Goals.{in-Some, in-Some-2, in-None, else-moment-to-via-then-moment-to+then-is_there+else-came_after, else-moment-to-via-then-moment-to+else-is_there, else-moment-to-via-else-moment-to}
+use Rattle.lset_history.proofs.changes.Changes.first_ceiling.Goals.{in-Some, in-Some-2, in-None}
+use Rattle.lset_history.proofs.changes.Changes.first_ceiling.Goals.{else-moment-to-via-then-moment-to+then-is_there+else-came_after}
+use Rattle.lset_history.proofs.changes.Changes.first_ceiling.Goals.{else-moment-to-via-then-moment-to+else-is_there}
+use Rattle.lset_history.proofs.changes.Changes.first_ceiling.Goals.{else-moment-to-via-else-moment-to}
 
 no_two : {A : Type 0} (b : Bool) → b ≡ false → b ≡ true → A
 no_two true e f = absurd (cc)
@@ -16,7 +19,8 @@ returns-then-came_after-clause-first c = elim c.match-found.branch [
   | in-Some w ↦ no_two c.match-found.is_there w.is_there-is c.if-is_there.true
   | in-Some-2 w ↦ it_is_least (moments_of c.args.self.now) c.args.key c.args.found c.args.from c.candidate-moment.result
       c.candidate-moment.ensures c.args.to w.in-Some-2.found w.in-Some-2.is
-      (subst (λ x. c.args.key ≤ x) (some_is w.in-Some.found w.in-Some-2.found (sym w.in-Some.is ∙ w.in-Some-2.is)) w.if-found-key.false)
+      (subst (λ x. c.args.key ≤ x) (some_is w.in-Some.found w.in-Some-2.found (sym w.in-Some.is ∙ w.in-Some-2.is))
+      w.if-found-key.false)
       (sym w.was_present-is_there.ensures ∙ sym w.is_there-is ∙ c.if-is_there.true) c.if-moment-to.true
       (c.came_after.ensures.came c.if-came_after.true)
   | in-None w ↦ none_is_least (moments_of c.args.self.now) c.args.key c.args.found c.args.from c.candidate-moment.result
@@ -25,7 +29,8 @@ returns-then-came_after-clause-first c = elim c.match-found.branch [
 
 pub returns-else-moment-to-clause-first : goal.returns-else-moment-to-clause-first
 returns-else-moment-to-clause-first c = elim c.else-moment-to.branch [
-  | else-moment-to-via-then-moment-to+then-is_there+else-came_after v ↦ some_there (moments_of c.args.self.now) c.args.key c.args.found c.args.from
+  | else-moment-to-via-then-moment-to+then-is_there+else-came_after v ↦ some_there (moments_of c.args.self.now) c.args.key
+      c.args.found c.args.from
       c.candidate-moment.result c.candidate-moment.ensures c.args.to (v.came_after.ensures.there v.if-came_after.false)
   | else-moment-to-via-then-moment-to+else-is_there v ↦ elim c.match-found.branch [
     | in-Some w ↦ it_is_too_low (moments_of c.args.self.now) c.args.key c.args.found c.args.from c.candidate-moment.result
@@ -35,6 +40,7 @@ returns-else-moment-to-clause-first c = elim c.else-moment-to.branch [
         (sym w.was_present-is_there.ensures ∙ sym w.is_there-is ∙ v.if-is_there.false)
     | in-None w ↦ no_two c.match-found.is_there v.if-is_there.false w.is_there-is
   ]
-  | else-moment-to-via-else-moment-to v ↦ past_the_end (moments_of c.args.self.now) c.args.key c.args.found c.args.from c.candidate-moment.result
+  | else-moment-to-via-else-moment-to v ↦ past_the_end (moments_of c.args.self.now) c.args.key c.args.found c.args.from
+      c.candidate-moment.result
       c.candidate-moment.ensures c.args.to v.if-moment-to.false
 ]

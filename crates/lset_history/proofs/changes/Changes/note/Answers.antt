@@ -8,19 +8,22 @@ use Rattle.lset_history.proofs.changes.Changes.note.Goals as goal
 
 -- nothing was put in
 pub invariant_of-self : goal.invariant_of-self
-invariant_of-self c = kept_listed (changes_in c.self.inside.moments) c.self.inside.keys_at c.insert.new.self c.self.inside.keys_now
+invariant_of-self c = kept_listed (changes_in c.self.inside.moments) c.self.inside.keys_at c.insert.new.self
+    c.self.inside.keys_now
     c.in_err-insert.ensures.err c.self.invariant
 
 -- a moment alone
 pub invariant_of-self-in_err-insert-2 : goal.invariant_of-self-in_err-insert-2
-invariant_of-self-in_err-insert-2 c = kept_present (changes_in c.self.inside.moments) c.insert.new.self c.self.inside.keys_now c.insert-2.new.self
+invariant_of-self-in_err-insert-2 c = kept_present (changes_in c.self.inside.moments) c.insert.new.self c.self.inside.keys_now
+    c.insert-2.new.self
     (λ k has. subst (λ ks. list_any (is_at (nat_cmp k)) ks ≡ true) (sym c.in_err-insert-2.ensures.err) has)
     (kept_beside (changes_in c.self.inside.moments) c.args.key c.args.at (rw (← c.self.view_is) at c.requires.later)
     c.self.inside.keys_at c.insert.new.self c.self.inside.keys_now c.in_ok-insert.ensures.updates c.self.invariant)
 
 -- a moment and a key
 pub invariant_of-self-in_err-push_moment : goal.invariant_of-self-in_err-push_moment
-invariant_of-self-in_err-push_moment c = subst (λ d. AreKept d c.insert.new.self c.insert-2.new.self) (sym c.in_err-push_moment.ensures.unchanged)
+invariant_of-self-in_err-push_moment c = subst (λ d. AreKept d c.insert.new.self c.insert-2.new.self)
+    (sym c.in_err-push_moment.ensures.unchanged)
     (kept_present (changes_in c.self.inside.moments) c.insert.new.self c.self.inside.keys_now c.insert-2.new.self
     (has_after c.args.key c.self.inside.keys_now c.insert-2.new.self c.in_ok-insert-2.ensures.updates)
     (kept_beside (changes_in c.self.inside.moments) c.args.key c.args.at (rw (← c.self.view_is) at c.requires.later)
@@ -32,8 +35,10 @@ no_two false e f = absurd (cc)
 
 -- the change too
 pub invariant_of-self-then-not-present : goal.invariant_of-self-then-not-present
-invariant_of-self-then-not-present c = kept_noted (changes_in c.self.inside.moments) c.args.key c.args.at (rw (← c.self.view_is) at c.requires.later)
-    (changes_in c.push_moment.new.moments) c.in_ok-push_moment.ensures.noted c.insert.new.self c.args.present c.insert-2.new.self c.remove.new.self
+invariant_of-self-then-not-present c = kept_noted (changes_in c.self.inside.moments) c.args.key c.args.at
+    (rw (← c.self.view_is) at c.requires.later)
+    (changes_in c.push_moment.new.moments) c.in_ok-push_moment.ensures.noted c.insert.new.self c.args.present c.insert-2.new.self
+    c.remove.new.self
     c.ranges.key.fits
     (kept_present (changes_in c.self.inside.moments) c.insert.new.self c.self.inside.keys_now c.insert-2.new.self
     (has_after c.args.key c.self.inside.keys_now c.insert-2.new.self c.in_ok-insert-2.ensures.updates)
@@ -44,8 +49,10 @@ invariant_of-self-then-not-present c = kept_noted (changes_in c.self.inside.mome
     (no_two c.args.present c.if-not-present.true)
 
 pub invariant_of-self-else-not-present : goal.invariant_of-self-else-not-present
-invariant_of-self-else-not-present c = kept_noted (changes_in c.self.inside.moments) c.args.key c.args.at (rw (← c.self.view_is) at c.requires.later)
-    (changes_in c.push_moment.new.moments) c.in_ok-push_moment.ensures.noted c.insert.new.self c.args.present c.insert-2.new.self c.insert-2.new.self
+invariant_of-self-else-not-present c = kept_noted (changes_in c.self.inside.moments) c.args.key c.args.at
+    (rw (← c.self.view_is) at c.requires.later)
+    (changes_in c.push_moment.new.moments) c.in_ok-push_moment.ensures.noted c.insert.new.self c.args.present c.insert-2.new.self
+    c.insert-2.new.self
     c.ranges.key.fits
     (kept_present (changes_in c.self.inside.moments) c.insert.new.self c.self.inside.keys_now c.insert-2.new.self
     (has_after c.args.key c.self.inside.keys_now c.insert-2.new.self c.in_ok-insert-2.ensures.updates)

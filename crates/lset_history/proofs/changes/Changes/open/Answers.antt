@@ -8,12 +8,14 @@ use Rattle.lset_history.proofs.changes.Changes.open.Goals as goal
 
 -- nothing was put in
 pub invariant_of-self : goal.invariant_of-self
-invariant_of-self c = kept_present (changes_in c.self.inside.moments) c.self.inside.keys_at c.self.inside.keys_now c.insert.new.self
+invariant_of-self c = kept_present (changes_in c.self.inside.moments) c.self.inside.keys_at c.self.inside.keys_now
+    c.insert.new.self
     (λ k has. subst (λ ks. list_any (is_at (nat_cmp k)) ks ≡ true) (sym c.in_err-insert.ensures.err) has) c.self.invariant
 
 -- a key alone
 pub invariant_of-self-in_err-push_moment : goal.invariant_of-self-in_err-push_moment
-invariant_of-self-in_err-push_moment c = subst (λ d. AreKept d c.self.inside.keys_at c.insert.new.self) (sym c.in_err-push_moment.ensures.unchanged)
+invariant_of-self-in_err-push_moment c = subst (λ d. AreKept d c.self.inside.keys_at c.insert.new.self)
+    (sym c.in_err-push_moment.ensures.unchanged)
     (kept_present (changes_in c.self.inside.moments) c.self.inside.keys_at c.self.inside.keys_now c.insert.new.self
     (has_after c.args.key c.self.inside.keys_now c.insert.new.self c.in_ok-insert.ensures.updates) c.self.invariant)
 

@@ -17,4 +17,5 @@ loop-key-preserved c = opened_more c.args.keys.now c.loop-key.key-index c.requir
     (moments_of c.loop-key.changes) (moments_of c.open.new.self) c.loop-key.invariant c.in_ok-open.ensures.noted
 
 pub returns : goal.returns
-returns c k = c.loop-key.invariant k ∙ ap (λ ks. opened_moments ks k) (take_all c.loop-key.key-index c.args.keys.now (omega arith))
+returns c k = c.loop-key.invariant k
+    ∙ ap (λ ks. opened_moments ks k) (take_all c.loop-key.key-index c.args.keys.now (omega arith))

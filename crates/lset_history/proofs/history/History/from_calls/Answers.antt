@@ -11,11 +11,17 @@ use Rattle.lset_history.proofs.history.History.from_calls.Goals.{then-is_none, e
 
 pub loop-call_record-init : goal.loop-call_record-init
 loop-call_record-init c =
-    record { latest = refl; fits = omega arith; long = refl; open_ones = λ t low. get_or-replicate MOST_THREADS t false false low }
+    record {
+      latest = refl;
+      fits = omega arith;
+      long = refl;
+      open_ones = λ t low. get_or-replicate MOST_THREADS t false false low;
+    }
 
 pub bounds-busy-call_record : goal.bounds-busy-call_record
 bounds-busy-call_record c =
-    thread_within c.args.threads c.args.calls.items c.deref-call_record-items.result.now _ _ c.deref-call_record-items.ensures.value
+    thread_within c.args.threads c.args.calls.items c.deref-call_record-items.result.now _ _
+    c.deref-call_record-items.ensures.value
     c.requires.history c.requires.within.few c.loop-call_record-test.true
 
 -- what a read of a list of calls gives past its end
@@ -52,4 +58,9 @@ invariant_of-result c =
     let kept = c.loop-call_record.invariant in
     kept_of (record { threads = c.args.threads; quota = c.args.quota; keys = c.args.opening.items }) c.args.calls.items
     c.loop-call_record.busy c.loop-call_record.latest _
-    (record { within = c.requires.within; rising = c.requires.rising; low = subst (λ ks. All (λ k. k < 2 ^ 32) ks) c.deref.ensures.value c.keys_are_small.ensures }) c.requires.history kept.long all (rw (← e) kept.latest) (rw (← e) kept.open_ones) kept.fits
+    (record {
+      within = c.requires.within;
+      rising = c.requires.rising;
+      low = subst (λ ks. All (λ k. k < 2 ^ 32) ks) c.deref.ensures.value c.keys_are_small.ensures;
+    }) c.requires.history
+    kept.long all (rw (← e) kept.latest) (rw (← e) kept.open_ones) kept.fits

@@ -11,10 +11,16 @@ returns-clause-closed g c = λ keys has.
     let v = c.seat.inside.place.me.0 in
     let key = c.self.inside.table.shared.key in
     let shaped = c.self.inside.shaped in
-    let shape : v.shape ≡ key = ap (λ (s : SeatValue). s.set.shape) c.seat.view_is ∙ (ap (λ (z : SetValue). z.shape) c.requires ∙ sym (ap (λ (z : SetValue). z.shape) c.self.view_is)) in
-    let full : length v.others + 1 ≡ key.threads = sym c.seat.invariant.3 ∙ (c.if-seat-self.false ∙ sym (ap (λ (z : Sizes). z.threads) shaped)) in
+    let shape : v.shape ≡ key = ap (λ (s : SeatValue). s.set.shape) c.seat.view_is
+    ∙ (ap (λ (z : SetValue). z.shape) c.requires ∙ sym (ap (λ (z : SetValue). z.shape) c.self.view_is)) in
+    let full : length v.others + 1 ≡ key.threads = sym c.seat.invariant.3
+    ∙ (c.if-seat-self.false ∙ sym (ap (λ (z : Sizes). z.threads) shaped)) in
     let words = c.close_with-words.result.words.items in
-    subst (λ (z : Opening × SeatValue). Explains z.0 (z.1.past ∷ []) keys) (λ i. (ap (λ (s : SetValue). s.shape) c.self.view_is i, c.seat.view_is i))
-    (last_explains g.M.Machine.table g.met.M.Machine.lawful v c.seat.invariant.1 c.seat.invariant.0.0 c.seat.invariant.0.1 key shape full c.seat.inside.place.id words _
+    subst (λ (z : Opening × SeatValue). Explains z.0 (z.1.past ∷ []) keys) (λ i. (
+      ap (λ (s : SetValue). s.shape) c.self.view_is i,
+      c.seat.view_is i,
+    ))
+    (last_explains g.M.Machine.table g.met.M.Machine.lawful v c.seat.invariant.1 c.seat.invariant.0.0 c.seat.invariant.0.1 key
+    shape full c.seat.inside.place.id words _
     c.close_with-words.ensures.values.2 c.runs_are_linearizable.ensures keys
     (subst (λ (z : Sizes). HasKeys (record { sizes = z; words = words }) keys) (sym shaped) has))

@@ -11,5 +11,6 @@ returns g c =
     let s = c.seat.inside.place in
     let seen = c.contains_now_on-reply in
     has_answered T law linear (Contains c.args.key) s (reply_of c.is_true.result) seen.new.place seen.ensures.place
-    (as_bool T law linear c.args.key s.me.0 seen.result.1 seen.new.place.me.0 seen.ensures.made c.is_true.result c.is_true.ensures)
+    (as_bool T law linear c.args.key s.me.0 seen.result.1 seen.new.place.me.0 seen.ensures.made c.is_true.result
+    c.is_true.ensures)
     _ _ c.seat.view_is c.requires

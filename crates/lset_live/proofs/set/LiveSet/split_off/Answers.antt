@@ -15,6 +15,7 @@ split_seat-requires g c =
     let p = c.requires.place in
     let t = uncons v.others c.requires.fresh.1 in (
       p.0.0 ∙ sym (ap (λ (z : SetValue). z.table) c.self.view_is),
-      some_words (record { threads = c.self.inside.threads; quota = c.self.inside.quota; opening = c.self.inside.opening }) _ c.self.inside.sized.0,
+      some_words (record { threads = c.self.inside.threads; quota = c.self.inside.quota; opening = c.self.inside.opening }) _
+          c.self.inside.sized.0,
       splits g.M.Machine.table _ _ v t.0 t.1 p.1.0 p.1.1 c.requires.fresh.0 t.2,
     )

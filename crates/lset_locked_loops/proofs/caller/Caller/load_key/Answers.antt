@@ -5,4 +5,7 @@ use Rattle.lset_locked_loops.proofs.Calling.{few_words}
 use Rattle.lset_locked_loops.proofs.caller.Caller.load_key.Goals as goal
 
 pub key_index-requires : goal.key_index-requires
-key_index-requires g c = let few : key_index c.args.node.number < MOST_WORDS = few_words g.M.Machine.table g.O.Origin.begun g.met.M.Machine.lawful _ c.args.place.now c.requires in omega arith
+key_index-requires g c =
+    let few : key_index c.args.node.number < MOST_WORDS = few_words g.M.Machine.table g.O.Origin.begun g.met.M.Machine.lawful _
+    c.args.place.now c.requires in
+    omega arith

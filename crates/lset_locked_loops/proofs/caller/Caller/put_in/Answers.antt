@@ -7,17 +7,35 @@ use Rattle.lset_locked_loops.proofs.Calling.{few_held}
 use Rattle.lset_locked_loops.proofs.caller.Caller.put_in.Goals as goal
 
 pub invariant_of-node : goal.invariant_of-node
-invariant_of-node g c = let h = c.requires in let few : key_index (slot c.args.self.now.slots) < MOST_WORDS = few_held g.M.Machine.table g.O.Origin.begun g.met.M.Machine.lawful h.held _ c.args.place.now h.holds h.key in
+invariant_of-node g c =
+    let h = c.requires in
+    let few : key_index (slot c.args.self.now.slots) < MOST_WORDS =
+    few_held g.M.Machine.table g.O.Origin.begun g.met.M.Machine.lawful h.held _ c.args.place.now h.holds h.key in
     let is : c.slot_node.result ≡ slot c.args.self.now.slots = c.slot_node.ensures in record { small = omega arith }
 
 pub store_key-requires : goal.store_key-requires
 store_key-requires g c = let h = c.requires in
-    record { held = h.held; holds = h.holds; acts = ap (λ n. Store (key_index n) c.args.self.now.key) c.slot_node.ensures ∙ h.key; goes_on = h.key_on }
+    record {
+      held = h.held;
+      holds = h.holds;
+      acts = ap (λ n. Store (key_index n) c.args.self.now.key) c.slot_node.ensures ∙ h.key;
+      goes_on = h.key_on;
+    }
 
 pub store_link-requires : goal.store_link-requires
 store_link-requires g c = let h = c.requires in
-    record { held = _; holds = c.store_key.ensures h.held h.holds; acts = ap (λ n. Store (link_index n) (2 * c.args.found.curr.number)) c.slot_node.ensures ∙ h.link; goes_on = h.link_on }
+    record {
+      held = _;
+      holds = c.store_key.ensures h.held h.holds;
+      acts = ap (λ n. Store (link_index n) (2 * c.args.found.curr.number)) c.slot_node.ensures ∙ h.link;
+      goes_on = h.link_on;
+    }
 
 pub store_link-requires-2 : goal.store_link-requires-2
 store_link-requires-2 g c = let h = c.requires in
-    record { held = _; holds = c.store_link.ensures _ (c.store_key.ensures h.held h.holds); acts = ap (λ n. Store (link_index c.args.found.pred.number) (2 * n)) c.slot_node.ensures ∙ h.put; goes_on = h.put_on }
+    record {
+      held = _;
+      holds = c.store_link.ensures _ (c.store_key.ensures h.held h.holds);
+      acts = ap (λ n. Store (link_index c.args.found.pred.number) (2 * n)) c.slot_node.ensures ∙ h.put;
+      goes_on = h.put_on;
+    }

@@ -5,4 +5,7 @@ use Rattle.lset_locked_loops.proofs.Calling.{few_words}
 use Rattle.lset_locked_loops.proofs.caller.Caller.store_link.Goals as goal
 
 pub link_index-requires : goal.link_index-requires
-link_index-requires g c = let few : link_index c.args.node.number < MOST_WORDS = few_words g.M.Machine.table g.O.Origin.begun g.met.M.Machine.lawful _ c.args.place.now c.requires in omega arith
+link_index-requires g c =
+    let few : link_index c.args.node.number < MOST_WORDS = few_words g.M.Machine.table g.O.Origin.begun g.met.M.Machine.lawful _
+    c.args.place.now c.requires in
+    omega arith

@@ -5,4 +5,7 @@ use Rattle.lset_locked_loops.proofs.Calling.{few_words}
 use Rattle.lset_locked_loops.proofs.caller.Caller.unlock.Goals as goal
 
 pub lock_index-requires : goal.lock_index-requires
-lock_index-requires g c = let few : lock_index c.args.node.number < MOST_WORDS = few_words g.M.Machine.table g.O.Origin.begun g.met.M.Machine.lawful _ c.args.place.now c.requires in omega arith
+lock_index-requires g c =
+    let few : lock_index c.args.node.number < MOST_WORDS = few_words g.M.Machine.table g.O.Origin.begun g.met.M.Machine.lawful _
+    c.args.place.now c.requires in
+    omega arith

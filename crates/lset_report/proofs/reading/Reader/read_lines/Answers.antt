@@ -37,11 +37,13 @@ pub returns-in-Done-clause-told : goal.returns-in-Done-clause-told
 returns-in-Done-clause-told c =
     let none = eqb-true _ _ (sym c.is_empty.ensures ∙ c.loop-rest-test.false) in
     rw c.in-Done.is at
-    (at_end c.loop-rest.number c.loop-rest.self.section (so_far c.loop-rest.self) c.loop-rest.rest.now _ none c.loop-rest.invariant.so_far)
+    (at_end c.loop-rest.number c.loop-rest.self.section (so_far c.loop-rest.self) c.loop-rest.rest.now _ none
+    c.loop-rest.invariant.so_far)
 
 pub returns-in_default-section-clause-told : goal.returns-in_default-section-clause-told
 returns-in_default-section-clause-told c =
     let none = eqb-true _ _ (sym c.is_empty.ensures ∙ c.loop-rest-test.false) in
     inl (rw c.at-in_default-section.ensures
-    (at_end c.loop-rest.number c.loop-rest.self.section (so_far c.loop-rest.self) c.loop-rest.rest.now _ none c.loop-rest.invariant.so_far
+    (at_end c.loop-rest.number c.loop-rest.self.section (so_far c.loop-rest.self) c.loop-rest.rest.now _ none
+    c.loop-rest.invariant.so_far
     ∙ not_done c.loop-rest.number c.loop-rest.self.section (so_far c.loop-rest.self) c.in_default-section.not-Done))

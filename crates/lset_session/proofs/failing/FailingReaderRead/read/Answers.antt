@@ -1,8 +1,10 @@
-use Rattle.std.proofs.Common.{◌≡◌, ℕ, ◌-◌, ◌<◌, length, List, [], ◌∷◌, ◌++◌, take, drop, slice_set, slice_index_or, sym, ap, arith}
+use Rattle.std.proofs.Common.{◌≡◌, ℕ, ◌-◌, ◌<◌, length, List, [], ◌∷◌, ◌++◌, take, drop, slice_set, slice_index_or, sym, ap}
+use Rattle.std.proofs.Common.{arith}
 use Rattle.std.proofs.lemmas.List.{take_rest}
 use Rattle.lset_session.proofs.failing.FailingReaderRead.read.Goals as goal
 
-one_read : (t b : List ℕ) → 0 < length t → 0 < length b → t ≡ take 1 (slice_set b 0 (slice_index_or t 0 0)) ++ take (length t - 1) (drop 1 t)
+one_read : (t b : List ℕ) → 0 < length t → 0 < length b → t ≡ take 1 (slice_set b 0 (slice_index_or t 0 0))
+    ++ take (length t - 1) (drop 1 t)
 one_read [] b some room = absurd (omega arith)
 one_read (x ∷ xs) [] some room = absurd (omega arith)
 one_read (x ∷ xs) (y ∷ ys) some room = ap (λ l. x ∷ l) (sym (take_rest (x ∷ xs) 1))

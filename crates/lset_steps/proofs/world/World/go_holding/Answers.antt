@@ -6,7 +6,13 @@ pub invariant_of-self : goal.invariant_of-self
 invariant_of-self g c =
     let h = rw (← c.self.view_is) at c.requires.call in
     let l = rw (← c.self.view_is) at c.requires.held in
-    rw (c.feed-fed.ensures, c.access-seen.ensures.seen, c.access-seen.ensures.left, c.next-action.ensures, l) (is_run_after g.M.Machine.table _ (Go c.args.t) c.self.invariant h)
+    rw (
+      c.feed-fed.ensures,
+      c.access-seen.ensures.seen,
+      c.access-seen.ensures.left,
+      c.next-action.ensures,
+      l,
+    ) (is_run_after g.M.Machine.table _ (Go c.args.t) c.self.invariant h)
 
 pub access-seen-requires : goal.access-seen-requires
 access-seen-requires g c =

@@ -5,4 +5,5 @@ pub sight-seen-requires : goal.sight-seen-requires
 sight-seen-requires g c =
     let h = rw (← c.self.view_is) at c.requires in
     let l = rw (← c.self.view_is) at c.local-local.ensures in
-    rw (c.next-action.ensures, l, c.deref.ensures.value) (named_in g.M.Machine.table _ c.args.t g.met.M.Machine.lawful c.self.invariant h)
+    rw (c.next-action.ensures, l, c.deref.ensures.value) (named_in g.M.Machine.table _ c.args.t g.met.M.Machine.lawful
+    c.self.invariant h)

@@ -41,7 +41,8 @@ loop-node-preserved g c =
     let key : c.node_key.result ≡ v.key c.loop-node.node = c.node_key.ensures in
     let mark : c.is_marked.result ≡ (v.link c.loop-node.node % 2 == 1) = mark_of_word _ _ c.is_marked.ensures in
     let is : met ≡ record { key = v.key c.loop-node.node - 1; marked = v.link c.loop-node.node % 2 == 1 } = cc in
-    let more = picked_more (goal.F-post g c.args.pick) v laws.ordered c.loop-node.picked.items c.loop-node.node next met c.pick.result
+    let more = picked_more (goal.F-post g c.args.pick) v laws.ordered c.loop-node.picked.items c.loop-node.node next met
+    c.pick.result
     laws.head_key c.loop-node-test.true c.next_node-node-in-loop-node.ensures is c.pick.ensures c.loop-node.invariant in
     elim c.match-pick.branch [
       | in-Some+in_ok-push w ↦

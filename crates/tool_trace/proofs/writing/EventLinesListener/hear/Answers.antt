@@ -9,5 +9,6 @@ pub returns : goal.returns
 returns c = λ first earlier number heard.
     c.in_ok-put_event.ensures
     ∙ ap (λ xs. xs ++ text_of (lines_of_event c.args.number c.args.event)) heard
-    ∙ append_assoc (string_bytes first.text) (text_of (event_lines 1 earlier)) (text_of (lines_of_event c.args.number c.args.event))
+    ∙ append_assoc (string_bytes first.text) (text_of (event_lines 1 earlier))
+    (text_of (lines_of_event c.args.number c.args.event))
     ∙ ap (λ xs. string_bytes first.text ++ xs) (text_push c.args.number earlier c.args.event number)
