@@ -2,6 +2,7 @@ pub mod Records
 pub mod Handing
 mod Dated
 mod Histories
+mod PastCalls
 mod Orders
 mod Explained
 mod Closing

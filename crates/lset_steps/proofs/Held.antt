@@ -16,9 +16,9 @@ use Rattle.lset_steps.specs.declared.rows.Targets.{Targets}
 use Rattle.lset_steps.specs.Chain.{View, view, InChain, InContent, FitsIn, node_key, node_link, node_lock}
 use Rattle.lset_steps.specs.Laws.{IsLockWord}
 use Rattle.lset_steps.proofs.Memory.{WordStep, Memory, reads, fails, takes, gives, own_key, own_link, puts, sets_mark, cuts}
-use Rattle.lset_steps.proofs.Memory.{drops, own_of, one_more, lock_after_link, link_after_link, key_after_link, lock_after_key}
-use Rattle.lset_steps.proofs.Memory.{link_after_key, key_after_key, lock_after_lock, link_after_lock, key_after_lock, no_own}
-use Rattle.lset_steps.proofs.Memory.{inner, apart, at_lock, at_own_key, at_own_link}
+use Rattle.lset_steps.proofs.Memory.{drops, own_of, one_more, no_own, inner, apart, at_lock, at_own_key, at_own_link}
+use Rattle.lset_steps.proofs.AfterWrite.{lock_after_link, link_after_link, key_after_link, lock_after_key, link_after_key}
+use Rattle.lset_steps.proofs.AfterWrite.{key_after_key, lock_after_lock, link_after_lock, key_after_lock}
 use Rattle.lset_steps.proofs.QuietMove.{in_chain_published, quiet_keeps, chain_before, chain_on}
 use Rattle.lset_steps.proofs.Rely.{Rely, Guarded}
 use Rattle.lset_steps.specs.Rows.{decided_on, goes_to}

@@ -7,6 +7,7 @@ pub mod UnlinkMove
 pub mod MoveLaws
 pub mod Hindsight
 pub mod Walk
+pub mod AfterWrite
 pub mod Memory
 pub mod Rely
 pub mod Remains

@@ -18,8 +18,9 @@ use Rattle.lset_steps.proofs.Moves.{Quiet}
 use Rattle.lset_steps.specs.Laws.{Registers, Due}
 use Rattle.lset_words.specs.Account.{MayChange}
 use Rattle.lset_steps.proofs.Memory.{WordStep, Memory, reads, fails, takes, gives, own_key, own_link, puts, drops, own_of}
-use Rattle.lset_steps.proofs.Memory.{one_more, set_same, key_after_link, list_lock_after_link, list_lock_after_key, link_wrote}
-use Rattle.lset_steps.proofs.Memory.{key_wrote, own_in, inner, next_in, chain_in, inside, mine_counted, at_own_key, at_own_link}
+use Rattle.lset_steps.proofs.Memory.{one_more, link_wrote, key_wrote, own_in, inner, next_in, chain_in, inside, mine_counted}
+use Rattle.lset_steps.proofs.Memory.{at_own_key, at_own_link}
+use Rattle.lset_steps.proofs.AfterWrite.{set_same, key_after_link, list_lock_after_link, list_lock_after_key}
 use Rattle.lset_steps.proofs.QuietMove.{in_chain_published, quiet_keeps}
 use Rattle.lset_steps.proofs.Discipline.{Discipline, StepOf, Here, Thread}
 use Rattle.lset_steps.proofs.Replies.{Adding, Removing, registers_begun, keep_more, decided_cases, absent_between, ceiling_fits}

@@ -11,8 +11,9 @@ use Rattle.lset_steps.specs.declared.Action.TheVariants.{Load, Store}
 use Rattle.lset_steps.specs.Chain.{View, view, node_key, node_link, node_lock}
 use Rattle.lset_steps.proofs.MarkMove.{mark_keeps}
 use Rattle.lset_steps.specs.Laws.{Registers, Due}
-use Rattle.lset_steps.proofs.Memory.{Memory, own_of, one_more, one_more_same, at_mark, inner, own_in, goes_on, lock_after_link}
-use Rattle.lset_steps.proofs.Memory.{link_after_link, key_after_link, lock_after_lock, link_wrote, key_wrote, lock_wrote}
+use Rattle.lset_steps.proofs.Memory.{Memory, own_of, one_more, one_more_same, at_mark, inner, own_in, goes_on, link_wrote}
+use Rattle.lset_steps.proofs.Memory.{key_wrote, lock_wrote}
+use Rattle.lset_steps.proofs.AfterWrite.{lock_after_link, link_after_link, key_after_link, lock_after_lock}
 use Rattle.lset_steps.proofs.Rely.{Rely}
 use Rattle.lset_steps.proofs.Discipline.{Here, Thread}
 use Rattle.lset_steps.proofs.Replies.{Adding, Removing, removing_kept, registers_begun, keep_more, keep, keep_ckey, keep_succ}
