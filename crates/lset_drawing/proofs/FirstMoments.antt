@@ -1,7 +1,7 @@
 -- The moments that have a column are the first ones of the window at which something happens.
 use Rattle.std.proofs.Common.{◌≡◌, ℕ, zero, suc, ◌+◌, ◌<◌, ◌≤◌, ◌⊎◌, inl, inr, List, [], ◌∷◌, ◌++◌, length, map, Option, Some}
 use Rattle.std.proofs.Common.{None, refl, sym, ap, ◌∙◌, subst, arith}
-use Rattle.std.specs.Prelude.{Bool, true, false, All, Contains}
+use Rattle.std.specs.Prelude.{Bool, true, false, All, Contains, IsTrue, ◌↔◌, ◌&&◌, is_some, is_none}
 use Rattle.std.proofs.lemmas.Bool.Decides.{nat_tests}
 use Rattle.std.proofs.lemmas.List.Elements.{All-nil, All-cons, All-weaker}
 use Rattle.lset_words.specs.declared.history.CallRecord.{CallRecord}
@@ -18,7 +18,7 @@ use Rattle.lset_drawing.specs.Pictures.{PictureValue, points_of}
 use Rattle.lset_drawing.specs.Moments.{sooner, first_from, moments_of_calls, next_moment, upto, moment_within, moments_shown}
 use Rattle.lset_drawing.specs.Moments.{happenings, AreFirstMoments}
 use Rattle.lset_drawing.specs.Columns.{ColumnValue, columns_from, column_moment}
-use Rattle.lset_drawing.specs.Drawings.{columns_at, moments_of, AreColumnsOf, AreMomentsOf}
+use Rattle.lset_drawing.specs.Drawings.{columns_at, moments_of, AreColumnsOf, AreMomentsOf, IsPastTheLast, is_past_the_last}
 
 -- THE SOONER of a moment that is known already and another one: it is one of them,
 sooner_is : (from : ℕ) (best : Option ℕ) (m r : ℕ) → sooner from best m ≡ Some r → (best ≡ Some r) ⊎ ((m ≡ r) × (from ≤ r))
@@ -204,3 +204,44 @@ are_columns p w standings moments columns e f =
     let A : List ℕ → Type 0 = AreMomentsOf p w in
     subst A (sym (ap (map column_moment) e ∙ moments_of_columns p.history standings _ true moments ∙ f))
     (are_first_moments p.history.calls (points_of p) w.to MOST_COLUMNS w.from)
+
+-- PAST THE LAST: something happens, and nothing from there on
+happening : (calls : List CallRecord) (points : List Point) (from r : ℕ) → next_moment calls points from ≡ Some r
+    → Contains (happenings calls points) r × (from ≤ r)
+happening calls points from r e = elim (found from None (happenings calls points) r (next_is calls points from ∙ e)) [
+  | inl n ↦ absurd (grind arith)
+  | inr c ↦ c
+]
+
+no_happening : (calls : List CallRecord) (points : List Point) (from m : ℕ) → next_moment calls points from ≡ None
+    → Contains (happenings calls points) m → m < from
+no_happening calls points from m e c = elim (below_or_not m from) [
+  | inl l ↦ l
+  | inr l ↦ absurd (let f = first_of from None (happenings calls points) m c l in
+      let s : None ≡ Some f.0 = sym e ∙ sym (next_is calls points from) ∙ f.1 in grind arith)
+]
+
+past_by : (p : PictureValue) (from : ℕ) (first next : Option ℕ) → next_moment p.history.calls (points_of p) 0 ≡ first
+    → next_moment p.history.calls (points_of p) from ≡ next → IsTrue (is_some first && is_none next) ↔ IsPastTheLast p from
+past_by p from None next e f = (
+  λ h. absurd (grind (arith, h)),
+  λ h. absurd (let l : h.happens.0 < 0 = no_happening p.history.calls (points_of p) 0 h.happens.0 e h.happens.1 in omega arith),
+)
+past_by p from (Some r) None e f = (
+  λ h. record {
+    happens = (r, (happening p.history.calls (points_of p) 0 r e).0);
+    before = λ m c. no_happening p.history.calls (points_of p) from m f c;
+  },
+  λ h. refl,
+)
+past_by p from (Some r) (Some s) e f = (
+  λ h. absurd (grind (arith, h)),
+  λ h. absurd (let t = happening p.history.calls (points_of p) from s f in
+      let low : from ≤ s = t.1 in
+      let high : s < from = h.before s t.0 in omega arith),
+)
+
+pub is_past_exactly : (p : PictureValue) (from : ℕ) (past : Bool) → past ≡ is_past_the_last p from
+    → IsTrue past ↔ IsPastTheLast p from
+is_past_exactly p from past e = subst (λ b. IsTrue b ↔ IsPastTheLast p from) (sym e)
+    (past_by p from (next_moment p.history.calls (points_of p) 0) (next_moment p.history.calls (points_of p) from) refl refl)

@@ -1,12 +1,12 @@
 -- What is drawn of a picture in a window.
-use Rattle.std.specs.Prelude.{ℕ, ◌||◌, Bool, true, List, map}
+use Rattle.std.specs.Prelude.{ℕ, ◌<◌, ◌||◌, Bool, true, List, map, Contains}
 use Rattle.lset_drawing.specs.declared.TheConstants.{MOST_COLUMNS}
 use Rattle.lset_drawing.specs.declared.standings.Standing.{Standing}
 use Rattle.lset_drawing.specs.declared.drawings.Drawing.{Drawing}
 use Rattle.lset_drawing.specs.declared.picture.Window.{Window}
 use Rattle.lset_drawing.specs.Pictures.{PictureValue, are_known, points_of}
 use Rattle.lset_drawing.specs.Standings.{standings_of}
-use Rattle.lset_drawing.specs.Moments.{AreFirstMoments, happenings, moments_shown, shown_to, goes_before, goes_on_after}
+use Rattle.lset_drawing.specs.Moments.{AreFirstMoments, happenings, moments_shown, shown_to, goes_before, goes_on_after, is_past}
 use Rattle.lset_drawing.specs.Columns.{ColumnValue, column_moment, column_view, columns_from}
 
 -- the places of the order, the columns, whether points are known, the first and the last moment that are drawn, and whether
@@ -56,6 +56,16 @@ is_cut_before p from = goes_before p.history.calls (points_of p) from
 
 abbrev pub is_cut_after : PictureValue → ℕ → Bool
 is_cut_after p last = goes_on_after p.history.calls (points_of p) last
+
+-- A MOMENT IS PAST THE LAST of a picture where
+pub record IsPastTheLast (p : PictureValue) (from : ℕ) : Type 0 where
+  -- something happens,
+  pub happens : (m : ℕ) × Contains (happenings p.history.calls (points_of p)) m
+  -- and all of it before this moment.
+  pub before : (m : ℕ) → Contains (happenings p.history.calls (points_of p)) m → m < from
+
+abbrev pub is_past_the_last : PictureValue → ℕ → Bool
+is_past_the_last p from = is_past p.history.calls (points_of p) from
 
 abbrev pub drawing_of : PictureValue → Window → DrawingValue
 drawing_of p w = record {

@@ -1,7 +1,7 @@
 -- The moments at which something happens, and those of them that have a column.
 use Rattle.std.specs.Prelude.{◌≡◌, ◌⊎◌, ℕ, ◌+◌, ◌-◌, ◌<◌, ◌≤◌, nat_lt, nat_le, Bool, false, if◌then◌else◌, List, [], ◌∷◌, ◌++◌}
 use Rattle.std.specs.Prelude.{map, zero, suc}
-use Rattle.std.specs.Prelude.{Option, Some, None, is_some, unwrap_or, slice_get, length, All, Contains}
+use Rattle.std.specs.Prelude.{Option, Some, None, is_some, is_none, ◌&&◌, unwrap_or, slice_get, length, All, Contains}
 use Rattle.std.specs.List.Sorted.{IsStrictlyIncreasing}
 use Rattle.lset_words.specs.declared.Reply.{Reply}
 use Rattle.lset_words.specs.declared.history.CallRecord.{CallRecord}
@@ -88,3 +88,7 @@ goes_before calls points from = is_before from (next_moment calls points 0)
 
 abbrev pub goes_on_after : List CallRecord → List Point → ℕ → Bool
 goes_on_after calls points last = is_some (next_moment calls points (last + 1))
+
+-- something happens, and nothing at `from` or later
+abbrev pub is_past : List CallRecord → List Point → ℕ → Bool
+is_past calls points from = is_some (next_moment calls points 0) && is_none (next_moment calls points from)

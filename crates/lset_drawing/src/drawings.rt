@@ -1,21 +1,23 @@
-ghost use Rattle.std.specs.Prelude.{◌≡◌, ◌≤◌, length, map, vec_len, IfOk};
+ghost use Rattle.std.specs.Prelude.{◌≡◌, ◌≤◌, ◌↔◌, length, map, vec_len, IfOk, IsTrue};
 ghost use Rattle.lset_drawing.specs.Pictures.{view};
 ghost use Rattle.lset_drawing.specs.declared.TheConstants.{MOST_COLUMNS};
 ghost use Rattle.lset_drawing.specs.Standings.{standings_of};
 ghost use Rattle.lset_drawing.specs.Columns.{column_view};
 ghost use Rattle.lset_drawing.specs.Drawings.{
   AreColumnsOf,
+  IsPastTheLast,
   columns_at,
   drawing_of,
   drawing_view,
   is_cut,
   is_cut_after,
   is_cut_before,
+  is_past_the_last,
   moments_of,
 };
 
 use crate::columns::{Column, columns};
-use crate::moments::{goes_before, goes_on_after, moments_shown, shown_to};
+use crate::moments::{goes_before, goes_on_after, is_past, moments_shown, shown_to};
 use crate::standings::{Standing, are_known, points_of, standings};
 use crate::{Picture, Window};
 use std::alloc::{AllocError, Global};
@@ -114,4 +116,13 @@ pub fn drawing_in(alloc: Global, picture: &Picture, window: Window) -> Result<Dr
         before: is_cut_before(picture, window.from),
         after: is_cut_after(picture, last),
     })
+}
+
+/// Whether a moment, counted from 1, comes after the last one at which a call of the picture begins, stands or ends, so that a
+/// window from there has no column. Of a picture without calls no moment does.
+pub fn is_past_the_last(picture: &Picture, from: u32) -> bool
+    ensures past { result ≡ is_past_the_last (view picture.now) from }
+    ensures exactly { IsTrue result ↔ IsPastTheLast (view picture.now) from }
+{
+    is_past(picture.history.calls(), points_of(picture), from)
 }

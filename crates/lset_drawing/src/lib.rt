@@ -20,7 +20,7 @@ mod standings;
 
 pub use clashes::is_clash;
 pub use columns::{Column, Mark, Sign};
-pub use drawings::{Drawing, drawing_in};
+pub use drawings::{Drawing, drawing_in, is_past_the_last};
 pub use frames::add_lines_below;
 pub use headings::{cut_line, heading_line};
 pub use lines::{add_line, put_filled, text_of_lines, thread_label};

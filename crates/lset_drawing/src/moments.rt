@@ -12,6 +12,7 @@ ghost use Rattle.lset_drawing.specs.Moments.{
   ended_before,
   goes_before,
   goes_on_after,
+  is_past,
 };
 ghost use Rattle.lset_drawing.specs.declared.TheConstants.{MOST_COLUMNS};
 
@@ -131,4 +132,11 @@ pub fn goes_on_after(calls: &[CallRecord], points: &[Point], last: u32) -> bool
     ensures { result ≡ goes_on_after calls.now points.now last }
 {
     next_moment(calls, points, u64::from(last) + 1).is_some()
+}
+
+/// Whether something happens, and nothing at this moment or later.
+pub fn is_past(calls: &[CallRecord], points: &[Point], from: u32) -> bool
+    ensures { result ≡ is_past calls.now points.now from }
+{
+    next_moment(calls, points, 0).is_some() && next_moment(calls, points, u64::from(from)).is_none()
 }

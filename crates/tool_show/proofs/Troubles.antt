@@ -17,7 +17,8 @@ use Rattle.lset_tools.specs.declared.trouble.Trouble.TheVariants.{CannotRead, To
 use Rattle.lset_tools.specs.declared.trouble.Trouble.TheVariants.{CannotListen, Work, Serve}
 use Rattle.lset_tools.specs.Trouble.{of_schedule_line, of_report_line}
 use Rattle.lset_tools.specs.Checking as checking
-use Rattle.tool_show.specs.Showing.{IsFirstFault, IsScheduleFault}
+use Rattle.lset_drawing.specs.declared.picture.Window.{Window}
+use Rattle.tool_show.specs.Showing.{IsWrong, IsScheduleFault}
 
 -- 0 of an input that cannot be read, and 1 of every other trouble
 abbrev count_of : Trouble → ℕ
@@ -67,12 +68,13 @@ in_a_report : (r : Result ReportValue ReportFault) (t : Trouble) → checking.Is
 in_a_report (Err fault) t e = ap count_of e ∙ of_a_report fault.line fault.cause
 in_a_report (Ok r) t f = absurd f
 
-in_a_text : (bytes : List ℕ) (t : Trouble) → (t ≡ Memory) ⊎ IsFirstFault bytes t → count_of t ≡ 1
-in_a_text bytes t (inl e) = ap count_of e
-in_a_text bytes t (inr (inl f)) = in_a_report (reports.reading bytes) t f.1
-in_a_text bytes t (inr (inr f)) = in_a_schedule (schedules.reading bytes) t f.1
+in_a_text : (window : Window) (bytes : List ℕ) (t : Trouble) → (t ≡ Memory) ⊎ IsWrong window bytes t → count_of t ≡ 1
+in_a_text window bytes t (inl e) = ap count_of e
+in_a_text window bytes t (inr (inl (inl f))) = in_a_report (reports.reading bytes) t f.1
+in_a_text window bytes t (inr (inl (inr f))) = in_a_schedule (schedules.reading bytes) t f.1
+in_a_text window bytes t (inr (inr p)) = ap count_of p.0
 
-pub can_be_read : (bytes : List ℕ) (made : Result Answer Trouble) → IfErr made (λ t. (t ≡ Memory) ⊎ IsFirstFault bytes t)
-    → IfErr made (λ t. t ≢ CannotRead)
-can_be_read bytes (Ok answer) h = tt
-can_be_read bytes (Err t) h = is_other t (in_a_text bytes t h)
+pub can_be_read : (window : Window) (bytes : List ℕ) (made : Result Answer Trouble)
+    → IfErr made (λ t. (t ≡ Memory) ⊎ IsWrong window bytes t) → IfErr made (λ t. t ≢ CannotRead)
+can_be_read window bytes (Ok answer) h = tt
+can_be_read window bytes (Err t) h = is_other t (in_a_text window bytes t h)

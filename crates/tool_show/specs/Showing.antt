@@ -12,10 +12,13 @@ use Rattle.lset_text.specs.Parts.{ended}
 use Rattle.lset_text.specs.declared.words.Version.TheVariants.{One, Two}
 use Rattle.lset_drawing.specs.declared.picture.Window.{Window}
 use Rattle.lset_drawing.specs.Pictures.{PictureValue}
+use Rattle.lset_drawing.specs.Drawings.{is_past_the_last}
 use Rattle.lset_text_picture.specs.PictureTexts.{picture_text}
 use Rattle.lset_text_picture.specs.Widths.{IsFitted}
 use Rattle.lset_svg.specs.Svg.{svg_text}
 use Rattle.lset_tools.specs.declared.trouble.Trouble.{Trouble}
+use Rattle.lset_tools.specs.declared.trouble.Trouble.TheVariants.{Bad}
+use Rattle.lset_tools.specs.declared.trouble.ValueName.TheVariants.{From}
 use Rattle.lset_tools.specs.Tools.{Made, IsTaken, IsInputTrouble}
 use Rattle.lset_tools.specs.Trouble.{of_schedule}
 use Rattle.lset_tools.specs.Checking as checking
@@ -40,6 +43,10 @@ has_title title bytes = starts_with (λ a b. a == b) bytes (ended title)
 abbrev pub has_report_title : List ℕ → Bool
 has_report_title bytes = has_title (title One) bytes || has_title (title Two) bytes
 
+-- the picture of the schedule or the report whose text the bytes are
+abbrev pub ShowsText : List ℕ → PictureValue → Type 0
+ShowsText bytes v = ShowsSchedule bytes v ⊎ ShowsReport bytes v
+
 -- the first fault of a text that is no schedule; a schedule has a picture, also where one of its events is refused
 abbrev pub IsScheduleFault : Result Plan ScheduleFault → Trouble → Type 0
 IsScheduleFault (Err fault) t = t ≡ of_schedule fault
@@ -60,10 +67,19 @@ Draws Svg v window text = text ≡ svg_text v window
 abbrev pub status_of : PictureValue → ℕ
 status_of v = if is_none v.refusal && is_none v.refused then 0 else 1
 
--- what is made of the bytes of an input: the picture of the schedule or the report whose text they are, or a trouble with the
--- input, or its first fault
+-- THE FIRST MOMENT IS REFUSED where something happens in the picture, of a schedule, up to an event that is refused, or of a
+-- report, and all of it before that moment.
+abbrev pub IsPast : Window → List ℕ → Trouble → Type 0
+IsPast window bytes t = (t ≡ Bad From) × (v : PictureValue) × ShowsText bytes v × (is_past_the_last v window.from ≡ true)
+
+-- what is wrong with a text, or with the window in which its picture is to be drawn
+abbrev pub IsWrong : Window → List ℕ → Trouble → Type 0
+IsWrong window bytes t = IsFirstFault bytes t ⊎ IsPast window bytes t
+
+-- what is made of the bytes of an input: the picture of the schedule or the report whose text they are, which goes on to the
+-- first moment of the window; or a trouble with the input, or its first fault, or a window past the picture
 abbrev pub Shows : Form → Window → List ℕ → Made → Type 0
 Shows form window bytes (Ok answer) =
-    IsTaken bytes × (v : PictureValue) × (ShowsSchedule bytes v ⊎ ShowsReport bytes v)
+    IsTaken bytes × (v : PictureValue) × ShowsText bytes v × (is_past_the_last v window.from ≡ false)
     × Draws form v window answer.text × (answer.status ≡ status_of v)
-Shows form window bytes (Err t) = IsInputTrouble bytes t ⊎ (IsTaken bytes × IsFirstFault bytes t)
+Shows form window bytes (Err t) = IsInputTrouble bytes t ⊎ (IsTaken bytes × IsWrong window bytes t)

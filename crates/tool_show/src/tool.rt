@@ -9,21 +9,23 @@ ghost use Rattle.lset_tools.specs.declared.trouble.Trouble.TheVariants.{Memory};
 ghost use Rattle.tool_show.specs.Showing.{
   ShowsSchedule,
   ShowsReport,
+  ShowsText,
   Shows,
   IsFirstFault,
   IsScheduleFault,
+  IsWrong,
   has_report_title,
   Draws,
   status_of,
 };
 
 use crate::{Form, picture_of_replay, picture_of_report};
-use lset_drawing::{Picture, Window};
+use lset_drawing::{Picture, Window, is_past_the_last};
 use lset_report::read_report;
 use lset_schedule::read_schedule;
 use lset_svg::write_svg;
 use lset_text_picture::{fitted_window, write_picture};
-use lset_tools::{Answer, LONGEST, Trouble, deliver, input_of};
+use lset_tools::{Answer, LONGEST, Trouble, ValueName, deliver, input_of};
 use std::alloc::{AllocError, Global};
 use std::io::{Read, Write};
 
@@ -61,7 +63,7 @@ fn of_report(alloc: Global, bytes: &[u8]) -> Result<Picture, Trouble>
 
 /// The picture of the schedule or the report whose text the bytes are.
 fn picture_of(alloc: Global, bytes: &[u8]) -> Result<Picture, Trouble>
-    ensures shows { IfOk result (λ p. ShowsSchedule bytes.now (view p) ⊎ ShowsReport bytes.now (view p)) }
+    ensures shows { IfOk result (λ p. ShowsText bytes.now (view p)) }
     ensures trouble { IfErr result (λ t. (t ≡ Memory) ⊎ IsFirstFault bytes.now t) }
 {
     if has_report_title(bytes) {
@@ -100,13 +102,17 @@ fn status_of(picture: &Picture) -> u8
     }
 }
 
-/// The picture of the schedule or the report whose text the bytes are, as text or as an SVG.
+/// The picture of the schedule or the report whose text the bytes are, as text or as an SVG. A window that begins past the
+/// last moment at which something happens is refused.
 fn answer_of(alloc: Global, bytes: &[u8], form: Form, window: Window) -> Result<Answer, Trouble>
     requires { IsTaken bytes.now }
     ensures shows { Shows form window bytes.now (tools.view result) }
-    ensures trouble { IfErr result (λ t. (t ≡ Memory) ⊎ IsFirstFault bytes.now t) }
+    ensures trouble { IfErr result (λ t. (t ≡ Memory) ⊎ IsWrong window bytes.now t) }
 {
     let picture = picture_of(alloc, bytes)?;
+    if is_past_the_last(&picture, window.from) {
+        return Err(Trouble::Bad(ValueName::From));
+    }
     let text = text_of(alloc, &picture, form, window)?;
     Ok(Answer {
         text,
@@ -120,7 +126,8 @@ fn answer_of(alloc: Global, bytes: &[u8], form: Form, window: Window) -> Result<
 ///
 /// The error is `TooLong` where there are more than `LONGEST` bytes. A text with the first line of a report, of either
 /// version, that is none has the first fault of `read_report`; any other text that is no schedule has that of
-/// `read_schedule`. `Memory` where memory was refused.
+/// `read_schedule`. `Bad(From)` where calls begin, stand or end in the picture, and all of that before `window.from`. `Memory`
+/// where memory was refused.
 pub fn shown(alloc: Global, bytes: &[u8], form: Form, window: Window) -> Result<Answer, Trouble>
     ensures shows { Shows form window bytes.now (tools.view result) }
     // Bytes that are here can be read.
@@ -147,7 +154,8 @@ fn drawn_of<R: Read>(
 /// Draws the schedule or the report on the input: writes its picture on the output, in that form, of the
 /// moments in the window, or one line about what is wrong on `faults` and nothing on the output. The first line of the
 /// input says which it is. Gives the exit status: 0 where the picture was written, 1 where it was written and tells why the order or
-/// which event is refused, 3 where memory was refused, else 1. A failing write on `faults` leaves the status as it is.
+/// which event is refused, 2 where the window begins past the last moment of the picture, 3 where memory was refused, else 1. A
+/// failing write on `faults` leaves the status as it is.
 pub fn tool_show<R: Read, W: Write, F: Write>(
     alloc: Global,
     form: Form,

@@ -1,6 +1,7 @@
 //! The tests of pictures.
 mod made;
 mod opened;
+mod past;
 mod refused;
 mod replayed;
 mod sheets;
