@@ -165,14 +165,14 @@ fn show_command<'a>(alloc: Global) -> Result<clap::Command<'a>, AllocError>
         "show",
         "Draws the history of a schedule or a report: a bar for each call, with the point at which it takes effect",
         "The schedule or report; standard input where it is - or left out",
-        "Example: listset example read-in-anothers-step | listset show --from 9 --to 38",
+        "A schedule with an event that is refused is drawn up to it, and the last line tells which; status 1.\n\nExample: listset example read-in-anothers-step | listset show --from 9 --to 38",
     )?
     .arg(flag(alloc, "svg", "Draws an SVG in place of text"))?
     .arg(number_option(
         alloc,
         "from",
         "M",
-        "The first moment to draw: 1 to 4294967295; 1 where it is left out",
+        "The first moment to draw: 1 to the last at which a call begins, stands or ends; 1 where it is left out",
     ))?
     .arg(number_option(
         alloc,

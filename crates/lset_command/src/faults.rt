@@ -66,7 +66,7 @@ Other lines
   listset: too long       The input has more than 67108864 bytes; status 1.
   listset: cannot write   A write failed; status 1.
   listset: cannot listen  The system did not give the port; status 1.
-  listset: bad NAME       The value or the option NAME is missing or is none that may stand there; status 2.
+  listset: bad NAME       The value or the option NAME is missing or is none that may stand there, or FROM is past the last moment; status 2.
   listset: out of memory  The system gave no memory; status 3.
 ";
 

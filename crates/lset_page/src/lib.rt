@@ -81,8 +81,9 @@ pub extern "C" fn listset_trace_with_chains(
 }
 
 /// What `listset show` prints of the schedule or the report whose text is given: its picture, with status 1 where it tells why
-/// the order of a report is refused; or the line about the first fault of the text, or about one that is too long. As without
-/// `--from`, `--to` and `--width`, the first moments at which something happens are drawn, as many as 100 characters hold.
+/// the order of a report is refused, or which event of a schedule is, up to which that is drawn; or the line about the first fault
+/// of the text, or about one that is too long. As without `--from`, `--to` and `--width`, the first moments at which something
+/// happens are drawn, as many as 100 characters hold.
 #[tactic(auto, using(crate::proofs::AllMoments::may_want_memory))]
 #[unsafe(no_mangle)]
 pub extern "C" fn listset_show(

@@ -169,7 +169,7 @@ fn other_words_are_refused(rt: HostRuntime) -> Result<(), Fail> {
 
 #[test]
 fn help_names_the_commands_and_their_values(rt: HostRuntime) -> Result<(), Fail> {
-    let rows: [(&[&str], &str); 22] = [
+    let rows: [(&[&str], &str); 23] = [
         (&["--help"], "\nUsage: listset [COMMAND]\n"),
         (
             &["help"],
@@ -185,7 +185,11 @@ fn help_names_the_commands_and_their_values(rt: HostRuntime) -> Result<(), Fail>
         ),
         (
             &["help", "show"],
-            "\n      --from <M>   The first moment to draw: 1 to 4294967295;",
+            "\n      --from <M>   The first moment to draw: 1 to the last at which a call begins, stands or ends;",
+        ),
+        (
+            &["help", "show"],
+            "\nA schedule with an event that is refused is drawn up to it, and the last line tells which; status 1.\n",
         ),
         (
             &["trace", "-h"],
