@@ -1,51 +1,23 @@
+mod classics;
+
 use super::runs::draft_run;
+use classics::draft_of;
 use std::test::Fail;
-
-/// The steps of a schedule without the counts of its ends: what stands in a draft in their place.
-const STALE_PRED: &str =
-    "listset-draft 2\nlist optimistic\nthreads 2\nquota 4\nbegin 1 add 3\ngo 1 out\nbegin 0 add 5\ngo 0 to 4\nbegin 1 remove 3\ngo 1 out\ngo 0 out\n";
-
-const MARKED_PRED: &str =
-    "listset-draft 2\nlist lazy\nthreads 2\nquota 4\nbegin 1 add 3\ngo 1 out\nbegin 0 add 5\ngo 0 to 4\nbegin 1 remove 3\ngo 1 out\ngo 0 out\n";
-
-const FAILED_TRIES: &str =
-    "listset-draft 2\nlist coarse\nthreads 2\nquota 4\nbegin 0 add 5\nbegin 1 add 5\ngo 0 to 2\ngo 1 3\ngo 0 out\ngo 1 out\n";
-
-const FULL: &str =
-    "listset-draft 2\nlist coarse\nthreads 1\nquota 1\nbegin 0 add 5\ngo 0 out\nbegin 0 remove 5\ngo 0 out\nbegin 0 add 7\ngo 0 out\n";
-
-const BEHIND_THE_WALK: &str =
-    "listset-draft 2\nlist lock-free\nthreads 2\nquota 4\nbegin 1 add 9\ngo 1 out\nbegin 0 ceiling 3\ngo 0 to 24\nbegin 1 add 5\ngo 1 out\ngo 0 out\n";
+use tool_examples::ALL;
 
 const HEADER: &str = "listset-draft 2\nlist coarse\nthreads 2\nquota 1\n";
 
 #[test]
 fn drafts_give_the_classic_schedules(rt: HostRuntime) -> Result<(), Fail> {
-    let rows = [
-        (
-            STALE_PRED,
-            "listset-schedule 1\nlist optimistic\nthreads 2\nquota 4\nbegin 1 add 3\ngo 1 10\nbegin 0 add 5\ngo 0 4\nbegin 1 remove 3\ngo 1 9\ngo 0 16\n",
-        ),
-        (
-            MARKED_PRED,
-            "listset-schedule 1\nlist lazy\nthreads 2\nquota 4\nbegin 1 add 3\ngo 1 11\nbegin 0 add 5\ngo 0 4\nbegin 1 remove 3\ngo 1 10\ngo 0 16\n",
-        ),
-        (
-            FAILED_TRIES,
-            "listset-schedule 1\nlist coarse\nthreads 2\nquota 4\nbegin 0 add 5\nbegin 1 add 5\ngo 0 1\ngo 1 3\ngo 0 6\ngo 1 4\n",
-        ),
-        (
-            FULL,
-            "listset-schedule 1\nlist coarse\nthreads 1\nquota 1\nbegin 0 add 5\ngo 0 7\nbegin 0 remove 5\ngo 0 6\nbegin 0 add 7\ngo 0 4\n",
-        ),
-        (
-            BEHIND_THE_WALK,
-            "listset-schedule 2\nlist lock-free\nthreads 2\nquota 4\nbegin 1 add 9\ngo 1 6\nbegin 0 ceiling 3\ngo 0 1\nbegin 1 add 5\ngo 1 6\ngo 0 2\n",
-        ),
-    ];
-    for (draft, schedule) in rows {
+    for example in ALL {
+        let name = example.name();
+        let draft = draft_of(example);
+        assert!(rt;
+            draft.contains(" out\n") || draft.contains(" to "),
+            "{name}"
+        );
         let run = draft_run(rt.alloc(), &mut draft.as_bytes());
-        assert_eq!(rt; run.told()?, (0, schedule, ""));
+        assert_eq!(rt; run.told()?, (0, example.schedule_text(), ""), "{name}");
     }
     Ok(())
 }
