@@ -1,4 +1,4 @@
-use super::runs::{KINDS, assert_each_list_writes, threads_run};
+use super::runs::{KINDS, assert_each_list_writes, counts_of, threads_run};
 use lset_schedule::programs;
 use lset_words::{Call, Reply};
 use std::alloc::{AllocError, Global};
@@ -111,14 +111,15 @@ fn assert_counts<R: Threads + Wait + Abort + Sync>(
 ) -> Result<(), Fail> {
     let line = format!(in alloc; "{kind} 4 20 50 40 3 10")?;
     let run = threads_run(rt, alloc, &line)?;
-    let answered = run
-        .number("true ")?
-        .saturating_add(run.number("false ")?)
-        .saturating_add(run.number("full ")?);
+    let counts = counts_of(&run)?;
+    let keys = run.count_lines("key ")?;
     assert!(rt; run.status == 0, "{kind}");
-    assert!(rt; run.number("calls ")? == 2_000, "{kind}");
-    assert!(rt; answered == 2_000, "{kind}");
-    assert!(rt; run.number("keys ")? == run.count_lines("key ")?, "{kind}");
+    assert!(rt; counts.calls == 2_000, "{kind}");
+    assert!(rt;
+        counts.answered.saturating_add(counts.fulls) == 2_000,
+        "{kind}"
+    );
+    assert!(rt; counts.keys == keys, "{kind}");
     Ok(())
 }
 

@@ -135,12 +135,25 @@ const WINDOWS: [(u32, &str); 2] = [
     (10, "moment    12\nthread 0  true]\nset       {9}\n"),
 ];
 
+/// The text of a picture in this window has these rows.
+fn assert_rows<R: Abort>(
+    rt: &R,
+    alloc: Global,
+    picture: &Picture,
+    window: Window,
+    rows: &str,
+) -> Result<(), Fail> {
+    let written = write_picture(alloc, picture, window)?;
+    assert!(rt; std::str::from_utf8(&written)?.contains(rows), "{rows}");
+    Ok(())
+}
+
 #[test]
 fn a_window_begins_with_the_set_at_its_first_moment(rt: HostRuntime) -> Result<(), Fail> {
     let picture = opened(rt.alloc())?;
     for &(from, rows) in &WINDOWS {
-        let written = write_picture(rt.alloc(), &picture, Window { from, to: 12 })?;
-        assert!(rt; std::str::from_utf8(&written)?.contains(rows), "{from}");
+        let window = Window { from, to: 12 };
+        assert_rows(&rt, rt.alloc(), &picture, window, rows)?;
     }
     Ok(())
 }

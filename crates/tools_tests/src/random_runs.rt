@@ -1,4 +1,4 @@
-use super::runs::{KINDS, assert_each_list_writes, threads_run};
+use super::runs::{KINDS, assert_each_list_writes, counts_of, threads_run};
 use lset_history::Oracle;
 use lset_schedule::programs;
 use lset_words::{Call, Reply};
@@ -51,12 +51,12 @@ fn assert_counts<R: Threads + Wait + Abort + Sync>(
 ) -> Result<(), Fail> {
     let line = format!(in alloc; "{kind} 4 2000 2000 50 7")?;
     let run = threads_run(rt, alloc, &line)?;
-    let answered = run.number("true ")?.saturating_add(run.number("false ")?);
+    let counts = counts_of(&run)?;
     assert!(rt; run.status == 0, "{kind}");
-    assert!(rt; run.number("calls ")? == 8_000, "{kind}");
-    assert!(rt; run.number("full ")? == 0, "{kind}");
-    assert!(rt; answered == 8_000, "{kind}");
-    assert!(rt; run.number("keys ")? <= 50, "{kind}");
+    assert!(rt; counts.calls == 8_000, "{kind}");
+    assert!(rt; counts.answered == 8_000, "{kind}");
+    assert!(rt; counts.fulls == 0, "{kind}");
+    assert!(rt; counts.keys <= 50, "{kind}");
     Ok(())
 }
 
@@ -79,13 +79,11 @@ fn keys_left<R: Threads + Wait + Abort + Sync>(
 ) -> Result<u64, Fail> {
     let line = format!(in alloc; "{kind} {threads} 10 {calls} 10000 1")?;
     let run = threads_run(rt, alloc, &line)?;
+    let counts = counts_of(&run)?;
     let keys = run.count_lines("key ")?;
     assert!(rt; run.status == 0, "{line}");
-    assert!(rt;
-        run.number("calls ")? == threads.saturating_mul(calls),
-        "{line}"
-    );
-    assert!(rt; run.number("keys ")? == keys, "{line}");
+    assert!(rt; counts.calls == threads.saturating_mul(calls), "{line}");
+    assert!(rt; counts.keys == keys, "{line}");
     Ok(keys)
 }
 

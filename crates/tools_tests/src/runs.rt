@@ -32,7 +32,7 @@ impl Run {
     }
 
     /// The number of the line with this name.
-    pub fn number(&self, name: &str) -> Result<u64, Fail> {
+    fn number(&self, name: &str) -> Result<u64, Fail> {
         let rest = std::str::from_utf8(&self.output)?
             .lines()
             .find_map(|line| line.strip_prefix(name));
@@ -41,6 +41,28 @@ impl Run {
             None => Err(Fail::new("a count is missing")),
         }
     }
+}
+
+/// What a run of the tool `run` counted.
+#[derive(Clone, Copy)]
+pub struct Counts {
+    pub calls: u64,
+    /// How many calls were answered true or false.
+    pub answered: u64,
+    pub fulls: u64,
+    pub keys: u64,
+}
+
+/// The counts in the output of a run.
+pub fn counts_of(run: &Run) -> Result<Counts, Fail> {
+    let trues = run.number("true ")?;
+    let falses = run.number("false ")?;
+    Ok(Counts {
+        calls: run.number("calls ")?,
+        answered: trues.saturating_add(falses),
+        fulls: run.number("full ")?,
+        keys: run.number("keys ")?,
+    })
 }
 
 /// The words of a line.
