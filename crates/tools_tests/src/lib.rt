@@ -1,9 +1,7 @@
-//! The tests of the program: its words, their help, its tools, the examples, pictures and traces, and which tool does what the words
-//! ask for.
+//! The tests of the program that ask more than what it prints (`transcripts` has that): devices that fail, runs on threads beside
+//! models, pictures that no text has, and laws.
 #![tactic(auto)]
 
-#[cfg(test)]
-mod bytes;
 #[cfg(test)]
 mod checking;
 #[cfg(test)]
@@ -11,17 +9,11 @@ mod commands;
 #[cfg(test)]
 mod devices;
 #[cfg(test)]
-mod drafts;
-#[cfg(test)]
 mod examples;
 #[cfg(test)]
 mod generating;
 #[cfg(test)]
-mod help;
-#[cfg(test)]
 mod lives;
-#[cfg(test)]
-mod opened;
 #[cfg(test)]
 mod pictures;
 #[cfg(test)]
@@ -34,7 +26,5 @@ mod replaying;
 mod runs;
 #[cfg(test)]
 mod texts;
-#[cfg(test)]
-mod traces;
 #[cfg(test)]
 mod tracing;

@@ -1,73 +1,12 @@
-use super::runs::{KINDS, threads_run, words_run};
+use super::runs::{KINDS, assert_each_list_writes, counts_of, threads_run};
 use lset_schedule::programs;
 use lset_words::{Call, Reply};
 use std::alloc::{AllocError, Global};
 use std::collections::BTreeSet;
+use std::process::Abort;
+use std::sync::Wait;
 use std::test::Fail;
-
-/// What `run` writes where no call is made.
-const NOTHING: &str = "calls 0\ntrue 0\nfalse 0\nfull 0\nkeys 0\n";
-
-#[test]
-fn lives_without_calls_are_empty(rt: HostRuntime) -> Result<(), Fail> {
-    let rows: [&[&str]; 5] = [
-        &["coarse", "1", "4", "0", "8", "1"],
-        &["coarse", "1", "4", "0", "8", "1", "3"],
-        &["fine", "2", "4", "0", "8", "1", "1"],
-        &["optimistic", "2", "4", "0", "8", "1", "100"],
-        &["lock-free", "1", "4", "0", "8", "1", "2", "0"],
-    ];
-    for values in rows {
-        let made = threads_run(&rt, rt.alloc(), values)?;
-        assert_eq!(rt; made.told()?, (0, NOTHING, ""));
-    }
-    Ok(())
-}
-
-#[test]
-fn a_word_that_is_no_number_of_lives_is_named(rt: HostRuntime) -> Result<(), Fail> {
-    for lives in ["0", "101", "01", "x", "", "+1", "-1", " 1", "4294967297"] {
-        let made = threads_run(&rt, rt.alloc(), &["coarse", "1", "4", "0", "8", "1", lives])?;
-        assert_eq!(rt; made.told()?, (2, "", "listset: bad LIVES\n"), "{lives}");
-    }
-    Ok(())
-}
-
-#[test]
-fn a_wrong_value_before_the_lives_is_named_first(rt: HostRuntime) -> Result<(), Fail> {
-    let made = threads_run(&rt, rt.alloc(), &["coarse", "1", "4", "0", "8", "x", "0"])?;
-    assert_eq!(rt; made.told()?, (2, "", "listset: bad SEED\n"));
-    Ok(())
-}
-
-#[test]
-fn the_program_takes_the_lives(rt: HostRuntime) -> Result<(), Fail> {
-    let rows: [(&[&str], (u8, &str, &str)); 4] = [
-        (
-            &["run", "coarse", "1", "4", "0", "8", "1", "3"],
-            (0, NOTHING, ""),
-        ),
-        (
-            &["run", "coarse", "1", "4", "0", "8", "1", "0"],
-            (2, "", "listset: bad LIVES\n"),
-        ),
-        (
-            &["run", "coarse", "1", "4", "0", "8", "1", "more"],
-            (2, "", "listset: bad LIVES\n"),
-        ),
-        (
-            &["run", "coarse", "1", "4", "0", "8", "1", "3", "more"],
-            (0, NOTHING, ""),
-        ),
-    ];
-    for (words, wanted) in rows {
-        assert_eq!(rt;
-            words_run(&rt, rt.alloc(), words, "no schedule").told()?,
-            wanted
-        );
-    }
-    Ok(())
-}
+use std::thread::Threads;
 
 /// Lives of one thread on a set of numbers, which is none of the lists.
 #[derive(Drop)]
@@ -151,45 +90,43 @@ fn wanted_of(alloc: Global, first: u64, lives: u32) -> Result<String, Fail> {
     set.text(alloc)
 }
 
-/// Seeds and numbers of lives, with the words for both. The second seed wraps after one life.
-const LIVES: [(u64, u32, &str, &str); 4] = [
-    (5, 3, "5", "3"),
-    (u64::MAX - 63, 3, "18446744073709551552", "3"),
-    (6, 1, "6", "1"),
-    (7, 20, "7", "20"),
-];
+/// First seeds, and numbers of lives. The second seed wraps after one life.
+const LIVES: [(u64, u32); 4] = [(5, 3), (u64::MAX - 63, 3), (6, 1), (7, 20)];
 
 #[test]
 fn lives_of_one_thread_do_as_a_set_of_numbers(rt: HostRuntime) -> Result<(), Fail> {
-    for (first, lives, seed, many) in LIVES {
-        let wanted = wanted_of(rt.alloc(), first, lives)?;
-        for kind in KINDS {
-            let made = threads_run(&rt, rt.alloc(), &[kind, "1", "9", "60", "30", seed, many])?;
-            assert_eq!(rt;
-                made.told()?,
-                (0, wanted.as_str(), ""),
-                "{kind} {seed} {many}"
-            );
-        }
+    for &(seed, lives) in &LIVES {
+        let wanted = wanted_of(rt.alloc(), seed, lives)?;
+        let values = format!(in rt.alloc(); "1 9 60 30 {seed} {lives}")?;
+        assert_each_list_writes(&rt, rt.alloc(), &values, &wanted)?;
     }
+    Ok(())
+}
+
+/// The counts of ten lives of four threads with 50 calls each.
+fn assert_counts<R: Threads + Wait + Abort + Sync>(
+    rt: &R,
+    alloc: Global,
+    kind: &str,
+) -> Result<(), Fail> {
+    let line = format!(in alloc; "{kind} 4 20 50 40 3 10")?;
+    let run = threads_run(rt, alloc, &line)?;
+    let counts = counts_of(&run)?;
+    let keys = run.count_lines("key ")?;
+    assert!(rt; run.status == 0, "{kind}");
+    assert!(rt; counts.calls == 2_000, "{kind}");
+    assert!(rt;
+        counts.answered.saturating_add(counts.fulls) == 2_000,
+        "{kind}"
+    );
+    assert!(rt; counts.keys == keys, "{kind}");
     Ok(())
 }
 
 #[test]
 fn the_counts_of_ten_lives_of_four_threads_add_up(rt: HostRuntime) -> Result<(), Fail> {
-    for kind in KINDS {
-        let values = [kind, "4", "20", "50", "40", "3", "10"];
-        let made = threads_run(&rt, rt.alloc(), &values)?;
-        assert_eq!(rt; made.status, 0);
-        assert_eq!(rt; made.number("calls ")?, Some(2_000));
-        let trues = made.number("true ")?.unwrap_or(0);
-        let falses = made.number("false ")?.unwrap_or(0);
-        let fulls = made.number("full ")?.unwrap_or(0);
-        assert_eq!(rt; trues.saturating_add(falses).saturating_add(fulls), 2_000);
-        assert_eq!(rt;
-            made.number("keys ")?,
-            Some(made.count_lines("key ")? as u64)
-        );
+    for kind in &KINDS {
+        assert_counts(&rt, rt.alloc(), kind)?;
     }
     Ok(())
 }

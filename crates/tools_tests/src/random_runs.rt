@@ -1,4 +1,4 @@
-use super::runs::{KINDS, threads_run};
+use super::runs::{KINDS, assert_each_list_writes, counts_of, threads_run};
 use lset_history::Oracle;
 use lset_schedule::programs;
 use lset_words::{Call, Reply};
@@ -7,43 +7,6 @@ use std::process::Abort;
 use std::sync::Wait;
 use std::test::Fail;
 use std::thread::Threads;
-
-#[test]
-fn a_run_without_calls_is_empty(rt: HostRuntime) -> Result<(), Fail> {
-    for kind in KINDS {
-        let made = threads_run(&rt, rt.alloc(), &[kind, "1", "4", "0", "8", "1"])?;
-        let text = "calls 0\ntrue 0\nfalse 0\nfull 0\nkeys 0\n";
-        assert_eq!(rt; made.told()?, (0, text, ""));
-    }
-    Ok(())
-}
-
-#[test]
-fn a_wrong_value_is_named(rt: HostRuntime) -> Result<(), Fail> {
-    let rows: [(&[&str], &str); 7] = [
-        (&["skip", "1", "4", "0", "8", "1"], "listset: bad KIND\n"),
-        (
-            &["fine", "65", "4", "0", "8", "1"],
-            "listset: bad THREADS\n",
-        ),
-        (
-            &["fine", "1", "16385", "0", "8", "1"],
-            "listset: bad QUOTA\n",
-        ),
-        (
-            &["fine", "1", "4", "10001", "8", "1"],
-            "listset: bad CALLS\n",
-        ),
-        (&["fine", "1", "4", "0", "0", "1"], "listset: bad KEYS\n"),
-        (&["fine", "1", "4", "0", "8", "01"], "listset: bad SEED\n"),
-        (&["fine", "1", "4", "0", "8"], "listset: bad SEED\n"),
-    ];
-    for (values, line) in rows {
-        let made = threads_run(&rt, rt.alloc(), values)?;
-        assert_eq!(rt; made.told()?, (2, "", line));
-    }
-    Ok(())
-}
 
 /// What the sequential set answers to one program, as `run` writes it.
 fn oracle_text(alloc: Global, calls: &[Call], quota: u32) -> Result<String, Fail> {
@@ -69,54 +32,40 @@ fn oracle_text(alloc: Global, calls: &[Call], quota: u32) -> Result<String, Fail
     Ok(text)
 }
 
-/// Whether `run` on these values writes the text that is wanted.
-fn writes<R: Threads + Wait + Sync>(
-    rt: &R,
-    alloc: Global,
-    values: &[&str],
-    wanted: &str,
-) -> Result<bool, Fail> {
-    let made = threads_run(rt, alloc, values)?;
-    Ok(made.told()? == (0, wanted, ""))
-}
-
-/// What the sequential set answers to the program of a seed.
-fn wanted_of(alloc: Global, seed: u64) -> Result<String, Fail> {
-    let drawn = programs(alloc, 1, 300, 12, seed)?;
-    oracle_text(alloc, &drawn[0], 40)
-}
-
 #[test]
 fn one_thread_does_as_the_sequential_set(rt: HostRuntime) -> Result<(), Fail> {
-    let alloc = rt.alloc();
-    for (number, seed) in [(1, "1"), (2, "2"), (3, "3")] {
-        let wanted = wanted_of(alloc, number)?;
-        for kind in KINDS {
-            let values = [kind, "1", "40", "300", "12", seed];
-            assert!(rt; writes(&rt, alloc, &values, &wanted)?);
-        }
+    for seed in 1..=3 {
+        let drawn = programs(rt.alloc(), 1, 300, 12, seed)?;
+        let wanted = oracle_text(rt.alloc(), &drawn[0], 40)?;
+        let values = format!(in rt.alloc(); "1 40 300 12 {seed}")?;
+        assert_each_list_writes(&rt, rt.alloc(), &values, &wanted)?;
     }
+    Ok(())
+}
+
+/// The counts of four threads with 2,000 calls each of 50 keys, and room for them all.
+fn assert_counts<R: Threads + Wait + Abort + Sync>(
+    rt: &R,
+    alloc: Global,
+    kind: &str,
+) -> Result<(), Fail> {
+    let line = format!(in alloc; "{kind} 4 2000 2000 50 7")?;
+    let run = threads_run(rt, alloc, &line)?;
+    let counts = counts_of(&run)?;
+    assert!(rt; run.status == 0, "{kind}");
+    assert!(rt; counts.calls == 8_000, "{kind}");
+    assert!(rt; counts.answered == 8_000, "{kind}");
+    assert!(rt; counts.fulls == 0, "{kind}");
+    assert!(rt; counts.keys <= 50, "{kind}");
     Ok(())
 }
 
 #[test]
 fn the_counts_of_four_threads_add_up(rt: HostRuntime) -> Result<(), Fail> {
-    for kind in KINDS {
-        let made = threads_run(&rt, rt.alloc(), &[kind, "4", "2000", "2000", "50", "7"])?;
-        assert_eq!(rt; made.status, 0);
-        assert_eq!(rt; made.number("calls ")?, Some(8_000));
-        let trues = made.number("true ")?.unwrap_or(0);
-        let falses = made.number("false ")?.unwrap_or(0);
-        assert_eq!(rt; made.number("full ")?, Some(0));
-        assert_eq!(rt; trues.saturating_add(falses), 8_000);
-        let keys = made.number("keys ")?.unwrap_or(51);
-        assert!(rt; keys <= 50);
+    for kind in &KINDS {
+        assert_counts(&rt, rt.alloc(), kind)?;
     }
     Ok(())
-}
-
-fn values_of<'a>(kind: &'a str, threads: &'a str, calls: &'a str) -> [&'a str; 6] {
-    [kind, threads, "10", calls, "10000", "1"]
 }
 
 /// So many threads with so many calls each, over 10,000 keys: the calls are told, and as many keys are named as are told.
@@ -127,13 +76,14 @@ fn keys_left<R: Threads + Wait + Abort + Sync>(
     kind: &str,
     threads: u64,
     calls: u64,
-) -> Result<usize, Fail> {
-    let (number, each) = (threads.to_string(alloc)?, calls.to_string(alloc)?);
-    let made = threads_run(rt, alloc, &values_of(kind, &number, &each))?;
-    let keys = made.count_lines("key ")?;
-    assert_eq!(rt; made.status, 0, "{kind} {threads}");
-    assert_eq!(rt; made.number("calls ")?, Some(threads.saturating_mul(calls)));
-    assert_eq!(rt; made.number("keys ")?, Some(keys as u64));
+) -> Result<u64, Fail> {
+    let line = format!(in alloc; "{kind} {threads} 10 {calls} 10000 1")?;
+    let run = threads_run(rt, alloc, &line)?;
+    let counts = counts_of(&run)?;
+    let keys = run.count_lines("key ")?;
+    assert!(rt; run.status == 0, "{line}");
+    assert!(rt; counts.calls == threads.saturating_mul(calls), "{line}");
+    assert!(rt; counts.keys == keys, "{line}");
     Ok(keys)
 }
 
@@ -149,7 +99,7 @@ fn each_number_of_threads_is_run(rt: HostRuntime) -> Result<(), Fail> {
 
 #[test]
 fn the_most_threads_run_on_each_list(rt: HostRuntime) -> Result<(), Fail> {
-    for kind in KINDS {
+    for kind in &KINDS {
         let _keys = keys_left(&rt, rt.alloc(), kind, 64, 2)?;
     }
     Ok(())

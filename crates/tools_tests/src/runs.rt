@@ -1,22 +1,14 @@
-//! Runs of the tools, and of the program, on devices in memory.
-use lset_dispatch::run_words;
-use lset_tools::{tool_check, tool_gen, tool_replay};
+//! Runs of the tools on devices in memory.
 use std::alloc::Global;
-use std::io::Read;
-use std::net::{Net, TcpListener, TcpStream};
-use std::rt::Files;
+use std::process::Abort;
 use std::sync::Wait;
 use std::test::Fail;
 use std::thread::Threads;
-use std::time::Clock;
-use tool_draft::tool_draft;
-use tool_examples::tool_example;
 use tool_run::tool_run;
-use tool_trace::tool_trace;
 
 pub const KINDS: [&str; 5] = ["coarse", "fine", "optimistic", "lazy", "lock-free"];
 
-/// What a run of a tool, or of the program, wrote, and its status.
+/// What a run of a tool wrote, and its status.
 #[derive(Drop)]
 pub struct Run {
     pub output: Vec<u8>,
@@ -25,7 +17,7 @@ pub struct Run {
 }
 
 impl Run {
-    fn new(alloc: Global) -> Run {
+    pub fn new(alloc: Global) -> Run {
         Run {
             output: Vec::new(alloc),
             faults: Vec::new(alloc),
@@ -33,97 +25,80 @@ impl Run {
         }
     }
 
-    /// Status, output, and standard error.
-    pub fn told(&self) -> Result<(u8, &str, &str), Fail> {
-        let output = std::str::from_utf8(&self.output)?;
-        Ok((self.status, output, std::str::from_utf8(&self.faults)?))
-    }
-
     /// How many lines of the output begin with the front.
-    pub fn count_lines(&self, front: &str) -> Result<usize, Fail> {
+    pub fn count_lines(&self, front: &str) -> Result<u64, Fail> {
         let lines = std::str::from_utf8(&self.output)?.lines();
-        Ok(lines.filter(|line| line.starts_with(front)).count())
+        Ok(lines.filter(|line| line.starts_with(front)).count() as u64)
     }
 
     /// The number of the line with this name.
-    pub fn number(&self, name: &str) -> Result<Option<u64>, Fail> {
-        let front = std::str::from_utf8(&self.output)?
+    fn number(&self, name: &str) -> Result<u64, Fail> {
+        let rest = std::str::from_utf8(&self.output)?
             .lines()
             .find_map(|line| line.strip_prefix(name));
-        Ok(front.and_then(|rest| rest.trim().parse().ok()))
+        match rest.and_then(|rest| rest.parse().ok()) {
+            Some(number) => Ok(number),
+            None => Err(Fail::new("a count is missing")),
+        }
     }
 }
 
-pub fn draft_run<R: Read>(alloc: Global, input: &mut R) -> Run {
-    let mut run = Run::new(alloc);
-    run.status = tool_draft(alloc, input, &mut run.output, &mut run.faults);
-    run
+/// What a run of the tool `run` counted.
+#[derive(Clone, Copy)]
+pub struct Counts {
+    pub calls: u64,
+    /// How many calls were answered true or false.
+    pub answered: u64,
+    pub fulls: u64,
+    pub keys: u64,
 }
 
-pub fn replay_run<R: Read>(alloc: Global, input: &mut R) -> Run {
-    let mut run = Run::new(alloc);
-    run.status = tool_replay(alloc, input, &mut run.output, &mut run.faults);
-    run
+/// The counts in the output of a run.
+pub fn counts_of(run: &Run) -> Result<Counts, Fail> {
+    let trues = run.number("true ")?;
+    let falses = run.number("false ")?;
+    Ok(Counts {
+        calls: run.number("calls ")?,
+        answered: trues.saturating_add(falses),
+        fulls: run.number("full ")?,
+        keys: run.number("keys ")?,
+    })
 }
 
-pub fn check_run<R: Read>(alloc: Global, input: &mut R) -> Run {
-    let mut run = Run::new(alloc);
-    run.status = tool_check(alloc, input, &mut run.output, &mut run.faults);
-    run
-}
-
-pub fn texts(alloc: Global, values: &[&str]) -> Result<Vec<String>, Fail> {
+/// The words of a line.
+pub fn texts(alloc: Global, line: &str) -> Result<Vec<String>, Fail> {
     let mut texts = Vec::new(alloc);
-    for value in values {
-        texts.push(String::from_str(alloc, value)?)?;
+    for word in line.split(' ') {
+        texts.push(String::from_str(alloc, word)?)?;
     }
     Ok(texts)
 }
 
-pub fn example_run(alloc: Global, broken: bool, name: Option<&str>) -> Run {
-    let mut run = Run::new(alloc);
-    run.status = tool_example(alloc, broken, name, &mut run.output, &mut run.faults);
-    run
-}
-
-pub fn trace_run(alloc: Global, chains: bool, mut input: &[u8]) -> Run {
-    let mut run = Run::new(alloc);
-    run.status = tool_trace(alloc, chains, &mut input, &mut run.output, &mut run.faults);
-    run
-}
-
-pub fn gen_run(alloc: Global, values: &[&str]) -> Result<Run, Fail> {
-    let values = texts(alloc, values)?;
-    let mut run = Run::new(alloc);
-    run.status = tool_gen(alloc, &values, &mut run.output, &mut run.faults);
-    Ok(run)
-}
-
-/// The tool `run` on these values.
+/// The tool `run` on the words of a line.
 pub fn threads_run<R: Threads + Wait + Sync>(
     rt: &R,
     alloc: Global,
-    values: &[&str],
+    line: &str,
 ) -> Result<Run, Fail> {
-    let values = texts(alloc, values)?;
+    let values = texts(alloc, line)?;
     let mut run = Run::new(alloc);
     run.status = tool_run(rt, alloc, &values, &mut run.output, &mut run.faults);
     Ok(run)
 }
 
-/// The program on these words, with this standard input.
-pub fn words_run<
-    H: Files + Net<Listener = TcpListener, Stream = TcpStream> + Threads + Wait + Clock + Sync,
->(rt: &H, alloc: Global, words: &[&str], input: &str) -> Run {
-    let mut run = Run::new(alloc);
-    let mut input = input.as_bytes();
-    run.status = run_words(
-        rt,
-        alloc,
-        words,
-        &mut input,
-        &mut run.output,
-        &mut run.faults,
-    );
-    run
+/// On these values behind its kind, `run` of each list writes the text.
+pub fn assert_each_list_writes<R: Threads + Wait + Abort + Sync>(
+    rt: &R,
+    alloc: Global,
+    values: &str,
+    wanted: &str,
+) -> Result<(), Fail> {
+    for kind in &KINDS {
+        let line = format!(in alloc; "{kind} {values}")?;
+        let run = threads_run(rt, alloc, &line)?;
+        assert!(rt; run.status == 0, "{line}");
+        assert!(rt; run.output.as_slice() == wanted.as_bytes(), "{line}");
+        assert!(rt; run.faults.is_empty(), "{line}");
+    }
+    Ok(())
 }
