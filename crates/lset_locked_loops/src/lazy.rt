@@ -18,6 +18,7 @@ use std::marker::{Brand, PhantomData};
 use std::sync::Wait;
 
 /// Walks from the head, whose link led to `first`, to the first key that is not below that of the call.
+#[inline(always)]
 fn walk<O: Origin, R: Wait, P: Pause>(
     caller: &Caller<LazyList, O, R, P>,
     place: &mut Place,

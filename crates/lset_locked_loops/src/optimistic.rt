@@ -24,7 +24,7 @@ pub(crate) struct Stopped {
 }
 
 /// Walks from the head, whose link led to `first`, to the first key that is not below that of the call.
-#[inline(never)]
+#[inline(always)]
 fn walk<O: Origin, R: Wait, P: Pause>(
     caller: &Caller<OptimisticList, O, R, P>,
     place: &mut Place,
@@ -53,7 +53,7 @@ fn walk<O: Origin, R: Wait, P: Pause>(
 
 /// Walks a second time from the head, as far as `pred`. Answers whether it came there: not where it saw a key above that of
 /// `pred`.
-#[inline(never)]
+#[inline(always)]
 fn reaches<O: Origin, R: Wait, P: Pause>(
     caller: &Caller<OptimisticList, O, R, P>,
     place: &mut Place,

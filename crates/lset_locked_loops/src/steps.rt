@@ -13,22 +13,16 @@ use std::marker::Brand;
 use std::sync::Wait;
 
 impl<'a, M: Machine, O: Origin, R: Wait, P: Pause> Caller<'a, M, O, R, P> {
-    /// Loads the word with this index.
-    fn load(&self, place: &mut Place, word: u64) -> u64
-        requires { MayStep M.table O.begun (Load word) place.old }
-        ensures { HasStepped M.table O.begun place.old result place.new }
-    {
-        let seen = load_on::<M>(self.table, place, word);
-        self.pause.moved(self.slots.thread, false);
-        seen
-    }
-
     /// Loads the key word of a node.
     pub(crate) fn load_key(&self, place: &mut Place, node: Node) -> u64
         requires { MayStep M.table O.begun (Load (key_index node.number)) place.old }
         ensures { HasStepped M.table O.begun place.old result place.new }
     {
-        self.load(place, key_index(node.number))
+        let seen = load_on::<M>(self.table, place, key_index(node.number));
+        if P::EACH_STEP {
+            self.pause.moved(self.slots.thread, false);
+        }
+        seen
     }
 
     /// Loads the link word of a node.
@@ -36,7 +30,11 @@ impl<'a, M: Machine, O: Origin, R: Wait, P: Pause> Caller<'a, M, O, R, P> {
         requires { MayStep M.table O.begun (Load (link_index node.number)) place.old }
         ensures { HasStepped M.table O.begun place.old result place.new }
     {
-        self.load(place, link_index(node.number))
+        let seen = load_on::<M>(self.table, place, link_index(node.number));
+        if P::EACH_STEP {
+            self.pause.moved(self.slots.thread, false);
+        }
+        seen
     }
 
     /// Stores a value in the word with this index.

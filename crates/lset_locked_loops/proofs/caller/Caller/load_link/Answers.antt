@@ -1,7 +1,7 @@
 use Rattle.std.proofs.Common.{◌<◌, arith}
 use Rattle.lset_words.specs.declared.TheConstants.{MOST_WORDS}
 use Rattle.lset_words.specs.Words.{link_index}
-use Rattle.lset_locked_loops.proofs.Calling.{few_words}
+use Rattle.lset_locked_loops.proofs.Calling.{few_words, leads}
 use Rattle.lset_locked_loops.proofs.caller.Caller.load_link.Goals as goal
 
 pub link_index-requires : goal.link_index-requires
@@ -9,3 +9,11 @@ link_index-requires g c =
     let few : link_index c.args.node.number < MOST_WORDS = few_words g.M.Machine.table g.O.Origin.begun g.met.M.Machine.lawful _
     c.args.place.now c.requires in
     omega arith
+
+pub returns-then-EACH_STEP : goal.returns-then-EACH_STEP
+returns-then-EACH_STEP g c = leads g.M.Machine.table g.O.Origin.begun _ c.args.place.now c.load_on-seen.result
+    c.load_on-seen.new.place c.requires c.load_on-seen.ensures.place c.load_on-seen.ensures.goes
+
+pub returns-else-EACH_STEP : goal.returns-else-EACH_STEP
+returns-else-EACH_STEP g c = leads g.M.Machine.table g.O.Origin.begun _ c.args.place.now c.load_on-seen.result
+    c.load_on-seen.new.place c.requires c.load_on-seen.ensures.place c.load_on-seen.ensures.goes
