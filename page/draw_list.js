@@ -74,8 +74,6 @@ function nodesAside(state, chain, important) {
   return { shown: latest.slice(0, MOST_ASIDE), more: Math.max(0, aside.length - MOST_ASIDE) };
 }
 
-const keyNumber = (key) => (key === "-inf" ? -1 : key === "+inf" ? Infinity : Number(key));
-
 // Each node aside stands below the place that its key has in the chain, or right of it where that is taken.
 function placeAside(state, chain, shown, places, y) {
   const taken = [];
@@ -119,7 +117,7 @@ function drawNode(state, name, place, event) {
     tag("rect", box),
     tag("line", { class: "side", x1: side, x2: side, y1: y, y2: y + NODE_HEIGHT }),
     drawKey(node, (x + side) / 2, y + 34, hot === name && field === "key"),
-    label({ class: "name", x: x + 2, y: y - 7 }, name),
+    label({ class: "name", x: x + 2, y: y - 10 }, name),
     isMarked ? label({ class: "cross", x: side + LINK_WIDTH / 2, y: y + 34 }, "✗") : "",
     node.lock === "free" ? "" : drawLock(node.lock, x + NODE_WIDTH - 38, y - 28),
   );
