@@ -69,7 +69,8 @@ function contrastsInBars(sheet, scheme, colours) {
     const part = Number(share.exec(sheet)[1]);
     const grounds = THREADS.map((thread) => ({ thread, bar: mixed(colours[`t${thread}`], colours.paper, part) }));
     const inBar = (text, { thread, bar }) => {
-      return { name: `${scheme}: ${text} in a bar of t${thread}, ${part}`, contrast: contrastOf(colours[text], bar), least: TEXT };
+      const name = `${scheme}: ${text} in a bar of t${thread}, ${part}`;
+      return { name, contrast: contrastOf(colours[text], bar), least: TEXT };
     };
     return texts.flatMap((text) => grounds.map((ground) => inBar(text, ground)));
   });
