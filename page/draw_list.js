@@ -5,6 +5,7 @@ const NODE_WIDTH = 94;
 const NODE_HEIGHT = 54;
 const LINK_WIDTH = 24;
 const GAP = 48;
+const LEAST_GAP = 12; // between nodes that are not in the chain
 const FOLD_WIDTH = 84;
 const TOP = 58;
 const MOST_UNFOLDED = 14; // a longer chain is folded
@@ -74,8 +75,6 @@ function nodesAside(state, chain, important) {
   return { shown: latest.slice(0, MOST_ASIDE), more: Math.max(0, aside.length - MOST_ASIDE) };
 }
 
-const keyNumber = (key) => (key === "-inf" ? -1 : key === "+inf" ? Infinity : Number(key));
-
 // Each node aside stands below the place that its key has in the chain, or right of it where that is taken.
 function placeAside(state, chain, shown, places, y) {
   const taken = [];
@@ -85,7 +84,7 @@ function placeAside(state, chain, shown, places, y) {
     const before = chain.filter((other) => keyNumber(state.nodes[other].key) < key);
     const place = places[before[before.length - 1] ?? "head"];
     let x = place.x + (place.width + GAP) / 2;
-    while (taken.some((other) => Math.abs(other - x) < NODE_WIDTH + 12)) x += NODE_WIDTH + 16;
+    while (taken.some((other) => Math.abs(other - x) < NODE_WIDTH + LEAST_GAP)) x += NODE_WIDTH + 16;
     places[name] = { x, y, width: NODE_WIDTH, aside: true, lane: taken.length % 3 };
     taken.push(x);
   }
@@ -119,7 +118,7 @@ function drawNode(state, name, place, event) {
     tag("rect", box),
     tag("line", { class: "side", x1: side, x2: side, y1: y, y2: y + NODE_HEIGHT }),
     drawKey(node, (x + side) / 2, y + 34, hot === name && field === "key"),
-    label({ class: "name", x: x + 2, y: y - 7 }, name),
+    label({ class: "name", x: x + 2, y: y - 10 }, name),
     isMarked ? label({ class: "cross", x: side + LINK_WIDTH / 2, y: y + 34 }, "✗") : "",
     node.lock === "free" ? "" : drawLock(node.lock, x + NODE_WIDTH - 38, y - 28),
   );
@@ -181,11 +180,10 @@ function drawLink(state, name, places, event) {
 }
 
 function pathOf(from, to, x1, y1) {
-  const x2 = to.x - 3;
-  const y2 = to.y + NODE_HEIGHT / 2;
-  if (!from.aside && !to.aside) return `M${x1} ${y1} L${x2} ${y2}`;
   if (from.aside && !to.aside) return pathUp(from, to, x1, y1);
-  return `M${x1} ${y1} C${x1 + 50} ${y1}, ${x2 - 30} ${y2}, ${x2} ${y2}`;
+  const isNext = to.x > from.x && to.x - from.x < 2 * (NODE_WIDTH + LEAST_GAP);
+  if (from.aside && !isNext) return pathOver(from, to, x1, y1);
+  return `M${x1} ${y1} L${to.x - 3} ${to.y + NODE_HEIGHT / 2}`;
 }
 
 // From a node below the chain to one in it: along under the registers, and up through the gap left of the node into its side. No
@@ -196,6 +194,11 @@ function pathUp(from, to, x1, y1) {
   const gap = to.x - 32 + 7 * from.lane;
   const y2 = to.y + NODE_HEIGHT - (to.folded ? 14 : 7) - 6 * from.lane;
   return `M${x1} ${y1} H${beside} V${under} H${gap} V${y2} H${to.x - 3}`;
+}
+
+// From a node below the chain to one beside which others stand: along above these, and down between its name and its lock.
+function pathOver(from, to, x1, y1) {
+  return `M${x1} ${y1} H${from.x + NODE_WIDTH + 8} V${from.y - 34 - 6 * from.lane} H${to.x + 48} V${to.y - 3}`;
 }
 
 // Of each node of the chain, the room for labels under it: none of the gap behind it where an arrow comes up there.

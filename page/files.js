@@ -1,6 +1,8 @@
 // Files: a schedule, a trace or a report that is opened; a schedule and a trace that are saved. And the box of the report.
 "use strict";
 
+const REPLY_WIDTH = 60; // of a call in the picture of a report: what stands right of its bar
+
 function saveText(name, text) {
   const link = document.createElement("a");
   link.href = URL.createObjectURL(new Blob([text], { type: "text/plain" }));
@@ -87,8 +89,17 @@ function showPicture(engine, text) {
   byId("picture-box").hidden = !drawn.startsWith("<svg ");
   if (byId("picture-box").hidden) return;
   byId("picture").innerHTML = drawn;
+  scrollToClash();
   const said = engine.ask("listset_show", text).text.trimEnd().split("\n");
   byId("picture-says").textContent = said[said.length - 1].startsWith("refused ") ? said[said.length - 1] : "";
+}
+
+// Brings the first call that clashes into sight, with its reply, where the picture is wider than its place.
+function scrollToClash() {
+  const box = byId("picture");
+  const clash = box.querySelector(".bar.clash");
+  const left = box.getBoundingClientRect().left - box.scrollLeft;
+  box.scrollLeft = clash === null ? 0 : clash.getBoundingClientRect().right + REPLY_WIDTH - left - box.clientWidth;
 }
 
 // The report of the schedule that is shown, or the line about its first fault.

@@ -4,10 +4,10 @@
 //     node page/listset.js check [FILE]             node page/listset.js show [--svg] [FILE]
 //     node page/listset.js example [--broken] [NAME]
 //
-// FILE may be -, the word for the standard input. Output, line about a trouble and exit status are the program's (docs/FORMATS.md),
-// but that wrong words are one line.
-// `show` draws what the program draws without a word about moments or a width. Where node has no 64-bit memories, or the module not the
-// function of the command, it says so and ends with status 70, before it reads anything.
+// FILE may be -, the word for the standard input. Output, line about a trouble and exit status are the program's
+// (docs/FORMATS.md), but that wrong words are one line. `show` draws what the program draws without a word about moments or a
+// width. Where node has no 64-bit memories, or the module not the function of the command, it says so and ends with status 70,
+// before it reads anything.
 "use strict";
 
 const fs = require("fs");

@@ -35,7 +35,7 @@ function wholeName({ trace, event }, name) {
   const whose = isOpeningNode(trace, name) ? "the opening node" : `${chipOf(ownerOf(trace, name))}'s node`;
   const mark = marksOf(trace).get(name);
   if (mark === undefined || mark.number > event.number) return `${whose} ${name}`;
-  return `${whose} ${name}, which ${mark.thread === event.thread ? "it" : chipOf(mark.thread)} marked at event ${mark.number},`;
+  return `${whose} ${name}, which ${chipOf(mark.thread)} marked at event ${mark.number},`;
 }
 
 // What comes of an event. Each says its part, or nothing.
@@ -76,6 +76,12 @@ const OUTCOMES = {
     return `<b>The validation fails:</b> ${reason}. It gives its locks back and walks again.`;
   },
 
+  // Only the last row of a validation goes on to decide.
+  valid({ held, row }) {
+    if (row?.invalid === undefined || !row.then.includes("decide on")) return "";
+    return held.pc === row.invalid && held.reply === "none" ? "" : "The validation holds.";
+  },
+
   again({ event, held, row }) {
     if (row?.again === undefined || held.pc !== row.again || event.answer !== undefined) return "";
     const reason = event.saw?.endsWith("*") && event.deed === "load" ? `${ownerIn(event.word)} is marked: it` : "It";
@@ -89,15 +95,16 @@ const OUTCOMES = {
     if (event.answer !== undefined) return `<b>${owner} is marked</b>, ${where} in the chain.`;
     if (event.changes.curr !== undefined) return `${owner} is marked, and the walk goes on over it.`;
     const next = LISTS[trace.kind].rows[held.pc]?.step ?? "";
-    return next.startsWith("exchange link of pred") ? `<b>${owner} is marked:</b> it goes on to take it out.` : "";
+    if (next.startsWith("exchange link of pred")) return `<b>${owner} is marked:</b> it goes on to take it out.`;
+    return next.startsWith("exchange link of curr") ? `<b>${owner} is marked already:</b> its exchange is going to fail.` : "";
   },
 
   walk({ trace, event, held, row }) {
     if (event.deed !== "load" || row === undefined) return "";
     if (row.below !== undefined) return walkAtKey(event, held, row);
     if (row.then.includes("node = next(s)")) return `The second walk comes to ${held.node}.`;
-    if (row.then.includes("node is pred") && held.node === held.pred) return `The second walk meets pred, ${held.pred}.`;
-    if (event.changes.curr === undefined || held.pc === row.again) return "";
+    if (row.then.includes("node is pred")) return secondWalkAtKey(held, row);
+    if (!row.then.includes("curr = next(s)")) return "";
     const opening = isOpeningNode(trace, held.curr) ? ", the node of an opening key" : "";
     return `The walk comes to ${held.curr}${opening}.`;
   },
@@ -134,8 +141,13 @@ function walkAtKey(event, held, row) {
   return `<b>The walk stops at ${owner},</b> the first whose key is above ${key}.`;
 }
 
-const isOpeningNode = (trace, name) => /^n/.test(name) && Number(name.slice(1)) >= firstOpeningNode(trace);
+function secondWalkAtKey(held, row) {
+  if (held.pc === row.invalid) return "";
+  if (held.node === held.pred) return `The second walk meets pred, ${held.pred}.`;
+  return `It has not met pred, ${held.pred}: the second walk goes on.`;
+}
 
+const isOpeningNode = (trace, name) => /^n/.test(name) && Number(name.slice(1)) >= firstOpeningNode(trace);
 
 // Where a call that answers here took effect.
 function effectText({ trace, event }) {

@@ -5,6 +5,7 @@
 const BEGUN = { pred: "head", curr: "head", succ: "head", node: "head", pkey: "-inf", ckey: "-inf", reply: "none" };
 const AT_REST = { pc: 0, used: 0, call: null, ...BEGUN };
 const linkTarget = (link) => link.replace("*", "");
+const keyNumber = (key) => (key === "-inf" ? -1 : key === "+inf" ? Infinity : Number(key));
 
 class State {
   constructor(trace) {
@@ -51,12 +52,14 @@ class State {
     if (!target.reached) set(target, "reached", true);
   }
 
-  // The lock words that are taken, by the thread that has them, as { t0: ["head.lock"] }.
+  // The lock words that are taken, by the thread that has them, as { t0: ["head.lock"] }: those of nodes by rising keys.
   locks() {
     const held = {};
     const add = (lock, word) => lock !== "free" && (held[lock] ??= []).push(word);
     add(this.lock, "list.lock");
-    for (const name in this.nodes) add(this.nodes[name].lock, `${name}.lock`);
+    const locked = Object.entries(this.nodes).filter(([, node]) => node.lock !== "free");
+    locked.sort(([, one], [, other]) => keyNumber(one.key) - keyNumber(other.key));
+    for (const [name, node] of locked) add(node.lock, `${name}.lock`);
     return held;
   }
 

@@ -1,4 +1,4 @@
-// Which labels of registers an arrow of a drawn list crosses: by the numbers in the drawing.
+// Which labels of registers and which nodes an arrow of a drawn list crosses: by the numbers in the drawing.
 "use strict";
 
 const LABEL_HEIGHT = 12; // above the line on which it is written; below it are 3
@@ -35,9 +35,24 @@ function curveFrom(from, [x1, y1, x2, y2, x3, y3]) {
   });
 }
 
+const arrowsIn = (drawing) => [...drawing.matchAll(/<path d="(M[^"]*)" marker-end=/g)].map((found) => pointsOf(found[1]));
+
+// The keys of the nodes of a drawing that an arrow of it crosses which begins in another node; it ends outside its target.
+function crossedNodes(drawing) {
+  const box = /<rect x="([^"]*)" y="([^"]*)" width="([^"]*)" height="([^"]*)" rx="5" class="box.*?class="key[^>]*>([^<]*)</g;
+  const nodes = [...drawing.matchAll(box)].map(([, ...numbers]) => {
+    const [x, y, width, height] = numbers.slice(0, 4).map(Number);
+    const isIn = (point) => point.x > x && point.x < x + width && point.y > y && point.y < y + height;
+    return { key: numbers[4], isIn };
+  });
+  const arrows = arrowsIn(drawing);
+  const isCrossed = ({ isIn }) => arrows.some(([first, ...points]) => !isIn(first) && points.some(isIn));
+  return nodes.filter(isCrossed).map(({ key }) => key);
+}
+
 // The labels of a drawing that an arrow of it crosses.
 function crossedLabels(drawing) {
-  const arrows = [...drawing.matchAll(/<path d="(M[^"]*)" marker-end=/g)].flatMap((found) => pointsOf(found[1]));
+  const arrows = arrowsIn(drawing).flat();
   const labels = [...drawing.matchAll(/<text class="pointer [^"]*" x="([^"]*)" y="([^"]*)">([^<]*)</g)];
   const isIn = ({ x, y }, [, left, line, text]) =>
     x > Number(left) && x < Number(left) + SIGN_WIDTH * text.length && y > Number(line) - LABEL_HEIGHT && y < Number(line) + 3;

@@ -10,11 +10,27 @@ const GROUNDS_OF = {
   bad: ["paper", "wash", "now"],
 };
 const THREADS = [0, 1, 2, 3, 4, 5, 6, 7];
+// The texts in the bars of the history, with the share of the thread's colour in the bar: of begun ones, and of those to come.
+const BARS = [
+  { share: /\.bar rect \{[^}]*fill-opacity: ([.0-9]+)/, texts: ["ink", "soft"] },
+  { share: /\.bar\.later rect \{[^}]*fill-opacity: ([.0-9]+)/, texts: ["pale"] },
+];
+
+// Red, green and blue, from 0 to 255.
+function partsOfColour(colour) {
+  const digits = colour.length === 4 ? [...colour.slice(1)].map((digit) => digit + digit).join("") : colour.slice(1);
+  return [0, 2, 4].map((at) => parseInt(digits.slice(at, at + 2), 16));
+}
+
+function mixed(colour, ground, share) {
+  const grounds = partsOfColour(ground);
+  const parts = partsOfColour(colour).map((part, at) => Math.round(share * part + (1 - share) * grounds[at]));
+  return `#${parts.map((part) => part.toString(16).padStart(2, "0")).join("")}`;
+}
 
 function lightOf(colour) {
-  const digits = colour.length === 4 ? [...colour.slice(1)].map((digit) => digit + digit).join("") : colour.slice(1);
-  const [red, green, blue] = [0, 2, 4].map((at) => {
-    const part = parseInt(digits.slice(at, at + 2), 16) / 255;
+  const [red, green, blue] = partsOfColour(colour).map((given) => {
+    const part = given / 255;
     return part <= 0.03928 ? part / 12.92 : ((part + 0.055) / 1.055) ** 2.4;
   });
   return 0.2126 * red + 0.7152 * green + 0.0722 * blue;
@@ -44,6 +60,18 @@ function contrastsOf(sheet) {
     const texts = Object.entries(GROUNDS_OF).flatMap(([text, grounds]) => grounds.map((ground) => pair(text, ground, TEXT)));
     const edges = ["paper", "wash"].map((ground) => pair("edge", ground, EDGE));
     const threads = THREADS.flatMap((thread) => [pair("chip-ink", `t${thread}`, TEXT), pair(`t${thread}`, "paper", TEXT)]);
-    return [...texts, ...edges, ...threads];
+    return [...texts, ...edges, ...threads, ...contrastsInBars(sheet, scheme, colours)];
+  });
+}
+
+function contrastsInBars(sheet, scheme, colours) {
+  return BARS.flatMap(({ share, texts }) => {
+    const part = Number(share.exec(sheet)[1]);
+    const grounds = THREADS.map((thread) => ({ thread, bar: mixed(colours[`t${thread}`], colours.paper, part) }));
+    const inBar = (text, { thread, bar }) => {
+      const name = `${scheme}: ${text} in a bar of t${thread}, ${part}`;
+      return { name, contrast: contrastOf(colours[text], bar), least: TEXT };
+    };
+    return texts.flatMap((text) => grounds.map((ground) => inBar(text, ground)));
   });
 }

@@ -16,7 +16,8 @@ function check(result, name, isGood) {
   else result.failed.push(name);
 }
 
-// Each trace is read, its schedule is the one that was given, and the state goes on and back to where it began. Some end ceilings.
+// Each trace is read, its schedule is the one that was given, and the state goes on and back to where it began. Some end
+// ceilings.
 function checkTraces(result, engine, cases) {
   const replies = new Set();
   for (const { text } of cases.filter((wanted) => wanted.function === "listset_trace")) {

@@ -177,6 +177,8 @@ async function driveBrokenReports(open) {
   part("see-broken").click();
   await sleep(100);
   check("it is shown from beside the picture", isShown() && part("report-box").open);
+  const box = part("picture");
+  check("and nothing of it is cut off", box.scrollWidth <= box.clientWidth && isClashInSight());
   const report = textOf("report");
   await foldReport();
   pick("snip");

@@ -229,6 +229,18 @@ async function driveTold() {
   check(`a link: ${told()}`, /^(Copy this link|The link is copied): .*#example=marked-in-chain&event=23$/.test(told()));
 }
 
+// On a narrow screen the picture of a report is wider than its place: the call that clashes is brought into sight.
+async function driveClash() {
+  pick("left-in-chain");
+  part("see-broken").click();
+  await sleep(100);
+  check("the call that clashes is in sight", textOf("checked") === "refused WrongReply 3" && isClashInSight());
+  const isNarrow = frame.clientWidth <= 940;
+  check("where the picture has room, or has none", part("picture").scrollLeft > 0 === isNarrow);
+  part("report-box").open = false;
+  await sleep(50); // that is told to the page later
+}
+
 // What the lessons use of the page.
 function driveInterface() {
   inPage("globalThis.shows = 0, thePage.addEventListener('shown', () => shows++)");
@@ -291,6 +303,7 @@ async function driveWork() {
   driveLimit();
   await drivePlay();
   await driveTold();
+  await driveClash();
   driveInterface();
   drivePlaces();
   await driveManyEvents();

@@ -52,6 +52,13 @@ const textsOf = (elements) => [...elements].map((element) => element.textContent
 const rowOf = (thread) => textsOf(part("threads").querySelectorAll("tbody tr")[thread].children);
 const orderShown = () => textsOf(part("order").querySelectorAll("li"));
 
+// Whether the first call that clashes, in the picture of a report, is within the place of the picture.
+function isClashInSight() {
+  const place = part("picture").getBoundingClientRect();
+  const clash = part("picture").querySelector(".bar.clash").getBoundingClientRect();
+  return clash.left >= place.left && clash.right <= place.right;
+}
+
 async function isReady() {
   while (frame.contentDocument?.body?.dataset.ready !== "yes") await sleep(20);
 }

@@ -54,11 +54,31 @@ function checkSentences(engine) {
   check("a key below", lazy.includes("t0 reads n2.key: 5. 5 is below 7: the walk goes on."));
   check("an add goes on", lazy.some((text) => text.endsWith("5 is not there: it goes on to put it in.")));
   check("a remove goes on", lazy.some((text) => text.endsWith("5 is there: it goes on to take it out.")));
-  const unlink = lazy.find((text) => text.includes("This takes t0's node n2, which it marked at event"));
+  const unlink = lazy.find((text) => text.includes("This takes t0's node n2, which t1 marked at event"));
   check("the unlink of LazyList", unlink?.endsWith("It will answer true."));
   check("the last lock", lazy[10].startsWith("t0 gives tail.lock back. It has head.lock."));
   const walk = sentences([...header("optimistic", 4), "begin 0 add 5", "go 0 10", "begin 0 add 7", "go 0 8"]);
   check("the second walk meets pred", walk[walk.length - 1] === "t0 reads n2.key: 5. The second walk meets pred, n2.");
+  checkValidations(sentences, header);
+  const stale = sentences(engine.ask("listset_example", "stale-pred").text.trimEnd().split("\n"));
+  check("locks by their nodes' keys", stale[27] === "t0 takes tail.lock. It has n6.lock and tail.lock.");
+  check("a walk that comes to the same node again", stale[32] === "t0 reads head.link: tail. The walk comes to tail.");
+  const marked = ["begin 0 add 5", "go 0 6", "begin 0 remove 5", "go 0 3", "begin 1 remove 5", "go 1 5", "go 0 1"];
+  const late = sentences([...header("lock-free", 4), ...marked]).pop();
+  check("a mark that came before", late.endsWith("tail, marked. n2 is marked already: its exchange is going to fail."));
+}
+
+// What is told of validations that hold, and of the second walk up to pred.
+function checkValidations(sentences, header) {
+  const adds = ["begin 0 add 5", "go 0 10", "begin 0 add 7", "go 0 14", "begin 0 add 9", "go 0 11"];
+  const told = sentences([...header("optimistic", 4), ...adds]);
+  const held = "t0 reads head.link: tail. The validation holds. 5 is not there: it goes on to put it in.";
+  check("a validation holds", told[5] === held);
+  check("the second walk goes on", told.includes("t0 reads n2.key: 5. It has not met pred, n3: the second walk goes on."));
+  const lazy = sentences([...header("lazy", 4), "begin 0 add 5", "go 0 11", "begin 1 add 5", "go 1 6"]);
+  const ofLazy = "t0 reads tail.link: tail. The validation holds. 5 is not there: it goes on to put it in.";
+  check("that of LazyList", lazy[5] === "t0 reads head.link: tail." && lazy[6] === ofLazy);
+  check("and leads to a reply", lazy.pop() === "t1 reads n2.link: tail. The validation holds. It will answer false.");
 }
 
 const refusalOf = (hash) => {
@@ -111,7 +131,7 @@ function checkTraces(engine, names) {
   }
 }
 
-// No arrow crosses the label of a register, at any event of an example and of a run in which nodes come and go.
+// No arrow crosses the label of a register or a node, at any event of an example and of a run in which nodes come and go.
 function checkArrows(engine, texts) {
   let labels = 0;
   for (const text of texts) {
@@ -121,13 +141,17 @@ function checkArrows(engine, texts) {
       state.moveTo(index + 1);
       const drawing = inPage("drawList")(state, event, 860);
       labels += drawing.split('class="pointer').length - 1;
-      return inPage("crossedLabels")(drawing).map((label) => `${label} at event ${index + 1}`);
+      const found = [...inPage("crossedLabels")(drawing), ...inPage("crossedNodes")(drawing)];
+      return found.map((what) => `${what} at event ${index + 1}`);
     });
-    check(`arrows cross labels (${crossed.slice(0, 5)}) of ${text.slice(0, 200)}`, crossed.length === 0);
+    check(`arrows cross labels or nodes (${crossed.slice(0, 5)}) of ${text.slice(0, 200)}`, crossed.length === 0);
   }
   check("labels were drawn", labels > 1000);
   const drawn = '<path d="M0 0 L200 0" marker-end="x"></path><text class="pointer thread-0" x="50" y="5">▲ t0 curr</text>';
   check("an arrow over a label is seen", inPage("crossedLabels")(drawn).join() === "▲ t0 curr");
+  const nodeAt = (x) => `<rect x="${x}" y="-20" width="90" height="40" rx="5" class="box"></rect><text class="key">${x}</text>`;
+  const over = `${nodeAt(0)}${nodeAt(100)}<path d="M50 0 L250 0" marker-end="x"></path>`;
+  check("an arrow over another node is seen", inPage("crossedNodes")(over).join() === "100");
 }
 
 // Five threads that add, remove and look, one to three steps each in turn, on each list.

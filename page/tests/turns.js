@@ -68,7 +68,7 @@ const TURNS = {
   "ceiling-left-in-chain": {
     21: "n2 is left in the chain, marked",
     27: "n2 is marked: it begins its walk again",
-    33: "This takes t0's node n2, which it marked at event 19, out of the chain",
+    33: "This takes t0's node n2, which t1 marked at event 19, out of the chain",
     38: "puts 7 into the set",
     43: "answers at-7; it took effect at event 38, a step of t1",
   },
