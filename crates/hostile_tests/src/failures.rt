@@ -1,7 +1,7 @@
 //! Each read and each write of each run of the tools, in turn.
 use crate::devices::{Failure, Plan, WHOLE};
 use crate::row_texts::{CANNOT_READ, CANNOT_WRITE};
-use crate::rows::{ROWS, Row, Run, example_rows, ran, row_of};
+use crate::rows::{Row, Run, example_rows, first_row, ran, row_of, rows};
 use std::alloc::Global;
 use std::process::Abort;
 use std::sync::Wait;
@@ -112,7 +112,7 @@ fn each_row_fails<R: Threads + Wait + Sync + Abort>(
     let [example, broken] = example_rows();
     let of_example = each_call_fails(rt, alloc, example, device, way)?;
     let mut runs = each_call_fails(rt, alloc, broken, device, way)?.saturating_add(of_example);
-    for row in &ROWS {
+    for row in rows() {
         runs = runs.saturating_add(each_call_fails(rt, alloc, row_of(row), device, way)?);
     }
     Ok(runs)
@@ -172,7 +172,7 @@ fn both_fail_at_read<R: Threads + Wait + Sync + Abort>(
 /// Each read of the first row.
 #[test]
 fn a_read_and_the_line_about_it_fail(rt: HostRuntime) -> Result<(), Fail> {
-    let row = row_of(&ROWS[0]);
+    let row = first_row();
     for read in 0..row.input.len().saturating_add(1) {
         both_fail_at_read(&rt, rt.alloc(), row, read)?;
     }
@@ -198,7 +198,7 @@ fn both_fail_at_write<R: Threads + Wait + Sync + Abort>(
 /// Each write on the output of the first row.
 #[test]
 fn a_write_and_the_line_about_it_fail(rt: HostRuntime) -> Result<(), Fail> {
-    let row = row_of(&ROWS[0]);
+    let row = first_row();
     for call in 0..row.output.len() {
         both_fail_at_write(&rt, rt.alloc(), row, call)?;
     }

@@ -54,8 +54,10 @@ pub struct Row {
 /// A tool, its input, its status, what it writes on the output, and the line that it tells.
 type Told = (Tool, &'static str, u8, &'static str, &'static str);
 
-pub const ROWS: [Told; 21] = [
-    (Tool::Replay, SCHEDULE, 0, REPORT, ""),
+const FIRST: Told = (Tool::Replay, SCHEDULE, 0, REPORT, "");
+
+static ROWS: [Told; 21] = [
+    FIRST,
     (Tool::Replay, CEILING, 0, CEILING_REPORT, ""),
     (Tool::Replay, REPORT, 1, "", NO_TITLE),
     (Tool::Check, REPORT, 0, "ok\n", ""),
@@ -86,6 +88,15 @@ pub fn row_of(&(tool, input, status, output, faults): &Told) -> Row {
         output,
         faults,
     }
+}
+
+pub fn first_row() -> Row {
+    row_of(&FIRST)
+}
+
+/// All but those of the examples.
+pub fn rows() -> &'static [Told] {
+    &ROWS
 }
 
 /// An example, and a broken report.
