@@ -1,7 +1,7 @@
 //! Each read and each write of each run of the tools, in turn.
 use crate::devices::{Failure, Plan, WHOLE};
 use crate::row_texts::{CANNOT_READ, CANNOT_WRITE};
-use crate::rows::{Row, Run, ran, rows};
+use crate::rows::{Row, Run, example_rows, first_row, ran, row_of, rows};
 use std::alloc::Global;
 use std::process::Abort;
 use std::sync::Wait;
@@ -97,8 +97,7 @@ fn each_call_fails<R: Threads + Wait + Sync + Abort>(
             assert!(rt; run.is_unharmed(row));
             return Ok(fails_at);
         }
-        assert!(rt; device.is_met(row, &run));
-        assert_eq!(rt; device.calls(&run), fails_at + 1);
+        assert!(rt; device.is_met(row, &run) && device.calls(&run) == fails_at + 1);
     }
     Err(Fail::new("no run ends without a failure"))
 }
@@ -110,76 +109,98 @@ fn each_row_fails<R: Threads + Wait + Sync + Abort>(
     device: Device,
     way: Way,
 ) -> Result<usize, Fail> {
-    let mut runs = 0usize;
+    let [example, broken] = example_rows();
+    let of_example = each_call_fails(rt, alloc, example, device, way)?;
+    let mut runs = each_call_fails(rt, alloc, broken, device, way)?.saturating_add(of_example);
     for row in rows() {
-        runs = runs.saturating_add(each_call_fails(rt, alloc, row, device, way)?);
+        runs = runs.saturating_add(each_call_fails(rt, alloc, row_of(row), device, way)?);
+    }
+    Ok(runs)
+}
+
+/// How many runs there are in all ways.
+fn each_way_fails<R: Threads + Wait + Sync + Abort>(
+    rt: &R,
+    alloc: Global,
+    device: Device,
+    ways: &[Way],
+) -> Result<usize, Fail> {
+    let mut runs = 0usize;
+    for way in ways {
+        runs = runs.saturating_add(each_row_fails(rt, alloc, device, *way)?);
     }
     Ok(runs)
 }
 
 #[test]
 fn each_read_fails_in_turn(rt: HostRuntime) -> Result<(), Fail> {
-    let mut runs = 0usize;
-    for way in READS {
-        runs = runs.saturating_add(each_row_fails(&rt, rt.alloc(), Device::Input, way)?);
-    }
-    assert_eq!(rt; runs, 4_244);
+    assert!(rt; each_way_fails(&rt, rt.alloc(), Device::Input, &READS)? == 4_244);
     Ok(())
 }
 
 #[test]
 fn each_write_on_the_output_fails_in_turn(rt: HostRuntime) -> Result<(), Fail> {
-    let mut runs = 0usize;
-    for way in WRITES {
-        runs = runs.saturating_add(each_row_fails(&rt, rt.alloc(), Device::Output, way)?);
-    }
-    assert_eq!(rt; runs, 7_912);
+    assert!(rt; each_way_fails(&rt, rt.alloc(), Device::Output, &WRITES)? == 7_912);
     Ok(())
 }
 
 #[test]
 fn each_write_of_a_line_fails_in_turn(rt: HostRuntime) -> Result<(), Fail> {
-    let mut runs = 0usize;
-    for way in WRITES {
-        runs = runs.saturating_add(each_row_fails(&rt, rt.alloc(), Device::Faults, way)?);
-    }
-    assert_eq!(rt; runs, 252);
+    assert!(rt; each_way_fails(&rt, rt.alloc(), Device::Faults, &WRITES)? == 252);
     Ok(())
 }
 
-/// Each read of the first row, and beside it each write of the line about it.
+/// How the two devices fail that fail in one run.
+const BOTH: Way = (Failure::Interrupted, 1);
+
+/// This read of the row fails, and beside it each write of the line about it.
+fn both_fail_at_read<R: Threads + Wait + Sync + Abort>(
+    rt: &R,
+    alloc: Global,
+    row: Row,
+    read: usize,
+) -> Result<(), Fail> {
+    for write in 0..CANNOT_READ.len() {
+        let plans = [planned(BOTH, read), WHOLE, planned(BOTH, write)];
+        let run = ran(rt, alloc, row, plans)?;
+        assert!(rt; run.status == 1 && run.faults.stopped_within(CANNOT_READ));
+        assert!(rt; run.input.calls == read.saturating_add(1) && run.output.calls == 0);
+    }
+    Ok(())
+}
+
+/// Each read of the first row.
 #[test]
 fn a_read_and_the_line_about_it_fail(rt: HostRuntime) -> Result<(), Fail> {
-    let [row, ..] = rows();
-    let way = (Failure::Interrupted, 1);
+    let row = first_row();
     for read in 0..row.input.len().saturating_add(1) {
-        for write in 0..CANNOT_READ.len() {
-            let plans = [planned(way, read), WHOLE, planned(way, write)];
-            let run = ran(&rt, rt.alloc(), row, plans)?;
-            assert_eq!(rt; run.status, 1);
-            assert!(rt; run.faults.stopped_within(CANNOT_READ));
-            assert_eq!(rt;
-                (run.input.calls, run.output.calls),
-                (read.saturating_add(1), 0)
-            );
-        }
+        both_fail_at_read(&rt, rt.alloc(), row, read)?;
     }
     Ok(())
 }
 
-/// Each write on the output of the first row, and beside it each write of the line about it.
+/// This write on the output of the row fails, and beside it each write of the line about it.
+fn both_fail_at_write<R: Threads + Wait + Sync + Abort>(
+    rt: &R,
+    alloc: Global,
+    row: Row,
+    call: usize,
+) -> Result<(), Fail> {
+    for write in 0..CANNOT_WRITE.len() {
+        let plans = [WHOLE, planned(BOTH, call), planned(BOTH, write)];
+        let run = ran(rt, alloc, row, plans)?;
+        assert!(rt; run.status == 1 && run.output.stopped_within(row.output));
+        assert!(rt; run.faults.stopped_within(CANNOT_WRITE));
+    }
+    Ok(())
+}
+
+/// Each write on the output of the first row.
 #[test]
 fn a_write_and_the_line_about_it_fail(rt: HostRuntime) -> Result<(), Fail> {
-    let [row, ..] = rows();
-    let way = (Failure::Interrupted, 1);
+    let row = first_row();
     for call in 0..row.output.len() {
-        for write in 0..CANNOT_WRITE.len() {
-            let plans = [WHOLE, planned(way, call), planned(way, write)];
-            let run = ran(&rt, rt.alloc(), row, plans)?;
-            assert_eq!(rt; run.status, 1);
-            assert!(rt; run.output.stopped_within(row.output));
-            assert!(rt; run.faults.stopped_within(CANNOT_WRITE));
-        }
+        both_fail_at_write(&rt, rt.alloc(), row, call)?;
     }
     Ok(())
 }

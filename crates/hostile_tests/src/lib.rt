@@ -1,13 +1,10 @@
-//! Tests of hostile texts, of devices that fail, and of lists beside the sequential set. What is tried, and how often, stands
-//! in docs/TESTING.md.
+//! Tests of devices that fail, and of lists beside the sequential set. What is tried, and how often, stands in docs/TESTING.md.
 #![tactic(auto)]
 
 #[cfg(test)]
 mod devices;
 #[cfg(test)]
 mod failures;
-#[cfg(test)]
-mod long_texts;
 #[cfg(test)]
 mod opening_keys;
 #[cfg(test)]
@@ -18,5 +15,3 @@ mod rows;
 mod sequential;
 #[cfg(test)]
 mod servers;
-#[cfg(test)]
-mod texts;

@@ -51,54 +51,61 @@ pub struct Row {
     pub faults: &'static str,
 }
 
-/// A run that writes on the output.
-fn writes(tool: Tool, input: &'static str, status: u8, output: &'static str) -> Row {
+/// A tool, its input, its status, what it writes on the output, and the line that it tells.
+type Told = (Tool, &'static str, u8, &'static str, &'static str);
+
+const FIRST: Told = (Tool::Replay, SCHEDULE, 0, REPORT, "");
+
+static ROWS: [Told; 21] = [
+    FIRST,
+    (Tool::Replay, CEILING, 0, CEILING_REPORT, ""),
+    (Tool::Replay, REPORT, 1, "", NO_TITLE),
+    (Tool::Check, REPORT, 0, "ok\n", ""),
+    (Tool::Check, CEILING_REPORT, 0, "ok\n", ""),
+    (Tool::Check, LEFT_OUT, 1, "refused Missing 0\n", ""),
+    (Tool::Check, SCHEDULE, 1, "", NO_TITLE),
+    (Tool::Show, SCHEDULE, 0, PICTURE, ""),
+    (Tool::Show, IDLE, 1, IDLE_PICTURE, ""),
+    (Tool::Show, LEFT_OUT, 1, REFUSED_PICTURE, ""),
+    (Tool::Show, TRACE, 1, "", NO_TITLE),
+    (Tool::Svg, SCHEDULE, 0, SHEET, ""),
+    (Tool::TraceChains, SCHEDULE, 0, TRACE, ""),
+    (Tool::Trace, IDLE, 1, IDLE_TRACE, ""),
+    (Tool::Trace, REPORT, 1, "", NO_TITLE),
+    (Tool::Gen("coarse"), "", 0, NO_CALLS, ""),
+    (Tool::Gen("skip"), "", 2, "", "listset: bad KIND\n"),
+    (Tool::Example("snap"), "", 2, "", "listset: bad NAME\n"),
+    (Tool::Broken("full"), "", 2, "", "listset: bad NAME\n"),
+    (Tool::Run("coarse"), "", 0, OUTCOME, ""),
+    (Tool::Run("skip"), "", 2, "", "listset: bad KIND\n"),
+];
+
+pub fn row_of(&(tool, input, status, output, faults): &Told) -> Row {
     Row {
         tool,
         input,
         status,
         output,
-        faults: "",
-    }
-}
-
-/// A run that tells a fault.
-fn tells(tool: Tool, input: &'static str, status: u8, faults: &'static str) -> Row {
-    Row {
-        tool,
-        input,
-        status,
-        output: "",
         faults,
     }
 }
 
-pub fn rows() -> [Row; 23] {
+pub fn first_row() -> Row {
+    row_of(&FIRST)
+}
+
+/// All but those of the examples.
+pub fn rows() -> &'static [Told] {
+    &ROWS
+}
+
+/// An example, and a broken report.
+pub fn example_rows() -> [Row; 2] {
     let broken = Example::StalePred.broken_report_text().unwrap_or("");
+    let full = Example::Full.schedule_text();
     [
-        writes(Tool::Replay, SCHEDULE, 0, REPORT),
-        writes(Tool::Replay, CEILING, 0, CEILING_REPORT),
-        tells(Tool::Replay, REPORT, 1, NO_TITLE),
-        writes(Tool::Check, REPORT, 0, "ok\n"),
-        writes(Tool::Check, CEILING_REPORT, 0, "ok\n"),
-        writes(Tool::Check, LEFT_OUT, 1, "refused Missing 0\n"),
-        tells(Tool::Check, SCHEDULE, 1, NO_TITLE),
-        writes(Tool::Show, SCHEDULE, 0, PICTURE),
-        writes(Tool::Show, IDLE, 1, IDLE_PICTURE),
-        writes(Tool::Show, LEFT_OUT, 1, REFUSED_PICTURE),
-        tells(Tool::Show, TRACE, 1, NO_TITLE),
-        writes(Tool::Svg, SCHEDULE, 0, SHEET),
-        writes(Tool::TraceChains, SCHEDULE, 0, TRACE),
-        writes(Tool::Trace, IDLE, 1, IDLE_TRACE),
-        tells(Tool::Trace, REPORT, 1, NO_TITLE),
-        writes(Tool::Gen("coarse"), "", 0, NO_CALLS),
-        tells(Tool::Gen("skip"), "", 2, "listset: bad KIND\n"),
-        writes(Tool::Example("full"), "", 0, Example::Full.schedule_text()),
-        tells(Tool::Example("snap"), "", 2, "listset: bad NAME\n"),
-        writes(Tool::Broken("stale-pred"), "", 0, broken),
-        tells(Tool::Broken("full"), "", 2, "listset: bad NAME\n"),
-        writes(Tool::Run("coarse"), "", 0, OUTCOME),
-        tells(Tool::Run("skip"), "", 2, "listset: bad KIND\n"),
+        row_of(&(Tool::Example("full"), "", 0, full, "")),
+        row_of(&(Tool::Broken("stale-pred"), "", 0, broken, "")),
     ]
 }
 

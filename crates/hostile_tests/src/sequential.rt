@@ -200,21 +200,40 @@ fn replies(calls: &[CallRecord], reply: Reply) -> usize {
         .count()
 }
 
+/// There are 60 calls, with all three replies among them.
+fn assert_all_replies<R: Abort>(rt: &R, calls: &[CallRecord]) {
+    assert!(rt; calls.len() == 60);
+    assert!(rt; replies(calls, Reply::True) > 0);
+    assert!(rt; replies(calls, Reply::False) > 0);
+    assert!(rt; replies(calls, Reply::Full) > 0);
+}
+
+/// The one thread of a report, whose set opens with these keys, got the replies of the sequential set and left its keys.
+fn assert_sequential<R: Abort>(
+    rt: &R,
+    alloc: Global,
+    keys: &[u32],
+    report: &Report,
+) -> Result<(), Fail>
+    requires { IsStrictlyIncreasing keys.now }
+{
+    let Some(oracle) = made(alloc, keys, report.history.calls())? else {
+        return Err(Fail::new("a reply is another"));
+    };
+    assert!(rt; report.keys == oracle.keys()?);
+    Ok(())
+}
+
 /// One thread gets the replies of the sequential set and leaves its keys, by each list and each seed, and meets all three
 /// replies.
 #[test]
 fn one_thread_is_the_sequential_set(rt: HostRuntime) -> Result<(), Fail> {
-    for kind in KINDS {
+    for &kind in &KINDS {
         for seed in 0..SEEDS {
             let text = ALONE.text(rt.alloc(), kind, seed)?;
             let report = replayed(rt.alloc(), &text)?;
-            let calls = report.history.calls();
-            assert_eq!(rt; calls.len(), 60);
-            for reply in [Reply::True, Reply::False, Reply::Full] {
-                assert!(rt; replies(calls, reply) > 0);
-            }
-            let oracle = made(rt.alloc(), &[], calls)?.ok_or(seed)?;
-            assert_eq!(rt; report.keys, oracle.keys()?);
+            assert_all_replies(&rt, report.history.calls());
+            assert_sequential(&rt, rt.alloc(), &[], &report)?;
         }
     }
     Ok(())
@@ -258,22 +277,26 @@ fn adds_up(report: &Report, most: u32) -> bool {
     report.keys.len() == kept
 }
 
+/// The report of a schedule of keys below 5, whose closing keys add up.
+fn add_up<R: Abort>(rt: &R, alloc: Global, text: &[u8]) -> Result<Report, Fail> {
+    let report = replayed(alloc, text)?;
+    assert!(rt; adds_up(&report, 5));
+    Ok(report)
+}
+
 /// Several threads leave the keys of their adds and removes, key by key, also where the schedule stops early.
 #[test]
 fn several_threads_leave_what_they_added(rt: HostRuntime) -> Result<(), Fail> {
-    for kind in KINDS {
-        let mut open = 0usize;
+    for &kind in &KINDS {
+        let mut found = Found::NONE;
         for seed in 0..SEEDS {
             let text = TOGETHER.text(rt.alloc(), kind, seed)?;
-            let whole = replayed(rt.alloc(), &text)?;
-            assert_eq!(rt; whole.history.calls().len(), 80);
-            assert!(rt; adds_up(&whole, 5));
-            let early = replayed(rt.alloc(), front(&text, text.len() / 2))?;
-            assert!(rt; adds_up(&early, 5));
-            let calls = early.history.calls().iter();
-            open = open.saturating_add(calls.filter(|made| made.ended.is_none()).count());
+            let whole = add_up(&rt, rt.alloc(), &text)?;
+            assert!(rt; whole.history.calls().len() == 80);
+            let early = add_up(&rt, rt.alloc(), front(&text, text.len() / 2))?;
+            found.look_at(&early);
         }
-        assert!(rt; open > 0);
+        assert!(rt; found.open > 0);
     }
     Ok(())
 }
@@ -314,13 +337,12 @@ fn one_with_ceilings<R: Abort>(rt: &R, alloc: Global, keys: &[u32]) -> Result<()
     requires many { length keys.now < 2 ^ 16 }
     requires rising { IsStrictlyIncreasing keys.now }
 {
-    for kind in KINDS {
+    for &kind in &KINDS {
         let mut found = Found::NONE;
         for seed in 0..SEEDS {
             let text = ALONE.text_with_ceilings(alloc, kind, seed, keys)?;
             let report = replayed(alloc, text.as_bytes())?;
-            let oracle = made(alloc, keys, report.history.calls())?.ok_or(seed)?;
-            assert_eq!(rt; report.keys, oracle.keys()?);
+            assert_sequential(rt, alloc, keys, &report)?;
             found.look_at(&report);
         }
         assert!(rt; found.keys > 0 && found.nothings > 0);
@@ -340,15 +362,15 @@ fn several_with_ceilings<R: Abort>(rt: &R, alloc: Global, keys: &[u32]) -> Resul
     requires many { length keys.now < 2 ^ 16 }
     requires rising { IsStrictlyIncreasing keys.now }
 {
-    for kind in KINDS {
+    for &kind in &KINDS {
         let mut found = Found::NONE;
         for seed in 0..SEEDS {
             let text = TOGETHER.text_with_ceilings(alloc, kind, seed, keys)?;
-            for bytes in [text.len(), text.len() / 2] {
-                let report = replayed(alloc, front(text.as_bytes(), bytes))?;
-                assert!(rt; adds_up(&report, 5));
-                found.look_at(&report);
-            }
+            let text = text.as_bytes();
+            let whole = add_up(rt, alloc, text)?;
+            found.look_at(&whole);
+            let early = add_up(rt, alloc, front(text, text.len() / 2))?;
+            found.look_at(&early);
         }
         assert!(rt; found.keys > 0 && found.nothings > 0 && found.open > 0);
     }

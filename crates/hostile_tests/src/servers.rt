@@ -171,28 +171,37 @@ fn ran<R: Net<Listener = TcpListener, Stream = TcpStream> + Threads + Wait + Clo
     })
 }
 
-/// A server of one session whose output fails as planned, and whether it did.
-fn output_fails<
-    R: Net<Listener = TcpListener, Stream = TcpStream> + Threads + Wait + Clock + Sync + Abort,
->(rt: &R, alloc: Global, plan: Plan) -> Result<bool, Fail> {
-    let run = ran(rt, alloc, ["lazy", "0", "1"], [plan, WHOLE])?;
-    if run.status == 0 {
-        assert_eq!(rt; is_whole(&run.output.taken, ONE_SESSION), Some(true));
-        assert!(rt; run.faults.taken.is_empty());
-        assert!(rt; run.output.calls <= plan.fails_at);
-        assert!(rt; is_answered(run.client));
-        return Ok(false);
-    }
-    assert_eq!(rt; run.status, 1);
-    assert_eq!(rt; is_front(&run.output.taken, ONE_SESSION), Some(true));
-    assert_eq!(rt; run.faults.taken.as_slice(), CANNOT_WRITE.as_bytes());
-    assert_eq!(rt; run.output.calls, plan.fails_at.saturating_add(1));
+/// A run of one session whose output did not fail.
+fn assert_served<R: Abort>(rt: &R, run: Run, plan: Plan) {
+    assert!(rt; is_whole(&run.output.taken, ONE_SESSION) == Some(true));
+    assert!(rt; run.faults.taken.is_empty() && run.output.calls <= plan.fails_at);
+    assert!(rt; is_answered(run.client));
+}
+
+/// One whose output failed.
+fn assert_harmed<R: Abort>(rt: &R, run: Run, plan: Plan) {
+    assert!(rt; run.status == 1 && run.faults.taken.as_slice() == CANNOT_WRITE.as_bytes());
+    assert!(rt; is_front(&run.output.taken, ONE_SESSION) == Some(true));
+    assert!(rt; run.output.calls == plan.fails_at.saturating_add(1));
     if run.is_open {
         assert!(rt; is_answered(run.client));
     } else {
         assert!(rt; is_turned_away(run.client));
     }
-    Ok(true)
+}
+
+/// A server of one session whose output fails as planned, and whether it did.
+fn output_fails<
+    R: Net<Listener = TcpListener, Stream = TcpStream> + Threads + Wait + Clock + Sync + Abort,
+>(rt: &R, alloc: Global, plan: Plan) -> Result<bool, Fail> {
+    let run = ran(rt, alloc, ["lazy", "0", "1"], [plan, WHOLE])?;
+    let is_harmed = run.status != 0;
+    if is_harmed {
+        assert_harmed(rt, run, plan);
+    } else {
+        assert_served(rt, run, plan);
+    }
+    Ok(is_harmed)
 }
 
 /// How many runs there are in which the output fails, at each of its calls in turn, until a run ends without a failure.
@@ -216,8 +225,8 @@ fn each_call_fails<
 /// no client is accepted.
 #[test]
 fn each_call_on_the_output_fails_in_turn(rt: HostRuntime) -> Result<(), Fail> {
-    for way in WAYS {
-        let runs = each_call_fails(&rt, rt.alloc(), way)?;
+    for way in &WAYS {
+        let runs = each_call_fails(&rt, rt.alloc(), *way)?;
         assert!(rt; runs.saturating_mul(way.1) > LISTENING.len());
     }
     Ok(())
@@ -236,14 +245,13 @@ fn both_fail<
         let run = ran(rt, alloc, ["lazy", "0", "0"], [plan, faults])?;
         assert!(rt; is_turned_away(run.client));
         if run.status == 0 {
-            assert_eq!(rt; is_whole(&run.output.taken, NO_SESSION), Some(true));
+            assert!(rt; is_whole(&run.output.taken, NO_SESSION) == Some(true));
             assert!(rt; run.output.calls <= plan.fails_at);
             return Ok(false);
         }
-        assert_eq!(rt; run.status, 1);
-        assert_eq!(rt; is_front(&run.output.taken, NO_SESSION), Some(true));
-        assert_eq!(rt; run.output.calls, plan.fails_at.saturating_add(1));
-        assert!(rt; run.faults.stopped_within(CANNOT_WRITE));
+        assert!(rt; run.status == 1 && run.faults.stopped_within(CANNOT_WRITE));
+        assert!(rt; is_front(&run.output.taken, NO_SESSION) == Some(true));
+        assert!(rt; run.output.calls == plan.fails_at.saturating_add(1));
     }
     Ok(true)
 }
@@ -276,12 +284,11 @@ fn line_fails<
             failure: Failure::BrokenPipe,
         };
         let run = ran(rt, alloc, [kind, port, "1"], [WHOLE, faults])?;
-        assert_eq!(rt; run.status, status);
-        assert_eq!(rt; run.output.calls, 0);
+        assert!(rt; run.status == status && run.output.calls == 0);
         if write < line.len() {
             assert!(rt; run.faults.stopped_within(line));
         } else {
-            assert_eq!(rt; run.faults.taken.as_slice(), line.as_bytes());
+            assert!(rt; run.faults.taken.as_slice() == line.as_bytes());
         }
     }
     Ok(())

@@ -24,7 +24,7 @@ fn ends_on_the_empty_list<M: Machine, R: Abort>(
     steps: u64,
 ) -> Result<(), Fail> {
     let mut world = World::<M>::new(alloc, layout(1, 4)?)?;
-    let made = make_call(&mut world, 0, Call::Ceiling(Key(3)))?;
+    let made = make_call(&mut world, 0, CEILING)?;
     assert_eq!(rt; made, Some((Reply::Nothing, steps)));
     Ok(())
 }
@@ -51,11 +51,7 @@ fn finds_keys_at_the_ends<M: Machine, R: Abort>(rt: &R, alloc: Global) -> Result
         (Call::Ceiling(Key(1)), Reply::Nothing),
     ];
     let mut world = World::<M>::new(alloc, layout(1, 4)?)?;
-    for (call, reply) in &calls {
-        let made = make_call(&mut world, 0, *call)?;
-        assert_eq!(rt; made.map(|(answer, _)| answer), Some(*reply), "{call:?}");
-    }
-    Ok(())
+    worlds::assert_replies(rt, &mut world, &calls)
 }
 
 #[test]
@@ -66,6 +62,14 @@ fn keys_at_the_ends(rt: HostRuntime) -> Result<(), Fail> {
     finds_keys_at_the_ends::<LazyList, HostRuntime>(&rt, rt.alloc())?;
     finds_keys_at_the_ends::<LockFreeList, HostRuntime>(&rt, rt.alloc())
 }
+
+const ADD: Call = Call::Add(Key(5));
+
+const REMOVE: Call = Call::Remove(Key(5));
+
+const ADD_NINE: Call = Call::Add(Key(9));
+
+const CEILING: Call = Call::Ceiling(Key(3));
 
 fn record(thread: u32, call: Call, begun: u32, ended: u32, reply: Reply) -> CallRecord {
     CallRecord {
@@ -88,92 +92,96 @@ fn assert_report<R: Abort>(
     order: &[Placed],
     keys: &[u32],
 ) {
-    assert_eq!(rt; report.history.calls(), calls);
-    assert_eq!(rt; report.order.as_slice(), order);
-    assert_eq!(rt; report.keys.as_slice(), keys);
+    assert!(rt; report.history.calls() == calls);
+    assert!(rt; report.order.as_slice() == order);
+    assert!(rt; report.keys.as_slice() == keys);
 }
 
-/// The node at which the ceiling stops is marked by then. It starts again, and stands at the moment of the mark.
-#[test]
-fn a_ceiling_starts_again_at_a_mark(rt: HostRuntime) -> Result<(), Fail> {
-    let (add, remove, ceiling) = (
-        Call::Add(Key(5)),
-        Call::Remove(Key(5)),
-        Call::Ceiling(Key(3)),
-    );
+/// The node at which the ceiling stops is marked by then.
+fn ceiling_at_a_mark(alloc: Global) -> Result<Report, Fail> {
     let schedule = Schedule {
         version: Version::Two,
         kind: Kind::LockFree,
         threads: 2,
         quota: 4,
-        opening: Vec::new(rt.alloc()),
-        lines: vec![in rt.alloc();
-            Line::Begin(1, add),
+        opening: Vec::new(alloc),
+        lines: vec![in alloc;
+            Line::Begin(1, ADD),
             Line::Go(1, 6),
-            Line::Begin(0, ceiling),
+            Line::Begin(0, CEILING),
             Line::Go(0, 2),
-            Line::Begin(1, remove),
+            Line::Begin(1, REMOVE),
             Line::Go(1, 6),
             Line::Go(0, 3),
         ]?,
     };
+    Ok(replay(alloc, &schedule)?)
+}
+
+/// It starts again, and stands at the moment of the mark.
+#[test]
+fn a_ceiling_starts_again_at_a_mark(rt: HostRuntime) -> Result<(), Fail> {
     let calls = [
-        record(1, add, 1, 7, Reply::True),
-        record(0, ceiling, 8, 20, Reply::Nothing),
-        record(1, remove, 11, 17, Reply::True),
+        record(1, ADD, 1, 7, Reply::True),
+        record(0, CEILING, 8, 20, Reply::Nothing),
+        record(1, REMOVE, 11, 17, Reply::True),
     ];
     let order = [
         placed(0, Reply::True),
         placed(2, Reply::True),
         placed(1, Reply::Nothing),
     ];
-    let report = replay(rt.alloc(), &schedule)?;
+    let report = ceiling_at_a_mark(rt.alloc())?;
     assert_report(&rt, &report, &calls, &order, &[]);
     Ok(())
 }
 
-/// It answers 9, though 5 was put in before it ended, and stands before that.
-#[test]
-fn a_ceiling_before_which_a_key_comes(rt: HostRuntime) -> Result<(), Fail> {
-    let (nine, five, ceiling) = (Call::Add(Key(9)), Call::Add(Key(5)), Call::Ceiling(Key(3)));
+/// A key is put in below the one at which the ceiling stops, before it ends.
+fn ceiling_above_a_new_key(alloc: Global) -> Result<Report, Fail> {
     let schedule = Schedule {
         version: Version::Two,
         kind: Kind::LockFree,
         threads: 2,
         quota: 4,
-        opening: Vec::new(rt.alloc()),
-        lines: vec![in rt.alloc();
-            Line::Begin(1, nine),
+        opening: Vec::new(alloc),
+        lines: vec![in alloc;
+            Line::Begin(1, ADD_NINE),
             Line::Go(1, 6),
-            Line::Begin(0, ceiling),
+            Line::Begin(0, CEILING),
             Line::Go(0, 1),
-            Line::Begin(1, five),
+            Line::Begin(1, ADD),
             Line::Go(1, 6),
             Line::Go(0, 2),
         ]?,
     };
+    Ok(replay(alloc, &schedule)?)
+}
+
+/// It answers 9, though 5 was put in before it ended, and stands before that.
+#[test]
+fn a_ceiling_before_which_a_key_comes(rt: HostRuntime) -> Result<(), Fail> {
     let calls = [
-        record(1, nine, 1, 7, Reply::True),
-        record(0, ceiling, 8, 18, Reply::At(Key(9))),
-        record(1, five, 10, 16, Reply::True),
+        record(1, ADD_NINE, 1, 7, Reply::True),
+        record(0, CEILING, 8, 18, Reply::At(Key(9))),
+        record(1, ADD, 10, 16, Reply::True),
     ];
     let order = [
         placed(0, Reply::True),
         placed(1, Reply::At(Key(9))),
         placed(2, Reply::True),
     ];
-    let report = replay(rt.alloc(), &schedule)?;
+    let report = ceiling_above_a_new_key(rt.alloc())?;
     assert_report(&rt, &report, &calls, &order, &[5, 9]);
     Ok(())
 }
 
 /// The steps of the first of these runs, on a world: it answers at the fifth.
 const STARTED_AGAIN: [worlds::Line; 8] = [
-    (Event::Begin(1, Call::Add(Key(5))), 1, None),
+    (Event::Begin(1, ADD), 1, None),
     (Event::Go(1), 6, Some(Reply::True)),
-    (Event::Begin(0, Call::Ceiling(Key(3))), 1, None),
+    (Event::Begin(0, CEILING), 1, None),
     (Event::Go(0), 2, None),
-    (Event::Begin(1, Call::Remove(Key(5))), 1, None),
+    (Event::Begin(1, REMOVE), 1, None),
     (Event::Go(1), 6, Some(Reply::True)),
     (Event::Go(0), 2, None),
     (Event::Go(0), 1, Some(Reply::Nothing)),

@@ -12,8 +12,6 @@ mod fine;
 #[cfg(test)]
 mod first_ceilings;
 #[cfg(test)]
-mod generated;
-#[cfg(test)]
 mod history;
 #[cfg(test)]
 mod laws;
@@ -22,17 +20,11 @@ mod lazy;
 #[cfg(test)]
 mod lock_free;
 #[cfg(test)]
-mod long_runs;
-#[cfg(test)]
 mod marked;
 #[cfg(test)]
 mod openings;
 #[cfg(test)]
 mod optimistic;
-#[cfg(test)]
-mod renewed;
-#[cfg(test)]
-mod replay;
 #[cfg(test)]
 mod reports;
 #[cfg(test)]
@@ -43,8 +35,6 @@ mod tables;
 mod text;
 #[cfg(test)]
 mod told;
-#[cfg(test)]
-mod versions;
 #[cfg(test)]
 mod worlds;
 #[cfg(test)]

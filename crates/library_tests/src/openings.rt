@@ -1,12 +1,12 @@
 //! Layouts, worlds, oracles, changes and histories of sets that open with given keys.
 ghost use Rattle.std.specs.Prelude.{◌≡◌, IfOk};
 
-use crate::history::{assert_judged, assert_replies};
-use crate::worlds::assert_content;
+use crate::history::{Judged, assert_judged, assert_replies};
+use crate::worlds::{self, assert_content};
 use lset_coarse::CoarseList;
 use lset_history::{Changes, History, Oracle, OrderFault};
 use lset_lock_free::LockFreeList;
-use lset_steps::{Event, Machine, World};
+use lset_steps::{Machine, World};
 use lset_words::{Call, Key, LayoutFault, Placed, Reply, layout_opening};
 use std::alloc::{AllocError, Global};
 use std::process::Abort;
@@ -15,26 +15,20 @@ use std::test::Fail;
 #[test]
 fn a_layout_of_three_opening_keys(rt: HostRuntime) -> Result<(), Fail> {
     let layout = layout_opening(2, 4, 3)?;
-    assert_eq!(rt;
-        (layout.opening(), layout.nodes(), layout.words()),
-        (3, 13, 42)
-    );
+    assert!(rt; layout.opening() == 3);
+    assert!(rt; layout.nodes() == 13);
+    assert!(rt; layout.words() == 42);
     Ok(())
 }
 
 #[test]
 fn opening_keys_have_a_limit(rt: HostRuntime) -> Result<(), Fail> {
     let most = layout_opening(64, 16_384, 1_048_576)?;
-    assert_eq!(rt; most.words(), 6_291_465);
-    let rows = [
-        (1, 1, 1_048_577, LayoutFault::Opening),
-        (1, 16_385, 1_048_577, LayoutFault::Quota),
-        (0, 16_385, 1_048_577, LayoutFault::Threads),
-        (65, 1, 0, LayoutFault::Threads),
-    ];
-    for &(threads, quota, opening, fault) in &rows {
-        assert_eq!(rt; layout_opening(threads, quota, opening).err(), Some(fault));
-    }
+    assert!(rt; most.words() == 6_291_465);
+    assert!(rt; layout_opening(1, 1, 1_048_577).err() == Some(LayoutFault::Opening));
+    assert!(rt; layout_opening(1, 16_385, 1_048_577).err() == Some(LayoutFault::Quota));
+    assert!(rt; layout_opening(0, 16_385, 1_048_577).err() == Some(LayoutFault::Threads));
+    assert!(rt; layout_opening(65, 1, 0).err() == Some(LayoutFault::Threads));
     Ok(())
 }
 
@@ -42,18 +36,6 @@ fn opening_keys_have_a_limit(rt: HostRuntime) -> Result<(), Fail> {
 fn with_three_keys<M: Machine>(alloc: Global) -> Result<World<M>, Fail> {
     let layout = layout_opening(1, 1, 3)?;
     Ok(World::opened(alloc, layout, &[0, 7, u32::MAX])?)
-}
-
-/// The thread makes a call to its end; the reply.
-fn made<M: Machine, R: Abort>(rt: &R, world: &mut World<M>, call: Call) -> Result<Reply, Fail> {
-    world.step(Event::Begin(0, call))?;
-    for _ in 0..40 {
-        if let Some(reply) = world.step(Event::Go(0))?.answer {
-            return Ok(reply);
-        }
-    }
-    assert!(rt; false, "the call does not end");
-    Err(Fail::new("the call does not end"))
 }
 
 /// An opening key goes out as any other and comes in again in a slot; the head's first key and the last before the tail too.
@@ -69,9 +51,7 @@ const COME_AND_GO: [(Call, Reply); 6] = [
 fn keys_come_and_go<M: Machine, R: Abort>(rt: &R, alloc: Global) -> Result<(), Fail> {
     let mut world = with_three_keys::<M>(alloc)?;
     assert_content(rt, &world, &[0, 7, u32::MAX])?;
-    for (call, reply) in &COME_AND_GO {
-        assert_eq!(rt; made(rt, &mut world, *call)?, *reply, "{call:?}");
-    }
+    worlds::assert_replies(rt, &mut world, &COME_AND_GO)?;
     assert_content(rt, &world, &[0, 7])
 }
 
@@ -104,10 +84,8 @@ fn opening_keys_are_there_from_moment_0(rt: HostRuntime) -> Result<(), Fail> {
         changes.first_ceiling(4, Some(9), 0, 5),
         changes.first_ceiling(10, None, 0, 5),
     ];
-    assert_eq!(rt;
-        found.as_slice(),
-        [Some(0), None, None, Some(0), Some(0)].as_slice()
-    );
+    let wanted = [Some(0), None, None, Some(0), Some(0)];
+    assert!(rt; found.as_slice() == wanted.as_slice());
     Ok(())
 }
 
@@ -134,17 +112,14 @@ fn an_order_is_judged_from_the_opening_keys(rt: HostRuntime) -> Result<(), Fail>
     }];
     let opening = vector_of(alloc, &[9, 11])?;
     let opened = remove_of_nine(History::opened(alloc, 1, 0, opening))?;
-    assert_eq!(rt; opened.opening(), [9, 11].as_slice());
-    assert_judged(&rt, alloc, &opened, &order, &[11], Ok(()));
-    assert_judged(&rt, alloc, &opened, &order, &[], Err(OrderFault::WrongSet));
+    assert!(rt; opened.opening() == [9, 11].as_slice());
+    let of_opened: [Judged; 2] = [
+        (&order, &[11], Ok(())),
+        (&order, &[], Err(OrderFault::WrongSet)),
+    ];
+    assert_judged(&rt, alloc, &opened, &of_opened);
     let empty = remove_of_nine(History::new(alloc, 1, 0))?;
-    assert_judged(
-        &rt,
-        alloc,
-        &empty,
-        &order,
-        &[],
-        Err(OrderFault::WrongReply(0)),
-    );
+    let of_empty: [Judged; 1] = [(&order, &[], Err(OrderFault::WrongReply(0)))];
+    assert_judged(&rt, alloc, &empty, &of_empty);
     Ok(())
 }

@@ -69,8 +69,9 @@ fn report_and_trace_tell_the_same_ends(rt: HostRuntime) -> Result<(), Fail> {
     let Some((placed, trace)) = told(rt.alloc(), &schedule)? else {
         return Err(Fail::new("an event is refused"));
     };
-    assert_eq!(rt; ends_in(&trace), 4);
-    assert_eq!(rt; end_of(&trace, 1), placed_at(&placed, 2));
-    assert_eq!(rt; end_of(&trace, 1).map(|end| end.reply), Some(Reply::False));
+    assert!(rt; ends_in(&trace) == 4);
+    let end = end_of(&trace, 1);
+    assert!(rt; end == placed_at(&placed, 2));
+    assert!(rt; end.is_some_and(|end| end.reply == Reply::False));
     Ok(())
 }

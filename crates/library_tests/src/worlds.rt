@@ -61,6 +61,22 @@ pub fn assert_calls<M: Machine, R: Abort>(
     Ok(())
 }
 
+/// Makes the calls of thread 0 in turn: each has its reply.
+pub fn assert_replies<M: Machine, R: Abort>(
+    rt: &R,
+    world: &mut World<M>,
+    calls: &[(Call, Reply)],
+) -> Result<(), Fail> {
+    for (call, reply) in calls {
+        let made = make_call(world, 0, *call)?;
+        assert!(rt;
+            made.is_some_and(|(answer, _)| answer == *reply),
+            "{call:?}"
+        );
+    }
+    Ok(())
+}
+
 /// The keys of the set are these.
 pub fn assert_content<M: Machine, R: Abort>(
     rt: &R,
