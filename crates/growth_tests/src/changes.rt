@@ -2,7 +2,8 @@
 ghost use Rattle.std.specs.Prelude.{◌≡◌, ◌≤◌, ◌<◌, ◌+◌, ℕ, All, OnErr, OnOk, not};
 ghost use Rattle.lset_history.specs.Changes.{moments_of, is_present_now};
 
-use crate::calls::{Calls, Wrong, check};
+use crate::calls::{Calls, check};
+use anyhow::Result;
 use lset_history::Changes;
 use std::alloc::{AllocError, Global};
 
@@ -40,16 +41,21 @@ fn noted(
     )
 }
 
+/// The key came or went at each moment from 1 to 10.
+fn were_noted(changes: &Changes) -> Result<()> {
+    for at in 1..11 {
+        check(changes.first(5, at % 2 == 1, at, at).0 == Some(at))?;
+    }
+    Ok(())
+}
+
 /// A key that comes and goes ten times.
-pub fn changes(alloc: Global, calls: &mut Calls) -> Result<(), Wrong> {
+pub fn changes(alloc: Global, calls: &mut Calls) -> Result<()> {
     let mut changes = Changes::new(alloc);
     let mut present = false;
     for last in 0..10 {
         noted(&mut changes, calls, !present, last)?;
         present = !present;
     }
-    for at in 1..11 {
-        check(changes.first(5, at % 2 == 1, at, at).0 == Some(at))?;
-    }
-    Ok(())
+    were_noted(&changes)
 }

@@ -8,7 +8,7 @@
 
 /// The answer of a call, which is made again where it is want of memory.
 macro_rules! answer {
-    ($calls:ident, $name:literal, $memory:pat, $call:expr) => {{
+    ($calls:ident, $name:expr, $memory:pat, $call:expr) => {{
         $calls.name = $name;
         match $call {
             Err($memory) if $calls.may_be_refused() => $call,
@@ -17,19 +17,10 @@ macro_rules! answer {
     }};
 }
 
-/// Makes a group of calls, unless one of a group before it was refused its memory: one growth is refused in a run, so nothing
-/// is left to be seen in it.
-macro_rules! group {
-    ($calls:ident, $group:expr) => {
-        if $calls.refused.is_none() {
-            $group?;
-        }
-    };
-}
-
 mod calls;
 mod changes;
 mod examples;
+mod groups;
 mod live;
 mod openings;
 mod pictures;
@@ -40,14 +31,11 @@ mod threads;
 mod tools;
 mod traces;
 
-use calls::{Calls, Wrong};
+use calls::Calls;
+use groups::make_calls;
 use std::alloc::{AllocError, Global};
 use std::io::{self, Read};
-use std::net::{Net, TcpListener, TcpStream};
 use std::process::ExitCode;
-use std::sync::Wait;
-use std::thread::Threads;
-use std::time::Clock;
 
 /// The number on the input, 0 where there is none.
 fn number_on(input: &mut impl Read) -> io::Result<u32> {
@@ -65,29 +53,13 @@ fn take_blocks(alloc: Global, count: u32) -> Result<(), AllocError> {
     Ok(())
 }
 
-fn make_calls<R: Net<Listener = TcpListener, Stream = TcpStream> + Threads + Wait + Clock + Sync>(
-    rt: &R,
-    alloc: Global,
-    calls: &mut Calls,
-) -> Result<(), Wrong> {
-    group!(calls, sets::worlds(alloc, calls));
-    group!(calls, sets::oracles(alloc, calls));
-    group!(calls, sets::histories(alloc, calls));
-    group!(calls, changes::changes(alloc, calls));
-    group!(calls, live::running_sets(rt, alloc, calls));
-    group!(calls, openings::openings(alloc, calls));
-    group!(calls, threads::programs_on_threads(rt, alloc, calls));
-    group!(calls, threads::a_session(rt, alloc, calls));
-    group!(calls, texts::replays(alloc, calls));
-    group!(calls, texts::refusals(alloc, calls));
-    group!(calls, texts::schedules_drawn(alloc, calls));
-    group!(calls, texts::programs_drawn(alloc, calls));
-    group!(calls, points::points(alloc, calls));
-    group!(calls, pictures::pictures(alloc, calls));
-    group!(calls, traces::traces(alloc, calls));
-    group!(calls, examples::examples(alloc, calls));
-    group!(calls, tools::tools(alloc, calls));
-    Ok(())
+/// What is told of the calls, all of whose answers were as wanted.
+fn told(alloc: Global, calls: &Calls, blocks: u32) -> (&'static str, &'static str) {
+    match calls.refused {
+        Some(name) => (name, " wanted memory"),
+        None if take_blocks(alloc, blocks).is_err() => ("still to be refused", ""),
+        None => ("no call wanted memory", ""),
+    }
 }
 
 fn main(rt: HostRuntime) -> io::Result<ExitCode> {
@@ -99,10 +71,7 @@ fn main(rt: HostRuntime) -> io::Result<ExitCode> {
         println!(rt; "{}: {wrong}", calls.name)?;
         return Ok(ExitCode::from(1));
     }
-    match calls.refused {
-        Some(name) => println!(rt; "{name} wanted memory")?,
-        None if take_blocks(alloc, blocks).is_err() => println!(rt; "still to be refused")?,
-        None => println!(rt; "no call wanted memory")?,
-    }
+    let (what, wanted) = told(alloc, &calls, blocks);
+    println!(rt; "{what}{wanted}")?;
     Ok(ExitCode::from(0))
 }

@@ -1,5 +1,8 @@
 //! Worlds, oracles, changes and running sets that open with given keys.
-use crate::calls::{Calls, Wrong, check};
+use crate::calls::{Calls, check};
+use crate::live::{close_with, last_seat};
+use crate::sets::{oracle_has, world_has};
+use anyhow::Result;
 use lset_coarse::CoarseList;
 use lset_history::{Changes, Oracle};
 use lset_live::{OpenFault, open_with};
@@ -11,7 +14,7 @@ use std::alloc::{AllocError, Global};
 /// Keys for more than a node of the set of keys, and more than a first guess at a vector's room.
 const KEYS: [u32; 12] = [1, 2, 3, 5, 8, 13, 21, 34, 55, 89, 144, 233];
 
-fn world(alloc: Global, calls: &mut Calls) -> Result<(), Wrong> {
+fn world(alloc: Global, calls: &mut Calls) -> Result<()> {
     let sizes = layout_opening(1, 5, 12)?;
     let world: World<CoarseList> = answer!(
         calls,
@@ -19,23 +22,20 @@ fn world(alloc: Global, calls: &mut Calls) -> Result<(), Wrong> {
         AllocError,
         World::opened(alloc, sizes, &KEYS)
     )?;
-    let content = answer!(calls, "World::content", AllocError, world.content())?;
-    check(content.as_slice() == KEYS.as_slice())
+    world_has(&world, calls, &KEYS)
 }
 
-fn oracle(alloc: Global, calls: &mut Calls) -> Result<(), Wrong> {
+fn oracle(alloc: Global, calls: &mut Calls) -> Result<()> {
     let oracle = answer!(
         calls,
         "Oracle::opened",
         AllocError,
         Oracle::opened(alloc, 1, 0, &KEYS)
     )?;
-    calls.announce(alloc, "Oracle::keys")?;
-    let keys = answer!(calls, "Oracle::keys", AllocError, oracle.keys())?;
-    check(keys.as_slice() == KEYS.as_slice())
+    oracle_has(alloc, &oracle, calls, &KEYS)
 }
 
-fn changes(alloc: Global, calls: &mut Calls) -> Result<(), Wrong> {
+fn changes(alloc: Global, calls: &mut Calls) -> Result<()> {
     let changes = answer!(
         calls,
         "Changes::opened",
@@ -45,24 +45,18 @@ fn changes(alloc: Global, calls: &mut Calls) -> Result<(), Wrong> {
     check(changes.first(233, true, 0, 5).0 == Some(0))
 }
 
-fn running_set(alloc: Global, calls: &mut Calls) -> Result<(), Wrong> {
+fn running_set(alloc: Global, calls: &mut Calls) -> Result<()> {
     let (set, mut seats) = answer!(
         calls,
         "open_with",
         OpenFault::Memory,
         open_with::<LockFreeList>(alloc, 1, 2, &KEYS)
     )?;
-    let Some(seat) = seats.pop() else {
-        return Err(Wrong::Answer);
-    };
-    let Ok(closed) = set.close(seat) else {
-        return Err(Wrong::Answer);
-    };
-    let keys = answer!(calls, "Closed::keys", AllocError, closed.keys())?;
-    check(keys.as_slice() == KEYS.as_slice())
+    let seat = last_seat(&set, &mut seats)?;
+    close_with(set, calls, seat, &KEYS)
 }
 
-pub fn openings(alloc: Global, calls: &mut Calls) -> Result<(), Wrong> {
+pub fn openings(alloc: Global, calls: &mut Calls) -> Result<()> {
     world(alloc, calls)?;
     oracle(alloc, calls)?;
     changes(alloc, calls)?;

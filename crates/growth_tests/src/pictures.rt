@@ -1,10 +1,11 @@
 //! Pictures of a schedule and of reports.
-use crate::calls::{Calls, Wrong, check, text_of};
-use crate::texts::{LEFT_OUT, ONE_ADD, ONE_ADD_REPORT, one_add};
+use crate::calls::{Calls, check, text_of};
+use crate::texts::{LEFT_OUT, ONE_ADD, ONE_ADD_REPORT, one_add, report_of};
+use anyhow::Result;
 use lset_drawing::{Picture, Window};
 use lset_history::Refusal;
 use lset_replay::{ReplayFault, replay_with_points};
-use lset_report::{ReportCause, ReportFault, read_report};
+use lset_report::read_report;
 use lset_tools::Trouble;
 use lset_words::{Point, Reply};
 use std::alloc::{AllocError, Global};
@@ -56,8 +57,14 @@ pub const IDLE_PICTURE: &str =
 const OPEN_ADD: &str =
     "listset-report 1\nlist coarse\nthreads 1\nquota 4\ncall 0 0 add 5 1 open\nplace 0 true\nkey 5\nend\n";
 
+/// Whether the one point is a change at this moment.
+fn is_change_at(points: &[Point], moment: u32) -> bool {
+    let change = true;
+    points == [Point { moment, change }].as_slice()
+}
+
 /// The call changes the set at the 7th event.
-fn of_replay(alloc: Global, calls: &mut Calls) -> Result<(), Wrong> {
+fn of_replay(alloc: Global, calls: &mut Calls) -> Result<()> {
     let plan = one_add(alloc, calls)?;
     let placed = answer!(
         calls,
@@ -65,31 +72,19 @@ fn of_replay(alloc: Global, calls: &mut Calls) -> Result<(), Wrong> {
         ReplayFault::Memory,
         replay_with_points(alloc, &plan)
     )?;
-    let points = [Point {
-        moment: 7,
-        change: true,
-    }];
-    check(placed.points.as_slice() == points.as_slice())?;
+    check(is_change_at(&placed.points, 7))?;
     let picture = answer!(
         calls,
         "picture_of_replay",
         AllocError,
         picture_of_replay(alloc, &plan)
     )?;
-    check(picture.points.as_slice() == points.as_slice() && picture.refusal.is_none())
+    check(is_change_at(&picture.points, 7) && picture.refusal.is_none())
 }
 
 /// The picture of the report with this text, which is read again where its picture was refused.
-fn of_report(alloc: Global, calls: &mut Calls, text: &str) -> Result<Picture, Wrong> {
-    let report = answer!(
-        calls,
-        "read_report",
-        ReportFault {
-            line: _,
-            cause: ReportCause::Memory,
-        },
-        read_report(alloc, text.as_bytes())
-    )?;
+fn of_report(alloc: Global, calls: &mut Calls, text: &str) -> Result<Picture> {
+    let report = report_of(alloc, calls, text)?;
     calls.name = "picture_of_report";
     match picture_of_report(alloc, report) {
         Err(AllocError) if calls.may_be_refused() => {
@@ -100,45 +95,62 @@ fn of_report(alloc: Global, calls: &mut Calls, text: &str) -> Result<Picture, Wr
     }
 }
 
-/// A report whose order is refused, and one with its first points.
-fn of_reports(alloc: Global, calls: &mut Calls) -> Result<(), Wrong> {
-    let refused = of_report(alloc, calls, LEFT_OUT)?;
+/// A report whose order is refused.
+fn of_refused_report(alloc: Global, calls: &mut Calls) -> Result<()> {
+    let picture = of_report(alloc, calls, LEFT_OUT)?;
     let is_missing = matches!(
-        refused.refusal,
+        picture.refusal,
         Some(Refusal::Missing {
             call: 0,
             moment: 8,
             reply: Reply::True
         })
     );
-    check(is_missing && refused.points.is_empty())?;
-    let explained = of_report(alloc, calls, ONE_ADD_REPORT)?;
-    let points = [Point {
-        moment: 1,
-        change: true,
-    }];
-    check(explained.refusal.is_none() && explained.points.as_slice() == points.as_slice())
+    check(is_missing && picture.points.is_empty())
 }
 
-/// Pictures as text, of a schedule and of a report that is refused, and one as an SVG.
-pub fn pictures(alloc: Global, calls: &mut Calls) -> Result<(), Wrong> {
-    of_replay(alloc, calls)?;
-    of_reports(alloc, calls)?;
-    for (text, picture, status) in [(ONE_ADD, PICTURE, 0), (WRONG_SET, WRONG_SET_PICTURE, 1)] {
-        let answer = answer!(
-            calls,
-            "shown",
-            Trouble::Memory,
-            shown(alloc, text.as_bytes(), Form::Text(100), ALL)
-        );
-        check(text_of(answer, status)?.as_slice() == picture.as_bytes())?;
-    }
-    let sheet = answer!(
+/// A report with its first points.
+fn of_explained_report(alloc: Global, calls: &mut Calls) -> Result<()> {
+    let picture = of_report(alloc, calls, ONE_ADD_REPORT)?;
+    check(picture.refusal.is_none() && is_change_at(&picture.points, 1))
+}
+
+/// What is shown of a text.
+fn shown_of(
+    alloc: Global,
+    calls: &mut Calls,
+    name: &'static str,
+    text: &str,
+    form: Form,
+    status: u8,
+) -> Result<Vec<u8>> {
+    let answer = answer!(
         calls,
-        "shown (SVG)",
+        name,
         Trouble::Memory,
-        shown(alloc, OPEN_ADD.as_bytes(), Form::Svg, ALL)
+        shown(alloc, text.as_bytes(), form, ALL)
     );
-    let sheet = text_of(sheet, 0)?;
+    text_of(answer, status)
+}
+
+/// A picture as text.
+fn is_shown(alloc: Global, calls: &mut Calls, text: &str, picture: &str, status: u8) -> Result<()> {
+    let text = shown_of(alloc, calls, "shown", text, Form::Text(100), status)?;
+    check(text.as_slice() == picture.as_bytes())
+}
+
+/// A picture as an SVG.
+fn is_a_sheet(alloc: Global, calls: &mut Calls) -> Result<()> {
+    let sheet = shown_of(alloc, calls, "shown (SVG)", OPEN_ADD, Form::Svg, 0)?;
     check(sheet.starts_with(b"<svg ") && sheet.ends_with(b"</svg>\n"))
+}
+
+/// Pictures of a schedule and of reports by value; as text, of a schedule and of a report that is refused; and one as an SVG.
+pub fn pictures(alloc: Global, calls: &mut Calls) -> Result<()> {
+    of_replay(alloc, calls)?;
+    of_refused_report(alloc, calls)?;
+    of_explained_report(alloc, calls)?;
+    is_shown(alloc, calls, ONE_ADD, PICTURE, 0)?;
+    is_shown(alloc, calls, WRONG_SET, WRONG_SET_PICTURE, 1)?;
+    is_a_sheet(alloc, calls)
 }

@@ -1,7 +1,9 @@
 //! Points of an order, and why an order is refused.
-use crate::calls::{Calls, Wrong, check};
+use crate::calls::{Calls, check};
+use crate::texts::report_of;
+use anyhow::{Error, Result};
 use lset_history::{Refusal, first_points, why_refused};
-use lset_report::{Report, ReportCause, ReportFault, read_report};
+use lset_report::Report;
 use lset_words::Reply;
 use std::alloc::{AllocError, Global};
 
@@ -17,19 +19,6 @@ const UNSEEN: &str =
 const NO_KEY: &str =
     "listset-report 1\nlist coarse\nthreads 1\nquota 4\ncall 0 0 add 5 1 8 true\ncall 1 0 contains 5 9 12 true\nplace 0 true\nplace 1 true\nend\n";
 
-fn read(alloc: Global, calls: &mut Calls, text: &str) -> Result<Report, Wrong> {
-    let report = answer!(
-        calls,
-        "read_report",
-        ReportFault {
-            line: _,
-            cause: ReportCause::Memory,
-        },
-        read_report(alloc, text.as_bytes())
-    )?;
-    Ok(report)
-}
-
 fn refusal_of(
     alloc: Global,
     calls: &mut Calls,
@@ -43,9 +32,9 @@ fn refusal_of(
     )
 }
 
-/// The points of an order that explains its report, and two refusals that are told with lists of keys.
-pub fn points(alloc: Global, calls: &mut Calls) -> Result<(), Wrong> {
-    let report = read(alloc, calls, RIGHT)?;
+/// The points of an order that explains its report.
+fn explained(alloc: Global, calls: &mut Calls) -> Result<()> {
+    let report = report_of(alloc, calls, RIGHT)?;
     let moments = answer!(
         calls,
         "first_points",
@@ -53,9 +42,13 @@ pub fn points(alloc: Global, calls: &mut Calls) -> Result<(), Wrong> {
         first_points(alloc, &report.history, &report.order)
     )?;
     check(moments.as_slice() == [1, 9].as_slice())?;
-    check(refusal_of(alloc, calls, &report)?.is_none())?;
-    let unseen = read(alloc, calls, UNSEEN)?;
-    match refusal_of(alloc, calls, &unseen)? {
+    check(refusal_of(alloc, calls, &report)?.is_none())
+}
+
+/// A reply that the set does not give, which is told with the keys of the set.
+fn unseen(alloc: Global, calls: &mut Calls) -> Result<()> {
+    let report = report_of(alloc, calls, UNSEEN)?;
+    match refusal_of(alloc, calls, &report)? {
         Some(
             Refusal::SetReply {
                 call: 1,
@@ -64,12 +57,22 @@ pub fn points(alloc: Global, calls: &mut Calls) -> Result<(), Wrong> {
                 keys,
                 answer: Reply::True,
             },
-        ) => check(keys.as_slice() == [5].as_slice())?,
-        _ => return Err(Wrong::Answer),
+        ) => check(keys.as_slice() == [5].as_slice()),
+        _ => Err(Error::msg("another answer")),
     }
-    let no_key = read(alloc, calls, NO_KEY)?;
-    match refusal_of(alloc, calls, &no_key)? {
+}
+
+/// Other keys, which are told with those that the order leaves.
+fn without_key(alloc: Global, calls: &mut Calls) -> Result<()> {
+    let report = report_of(alloc, calls, NO_KEY)?;
+    match refusal_of(alloc, calls, &report)? {
         Some(Refusal::WrongSet { left }) => check(left.as_slice() == [5].as_slice()),
-        _ => Err(Wrong::Answer),
+        _ => Err(Error::msg("another answer")),
     }
+}
+
+pub fn points(alloc: Global, calls: &mut Calls) -> Result<()> {
+    explained(alloc, calls)?;
+    unseen(alloc, calls)?;
+    without_key(alloc, calls)
 }

@@ -1,14 +1,30 @@
 ghost use Rattle.std.specs.Prelude.{◌<◌};
 
-use crate::calls::{Calls, Wrong, check};
+use crate::calls::{Calls, check};
+use anyhow::Result;
 use lset_coarse::CoarseList;
 use lset_history::{History, HistoryFault, Oracle, OrderFault, check_order};
-use lset_steps::{Event, World};
+use lset_steps::{Event, StepFault, World};
 use lset_words::{Call, CallRecord, Key, Placed, Reply, layout};
 use std::alloc::{AllocError, Global};
 
+/// The world's list has just these keys.
+pub fn world_has(world: &World<CoarseList>, calls: &mut Calls, keys: &[u32]) -> Result<()> {
+    let content = answer!(calls, "World::content", AllocError, world.content())?;
+    check(content.as_slice() == keys)
+}
+
+/// Adds a key, at most 5: the add of that takes 15 steps, and what comes after the end of a call is refused as `Idle`.
+fn add(world: &mut World<CoarseList>, key: u32) -> Result<(), StepFault> {
+    world.step(Event::Begin(0, Call::Add(Key(key))))?;
+    for _ in 0..15 {
+        let _told = world.step(Event::Go(0));
+    }
+    Ok(())
+}
+
 /// A coarse list's world and its content, after five adds.
-pub fn worlds(alloc: Global, calls: &mut Calls) -> Result<(), Wrong> {
+pub fn worlds(alloc: Global, calls: &mut Calls) -> Result<()> {
     let sizes = layout(1, 5)?;
     let mut world: World<CoarseList> = answer!(
         calls,
@@ -18,18 +34,20 @@ pub fn worlds(alloc: Global, calls: &mut Calls) -> Result<(), Wrong> {
     )?;
     calls.announce(alloc, "World::step")?;
     for key in 1..=5 {
-        world.step(Event::Begin(0, Call::Add(Key(key))))?;
-        // the add of the last key takes 15 steps; what comes after the end of a call is refused as `Idle`
-        for _ in 0..15 {
-            let _told = world.step(Event::Go(0));
-        }
+        add(&mut world, key)?;
     }
-    let content = answer!(calls, "World::content", AllocError, world.content())?;
-    check(content.as_slice() == [1, 2, 3, 4, 5].as_slice())
+    world_has(&world, calls, &[1, 2, 3, 4, 5])
+}
+
+/// The sequential set has just these keys.
+pub fn oracle_has(alloc: Global, oracle: &Oracle, calls: &mut Calls, keys: &[u32]) -> Result<()> {
+    calls.announce(alloc, "Oracle::keys")?;
+    let found = answer!(calls, "Oracle::keys", AllocError, oracle.keys())?;
+    check(found.as_slice() == keys)
 }
 
 /// Adds the keys 1 to 12, more than a node of the set of keys holds.
-fn fill(oracle: &mut Oracle, calls: &mut Calls) -> Result<(), Wrong>
+fn fill(oracle: &mut Oracle, calls: &mut Calls) -> Result<()>
     requires { 0 < oracle.old.threads }
 {
     for key in 1..=12 {
@@ -40,12 +58,11 @@ fn fill(oracle: &mut Oracle, calls: &mut Calls) -> Result<(), Wrong>
     Ok(())
 }
 
-pub fn oracles(alloc: Global, calls: &mut Calls) -> Result<(), Wrong> {
+pub fn oracles(alloc: Global, calls: &mut Calls) -> Result<()> {
     let mut oracle = answer!(calls, "Oracle::new", AllocError, Oracle::new(alloc, 1, 12))?;
     fill(&mut oracle, calls)?;
-    calls.announce(alloc, "Oracle::keys")?;
-    let keys = answer!(calls, "Oracle::keys", AllocError, oracle.keys())?;
-    check(keys.as_slice() == [1, 2, 3, 4, 5, 6, 7, 8, 9, 10, 11, 12].as_slice())
+    let keys = [1, 2, 3, 4, 5, 6, 7, 8, 9, 10, 11, 12];
+    oracle_has(alloc, &oracle, calls, &keys)
 }
 
 /// The call with a number, below 5, of a thread that looks for keys in the empty set.
@@ -60,45 +77,56 @@ fn look(number: u32) -> CallRecord
     }
 }
 
-pub fn histories(alloc: Global, calls: &mut Calls) -> Result<(), Wrong> {
+/// That call begins and ends.
+fn looks(alloc: Global, history: &mut History, calls: &mut Calls, number: u32) -> Result<()>
+    requires { number < 5 }
+{
+    let CallRecord { call, begun, .. } = look(number);
+    let id = answer!(
+        calls,
+        "History::begin",
+        HistoryFault::Memory,
+        history.begin(0, call, begun)
+    )?;
+    calls.announce(alloc, "History::end")?;
+    history.end(id, Reply::False, 2 * number + 2)?;
+    Ok(())
+}
+
+pub fn histories(alloc: Global, calls: &mut Calls) -> Result<()> {
     let mut history = History::new(alloc, 1, 0);
     for number in 0..5 {
-        let CallRecord { call, begun, .. } = look(number);
-        let id = answer!(
-            calls,
-            "History::begin",
-            HistoryFault::Memory,
-            history.begin(0, call, begun)
-        )?;
-        calls.announce(alloc, "History::end")?;
-        history.end(id, Reply::False, 2 * number + 2)?;
+        looks(alloc, &mut history, calls, number)?;
     }
     let looks = [look(0), look(1), look(2), look(3), look(4)];
     check(history.calls() == looks.as_slice())?;
     orders(alloc, &history, calls)
 }
 
-/// Checks orders of five calls that found no key.
-fn orders(alloc: Global, history: &History, calls: &mut Calls) -> Result<(), Wrong> {
-    let [first, second, third, fourth, fifth] = [0, 1, 2, 3, 4].map(|call| Placed {
+/// What is found of the five calls, none of which found its key, in this order.
+fn is_judged(
+    alloc: Global,
+    history: &History,
+    calls: &mut Calls,
+    order: [u32; 5],
+    wanted: Result<(), OrderFault>,
+) -> Result<()> {
+    let order = order.map(|call| Placed {
         call,
         reply: Reply::False,
     });
-    let rows = [
-        ([first, second, third, fourth, fifth], Ok(())),
-        (
-            [first, third, second, fourth, fifth],
-            Err(OrderFault::TooEarly(2)),
-        ),
-    ];
-    for (order, wanted) in rows {
-        let explained = answer!(
-            calls,
-            "check_order",
-            OrderFault::Memory,
-            check_order(alloc, history, &order, &[])
-        );
-        check(explained == wanted)?;
-    }
-    Ok(())
+    let explained = answer!(
+        calls,
+        "check_order",
+        OrderFault::Memory,
+        check_order(alloc, history, &order, &[])
+    );
+    check(explained == wanted)
+}
+
+/// The order in which they were made, and one in which two are exchanged.
+fn orders(alloc: Global, history: &History, calls: &mut Calls) -> Result<()> {
+    is_judged(alloc, history, calls, [0, 1, 2, 3, 4], Ok(()))?;
+    let early = Err(OrderFault::TooEarly(2));
+    is_judged(alloc, history, calls, [0, 2, 1, 3, 4], early)
 }

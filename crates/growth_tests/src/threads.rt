@@ -2,7 +2,8 @@
 //! in one order.
 ghost use Rattle.std.specs.Prelude.{◌≡◌, ◌<◌, ◌^◌, IfOk, IfSome, IsTrue, All, length};
 
-use crate::calls::{Calls, Wrong, check};
+use crate::calls::{Calls, check};
+use anyhow::{Error, Result};
 use lset_lazy::LazyList;
 use lset_live::{LiveSet, OpenFault, Seat, open};
 use lset_server::{ServeCause, Served, serve};
@@ -20,6 +21,17 @@ fn opened(alloc: Global, seats: u32) -> Result<(LiveSet<LazyList>, Vec<Seat<Lazy
     ensures { IfOk result (λ r. All (λ s. s.set ≡ r.0) r.1.items) }
 {
     open::<LazyList>(alloc, seats, 4)
+}
+
+/// The same, made again where it was refused.
+fn open_seats(
+    alloc: Global,
+    calls: &mut Calls,
+    seats: u32,
+) -> Result<(LiveSet<LazyList>, Vec<Seat<LazyList>>), OpenFault>
+    ensures { IfOk result (λ r. All (λ s. s.set ≡ r.0) r.1.items) }
+{
+    answer!(calls, "open", OpenFault::Memory, opened(alloc, seats))
 }
 
 fn are_short(programs: &[Vec<Call>]) -> bool
@@ -57,7 +69,7 @@ fn after_refusal(
     alloc: Global,
     calls: &mut Calls,
     fault: WorkFault<LazyList>,
-) -> Result<(LiveSet<LazyList>, Vec<Seat<LazyList>>), Wrong>
+) -> Result<(LiveSet<LazyList>, Vec<Seat<LazyList>>)>
     requires { IfSome fault.back (λ b. All (λ s. s.set ≡ b.0) b.1.items) }
     ensures { IfOk result (λ r. All (λ s. s.set ≡ r.0) r.1.items) }
 {
@@ -66,7 +78,7 @@ fn after_refusal(
         (WorkCause::Memory, true) => "work (Memory, all comes back)",
         (WorkCause::Memory, false) => "work (Memory)",
         (WorkCause::Spawn, false) => "work (Spawn)",
-        _ => return Err(Wrong::Answer),
+        _ => return Err(Error::msg("another fault")),
     };
     check(calls.may_be_refused())?;
     match back {
@@ -86,26 +98,38 @@ fn is_as_wanted(outcome: &Outcome) -> bool {
         && replies[1].as_slice() == second.as_slice()
 }
 
+/// The programs once more, on the set and the seats that there are to go on with.
+fn work_again<R: Threads + Wait + Sync>(
+    rt: &R,
+    alloc: Global,
+    set: LiveSet<LazyList>,
+    seats: Vec<Seat<LazyList>>,
+) -> Result<Outcome>
+    requires { All (λ s. s.set ≡ set) seats.items }
+{
+    match work(rt, alloc, set, seats, two_programs(alloc)?, &Always) {
+        Ok(outcome) => Ok(outcome),
+        Err(_) => Err(Error::msg("a fault")),
+    }
+}
+
 /// Two programs on two threads. Where they were refused they are run again.
 pub fn programs_on_threads<R: Threads + Wait + Sync>(
     rt: &R,
     alloc: Global,
     calls: &mut Calls,
-) -> Result<(), Wrong> {
+) -> Result<()> {
     let programs = answer!(calls, "Vec::push", AllocError, two_programs(alloc))?;
-    let (set, seats) = answer!(calls, "open", OpenFault::Memory, opened(alloc, 2))?;
+    let (set, seats) = open_seats(alloc, calls, 2)?;
     calls.name = "work";
     let outcome = match work(rt, alloc, set, seats, programs, &Always) {
-        Ok(outcome) => Ok(outcome),
+        Ok(outcome) => outcome,
         Err(fault) => {
             let (set, seats) = after_refusal(alloc, calls, fault)?;
-            work(rt, alloc, set, seats, two_programs(alloc)?, &Always)
+            work_again(rt, alloc, set, seats)?
         }
     };
-    match outcome {
-        Ok(outcome) => check(is_as_wanted(&outcome)),
-        Err(_) => Err(Wrong::Answer),
-    }
+    check(is_as_wanted(&outcome))
 }
 
 /// A client that has sent its lines before the server accepts it, so that it needs no thread of its own.
@@ -121,7 +145,7 @@ fn client<R: Net<Listener = TcpListener, Stream = TcpStream>>(
 }
 
 /// One session, its four calls and the keys that they leave; and the client's answers.
-fn is_served(served: &Served, stream: &mut TcpStream) -> Result<(), Wrong> {
+fn is_served(served: &Served, stream: &mut TcpStream) -> Result<()> {
     let mut answers = [0u8; 19];
     stream.read_exact(&mut answers)?;
     check(answers.as_slice() == b"TRUE\nTRUE\nTRUE\nBYE\n".as_slice())?;
@@ -130,32 +154,44 @@ fn is_served(served: &Served, stream: &mut TcpStream) -> Result<(), Wrong> {
 }
 
 /// Notes how `serve` was refused.
-fn note_refusal(calls: &mut Calls, cause: ServeCause) -> Result<(), Wrong> {
+fn note_refusal(calls: &mut Calls, cause: ServeCause) -> Result<()> {
     calls.name = match cause {
         ServeCause::Memory => "serve (Memory)",
         ServeCause::Spawn => "serve (Spawn)",
-        _ => return Err(Wrong::Answer),
+        _ => return Err(Error::msg("another fault")),
     };
     check(calls.may_be_refused())
+}
+
+/// A server, and a client to which it holds a session; why it does not.
+fn serve_client<R: Net<Listener = TcpListener, Stream = TcpStream> + Threads + Wait + Clock + Sync>(
+    rt: &R,
+    alloc: Global,
+    set: LiveSet<LazyList>,
+    seats: Vec<Seat<LazyList>>,
+) -> Result<Option<ServeCause>>
+    requires { All (λ s. s.set ≡ set) seats.items }
+{
+    let (listener, mut stream) = client(rt)?;
+    match serve(rt, alloc, listener, set, seats, 1) {
+        Ok(served) => {
+            is_served(&served, &mut stream)?;
+            Ok(None)
+        }
+        Err(fault) => Ok(Some(fault.cause)),
+    }
 }
 
 /// A session with one client. Where it was refused, another server has another client.
 pub fn a_session<
     R: Net<Listener = TcpListener, Stream = TcpStream> + Threads + Wait + Clock + Sync,
->(rt: &R, alloc: Global, calls: &mut Calls) -> Result<(), Wrong> {
-    let (set, seats) = answer!(calls, "open", OpenFault::Memory, opened(alloc, 1))?;
-    calls.name = "client";
-    let (listener, mut stream) = client(rt)?;
+>(rt: &R, alloc: Global, calls: &mut Calls) -> Result<()> {
+    let (set, seats) = open_seats(alloc, calls, 1)?;
     calls.name = "serve";
-    let cause = match serve(rt, alloc, listener, set, seats, 1) {
-        Ok(served) => return is_served(&served, &mut stream),
-        Err(fault) => fault.cause,
+    let Some(cause) = serve_client(rt, alloc, set, seats)? else {
+        return Ok(());
     };
     note_refusal(calls, cause)?;
     let (set, seats) = opened(alloc, 1)?;
-    let (listener, mut stream) = client(rt)?;
-    match serve(rt, alloc, listener, set, seats, 1) {
-        Ok(served) => is_served(&served, &mut stream),
-        Err(_) => Err(Wrong::Answer),
-    }
+    check(serve_client(rt, alloc, set, seats)?.is_none())
 }

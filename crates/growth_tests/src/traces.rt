@@ -1,6 +1,7 @@
 //! Traces of a schedule.
-use crate::calls::{Calls, Wrong, check, text_of};
+use crate::calls::{Calls, check, text_of};
 use crate::texts::one_add;
+use anyhow::Result;
 use lset_replay::trace;
 use lset_tools::Trouble;
 use std::alloc::{AllocError, Global};
@@ -31,12 +32,16 @@ pub const EARLY: &str =
 pub const EARLY_TRACE: &str =
     "listset-trace 1\nlist coarse\nthreads 1\nquota 4\nrefused line 5 Idle\n";
 
-/// With the chains, and of a schedule whose first event is not enabled.
-pub fn traces(alloc: Global, calls: &mut Calls) -> Result<(), Wrong> {
+/// With the chains.
+fn of_one_add(alloc: Global, calls: &mut Calls) -> Result<()> {
     let plan = one_add(alloc, calls)?;
     let told = answer!(calls, "trace", AllocError, trace(alloc, &plan, true))?;
     let text = answer!(calls, "write_trace", AllocError, write_trace(alloc, &told))?;
-    check(text.as_slice() == TRACE.as_bytes())?;
+    check(text.as_slice() == TRACE.as_bytes())
+}
+
+/// Of a schedule whose first event is not enabled.
+fn of_an_early_step(alloc: Global, calls: &mut Calls) -> Result<()> {
     let answer = answer!(
         calls,
         "traced",
@@ -44,4 +49,9 @@ pub fn traces(alloc: Global, calls: &mut Calls) -> Result<(), Wrong> {
         traced(alloc, EARLY.as_bytes(), false)
     );
     check(text_of(answer, 1)?.as_slice() == EARLY_TRACE.as_bytes())
+}
+
+pub fn traces(alloc: Global, calls: &mut Calls) -> Result<()> {
+    of_one_add(alloc, calls)?;
+    of_an_early_step(alloc, calls)
 }

@@ -1,5 +1,6 @@
 ghost use Rattle.std.specs.Prelude.{◌≡◌};
 
+use crate::gathering::has_added;
 use crate::opened::two_seats;
 use lset_coarse::CoarseList;
 use lset_fine::FineList;
@@ -11,16 +12,7 @@ use lset_words::{Key, Reply};
 use std::alloc::Global;
 use std::process::Abort;
 use std::sync::Wait;
-use std::test::Fail;
 use std::thread::{Threads, join};
-
-fn has_added<M: Running, R: Wait>(rt: &R, set: &LiveSet<M>, mut seat: Seat<M>) -> (Seat<M>, Reply)
-    requires { seat.set ≡ set.now }
-    ensures { result.0.set ≡ set.now }
-{
-    let reply = set.add(rt, &mut seat, Key(9));
-    (seat, reply)
-}
 
 fn has_sought<M: Running, R: Wait>(rt: &R, set: &LiveSet<M>, mut seat: Seat<M>) -> (Seat<M>, Reply)
     requires { seat.set ≡ set.now }
@@ -47,26 +39,39 @@ fn at_once<M: Running + Send + Sync, R: Threads + Wait + Sync>(
     )
 }
 
+/// A seat asks for the least key from there on, which is this reply.
+fn seek<M: Running, R: Wait + Abort>(
+    rt: &R,
+    set: &LiveSet<M>,
+    seat: &mut Seat<M>,
+    from: u32,
+    reply: Reply,
+)
+    requires { seat.old.set ≡ set.now }
+    ensures { seat.new.set ≡ set.now }
+{
+    assert_eq!(rt; set.ceiling(rt, seat, Key(from)), reply, "{from}");
+}
+
 fn finds_what_is_added<M: Running + Send + Sync, R: Threads + Wait + Abort + Sync>(
     rt: &R,
     alloc: Global,
-) -> Result<(), Fail> {
-    let (set, zero, one) = two_seats::<M>(alloc)?;
+) {
+    let (set, zero, one) = two_seats::<M, R>(rt, alloc);
     let ((mut zero, found), (one, added)) = at_once(rt, &set, zero, one);
     assert!(rt; found == Reply::Nothing || found == Reply::At(Key(9)));
-    assert_eq!(rt; added, Reply::True);
+    assert!(rt; added == Reply::True);
     set.gather(&mut zero, one);
-    assert_eq!(rt; set.ceiling(rt, &mut zero, Key(0)), Reply::At(Key(9)));
-    assert_eq!(rt; set.ceiling(rt, &mut zero, Key(9)), Reply::At(Key(9)));
-    assert_eq!(rt; set.ceiling(rt, &mut zero, Key(10)), Reply::Nothing);
-    Ok(())
+    seek(rt, &set, &mut zero, 0, Reply::At(Key(9)));
+    seek(rt, &set, &mut zero, 9, Reply::At(Key(9)));
+    seek(rt, &set, &mut zero, 10, Reply::Nothing);
 }
 
 #[test]
-fn a_ceiling_while_a_key_is_added(rt: HostRuntime) -> Result<(), Fail> {
-    finds_what_is_added::<CoarseList, HostRuntime>(&rt, rt.alloc())?;
-    finds_what_is_added::<FineList, HostRuntime>(&rt, rt.alloc())?;
-    finds_what_is_added::<OptimisticList, HostRuntime>(&rt, rt.alloc())?;
-    finds_what_is_added::<LazyList, HostRuntime>(&rt, rt.alloc())?;
-    finds_what_is_added::<LockFreeList, HostRuntime>(&rt, rt.alloc())
+fn a_ceiling_while_a_key_is_added(rt: HostRuntime) {
+    finds_what_is_added::<CoarseList, HostRuntime>(&rt, rt.alloc());
+    finds_what_is_added::<FineList, HostRuntime>(&rt, rt.alloc());
+    finds_what_is_added::<OptimisticList, HostRuntime>(&rt, rt.alloc());
+    finds_what_is_added::<LazyList, HostRuntime>(&rt, rt.alloc());
+    finds_what_is_added::<LockFreeList, HostRuntime>(&rt, rt.alloc());
 }

@@ -12,7 +12,6 @@ use lset_words::{Call, Key, Reply};
 use std::alloc::Global;
 use std::process::Abort;
 use std::sync::Wait;
-use std::test::Fail;
 use stepped_lists::Stepped;
 
 /// The call number `i` of a program over 12 keys.
@@ -30,90 +29,94 @@ fn call_of(i: u32) -> Call {
 }
 
 /// The replies to 400 calls on one seat, each with the number of its steps before the last.
-fn replies<M: Running, R: Wait>(
+fn replies<M: Running, R: Wait + Abort>(
     rt: &R,
     alloc: Global,
     set: &LiveSet<M>,
     seat: &mut Seat<M>,
-) -> Result<Vec<(Reply, u64)>, Fail>
+) -> Vec<(Reply, u64)>
     requires { seat.old.set ≡ set.now }
     ensures { seat.new.set ≡ set.now }
 {
-    let mut told = Vec::new(alloc);
+    let mut told = Vec::with_capacity(alloc, 400).expect(rt, "room");
     for i in 0..400u32 {
         let count = Count::new(0);
         let reply = set.call(rt, seat, call_of(i), &count);
-        told.push((reply, count.steps.get()))?;
+        told.push((reply, count.steps.get())).expect(rt, "room");
     }
-    Ok(told)
+    told
 }
 
 type Ran = (Vec<(Reply, u64)>, Vec<u32>);
 
 /// The program on one seat with room for so many adds: the replies with their steps, and the closing keys.
-fn ran<M: Running, R: Wait>(rt: &R, alloc: Global, quota: u32) -> Result<Ran, Fail> {
-    let (set, mut seats) = open::<M>(alloc, 1, quota)?;
-    let mut seat = last_seat(&set, &mut seats)?;
-    let told = replies(rt, alloc, &set, &mut seat)?;
-    match set.close(seat) {
-        Ok(closed) => Ok((told, closed.keys()?)),
-        Err(_) => Err(Fail::new("a seat is out")),
-    }
+fn ran<M: Running, R: Wait + Abort>(rt: &R, alloc: Global, quota: u32) -> Ran {
+    let (set, mut seats) = open::<M>(alloc, 1, quota).expect(rt, "not opened");
+    let mut seat = last_seat(rt, &set, &mut seats);
+    let told = replies(rt, alloc, &set, &mut seat);
+    let Ok(closed) = set.close(seat) else {
+        panic!(rt; "a seat is out")
+    };
+    (told, closed.keys().expect(rt, "the keys"))
 }
 
-/// The list and its table alone, with room for all adds and with room for few.
-fn runs_by_its_table<M: Running, R: Wait + Abort>(rt: &R, alloc: Global) -> Result<(), Fail> {
-    for quota in [100u32, 8] {
-        let (told, keys) = ran::<M, R>(rt, alloc, quota)?;
-        let (told_by_steps, keys_by_steps) = ran::<Stepped<M>, R>(rt, alloc, quota)?;
-        assert_eq!(rt; told, told_by_steps);
-        assert_eq!(rt; keys, keys_by_steps);
-    }
-    Ok(())
+/// The list and its table alone.
+fn runs_alike<M: Running, R: Wait + Abort>(rt: &R, alloc: Global, quota: u32) {
+    let (told, keys) = ran::<M, R>(rt, alloc, quota);
+    let (told_by_steps, keys_by_steps) = ran::<Stepped<M>, R>(rt, alloc, quota);
+    assert!(rt; told == told_by_steps, "{quota}");
+    assert!(rt; keys == keys_by_steps, "{quota}");
+}
+
+/// With room for all adds and with room for few.
+fn runs_by_its_table<M: Running, R: Wait + Abort>(rt: &R, alloc: Global) {
+    runs_alike::<M, R>(rt, alloc, 100);
+    runs_alike::<M, R>(rt, alloc, 8);
 }
 
 #[test]
-fn each_list_makes_the_steps_of_its_table(rt: HostRuntime) -> Result<(), Fail> {
-    runs_by_its_table::<CoarseList, HostRuntime>(&rt, rt.alloc())?;
-    runs_by_its_table::<FineList, HostRuntime>(&rt, rt.alloc())?;
-    runs_by_its_table::<OptimisticList, HostRuntime>(&rt, rt.alloc())?;
-    runs_by_its_table::<LazyList, HostRuntime>(&rt, rt.alloc())?;
-    runs_by_its_table::<LockFreeList, HostRuntime>(&rt, rt.alloc())
+fn each_list_makes_the_steps_of_its_table(rt: HostRuntime) {
+    runs_by_its_table::<CoarseList, HostRuntime>(&rt, rt.alloc());
+    runs_by_its_table::<FineList, HostRuntime>(&rt, rt.alloc());
+    runs_by_its_table::<OptimisticList, HostRuntime>(&rt, rt.alloc());
+    runs_by_its_table::<LazyList, HostRuntime>(&rt, rt.alloc());
+    runs_by_its_table::<LockFreeList, HostRuntime>(&rt, rt.alloc());
 }
 
 /// Which of 12 keys a read that waits for nobody finds.
-fn keys_found<M: RunningReads>(
+fn keys_found<M: RunningReads, R: Abort>(
+    rt: &R,
     alloc: Global,
     set: &LiveSet<M>,
     seat: &mut Seat<M>,
-) -> Result<Vec<bool>, Fail>
+) -> Vec<bool>
     requires { seat.old.set ≡ set.now }
     ensures { seat.new.set ≡ set.now }
 {
     let mut found = Vec::new(alloc);
     for key in 0..12u32 {
-        found.push(set.contains_now(seat, Key(key)))?;
+        let is_found = set.contains_now(seat, Key(key));
+        found.push(is_found).expect(rt, "room");
     }
-    Ok(found)
+    found
 }
 
 /// The same once the program has run.
-fn found_now<M: RunningReads, R: Wait>(rt: &R, alloc: Global) -> Result<Vec<bool>, Fail> {
-    let (set, mut seats) = open::<M>(alloc, 1, 100)?;
-    let mut seat = last_seat(&set, &mut seats)?;
-    replies(rt, alloc, &set, &mut seat)?;
-    keys_found(alloc, &set, &mut seat)
+fn found_now<M: RunningReads, R: Wait + Abort>(rt: &R, alloc: Global) -> Vec<bool> {
+    let (set, mut seats) = open::<M>(alloc, 1, 100).expect(rt, "not opened");
+    let mut seat = last_seat(rt, &set, &mut seats);
+    let _told = replies(rt, alloc, &set, &mut seat);
+    keys_found(rt, alloc, &set, &mut seat)
 }
 
-fn reads_by_its_table<M: RunningReads, R: Wait + Abort>(rt: &R, alloc: Global) -> Result<(), Fail> {
-    let found = found_now::<M, R>(rt, alloc)?;
-    let found_by_steps = found_now::<Stepped<M>, R>(rt, alloc)?;
-    assert_eq!(rt; found, found_by_steps);
-    Ok(())
+fn reads_by_its_table<M: RunningReads, R: Wait + Abort>(rt: &R, alloc: Global) {
+    let found = found_now::<M, R>(rt, alloc);
+    let found_by_steps = found_now::<Stepped<M>, R>(rt, alloc);
+    assert!(rt; found == found_by_steps);
 }
 
 #[test]
-fn each_read_finds_what_its_table_finds(rt: HostRuntime) -> Result<(), Fail> {
-    reads_by_its_table::<LazyList, HostRuntime>(&rt, rt.alloc())?;
-    reads_by_its_table::<LockFreeList, HostRuntime>(&rt, rt.alloc())
+fn each_read_finds_what_its_table_finds(rt: HostRuntime) {
+    reads_by_its_table::<LazyList, HostRuntime>(&rt, rt.alloc());
+    reads_by_its_table::<LockFreeList, HostRuntime>(&rt, rt.alloc());
 }

@@ -1,6 +1,6 @@
 ghost use Rattle.std.specs.Prelude.{◌≡◌};
 
-use crate::opened::two_seats;
+use crate::opened::{add, close_with, contains, two_seats};
 use lset_coarse::CoarseList;
 use lset_fine::FineList;
 use lset_lazy::LazyList;
@@ -11,73 +11,65 @@ use lset_words::{Key, Reply};
 use std::alloc::Global;
 use std::process::Abort;
 use std::sync::Wait;
-use std::test::Fail;
 use std::thread::{Threads, join};
 
 /// The seat 0 takes the seat 1 in, finds 9, and closes the set, which has the key 9 alone.
 fn gathers_and_closes<M: Running, R: Wait + Abort>(
     rt: &R,
-    alloc: Global,
     set: LiveSet<M>,
     mut zero: Seat<M>,
     one: Seat<M>,
-) -> Result<(), Fail>
+)
     requires { (zero.set ≡ set) × (one.set ≡ set) }
 {
     set.gather(&mut zero, one);
-    assert_eq!(rt; zero.held(), 2);
-    assert_eq!(rt; set.contains(rt, &mut zero, Key(9)), Reply::True);
-    match set.close(zero) {
-        Ok(closed) => {
-            assert_eq!(rt; closed.keys()?.as_slice(), [9].as_slice());
-            Ok(())
-        }
-        Err(_) => Err(Fail::new("the set is not closed")),
-    }
+    assert!(rt; zero.held() == 2);
+    contains(rt, &set, &mut zero, 9, Reply::True);
+    close_with(rt, set, zero, &[9]);
 }
 
-fn goes_the_whole_way<M: Running, R: Wait + Abort>(rt: &R, alloc: Global) -> Result<(), Fail> {
-    let (set, mut zero, mut one) = two_seats::<M>(alloc)?;
-    assert_eq!(rt; set.add(rt, &mut one, Key(9)), Reply::True);
-    assert_eq!(rt; set.contains(rt, &mut zero, Key(9)), Reply::True);
-    gathers_and_closes(rt, alloc, set, zero, one)
+fn goes_the_whole_way<M: Running, R: Wait + Abort>(rt: &R, alloc: Global) {
+    let (set, mut zero, mut one) = two_seats::<M, R>(rt, alloc);
+    add(rt, &set, &mut one, 9, Reply::True);
+    contains(rt, &set, &mut zero, 9, Reply::True);
+    gathers_and_closes(rt, set, zero, one);
 }
 
 #[test]
-fn two_seats_go_the_whole_way(rt: HostRuntime) -> Result<(), Fail> {
-    goes_the_whole_way::<CoarseList, HostRuntime>(&rt, rt.alloc())?;
-    goes_the_whole_way::<FineList, HostRuntime>(&rt, rt.alloc())?;
-    goes_the_whole_way::<OptimisticList, HostRuntime>(&rt, rt.alloc())?;
-    goes_the_whole_way::<LazyList, HostRuntime>(&rt, rt.alloc())?;
-    goes_the_whole_way::<LockFreeList, HostRuntime>(&rt, rt.alloc())
+fn two_seats_go_the_whole_way(rt: HostRuntime) {
+    goes_the_whole_way::<CoarseList, HostRuntime>(&rt, rt.alloc());
+    goes_the_whole_way::<FineList, HostRuntime>(&rt, rt.alloc());
+    goes_the_whole_way::<OptimisticList, HostRuntime>(&rt, rt.alloc());
+    goes_the_whole_way::<LazyList, HostRuntime>(&rt, rt.alloc());
+    goes_the_whole_way::<LockFreeList, HostRuntime>(&rt, rt.alloc());
 }
 
-fn goes_on_where_it_is_not_closed<M: Running, R: Wait + Abort>(
+fn goes_on_where_it_is_not_closed<M: Running, R: Wait + Abort>(rt: &R, alloc: Global) {
+    let (set, zero, mut one) = two_seats::<M, R>(rt, alloc);
+    add(rt, &set, &mut one, 9, Reply::True);
+    let Err(out) = set.close(zero) else {
+        panic!(rt; "a set is closed by one seat of two")
+    };
+    assert!(rt; out.seat.held() == 1);
+    assert!(rt; out.seat.thread() == 0);
+    gathers_and_closes(rt, out.set, out.seat, one);
+}
+
+#[test]
+fn a_set_that_is_not_closed_goes_on(rt: HostRuntime) {
+    goes_on_where_it_is_not_closed::<CoarseList, HostRuntime>(&rt, rt.alloc());
+    goes_on_where_it_is_not_closed::<FineList, HostRuntime>(&rt, rt.alloc());
+    goes_on_where_it_is_not_closed::<OptimisticList, HostRuntime>(&rt, rt.alloc());
+    goes_on_where_it_is_not_closed::<LazyList, HostRuntime>(&rt, rt.alloc());
+    goes_on_where_it_is_not_closed::<LockFreeList, HostRuntime>(&rt, rt.alloc());
+}
+
+/// A seat adds 9.
+pub fn has_added<M: Running, R: Wait>(
     rt: &R,
-    alloc: Global,
-) -> Result<(), Fail> {
-    let (set, zero, mut one) = two_seats::<M>(alloc)?;
-    assert_eq!(rt; set.add(rt, &mut one, Key(9)), Reply::True);
-    match set.close(zero) {
-        Ok(_) => Err(Fail::new("a set is closed by one seat of two")),
-        Err(out) => {
-            assert_eq!(rt; out.seat.held(), 1);
-            assert_eq!(rt; out.seat.thread(), 0);
-            gathers_and_closes(rt, alloc, out.set, out.seat, one)
-        }
-    }
-}
-
-#[test]
-fn a_set_that_is_not_closed_goes_on(rt: HostRuntime) -> Result<(), Fail> {
-    goes_on_where_it_is_not_closed::<CoarseList, HostRuntime>(&rt, rt.alloc())?;
-    goes_on_where_it_is_not_closed::<FineList, HostRuntime>(&rt, rt.alloc())?;
-    goes_on_where_it_is_not_closed::<OptimisticList, HostRuntime>(&rt, rt.alloc())?;
-    goes_on_where_it_is_not_closed::<LazyList, HostRuntime>(&rt, rt.alloc())?;
-    goes_on_where_it_is_not_closed::<LockFreeList, HostRuntime>(&rt, rt.alloc())
-}
-
-fn has_added<M: Running, R: Wait>(rt: &R, set: &LiveSet<M>, mut seat: Seat<M>) -> (Seat<M>, Reply)
+    set: &LiveSet<M>,
+    mut seat: Seat<M>,
+) -> (Seat<M>, Reply)
     requires { seat.set ≡ set.now }
     ensures { result.0.set ≡ set.now }
 {
@@ -113,19 +105,19 @@ fn at_once<M: Running + Send + Sync, R: Threads + Wait + Sync>(
 fn goes_the_way_in_threads<M: Running + Send + Sync, R: Threads + Wait + Abort + Sync>(
     rt: &R,
     alloc: Global,
-) -> Result<(), Fail> {
-    let (set, zero, one) = two_seats::<M>(alloc)?;
+) {
+    let (set, zero, one) = two_seats::<M, R>(rt, alloc);
     let ((zero, looked), (one, added)) = at_once(rt, &set, zero, one);
     assert!(rt; looked != Reply::Full);
-    assert_eq!(rt; added, Reply::True);
-    gathers_and_closes(rt, alloc, set, zero, one)
+    assert!(rt; added == Reply::True);
+    gathers_and_closes(rt, set, zero, one);
 }
 
 #[test]
-fn two_threads_go_the_whole_way(rt: HostRuntime) -> Result<(), Fail> {
-    goes_the_way_in_threads::<CoarseList, HostRuntime>(&rt, rt.alloc())?;
-    goes_the_way_in_threads::<FineList, HostRuntime>(&rt, rt.alloc())?;
-    goes_the_way_in_threads::<OptimisticList, HostRuntime>(&rt, rt.alloc())?;
-    goes_the_way_in_threads::<LazyList, HostRuntime>(&rt, rt.alloc())?;
-    goes_the_way_in_threads::<LockFreeList, HostRuntime>(&rt, rt.alloc())
+fn two_threads_go_the_whole_way(rt: HostRuntime) {
+    goes_the_way_in_threads::<CoarseList, HostRuntime>(&rt, rt.alloc());
+    goes_the_way_in_threads::<FineList, HostRuntime>(&rt, rt.alloc());
+    goes_the_way_in_threads::<OptimisticList, HostRuntime>(&rt, rt.alloc());
+    goes_the_way_in_threads::<LazyList, HostRuntime>(&rt, rt.alloc());
+    goes_the_way_in_threads::<LockFreeList, HostRuntime>(&rt, rt.alloc());
 }

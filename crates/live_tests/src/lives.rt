@@ -11,7 +11,6 @@ use lset_work::Always;
 use std::alloc::Global;
 use std::process::Abort;
 use std::sync::Wait;
-use std::test::Fail;
 use std::thread::Threads;
 
 /// One life: the set opens with these keys, four threads run the programs of the seed, and each call is noted. The keys that
@@ -22,43 +21,38 @@ fn life<M: Running + Send + Sync, R: Threads + Wait + Abort + Sync>(
     keys: &[u32],
     seed: u64,
     balance: &mut Balance,
-) -> Result<Vec<u32>, Fail> {
-    let (set, seats) = open_with::<M>(alloc, 4, 200, keys)?;
-    let drawn = programs(alloc, 4, 200, 50, seed)?;
-    let again = programs(alloc, 4, 200, 50, seed)?;
-    let Ok(outcome) = worked(rt, alloc, set, seats, drawn, &Always) else {
-        panic!(rt; "refused")
-    };
+) -> Vec<u32> {
+    let (set, seats) = open_with::<M>(alloc, 4, 200, keys).expect(rt, "not opened");
+    let drawn = programs(alloc, 4, 200, 50, seed).expect(rt, "not drawn");
+    let again = programs(alloc, 4, 200, 50, seed).expect(rt, "not drawn");
+    let outcome = worked(rt, alloc, set, seats, drawn, &Always);
     assert!(rt; balance.note_all(&again, &outcome.replies));
-    Ok(outcome.keys)
+    outcome.keys
 }
 
 /// Ten lives, each from the keys of the life before. After each of them just those keys are left that were put in once more
-/// than they were taken out in all lives so far. So many keys were left in all.
-fn ten_lives<M: Running + Send + Sync, R: Threads + Wait + Abort + Sync>(
+/// than they were taken out in all lives so far. Some keys are left after some of them.
+fn has_ten_lives<M: Running + Send + Sync, R: Threads + Wait + Abort + Sync>(
     rt: &R,
     alloc: Global,
-) -> Result<usize, Fail> {
+) {
     let mut balance = Balance::new();
     let mut keys = Vec::new(alloc);
     let mut left = 0usize;
     for number in 0..10u32 {
-        keys = life::<M, R>(rt, alloc, &keys, 64 * u64::from(number), &mut balance)?;
+        keys = life::<M, R>(rt, alloc, &keys, 64 * u64::from(number), &mut balance);
         assert!(rt; balance.leaves(&keys), "{number}");
         left = left.saturating_add(keys.len());
     }
-    assert_eq!(rt; balance.calls(), 8_000);
-    Ok(left)
+    assert!(rt; balance.calls() == 8_000);
+    assert!(rt; left > 0);
 }
 
 #[test]
-fn over_ten_lives_each_key_left_was_put_in_once_more_than_taken_out(
-    rt: HostRuntime,
-) -> Result<(), Fail> {
-    assert!(rt; ten_lives::<CoarseList, HostRuntime>(&rt, rt.alloc())? > 0);
-    assert!(rt; ten_lives::<FineList, HostRuntime>(&rt, rt.alloc())? > 0);
-    assert!(rt; ten_lives::<OptimisticList, HostRuntime>(&rt, rt.alloc())? > 0);
-    assert!(rt; ten_lives::<LazyList, HostRuntime>(&rt, rt.alloc())? > 0);
-    assert!(rt; ten_lives::<LockFreeList, HostRuntime>(&rt, rt.alloc())? > 0);
-    Ok(())
+fn over_ten_lives_each_key_left_was_put_in_once_more_than_taken_out(rt: HostRuntime) {
+    has_ten_lives::<CoarseList, HostRuntime>(&rt, rt.alloc());
+    has_ten_lives::<FineList, HostRuntime>(&rt, rt.alloc());
+    has_ten_lives::<OptimisticList, HostRuntime>(&rt, rt.alloc());
+    has_ten_lives::<LazyList, HostRuntime>(&rt, rt.alloc());
+    has_ten_lives::<LockFreeList, HostRuntime>(&rt, rt.alloc());
 }

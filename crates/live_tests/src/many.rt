@@ -8,16 +8,15 @@ use lset_lock_free::LockFreeList;
 use lset_optimistic::OptimisticList;
 use lset_rule::Spin;
 use lset_words::{Call, Key, Reply};
-use std::alloc::{AllocError, Global};
+use std::alloc::Global;
 use std::process::Abort;
 use std::sync::Wait;
 use std::sync::atomic::{AtomicU64, Ordering};
-use std::test::Fail;
 use std::thread;
 use std::thread::Threads;
 
 /// How many keys there are.
-const KEYS: u64 = 24;
+const KEYS: usize = 24;
 
 /// How many calls each seat makes.
 const CALLS: u32 = 1000;
@@ -110,42 +109,37 @@ pub fn gathered<M: Running>(set: &LiveSet<M>, mut seats: Vec<Seat<M>>) -> Option
     all
 }
 
-fn no_counts(alloc: Global) -> Result<Vec<AtomicU64>, AllocError> {
-    let mut counts = Vec::new(alloc);
-    for _ in 0..KEYS {
-        counts.push(AtomicU64::new(0))?;
-    }
-    Ok(counts)
+fn no_counts() -> [AtomicU64; KEYS] {
+    [0; KEYS].map(AtomicU64::new)
 }
 
-/// A key is left exactly where it was put in once more than it was taken out.
+/// Whether each key is left exactly where it was put in once more than it was taken out.
+fn add_up(counts: &[AtomicU64], keys: &[u32]) -> bool {
+    (0..).zip(counts).all(|(key, count)| count.load(Ordering::SeqCst)
+        == u64::from(keys.contains(&key)))
+}
+
 fn leaves_what_was_added<M: Running + Send + Sync, R: Threads + Wait + Abort + Sync>(
     rt: &R,
     alloc: Global,
-) -> Result<(), Fail> {
-    let (set, mut seats) = open::<M>(alloc, 8, CALLS)?;
-    let counts = no_counts(alloc)?;
+) {
+    let (set, mut seats) = open::<M>(alloc, 8, CALLS).expect(rt, "not opened");
+    let counts = no_counts();
     make_all_calls(rt, &set, &counts, seats.as_mut_slice());
-    let Some(all) = gathered(&set, seats) else {
-        return Err(Fail::new("no seat"));
-    };
-    assert_eq!(rt; all.held(), 8);
+    let all = gathered(&set, seats).expect(rt, "no seat");
+    assert!(rt; all.held() == 8);
     let Ok(closed) = set.close(all) else {
-        return Err(Fail::new("the set is not closed"));
+        panic!(rt; "the set is not closed")
     };
-    let keys = closed.keys()?;
-    for (key, count) in (0..).zip(&counts) {
-        let wanted = u64::from(keys.contains(&key));
-        assert_eq!(rt; count.load(Ordering::SeqCst), wanted);
-    }
-    Ok(())
+    let keys = closed.keys().expect(rt, "the keys");
+    assert!(rt; add_up(&counts, &keys));
 }
 
 #[test]
-fn a_thousand_calls_of_each_of_eight_seats(rt: HostRuntime) -> Result<(), Fail> {
-    leaves_what_was_added::<CoarseList, HostRuntime>(&rt, rt.alloc())?;
-    leaves_what_was_added::<FineList, HostRuntime>(&rt, rt.alloc())?;
-    leaves_what_was_added::<OptimisticList, HostRuntime>(&rt, rt.alloc())?;
-    leaves_what_was_added::<LazyList, HostRuntime>(&rt, rt.alloc())?;
-    leaves_what_was_added::<LockFreeList, HostRuntime>(&rt, rt.alloc())
+fn a_thousand_calls_of_each_of_eight_seats(rt: HostRuntime) {
+    leaves_what_was_added::<CoarseList, HostRuntime>(&rt, rt.alloc());
+    leaves_what_was_added::<FineList, HostRuntime>(&rt, rt.alloc());
+    leaves_what_was_added::<OptimisticList, HostRuntime>(&rt, rt.alloc());
+    leaves_what_was_added::<LazyList, HostRuntime>(&rt, rt.alloc());
+    leaves_what_was_added::<LockFreeList, HostRuntime>(&rt, rt.alloc());
 }

@@ -14,7 +14,6 @@ use std::alloc::Global;
 use std::process::Abort;
 use std::sync::Wait;
 use std::sync::atomic::{AtomicBool, AtomicU64, Ordering};
-use std::test::Fail;
 use std::thread::{Threads, join};
 use std::time::Clock;
 
@@ -59,25 +58,30 @@ fn at_once<M: Running + Send + Sync, R: Threads + Wait + Clock + Sync, P: Pause 
     )
 }
 
+/// Both keys came in.
+fn are_added<R: Abort>(rt: &R, replies: (Reply, Reply)) {
+    assert!(rt; replies.0 == Reply::True);
+    assert!(rt; replies.1 == Reply::True);
+}
+
 fn calls_meet<M: Running + Send + Sync, R: Threads + Wait + Clock + Abort + Sync>(
     rt: &R,
     alloc: Global,
-) -> Result<(), Fail> {
-    let (set, zero, one) = two_seats::<M>(alloc)?;
+) {
+    let (set, zero, one) = two_seats::<M, R>(rt, alloc);
     let meeting = Meeting::new(rt);
     let replies = at_once(rt, &set, zero, one, &meeting, &AtomicBool::new(true));
     assert!(rt; meeting.was_held());
-    assert_eq!(rt; replies, (Reply::True, Reply::True));
-    Ok(())
+    are_added(rt, replies);
 }
 
 #[test]
-fn two_calls_meet(rt: HostRuntime) -> Result<(), Fail> {
-    calls_meet::<CoarseList, HostRuntime>(&rt, rt.alloc())?;
-    calls_meet::<FineList, HostRuntime>(&rt, rt.alloc())?;
-    calls_meet::<OptimisticList, HostRuntime>(&rt, rt.alloc())?;
-    calls_meet::<LazyList, HostRuntime>(&rt, rt.alloc())?;
-    calls_meet::<LockFreeList, HostRuntime>(&rt, rt.alloc())
+fn two_calls_meet(rt: HostRuntime) {
+    calls_meet::<CoarseList, HostRuntime>(&rt, rt.alloc());
+    calls_meet::<FineList, HostRuntime>(&rt, rt.alloc());
+    calls_meet::<OptimisticList, HostRuntime>(&rt, rt.alloc());
+    calls_meet::<LazyList, HostRuntime>(&rt, rt.alloc());
+    calls_meet::<LockFreeList, HostRuntime>(&rt, rt.alloc());
 }
 
 /// Stops thread 0 after the step with a number, from 0, at which it has taken a lock, until thread 1 has failed to.
@@ -109,35 +113,46 @@ impl<'a, R: Clock> Pause for Holder<'a, R> {
     }
 }
 
+impl<'a, R> Holder<'a, R> {
+    /// Whose thread 0 is to take its lock at this step.
+    fn new(rt: &'a R, locks_at: u64) -> Holder<'a, R> {
+        Holder {
+            rt,
+            locks_at,
+            steps_of_zero: AtomicU64::new(0),
+            is_locked: AtomicBool::new(false),
+            one_failed: AtomicBool::new(false),
+            zero_failed: AtomicBool::new(false),
+            missed: AtomicBool::new(false),
+        }
+    }
+
+    /// Whether thread 1 alone failed to take a lock, and thread 0 did not wait in vain.
+    fn was_told(&self) -> bool {
+        self.one_failed.load(Ordering::SeqCst)
+            && !self.missed.load(Ordering::SeqCst)
+            && !self.zero_failed.load(Ordering::SeqCst)
+    }
+}
+
 fn is_told_of_a_lock<M: Running + Send + Sync, R: Threads + Wait + Clock + Abort + Sync>(
     rt: &R,
     alloc: Global,
     locks_at: u64,
-) -> Result<(), Fail> {
-    let (set, zero, one) = two_seats::<M>(alloc)?;
-    let holder = Holder {
-        rt,
-        locks_at,
-        steps_of_zero: AtomicU64::new(0),
-        is_locked: AtomicBool::new(false),
-        one_failed: AtomicBool::new(false),
-        zero_failed: AtomicBool::new(false),
-        missed: AtomicBool::new(false),
-    };
+) {
+    let (set, zero, one) = two_seats::<M, R>(rt, alloc);
+    let holder = Holder::new(rt, locks_at);
     let replies = at_once(rt, &set, zero, one, &holder, &holder.is_locked);
-    assert!(rt; holder.one_failed.load(Ordering::SeqCst));
-    assert!(rt; !holder.missed.load(Ordering::SeqCst));
-    assert!(rt; !holder.zero_failed.load(Ordering::SeqCst));
-    assert_eq!(rt; replies, (Reply::True, Reply::True));
-    Ok(())
+    assert!(rt; holder.was_told());
+    are_added(rt, replies);
 }
 
 /// Thread 0 has a lock that thread 1 tries: its first step takes the lock of the list or of the head, or its third one that
 /// of the head.
 #[test]
-fn a_pause_is_told_of_a_lock_that_another_seat_has(rt: HostRuntime) -> Result<(), Fail> {
-    is_told_of_a_lock::<CoarseList, HostRuntime>(&rt, rt.alloc(), 0)?;
-    is_told_of_a_lock::<FineList, HostRuntime>(&rt, rt.alloc(), 0)?;
-    is_told_of_a_lock::<OptimisticList, HostRuntime>(&rt, rt.alloc(), 2)?;
-    is_told_of_a_lock::<LazyList, HostRuntime>(&rt, rt.alloc(), 2)
+fn a_pause_is_told_of_a_lock_that_another_seat_has(rt: HostRuntime) {
+    is_told_of_a_lock::<CoarseList, HostRuntime>(&rt, rt.alloc(), 0);
+    is_told_of_a_lock::<FineList, HostRuntime>(&rt, rt.alloc(), 0);
+    is_told_of_a_lock::<OptimisticList, HostRuntime>(&rt, rt.alloc(), 2);
+    is_told_of_a_lock::<LazyList, HostRuntime>(&rt, rt.alloc(), 2);
 }

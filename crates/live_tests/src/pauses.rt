@@ -11,7 +11,6 @@ use std::alloc::Global;
 use std::cell::Cell;
 use std::process::Abort;
 use std::sync::Wait;
-use std::test::Fail;
 use stepped_lists::Stepped;
 
 /// Counts the steps that do not answer, and those of them that are told of another thread or as failed.
@@ -43,29 +42,27 @@ impl Pause for Count {
 }
 
 /// An add on the empty list, of seat 1, asks its pause so many times.
-fn asks<M: Running, R: Wait + Abort>(rt: &R, alloc: Global, pauses: u64) -> Result<(), Fail> {
-    let (set, _zero, mut one) = two_seats::<M>(alloc)?;
+fn asks<M: Running, R: Wait + Abort>(rt: &R, alloc: Global, pauses: u64) {
+    let (set, _zero, mut one) = two_seats::<M, R>(rt, alloc);
     let count = Count::new(1);
-    assert_eq!(rt;
-        set.call(rt, &mut one, Call::Add(Key(5)), &count),
-        Reply::True
-    );
-    assert_eq!(rt; (count.steps.get(), count.wrong.get()), (pauses, 0));
-    Ok(())
+    let reply = set.call(rt, &mut one, Call::Add(Key(5)), &count);
+    assert!(rt; reply == Reply::True);
+    assert!(rt; count.steps.get() == pauses, "{pauses}");
+    assert!(rt; count.wrong.get() == 0, "{pauses}");
 }
 
 /// So does the same add by the interpreter.
-fn both_ask<M: Running, R: Wait + Abort>(rt: &R, alloc: Global, pauses: u64) -> Result<(), Fail> {
-    asks::<M, R>(rt, alloc, pauses)?;
-    asks::<Stepped<M>, R>(rt, alloc, pauses)
+fn both_ask<M: Running, R: Wait + Abort>(rt: &R, alloc: Global, pauses: u64) {
+    asks::<M, R>(rt, alloc, pauses);
+    asks::<Stepped<M>, R>(rt, alloc, pauses);
 }
 
 /// The steps of `docs/TABLES.md`, less the one that answers.
 #[test]
-fn a_pause_is_asked_after_each_step_but_the_last(rt: HostRuntime) -> Result<(), Fail> {
-    both_ask::<CoarseList, HostRuntime>(&rt, rt.alloc(), 6)?;
-    both_ask::<FineList, HostRuntime>(&rt, rt.alloc(), 8)?;
-    both_ask::<OptimisticList, HostRuntime>(&rt, rt.alloc(), 9)?;
-    both_ask::<LazyList, HostRuntime>(&rt, rt.alloc(), 10)?;
-    both_ask::<LockFreeList, HostRuntime>(&rt, rt.alloc(), 5)
+fn a_pause_is_asked_after_each_step_but_the_last(rt: HostRuntime) {
+    both_ask::<CoarseList, HostRuntime>(&rt, rt.alloc(), 6);
+    both_ask::<FineList, HostRuntime>(&rt, rt.alloc(), 8);
+    both_ask::<OptimisticList, HostRuntime>(&rt, rt.alloc(), 9);
+    both_ask::<LazyList, HostRuntime>(&rt, rt.alloc(), 10);
+    both_ask::<LockFreeList, HostRuntime>(&rt, rt.alloc(), 5);
 }

@@ -1,7 +1,7 @@
-ghost use Rattle.std.specs.Prelude.{◌≡◌, ◌<◌, ◌^◌, IfOk, IsTrue, All, length};
+ghost use Rattle.std.specs.Prelude.{◌≡◌, ◌<◌, ◌^◌, IsTrue, All, length};
 
 use crate::balance::Balance;
-use crate::opened::two_seats;
+use crate::opened::{add, two_seats};
 use crate::waiting::Meeting;
 use lset_coarse::CoarseList;
 use lset_fine::FineList;
@@ -12,21 +12,12 @@ use lset_optimistic::OptimisticList;
 use lset_schedule::programs;
 use lset_words::{Call, Key, Reply};
 use lset_work::{Always, Gate, Outcome, WorkCause, WorkFault, work};
-use std::alloc::{AllocError, Global};
+use std::alloc::Global;
 use std::process::Abort;
 use std::sync::Wait;
 use std::sync::atomic::{AtomicU32, Ordering};
-use std::test::Fail;
 use std::thread::Threads;
 use std::time::Clock;
-
-fn adds(alloc: Global, keys: &[u32]) -> Result<Vec<Call>, AllocError> {
-    let mut calls = Vec::new(alloc);
-    for key in keys {
-        calls.push(Call::Add(Key(*key)))?;
-    }
-    Ok(calls)
-}
 
 fn are_short(programs: &[Vec<Call>]) -> bool
     ensures { IsTrue result → All (λ p. length p.items < 2 ^ 32) programs.now }
@@ -39,7 +30,7 @@ fn are_short(programs: &[Vec<Call>]) -> bool
 }
 
 /// `work`, once it is seen that the programs are short.
-pub fn worked<M: Running + Send + Sync, R: Threads + Wait + Abort + Sync, G: Gate + Sync>(
+fn tried<M: Running + Send + Sync, R: Threads + Wait + Abort + Sync, G: Gate + Sync>(
     rt: &R,
     alloc: Global,
     set: LiveSet<M>,
@@ -49,34 +40,68 @@ pub fn worked<M: Running + Send + Sync, R: Threads + Wait + Abort + Sync, G: Gat
 ) -> Result<Outcome, WorkFault<M>>
     requires { All (λ s. s.set ≡ set) seats.items }
 {
-    if !are_short(&programs) {
-        panic!(rt; "a long program")
-    }
+    assert!(rt; are_short(&programs));
     work(rt, alloc, set, seats, programs, gate)
 }
 
-/// The programs on the two seats of a new set.
-fn worked_by_two<M: Running + Send + Sync, R: Threads + Wait + Abort + Sync, G: Gate + Sync>(
+/// The same, where it is not refused.
+pub fn worked<M: Running + Send + Sync, R: Threads + Wait + Abort + Sync, G: Gate + Sync>(
+    rt: &R,
+    alloc: Global,
+    set: LiveSet<M>,
+    seats: Vec<Seat<M>>,
+    programs: Vec<Vec<Call>>,
+    gate: &G,
+) -> Outcome
+    requires { All (λ s. s.set ≡ set) seats.items }
+{
+    match tried(rt, alloc, set, seats, programs, gate) {
+        Ok(outcome) => outcome,
+        Err(fault) => panic!(rt; "refused: {}", fault.cause),
+    }
+}
+
+/// Both seats of a new set.
+fn two_in_a_row<M: Running, R: Abort>(rt: &R, alloc: Global) -> (LiveSet<M>, Vec<Seat<M>>)
+    ensures { All (λ s. s.set ≡ result.0) result.1.items }
+{
+    open::<M>(alloc, 2, 4).expect(rt, "not opened")
+}
+
+/// Why the programs are refused on these seats.
+fn fault_of<M: Running + Send + Sync, R: Threads + Wait + Abort + Sync, G: Gate + Sync>(
     rt: &R,
     alloc: Global,
     programs: Vec<Vec<Call>>,
     gate: &G,
-) -> Result<Result<Outcome, WorkFault<M>>, Fail> {
-    let (set, zero, one) = two_seats::<M>(alloc)?;
-    let seats = vec![in alloc; zero, one]?;
-    Ok(worked(rt, alloc, set, seats, programs, gate))
+) -> WorkFault<M> {
+    let (set, seats) = two_in_a_row::<M, R>(rt, alloc);
+    match tried(rt, alloc, set, seats, programs, gate) {
+        Ok(_) => panic!(rt; "not refused"),
+        Err(fault) => fault,
+    }
 }
 
-/// Add 1, Contains 1, Remove 1; and Add 2, Add 2.
-fn two_programs(alloc: Global) -> Result<Vec<Vec<Call>>, AllocError> {
-    let mut programs = Vec::new(alloc);
-    programs.push(vec![in alloc;
-        Call::Add(Key(1)),
-        Call::Contains(Key(1)),
-        Call::Remove(Key(1)),
-    ]?)?;
-    programs.push(adds(alloc, &[2, 2])?)?;
-    Ok(programs)
+/// Two programs.
+fn pair<R: Abort>(rt: &R, alloc: Global, first: &[Call], second: &[Call]) -> Vec<Vec<Call>> {
+    let first = Vec::from_slice(alloc, first).expect(rt, "room");
+    let second = Vec::from_slice(alloc, second).expect(rt, "room");
+    vec![in alloc; first, second].expect(rt, "room")
+}
+
+/// Add 1, Contains 1, Remove 1.
+const FIRST: [Call; 3] = [
+    Call::Add(Key(1)),
+    Call::Contains(Key(1)),
+    Call::Remove(Key(1)),
+];
+
+/// Add 2, Add 2.
+const SECOND: [Call; 2] = [Call::Add(Key(2)), Call::Add(Key(2))];
+
+/// These two.
+fn two_programs<R: Abort>(rt: &R, alloc: Global) -> Vec<Vec<Call>> {
+    pair(rt, alloc, &FIRST, &SECOND)
 }
 
 fn are_as_wanted(outcome: &Outcome, replies: &[&[Reply]], keys: &[u32]) -> bool {
@@ -89,45 +114,37 @@ fn are_as_wanted(outcome: &Outcome, replies: &[&[Reply]], keys: &[u32]) -> bool 
             .all(|pair| pair.0.as_slice() == *pair.1)
 }
 
-fn answers<M: Running + Send + Sync, R: Threads + Wait + Abort + Sync>(
-    rt: &R,
-    alloc: Global,
-) -> Result<(), Fail> {
-    let Ok(outcome) = worked_by_two::<M, R, Always>(rt, alloc, two_programs(alloc)?, &Always)?
-    else {
-        panic!(rt; "refused")
-    };
+fn answers<M: Running + Send + Sync, R: Threads + Wait + Abort + Sync>(rt: &R, alloc: Global) {
+    let (set, seats) = two_in_a_row::<M, R>(rt, alloc);
+    let outcome = worked(rt, alloc, set, seats, two_programs(rt, alloc), &Always);
     let first: &[Reply] = &[Reply::True, Reply::True, Reply::True];
     let second: &[Reply] = &[Reply::True, Reply::False];
     assert!(rt; are_as_wanted(&outcome, &[first, second], &[2]));
-    Ok(())
 }
 
 #[test]
-fn programs_are_answered(rt: HostRuntime) -> Result<(), Fail> {
-    answers::<CoarseList, HostRuntime>(&rt, rt.alloc())?;
-    answers::<FineList, HostRuntime>(&rt, rt.alloc())?;
-    answers::<OptimisticList, HostRuntime>(&rt, rt.alloc())?;
-    answers::<LazyList, HostRuntime>(&rt, rt.alloc())?;
-    answers::<LockFreeList, HostRuntime>(&rt, rt.alloc())
+fn programs_are_answered(rt: HostRuntime) {
+    answers::<CoarseList, HostRuntime>(&rt, rt.alloc());
+    answers::<FineList, HostRuntime>(&rt, rt.alloc());
+    answers::<OptimisticList, HostRuntime>(&rt, rt.alloc());
+    answers::<LazyList, HostRuntime>(&rt, rt.alloc());
+    answers::<LockFreeList, HostRuntime>(&rt, rt.alloc());
 }
 
-#[test]
-fn one_program_for_two_seats_gives_all_back(rt: HostRuntime) -> Result<(), Fail> {
-    let alloc = rt.alloc();
-    let mut programs = two_programs(alloc)?;
-    let _ = programs.pop();
-    let Err(fault) = worked_by_two::<LazyList, HostRuntime, Always>(&rt, alloc, programs, &Always)?
-    else {
-        panic!(rt; "one program for two seats")
-    };
+/// The programs did not fit the seats, and so many seats came back with the set, which has two.
+fn gave_all_back<R: Abort>(rt: &R, fault: WorkFault<LazyList>, seats: usize) {
     assert!(rt; fault.cause == WorkCause::Programs);
-    let Some((set, seats)) = fault.back else {
-        panic!(rt; "nothing came back")
-    };
+    let (set, back) = fault.back.expect(rt, "nothing came back");
     assert!(rt; set.seats() == 2);
-    assert!(rt; seats.len() == 2);
-    Ok(())
+    assert!(rt; back.len() == seats);
+}
+
+#[test]
+fn one_program_for_two_seats_gives_all_back(rt: HostRuntime) {
+    let mut programs = two_programs(&rt, rt.alloc());
+    let _ = programs.pop();
+    let fault = fault_of::<LazyList, HostRuntime, Always>(&rt, rt.alloc(), programs, &Always);
+    gave_all_back(&rt, fault, 2);
 }
 
 /// Answers false at one call.
@@ -143,31 +160,34 @@ impl Gate for Shut {
     }
 }
 
+fn ends_a_program<R: Threads + Wait + Abort + Sync>(rt: &R, alloc: Global, shut: &Shut) {
+    let programs = two_programs(rt, alloc);
+    let fault = fault_of::<LazyList, R, Shut>(rt, alloc, programs, shut);
+    assert!(rt; fault.cause == WorkCause::Gate);
+    assert!(rt; fault.back.is_none());
+}
+
 /// At the first, a middle and the last call of either seat.
 #[test]
-fn a_gate_ends_a_program(rt: HostRuntime) -> Result<(), Fail> {
-    for (seat, call) in [(0, 0), (0, 1), (0, 2), (1, 0), (1, 1)] {
-        let shut = Shut { seat, call };
-        let programs = two_programs(rt.alloc())?;
-        let Err(fault) = worked_by_two::<LazyList, HostRuntime, Shut>(
-            &rt,
-            rt.alloc(),
-            programs,
-            &shut,
-        )?
-        else {
-            panic!(rt; "the gate was passed")
-        };
-        assert!(rt; fault.cause == WorkCause::Gate, "{seat} {call}");
-        assert!(rt; fault.back.is_none(), "{seat} {call}");
+fn a_gate_ends_a_program(rt: HostRuntime) {
+    for &(seat, call) in &[(0, 0), (0, 1), (0, 2), (1, 0), (1, 1)] {
+        ends_a_program(&rt, rt.alloc(), &Shut { seat, call });
     }
-    Ok(())
 }
 
 /// Counts how often it is asked for each of the first three calls of two seats, and for other ones.
 #[derive(Drop)]
 struct Asked {
     counts: [AtomicU32; 7],
+}
+
+impl Asked {
+    fn are(&self, wanted: &[u32]) -> bool {
+        self.counts
+            .iter()
+            .zip(wanted)
+            .all(|(count, wanted)| count.load(Ordering::SeqCst) == *wanted)
+    }
 }
 
 impl Gate for Asked {
@@ -183,17 +203,14 @@ impl Gate for Asked {
 }
 
 #[test]
-fn a_gate_is_asked_once_for_each_call(rt: HostRuntime) -> Result<(), Fail> {
+fn a_gate_is_asked_once_for_each_call(rt: HostRuntime) {
     let asked = Asked {
         counts: [0; 7].map(AtomicU32::new),
     };
-    let programs = two_programs(rt.alloc())?;
-    let worked = worked_by_two::<LazyList, HostRuntime, Asked>(&rt, rt.alloc(), programs, &asked)?;
-    assert!(rt; worked.is_ok());
-    for (count, wanted) in asked.counts.iter().zip([1, 1, 1, 1, 1, 0, 0]) {
-        assert_eq!(rt; count.load(Ordering::SeqCst), wanted);
-    }
-    Ok(())
+    let programs = two_programs(&rt, rt.alloc());
+    let (set, seats) = two_in_a_row::<LazyList, HostRuntime>(&rt, rt.alloc());
+    let _outcome = worked(&rt, rt.alloc(), set, seats, programs, &asked);
+    assert!(rt; asked.are(&[1, 1, 1, 1, 1, 0, 0]));
 }
 
 /// Holds each seat at its second call until the other seat is there too.
@@ -203,96 +220,91 @@ impl<'a, R: Clock> Gate for Meeting<'a, R> {
     }
 }
 
-fn meet<M: Running + Send + Sync, R: Threads + Wait + Abort + Sync + Clock>(
-    rt: &R,
-    alloc: Global,
-) -> Result<(), Fail> {
-    let mut programs = Vec::new(alloc);
-    programs.push(adds(alloc, &[1, 3])?)?;
-    programs.push(adds(alloc, &[2, 4])?)?;
-    let gate = Meeting::new(rt);
-    let Ok(outcome) = worked_by_two::<M, R, Meeting<'_, R>>(rt, alloc, programs, &gate)? else {
-        panic!(rt; "the workers did not meet")
-    };
+/// Adds 1 and 3; and 2 and 4.
+const ODD: [Call; 2] = [Call::Add(Key(1)), Call::Add(Key(3))];
+
+const EVEN: [Call; 2] = [Call::Add(Key(2)), Call::Add(Key(4))];
+
+fn meet<M: Running + Send + Sync, R: Threads + Wait + Abort + Sync + Clock>(rt: &R, alloc: Global) {
+    let programs = pair(rt, alloc, &ODD, &EVEN);
+    let (set, seats) = two_in_a_row::<M, R>(rt, alloc);
+    let outcome = worked(rt, alloc, set, seats, programs, &Meeting::new(rt));
     let both: &[Reply] = &[Reply::True, Reply::True];
     assert!(rt; are_as_wanted(&outcome, &[both, both], &[1, 2, 3, 4]));
-    Ok(())
 }
 
 #[test]
-fn two_workers_meet(rt: HostRuntime) -> Result<(), Fail> {
-    meet::<CoarseList, HostRuntime>(&rt, rt.alloc())?;
-    meet::<FineList, HostRuntime>(&rt, rt.alloc())?;
-    meet::<OptimisticList, HostRuntime>(&rt, rt.alloc())?;
-    meet::<LazyList, HostRuntime>(&rt, rt.alloc())?;
-    meet::<LockFreeList, HostRuntime>(&rt, rt.alloc())
+fn two_workers_meet(rt: HostRuntime) {
+    meet::<CoarseList, HostRuntime>(&rt, rt.alloc());
+    meet::<FineList, HostRuntime>(&rt, rt.alloc());
+    meet::<OptimisticList, HostRuntime>(&rt, rt.alloc());
+    meet::<LazyList, HostRuntime>(&rt, rt.alloc());
+    meet::<LockFreeList, HostRuntime>(&rt, rt.alloc());
 }
 
-fn gathered<M: Running + Send + Sync, R: Threads + Wait + Abort + Sync>(
+/// One program for one seat.
+fn alone<M: Running, R: Abort>(
     rt: &R,
     alloc: Global,
-) -> Result<(), Fail> {
-    let (set, mut zero, mut one) = two_seats::<M>(alloc)?;
-    assert!(rt; set.add(rt, &mut one, Key(9)) == Reply::True);
+    seat: Seat<M>,
+    program: &[Call],
+) -> (Vec<Seat<M>>, Vec<Vec<Call>>)
+    ensures { All (λ s. s.set ≡ seat.set) result.0.items }
+{
+    let calls = Vec::from_slice(alloc, program).expect(rt, "room");
+    let seats = vec![in alloc; seat].expect(rt, "room");
+    (seats, vec![in alloc; calls].expect(rt, "room"))
+}
+
+fn works_when_gathered<M: Running + Send + Sync, R: Threads + Wait + Abort + Sync>(
+    rt: &R,
+    alloc: Global,
+) {
+    let (set, mut zero, mut one) = two_seats::<M, R>(rt, alloc);
+    add(rt, &set, &mut one, 9, Reply::True);
     set.gather(&mut zero, one);
-    let program = vec![in alloc; Call::Contains(Key(9)), Call::Add(Key(3))]?;
-    let seats = vec![in alloc; zero]?;
-    let Ok(outcome) = worked(rt, alloc, set, seats, vec![in alloc; program]?, &Always) else {
-        panic!(rt; "refused")
-    };
+    let program = [Call::Contains(Key(9)), Call::Add(Key(3))];
+    let (seats, programs) = alone(rt, alloc, zero, &program);
+    let outcome = worked(rt, alloc, set, seats, programs, &Always);
     let both: &[Reply] = &[Reply::True, Reply::True];
     assert!(rt; are_as_wanted(&outcome, &[both], &[3, 9]));
-    Ok(())
 }
 
 #[test]
-fn a_gathered_seat_works(rt: HostRuntime) -> Result<(), Fail> {
-    gathered::<CoarseList, HostRuntime>(&rt, rt.alloc())?;
-    gathered::<FineList, HostRuntime>(&rt, rt.alloc())?;
-    gathered::<OptimisticList, HostRuntime>(&rt, rt.alloc())?;
-    gathered::<LazyList, HostRuntime>(&rt, rt.alloc())?;
-    gathered::<LockFreeList, HostRuntime>(&rt, rt.alloc())
+fn a_gathered_seat_works(rt: HostRuntime) {
+    works_when_gathered::<CoarseList, HostRuntime>(&rt, rt.alloc());
+    works_when_gathered::<FineList, HostRuntime>(&rt, rt.alloc());
+    works_when_gathered::<OptimisticList, HostRuntime>(&rt, rt.alloc());
+    works_when_gathered::<LazyList, HostRuntime>(&rt, rt.alloc());
+    works_when_gathered::<LockFreeList, HostRuntime>(&rt, rt.alloc());
 }
 
 #[test]
-fn all_seats_are_wanted(rt: HostRuntime) -> Result<(), Fail> {
-    let alloc = rt.alloc();
-    let (set, zero, _one) = two_seats::<LazyList>(alloc)?;
-    let program = adds(alloc, &[3])?;
-    let seats = vec![in alloc; zero]?;
-    let Err(fault) = worked(&rt, alloc, set, seats, vec![in alloc; program]?, &Always) else {
-        panic!(rt; "a seat is missing")
-    };
-    assert!(rt; fault.cause == WorkCause::Programs);
-    let Some((_set, seats)) = fault.back else {
-        panic!(rt; "nothing came back")
-    };
-    assert!(rt; seats.len() == 1);
-    Ok(())
+fn all_seats_are_wanted(rt: HostRuntime) {
+    let (set, zero, _one) = two_seats::<LazyList, HostRuntime>(&rt, rt.alloc());
+    let (seats, programs) = alone(&rt, rt.alloc(), zero, &[Call::Add(Key(3))]);
+    match tried(&rt, rt.alloc(), set, seats, programs, &Always) {
+        Ok(_) => panic!(rt; "a seat is missing"),
+        Err(fault) => gave_all_back(&rt, fault, 1),
+    }
 }
 
-fn add_up<M: Running + Send + Sync, R: Threads + Wait + Abort + Sync>(
-    rt: &R,
-    alloc: Global,
-) -> Result<(), Fail> {
-    let (set, seats) = open::<M>(alloc, 4, 2_000)?;
-    let drawn = programs(alloc, 4, 2_000, 50, 7)?;
-    let again = programs(alloc, 4, 2_000, 50, 7)?;
-    let Ok(outcome) = worked(rt, alloc, set, seats, drawn, &Always) else {
-        panic!(rt; "refused")
-    };
+fn add_up<M: Running + Send + Sync, R: Threads + Wait + Abort + Sync>(rt: &R, alloc: Global) {
+    let (set, seats) = open::<M>(alloc, 4, 2_000).expect(rt, "not opened");
+    let drawn = programs(alloc, 4, 2_000, 50, 7).expect(rt, "not drawn");
+    let again = programs(alloc, 4, 2_000, 50, 7).expect(rt, "not drawn");
+    let outcome = worked(rt, alloc, set, seats, drawn, &Always);
     let mut balance = Balance::new();
     assert!(rt; balance.note_all(&again, &outcome.replies));
-    assert_eq!(rt; balance.calls(), 8_000);
+    assert!(rt; balance.calls() == 8_000);
     assert!(rt; balance.leaves(&outcome.keys));
-    Ok(())
 }
 
 #[test]
-fn each_key_left_was_put_in_once_more_than_taken_out(rt: HostRuntime) -> Result<(), Fail> {
-    add_up::<CoarseList, HostRuntime>(&rt, rt.alloc())?;
-    add_up::<FineList, HostRuntime>(&rt, rt.alloc())?;
-    add_up::<OptimisticList, HostRuntime>(&rt, rt.alloc())?;
-    add_up::<LazyList, HostRuntime>(&rt, rt.alloc())?;
-    add_up::<LockFreeList, HostRuntime>(&rt, rt.alloc())
+fn each_key_left_was_put_in_once_more_than_taken_out(rt: HostRuntime) {
+    add_up::<CoarseList, HostRuntime>(&rt, rt.alloc());
+    add_up::<FineList, HostRuntime>(&rt, rt.alloc());
+    add_up::<OptimisticList, HostRuntime>(&rt, rt.alloc());
+    add_up::<LazyList, HostRuntime>(&rt, rt.alloc());
+    add_up::<LockFreeList, HostRuntime>(&rt, rt.alloc());
 }
