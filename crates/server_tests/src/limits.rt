@@ -20,10 +20,11 @@ const LONG: &[u8; 66] = b"AAAAAAAAAAAAAAAAAAAAAAAAAAAAAAAAAAAAAAAAAAAAAAAAAAAAAA
 
 #[test]
 fn a_long_line_ends_a_session(rt: HostRuntime) {
-    is_answered(&rt, rt.alloc(), &LONG[1..65], b"", Why::End);
-    is_answered(&rt, rt.alloc(), &LONG[1..], b"BAD\n", Why::End);
-    is_answered(&rt, rt.alloc(), &LONG[..65], b"LONG\n", Why::Long);
-    is_answered(&rt, rt.alloc(), LONG, b"LONG\n", Why::Long);
+    let long = LONG.as_slice();
+    is_answered(&rt, rt.alloc(), &long[1..65], b"", Why::End);
+    is_answered(&rt, rt.alloc(), &long[1..], b"BAD\n", Why::End);
+    is_answered(&rt, rt.alloc(), &long[..65], b"LONG\n", Why::Long);
+    is_answered(&rt, rt.alloc(), long, b"LONG\n", Why::Long);
 }
 
 /// Gives empty lines, and then the last bytes.

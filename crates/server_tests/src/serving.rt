@@ -1,3 +1,5 @@
+ghost use Rattle.std.specs.Prelude.{◌≡◌, All};
+
 use crate::clients::{asks, leaves, meets};
 use crate::opened::{ANSWERS, CEILINGS, FOUND, LINES, opened};
 use lset_server::{ServeCause, Served, serve};
@@ -25,7 +27,9 @@ fn served_while<
     let (set, seats) = opened(rt, alloc, seats);
     let (served, asked) = join(
         rt,
-        move || serve(rt, alloc, listener, set, seats, sessions),
+        move ||
+            requires { All (λ s. s.set ≡ set) seats.items }
+        { serve(rt, alloc, listener, set, seats, sessions) },
         move || ask(port),
     );
     assert!(rt; asked);
