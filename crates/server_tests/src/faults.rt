@@ -1,10 +1,11 @@
-use crate::opened::{ANSWERS, CEILINGS, LINES, held, held_buffered, one_seat};
+use crate::opened::{
+    ANSWERS, CEILINGS, LINES, held, held_buffered, one_seat, stopped_at, was_held,
+};
 use lset_server::failing::{FailingReader, FailingWriter};
 use lset_server::{Device, Ended, Why, session};
 use std::alloc::Global;
 use std::process::Abort;
 use std::sync::Wait;
-use std::test::Fail;
 
 /// Of the answers to these lines the write with this number fails.
 fn write_fails<R: Wait + Abort>(
@@ -14,8 +15,8 @@ fn write_fails<R: Wait + Abort>(
     answers: &[u8],
     at: u64,
     calls: u64,
-) -> Result<(), Fail> {
-    let (set, mut seat) = one_seat(alloc)?;
+) {
+    let (set, mut seat) = one_seat(rt, alloc);
     let mut writer = FailingWriter::new(alloc, at);
     let ended = session(
         rt,
@@ -24,43 +25,42 @@ fn write_fails<R: Wait + Abort>(
         &set,
         &mut seat,
     );
-    assert_eq!(rt;
-        ended,
-        Ended {
-            why: Why::WriteFault,
-            calls
+    let why = Why::WriteFault;
+    assert!(rt; ended == Ended { why, calls }, "{at}");
+    stopped_at(rt, &writer, answers, at);
+}
+
+/// So do all writes of these rows in turn: the first and the last of some, and the calls before each of them.
+fn writes_fail<R: Wait + Abort>(
+    rt: &R,
+    alloc: Global,
+    lines: &[u8],
+    answers: &[u8],
+    rows: &[(u64, u64, u64)],
+) {
+    for &(from, to, calls) in rows {
+        for at in from..=to {
+            write_fails(rt, alloc, lines, answers, at, calls);
         }
-    );
-    assert_eq!(rt; writer.text().len() as u64 + 1, at);
-    assert!(rt; answers.starts_with(writer.text()));
-    assert_eq!(rt; writer.writes(), at);
-    Ok(())
+    }
 }
 
 #[test]
-fn a_write_that_fails_is_the_last(rt: HostRuntime) -> Result<(), Fail> {
-    for (from, to, calls) in [(1u64, 5u64, 1u64), (6, 11, 2), (12, 20, 3), (21, 29, 4)] {
-        for at in from..=to {
-            write_fails(&rt, rt.alloc(), LINES, ANSWERS, at, calls)?;
-        }
-    }
-    Ok(())
+fn a_write_that_fails_is_the_last(rt: HostRuntime) {
+    let rows = [(1, 5, 1), (6, 11, 2), (12, 20, 3), (21, 29, 4)];
+    writes_fail(&rt, rt.alloc(), LINES, ANSWERS, &rows);
 }
 
 /// The longest answer, between two others.
 #[test]
-fn a_ceiling_is_written_up_to_the_write_that_fails(rt: HostRuntime) -> Result<(), Fail> {
+fn a_ceiling_is_written_up_to_the_write_that_fails(rt: HostRuntime) {
     let lines = b"ADD 4294967295\nCEILING 0\nQUIT\n".as_slice();
     let answers = b"TRUE\nAT 4294967295\nBYE\n".as_slice();
-    for (from, to, calls) in [(1u64, 5u64, 1u64), (6, 19, 2), (20, 23, 2)] {
-        for at in from..=to {
-            write_fails(&rt, rt.alloc(), lines, answers, at, calls)?;
-        }
-    }
-    Ok(())
+    let rows = [(1, 5, 1), (6, 19, 2), (20, 23, 2)];
+    writes_fail(&rt, rt.alloc(), lines, answers, &rows);
 }
 
-/// The read with this number fails, and where answers wait they have left before.
+/// The read with this number fails.
 fn read_fails<R: Wait + Abort>(
     rt: &R,
     alloc: Global,
@@ -68,26 +68,47 @@ fn read_fails<R: Wait + Abort>(
     at: u64,
     answers: &[u8],
     calls: u64,
-) -> Result<(), Fail> {
+) {
+    let why = Why::ReadFault;
     let mut reader = FailingReader::new(lines, at);
-    let (written, ended) = held(rt, alloc, &mut Device::new(&mut reader))?;
-    let fault = Ended {
-        why: Why::ReadFault,
-        calls,
-    };
-    assert_eq!(rt; ended, fault);
-    assert_eq!(rt; written.as_slice(), answers);
-    assert_eq!(rt; reader.reads(), at);
+    let session = held(rt, alloc, &mut Device::new(&mut reader));
+    was_held(rt, &session, answers, Ended { why, calls });
+    assert!(rt; reader.reads() == at, "{at}");
+}
+
+/// The same where answers wait: they have left before.
+fn read_fails_buffered<R: Wait + Abort>(
+    rt: &R,
+    alloc: Global,
+    lines: &[u8],
+    at: u64,
+    answers: &[u8],
+    calls: u64,
+) {
+    let why = Why::ReadFault;
     let mut reader = FailingReader::new(lines, at);
-    let (written, ended) = held_buffered(rt, alloc, Device::new(&mut reader))?;
-    assert_eq!(rt; ended, fault);
-    assert_eq!(rt; written.as_slice(), answers);
-    assert_eq!(rt; reader.reads(), at);
-    Ok(())
+    let session = held_buffered(rt, alloc, Device::new(&mut reader));
+    was_held(rt, &session, answers, Ended { why, calls });
+    assert!(rt; reader.reads() == at, "{at}");
+}
+
+/// So do all reads of these rows in turn: the first and the last of some, the answers before each of them, and the calls.
+fn reads_fail<R: Wait + Abort>(
+    rt: &R,
+    alloc: Global,
+    lines: &[u8],
+    rows: &[(u64, u64, &[u8], u64)],
+) {
+    for &(from, to, answers, calls) in rows {
+        for at in from..=to {
+            read_fails(rt, alloc, lines, at, answers, calls);
+            read_fails_buffered(rt, alloc, lines, at, answers, calls);
+        }
+    }
 }
 
 #[test]
-fn a_read_that_fails_is_the_last(rt: HostRuntime) -> Result<(), Fail> {
+fn a_read_that_fails_is_the_last(rt: HostRuntime) {
     let rows: [(u64, u64, &[u8], u64); 6] = [
         (1, 6, b"", 0),
         (7, 12, b"TRUE\n", 1),
@@ -96,26 +117,16 @@ fn a_read_that_fails_is_the_last(rt: HostRuntime) -> Result<(), Fail> {
         (31, 39, b"TRUE\nFALSE\nTRUE\nBAD\n", 3),
         (40, 44, b"TRUE\nFALSE\nTRUE\nBAD\nTRUE\n", 4),
     ];
-    for (from, to, answers, calls) in rows {
-        for at in from..=to {
-            read_fails(&rt, rt.alloc(), LINES, at, answers, calls)?;
-        }
-    }
-    Ok(())
+    reads_fail(&rt, rt.alloc(), LINES, &rows);
 }
 
 #[test]
-fn a_ceiling_is_made_where_its_line_has_ended(rt: HostRuntime) -> Result<(), Fail> {
+fn a_ceiling_is_made_where_its_line_has_ended(rt: HostRuntime) {
     let rows: [(u64, u64, &[u8], u64); 4] = [
         (1, 10, b"", 0),
         (11, 16, b"NONE\n", 1),
         (17, 26, b"NONE\nTRUE\n", 2),
         (27, 31, b"NONE\nTRUE\nAT 9\n", 3),
     ];
-    for (from, to, answers, calls) in rows {
-        for at in from..=to {
-            read_fails(&rt, rt.alloc(), CEILINGS, at, answers, calls)?;
-        }
-    }
-    Ok(())
+    reads_fail(&rt, rt.alloc(), CEILINGS, &rows);
 }

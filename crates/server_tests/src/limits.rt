@@ -1,49 +1,30 @@
-use crate::opened::held;
+use crate::opened::{held, was_held};
 use lset_server::failing::FailingReader;
 use lset_server::{Device, Ended, Source, Why};
 use std::alloc::Global;
 use std::process::Abort;
 use std::sync::Wait;
-use std::test::Fail;
 
-/// So many letters, and a newline where it is asked for.
-fn letters(alloc: Global, many: u32, newline: bool) -> Result<Vec<u8>, Fail> {
-    let mut line = Vec::new(alloc);
-    for _ in 0..many {
-        line.push(b'A')?;
-    }
-    if newline {
-        line.push(b'\n')?;
-    }
-    Ok(line)
+/// These bytes are answered so, also where each read gives one byte.
+fn is_answered<R: Wait + Abort>(rt: &R, alloc: Global, line: &[u8], answers: &[u8], why: Why) {
+    let ended = Ended { why, calls: 0 };
+    let session = held(rt, alloc, &mut Device::new(line));
+    was_held(rt, &session, answers, ended);
+    let mut reader = FailingReader::new(line, 0);
+    let session = held(rt, alloc, &mut Device::new(&mut reader));
+    was_held(rt, &session, answers, ended);
 }
 
-/// A line of so many letters is answered so, also where each read gives one byte.
-fn is_answered<R: Wait + Abort>(
-    rt: &R,
-    alloc: Global,
-    many: u32,
-    newline: bool,
-    answers: &[u8],
-    why: Why,
-) -> Result<(), Fail> {
-    let line = letters(alloc, many, newline)?;
-    let (written, ended) = held(rt, alloc, &mut Device::new(line.as_slice()))?;
-    assert_eq!(rt; written.as_slice(), answers);
-    assert_eq!(rt; ended, Ended { why, calls: 0 });
-    let mut reader = FailingReader::new(line.as_slice(), 0);
-    let (written, ended) = held(rt, alloc, &mut Device::new(&mut reader))?;
-    assert_eq!(rt; written.as_slice(), answers);
-    assert_eq!(rt; ended, Ended { why, calls: 0 });
-    Ok(())
-}
+/// 65 letters and a newline.
+const LONG: &[u8; 66] = b"AAAAAAAAAAAAAAAAAAAAAAAAAAAAAAAAAAAAAAAAAAAAAAAAAAAAAAAAAAAAAAAAA\n";
 
 #[test]
-fn a_long_line_ends_a_session(rt: HostRuntime) -> Result<(), Fail> {
-    is_answered(&rt, rt.alloc(), 64, false, b"", Why::End)?;
-    is_answered(&rt, rt.alloc(), 64, true, b"BAD\n", Why::End)?;
-    is_answered(&rt, rt.alloc(), 65, false, b"LONG\n", Why::Long)?;
-    is_answered(&rt, rt.alloc(), 65, true, b"LONG\n", Why::Long)
+fn a_long_line_ends_a_session(rt: HostRuntime) {
+    let long = LONG.as_slice();
+    is_answered(&rt, rt.alloc(), &long[1..65], b"", Why::End);
+    is_answered(&rt, rt.alloc(), &long[1..], b"BAD\n", Why::End);
+    is_answered(&rt, rt.alloc(), &long[..65], b"LONG\n", Why::Long);
+    is_answered(&rt, rt.alloc(), long, b"LONG\n", Why::Long);
 }
 
 /// Gives empty lines, and then the last bytes.
@@ -91,40 +72,25 @@ fn is_answered_after<R: Wait + Abort>(
     last: &'static [u8],
     answers: &[u8],
     ended: Ended,
-) -> Result<(), Fail> {
-    let (written, how) = held(rt, alloc, &mut Lines { empty, last })?;
-    assert_eq!(rt; how, ended);
-    assert_eq!(rt;
-        written.len() as u64,
-        4 * u64::from(empty) + answers.len() as u64
-    );
+) {
+    let (written, how) = held(rt, alloc, &mut Lines { empty, last });
+    assert!(rt; how == ended);
+    assert!(rt; written.len() as u64 == 4 * u64::from(empty) + answers.len() as u64);
     assert!(rt; written.starts_with(b"BAD\nBAD\n"));
     assert!(rt; written.ends_with(answers));
-    Ok(())
+}
+
+/// The end of a session that made so many calls.
+fn end(why: Why, calls: u64) -> Ended {
+    Ended { why, calls }
 }
 
 #[test]
-fn a_session_has_a_million_lines(rt: HostRuntime) -> Result<(), Fail> {
-    let limit = Ended {
-        why: Why::Limit,
-        calls: 0,
-    };
-    is_answered_after(&rt, rt.alloc(), 1_000_000, b"", b"LIMIT\n", limit)?;
-    let quit = Ended {
-        why: Why::Quit,
-        calls: 0,
-    };
-    is_answered_after(&rt, rt.alloc(), 999_999, b"QUIT\n", b"BYE\n", quit)?;
-    let one = Ended {
-        why: Why::Limit,
-        calls: 1,
-    };
-    is_answered_after(
-        &rt,
-        rt.alloc(),
-        999_999,
-        b"ADD 1\nADD 2\n",
-        b"TRUE\nLIMIT\n",
-        one,
-    )
+fn a_session_has_a_million_lines(rt: HostRuntime) {
+    let (limit, one) = (end(Why::Limit, 0), end(Why::Limit, 1));
+    is_answered_after(&rt, rt.alloc(), 1_000_000, b"", b"LIMIT\n", limit);
+    let quit = end(Why::Quit, 0);
+    is_answered_after(&rt, rt.alloc(), 999_999, b"QUIT\n", b"BYE\n", quit);
+    let (adds, answers) = (b"ADD 1\nADD 2\n", b"TRUE\nLIMIT\n");
+    is_answered_after(&rt, rt.alloc(), 999_999, adds, answers, one);
 }

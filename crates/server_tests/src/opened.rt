@@ -1,11 +1,12 @@
-ghost use Rattle.std.specs.Prelude.{◌≡◌, IfOk, All, false};
+ghost use Rattle.std.specs.Prelude.{◌≡◌, All, false};
 
 use lset_lazy::LazyList;
-use lset_live::{LiveSet, OpenFault, Seat, open};
+use lset_live::{LiveSet, Seat, open};
+use lset_server::failing::FailingWriter;
 use lset_server::{Device, Ended, Source, buffered_session, session};
 use std::alloc::Global;
+use std::process::Abort;
 use std::sync::Wait;
-use std::test::Fail;
 
 /// The list on which the tests hold sessions.
 pub type Set = LiveSet<LazyList>;
@@ -21,57 +22,63 @@ pub const CEILINGS: &[u8] = b"CEILING 7\nADD 9\nCEILING 7\nQUIT\n";
 pub const FOUND: &[u8] = b"NONE\nTRUE\nAT 9\nBYE\n";
 
 /// A set with a quota of 4 that was just opened, and its seats.
-pub fn opened(alloc: Global, seats: u32) -> Result<(Set, Vec<Seat<LazyList>>), OpenFault>
-    ensures { IfOk result (λ r. All (λ s. s.set ≡ r.0) r.1.items) }
+pub fn opened<R: Abort>(rt: &R, alloc: Global, seats: u32) -> (Set, Vec<Seat<LazyList>>)
+    ensures { All (λ s. s.set ≡ result.0) result.1.items }
 {
-    open::<LazyList>(alloc, seats, 4)
+    open::<LazyList>(alloc, seats, 4).expect(rt, "not opened")
 }
 
 /// The last of the seats.
-pub fn last_seat(set: &Set, seats: &mut Vec<Seat<LazyList>>) -> Result<Seat<LazyList>, Fail>
+pub fn last_seat<R: Abort>(rt: &R, set: &Set, seats: &mut Vec<Seat<LazyList>>) -> Seat<LazyList>
     requires { All (λ s. s.set ≡ set.now) seats.old.items }
-    ensures seat { IfOk result (λ s. s.set ≡ set.now) }
+    ensures seat { result.set ≡ set.now }
     ensures rest { All (λ s. s.set ≡ set.now) seats.new.items }
 {
-    match seats.pop() {
-        Some(seat) => Ok(seat),
-        None => Err(Fail::new("no seat is left")),
-    }
+    seats.pop().expect(rt, "no seat is left")
 }
 
 /// A set with one seat.
-pub fn one_seat(alloc: Global) -> Result<(Set, Seat<LazyList>), Fail>
-    ensures { IfOk result (λ r. r.1.set ≡ r.0) }
+pub fn one_seat<R: Abort>(rt: &R, alloc: Global) -> (Set, Seat<LazyList>)
+    ensures { result.1.set ≡ result.0 }
 {
-    let (set, mut seats) = opened(alloc, 1)?;
-    let seat = last_seat(&set, &mut seats)?;
-    Ok((set, seat))
+    let (set, mut seats) = opened(rt, alloc, 1);
+    let seat = last_seat(rt, &set, &mut seats);
+    (set, seat)
 }
 
 /// What a session on a fresh set writes, and how it ends.
-pub fn held<R: Wait, I: Source>(
-    rt: &R,
-    alloc: Global,
-    reader: &mut I,
-) -> Result<(Vec<u8>, Ended), Fail>
+pub fn held<R: Wait + Abort, I: Source>(rt: &R, alloc: Global, reader: &mut I) -> (Vec<u8>, Ended)
     requires { I.has_failed reader.old ≡ false }
 {
-    let (set, mut seat) = one_seat(alloc)?;
+    let (set, mut seat) = one_seat(rt, alloc);
     let mut written = Vec::new(alloc);
     let ended = session(rt, reader, &mut Device::new(&mut written), &set, &mut seat);
-    Ok((written, ended))
+    (written, ended)
 }
 
 /// The same of a session whose answers wait.
-pub fn held_buffered<R: Wait, I: Source + Drop>(
+pub fn held_buffered<R: Wait + Abort, I: Source + Drop>(
     rt: &R,
     alloc: Global,
     reader: I,
-) -> Result<(Vec<u8>, Ended), Fail>
+) -> (Vec<u8>, Ended)
     requires { I.has_failed reader ≡ false }
 {
-    let (set, mut seat) = one_seat(alloc)?;
+    let (set, mut seat) = one_seat(rt, alloc);
     let mut written = Vec::new(alloc);
     let ended = buffered_session(rt, reader, Device::new(&mut written), &set, &mut seat);
-    Ok((written, ended))
+    (written, ended)
+}
+
+/// A session wrote these answers, and ended so.
+pub fn was_held<R: Abort>(rt: &R, session: &(Vec<u8>, Ended), answers: &[u8], ended: Ended) {
+    assert!(rt; session.0.as_slice() == answers);
+    assert_eq!(rt; session.1, ended);
+}
+
+/// Of these answers the writer took all up to the write with this number, which failed and was the last.
+pub fn stopped_at<R: Abort>(rt: &R, writer: &FailingWriter, answers: &[u8], at: u64) {
+    assert!(rt; writer.text().len() as u64 + 1 == at, "{at}");
+    assert!(rt; answers.starts_with(writer.text()), "{at}");
+    assert!(rt; writer.writes() == at, "{at}");
 }

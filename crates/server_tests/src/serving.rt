@@ -1,137 +1,102 @@
+ghost use Rattle.std.specs.Prelude.{◌≡◌, All};
+
 use crate::clients::{asks, leaves, meets};
 use crate::opened::{ANSWERS, CEILINGS, FOUND, LINES, opened};
 use lset_server::{ServeCause, Served, serve};
-use std::net::TcpListener;
+use std::alloc::Global;
+use std::net::{Net, TcpListener, TcpStream};
 use std::process::Abort;
+use std::sync::Wait;
 use std::sync::atomic::AtomicU64;
-use std::test::Fail;
-use std::thread;
+use std::thread::{Threads, join};
+use std::time::Clock;
 
-fn is_served<R: Abort>(
-    rt: &R,
-    served: &Served,
-    sessions: u64,
-    calls: u64,
-    keys: &[u32],
-) -> Result<(), Fail> {
-    assert_eq!(rt; served.sessions, sessions);
-    assert_eq!(rt; served.calls, calls);
-    assert_eq!(rt; served.keys.as_slice(), keys);
-    Ok(())
+fn listening<R: Net<Listener = TcpListener, Stream = TcpStream> + Abort>(rt: &R) -> TcpListener {
+    TcpListener::bind(rt, "127.0.0.1:0").expect(rt, "no port")
 }
 
-#[test]
-fn a_connection_is_served(rt: HostRuntime) -> Result<(), Fail> {
-    let alloc = rt.alloc();
-    let listener = TcpListener::bind(&rt, "127.0.0.1:0")?;
-    let port = listener.local_addr()?.port();
-    let (set, seats) = opened(alloc, 1)?;
-    let (served, asked) = thread::join(
-        &rt,
-        || serve(&rt, alloc, listener, set, seats, 1),
-        || asks(&rt, port, LINES, ANSWERS),
+/// What a server with so many seats makes of so many sessions, while clients ask at its port, and find what they want.
+fn served_while<
+    R: Net<Listener = TcpListener, Stream = TcpStream> + Threads + Wait + Clock + Abort + Sync,
+    F: FnOnce(u16) -> bool + Send,
+>(rt: &R, alloc: Global, seats: u32, sessions: u32, ask: F) -> Served
+    requires { F.IsAlwaysCallable ask }
+{
+    let listener = listening(rt);
+    let port = listener.local_addr().expect(rt, "no port").port();
+    let (set, seats) = opened(rt, alloc, seats);
+    let (served, asked) = join(
+        rt,
+        move ||
+            requires { All (λ s. s.set ≡ set) seats.items }
+        { serve(rt, alloc, listener, set, seats, sessions) },
+        move || ask(port),
     );
     assert!(rt; asked);
     match served {
-        Ok(served) => is_served(&rt, &served, 1, 4, &[]),
-        Err(_) => Err(Fail::new("the connection is not served")),
+        Ok(served) => served,
+        Err(fault) => panic!(rt; "{:?}", fault.cause),
     }
 }
 
-#[test]
-fn no_connection_is_served(rt: HostRuntime) -> Result<(), Fail> {
-    let listener = TcpListener::bind(&rt, "127.0.0.1:0")?;
-    let (set, seats) = opened(rt.alloc(), 2)?;
-    match serve(&rt, rt.alloc(), listener, set, seats, 0) {
-        Ok(served) => is_served(&rt, &served, 0, 0, &[]),
-        Err(_) => Err(Fail::new("there is a fault")),
-    }
+fn made<R: Abort>(rt: &R, served: &Served, sessions: u64, calls: u64, keys: &[u32]) {
+    assert!(rt; served.sessions == sessions);
+    assert!(rt; served.calls == calls);
+    assert!(rt; served.keys.as_slice() == keys);
 }
 
 #[test]
-fn all_seats_are_wanted(rt: HostRuntime) -> Result<(), Fail> {
-    let listener = TcpListener::bind(&rt, "127.0.0.1:0")?;
-    let (set, mut seats) = opened(rt.alloc(), 2)?;
+fn a_connection_is_served(rt: HostRuntime) {
+    let ask = |port: u16| asks(&rt, port, LINES, ANSWERS);
+    let served = served_while(&rt, rt.alloc(), 1, 1, ask);
+    made(&rt, &served, 1, 4, &[]);
+}
+
+#[test]
+fn no_connection_is_served(rt: HostRuntime) {
+    let served = served_while(&rt, rt.alloc(), 2, 0, |_port: u16| true);
+    made(&rt, &served, 0, 0, &[]);
+}
+
+#[test]
+fn all_seats_are_wanted(rt: HostRuntime) {
+    let (set, mut seats) = opened(&rt, rt.alloc(), 2);
     let _ = seats.pop();
-    match serve(&rt, rt.alloc(), listener, set, seats, 1) {
-        Ok(_) => Err(Fail::new("a seat is missing")),
-        Err(fault) => {
-            assert_eq!(rt; fault.cause, ServeCause::Seats);
-            assert!(rt; fault.back.is_some());
-            Ok(())
-        }
-    }
+    let Err(fault) = serve(&rt, rt.alloc(), listening(&rt), set, seats, 1) else {
+        panic!(rt; "a seat is missing")
+    };
+    assert!(rt; fault.cause == ServeCause::Seats);
+    assert!(rt; fault.back.is_some());
 }
 
 #[test]
-fn two_sessions_meet(rt: HostRuntime) -> Result<(), Fail> {
-    let alloc = rt.alloc();
-    let listener = TcpListener::bind(&rt, "127.0.0.1:0")?;
-    let port = listener.local_addr()?.port();
-    let (set, seats) = opened(alloc, 2)?;
+fn two_sessions_meet(rt: HostRuntime) {
     let met = AtomicU64::new(0);
-    let (served, (one, two)) = thread::join(
-        &rt,
-        || serve(&rt, alloc, listener, set, seats, 2),
-        || {
-            thread::join(
-                &rt,
-                || meets(&rt, port, b"ADD 1\n", &met),
-                || meets(&rt, port, b"ADD 2\n", &met),
-            )
-        },
-    );
-    assert!(rt; one);
-    assert!(rt; two);
-    match served {
-        Ok(served) => is_served(&rt, &served, 2, 2, &[1, 2]),
-        Err(_) => Err(Fail::new("the sessions are not served")),
-    }
+    let ask = |port: u16| {
+        let both = join(
+            &rt,
+            || meets(&rt, port, b"ADD 1\n", &met),
+            || meets(&rt, port, b"ADD 2\n", &met),
+        );
+        both.0 && both.1
+    };
+    let served = served_while(&rt, rt.alloc(), 2, 2, ask);
+    made(&rt, &served, 2, 2, &[1, 2]);
 }
 
 #[test]
-fn a_client_that_leaves_ends_its_session_alone(rt: HostRuntime) -> Result<(), Fail> {
-    let alloc = rt.alloc();
-    let listener = TcpListener::bind(&rt, "127.0.0.1:0")?;
-    let port = listener.local_addr()?.port();
-    let (set, seats) = opened(alloc, 1)?;
-    let (served, asked) = thread::join(
-        &rt,
-        || serve(&rt, alloc, listener, set, seats, 2),
-        || {
-            leaves(&rt, port, b"ADD 7\nADD")
-                && asks(&rt, port, b"CONTAINS 7\nQUIT\n", b"TRUE\nBYE\n")
-        },
-    );
-    assert!(rt; asked);
-    match served {
-        Ok(served) => is_served(&rt, &served, 2, 2, &[7]),
-        Err(_) => Err(Fail::new("the sessions are not served")),
-    }
+fn a_client_that_leaves_ends_its_session_alone(rt: HostRuntime) {
+    let ask = |port: u16| {
+        leaves(&rt, port, b"ADD 7\nADD") && asks(&rt, port, b"CONTAINS 7\nQUIT\n", b"TRUE\nBYE\n")
+    };
+    let served = served_while(&rt, rt.alloc(), 1, 2, ask);
+    made(&rt, &served, 2, 2, &[7]);
 }
 
 #[test]
-fn a_ceiling_finds_the_key_of_another_session(rt: HostRuntime) -> Result<(), Fail> {
-    let alloc = rt.alloc();
-    let listener = TcpListener::bind(&rt, "127.0.0.1:0")?;
-    let port = listener.local_addr()?.port();
-    let (set, seats) = opened(alloc, 1)?;
-    let (served, asked) = thread::join(
-        &rt,
-        || serve(&rt, alloc, listener, set, seats, 2),
-        || {
-            asks(&rt, port, CEILINGS, FOUND)
-                && asks(
-                    &rt,
-                    port,
-                    b"CEILING 9\nCEILING 10\nQUIT\n",
-                    b"AT 9\nNONE\nBYE\n",
-                )
-        },
-    );
-    assert!(rt; asked);
-    match served {
-        Ok(served) => is_served(&rt, &served, 2, 5, &[9]),
-        Err(_) => Err(Fail::new("the sessions are not served")),
-    }
+fn a_ceiling_finds_the_key_of_another_session(rt: HostRuntime) {
+    let (lines, answers) = (b"CEILING 9\nCEILING 10\nQUIT\n", b"AT 9\nNONE\nBYE\n");
+    let ask = |port: u16| asks(&rt, port, CEILINGS, FOUND) && asks(&rt, port, lines, answers);
+    let served = served_while(&rt, rt.alloc(), 1, 2, ask);
+    made(&rt, &served, 2, 5, &[9]);
 }
