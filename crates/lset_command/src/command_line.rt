@@ -13,8 +13,8 @@ use clap::error::ErrorKind;
 use clap::{Arg, ArgAction, ArgMatches, Error};
 use std::alloc::{AllocError, Global};
 
-/// What `--version` tells behind the program's name: its version, and in a line below the kit with which it is proved.
-pub const VERSION: &str = "0.1.0\nrattle-kit-13f logic dac8208d650f15bf";
+/// What `--version` tells behind the program's name: its version, and in a line below the kit and the logic by which it is proved.
+pub const VERSION: &str = "0.1.0\nRattle kit 13, logic dac8208d650f15bf";
 
 const KIND_HELP: &str = "The list: coarse, fine, optimistic, lazy or lock-free";
 
