@@ -55,7 +55,8 @@ class Watch(threading.Thread):
     def look(self):
         found = {it[0][0]: it for it in processes()}
         for pid, (key, parent, seconds, words, folder) in found.items():
-            task, at = task_of(words, folder, self.crates), pid
+            # (a process that is ending has no words any more: what it worked for is known from the look before)
+            task, at = task_of(words, folder, self.crates) if any(words) else None, pid
             while at != self.top and at in found:
                 at = found[at][1]
                 if not task and at in found:
