@@ -7,7 +7,7 @@
 // FILE may be -, the word for the standard input. Output, line about a trouble and exit status are the program's
 // (docs/FORMATS.md), but that wrong words are one line. `show` draws what the program draws without a word about moments or a
 // width. Where node has no 64-bit memories, or the module not the function of the command, it says so and ends with status 70,
-// before it reads anything.
+// before it reads anything. With --words it prints the words that it has, one a line.
 "use strict";
 
 const fs = require("fs");
@@ -107,6 +107,7 @@ function lackOf(engine, { name, isOn }) {
 }
 
 async function main(given) {
+  if (given[0] === "--words") return process.stdout.write(`${Object.keys(COMMANDS).join("\n")}\n`);
   const words = asked(given);
   const engine = await startedEngine();
   const lack = lackOf(engine, words);
