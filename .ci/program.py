@@ -10,7 +10,8 @@ TOP = pathlib.Path(__file__).resolve().parent.parent
 
 def add_program(arguments, crate="listset"):
     """Lets the words name a program by --program; it is the proved one of the crate where they do not."""
-    arguments.add_argument("--program", default=str(TOP / "crates" / crate / "out" / crate), type=usable, help="the program to test")
+    proved = TOP / "crates" / crate / "out" / crate
+    arguments.add_argument("--program", default=str(proved), type=usable, help="the program to test")
 
 
 def usable(name):
