@@ -1,15 +1,18 @@
-//! A first program on the library. Two threads share a set, which is closed then and tells its keys; and a recorded schedule is
-//! replayed.
+//! A first program on the library. Two threads share a set, which is closed then and tells its keys; with these another list opens.
+//! And a recorded schedule is replayed.
 #![tactic(auto)]
 
-ghost use Rattle.std.specs.Prelude.{[], ◌∷◌, IfOk, map};
-ghost use Rattle.lset_words.specs.Words.{empty};
+ghost use Rattle.std.specs.Prelude.{◌≡◌, [], ◌∷◌, IfOk, map, string_bytes};
+ghost use Rattle.lset_schedule.specs.Plan.{Plan, IsSchedule, schedule_text};
+ghost use Rattle.lset_replay.specs.Reports.{IsExplained};
+ghost use Rattle.lset_report.specs.Report.{view};
 ghost use Rattle.lset_live.specs.Explained.{Explains};
 ghost use Rattle.lset_live.specs.Records.{fresh};
 ghost use Rattle.lset_work.specs.Programs.{worked};
 
 use lset_lazy::LazyList;
-use lset_live::{OpenFault, open};
+use lset_live::{OpenFault, Running, open_with};
+use lset_lock_free::LockFreeList;
 use lset_replay::{ReplayFault, replay};
 use lset_report::Report;
 use lset_schedule::{ScheduleFault, read_schedule};
@@ -46,19 +49,20 @@ impl<T: Drop> From<AllocFailed<T>> for Refusal {
     }
 }
 
-/// What two threads make of a LazyList that opens empty, with two slots for each: the replies to each one's calls, and the
+/// What two threads make of a list that opens with these keys, with two slots for each: the replies to each one's calls, and the
 /// keys that are left.
-fn two_threads<R: Threads + Wait + Sync>(
+fn two_threads<M: Running + Send + Sync, R: Threads + Wait + Sync>(
     rt: &R,
     alloc: Global,
+    keys: &[u32],
     first: [Call; 2],
     second: [Call; 2],
 ) -> Result<Outcome, Refusal>
     // one legal order has just these calls with these replies, each thread's in its order, and leaves the keys
-    ensures { IfOk result (λ o. Explains (empty 2 2) (worked (fresh 0 ∷ fresh 1 ∷ []) (first ∷ second ∷ [])
-        (map (λ v. v.items) o.replies.items)) o.keys.items) }
+    ensures { IfOk result (λ o. Explains (record { threads = 2; quota = 2; keys = keys.now })
+        (worked (fresh 0 ∷ fresh 1 ∷ []) (first ∷ second ∷ []) (map (λ v. v.items) o.replies.items)) o.keys.items) }
 {
-    let (set, seats) = open::<LazyList>(alloc, 2, 2)?;
+    let (set, seats) = open_with::<M>(alloc, 2, 2, keys)?;
     let mut programs = Vec::new(alloc);
     programs.push(first.to_vec(alloc)?)?;
     programs.push(second.to_vec(alloc)?)?;
@@ -68,17 +72,36 @@ fn two_threads<R: Threads + Wait + Sync>(
     }
 }
 
+/// Two lives of one set: a LazyList opens empty, and the keys that it leaves open a LockFreeList.
+fn two_lives<R: Threads + Wait + Sync>(
+    rt: &R,
+    alloc: Global,
+) -> Result<(Outcome, Outcome), Refusal> {
+    let first = [Call::Add(Key(5)), Call::Add(Key(7))];
+    let second = [Call::Add(Key(9)), Call::Remove(Key(9))];
+    let left = two_threads::<LazyList, R>(rt, alloc, &[], first, second)?;
+    let first = [Call::Remove(Key(5)), Call::Add(Key(6))];
+    let second = [Call::Add(Key(9)), Call::Contains(Key(7))];
+    let again = two_threads::<LockFreeList, R>(rt, alloc, &left.keys, first, second)?;
+    Ok((left, again))
+}
+
 /// The report of the schedule that has this text.
-fn replayed(alloc: Global, text: &str) -> Result<Report, Refusal> {
+fn replayed(alloc: Global, text: &str) -> Result<Report, Refusal>
+    // the text is a schedule's, and the report's order linearizes its calls and leaves its keys
+    ensures { IfOk result (λ r. (p : Plan) × IsSchedule p × (string_bytes text.now ≡ schedule_text p) × IsExplained (view r)) }
+{
     let schedule = read_schedule(alloc, text.as_bytes())?;
     Ok(replay(alloc, &schedule)?)
 }
 
 fn main(rt: HostRuntime) -> io::Result<()> {
-    let first = [Call::Add(Key(5)), Call::Add(Key(7))];
-    let second = [Call::Add(Key(9)), Call::Remove(Key(9))];
-    match two_threads(&rt, rt.alloc(), first, second) {
-        Ok(it) => println!(rt; "the replies {:?} leave the keys {:?}", it.replies, it.keys)?,
+    // the runtime starts threads only where `main` itself passes it on
+    match two_lives(&rt, rt.alloc()) {
+        Ok((left, again)) => println!(rt;
+            "the replies {:?} leave the keys {:?}\nopened with these, the replies {:?} leave {:?}",
+            left.replies, left.keys, again.replies, again.keys
+        )?,
         Err(refusal) => println!(rt; "no outcome: {refusal}")?,
     }
     match replayed(rt.alloc(), SCHEDULE) {

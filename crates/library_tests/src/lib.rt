@@ -34,10 +34,6 @@ mod tables;
 #[cfg(test)]
 mod text;
 #[cfg(test)]
-mod told;
-#[cfg(test)]
 mod worlds;
 #[cfg(test)]
 mod written;
-#[cfg(test)]
-mod wrong_tables;

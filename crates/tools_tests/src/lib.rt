@@ -1,9 +1,7 @@
-//! The tests of the program that ask more than what it prints (`transcripts` has that): devices that fail, runs on threads beside
-//! models, pictures that no text has, and laws.
+//! The tests of the program that ask more than what it prints (`transcripts` has that): devices that fail, pictures that no text has,
+//! and laws.
 #![tactic(auto)]
 
-#[cfg(test)]
-mod checking;
 #[cfg(test)]
 mod commands;
 #[cfg(test)]
@@ -11,20 +9,18 @@ mod devices;
 #[cfg(test)]
 mod examples;
 #[cfg(test)]
-mod generating;
+mod failures;
 #[cfg(test)]
-mod lives;
+mod opening_keys;
 #[cfg(test)]
 mod pictures;
 #[cfg(test)]
 mod programs;
 #[cfg(test)]
-mod random_runs;
+mod row_texts;
 #[cfg(test)]
-mod replaying;
+mod rows;
 #[cfg(test)]
-mod runs;
-#[cfg(test)]
-mod texts;
+mod servers;
 #[cfg(test)]
 mod tracing;

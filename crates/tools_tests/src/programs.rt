@@ -1,13 +1,16 @@
-use super::devices::{Writer, assert_cannot_write};
+use crate::devices::{Failure, Plan, Writer};
+use crate::row_texts::CANNOT_WRITE;
 use lset_dispatch::run_words;
 
 #[test]
 fn a_help_that_is_not_written_is_a_failing_write(rt: HostRuntime) {
-    let mut faults = Vec::new(rt.alloc());
-    let mut output = Writer {
-        calls: 0,
+    let plan = Plan {
+        most: 1,
         fails_at: 3,
+        failure: Failure::Interrupted,
     };
+    let mut output = Writer::new(rt.alloc(), plan);
+    let mut faults = Vec::new(rt.alloc());
     let status = run_words(
         &rt,
         rt.alloc(),
@@ -16,5 +19,6 @@ fn a_help_that_is_not_written_is_a_failing_write(rt: HostRuntime) {
         &mut output,
         &mut faults,
     );
-    assert_cannot_write(&rt, status, &output, &faults);
+    assert!(rt; status == 1 && output.calls == 4);
+    assert!(rt; faults.as_slice() == CANNOT_WRITE.as_bytes());
 }

@@ -22,7 +22,9 @@ pub const LEFT_OUT: &str =
 pub const IDLE: &str =
     "listset-schedule 1\nlist coarse\nthreads 1\nquota 4\nbegin 0 add 5\ngo 0 1\ngo 0 7\n";
 
-pub const NO_CALLS: &str = "listset-schedule 1\nlist coarse\nthreads 1\nquota 4\n";
+/// The schedule of one call that is drawn from seed 1.
+pub const DRAWN: &str = "listset-schedule 1\nlist coarse\nthreads 1\nquota 4\n\
+    begin 0 contains 1\ngo 0 1\ngo 0 1\ngo 0 1\ngo 0 1\n";
 
 pub const NO_TITLE: &str = "listset: line 1: Header\n";
 

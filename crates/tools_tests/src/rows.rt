@@ -1,7 +1,7 @@
 //! Runs of the tools, on devices that fail as planned.
 use crate::devices::{Plan, Reader, Writer};
 use crate::row_texts::{
-    CEILING, CEILING_REPORT, IDLE, IDLE_PICTURE, IDLE_TRACE, LEFT_OUT, NO_CALLS, NO_TITLE, OUTCOME,
+    CEILING, CEILING_REPORT, DRAWN, IDLE, IDLE_PICTURE, IDLE_TRACE, LEFT_OUT, NO_TITLE, OUTCOME,
     PICTURE, REFUSED_PICTURE, REPORT, SCHEDULE, SHEET, TRACE,
 };
 use lset_drawing::Window;
@@ -31,7 +31,7 @@ pub enum Tool {
     Trace,
     /// With the chains.
     TraceChains,
-    /// With this KIND, and with numbers that are right.
+    /// With this KIND, of one thread with one call.
     Gen(&'static str),
     /// Of this name.
     Example(&'static str),
@@ -72,7 +72,7 @@ static ROWS: [Told; 21] = [
     (Tool::TraceChains, SCHEDULE, 0, TRACE, ""),
     (Tool::Trace, IDLE, 1, IDLE_TRACE, ""),
     (Tool::Trace, REPORT, 1, "", NO_TITLE),
-    (Tool::Gen("coarse"), "", 0, NO_CALLS, ""),
+    (Tool::Gen("coarse"), "", 0, DRAWN, ""),
     (Tool::Gen("skip"), "", 2, "", "listset: bad KIND\n"),
     (Tool::Example("snap"), "", 2, "", "listset: bad NAME\n"),
     (Tool::Broken("full"), "", 2, "", "listset: bad NAME\n"),
@@ -162,7 +162,7 @@ pub fn ran<R: Threads + Wait + Sync>(
         Tool::Example(name) => tool_example(alloc, false, Some(name), to, also),
         Tool::Broken(name) => tool_example(alloc, true, Some(name), to, also),
         Tool::Gen(kind) => {
-            let values = texts_of(alloc, &[kind, "1", "4", "0", "8", "1"])?;
+            let values = texts_of(alloc, &[kind, "1", "4", "1", "8", "1"])?;
             tool_gen(alloc, &values, to, also)
         }
         Tool::Run(kind) => {

@@ -1,4 +1,0 @@
-mod HeadersHere
-mod LawsHere
-mod OtherTables
-mod ToldHere
