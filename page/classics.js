@@ -51,6 +51,12 @@ const CLASSICS = {
     "without": "One who looks for the point of a call among its own steps alone finds none here, and calls a right list wrong. The order that puts the contains last is refused by check: 5 is in the set there.",
     "turns": [15, 23, 36, 39]
   },
+  "ceiling-in-anothers-step": {
+    "question": "Just after each of thread 0's own events the least key from 6 on is none, or 7. Its ceiling of 6 answers 9. Is that right?",
+    "turnsOn": "Yes: it was 9 from event 15 until event 38, all steps of thread 1. The walk stood at the node of 5 when that was taken out, and its link still leads to 9. The call stands at event 15: a ceiling, too, need have no step of its own at which it takes effect.",
+    "without": "One who looks among the call's own steps finds no point, as in read-in-anothers-step. A ceiling that began again at each marked node on its way would answer 7 here, which is no better, and removes of keys below its own could send it back.",
+    "turns": [15, 38, 41, 43]
+  },
   "opens-with-keys": {
     "question": "The set opens with two keys; one is taken out, one is put in, and so there are two again. Why does the last add answer full?",
     "turnsOn": "The thread's quota is one slot, node n2. The opening keys stand in nodes of their own behind it, n3 and n4, and count as nobody's adds. The remove takes a node out of the chain and gives no slot to anybody; the add of 7 takes n2, and for 8 there is none left.",
@@ -98,5 +104,11 @@ const CLASSICS = {
     "turnsOn": "It is: when thread 0 read the link, 9 came next to the head in the chain, so no key lay between. The walk need not see what comes in behind it. Its answer fits that moment, and already the begin of the call, where the order has it: before the add of 5, which ended earlier.",
     "without": "There is no check to be left out here. It is the walk that has to be right: each node that it passes was in the chain with the link that was read, at some moment of the call (Walk was in the chain, docs/DEFINITIONS.md). A walk over links that no chain had together could pass a key that was there all the time.",
     "turns": [9, 16, 18]
+  },
+  "nothing-in-anothers-step": {
+    "question": "Just after each of thread 0's own events 7 is in the set. Its ceiling of 6 answers that there is no key. Is that right?",
+    "turnsOn": "Yes: between two of its events thread 1 took out 7 and then 5, and put 7 in again. The walk stood at the node of 5, whose link led to the tail when it was marked, and no exchange changes a marked link. The call stands at event 11, a step of thread 1.",
+    "without": "No check is left out here. The mark that the walk passes at event 27 is no reason to begin again: the link beside it was in the chain during the call (Walk was in the chain, docs/DEFINITIONS.md).",
+    "turns": [11, 18, 26, 28]
   }
 };

@@ -31,6 +31,12 @@ const TURNS = {
     36: "puts 5 into the set, with slot 2 of 4",
     39: "answers false; it took effect at event 23, a step of t1",
   },
+  "ceiling-in-anothers-step": {
+    15: "puts 9 into the set, with slot 1 of 2",
+    38: "puts 7 into the set, with slot 2 of 2",
+    41: "n6 is marked, and the walk goes on over it",
+    43: "answers at-9; it took effect at event 15, a step of t1",
+  },
   "opens-with-keys": {
     2: "comes to n3, the node of an opening key",
     8: "takes 5 out of the set",
@@ -76,5 +82,11 @@ const TURNS = {
     9: "The walk comes to n6",
     16: "puts 5 into the set",
     18: "answers at-9; it took effect at event 8.",
+  },
+  "nothing-in-anothers-step": {
+    11: "takes 7 out of the set",
+    18: "n4 is marked now, and still in the chain",
+    26: "puts 7 into the set, with slot 1 of 1",
+    28: "answers nothing; it took effect at event 11, a step of t1",
   },
 };

@@ -11,6 +11,7 @@ use Rattle.tool_examples.specs.declared.example.Example.TheVariants.{MarkedInCha
 use Rattle.tool_examples.specs.declared.example.Example.TheVariants.{MarkedPred, ReadInAnothersStep, OpensWithKeys, TwoRemovers}
 use Rattle.tool_examples.specs.declared.example.Example.TheVariants.{Snip, TriesAgain, LeftInChain}
 use Rattle.tool_examples.specs.declared.example.Example.TheVariants.{CeilingMeetsMark, CeilingLeftInChain, BehindTheWalk}
+use Rattle.tool_examples.specs.declared.example.Example.TheVariants.{CeilingInAnothersStep, NothingInAnothersStep}
 
 abbrev is_ascii : List ℕ → Bool
 is_ascii [] = true
@@ -34,6 +35,7 @@ name_is_utf8 StalePred = spelled (name_of StalePred) refl
 name_is_utf8 MarkedInChain = spelled (name_of MarkedInChain) refl
 name_is_utf8 MarkedPred = spelled (name_of MarkedPred) refl
 name_is_utf8 ReadInAnothersStep = spelled (name_of ReadInAnothersStep) refl
+name_is_utf8 CeilingInAnothersStep = spelled (name_of CeilingInAnothersStep) refl
 name_is_utf8 OpensWithKeys = spelled (name_of OpensWithKeys) refl
 name_is_utf8 TwoRemovers = spelled (name_of TwoRemovers) refl
 name_is_utf8 Snip = spelled (name_of Snip) refl
@@ -42,3 +44,4 @@ name_is_utf8 LeftInChain = spelled (name_of LeftInChain) refl
 name_is_utf8 CeilingMeetsMark = spelled (name_of CeilingMeetsMark) refl
 name_is_utf8 CeilingLeftInChain = spelled (name_of CeilingLeftInChain) refl
 name_is_utf8 BehindTheWalk = spelled (name_of BehindTheWalk) refl
+name_is_utf8 NothingInAnothersStep = spelled (name_of NothingInAnothersStep) refl

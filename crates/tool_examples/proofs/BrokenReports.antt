@@ -10,6 +10,7 @@ use Rattle.tool_examples.specs.declared.example.Example.TheVariants.{StalePred, 
 use Rattle.tool_examples.specs.declared.example.Example.TheVariants.{OpensWithKeys}
 use Rattle.tool_examples.specs.declared.example.Example.TheVariants.{TwoRemovers, Snip, TriesAgain, LeftInChain}
 use Rattle.tool_examples.specs.declared.example.Example.TheVariants.{CeilingMeetsMark, CeilingLeftInChain, BehindTheWalk}
+use Rattle.tool_examples.specs.declared.example.Example.TheVariants.{CeilingInAnothersStep, NothingInAnothersStep}
 use Rattle.tool_examples.specs.Examples.{broken_of, kind_of, IsUnexplained, IsBrokenReportOf}
 use Rattle.tool_examples.specs.declared.texts.TheConstants as texts
 use Rattle.tool_examples.proofs.ReadReports as read
@@ -46,10 +47,12 @@ is_broken_report back HandOverHand text is = absurd (cc is)
 is_broken_report back MarkedInChain text is = absurd (cc is)
 is_broken_report back MarkedPred text is = absurd (cc is)
 is_broken_report back ReadInAnothersStep text is = absurd (cc is)
+is_broken_report back CeilingInAnothersStep text is = absurd (cc is)
 is_broken_report back OpensWithKeys text is = absurd (cc is)
 is_broken_report back TriesAgain text is = absurd (cc is)
 is_broken_report back CeilingMeetsMark text is = absurd (cc is)
 is_broken_report back BehindTheWalk text is = absurd (cc is)
+is_broken_report back NothingInAnothersStep text is = absurd (cc is)
 
 pub is_broken_report_text : ReportsReadBack → (e : Example) (o : Option (Bor (List ℕ))) → option_copied o ≡ broken_of e
     → IfSome o (λ text. IsBrokenReportOf e text.now)

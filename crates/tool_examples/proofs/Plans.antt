@@ -20,6 +20,7 @@ use Rattle.tool_examples.specs.declared.example.Example.TheVariants.{StalePred, 
 use Rattle.tool_examples.specs.declared.example.Example.TheVariants.{OpensWithKeys}
 use Rattle.tool_examples.specs.declared.example.Example.TheVariants.{TwoRemovers, Snip, TriesAgain, LeftInChain}
 use Rattle.tool_examples.specs.declared.example.Example.TheVariants.{CeilingMeetsMark, CeilingLeftInChain, BehindTheWalk}
+use Rattle.tool_examples.specs.declared.example.Example.TheVariants.{CeilingInAnothersStep, NothingInAnothersStep}
 use Rattle.tool_examples.specs.Examples.{text_of, kind_of, IsScheduleOf}
 use Rattle.tool_examples.specs.declared.example.TheConstants.{ALL}
 
@@ -59,6 +60,8 @@ plan_of MarkedInChain = plan Lazy 2 4 (add 1 5 ∷ go 1 11 ∷ remove 1 5 ∷ go
 plan_of MarkedPred = plan Lazy 2 4 (add 1 3 ∷ go 1 11 ∷ add 0 5 ∷ go 0 4 ∷ remove 1 3 ∷ go 1 10 ∷ go 0 16 ∷ [])
 plan_of ReadInAnothersStep = plan Lazy 2 4 (add 1 5 ∷ go 1 11 ∷ contains 0 5 ∷ go 0 2 ∷ remove 1 5 ∷ go 1 10 ∷ add 1 5
     ∷ go 1 11 ∷ go 0 1 ∷ [])
+plan_of CeilingInAnothersStep = plan_with Two Lazy 2 2 (5 ∷ []) (ceiling 0 6 ∷ go 0 2 ∷ add 1 9 ∷ go 1 13 ∷ remove 1 5
+    ∷ go 1 10 ∷ add 1 7 ∷ go 1 11 ∷ go 0 3 ∷ [])
 plan_of OpensWithKeys = plan_with Two Lazy 1 1 (5 ∷ 9 ∷ []) (remove 0 5 ∷ go 0 10 ∷ ceiling 0 0 ∷ go 0 3 ∷ add 0 7 ∷ go 0 11
     ∷ add 0 8
     ∷ go 0 10 ∷ [])
@@ -71,6 +74,8 @@ plan_of CeilingMeetsMark = plan_in Two LockFree 2 4 (add 1 5 ∷ go 1 6 ∷ ceil
 plan_of CeilingLeftInChain = plan_in Two LockFree 2 4 (add 0 5 ∷ go 0 6 ∷ add 0 3 ∷ go 0 5 ∷ remove 1 5 ∷ go 1 5 ∷ go 0 1
     ∷ go 1 1 ∷ ceiling 0 4 ∷ go 0 5 ∷ add 1 7 ∷ go 1 10 ∷ go 0 5 ∷ [])
 plan_of BehindTheWalk = plan_in Two LockFree 2 4 (add 1 9 ∷ go 1 6 ∷ ceiling 0 3 ∷ go 0 1 ∷ add 1 5 ∷ go 1 6 ∷ go 0 2 ∷ [])
+plan_of NothingInAnothersStep = plan_with Two LockFree 2 1 (5 ∷ 7 ∷ []) (ceiling 0 6 ∷ go 0 2 ∷ remove 1 7 ∷ go 1 8 ∷ remove 1 5
+    ∷ go 1 6 ∷ add 1 7 ∷ go 1 6 ∷ go 0 2 ∷ [])
 
 is_text_of_plan : (e : Example) → text_of e ≡ schedule_text (plan_of e)
 unfolding digits
@@ -82,6 +87,7 @@ is_text_of_plan StalePred = refl
 is_text_of_plan MarkedInChain = refl
 is_text_of_plan MarkedPred = refl
 is_text_of_plan ReadInAnothersStep = refl
+is_text_of_plan CeilingInAnothersStep = refl
 is_text_of_plan OpensWithKeys = refl
 is_text_of_plan TwoRemovers = refl
 is_text_of_plan Snip = refl
@@ -90,6 +96,7 @@ is_text_of_plan LeftInChain = refl
 is_text_of_plan CeilingMeetsMark = refl
 is_text_of_plan CeilingLeftInChain = refl
 is_text_of_plan BehindTheWalk = refl
+is_text_of_plan NothingInAnothersStep = refl
 
 is_of_kind : (e : Example) → (plan_of e).kind ≡ kind_of e
 is_of_kind FailedTries = refl
@@ -100,6 +107,7 @@ is_of_kind StalePred = refl
 is_of_kind MarkedInChain = refl
 is_of_kind MarkedPred = refl
 is_of_kind ReadInAnothersStep = refl
+is_of_kind CeilingInAnothersStep = refl
 is_of_kind OpensWithKeys = refl
 is_of_kind TwoRemovers = refl
 is_of_kind Snip = refl
@@ -108,6 +116,7 @@ is_of_kind LeftInChain = refl
 is_of_kind CeilingMeetsMark = refl
 is_of_kind CeilingLeftInChain = refl
 is_of_kind BehindTheWalk = refl
+is_of_kind NothingInAnothersStep = refl
 
 two_threads : Opens (empty 2 4)
 two_threads = opens_empty 2 4 (record { some = lit< tt; few = lit≤ tt; small = lit≤ tt; opens = lit≤ tt })
@@ -122,6 +131,20 @@ two_keys = record {
   low = All-from_recursion (λ (k : ℕ). k < 2 ^ 32) (5 ∷ 9 ∷ []) (lit< tt, (lit< tt, tt));
 }
 
+five_alone : Opens (record { threads = 2; quota = 2; keys = 5 ∷ [] })
+five_alone = record {
+  within = record { some = lit< tt; few = lit≤ tt; small = lit≤ tt; opens = lit≤ tt };
+  rising = increasing_from_rises 0 (5 ∷ []) (lit≤ tt, tt);
+  low = All-from_recursion (λ (k : ℕ). k < 2 ^ 32) (5 ∷ []) (lit< tt, tt);
+}
+
+five_and_seven : Opens (record { threads = 2; quota = 1; keys = 5 ∷ 7 ∷ [] })
+five_and_seven = record {
+  within = record { some = lit< tt; few = lit≤ tt; small = lit≤ tt; opens = lit≤ tt };
+  rising = increasing_from_rises 0 (5 ∷ 7 ∷ []) (lit≤ tt, (lit≤ tt, tt));
+  low = All-from_recursion (λ (k : ℕ). k < 2 ^ 32) (5 ∷ 7 ∷ []) (lit< tt, (lit< tt, tt));
+}
+
 is_schedule : (e : Example) → IsSchedule (plan_of e)
 is_schedule FailedTries = record { opens = two_threads; opening = refl; lines = search rules; few = lit≤ tt }
 is_schedule Full = record { opens = one_thread; opening = refl; lines = search rules; few = lit≤ tt }
@@ -131,6 +154,7 @@ is_schedule StalePred = record { opens = two_threads; opening = refl; lines = se
 is_schedule MarkedInChain = record { opens = two_threads; opening = refl; lines = search rules; few = lit≤ tt }
 is_schedule MarkedPred = record { opens = two_threads; opening = refl; lines = search rules; few = lit≤ tt }
 is_schedule ReadInAnothersStep = record { opens = two_threads; opening = refl; lines = search rules; few = lit≤ tt }
+is_schedule CeilingInAnothersStep = record { opens = five_alone; opening = tt; lines = search rules; few = lit≤ tt }
 is_schedule OpensWithKeys = record { opens = two_keys; opening = tt; lines = search rules; few = lit≤ tt }
 is_schedule TwoRemovers = record { opens = two_threads; opening = refl; lines = search rules; few = lit≤ tt }
 is_schedule Snip = record { opens = two_threads; opening = refl; lines = search rules; few = lit≤ tt }
@@ -139,6 +163,7 @@ is_schedule LeftInChain = record { opens = two_threads; opening = refl; lines = 
 is_schedule CeilingMeetsMark = record { opens = two_threads; opening = tt; lines = search rules; few = lit≤ tt }
 is_schedule CeilingLeftInChain = record { opens = two_threads; opening = tt; lines = search rules; few = lit≤ tt }
 is_schedule BehindTheWalk = record { opens = two_threads; opening = tt; lines = search rules; few = lit≤ tt }
+is_schedule NothingInAnothersStep = record { opens = five_and_seven; opening = tt; lines = search rules; few = lit≤ tt }
 
 -- each text is that of a schedule on the example's list
 pub is_schedule_text : (e : Example) → IsScheduleOf e (text_of e)
@@ -155,11 +180,13 @@ is_listed StalePred = (4, lit< tt, refl)
 is_listed MarkedInChain = (5, lit< tt, refl)
 is_listed MarkedPred = (6, lit< tt, refl)
 is_listed ReadInAnothersStep = (7, lit< tt, refl)
-is_listed OpensWithKeys = (8, lit< tt, refl)
-is_listed TwoRemovers = (9, lit< tt, refl)
-is_listed Snip = (10, lit< tt, refl)
-is_listed TriesAgain = (11, lit< tt, refl)
-is_listed LeftInChain = (12, lit< tt, refl)
-is_listed CeilingMeetsMark = (13, lit< tt, refl)
-is_listed CeilingLeftInChain = (14, lit< tt, refl)
-is_listed BehindTheWalk = (15, lit< tt, refl)
+is_listed CeilingInAnothersStep = (8, lit< tt, refl)
+is_listed OpensWithKeys = (9, lit< tt, refl)
+is_listed TwoRemovers = (10, lit< tt, refl)
+is_listed Snip = (11, lit< tt, refl)
+is_listed TriesAgain = (12, lit< tt, refl)
+is_listed LeftInChain = (13, lit< tt, refl)
+is_listed CeilingMeetsMark = (14, lit< tt, refl)
+is_listed CeilingLeftInChain = (15, lit< tt, refl)
+is_listed BehindTheWalk = (16, lit< tt, refl)
+is_listed NothingInAnothersStep = (17, lit< tt, refl)

@@ -14,6 +14,7 @@ use Rattle.tool_examples.specs.declared.example.Example.TheVariants.{StalePred, 
 use Rattle.tool_examples.specs.declared.example.Example.TheVariants.{OpensWithKeys}
 use Rattle.tool_examples.specs.declared.example.Example.TheVariants.{TwoRemovers, Snip, TriesAgain, LeftInChain}
 use Rattle.tool_examples.specs.declared.example.Example.TheVariants.{CeilingMeetsMark, CeilingLeftInChain, BehindTheWalk}
+use Rattle.tool_examples.specs.declared.example.Example.TheVariants.{CeilingInAnothersStep, NothingInAnothersStep}
 use Rattle.tool_examples.specs.declared.example.TheConstants.{ALL}
 use Rattle.tool_examples.specs.declared.texts.TheConstants as texts
 
@@ -27,6 +28,7 @@ name_of StalePred = codes "stale-pred"
 name_of MarkedInChain = codes "marked-in-chain"
 name_of MarkedPred = codes "marked-pred"
 name_of ReadInAnothersStep = codes "read-in-anothers-step"
+name_of CeilingInAnothersStep = codes "ceiling-in-anothers-step"
 name_of OpensWithKeys = codes "opens-with-keys"
 name_of TwoRemovers = codes "two-removers"
 name_of Snip = codes "snip"
@@ -35,6 +37,7 @@ name_of LeftInChain = codes "left-in-chain"
 name_of CeilingMeetsMark = codes "ceiling-meets-mark"
 name_of CeilingLeftInChain = codes "ceiling-left-in-chain"
 name_of BehindTheWalk = codes "behind-the-walk"
+name_of NothingInAnothersStep = codes "nothing-in-anothers-step"
 
 -- the list that it is about
 abbrev pub kind_of : Example → Kind
@@ -46,6 +49,7 @@ kind_of StalePred = Optimistic
 kind_of MarkedInChain = Lazy
 kind_of MarkedPred = Lazy
 kind_of ReadInAnothersStep = Lazy
+kind_of CeilingInAnothersStep = Lazy
 kind_of OpensWithKeys = Lazy
 kind_of TwoRemovers = LockFree
 kind_of Snip = LockFree
@@ -54,6 +58,7 @@ kind_of LeftInChain = LockFree
 kind_of CeilingMeetsMark = LockFree
 kind_of CeilingLeftInChain = LockFree
 kind_of BehindTheWalk = LockFree
+kind_of NothingInAnothersStep = LockFree
 
 -- what happens in it, in half a line
 abbrev pub about_of : Example → List ℕ
@@ -65,6 +70,7 @@ about_of StalePred = codes "pred is taken out after the walk: the second walk do
 about_of MarkedInChain = codes "contains answers false, and the key's node is still in the chain"
 about_of MarkedPred = codes "pred is marked after the walk: its link gives it away"
 about_of ReadInAnothersStep = codes "contains stands in the step of the thread that removed its key"
+about_of CeilingInAnothersStep = codes "the answer of ceiling fits after steps of the other thread, and after none of its own"
 about_of OpensWithKeys = codes "two opening keys take no slot, and the remove of one gives none back"
 about_of TwoRemovers = codes "two removes of one key: one marks, the other walks again and answers false"
 about_of Snip = codes "an add takes out the node that a remove has marked"
@@ -73,6 +79,7 @@ about_of LeftInChain = codes "a remove has ended, and its node is still in the c
 about_of CeilingMeetsMark = codes "the node at which ceiling stops is marked: it walks again and answers nothing"
 about_of CeilingLeftInChain = codes "ceiling stops at the node of a remove that has ended: it may not answer that key"
 about_of BehindTheWalk = codes "a key comes in behind the walk of ceiling, which answers the key above it"
+about_of NothingInAnothersStep = codes "ceiling answers nothing, and a key is there just after each of its own steps"
 
 -- the text of its schedule
 abbrev pub text_of : Example → List ℕ
@@ -84,6 +91,7 @@ text_of StalePred = texts.STALE_PRED.now
 text_of MarkedInChain = texts.MARKED_IN_CHAIN.now
 text_of MarkedPred = texts.MARKED_PRED.now
 text_of ReadInAnothersStep = texts.READ_IN_ANOTHERS_STEP.now
+text_of CeilingInAnothersStep = texts.CEILING_IN_ANOTHERS_STEP.now
 text_of OpensWithKeys = texts.OPENS_WITH_KEYS.now
 text_of TwoRemovers = texts.TWO_REMOVERS.now
 text_of Snip = texts.SNIP.now
@@ -92,6 +100,7 @@ text_of LeftInChain = texts.LEFT_IN_CHAIN.now
 text_of CeilingMeetsMark = texts.CEILING_MEETS_MARK.now
 text_of CeilingLeftInChain = texts.CEILING_LEFT_IN_CHAIN.now
 text_of BehindTheWalk = texts.BEHIND_THE_WALK.now
+text_of NothingInAnothersStep = texts.NOTHING_IN_ANOTHERS_STEP.now
 
 -- the text of the report of a list that lacks the check in question, of the examples that have one
 abbrev pub broken_of : Example → Option (List ℕ)
@@ -103,6 +112,7 @@ broken_of StalePred = Some texts.STALE_PRED_BROKEN.now
 broken_of MarkedInChain = None
 broken_of MarkedPred = None
 broken_of ReadInAnothersStep = None
+broken_of CeilingInAnothersStep = None
 broken_of OpensWithKeys = None
 broken_of TwoRemovers = Some texts.TWO_REMOVERS_BROKEN.now
 broken_of Snip = Some texts.SNIP_BROKEN.now
@@ -111,6 +121,7 @@ broken_of LeftInChain = Some texts.LEFT_IN_CHAIN_BROKEN.now
 broken_of CeilingMeetsMark = None
 broken_of CeilingLeftInChain = Some texts.CEILING_LEFT_IN_CHAIN_BROKEN.now
 broken_of BehindTheWalk = None
+broken_of NothingInAnothersStep = None
 
 -- the text of a schedule on the example's list
 abbrev pub IsScheduleOf : Example → List ℕ → Type 0

@@ -28,6 +28,7 @@ pub enum Example {
     MarkedInChain,
     MarkedPred,
     ReadInAnothersStep,
+    CeilingInAnothersStep,
     OpensWithKeys,
     TwoRemovers,
     Snip,
@@ -36,10 +37,11 @@ pub enum Example {
     CeilingMeetsMark,
     CeilingLeftInChain,
     BehindTheWalk,
+    NothingInAnothersStep,
 }
 
 /// All examples, in the order of the lists that they are about.
-pub const ALL: [Example; 16] = [
+pub const ALL: [Example; 18] = [
     Example::FailedTries,
     Example::Full,
     Example::HandOverHand,
@@ -48,6 +50,7 @@ pub const ALL: [Example; 16] = [
     Example::MarkedInChain,
     Example::MarkedPred,
     Example::ReadInAnothersStep,
+    Example::CeilingInAnothersStep,
     Example::OpensWithKeys,
     Example::TwoRemovers,
     Example::Snip,
@@ -56,6 +59,7 @@ pub const ALL: [Example; 16] = [
     Example::CeilingMeetsMark,
     Example::CeilingLeftInChain,
     Example::BehindTheWalk,
+    Example::NothingInAnothersStep,
 ];
 
 impl Example {
@@ -72,6 +76,7 @@ impl Example {
             Example::MarkedInChain => "marked-in-chain",
             Example::MarkedPred => "marked-pred",
             Example::ReadInAnothersStep => "read-in-anothers-step",
+            Example::CeilingInAnothersStep => "ceiling-in-anothers-step",
             Example::OpensWithKeys => "opens-with-keys",
             Example::TwoRemovers => "two-removers",
             Example::Snip => "snip",
@@ -80,6 +85,7 @@ impl Example {
             Example::CeilingMeetsMark => "ceiling-meets-mark",
             Example::CeilingLeftInChain => "ceiling-left-in-chain",
             Example::BehindTheWalk => "behind-the-walk",
+            Example::NothingInAnothersStep => "nothing-in-anothers-step",
         }
     }
 
@@ -94,6 +100,7 @@ impl Example {
             Example::MarkedInChain
             | Example::MarkedPred
             | Example::ReadInAnothersStep
+            | Example::CeilingInAnothersStep
             | Example::OpensWithKeys => Kind::Lazy,
             Example::TwoRemovers
             | Example::Snip
@@ -101,7 +108,8 @@ impl Example {
             | Example::LeftInChain
             | Example::CeilingMeetsMark
             | Example::CeilingLeftInChain
-            | Example::BehindTheWalk => Kind::LockFree,
+            | Example::BehindTheWalk
+            | Example::NothingInAnothersStep => Kind::LockFree,
         }
     }
 
@@ -123,6 +131,8 @@ impl Example {
             Example::MarkedPred => "pred is marked after the walk: its link gives it away",
             Example::ReadInAnothersStep =>
                 "contains stands in the step of the thread that removed its key",
+            Example::CeilingInAnothersStep =>
+                "the answer of ceiling fits after steps of the other thread, and after none of its own",
             Example::OpensWithKeys =>
                 "two opening keys take no slot, and the remove of one gives none back",
             Example::TwoRemovers =>
@@ -137,6 +147,8 @@ impl Example {
                 "ceiling stops at the node of a remove that has ended: it may not answer that key",
             Example::BehindTheWalk =>
                 "a key comes in behind the walk of ceiling, which answers the key above it",
+            Example::NothingInAnothersStep =>
+                "ceiling answers nothing, and a key is there just after each of its own steps",
         }
     }
 
@@ -160,6 +172,7 @@ impl Example {
             Example::MarkedInChain => texts::MARKED_IN_CHAIN,
             Example::MarkedPred => texts::MARKED_PRED,
             Example::ReadInAnothersStep => texts::READ_IN_ANOTHERS_STEP,
+            Example::CeilingInAnothersStep => texts::CEILING_IN_ANOTHERS_STEP,
             Example::OpensWithKeys => texts::OPENS_WITH_KEYS,
             Example::TwoRemovers => texts::TWO_REMOVERS,
             Example::Snip => texts::SNIP,
@@ -168,6 +181,7 @@ impl Example {
             Example::CeilingMeetsMark => texts::CEILING_MEETS_MARK,
             Example::CeilingLeftInChain => texts::CEILING_LEFT_IN_CHAIN,
             Example::BehindTheWalk => texts::BEHIND_THE_WALK,
+            Example::NothingInAnothersStep => texts::NOTHING_IN_ANOTHERS_STEP,
         }
     }
 
@@ -197,10 +211,12 @@ impl Example {
             | Example::MarkedInChain
             | Example::MarkedPred
             | Example::ReadInAnothersStep
+            | Example::CeilingInAnothersStep
             | Example::OpensWithKeys
             | Example::TriesAgain
             | Example::CeilingMeetsMark
-            | Example::BehindTheWalk => None,
+            | Example::BehindTheWalk
+            | Example::NothingInAnothersStep => None,
         }
     }
 }

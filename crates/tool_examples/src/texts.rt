@@ -112,6 +112,23 @@ go 1 11
 go 0 1
 ";
 
+pub const CEILING_IN_ANOTHERS_STEP: &str = "\
+listset-schedule 2
+list lazy
+threads 2
+quota 2
+opening 5
+begin 0 ceiling 6
+go 0 2
+begin 1 add 9
+go 1 13
+begin 1 remove 5
+go 1 10
+begin 1 add 7
+go 1 11
+go 0 3
+";
+
 pub const OPENS_WITH_KEYS: &str = "\
 listset-schedule 2
 list lazy
@@ -231,6 +248,24 @@ go 1 6
 begin 0 ceiling 3
 go 0 1
 begin 1 add 5
+go 1 6
+go 0 2
+";
+
+pub const NOTHING_IN_ANOTHERS_STEP: &str = "\
+listset-schedule 2
+list lock-free
+threads 2
+quota 1
+opening 5
+opening 7
+begin 0 ceiling 6
+go 0 2
+begin 1 remove 7
+go 1 8
+begin 1 remove 5
+go 1 6
+begin 1 add 7
 go 1 6
 go 0 2
 ";

@@ -11,7 +11,7 @@ use std::alloc::{AllocError, Global};
 use std::io::Write;
 
 /// The columns of a name in the list of names.
-pub const NAME_WIDTH: usize = 23;
+pub const NAME_WIDTH: usize = 26;
 
 /// The columns of a list's word in the list of names.
 pub const LIST_WIDTH: usize = 12;
