@@ -4,3 +4,4 @@ pub mod Replaying
 pub mod Checking
 pub mod Generating
 pub mod Moments
+pub mod Faults

@@ -4,6 +4,7 @@
 
 mod answer;
 mod checking;
+mod faults;
 mod generating;
 mod moments;
 mod replaying;
@@ -13,7 +14,8 @@ mod values;
 
 pub use answer::{Answer, deliver, line_of_trouble};
 pub use checking::{checked, tool_check};
-pub use generating::tool_gen;
+pub use faults::{FAULTS, faults_told, tool_faults};
+pub use generating::{generated, tool_gen};
 pub use moments::{DEFAULT_WIDTH, MOST_MOMENT, MOST_WIDTH, Moments, read_moments, read_width};
 pub use replaying::{replayed, tool_replay};
 pub use streams::{InputFault, LONGEST, input_of, put};
