@@ -73,7 +73,9 @@ fn schedule_for(alloc: Global, request: RandomRequest) -> Result<Schedule, GenFa
     on_list(request.kind, Generating { alloc, request })
 }
 
-fn generated(alloc: Global, values: &[String]) -> Result<Answer, Trouble>
+/// The schedule that the values ask for, which are those of `tool_gen`: its text, with status 0. The error is `Bad` with the
+/// first value that is missing or wrong, and `Memory` where memory was refused.
+pub fn generated(alloc: Global, values: &[String]) -> Result<Answer, Trouble>
     ensures { Generates (map string_bytes values.now) (tools.view result) }
 {
     let request = read_random_request(values)?;
