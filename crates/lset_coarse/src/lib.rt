@@ -12,7 +12,7 @@ use lset_steps::{Action, Fed, Local, Machine};
 use lset_words::{Call, Key, Kind, Reply};
 
 /// The list with one lock.
-#[derive(Clone, Copy, Debug, PartialEq, Eq)]
+#[derive(Clone, Copy)]
 pub struct CoarseList;
 
 /// The list's lock.

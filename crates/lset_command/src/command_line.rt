@@ -22,7 +22,7 @@ const KIND_HELP: &str = "The list: coarse, fine, optimistic, lazy or lock-free";
 const SERVE_FILE: usize = 5;
 
 /// A command of the program.
-#[derive(Clone, Copy, Debug, PartialEq, Eq)]
+#[derive(Clone, Copy)]
 pub enum Command {
     /// Replays a schedule. It is the command where no word is given.
     Replay,
@@ -47,7 +47,7 @@ pub enum Command {
 }
 
 /// The flags that are on, and the options as they are written. Those that a command does not have are off, and `None`.
-#[derive(Debug, Drop)]
+#[derive(Drop)]
 pub struct Options {
     /// `show` draws an SVG.
     pub svg: bool,
@@ -64,7 +64,7 @@ pub struct Options {
 }
 
 /// A command, with its values in order as they are written, its flags and its options.
-#[derive(Debug, Drop)]
+#[derive(Drop)]
 pub struct Words {
     pub command: Command,
     pub values: Vec<String>,

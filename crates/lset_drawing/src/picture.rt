@@ -21,7 +21,7 @@ pub struct Picture {
 }
 
 /// The moments that are drawn, from the first to the last; of those only the first 64 at which something happens.
-#[derive(Clone, Copy, Debug, PartialEq, Eq)]
+#[derive(Clone, Copy)]
 pub struct Window {
     pub from: u32,
     pub to: u32,

@@ -15,7 +15,7 @@ use lset_words::{Call, Key, Kind, Reply};
 
 /// The list with a lock in each node: a walk locks a node before it gives up the one behind it (Herlihy
 /// and Shavit's fine-grained list, by this project's own table).
-#[derive(Clone, Copy, Debug, PartialEq, Eq)]
+#[derive(Clone, Copy)]
 pub struct FineList;
 
 const HEAD: u64 = 0;

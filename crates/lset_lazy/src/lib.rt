@@ -18,7 +18,7 @@ use lset_words::{Call, Key, Kind, Reply};
 
 /// The list whose walks take no lock: a call that changes it locks the two nodes at which its walk stopped, and walks
 /// again where they have changed (Herlihy and Shavit's lazy list, by this project's own table).
-#[derive(Clone, Copy, Debug, PartialEq, Eq)]
+#[derive(Clone, Copy)]
 pub struct LazyList;
 
 const HEAD: u64 = 0;

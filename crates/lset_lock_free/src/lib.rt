@@ -19,7 +19,7 @@ use lset_words::{Call, Key, Kind, Reply};
 
 /// The list without locks: a node is marked by an exchange of its link, and then taken out by an exchange of the link
 /// before it, by whoever comes by (Herlihy and Shavit's lock-free list, by this project's own table).
-#[derive(Clone, Copy, Debug, PartialEq, Eq)]
+#[derive(Clone, Copy)]
 pub struct LockFreeList;
 
 const HEAD: u64 = 0;

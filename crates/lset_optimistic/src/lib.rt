@@ -29,7 +29,7 @@ use lset_words::{Call, Key, Kind, Reply};
 /// The list that walks without locks, locks the two nodes that it has come to, and walks a second time from the
 /// head to see that the first of them is still in the chain and leads to the other (Herlihy and Shavit's
 /// optimistic list, by this project's own table).
-#[derive(Clone, Copy, Debug, PartialEq, Eq)]
+#[derive(Clone, Copy)]
 pub struct OptimisticList;
 
 const HEAD: u64 = 0;

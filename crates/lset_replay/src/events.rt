@@ -5,7 +5,7 @@ use lset_schedule::Line;
 use lset_steps::Event;
 
 /// An event of a schedule, and the number of its line in the schedule's text.
-#[derive(Clone, Copy, Debug, PartialEq, Eq)]
+#[derive(Clone, Copy)]
 pub struct LineEvent {
     pub line: u64,
     pub event: Event,

@@ -4,7 +4,7 @@ ghost use Rattle.lset_replay.specs.Trace.{needs_key, found_in, changed_at, read_
 use lset_words::{Call, Reply};
 
 /// A call under way: its number, and the moment at which it began.
-#[derive(Clone, Copy, Debug, PartialEq, Eq)]
+#[derive(Clone, Copy)]
 pub struct OpenCall {
     pub number: u32,
     pub call: Call,
@@ -34,7 +34,7 @@ pub fn found_in(reply: Reply) -> Option<u32>
 }
 
 /// Where a call stands in the order: its moment, its reply there, and whether it changes the set there.
-#[derive(Clone, Copy, Debug, PartialEq, Eq)]
+#[derive(Clone, Copy)]
 pub struct Place {
     pub moment: u32,
     pub reply: Reply,

@@ -3,7 +3,7 @@ use lset_words::{Call, Key, Kind, Reply};
 
 /// What an event of a run did: a thread began a call, which has this number in the history, or made one access and saw this value
 /// (of a store, the value stored; of an exchange, what the word held before).
-#[derive(Clone, Copy, Debug, PartialEq, Eq)]
+#[derive(Clone, Copy)]
 pub enum Deed {
     Begin(Call, u32),
     Access(Action, u64),
@@ -20,7 +20,7 @@ pub struct CallEnd {
 /// An event of a run, and what it did: the number of its line in the schedule's text, its thread and what the thread held before
 /// and after, the key that it put in (`true`) or took out (`false`), the end of the call where it ended one, and the
 /// chain after it, where chains are asked for and the event changed it.
-#[derive(Debug, Drop)]
+#[derive(Drop)]
 pub struct TracedEvent {
     pub line: u64,
     pub thread: u32,
@@ -34,7 +34,7 @@ pub struct TracedEvent {
 
 /// The events of a schedule, whose set opens with the keys `opening`, one after another, up to the first that is not enabled;
 /// and of that one, the number of its line and the first cause.
-#[derive(Debug, Drop)]
+#[derive(Drop)]
 pub struct Trace {
     pub kind: Kind,
     pub threads: u32,

@@ -34,7 +34,7 @@ use lset_words::Reply;
 use std::alloc::{AllocError, Global};
 
 /// Why an event is not told.
-#[derive(Clone, Copy, Debug, PartialEq, Eq)]
+#[derive(Clone, Copy)]
 pub enum Stop {
     Refused(StepFault),
     Memory,

@@ -8,7 +8,7 @@ use lset_words::{Call, Key, Layout};
 
 /// What a thread keeps between two calls: its number, how many slots it has, and how many of them it has used. The rest of
 /// its registers has no part in its next call.
-#[derive(Clone, Copy, Debug, PartialEq, Eq)]
+#[derive(Clone, Copy)]
 pub struct Slots {
     pub thread: u32,
     pub quota: u32,

@@ -17,7 +17,7 @@ pub use world::{ChainKey, StepFault, World, opening_words};
 
 /// What a thread holds of its own: its number, its quota and the slots that it has used, the call with
 /// its program counter (0 where none is open) and reply, and the registers. (This project's own table.)
-#[derive(Clone, Copy, Debug, PartialEq, Eq)]
+#[derive(Clone, Copy)]
 pub struct Local {
     pub thread: u32,
     pub quota: u32,
@@ -64,7 +64,7 @@ impl Local {
 
 /// One access of one word: the word's index, then the values. An exchange writes its second value where
 /// the word holds the first.
-#[derive(Clone, Copy, Debug, PartialEq, Eq)]
+#[derive(Clone, Copy)]
 pub enum Action {
     Load(u64),
     Store(u64, u64),
@@ -72,7 +72,7 @@ pub enum Action {
 }
 
 /// What a thread holds after a step, and its answer where the step ends the call.
-#[derive(Clone, Copy, Debug, PartialEq, Eq)]
+#[derive(Clone, Copy)]
 pub struct Fed {
     pub local: Local,
     pub answer: Option<Reply>,

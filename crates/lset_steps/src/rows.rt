@@ -57,7 +57,7 @@ pub fn ceiling_at(word: u64) -> Reply
 
 /// The rows of a table to which a call goes on from its decision: to add, to remove, or to leave with a
 /// reply.
-#[derive(Clone, Copy, Debug, PartialEq, Eq)]
+#[derive(Clone, Copy)]
 pub struct Targets {
     pub adds: u8,
     pub removes: u8,

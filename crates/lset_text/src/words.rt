@@ -31,7 +31,7 @@ pub enum Version {
 }
 
 /// The word of a call, without its key.
-#[derive(Clone, Copy, Debug, PartialEq, Eq)]
+#[derive(Clone, Copy)]
 pub enum CallWord {
     Add,
     Remove,
@@ -129,7 +129,7 @@ pub fn read_call(version: Version, piece: &[u8]) -> Option<CallWord>
 }
 
 /// A reply as it is spelled: `true`, `at-5`.
-#[derive(Clone, Copy, Debug, PartialEq, Eq)]
+#[derive(Clone, Copy)]
 pub struct ReplyWord(pub Reply);
 
 impl fmt::Display for ReplyWord {

@@ -14,7 +14,7 @@ pub const DEFAULT_WIDTH: u32 = 100;
 pub const MOST_WIDTH: u32 = u32::MAX;
 
 /// The moments from one to another, which is not before it.
-#[derive(Clone, Copy, Debug, PartialEq, Eq)]
+#[derive(Clone, Copy)]
 pub struct Moments {
     /// 1 to `MOST_MOMENT`.
     pub from: u32,

@@ -8,7 +8,7 @@ use std::io::{Read, Write};
 pub const LONGEST: usize = 67_108_864;
 
 /// Why an input was not read.
-#[derive(Clone, Copy, Debug, PartialEq, Eq)]
+#[derive(Clone, Copy)]
 pub enum InputFault {
     CannotRead,
     TooLong,

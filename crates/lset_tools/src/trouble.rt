@@ -9,7 +9,7 @@ use lset_schedule::{Cause, ScheduleFault};
 use std::alloc::AllocError;
 
 /// Why a line of the keys with which a set is to open is refused.
-#[derive(Clone, Copy, Debug, PartialEq, Eq)]
+#[derive(Clone, Copy)]
 pub enum KeyCause {
     /// The line is not `key` and one further piece.
     Line,
@@ -24,7 +24,7 @@ pub enum KeyCause {
 }
 
 /// Why a line of an input is refused.
-#[derive(Clone, Copy, Debug, PartialEq, Eq)]
+#[derive(Clone, Copy)]
 pub enum LineCause {
     /// The text is no schedule.
     Schedule(Cause),
@@ -43,7 +43,7 @@ pub enum LineCause {
 }
 
 /// A value or an option that a command takes.
-#[derive(Clone, Copy, Debug, PartialEq, Eq)]
+#[derive(Clone, Copy)]
 pub enum ValueName {
     Kind,
     Threads,
@@ -62,7 +62,7 @@ pub enum ValueName {
 }
 
 /// Why programs are not run to their ends. Want of memory is a trouble of its own.
-#[derive(Clone, Copy, Debug, PartialEq, Eq)]
+#[derive(Clone, Copy)]
 pub enum WorkName {
     /// The programs are not as many as the seats, or the seats do not hold all seats of the set.
     Programs,
@@ -75,7 +75,7 @@ pub enum WorkName {
 }
 
 /// Why sessions are not served to their ends. Want of memory is a trouble of its own.
-#[derive(Clone, Copy, Debug, PartialEq, Eq)]
+#[derive(Clone, Copy)]
 pub enum ServeName {
     /// The seats do not hold all seats of the set.
     Seats,
@@ -90,7 +90,7 @@ pub enum ServeName {
 }
 
 /// What ends a run of the program with a line on standard error.
-#[derive(Clone, Copy, Debug, PartialEq, Eq)]
+#[derive(Clone, Copy)]
 pub enum Trouble {
     /// A file could not be opened, or a read failed.
     CannotRead,

@@ -18,7 +18,7 @@ pub const MOST_SEED: u64 = u64::MAX;
 
 /// What a command takes from its values: a list, the sizes and the calls of a run, and the seed from which
 /// they are drawn.
-#[derive(Clone, Copy, Debug, PartialEq, Eq)]
+#[derive(Clone, Copy)]
 pub struct RandomRequest {
     /// The list.
     pub kind: Kind,

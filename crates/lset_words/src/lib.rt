@@ -47,7 +47,7 @@ impl Key {
 }
 
 /// The five lists of Herlihy and Shavit's chapter on linked lists.
-#[derive(Clone, Copy, Debug, PartialEq, Eq, Hash)]
+#[derive(Clone, Copy, Debug, PartialEq, Eq)]
 pub enum Kind {
     Coarse,
     Fine,
@@ -57,7 +57,7 @@ pub enum Kind {
 }
 
 /// A call of a set (Herlihy and Shavit's interface).
-#[derive(Clone, Copy, Debug, PartialEq, Eq, Hash)]
+#[derive(Clone, Copy, Debug, PartialEq, Eq)]
 pub enum Call {
     Add(Key),
     Remove(Key),
@@ -79,7 +79,7 @@ impl Call {
 
 /// What a call answers. `Full` is this project's own: an `add` of a thread whose quota is used up. So are the answers
 /// of a `ceiling`: the key that it found, or that there is none.
-#[derive(Clone, Copy, Debug, PartialEq, Eq, Hash)]
+#[derive(Clone, Copy, Debug, PartialEq, Eq)]
 pub enum Reply {
     True,
     False,

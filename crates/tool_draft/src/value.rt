@@ -6,7 +6,7 @@ use lset_words::Kind;
 
 /// A line of a draft. `Plain` is a line of a schedule. In `Out(thread)` the thread takes steps until its call has ended, in
 /// `To(thread, row)` until it stands before that row of its list's table, 1 to 255; in both it takes one step at least.
-#[derive(Clone, Copy, Debug, PartialEq, Eq)]
+#[derive(Clone, Copy)]
 pub enum DraftLine {
     Plain(Line),
     Out(u32),
@@ -28,7 +28,7 @@ impl DraftLine {
 /// A draft of a schedule: the kind of list, its threads, 1 to 64, the slots of each, 0 to 16,384, the keys with which its set
 /// opens, at most 1,048,576 and rising strictly, and its lines, for at most 1,000,000 events where each line without a count
 /// is taken for one.
-#[derive(Debug, Drop)]
+#[derive(Drop)]
 pub struct Draft {
     pub kind: Kind,
     pub threads: u32,

@@ -18,7 +18,7 @@ use lset_words::Kind;
 
 /// A classic interleaving of calls on one of the five lists (most of them from Herlihy and Shavit's chapter on linked lists, and
 /// drawn up for their steps here): a schedule in which the list needs the one thing that it is remembered by.
-#[derive(Clone, Copy, Debug, PartialEq, Eq)]
+#[derive(Clone, Copy)]
 pub enum Example {
     FailedTries,
     Full,

@@ -6,7 +6,7 @@ ghost use Rattle.tool_run.specs.Counting.{HasRoom, counts_of, counts_with};
 use lset_words::Reply;
 
 /// How many calls were made, and how many of them answered true, false and full.
-#[derive(Clone, Copy, Debug, PartialEq, Eq)]
+#[derive(Clone, Copy)]
 pub struct Counts {
     pub calls: usize,
     pub trues: usize,

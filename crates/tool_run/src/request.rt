@@ -10,7 +10,7 @@ use lset_tools::{RandomRequest, ValueName, read_random_request};
 pub const MOST_LIVES: u32 = 100;
 
 /// What `run` takes from its values: what the first life is, and how many lives there are.
-#[derive(Clone, Copy, Debug, PartialEq, Eq)]
+#[derive(Clone, Copy)]
 pub struct LivesRequest {
     /// The first life.
     pub run: RandomRequest,

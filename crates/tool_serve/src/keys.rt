@@ -10,7 +10,7 @@ use lset_words::MOST_OPENING;
 use std::alloc::Global;
 
 /// Why a text gives no keys.
-#[derive(Clone, Copy, Debug, PartialEq, Eq)]
+#[derive(Clone, Copy)]
 pub enum KeysFault {
     /// A line, counted from 1, is refused.
     Line(u64, KeyCause),

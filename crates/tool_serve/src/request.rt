@@ -12,7 +12,7 @@ pub const MOST_SESSIONS_ASKED: u32 = 10_000;
 pub const MOST_PORT: u32 = 65_535;
 
 /// A list, the size of its set, and what is served.
-#[derive(Clone, Copy, Debug, PartialEq, Eq)]
+#[derive(Clone, Copy)]
 pub struct ServeRequest {
     /// The list.
     pub kind: Kind,

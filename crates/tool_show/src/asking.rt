@@ -5,7 +5,7 @@ use lset_drawing::Window;
 use lset_tools::{ValueName, read_moments, read_width};
 
 /// How a picture is drawn.
-#[derive(Clone, Copy, Debug, PartialEq, Eq)]
+#[derive(Clone, Copy)]
 pub enum Form {
     /// As text, with as many columns as let its rows have at most so many characters.
     Text(u32),

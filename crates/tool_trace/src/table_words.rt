@@ -24,7 +24,7 @@ const ABOVE_ALL_KEYS: u64 = 4_294_967_297;
 
 /// A word of a list's table: one of the three of the list, or one of the three of the node with this number.
 /// (This project's own table.)
-#[derive(Clone, Copy, Debug, PartialEq, Eq)]
+#[derive(Clone, Copy)]
 pub enum TableWord {
     ListLock,
     Threads,

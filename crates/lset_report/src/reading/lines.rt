@@ -23,7 +23,7 @@ use lset_text::{CallWord, Version, cut, is_reply, number, read_call, read_reply}
 use lset_words::{CallRecord, Key, Placed, Reply};
 
 /// Which part of a report a text has come to.
-#[derive(Clone, Copy, Debug, PartialEq, Eq)]
+#[derive(Clone, Copy)]
 pub enum Section {
     Opening,
     Calls,
@@ -33,7 +33,7 @@ pub enum Section {
 }
 
 /// A line after the header: an opening key, a call with its number, a place in the order, a key, or the end.
-#[derive(Clone, Copy, Debug, PartialEq, Eq)]
+#[derive(Clone, Copy)]
 pub enum Line {
     Opening(u32),
     Call(u32, CallRecord),
