@@ -5,7 +5,7 @@
 ghost use Rattle.std.specs.Prelude.{[], ◌∷◌, IfOk, map};
 ghost use Rattle.lset_words.specs.Words.{empty};
 ghost use Rattle.lset_live.specs.Explained.{Explains};
-ghost use Rattle.lset_live.specs.Records.{fresh};
+ghost use Rattle.lset_words.specs.Records.{fresh};
 ghost use Rattle.lset_work.specs.Programs.{worked};
 
 use lset_lazy::LazyList;
