@@ -7,7 +7,7 @@ ghost use Rattle.lset_schedule.specs.Plan.{Plan, IsSchedule, schedule_text};
 ghost use Rattle.lset_replay.specs.Reports.{IsExplained};
 ghost use Rattle.lset_report.specs.Report.{view};
 ghost use Rattle.lset_live.specs.Explained.{Explains};
-ghost use Rattle.lset_live.specs.Records.{fresh};
+ghost use Rattle.lset_words.specs.Records.{fresh};
 ghost use Rattle.lset_work.specs.Programs.{worked};
 
 use lset_lazy::LazyList;

@@ -33,7 +33,7 @@ use Rattle.lset_rule.specs.Views.{Stands, AreIdle, HasAside, HasThread}
 use Rattle.lset_rule.specs.Calls.{Makes}
 use Rattle.lset_rule.specs.Seats.{IsSeat, Place}
 use Rattle.lset_rule.proofs.Stepped.{Tied, tied}
-use Rattle.lset_live.specs.Records.{Keeps, called, thread_of}
+use Rattle.lset_words.specs.Records.{Keeps, called, thread_of}
 use Rattle.lset_live.specs.Dated.{call_of, record_of}
 use Rattle.lset_live.specs.Explained.{HasAnswered, IsAnswered, IsExplained}
 use Rattle.lset_live.specs.Seats.{SeatValue, SetValue, reply_of, is_true}

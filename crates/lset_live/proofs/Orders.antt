@@ -20,7 +20,7 @@ use Rattle.lset_rule.specs.declared.view.OwnCall.{OwnCall}
 use Rattle.lset_rule.specs.declared.view.Past.{Past, Fresh, Called', Gathered'}
 use Rattle.lset_rule.specs.Pasts.{root, InOrder, Apart, IsIn, calls_of}
 use Rattle.lset_rule.proofs.Runs.{HasGathered}
-use Rattle.lset_live.specs.Records.{Follows, Keeps, KeepsItems, calls_by}
+use Rattle.lset_words.specs.Records.{Follows, Keeps, KeepsItems, calls_by}
 use Rattle.lset_live.specs.Dated.{call_of, record_of}
 use Rattle.lset_live.proofs.Dated.{said_by, root_is, has_gathered, has_own}
 use Rattle.lset_live.proofs.Histories.{of_thread, ended_record}

@@ -1,19 +1,11 @@
--- Records that grow by own calls, and records that are gathered.
+-- Records that are gathered.
 use Rattle.std.proofs.Common.{◌≡◌, ℕ, inl, inr, ⊎_elim, List, [], ◌∷◌, ◌++◌, Option, Some, None, IfSome, All, refl, subst, sym}
 use Rattle.std.proofs.lemmas.List.Elements.{All-head, All-cons, All-nil}
 use Rattle.lset_words.specs.SequentialSet.{Answered}
-use Rattle.lset_live.specs.Records.{CallMade, Record, called, gathered, with_calls, thread_of, Names, Keeps}
+use Rattle.lset_words.specs.Records.{Record, gathered, Names, Keeps}
 use Rattle.lset_live.specs.Seats.{gather_onto}
 use Rattle.lset_live.specs.Explained.{NamedIn, Explains}
 use Rattle.lset_words.specs.Words.{Opening}
-
-pub with_calls-append : (r : Record) (xs ys : List CallMade) → with_calls r (xs ++ ys) ≡ with_calls (with_calls r xs) ys
-with_calls-append r [] ys = refl
-with_calls-append r (x ∷ xs) ys = with_calls-append (called r x) xs ys
-
-pub same_thread : (r : Record) (cs : List CallMade) → thread_of (with_calls r cs) ≡ thread_of r
-same_thread r [] = refl
-same_thread r (c ∷ cs) = same_thread (called r c) cs
 
 -- one record more
 pub gather_more : (o : Option Record) (rs : List Record) (q : Record) →

@@ -1,7 +1,7 @@
 -- A record as a list of marks, by which proofs tell records apart.
 use Rattle.std.proofs.Common.{◌≡◌, ℕ, List, [], ◌∷◌, ◌++◌, refl, ap, ◌∙◌, append_assoc}
 use Rattle.std.specs.Coded.{Coded, code_by, codes}
-use Rattle.lset_live.specs.Records.{CallMade, Record, fresh, called, gathered}
+use Rattle.lset_words.specs.Records.{CallMade, Record, fresh, called, gathered}
 
 pub data Item : Type 0 where
   start : ℕ → Item

@@ -1,7 +1,7 @@
 -- The record of a view without the numbers of its calls.
 use Rattle.lset_rule.specs.declared.view.OwnCall.{OwnCall}
 use Rattle.lset_rule.specs.declared.view.Past.{Past, Fresh, Called', Gathered'}
-use Rattle.lset_live.specs.Records.{CallMade, Record, fresh, called, gathered}
+use Rattle.lset_words.specs.Records.{CallMade, Record, fresh, called, gathered}
 
 abbrev pub call_of : OwnCall → CallMade
 call_of c = record { call = c.call; reply = c.reply }

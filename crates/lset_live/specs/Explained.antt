@@ -11,7 +11,7 @@ use Rattle.lset_steps.specs.declared.Event.{Event}
 use Rattle.lset_steps.specs.declared.Event.TheVariants.{Begin, Go}
 use Rattle.lset_steps.specs.Steps.{Table}
 use Rattle.lset_rule.specs.Runs.{IsRunOf, history_of}
-use Rattle.lset_live.specs.Records.{Record, Names, Keeps, called, calls_by, thread_of}
+use Rattle.lset_words.specs.Records.{Record, Names, Keeps, called, calls_by, thread_of}
 use Rattle.lset_live.specs.Seats.{SeatValue, SetValue}
 use Rattle.lset_words.specs.Words.{Opening}
 

@@ -1,4 +1,3 @@
-pub mod Records
 pub mod Explained
 pub mod Seats
 pub mod Closes

@@ -12,7 +12,7 @@ use Rattle.lset_words.specs.Words.{Sizes, IsWithin, RefusesSizes, Opening, Opens
 use Rattle.lset_steps.specs.declared.Event.{Event}
 use Rattle.lset_live.specs.declared.fault.OpenFault.{OpenFault}
 use Rattle.lset_live.specs.declared.fault.OpenFault.TheVariants as fault
-use Rattle.lset_live.specs.Records.{Record, fresh, gathered}
+use Rattle.lset_words.specs.Records.{Record, fresh, gathered}
 
 -- a set: its table, its threads and its quota
 pub record SetValue : Type 0 where

@@ -10,7 +10,7 @@ ghost use Rattle.lset_rule.specs.Runs.{StartsWith};
 ghost use Rattle.lset_rule.specs.Rule.{left_view, right_view};
 ghost use Rattle.lset_live.specs.Closes.{HasKeys};
 ghost use Rattle.lset_live.specs.Explained.{Explains, HasAnswered};
-ghost use Rattle.lset_live.specs.Records.{gathered};
+ghost use Rattle.lset_words.specs.Records.{gathered};
 ghost use Rattle.lset_live.specs.Seats.{is_true, reply_of};
 
 use crate::closed::Closed;

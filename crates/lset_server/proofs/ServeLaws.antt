@@ -7,9 +7,10 @@ use Rattle.std.proofs.lemmas.Bool.{ne_eqb, eq-eqb}
 use Rattle.std.proofs.lemmas.Bool.Decides.{eqb_tells}
 use Rattle.std.proofs.lemmas.List.{length-map}
 use Rattle.std.proofs.lemmas.List.Sums.{sum_by-cons}
-use Rattle.lset_live.specs.Records.{Record, CallMade, with_calls}
+use Rattle.lset_words.specs.Records.{Record, CallMade, with_calls}
 use Rattle.lset_live.specs.Seats.{SeatValue, gather_onto}
-use Rattle.lset_live.proofs.Records.{with_calls-append, gather_more}
+use Rattle.lset_words.proofs.Records.{with_calls-append}
+use Rattle.lset_live.proofs.Records.{gather_more}
 use Rattle.lset_session.specs.declared.TheConstants.{MOST_LINES}
 use Rattle.lset_session.specs.declared.sessions.Why.{Why}
 use Rattle.lset_session.specs.SessionText.{calls_in}

@@ -1,4 +1,3 @@
-pub mod Buffered
 pub mod Tallies
 pub mod Tallied
 pub mod Serving

@@ -1,6 +1,6 @@
 -- [Served]: what a server did.
 use Rattle.std.specs.Prelude.{◌≡◌, ℕ, List, [], ◌∷◌, length, sum_by, Option, None}
-use Rattle.lset_live.specs.Records.{Record, CallMade, with_calls}
+use Rattle.lset_words.specs.Records.{Record, CallMade, with_calls}
 use Rattle.lset_live.specs.Explained.{Explains}
 use Rattle.lset_live.specs.Seats.{gather_onto}
 use Rattle.lset_server.specs.declared.channel.Tally.{Tally}

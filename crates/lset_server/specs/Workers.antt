@@ -1,6 +1,6 @@
 -- What the workers of a server give back.
 use Rattle.std.specs.Prelude.{◌≡◌, ℕ, ◌+◌, List, [], ◌++◌, length, sum_by, Option, None}
-use Rattle.lset_live.specs.Records.{Record, CallMade, with_calls}
+use Rattle.lset_words.specs.Records.{Record, CallMade, with_calls}
 use Rattle.lset_live.specs.Seats.{SeatValue, gather_onto}
 use Rattle.lset_server.specs.declared.channel.Tally.{Tally}
 use Rattle.lset_server.specs.Serving.{followed}

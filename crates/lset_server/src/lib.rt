@@ -1,12 +1,12 @@
 //! The set server: sessions on the seats of a running set, one worker for each seat.
 #![tactic(auto)]
 
-mod buffered;
 mod channel;
 mod lingering;
 mod serving;
 mod workers;
 
-pub use buffered::buffered_session;
-pub use lset_session::{Device, Ended, Request, Sink, Source, Why, failing, read_request, session};
+pub use lset_session::{
+    Device, Ended, Request, Sink, Source, Why, buffered_session, failing, read_request, session,
+};
 pub use serving::{ServeCause, ServeFault, Served, serve};

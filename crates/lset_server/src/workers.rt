@@ -10,12 +10,11 @@ ghost use Rattle.lset_server.specs.Tallies.{tally};
 ghost use Rattle.lset_server.specs.Workers.{HasWorked, HaveWorked};
 ghost use Rattle.lset_server.specs.declared.serving.ServeCause.TheVariants as cause;
 
-use crate::buffered::buffered_session;
 use crate::channel::{Connection, Message, Receiver, Sender, Token, cut_part, receive, take_back};
 use crate::lingering::take_leave;
 use crate::serving::ServeCause;
 use lset_live::{LiveSet, Running, Seat};
-use lset_session::Device;
+use lset_session::{Device, buffered_session};
 use std::alloc::Global;
 use std::net::TcpStream;
 use std::snapshot::Snapshot;

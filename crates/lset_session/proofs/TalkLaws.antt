@@ -14,8 +14,8 @@ use Rattle.std.specs.Io.KnownBytes.{Appends, Consumes, IsAtEnd}
 use Rattle.std.proofs.KnownBytes.{Appends-nil, Appends-trans}
 use Rattle.lset_text.specs.Parts.{cut_at, Lacks}
 use Rattle.lset_text.proofs.PartLaws.{some_part}
-use Rattle.lset_live.specs.Records.{Record, CallMade, with_calls}
-use Rattle.lset_live.proofs.Records.{with_calls-append}
+use Rattle.lset_words.specs.Records.{Record, CallMade, with_calls}
+use Rattle.lset_words.proofs.Records.{with_calls-append}
 use Rattle.lset_session.specs.declared.TheConstants.{LONGEST_LINE, MOST_LINES}
 use Rattle.lset_session.specs.declared.sessions.Why.{Why}
 use Rattle.lset_session.specs.declared.sessions.Why.TheVariants as why

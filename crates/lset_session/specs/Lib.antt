@@ -1,3 +1,4 @@
+pub mod Buffered
 pub mod Devices
 pub mod Failing
 pub mod SessionText

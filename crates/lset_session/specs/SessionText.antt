@@ -10,7 +10,7 @@ use Rattle.lset_words.specs.declared.Reply.{Reply}
 use Rattle.lset_words.specs.declared.Reply.TheVariants as reply
 use Rattle.lset_text.specs.Parts.{cut_at, ended}
 use Rattle.lset_text.specs.Numbers.{number_in, max_number}
-use Rattle.lset_live.specs.Records.{CallMade}
+use Rattle.lset_words.specs.Records.{CallMade}
 use Rattle.lset_session.specs.declared.TheConstants.{LONGEST_LINE, MOST_LINES}
 use Rattle.lset_session.specs.declared.requests.Request.{Request}
 use Rattle.lset_session.specs.declared.requests.Request.TheVariants as request

@@ -1,7 +1,7 @@
 -- [Session]: what a session did that has ended.
 use Rattle.std.specs.Prelude.{◌≡◌, ◌≢◌, ℕ, List, [], ◌∷◌, ◌++◌, length, Option}
 use Rattle.std.specs.Io.KnownBytes.{Appends, Consumes, IsAtEnd}
-use Rattle.lset_live.specs.Records.{Record, with_calls}
+use Rattle.lset_words.specs.Records.{Record, with_calls}
 use Rattle.lset_session.specs.declared.sessions.Why.{Why}
 use Rattle.lset_session.specs.declared.sessions.Why.TheVariants as why
 use Rattle.lset_session.specs.SessionText.{Turn, turns_of, end_of, Exchange, turns_in, answers_in, calls_in, answer_of}

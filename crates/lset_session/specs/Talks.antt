@@ -3,7 +3,7 @@ use Rattle.std.specs.Prelude.{◌≡◌, ◌≢◌, ℕ, ◌+◌, ◌*◌, ◌<�
 use Rattle.std.specs.Prelude.{false, if◌then◌else◌}
 use Rattle.std.specs.Io.KnownBytes.{Appends}
 use Rattle.lset_text.specs.Parts.{cut_at, Lacks}
-use Rattle.lset_live.specs.Records.{Record, with_calls}
+use Rattle.lset_words.specs.Records.{Record, with_calls}
 use Rattle.lset_session.specs.declared.TheConstants.{LONGEST_LINE, MOST_LINES}
 use Rattle.lset_session.specs.declared.sessions.Why.{Why}
 use Rattle.lset_session.specs.declared.sessions.Why.TheVariants as why

@@ -2,11 +2,13 @@
 //! seats. (This project's own line protocol.)
 #![tactic(auto)]
 
+mod buffered;
 mod devices;
 pub mod failing;
 mod requests;
 mod sessions;
 
+pub use buffered::buffered_session;
 pub use devices::{Device, Sink, Source, write_all};
 pub use requests::{Request, read_request};
 pub use sessions::{Ended, Why, session};

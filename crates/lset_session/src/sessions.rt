@@ -1,6 +1,6 @@
 //! Sessions: the lines of a reader are answered on a writer.
 ghost use Rattle.std.specs.Prelude.{◌≡◌, ◌≤◌, ◌↔◌, ◌∷◌, [], Bool, true, false, IsTrue, if◌then◌else◌, length, None};
-ghost use Rattle.lset_live.specs.Records.{with_calls};
+ghost use Rattle.lset_words.specs.Records.{with_calls};
 ghost use Rattle.lset_session.specs.Devices.{Writes};
 ghost use Rattle.lset_session.specs.SessionText.{Exchange, turn_of, line, answer_of, call_of, reply_word};
 ghost use Rattle.lset_session.specs.Sessions.{IsSession};
@@ -12,8 +12,7 @@ use crate::requests::{Request, read_request};
 use crate::{LONGEST_LINE, MOST_LINES};
 use arrayvec::ArrayString;
 use itoa::Buffer;
-use lset_live::SetCalls;
-use lset_words::Reply;
+use lset_words::{Reply, SetCalls};
 use std::sync::Wait;
 
 /// Why a session has ended.

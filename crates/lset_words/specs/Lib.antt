@@ -5,3 +5,4 @@ pub mod Log
 pub mod Account
 pub mod Placement
 pub mod Points
+pub mod Records

@@ -11,10 +11,12 @@ ghost use Rattle.lset_words.specs.Words.{key_word_of, key_of, packed, RefusesSiz
 
 mod fault;
 mod history;
+mod set_calls;
 mod table;
 
 pub use fault::LayoutFault;
 pub use history::{CallRecord, Placed, Point};
+pub use set_calls::SetCalls;
 pub use table::{Layout, key_index, link_index, lock_index, slot_node, words_are_apart};
 
 /// The most threads of a list. (This project's own limit, as are those below.)

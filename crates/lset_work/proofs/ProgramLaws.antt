@@ -7,12 +7,13 @@ use Rattle.std.proofs.lemmas.List.{length-map, map-append, get_or_default}
 use Rattle.std.proofs.lemmas.List.Sums.{sum_by-append, sum_by-cons}
 use Rattle.lset_words.specs.declared.Call.{Call}
 use Rattle.lset_words.specs.declared.Reply.{Reply}
-use Rattle.lset_live.specs.Records.{CallMade, Record, called, with_calls}
+use Rattle.lset_words.specs.Records.{CallMade, Record, called, with_calls}
 use Rattle.lset_live.specs.Seats.{SeatValue, SetValue, gather_onto, held_in}
 use Rattle.lset_work.specs.declared.fault.WorkCause.{WorkCause}
 use Rattle.lset_work.specs.declared.fault.WorkCause.TheVariants.{Programs, Spawn, Gate, Memory}
 use Rattle.lset_work.specs.Programs.{made, worked, HaveRun, IsMadeOn, IsOfThreads}
-use Rattle.lset_live.proofs.Records.{with_calls-append, gather_more}
+use Rattle.lset_words.proofs.Records.{with_calls-append}
+use Rattle.lset_live.proofs.Records.{gather_more}
 
 -- ---- one call more
 

@@ -3,7 +3,7 @@ use Rattle.std.specs.Prelude.{◌≡◌, ℕ, Bool, true, List, [], ◌∷◌, l
 use Rattle.std.specs.Option.{option_map}
 use Rattle.lset_words.specs.declared.Call.{Call}
 use Rattle.lset_words.specs.declared.Reply.{Reply}
-use Rattle.lset_live.specs.Records.{CallMade, Record, with_calls}
+use Rattle.lset_words.specs.Records.{CallMade, Record, with_calls}
 use Rattle.lset_live.specs.Seats.{SeatValue, SetValue, gather_onto, held_in}
 use Rattle.lset_work.specs.declared.fault.WorkCause.{WorkCause}
 use Rattle.lset_work.specs.declared.fault.WorkCause.TheVariants.{Programs, Spawn, Gate, Memory}

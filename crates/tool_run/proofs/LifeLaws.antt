@@ -9,7 +9,7 @@ use Rattle.std.proofs.lemmas.List.Sums.{sum_by-cons}
 use Rattle.rand_core.specs.Stream.{Stream}
 use Rattle.lset_words.specs.declared.Call.{Call}
 use Rattle.lset_words.specs.Words.{Opening}
-use Rattle.lset_live.specs.Records.{fresh}
+use Rattle.lset_words.specs.Records.{fresh}
 use Rattle.lset_live.specs.Seats.{SeatValue, SetValue, IsOpened, new_seat}
 use Rattle.lset_work.specs.declared.fault.WorkCause.{WorkCause}
 use Rattle.lset_work.specs.declared.fault.WorkCause.TheVariants as cause

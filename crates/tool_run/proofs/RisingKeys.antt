@@ -12,7 +12,7 @@ use Rattle.lset_words.specs.SequentialSet.{Answered, IsLegal, SetState, after_ca
 use Rattle.lset_words.specs.SequentialSet.{with_key, without_key}
 use Rattle.lset_words.specs.Words.{Opening}
 use Rattle.lset_words.proofs.RisingLists.{RisesFrom, increasing_from_rises, rises_from_increasing, rises_less}
-use Rattle.lset_live.specs.Records.{Record}
+use Rattle.lset_words.specs.Records.{Record}
 use Rattle.lset_live.specs.Explained.{Explains}
 
 -- a key that is not there is put in its place

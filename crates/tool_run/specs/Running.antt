@@ -7,7 +7,7 @@ use Rattle.lset_words.specs.declared.Reply.{Reply}
 use Rattle.lset_words.specs.declared.TheConstants.{MOST_OPENING}
 use Rattle.lset_text.specs.Parts.{line_of, text_of}
 use Rattle.lset_schedule.specs.Draws.{programs_of}
-use Rattle.lset_live.specs.Records.{fresh}
+use Rattle.lset_words.specs.Records.{fresh}
 use Rattle.lset_live.specs.Explained.{Explains}
 use Rattle.lset_work.specs.Programs.{worked}
 use Rattle.lset_work.specs.declared.fault.WorkCause.{WorkCause}

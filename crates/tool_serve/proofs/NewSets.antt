@@ -2,7 +2,7 @@
 use Rattle.std.proofs.Common.{◌≡◌, ℕ, List, [], ◌∷◌, map, refl, ap, ◌∙◌, subst}
 use Rattle.std.specs.List.{range_with_len}
 use Rattle.lset_words.specs.Words.{Opening}
-use Rattle.lset_live.specs.Records.{fresh}
+use Rattle.lset_words.specs.Records.{fresh}
 use Rattle.lset_live.specs.Seats.{SeatValue, SetValue, IsOpened, new_seat}
 use Rattle.lset_server.specs.Serving.{IsServed}
 

@@ -6,7 +6,7 @@ use Rattle.std.specs.List.{range_with_len}
 use Rattle.lset_words.specs.declared.TheConstants.{MOST_QUOTA, MOST_THREADS}
 use Rattle.lset_words.specs.Words.{Opening}
 use Rattle.lset_text.specs.Parts.{line_of, text_of}
-use Rattle.lset_live.specs.Records.{fresh}
+use Rattle.lset_words.specs.Records.{fresh}
 use Rattle.lset_server.specs.Serving.{IsServed}
 use Rattle.lset_server.specs.declared.serving.ServeCause.{ServeCause}
 use Rattle.lset_server.specs.declared.serving.ServeCause.TheVariants as cause

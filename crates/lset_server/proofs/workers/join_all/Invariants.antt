@@ -3,7 +3,7 @@ use Rattle.std.specs.Option.{option_map}
 use Rattle.std.specs.Vec.Iter.{into_iter_items}
 use Rattle.crossbeam_channel.specs.Claims.{view, IsSeatAt}
 use Rattle.crossbeam_channel.specs.Ends.{sends_on, receives_on}
-use Rattle.lset_live.specs.Records.{Record}
+use Rattle.lset_words.specs.Records.{Record}
 use Rattle.lset_live.specs.Seats.{held_in}
 use Rattle.lset_session.specs.declared.TheConstants.{MOST_LINES}
 use Rattle.lset_server.specs.Workers.{HaveWorked}

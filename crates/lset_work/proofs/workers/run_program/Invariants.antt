@@ -1,5 +1,5 @@
 use Rattle.std.proofs.Common.{◌≡◌, ◌≤◌, take, length, vec_capacity}
-use Rattle.lset_live.specs.Records.{with_calls}
+use Rattle.lset_words.specs.Records.{with_calls}
 use Rattle.lset_work.specs.Programs.{made}
 use Rattle.lset_work.proofs.workers.run_program.Given as goal
 

@@ -4,7 +4,7 @@ use Rattle.std.specs.List.Sorted.{IsStrictlyIncreasing}
 use Rattle.lset_live.specs.Explained.{Explains}
 use Rattle.lset_live.proofs.Handing.{starts_map}
 use Rattle.lset_work.specs.Programs.{Fit, worked}
-use Rattle.lset_live.specs.Records.{fresh}
+use Rattle.lset_words.specs.Records.{fresh}
 use Rattle.tool_run.specs.Running.{programs_for}
 use Rattle.tool_run.proofs.LifeLaws.{life_trouble, opened_held, opened_length, opened_records, programs_length, seen_short}
 use Rattle.tool_run.proofs.LifeLaws.{short_programs}

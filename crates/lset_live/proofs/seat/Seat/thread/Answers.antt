@@ -1,7 +1,7 @@
 use Rattle.std.proofs.Common.{ap, sym, ◌∙◌}
 use Rattle.lset_rule.specs.declared.slots.Slots.{Slots}
 use Rattle.lset_rule.proofs.Keeps.{own_number}
-use Rattle.lset_live.specs.Records.{thread_of}
+use Rattle.lset_words.specs.Records.{thread_of}
 use Rattle.lset_live.specs.Seats.{SeatValue}
 use Rattle.lset_live.proofs.Dated.{root_is}
 use Rattle.lset_live.proofs.seat.Seat.thread.Goals as goal

@@ -7,8 +7,9 @@ ghost use Rattle.lset_session.specs.Sessions.{IsSession};
 ghost use Rattle.lset_session.specs.declared.TheConstants.{MOST_LINES};
 ghost use Rattle.lset_session.specs.declared.sessions.Why.{Why as Ending};
 
-use lset_live::SetCalls;
-use lset_session::{Ended, Sink, Source, Why, session, write_all};
+use crate::devices::{Sink, Source, write_all};
+use crate::sessions::{Ended, Why, session};
+use lset_words::SetCalls;
 use std::cell::RefCell;
 use std::sync::Wait;
 
@@ -30,7 +31,7 @@ impl<O: Sink> Buffer<O> {
     ghost use Rattle.std.specs.Prelude.{◌++◌, IfSome, IsTrue, length, take};
     ghost use Rattle.std.specs.Io.KnownBytes.{Appends};
     ghost use Rattle.lset_session.specs.Devices.{CutShort};
-    ghost use Rattle.lset_server.specs.Buffered.{said};
+    ghost use Rattle.lset_session.specs.Buffered.{said};
 
     /// No answers, and a writer that has not failed.
     fn new(writer: O) -> Buffer<O>

@@ -1,0 +1,27 @@
+//! What is asked of a set whose calls are made from seats.
+ghost use Rattle.std.specs.Prelude.{◌≡◌, ℕ};
+ghost use Rattle.lset_words.specs.Records.{Record, called};
+
+use crate::{Call, Reply};
+use std::sync::Wait;
+
+/// A running set whose calls are made from seats.
+pub trait SetCalls {
+    type Seat;
+
+    /// The seat is one of this set.
+    ghost is_of: { Self → Self.Seat → Type 0 };
+
+    /// The record of a seat.
+    ghost record_of: { Self.Seat → Record };
+
+    /// How many seats a seat holds, itself included.
+    ghost held_by: { Self.Seat → ℕ };
+
+    /// Makes the call from the seat, and gives the reply. The record of the seat grows by the call with that reply, and
+    /// nothing else of the seat changes. It may wait for the locks of others.
+    fn make_call<R: Wait>(&self, rt: &R, seat: &mut Self::Seat, call: Call) -> Reply
+        requires { is_of self.now seat.old }
+        ensures record { record_of seat.new ≡ called (record_of seat.old) (record { call = call; reply = result }) }
+        ensures seat { is_of self.now seat.new × (held_by seat.new ≡ held_by seat.old) };
+}
