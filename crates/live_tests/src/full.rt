@@ -1,8 +1,11 @@
 ghost use Rattle.std.specs.Prelude.{◌≡◌};
 
+use lset_coarse::CoarseList;
+use lset_fine::FineList;
 use lset_lazy::LazyList;
 use lset_live::{LiveSet, Running, Seat, open};
 use lset_lock_free::LockFreeList;
+use lset_optimistic::OptimisticList;
 use lset_words::Key;
 use std::alloc::Global;
 use std::process::Abort;
@@ -57,6 +60,15 @@ fn each_number_of_seats_is_opened(rt: HostRuntime) {
     for seats in 1..=64 {
         leaves_each_key::<LazyList, HostRuntime>(&rt, rt.alloc(), seats, 1);
     }
+}
+
+/// All slots that one seat may have.
+#[test]
+fn each_list_is_filled(rt: HostRuntime) {
+    leaves_each_key::<CoarseList, HostRuntime>(&rt, rt.alloc(), 1, 16_384);
+    leaves_each_key::<FineList, HostRuntime>(&rt, rt.alloc(), 1, 16_384);
+    leaves_each_key::<OptimisticList, HostRuntime>(&rt, rt.alloc(), 1, 16_384);
+    leaves_each_key::<LazyList, HostRuntime>(&rt, rt.alloc(), 1, 16_384);
 }
 
 /// No key, 10,000, and as many as there may be.

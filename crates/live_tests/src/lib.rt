@@ -28,4 +28,6 @@ mod programs;
 #[cfg(test)]
 mod renewal;
 #[cfg(test)]
+mod stopping;
+#[cfg(test)]
 mod waiting;

@@ -66,3 +66,35 @@ fn a_pause_is_asked_after_each_step_but_the_last(rt: HostRuntime) {
     both_ask::<LazyList, HostRuntime>(&rt, rt.alloc(), 10);
     both_ask::<LockFreeList, HostRuntime>(&rt, rt.alloc(), 5);
 }
+
+/// Calls of each kind on a set that opens empty, with keys whose words are even and odd.
+const OF_EACH_KIND: [Call; 8] = [
+    Call::Add(Key(5)),
+    Call::Add(Key(6)),
+    Call::Ceiling(Key(3)),
+    Call::Contains(Key(6)),
+    Call::Remove(Key(5)),
+    Call::Ceiling(Key(3)),
+    Call::Remove(Key(6)),
+    Call::Contains(Key(6)),
+];
+
+/// Each of these calls of seat 1 is told of thread 1, and of no failure.
+fn tells_its_thread<M: Running, R: Wait + Abort>(rt: &R, alloc: Global) {
+    let (set, _zero, mut one) = two_seats::<M, R>(rt, alloc);
+    for call in &OF_EACH_KIND {
+        let count = Count::new(1);
+        let _reply = set.call(rt, &mut one, *call, &count);
+        assert!(rt; count.wrong.get() == 0);
+    }
+}
+
+#[test]
+fn a_pause_is_told_the_thread_in_each_kind_of_call(rt: HostRuntime) {
+    tells_its_thread::<CoarseList, HostRuntime>(&rt, rt.alloc());
+    tells_its_thread::<FineList, HostRuntime>(&rt, rt.alloc());
+    tells_its_thread::<OptimisticList, HostRuntime>(&rt, rt.alloc());
+    tells_its_thread::<LazyList, HostRuntime>(&rt, rt.alloc());
+    tells_its_thread::<LockFreeList, HostRuntime>(&rt, rt.alloc());
+    tells_its_thread::<Stepped<LazyList>, HostRuntime>(&rt, rt.alloc());
+}

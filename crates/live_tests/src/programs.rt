@@ -83,7 +83,7 @@ fn fault_of<M: Running + Send + Sync, R: Threads + Wait + Abort + Sync, G: Gate 
 }
 
 /// Two programs.
-fn pair<R: Abort>(rt: &R, alloc: Global, first: &[Call], second: &[Call]) -> Vec<Vec<Call>> {
+pub fn pair<R: Abort>(rt: &R, alloc: Global, first: &[Call], second: &[Call]) -> Vec<Vec<Call>> {
     let first = Vec::from_slice(alloc, first).expect(rt, "room");
     let second = Vec::from_slice(alloc, second).expect(rt, "room");
     vec![in alloc; first, second].expect(rt, "room")
@@ -104,14 +104,18 @@ fn two_programs<R: Abort>(rt: &R, alloc: Global) -> Vec<Vec<Call>> {
     pair(rt, alloc, &FIRST, &SECOND)
 }
 
-fn are_as_wanted(outcome: &Outcome, replies: &[&[Reply]], keys: &[u32]) -> bool {
-    outcome.keys.as_slice() == keys
-        && outcome.replies.len() == replies.len()
+/// The programs have these replies.
+pub fn are_answered(outcome: &Outcome, replies: &[&[Reply]]) -> bool {
+    outcome.replies.len() == replies.len()
         && outcome
             .replies
             .iter()
             .zip(replies)
             .all(|pair| pair.0.as_slice() == *pair.1)
+}
+
+fn are_as_wanted(outcome: &Outcome, replies: &[&[Reply]], keys: &[u32]) -> bool {
+    outcome.keys.as_slice() == keys && are_answered(outcome, replies)
 }
 
 fn answers<M: Running + Send + Sync, R: Threads + Wait + Abort + Sync>(rt: &R, alloc: Global) {

@@ -4,6 +4,7 @@ ghost use Rattle.std.specs.List.Sorted.{IsStrictlyIncreasing};
 
 use crate::many::{drawn_call, gathered, next_number};
 use crate::opened::{close_with, last_seat};
+use crate::programs::{are_answered, pair, worked};
 use lset_coarse::CoarseList;
 use lset_fine::FineList;
 use lset_history::{Changes, Oracle};
@@ -13,6 +14,7 @@ use lset_lock_free::LockFreeList;
 use lset_optimistic::OptimisticList;
 use lset_rule::Spin;
 use lset_words::{Call, Key, Kind, MOST_OPENING, Reply};
+use lset_work::Always;
 use std::alloc::Global;
 use std::process::Abort;
 use std::sync::Wait;
@@ -326,4 +328,42 @@ fn a_million_keys_open_a_set_and_no_more(rt: HostRuntime) {
     let one_more = even_keys(&rt, rt.alloc(), MOST_OPENING + 1);
     let found = open_with::<LazyList>(rt.alloc(), 1, 1, &one_more).err();
     assert!(rt; found == Some(OpenFault::Opening));
+}
+
+/// Programs of two seats: one keeps to the head of the list, and one walks past all its keys.
+const AT_THE_HEAD: [Call; 2] = [Call::Add(Key(1)), Call::Ceiling(Key(1))];
+
+const PAST_ALL: [Call; 2] = [Call::Ceiling(Key(2_097_151)), Call::Add(Key(2_097_151))];
+
+/// On two seats of a set that opened with so many keys as may be.
+#[test]
+fn programs_run_on_a_million_keys(rt: HostRuntime) {
+    let keys = even_keys(&rt, rt.alloc(), MOST_OPENING);
+    let opened = open_with::<LockFreeList>(rt.alloc(), 2, 2, &keys);
+    let (set, seats) = opened.expect(&rt, "not opened");
+    let programs = pair(&rt, rt.alloc(), &AT_THE_HEAD, &PAST_ALL);
+    let outcome = worked(&rt, rt.alloc(), set, seats, programs, &Always);
+    let first: &[Reply] = &[Reply::True, Reply::At(Key(1))];
+    let second: &[Reply] = &[Reply::Nothing, Reply::True];
+    assert!(&rt; are_answered(&outcome, &[first, second]));
+    assert!(&rt; outcome.keys.len() == 1_048_578);
+}
+
+/// The text of each fault.
+const TEXTS: [(OpenFault, &str); 4] = [
+    (OpenFault::Seats, "the seats are outside 1 to 64"),
+    (OpenFault::Quota, "the quota is above 16384"),
+    (
+        OpenFault::Opening,
+        "the opening keys do not rise or are more than 1048576",
+    ),
+    (OpenFault::Memory, "out of memory"),
+];
+
+#[test]
+fn each_fault_says_why(rt: HostRuntime) {
+    for (fault, text) in &TEXTS {
+        let said = format!(in rt.alloc(); "{fault}").expect(&rt, "room");
+        assert!(&rt; said.as_str() == *text);
+    }
 }

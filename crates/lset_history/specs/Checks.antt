@@ -1,5 +1,5 @@
 -- What the single checks of an order tell.
-use Rattle.std.specs.Prelude.{◌≡◌, ◌≢◌, ℕ, ◌<◌, ◌==◌, ◌⊎◌, Bool, true, false, List, map, length, get_or, min, Option, Some, None}
+use Rattle.std.specs.Prelude.{◌≡◌, ◌≢◌, ℕ, ◌<◌, ◌==◌, ◌⊎◌, Bool, true, false, List, map, length, get_or, min, Option, Some, None, take}
 use Rattle.std.specs.Prelude.{is_some, All, IfSome, IsSomeAnd}
 use Rattle.std.specs.List.{list_any}
 use Rattle.lset_words.specs.declared.Reply.{Reply}
@@ -7,8 +7,8 @@ use Rattle.lset_words.specs.declared.history.CallRecord.{CallRecord}
 use Rattle.lset_words.specs.declared.history.Placed.{Placed}
 use Rattle.lset_words.specs.SequentialSet.{reply_to, after_call, IsLegal}
 use Rattle.lset_words.specs.History.{call_numbered, answered}
-use Rattle.lset_history.specs.Oracle.{OracleValue}
-use Rattle.lset_history.specs.Faults.{set_left_by}
+use Rattle.lset_history.specs.Oracle.{OracleValue, PutsIn}
+use Rattle.lset_history.specs.Faults.{placed_call, set_left_by}
 
 -- the order has only calls of the history
 abbrev pub HasKnownCalls : List CallRecord → List Placed → Type 0
@@ -60,6 +60,11 @@ pub record HasReplies (o : OracleValue) (calls : List CallRecord) (order : List 
 -- the set after the calls of the order
 abbrev pub after_order : OracleValue → List CallRecord → List Placed → OracleValue
 after_order o calls order = record o { state = set_left_by o.state calls order }
+
+-- a call of the order puts its key in after the earlier places
+abbrev pub PutsInSome : OracleValue → List CallRecord → List Placed → Type 0
+PutsInSome o calls order = (place : ℕ) × (place < length order)
+    × PutsIn (after_order o calls (take place order)) (placed_call calls order place).thread (placed_call calls order place).call
 
 -- the lesser of an end and the least end so far
 abbrev pub least_with : Option ℕ → ℕ → ℕ

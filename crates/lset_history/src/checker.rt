@@ -1,8 +1,9 @@
-ghost use Rattle.std.specs.Prelude.{◌≡◌, ◌≢◌, ◌<◌, ◌^◌, Bool, false, IfOk, OnOk, IfErr, MatchOption, MatchBool, IsSomeAnd, IsTrue, ◌↔◌, length, All};
+ghost use Rattle.std.specs.Prelude.{◌≡◌, ◌≢◌, ◌<◌, ◌^◌, Bool, false, IfOk, OnOk, IfErr, OnErr, MatchOption, MatchBool, IsSomeAnd, IsTrue, ◌↔◌, length, All};
 ghost use Rattle.lset_words.specs.declared.history.CallRecord.{CallRecord};
 ghost use Rattle.lset_words.specs.declared.history.Placed.{Placed};
 ghost use Rattle.lset_history.specs.Faults.{Explains, IsFault, Passes, RefusesFirst, IsUnknown, IsTwice, HasWrongReply, IsTooEarly};
-ghost use Rattle.lset_history.specs.Checks.{HasKnownCalls, MarksCalls, LeavesNoneOut, LeavesOutFirst, HasReply, HasOtherReply, after_reply, HasReplies, after_order, least_with};
+ghost use Rattle.lset_history.specs.Checks.{HasKnownCalls, MarksCalls, LeavesNoneOut, LeavesOutFirst, HasReply, HasOtherReply, after_reply, HasReplies, PutsInSome, after_order, least_with};
+ghost use Rattle.lset_history.specs.Oracle.{PutsIn};
 ghost use Rattle.lset_history.specs.declared.fault.OrderFault.TheVariants.{Memory};
 
 use crate::{History, Oracle, OrderFault};
@@ -63,9 +64,10 @@ fn first_missing(calls: &[CallRecord], placed: &[bool]) -> Option<u32>
 /// by the call.
 fn has_reply(oracle: &mut Oracle, call_record: CallRecord, reply: Reply) -> Result<bool, AllocError>
     requires { call_record.thread < oracle.old.threads }
-    ensures { IfOk result (λ right. MatchBool right
+    ensures answers { IfOk result (λ right. MatchBool right
         (HasReply oracle.old call_record reply × (oracle.new ≡ after_reply oracle.old call_record reply))
         (HasOtherReply oracle.old call_record reply)) }
+    ensures growth { OnErr result (PutsIn oracle.old call_record.thread call_record.call) }
 {
     if let Some((_, recorded)) = call_record.ended
         && recorded != reply
@@ -84,9 +86,10 @@ pub(crate) fn first_wrong_reply(
 ) -> Result<Option<u32>, AllocError>
     requires known { HasKnownCalls calls.now order.now }
     requires threads { All (λ (x : CallRecord). x.thread < oracle.old.threads) calls.now }
-    ensures { IfOk result (λ wrong. MatchOption wrong
+    ensures answers { IfOk result (λ wrong. MatchOption wrong
         (HasReplies oracle.old calls.now order.now × (oracle.new ≡ after_order oracle.old calls.now order.now))
         (RefusesFirst (HasWrongReply oracle.old.quota oracle.old.state calls.now order.now) order.now)) }
+    ensures growth { OnErr result (PutsInSome oracle.old calls.now order.now) }
 {
     for place in order {
         if !has_reply(oracle, calls[place.call as usize], place.reply)? {

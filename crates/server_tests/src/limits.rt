@@ -1,4 +1,4 @@
-use crate::opened::{held, was_held};
+use crate::opened::{held, held_buffered, was_held};
 use lset_server::failing::FailingReader;
 use lset_server::{Device, Ended, Source, Why};
 use std::alloc::Global;
@@ -64,7 +64,8 @@ impl Source for Lines {
     }
 }
 
-/// So many empty lines and then these bytes: `BAD` to each of the lines, and then these answers.
+/// So many empty lines and then these bytes: `BAD` to each of the lines, and then these answers, also of a session whose
+/// answers wait.
 fn is_answered_after<R: Wait + Abort>(
     rt: &R,
     alloc: Global,
@@ -74,6 +75,8 @@ fn is_answered_after<R: Wait + Abort>(
     ended: Ended,
 ) {
     let (written, how) = held(rt, alloc, &mut Lines { empty, last });
+    let buffered = held_buffered(rt, alloc, Lines { empty, last });
+    was_held(rt, &buffered, &written, how);
     assert!(rt; how == ended);
     assert!(rt; written.len() as u64 == 4 * u64::from(empty) + answers.len() as u64);
     assert!(rt; written.starts_with(b"BAD\nBAD\n"));

@@ -40,7 +40,7 @@ returns-in-Some-2-clause-first_fault c =
     c.in_default-first_twice.ensures.once c.in_default-first_twice.ensures.marks)
     c.in_default-first_missing.ensures c.in_ok-oracle.ensures in
     let wrong = MatchOption-at_some _ (RefusesFirst (HasWrongReply oracle.quota oracle.state calls order) order) _
-    c.in-Some-2.is c.in_ok-number.ensures in
+    c.in-Some-2.is c.in_ok-number.ensures.answers in
     wrong_reply_fault h calls order c.args.keys.now marks oracle c.in-Some-2.number left wrong
 
 pub returns-in-Some-2-clause-not_explained : goal.returns-in-Some-2-clause-not_explained
@@ -60,7 +60,7 @@ returns-in-Some-first_too_early-clause-first_fault c =
     c.in_default-first_missing.ensures c.in_ok-oracle.ensures in
     let replies = MatchOption-at_none
     (HasReplies oracle calls order × (c.first_wrong_reply.new.oracle ≡ after_order oracle calls order)) _
-    c.in_default-2.is c.in_ok-number.ensures in
+    c.in_default-2.is c.in_ok-number.ensures.answers in
     too_early_fault h calls order c.args.keys.now marks oracle c.in-Some-first_too_early.number left replies.0
     c.in-Some-first_too_early.ensures
 
@@ -77,7 +77,7 @@ returns-then-ne-clause-first_fault c =
     c.in_default-first_missing.ensures c.in_ok-oracle.ensures in
     let replies = MatchOption-at_none
     (HasReplies oracle calls order × (c.first_wrong_reply.new.oracle ≡ after_order oracle calls order)) _
-    c.in_default-2.is c.in_ok-number.ensures in
+    c.in_default-2.is c.in_ok-number.ensures.answers in
     let other = other_text _ c.args.keys.now (sym (not-true _ (sym c.if-ne.ensures))) in
     wrong_set_fault h calls order c.args.keys.now marks oracle c.first_wrong_reply.new.oracle left replies.0
     c.in_default-first_too_early.ensures replies.1 (λ same. other (c.as_slice.ensures.value ∙ c.in_ok-keys.ensures.keys ∙ same))
@@ -95,7 +95,7 @@ returns-clause-explained c =
     c.in_default-first_missing.ensures c.in_ok-oracle.ensures in
     let replies = MatchOption-at_none
     (HasReplies oracle calls order × (c.first_wrong_reply.new.oracle ≡ after_order oracle calls order)) _
-    c.in_default-2.is c.in_ok-number.ensures in
+    c.in_default-2.is c.in_ok-number.ensures.answers in
     let same = same_text _ c.args.keys.now (sym (not-false _ (sym c.if-ne.ensures))) in
     explained h calls order c.args.keys.now marks oracle c.first_wrong_reply.new.oracle left replies.0
     c.in_default-first_too_early.ensures replies.1 (sym c.in_ok-keys.ensures.keys ∙ sym c.as_slice.ensures.value ∙ same)
