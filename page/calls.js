@@ -20,12 +20,13 @@ class Engine {
     return WebAssembly.Module.exports(this.module).some((found) => found.name === name);
   }
 
-  // What an export says of a text: the exit status of the program, and what it prints.
-  ask(name, text) {
-    return this.askBytes(name, new TextEncoder().encode(text));
+  // What an export says of the texts that it takes: the exit status of the program, and what it prints. Those left out are empty.
+  ask(name, ...texts) {
+    const encoder = new TextEncoder();
+    return this.askBytes(name, ...texts.map((text) => encoder.encode(text)));
   }
 
-  askBytes(name, given) {
+  askBytes(name, ...given) {
     if (this.instance === null || this.instance.exports.memory.buffer.byteLength > LARGE_MEMORY) {
       this.instance = new WebAssembly.Instance(this.module, {});
     }
@@ -38,22 +39,41 @@ class Engine {
   }
 }
 
+// The words for the options of listset_show, as texts: of those that are not given, nothing.
+function optionWords({ from, to, width }) {
+  return wordsOf([from, to, width].map((text) => (text === undefined ? "" : `=${text}`)));
+}
+
+// Words as an export takes them.
+function wordsOf(words) {
+  return words.join("\0");
+}
+
 // Asks once, and a second time with the room that the answer needs.
 function answerOf(engine, name, given) {
-  const text = blockOf(engine, given.length);
-  new Uint8Array(engine.memory.buffer, Number(text), given.length).set(given);
-  let answer = answerInRoom(engine, name, text, given.length, FIRST_ROOM);
-  if (answer.bytes === null) answer = answerInRoom(engine, name, text, given.length, answer.length);
-  engine.page_free(text);
+  const texts = textsOf(engine, engine[name].length, given);
+  let answer = answerInRoom(engine, name, texts, FIRST_ROOM);
+  if (answer.bytes === null) answer = answerInRoom(engine, name, texts, answer.length);
+  texts.forEach(([block]) => engine.page_free(block));
   if (answer.bytes === null) throw new Error("two answers to one text");
   return { status: answer.status, text: new TextDecoder().decode(answer.bytes), bytes: answer.bytes };
 }
 
-function answerInRoom(engine, name, text, length, room) {
+// Each text in memory, as its block and its length: as many as a function with so many parameters takes. The last three
+// parameters are the room's block and length, and the status.
+function textsOf(engine, parameters, given) {
+  return Array.from({ length: (parameters - 3) / 2 }, (_, at) => {
+    const text = given[at] ?? new Uint8Array(0);
+    const block = blockOf(engine, text.length);
+    new Uint8Array(engine.memory.buffer, Number(block), text.length).set(text);
+    return [block, BigInt(text.length)];
+  });
+}
+
+function answerInRoom(engine, name, texts, room) {
   const out = blockOf(engine, room);
   const status = blockOf(engine, 1);
-  const given = name === "listset_examples" ? [] : [text, BigInt(length)];
-  const count = Number(engine[name](...given, out, BigInt(room), status));
+  const count = Number(engine[name](...texts.flat(), out, BigInt(room), status));
   const memory = engine.memory.buffer;
   const bytes = count <= room ? new Uint8Array(memory, Number(out), count).slice() : null;
   const said = new Uint8Array(memory, Number(status), 1)[0];

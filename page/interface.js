@@ -5,7 +5,7 @@
 //     thePage.currentText()            the text of its schedule; empty while the text of the box is refused, and the run is older
 //     thePage.currentEvent()           how many of its events are made in the picture
 //     thePage.addressOf(text, event)   the part of a link from "#" on, or null where the text is too long or no schedule
-//     thePage.ask(name, text)          what the engine's function of this name says of a text: { status, text, bytes }
+//     thePage.ask(name, ..texts)       what the engine's function of this name says of its texts: { status, text, bytes }
 //     thePage.isAble()                 whether there is an engine: without one nothing can be opened, run or asked
 //     thePage.addEventListener("shown", ..)   an event after each time that the page was drawn
 //
@@ -34,8 +34,8 @@ class PageForOthers extends EventTarget {
     return addressOf(text, event);
   }
 
-  ask(name, text) {
-    return page.engine.ask(name, text);
+  ask(name, ...texts) {
+    return page.engine.ask(name, ...texts);
   }
 
   isAble() {

@@ -1,47 +1,79 @@
 // The words of ./listset that need no proof and no toolchain, in node: the proved replayer as the module of this folder.
 //
 //     node page/listset.js replay [FILE]            node page/listset.js trace [--chain] [FILE]
-//     node page/listset.js check [FILE]             node page/listset.js show [--svg] [FILE]
-//     node page/listset.js example [--broken] [NAME]
+//     node page/listset.js check [FILE]             node page/listset.js show [--svg] [--from M] [--to M] [--width N] [FILE]
+//     node page/listset.js draft [FILE]             node page/listset.js example [--broken] [NAME]
+//     node page/listset.js faults                   node page/listset.js gen KIND THREADS QUOTA CALLS KEYS SEED
+//     node page/listset.js --words                  the first words of these lines, one a line
 //
 // FILE may be -, the word for the standard input. Output, line about a trouble and exit status are the program's
-// (docs/FORMATS.md), but that wrong words are one line. `show` draws what the program draws without a word about moments or a
-// width. Where node has no 64-bit memories, or the module not the function of the command, it says so and ends with status 70,
-// before it reads anything. With --words it prints the words that it has, one a line.
+// (docs/FORMATS.md), but that wrong words are one line. Where node has no 64-bit memories, it says so and ends with status 70,
+// before it reads anything.
 "use strict";
 
 const fs = require("fs");
-const { NO_ENGINE, NO_MEMORIES, startedEngine } = require("./in_node.js");
+const { NO_ENGINE, NO_MEMORIES, inPage, startedEngine } = require("./in_node.js");
 
 const LONGEST = 67108864; // bytes of an input; what is longer is not read to its end
-const USAGE = "replay [FILE], check [FILE], trace [--chain] [FILE], show [--svg] [FILE] or example [--broken] [NAME]";
+const WRONG = 2; // the status of wrong words, and of a wrong value
+const USAGE =
+  "replay [FILE], check [FILE], trace [--chain] [FILE], show [--svg] [--from M] [--to M] [--width N] [FILE], draft [FILE], " +
+  "example [--broken] [NAME], gen KIND THREADS QUOTA CALLS KEYS SEED or faults";
 
-// Of each command its flag, if it has one, and the engine's function without it and with it.
+// Of each command its flag and its options, the engine's function without the flag and with it, whether its value is a file, and
+// how many values it takes at most.
 const COMMANDS = {
-  replay: { functions: ["listset_replay"] },
-  check: { functions: ["listset_check"] },
-  trace: { flag: "--chain", functions: ["listset_trace", "listset_trace_with_chains"] },
-  show: { flag: "--svg", functions: ["listset_show", "listset_show_svg"] },
+  replay: { functions: ["listset_replay"], isOfFile: true },
+  check: { functions: ["listset_check"], isOfFile: true },
+  show: { flag: "--svg", options: ["--from", "--to", "--width"], functions: ["listset_show", "listset_show_svg"], isOfFile: true },
+  trace: { flag: "--chain", functions: ["listset_trace", "listset_trace_with_chains"], isOfFile: true },
+  draft: { functions: ["listset_draft"], isOfFile: true },
   example: { flag: "--broken", functions: ["listset_example", "listset_broken_example"] },
+  gen: { functions: ["listset_gen"], most: Infinity },
+  faults: { functions: ["listset_faults"], most: 0 },
 };
 
 class WrongWords extends Error {}
 
-// What the words ask for: the command, whether its flag is on, and its value, which a word -- may stand before.
+// What the words ask for: the command, whether its flag is on, the texts of its options by their names without hyphens, and its
+// values, which a word -- may stand before.
 function asked([name = "replay", ...words]) {
   if (!Object.hasOwn(COMMANDS, name)) throw new WrongWords(`no command ${JSON.stringify(name)}`);
-  const end = words.includes("--") ? words.indexOf("--") : words.length;
-  const isFlag = (word, at) => at < end && word.startsWith("-") && word !== "-";
-  const flags = words.filter(isFlag);
-  const values = words.filter((word, at) => at !== end && !isFlag(word, at));
-  const wrong = flags.find((word) => word !== COMMANDS[name].flag) ?? flags[1] ?? values[1];
-  if (wrong !== undefined) throw new WrongWords(`${name} does not take ${JSON.stringify(wrong)}`);
-  return { name, isOn: flags.length > 0, value: values[0] };
+  const found = { ...COMMANDS[name], name, isOn: false, texts: {}, values: [] };
+  while (words.length > 0 && words[0] !== "--") take(found, words);
+  found.values.push(...words.slice(1));
+  const { values, most = 1 } = found;
+  if (values.length > most) throw new WrongWords(`${name} does not take ${JSON.stringify(values[most])}`);
+  return found;
 }
 
-// The bytes of the file, or of standard input where that is meant, up to one more than an input may have.
-function bytesOf(file = "-") {
-  const input = file === "-" ? 0 : fs.openSync(file, "r");
+const isValue = (word) => word === "-" || !word.startsWith("-");
+
+// Takes the first of the words, and with an option its text.
+function take(found, words) {
+  const word = words.shift();
+  const [name, ...behind] = word.split("=");
+  if (isValue(word)) {
+    found.values.push(word);
+  } else if (word === found.flag && !found.isOn) {
+    found.isOn = true;
+  } else if (found.options?.includes(name) && found.texts[name.slice(2)] === undefined) {
+    found.texts[name.slice(2)] = behind.length > 0 ? behind.join("=") : textBehind(name, words);
+  } else {
+    throw new WrongWords(`${found.name} does not take ${JSON.stringify(word)}`);
+  }
+}
+
+function textBehind(name, words) {
+  if (words.length === 0 || !isValue(words[0])) throw new WrongWords(`${name} has no number behind it`);
+  return words.shift();
+}
+
+// The file, or standard input where that is meant.
+const opened = (file = "-") => (file === "-" ? 0 : fs.openSync(file, "r"));
+
+// The bytes of an input, up to one more than it may have.
+function bytesOf(input) {
   const pieces = [];
   let length = 0;
   while (length <= LONGEST) {
@@ -66,12 +98,15 @@ function readSome(input, piece) {
   }
 }
 
-// What the engine answers to the words, on the bytes of the name or of the input.
-function answerTo(engine, { name, isOn, value }) {
-  const { functions } = COMMANDS[name];
-  if (name === "example" && value === undefined) return engine.askBytes("listset_examples", Buffer.alloc(0));
-  const given = name === "example" ? Buffer.from(value) : bytesOf(value);
-  return engine.askBytes(functions[Number(isOn)], given);
+// What the engine answers to the words. Options are looked at once the file is opened, and before it is read.
+function answerTo(engine, { name, functions, isOn, texts, isOfFile, values }) {
+  const wanted = functions[Number(isOn)];
+  if (name === "example") return values.length > 0 ? engine.ask(wanted, values[0]) : engine.ask("listset_examples");
+  if (!isOfFile) return engine.ask(wanted, inPage("wordsOf")(values));
+  const input = opened(values[0]);
+  const options = Buffer.from(inPage("optionWords")(texts));
+  const tried = engine.askBytes(wanted, Buffer.alloc(0), options);
+  return tried.status === WRONG ? tried : engine.askBytes(wanted, bytesOf(input), options);
 }
 
 function answerOrTrouble(engine, words) {
@@ -98,25 +133,17 @@ function write({ status, bytes }) {
   process.stdout.write(text);
 }
 
-// Why the words cannot be answered: there is no engine, or its module lacks their function. Null where they can.
-function lackOf(engine, { name, isOn }) {
-  if (engine === null) return NO_MEMORIES;
-  const wanted = COMMANDS[name].functions[Number(isOn)];
-  const isThere = WebAssembly.Module.exports(engine.module).some((one) => one.name === wanted);
-  return isThere ? null : `this module cannot ${name}: it has no ${wanted}`;
-}
-
 async function main(given) {
   if (given[0] === "--words") return process.stdout.write(`${Object.keys(COMMANDS).join("\n")}\n`);
   const words = asked(given);
   const engine = await startedEngine();
-  const lack = lackOf(engine, words);
-  if (lack === null) return write(answerOrTrouble(engine, words));
-  process.stderr.write(`listset: ${lack}\n`);
+  if (engine !== null) return write(answerOrTrouble(engine, words));
+  process.stderr.write(`listset: ${NO_MEMORIES}\n`);
   process.exitCode = NO_ENGINE;
 }
 
 main(process.argv.slice(2)).catch((fault) => {
-  process.stderr.write(`listset: ${fault.message}${fault instanceof WrongWords ? `; the words are ${USAGE}` : ""}\n`);
-  process.exitCode = fault instanceof WrongWords ? 2 : 1;
+  const isWrong = fault instanceof WrongWords;
+  process.stderr.write(`listset: ${fault.message}${isWrong ? `; the words are ${USAGE}` : ""}\n`);
+  process.exitCode = isWrong ? WRONG : 1;
 });

@@ -12,9 +12,9 @@ async function sumOf(bytes) {
 async function compared(engine, cases) {
   const result = { passed: 0, failed: [] };
   for (const wanted of cases) {
-    const name = `listset ${wanted.words.join(" ")} on ${JSON.stringify(atob(wanted.text).slice(0, 300))}`;
+    const name = `listset ${wanted.words.join(" ")} on ${JSON.stringify(atob(wanted.texts[0]).slice(0, 300))}`;
     try {
-      const answer = engine.askBytes(wanted.function, bytesOf(wanted.text));
+      const answer = engine.askBytes(wanted.function, ...wanted.texts.map(bytesOf));
       const found = `status ${answer.status}, ${answer.bytes.length} bytes, sum ${await sumOf(answer.bytes)}`;
       const due = `status ${wanted.status}, ${wanted.length} bytes, sum ${wanted.sum}`;
       if (found === due) result.passed++;

@@ -20,8 +20,8 @@ function check(result, name, isGood) {
 // ceilings.
 function checkTraces(result, engine, cases) {
   const replies = new Set();
-  for (const { text } of cases.filter((wanted) => wanted.function === "listset_trace")) {
-    const schedule = Buffer.from(text, "base64").toString();
+  for (const { texts } of cases.filter((wanted) => wanted.function === "listset_trace")) {
+    const schedule = Buffer.from(texts[0], "base64").toString();
     const answer = engine.ask("listset_trace", schedule);
     if (!answer.text.startsWith("listset-trace")) continue;
     const trace = inPage("readTrace")(answer.text, inPage("versionOf")(schedule));

@@ -7,19 +7,34 @@ import random
 import subprocess
 from concurrent.futures import ThreadPoolExecutor
 
-MODULE = pathlib.Path(__file__).resolve().parent.parent / "listset.wasm"
-HAS_SHOW = b"listset_show" in MODULE.read_bytes()  # the names of its functions stand in a module
+DRAFTS = pathlib.Path(__file__).resolve().parent.parent.parent / "transcripts" / "data" / "drafts"
 GENERATED = 2  # of each list
 REFUSED = 20
 SECONDS = 120
-WRONG = ["no-such", "--chain", "-x", "replay a b", "replay --chain", "replay --chain a", "replay -x", "check --broken", "check a b",
-         "trace --chain --chain", "trace --chain a b", "trace --chain=true", "trace --broken a", "example a b", "example --chain",
-         "show a b", "show --chain", "show --svg --svg", "show --svg a b",
-         "example --broken --broken snip", "example snip --broken snip", "trace -- a b", "trace -- --chain --chain"]
+WRONG = """
+    no-such | --chain | -x | replay a b | replay --chain | replay --chain a | replay -x | check --broken | check a b
+    check --from 1 | trace --chain --chain | trace --chain a b | trace --chain=true | trace --broken a | trace -- a b
+    trace -- --chain --chain | example a b | example --chain | example --broken --broken snip | example snip --broken snip
+    show a b | show --chain | show --svg --svg | show --svg a b | show --svg=yes | show --from | show --from -5 | show --from --
+    show --from --to 9 | show --to 1 --to 2 | show --to=1 --to 2 | show --from=1 a b | show --width
+    draft a b | draft --svg | draft --from 1 | gen -1 | gen lazy -2 | gen --chain | gen --from 1
+    faults a | faults - | faults --svg | faults -- a"""
 # (the words after -- are values, so those of one value are not wrong)
-TAKEN = ["replay --", "replay no-such-file", "check no-such-file", "trace no-such-file", "trace --chain no-such-file", "replay .", "check .",
-         "replay -", "check -- -", "trace --chain -", "replay ./-", "replay -- -x", "trace -- --chain", "trace no-such-file --chain", "example --broken", "example --",
-         "example -- snip", "example snip --broken", "example -- --broken", "example no-such-name", "example Snip", "example --broken no-such-name"]
+TAKEN = """
+    replay -- | replay no-such-file | check no-such-file | trace no-such-file | trace --chain no-such-file | replay . | check .
+    replay - | check -- - | trace --chain - | replay ./- | replay -- -x | trace -- --chain | trace no-such-file --chain
+    example --broken | example -- | example -- snip | example snip --broken | example -- --broken | example no-such-name
+    example Snip | example --broken no-such-name | show no-such-file | show -- --svg | show . | show -- --from
+    show --from 3 | show --from=3 --to 9 --width 40 | show - --to 9 --svg | show --from= --to x | show --to=x --from=1
+    show --from - . | show --from 0 no-such-file | show --from=9 --to=8 . | show --width 0 | show --width=00 | show --from=-5
+    show --from 4294967295 | show --from==3 | draft | draft no-such-file | draft . | draft -- - | faults | faults --
+    gen | gen lazy | gen lazy 2 4 | gen lazy 2 4 9 8 1 | gen -- fine -1 | gen coarse 2 4 9 8 1 more - -- | gen skip 2 4 9 8 1
+    gen lazy 2 4 9 8 18446744073709551616 | gen lazy 65 4 9 8 1 | gen - 2"""
+
+
+def rows(table):
+    """The words of each entry of a table, between lines and bars."""
+    return [entry.split() for line in table.strip().splitlines() for entry in line.split("|")]
 
 
 def said(words, text, output=subprocess.PIPE):
@@ -39,17 +54,9 @@ def compared(program, script, words, text):
 def compared_wrong(program, script, words):
     """The same of wrong words, of which the program says more than a line."""
     (output, fault, status), due = said([*script, *words], b""), said([*program, *words], b"")
-    if (output, status) != (b"", 2) or (due[0], due[2]) != (b"", 2) or fault.count(b"\n") != 1 or not fault.startswith(b"listset: "):
+    is_line = fault.count(b"\n") == 1 and fault.startswith(b"listset: ")
+    if (output, status) != (b"", 2) or (due[0], due[2]) != (b"", 2) or not is_line:
         return f"listset.js {' '.join(words)}: {output, fault, status}, and of the program {due}"[:2000]
-    return None
-
-
-def told_show(script):
-    """A line where the script does not say plainly that its module has no `show`, or None."""
-    for words, name in ((["show"], b"listset_show"), (["show", "--svg"], b"listset_show_svg")):
-        ours, due = said([*script, *words], b""), b"listset: this module cannot show: it has no " + name + b"\n"
-        if ours != (b"", due, 70):
-            return f"listset.js {' '.join(words)}: {ours}, not {due}"
     return None
 
 
@@ -64,8 +71,8 @@ def generated(program, dice):
     """Few schedules of each list."""
     for kind in ["coarse", "fine", "optimistic", "lazy", "lock-free"]:
         for number in range(GENERATED):
-            words = [kind, dice.choice([1, 2, 3, 8]), dice.choice([0, 2, 8]), dice.randrange(1, 20), dice.choice([1, 3, 12]), number]
-            yield said([*program, "gen", *[str(word) for word in words]], b"")[0]
+            sizes = [dice.choice([1, 2, 3, 8]), dice.choice([0, 2, 8]), dice.randrange(1, 20), dice.choice([1, 3, 12]), number]
+            yield said([*program, "gen", kind, *map(str, sizes)], b"")[0]
 
 
 def refused(dice, texts):
@@ -92,19 +99,20 @@ def asked(program, names, folder):
         with open(file, "wb") as it:
             it.write(text)
         report = said([*program, "replay", file], b"")[0]
-        yield from (([], text), (["replay", file], b""), (["check"], report), (["check"], text), (["trace"], text), (["trace", file, "--chain"], b""))
-        if HAS_SHOW:
-            yield from ((["show"], text), (["show", file, "--svg"], b""), (["show"], report), (["show", "--svg"], report))
+        yield from (([], text), (["replay", file], b""), (["check"], report), (["check"], text), (["trace"], text))
+        yield from ((["trace", file, "--chain"], b""), (["show"], text), (["show", file, "--svg"], b""))
+        yield from ((["show"], report), (["show", "--svg"], report), (["show", file, "--from", "2", "--width=50"], b""))
     broken = [said([*program, "example", "--broken", name], b"")[0] for name in names]
     reports = [said([*program, "replay"], text)[0] for text in schedules]
     yield from ((["check"], text) for text in [*filter(None, broken), *refused(dice, reports)])
     yield from (([*words, name], b"") for name in names for words in (["example"], ["example", "--broken"]))
-    if HAS_SHOW:
-        yield from ((["show", *words], text) for text in [*filter(None, broken), *refused(dice, reports)] for words in ([], ["--svg"]))
-        yield from ((["show", *words], b"") for words in (["no-such-file"], ["--", "--svg"], ["."]))
+    drawn = [*filter(None, broken), *refused(dice, reports)]
+    yield from ((["show", *words], text) for text in drawn for words in ([], ["--svg"]))
+    drafts = [file.read_bytes() for file in sorted(DRAFTS.glob("*.draft"))]
+    yield from ((["draft"], text) for text in [*drafts, *refused(dice, drafts)])
     yield (["example"], b"")
-    yield from ((words.split(), schedules[0]) for words in TAKEN)
-    yield (["replay", ""], schedules[0])
+    yield from ((words, schedules[0]) for words in rows(TAKEN))
+    yield from ((words, schedules[0]) for words in (["replay", ""], ["gen", ""], ["show", "--to", ""], ["gen", "lazy\n2", "4"]))
     yield (["replay"], b"x" * 67_108_864)
     yield (["replay"], b"x" * 67_108_865)
 
@@ -113,8 +121,7 @@ def in_node(program, script, names, folder):
     """How many passed, and a line for each that failed."""
     with ThreadPoolExecutor(os.cpu_count()) as pool:
         found = [*pool.map(lambda it: compared(program, script, *it), [*asked(program, names, folder)])]
-        found += pool.map(lambda words: compared_wrong(program, script, words.split()), WRONG)
-    found += [compared_full(program, script, words) for words in (["example"], ["example", "snip"])]
-    found += [] if HAS_SHOW else [told_show(script)]
+        found += pool.map(lambda words: compared_wrong(program, script, words), rows(WRONG))
+    found += [compared_full(program, script, words) for words in (["example"], ["example", "snip"], ["faults"])]
     failed = [line for line in found if line]
     return {"passed": len(found) - len(failed), "failed": failed}

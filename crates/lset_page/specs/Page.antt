@@ -1,7 +1,10 @@
 -- How what a tool makes of a text is handed to a caller outside, who gives room for it.
-use Rattle.std.specs.Prelude.{◌≡◌, ◌≢◌, ℕ, ◌≤◌, ◌<◌, ◌⊎◌, Bool, List, ◌++◌, length, drop, None, Result, Ok, Err}
+use Rattle.std.specs.Prelude.{◌≡◌, ◌≢◌, ℕ, ◌≤◌, ◌<◌, ◌==◌, ◌⊎◌, Bool, if◌then◌else◌}
+use Rattle.std.specs.Prelude.{List, [], ◌∷◌, ◌++◌, length, drop, slice_get, Option, Some, None, option_and_then, Result, Ok, Err}
+use Rattle.std.specs.Str.Lossy.{utf8_lossy}
 use Rattle.lset_drawing.specs.declared.picture.Window.{Window}
-use Rattle.lset_tools.specs.declared.trouble.Trouble.TheVariants.{CannotRead, Bad}
+use Rattle.lset_text.specs.Parts.{cut_at}
+use Rattle.lset_tools.specs.declared.trouble.Trouble.TheVariants.{CannotRead, Memory, Bad}
 use Rattle.lset_tools.specs.declared.trouble.ValueName.{ValueName}
 use Rattle.lset_tools.specs.Tools.{Made}
 use Rattle.lset_tools.specs.Trouble as trouble
@@ -40,9 +43,26 @@ abbrev pub ShowsAsked : Result (Form × Window) ValueName → List ℕ → Made 
 ShowsAsked (Ok asked) bytes made = Shows asked.0 asked.1 bytes made
 ShowsAsked (Err wrong) bytes made = made ≡ Err (Bad wrong)
 
--- Here no option but `--svg` is given.
-abbrev pub ShowsAll : Bool → List ℕ → Made → Type 0
-ShowsAll svg bytes made = ShowsAsked (asked_of svg None None None) bytes made
+-- the words of the bytes, which are UTF-8, or are read with U+FFFD for what is none, cut at zero bytes
+abbrev pub words_in : List ℕ → List (List ℕ)
+words_in bytes = cut_at 0 (utf8_lossy bytes)
+
+-- Something is made of words, where memory is found for them.
+abbrev pub OfWords : (List (List ℕ) → Made → Type 0) → List ℕ → Made → Type 0
+OfWords Makes bytes made = (made ≡ Err Memory) ⊎ Makes (words_in bytes) made
+
+-- the text behind the = (61) of an option that is given
+abbrev pub given_in : List ℕ → Option (List ℕ)
+given_in [] = None
+given_in (mark ∷ text) = if mark == 61 then Some text else None
+
+abbrev pub option_at : List (List ℕ) → ℕ → Option (List ℕ)
+option_at words index = option_and_then given_in (slice_get words index)
+
+-- the options of `show` are words: --from, --to and --width
+abbrev pub ShowsBy : Bool → List ℕ → List ℕ → Made → Type 0
+ShowsBy svg options bytes made =
+    OfWords (λ words. ShowsAsked (asked_of svg (option_at words 0) (option_at words 1) (option_at words 2)) bytes) options made
 
 -- A tool ends so outside: what it made is handed over.
 abbrev pub Hands : (Made → Type 0) → List ℕ → List ℕ → ℕ → ℕ → Type 0

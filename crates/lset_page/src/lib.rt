@@ -6,22 +6,29 @@
 //! caller asks again with as many bytes. That is our own form of a call across the border of a WebAssembly module.
 #![tactic(auto)]
 
+mod generating;
 mod handing;
 mod naming;
 mod showing;
+mod words;
 
 ghost use Rattle.std.specs.Prelude.{true, false, None, Some};
 ghost use Rattle.lset_tools.specs.Replaying.{Replays};
 ghost use Rattle.lset_tools.specs.Checking.{Checks};
+ghost use Rattle.lset_tools.specs.Faults.{TellsFaults};
+ghost use Rattle.lset_tools.specs.Generating.{Generates};
+ghost use Rattle.tool_draft.specs.Drafting.{Drafts};
 ghost use Rattle.tool_trace.specs.Tracing.{Traces};
 ghost use Rattle.tool_examples.specs.Exampling.{Exampled};
-ghost use Rattle.lset_page.specs.Page.{Hands, OfText, ShowsAll};
+ghost use Rattle.lset_page.specs.Page.{Hands, OfText, OfWords, ShowsBy};
 
+use generating::generated_by;
 use handing::hand;
-use lset_tools::{checked, replayed};
+use lset_tools::{checked, faults_told, replayed};
 use naming::exampled_by;
-use showing::shown_whole;
+use showing::shown_by;
 use std::alloc::Global;
+use tool_draft::drafted;
 use tool_examples::exampled;
 use tool_trace::traced;
 
@@ -82,33 +89,70 @@ pub extern "C" fn listset_trace_with_chains(
 
 /// What `listset show` prints of the schedule or the report whose text is given: its picture, with status 1 where it tells why
 /// the order of a report is refused, or which event of a schedule is, up to which that is drawn; or the line about the first fault
-/// of the text, or about one that is too long. As without `--from`, `--to` and `--width`, the first moments at which something
-/// happens are drawn, as many as 100 characters hold.
-#[tactic(auto, using(crate::proofs::AllMoments::may_want_memory))]
+/// of the text, or about one that is too long. The options are the words for `--from`, `--to` and `--width`, in this order, with
+/// a zero byte between two: a `=` and the option's text, or nothing where it is not given; and where words are missing at the end,
+/// their options are not given. A wrong option is told as `listset: bad FROM` (or `TO`, `WIDTH`), with status 2.
 #[unsafe(no_mangle)]
 pub extern "C" fn listset_show(
     alloc: Global,
     text: &[u8],
+    options: &[u8],
     room: &mut [u8],
     status: &mut u8,
 ) -> usize
-    ensures { Hands (OfText (ShowsAll false) text.now) room.old room.new status.new result }
+    ensures { Hands (OfText (ShowsBy false options.now) text.now) room.old room.new status.new result }
 {
-    hand(alloc, shown_whole(alloc, text, false), room, status)
+    hand(alloc, shown_by(alloc, text, false, options), room, status)
 }
 
 /// What `listset show --svg` prints of it: the same picture as an SVG.
-#[tactic(auto, using(crate::proofs::AllMoments::may_want_memory))]
 #[unsafe(no_mangle)]
 pub extern "C" fn listset_show_svg(
+    alloc: Global,
+    text: &[u8],
+    options: &[u8],
+    room: &mut [u8],
+    status: &mut u8,
+) -> usize
+    ensures { Hands (OfText (ShowsBy true options.now) text.now) room.old room.new status.new result }
+{
+    hand(alloc, shown_by(alloc, text, true, options), room, status)
+}
+
+/// What `listset draft` prints of the draft whose text is given: the schedule, or the line about the first fault of the text or the
+/// first line that stands for none of a schedule, or about a text that is too long.
+#[unsafe(no_mangle)]
+pub extern "C" fn listset_draft(
     alloc: Global,
     text: &[u8],
     room: &mut [u8],
     status: &mut u8,
 ) -> usize
-    ensures { Hands (OfText (ShowsAll true) text.now) room.old room.new status.new result }
+    ensures { Hands (OfText Drafts text.now) room.old room.new status.new result }
 {
-    hand(alloc, shown_whole(alloc, text, true), room, status)
+    hand(alloc, drafted(alloc, text), room, status)
+}
+
+/// What `listset gen` prints of its values, which come with a zero byte between two: the schedule, or `listset: bad NAME`, with
+/// status 2, for the first that is missing or wrong.
+#[unsafe(no_mangle)]
+pub extern "C" fn listset_gen(
+    alloc: Global,
+    values: &[u8],
+    room: &mut [u8],
+    status: &mut u8,
+) -> usize
+    ensures { Hands (OfWords Generates values.now) room.old room.new status.new result }
+{
+    hand(alloc, generated_by(alloc, values), room, status)
+}
+
+/// What `listset faults` prints: each line about a fault, and each cause in a sentence.
+#[unsafe(no_mangle)]
+pub extern "C" fn listset_faults(alloc: Global, room: &mut [u8], status: &mut u8) -> usize
+    ensures { Hands TellsFaults room.old room.new status.new result }
+{
+    hand(alloc, faults_told(alloc), room, status)
 }
 
 /// What `listset example` prints without a name: the names of the examples, each with its list and the line about it.
