@@ -1,34 +1,26 @@
--- What a command of clap is once an argument or a subcommand was added, from what it was.
-use Rattle.std.proofs.Common.{◌≡◌, ◌∙◌, ap, false, ◌||◌}
-use Rattle.clap.specs.Words.{App, Rule, AddsArg, AddsSubcommand, app_of, rule_of, with_rule, with_subcommand}
+-- What a command of clap is once a setting was made that a parse does not read.
+use Rattle.std.proofs.Common.{◌≡◌, ◌∙◌, ap, false, IfOk, Result, Ok, Err}
+use Rattle.std.specs.declared.alloc.AllocError.{AllocError}
+use Rattle.clap.specs.Words.{App, app_of}
 use Rattle.clap.specs.Simple.{app_of_fields}
-use Rattle.clap.specs.declared.Arg.{Arg}
 use Rattle.clap.specs.declared.Command.{Command}
 use Rattle.clap.specs.declared.Command.TheViews.{out-Command}
 use Rattle.clap.specs.declared.builder.command.Command.TheOpen.{Command-F}
+use Rattle.lset_command.specs.CommandLine.{IsApp, Makes}
 
--- the command is such an app, and no argument of it is global
-abbrev pub IsApp : Command → App → Type 0
-IsApp c a = (app_of c ≡ a) × ((out-Command c).has_globals ≡ false)
-
-pub IsApp-arg : {old new : Command} {arg : Arg} {a : App} {r : Rule} → AddsArg old arg new → IsApp old a → rule_of arg ≡ r →
-    arg.global ≡ false
-    → IsApp new (with_rule a r)
-IsApp-arg {old} {new} {arg} {a} {r} adds (is, local) rule own =
-    let app : app_of new ≡ with_rule a r = adds.shape own ∙ ap (λ (x : App). with_rule x (rule_of arg)) is
-    ∙ ap (with_rule a) rule in
-    let globals : (out-Command new).has_globals ≡ false = adds.globals ∙ ap (λ b. b || arg.global) local ∙ own in
-    (app, globals)
-
-pub IsApp-subcommand : {old sub new : Command} {a b : App} → AddsSubcommand old sub new → IsApp old a → IsApp sub b →
-    IsApp new (with_subcommand a b.top)
-IsApp-subcommand {old} {sub} {new} {a} {b} adds (is, local) (leaf, own) =
-    let app : app_of new ≡ with_subcommand a b.top =
-    adds.shape own ∙ ap (λ (x : App). with_subcommand x (app_of sub).top) is ∙ ap (λ (x : App). with_subcommand a x.top) leaf in
-    let globals : (out-Command new).has_globals ≡ false = adds.globals ∙ ap (λ b. b || (out-Command sub).has_globals) local
-    ∙ own in
-    (app, globals)
-
--- a setting that a parse does not read
 pub app_of_fields-same : {new old : Command-F Command} → new ≡ old → app_of_fields new ≡ app_of_fields old
 app_of_fields-same e = ap app_of_fields e
+
+-- the program's name in usage
+pub Makes-named : (made : Result Command AllocError) (old : Command) (a : App) (Rest : Command → Type 0)
+    → IfOk made (λ c. (out-Command c ≡ record (out-Command old) { bin_name = (out-Command c).bin_name }) × Rest c)
+    → IsApp old a → Makes made a
+Makes-named (Ok c) old a Rest same (is, local) = (app_of_fields-same same.0 ∙ is, ap (λ f. f.has_globals) same.0 ∙ local)
+Makes-named (Err e) old a Rest same is = same
+
+-- what the two clauses of a function that makes a command say
+pub both : (made : Result Command AllocError) (a : App) → IfOk made (λ c. app_of c ≡ a)
+    → IfOk made (λ c. (out-Command c).has_globals ≡ false)
+    → Makes made a
+both (Ok c) a app local = (app, local)
+both (Err e) a app local = app

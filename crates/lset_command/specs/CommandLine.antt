@@ -1,18 +1,21 @@
 -- The words that the program takes: its commands and their values, as a simple command of clap, whose
 -- definitions say which values the words give.
-use Rattle.std.specs.Prelude.{List, [], map, codes, Bool, true, false, ◌||◌, Option, Some, None, option_map, unwrap_or, slice_get}
+use Rattle.std.specs.Prelude.{◌≡◌, Result, IfOk, List, [], map, codes, Bool, true, false, ◌||◌, Option, Some, None, option_map, unwrap_or, slice_get}
 use Rattle.std.specs.Prelude.{string_bytes, if◌then◌else◌, option_and_then}
 use Rattle.std.specs.List.{flat_map}
 use Rattle.std.specs.Option.{option_map_or}
 use Rattle.std.specs.Str.{bytes_eq}
 use Rattle.clap.specs.Lexer.{usize_max}
-use Rattle.clap.specs.Words.{App, Row, Rule, Text, all_of, first_of, new_app, new_rule, with_rule, with_subcommand}
+use Rattle.clap.specs.Words.{App, Row, Rule, Text, all_of, app_of, first_of, new_app, new_rule, rule_of, with_rule, with_subcommand}
 use Rattle.clap.specs.Simple.{on_top}
 use Rattle.clap.specs.declared.builder.action.ArgAction.TheVariants.{SetTrue}
+use Rattle.std.specs.declared.alloc.AllocError.{AllocError}
+use Rattle.clap.specs.declared.Arg.{Arg}
+use Rattle.clap.specs.declared.Command as clap
+use Rattle.clap.specs.declared.Command.TheViews.{out-Command}
 use Rattle.lset_command.specs.declared.command_line.Command.{Command}
 use Rattle.lset_command.specs.declared.command_line.Command.TheVariants.{Replay, Check, Show, Trace, Draft, Example, Gen, Run}
 use Rattle.lset_command.specs.declared.command_line.Command.TheVariants.{Serve, Faults}
-use Rattle.lset_command.specs.declared.faults.TheConstants.{FAULTS}
 use Rattle.lset_command.specs.declared.command_line.Options.{Options}
 use Rattle.lset_command.specs.declared.command_line.Words.{Words}
 
@@ -98,9 +101,28 @@ listset =
     serve_app.top)
     (new_app (codes "faults")).top
 
--- what `faults` tells
-unfoldable pub faults_text : Text
-faults_text = FAULTS.now
+-- ---- how the program's command is made
+
+-- the command is such an app, and no argument of it is global
+abbrev pub IsApp : clap.Command → App → Type 0
+IsApp c a = (app_of c ≡ a) × ((out-Command c).has_globals ≡ false)
+
+-- such a command, where memory is found
+abbrev pub Makes : Result clap.Command AllocError → App → Type 0
+Makes made a = IfOk made (λ c. IsApp c a)
+
+-- one more argument, where the command was made
+abbrev pub MakesWithArg : Result clap.Command AllocError → Arg → Result clap.Command AllocError → Type 0
+MakesWithArg old arg new = (a : App) (r : Rule) → Makes old a → rule_of arg ≡ r → arg.global ≡ false → Makes new (with_rule a r)
+
+-- one more value, which may be left out
+abbrev pub MakesWithValue : Result clap.Command AllocError → Text → Result clap.Command AllocError → Type 0
+MakesWithValue old name new = (a : App) → Makes old a → Makes new (with_rule a (new_rule name))
+
+-- one more subcommand, where both were made
+abbrev pub MakesWithSubcommand : Result clap.Command AllocError → Result clap.Command AllocError → Result clap.Command AllocError →
+    Type 0
+MakesWithSubcommand old sub new = (a b : App) → Makes old a → Makes sub b → Makes new (with_subcommand a b.top)
 
 -- ---- what a parse of the words found
 

@@ -6,9 +6,8 @@ ghost use Rattle.clap.specs.declared.Command.TheViews.{out-Command};
 ghost use Rattle.clap.specs.declared.error.kind.ErrorKind.TheVariants.{OutOfMemory};
 ghost use Rattle.lset_command.specs.CommandLine.{choice_in, choice_of, command_named, file_app, file_of, first_value, path_of, six_values, serve_app};
 ghost use Rattle.lset_command.specs.CommandLine.{example_app, flag_rule, gen_app, option_rule, run_app, show_app, trace_app};
-ghost use Rattle.lset_command.specs.CommandLine.{is_on, is_option, listset, options_in, options_of, rule_past_the_last, values_by, values_in};
+ghost use Rattle.lset_command.specs.CommandLine.{MakesWithArg, MakesWithSubcommand, MakesWithValue, is_on, is_option, listset, options_in, options_of, rule_past_the_last, values_by, values_in};
 
-use crate::faults::faults_text;
 use clap::error::ErrorKind;
 use clap::{Arg, ArgAction, ArgMatches, Error};
 use std::alloc::{AllocError, Global};
@@ -140,6 +139,39 @@ fn values_past_the_last<'a>(alloc: Global) -> Arg<'a>
     Arg::new(alloc, "MORE").num_args(..).hide(true)
 }
 
+// The command with one more argument, where it was made. Those who add by this and the next have no `?`, on whose way out
+// they would let go what they made: that is most of what their proofs would take.
+fn and_arg<'a>(
+    command: Result<clap::Command<'a>, AllocError>,
+    arg: Arg<'a>,
+) -> Result<clap::Command<'a>, AllocError>
+    ensures { MakesWithArg command.entry arg.entry result }
+{
+    command?.arg(arg)
+}
+
+// The command with one more value, which may be left out.
+fn and_value<'a>(
+    alloc: Global,
+    command: Result<clap::Command<'a>, AllocError>,
+    name: &'a str,
+    help: &'a str,
+) -> Result<clap::Command<'a>, AllocError>
+    ensures { MakesWithValue command.entry name.entry.now result }
+{
+    and_arg(command, value(alloc, name, help))
+}
+
+// The command with one more subcommand, where both were made.
+fn and_subcommand<'a>(
+    command: Result<clap::Command<'a>, AllocError>,
+    subcommand: Result<clap::Command<'a>, AllocError>,
+) -> Result<clap::Command<'a>, AllocError>
+    ensures { MakesWithSubcommand command.entry subcommand.entry result }
+{
+    command?.subcommand(subcommand?)
+}
+
 fn file_command<'a>(
     alloc: Global,
     name: &'a str,
@@ -160,32 +192,41 @@ fn show_command<'a>(alloc: Global) -> Result<clap::Command<'a>, AllocError>
     ensures app { IfOk result (λ c. app_of c ≡ show_app) }
     ensures local { IfOk result (λ c. (out-Command c).has_globals ≡ false) }
 {
-    file_command(
+    let command = file_command(
         alloc,
         "show",
         "Draws the history of a schedule or a report: a bar for each call, with the point at which it takes effect",
         "The schedule or report; standard input where it is - or left out",
         "A schedule with an event that is refused is drawn up to it, and the last line tells which; status 1.\n\nExample: listset example read-in-anothers-step | listset show --from 9 --to 38",
-    )?
-    .arg(flag(alloc, "svg", "Draws an SVG in place of text"))?
-    .arg(number_option(
-        alloc,
-        "from",
-        "M",
-        "The first moment to draw: 1 to the last at which a call begins, stands or ends; 1 where it is left out",
-    ))?
-    .arg(number_option(
-        alloc,
-        "to",
-        "M",
-        "The last moment to draw: the first or a later one; 4294967295 where it is left out",
-    ))?
-    .arg(number_option(
-        alloc,
-        "width",
-        "N",
-        "How many characters the rows of the text may have: 1 to 4294967295; 100 where it is left out",
-    ))
+    );
+    let command = and_arg(command, flag(alloc, "svg", "Draws an SVG in place of text"));
+    let command = and_arg(
+        command,
+        number_option(
+            alloc,
+            "from",
+            "M",
+            "The first moment to draw: 1 to the last at which a call begins, stands or ends; 1 where it is left out",
+        ),
+    );
+    let command = and_arg(
+        command,
+        number_option(
+            alloc,
+            "to",
+            "M",
+            "The last moment to draw: the first or a later one; 4294967295 where it is left out",
+        ),
+    );
+    and_arg(
+        command,
+        number_option(
+            alloc,
+            "width",
+            "N",
+            "How many characters the rows of the text may have: 1 to 4294967295; 100 where it is left out",
+        ),
+    )
 }
 
 fn trace_command<'a>(alloc: Global) -> Result<clap::Command<'a>, AllocError>
@@ -251,67 +292,75 @@ fn random_command<'a>(
     ensures app { IfOk result (λ c. app_of c ≡ six_values name.entry.now) }
     ensures local { IfOk result (λ c. (out-Command c).has_globals ≡ false) }
 {
-    clap::Command::new(alloc, name)
+    let command = clap::Command::new(alloc, name)
         .about(about)
         .override_usage(usage)
-        .after_help(example)
-        .arg(value(alloc, "KIND", KIND_HELP))?
-        .arg(value(alloc, "THREADS", "How many threads: 1 to 64"))?
-        .arg(value(
-            alloc,
-            "QUOTA",
-            "How many successful adds each thread may make: 0 to 16384",
-        ))?
-        .arg(value(alloc, "CALLS", calls_help))?
-        .arg(value(
-            alloc,
-            "KEYS",
-            "How many keys, counted from 0, to draw from: 1 to 4294967295",
-        ))?
-        .arg(value(
-            alloc,
-            "SEED",
-            "The seed of the random draws: 0 to 18446744073709551615",
-        ))
+        .after_help(example);
+    let command = and_value(alloc, Ok(command), "KIND", KIND_HELP);
+    let command = and_value(alloc, command, "THREADS", "How many threads: 1 to 64");
+    let command = and_value(
+        alloc,
+        command,
+        "QUOTA",
+        "How many successful adds each thread may make: 0 to 16384",
+    );
+    let command = and_value(alloc, command, "CALLS", calls_help);
+    let command = and_value(
+        alloc,
+        command,
+        "KEYS",
+        "How many keys, counted from 0, to draw from: 1 to 4294967295",
+    );
+    and_value(
+        alloc,
+        command,
+        "SEED",
+        "The seed of the random draws: 0 to 18446744073709551615",
+    )
 }
 
 fn serve_command<'a>(alloc: Global) -> Result<clap::Command<'a>, AllocError>
     ensures app { IfOk result (λ c. app_of c ≡ serve_app) }
     ensures local { IfOk result (λ c. (out-Command c).has_globals ≡ false) }
 {
-    clap::Command::new(alloc, "serve")
+    let command = clap::Command::new(alloc, "serve")
         .about(
             "Serves sessions on one set, each a client's lines at 127.0.0.1, and prints the keys that are left",
         )
         .override_usage("listset serve KIND SEATS QUOTA PORT SESSIONS [FILE]")
-        .after_help("Example: listset serve lazy 2 16 4000 1")
-        .arg(value(alloc, "KIND", KIND_HELP))?
-        .arg(value(
-            alloc,
-            "SEATS",
-            "How many sessions are served at once: 1 to 64",
-        ))?
-        .arg(value(
-            alloc,
-            "QUOTA",
-            "How many successful adds each seat may make: 0 to 16384",
-        ))?
-        .arg(value(
-            alloc,
-            "PORT",
-            "The port to listen on: 0 to 65535, and 0 lets the system choose",
-        ))?
-        .arg(value(
-            alloc,
-            "SESSIONS",
-            "How many sessions to serve before the end: 0 to 10000",
-        ))?
-        .arg(value(
-            alloc,
-            "FILE",
-            "The keys with which the set opens, as a server prints them; standard input where it is -, none where it is left out",
-        ))?
-        .arg(values_past_the_last(alloc))
+        .after_help("Example: listset serve lazy 2 16 4000 1");
+    let command = and_value(alloc, Ok(command), "KIND", KIND_HELP);
+    let command = and_value(
+        alloc,
+        command,
+        "SEATS",
+        "How many sessions are served at once: 1 to 64",
+    );
+    let command = and_value(
+        alloc,
+        command,
+        "QUOTA",
+        "How many successful adds each seat may make: 0 to 16384",
+    );
+    let command = and_value(
+        alloc,
+        command,
+        "PORT",
+        "The port to listen on: 0 to 65535, and 0 lets the system choose",
+    );
+    let command = and_value(
+        alloc,
+        command,
+        "SESSIONS",
+        "How many sessions to serve before the end: 0 to 10000",
+    );
+    let command = and_value(
+        alloc,
+        command,
+        "FILE",
+        "The keys with which the set opens, as a server prints them; standard input where it is -, none where it is left out",
+    );
+    and_arg(command, values_past_the_last(alloc))
 }
 
 fn gen_command<'a>(alloc: Global) -> Result<clap::Command<'a>, AllocError>
@@ -376,35 +425,35 @@ fn check_command<'a>(alloc: Global) -> Result<clap::Command<'a>, AllocError>
 }
 
 // Its help is what it tells.
-fn faults_command<'a>(alloc: Global) -> clap::Command<'a>
+fn faults_command<'a>(alloc: Global, help: &'a str) -> clap::Command<'a>
     ensures app { app_of result ≡ new_app (codes "faults") }
     ensures local { (out-Command result).has_globals ≡ false }
 {
     clap::Command::new(alloc, "faults")
         .about("Tells what each line about a fault says, and when it comes")
-        .override_help(faults_text())
+        .override_help(help)
 }
 
-fn program_command<'a>(alloc: Global) -> Result<clap::Command<'a>, AllocError>
+fn program_command<'a>(alloc: Global, faults_help: &'a str) -> Result<clap::Command<'a>, AllocError>
     ensures { IfOk result (λ c. app_of c ≡ listset) }
 {
-    clap::Command::new(alloc, "listset")
+    let program = clap::Command::new(alloc, "listset")
         .about(
             "Replays, checks, draws and generates recorded schedules of concurrent list sets, and runs and serves such sets",
         )
         .version(VERSION)
         .no_binary_name(true)
-        .bin_name("listset")?
-        .subcommand(replay_command(alloc)?)?
-        .subcommand(check_command(alloc)?)?
-        .subcommand(show_command(alloc)?)?
-        .subcommand(trace_command(alloc)?)?
-        .subcommand(draft_command(alloc)?)?
-        .subcommand(example_command(alloc)?)?
-        .subcommand(gen_command(alloc)?)?
-        .subcommand(run_command(alloc)?)?
-        .subcommand(serve_command(alloc)?)?
-        .subcommand(faults_command(alloc))
+        .bin_name("listset");
+    let program = and_subcommand(program, replay_command(alloc));
+    let program = and_subcommand(program, check_command(alloc));
+    let program = and_subcommand(program, show_command(alloc));
+    let program = and_subcommand(program, trace_command(alloc));
+    let program = and_subcommand(program, draft_command(alloc));
+    let program = and_subcommand(program, example_command(alloc));
+    let program = and_subcommand(program, gen_command(alloc));
+    let program = and_subcommand(program, run_command(alloc));
+    let program = and_subcommand(program, serve_command(alloc));
+    and_subcommand(program, Ok(faults_command(alloc, faults_help)))
 }
 
 // Whether the name is that of a flag or of an option.
@@ -535,16 +584,20 @@ fn command_named(name: &str) -> Command
 /// `example [--broken] [NAME]`, `gen KIND THREADS QUOTA CALLS KEYS SEED`, `run` with the same values and `[LIVES]` after them,
 /// `serve KIND SEATS QUOTA PORT SESSIONS [FILE]`, or `faults`. Values and options come as they are written; some or all may be
 /// missing, and `gen`, `run` and `serve` may have more values. No word at all gives `replay` without values. A value
-/// that begins with `-` and has more letters needs a word `--` before it.
+/// that begins with `-` and has more letters needs a word `--` before it. The help on `faults` is `faults_help`.
 ///
 /// The error has the text for the user: the help or the version, where words ask for it (`exit_code` 0), or what is
 /// wrong with the words (`exit_code` 2). It may also say that memory was refused: `is_out_of_memory`.
-pub fn tool_words<'a>(alloc: Global, words: &'a [&'a str]) -> Result<Words, Error>
+pub fn tool_words<'a>(
+    alloc: Global,
+    words: &'a [&'a str],
+    faults_help: &'a str,
+) -> Result<Words, Error>
     ensures taken { IfOk result (λ w. choice_in w ≡ choice_of (subcommand_of listset (texts words.entry.now))) }
     // clap's definition refuses no words that are taken, and has the kind of each error but want of memory
     ensures refused { FailsBy (fault_of listset (texts words.entry.now)) result }
 {
-    let matches = program_command(alloc)?.try_get_matches_from(words)?;
+    let matches = program_command(alloc, faults_help)?.try_get_matches_from(words)?;
     let Some((name, found)) = matches.subcommand() else {
         return Ok(Words {
             command: Command::Replay,

@@ -2,7 +2,5 @@
 #![tactic(auto)]
 
 mod command_line;
-mod faults;
 
 pub use command_line::{Command, Options, VERSION, Words, is_out_of_memory, tool_words};
-pub use faults::faults_text;

@@ -5,7 +5,7 @@ use Rattle.clap.specs.Words.{Text, fault_of, kind_of, subcommand_of, HasKind}
 use Rattle.clap.specs.declared.error.Error.{Error}
 use Rattle.clap.specs.declared.error.kind.ErrorKind.{ErrorKind}
 use Rattle.clap.specs.declared.error.kind.ErrorKind.TheVariants.{OutOfMemory, DisplayHelp, DisplayVersion}
-use Rattle.lset_command.specs.CommandLine.{Choice, OptionValues, choice_of, faults_text, file_by, listset, path_of}
+use Rattle.lset_command.specs.CommandLine.{Choice, OptionValues, choice_of, file_by, listset, path_of}
 use Rattle.lset_command.specs.declared.command_line.Command.{Command}
 use Rattle.lset_command.specs.declared.command_line.Command.TheVariants.{Replay, Check, Show, Trace, Draft, Example, Gen, Run}
 use Rattle.lset_command.specs.declared.command_line.Command.TheVariants.{Serve, Faults}
@@ -15,6 +15,7 @@ use Rattle.lset_tools.specs.Tools.{Made, Ends, AppendsFront}
 use Rattle.lset_tools.specs.Replaying.{Replays}
 use Rattle.lset_tools.specs.Checking.{Checks}
 use Rattle.lset_tools.specs.Generating.{Generates}
+use Rattle.lset_tools.specs.Faults.{TellsFaults}
 use Rattle.lset_drawing.specs.declared.picture.Window.{Window}
 use Rattle.tool_show.specs.declared.asking.Form.{Form}
 use Rattle.tool_show.specs.Asking.{asked_of}
@@ -39,10 +40,6 @@ ShowsBy options input made = ShowsAsked (asked_of options.svg options.from optio
 abbrev pub ServesBy : Option Text → List Text → Option (List ℕ) → Option (List ℕ) → Option (List ℕ) → Made → Type 0
 ServesBy None values input old first made = serve.Serves (serve.serve_request_of values) old first made
 ServesBy (Some word) values input old first made = serve.ServesWith (serve.serve_request_of values) input old first made
-
--- what `faults` makes: its text, where memory is found
-abbrev pub TellsFaults : Made → Type 0
-TellsFaults made = (made ≡ Err Memory) ⊎ (made ≡ Ok (record { text = faults_text; status = 0 }))
 
 -- What a command makes of its values and options, and of the bytes of its input where they are known. Before that it takes the
 -- output from

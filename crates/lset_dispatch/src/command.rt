@@ -1,11 +1,11 @@
 ghost use Rattle.std.specs.Prelude.{◌≡◌, option_map, string_bytes};
 ghost use Rattle.std.specs.Option.{option_copied};
 ghost use Rattle.lset_command.specs.CommandLine.{choice_in, options_of};
-ghost use Rattle.lset_tools.specs.Tools.{Ends, view};
-ghost use Rattle.lset_dispatch.specs.Dispatch.{CommandEnds, Does, ShowsBy, TellsFaults};
+ghost use Rattle.lset_tools.specs.Tools.{Ends};
+ghost use Rattle.lset_dispatch.specs.Dispatch.{CommandEnds, Does, ShowsBy};
 
-use lset_command::{Command, Options, Words, faults_text};
-use lset_tools::{Answer, Trouble, deliver, tool_check, tool_gen, tool_replay};
+use lset_command::{Command, Options, Words};
+use lset_tools::{Trouble, deliver, tool_check, tool_faults, tool_gen, tool_replay};
 use std::alloc::Global;
 use std::io::{Read, Write};
 use std::net::{Net, TcpListener, TcpStream};
@@ -45,14 +45,6 @@ fn show<R: Read, W: Write, F: Write>(
     }
 }
 
-/// What `faults` tells, as an answer.
-fn faults_told(alloc: Global) -> Result<Answer, Trouble>
-    ensures { TellsFaults (view result) }
-{
-    let text = Vec::from_slice(alloc, faults_text().as_bytes())?;
-    Ok(Answer { text, status: 0 })
-}
-
 /// Does the command of the words with its tool, `replay`, `check`, `show`, `trace` and `draft` on the input, the others on their
 /// values, and `serve` with the keys of the input where the words have one for it. Gives the tool's exit status. `run` and
 /// `serve` start threads on `rt`, and wait for them; `serve` listens there.
@@ -85,6 +77,6 @@ pub fn run_command<
             Some(_) => tool_serve_with(rt, alloc, &words.values, input, output, faults),
             None => tool_serve(rt, alloc, &words.values, output, faults),
         },
-        Command::Faults => deliver(alloc, faults_told(alloc), output, faults),
+        Command::Faults => tool_faults(alloc, output, faults),
     }
 }

@@ -7,7 +7,7 @@ ghost use Rattle.lset_dispatch.specs.Dispatch.{CommandEnds, Declines, DoesOnInpu
 use crate::command::run_command;
 use clap::Error;
 use lset_command::{Words, is_out_of_memory, tool_words};
-use lset_tools::{Answer, Trouble, deliver, put};
+use lset_tools::{Answer, FAULTS, Trouble, deliver, put};
 use std::alloc::Global;
 use std::fs::File;
 use std::io::{Read, Write};
@@ -76,7 +76,7 @@ pub fn run_words<
     ensures { Runs (texts words.entry.now) (λ bytes. (file : H.File) × (bytes ≡ H.File.remaining file)) (R.remaining input.old)
         (W.contents output.old) (W.contents output.new) (F.contents faults.old) (F.contents faults.new) result }
 {
-    match tool_words(alloc, words) {
+    match tool_words(alloc, words, FAULTS) {
         Ok(words) => run_taken(rt, alloc, &words, input, output, faults),
         Err(error) => decline(alloc, &error, output, faults),
     }

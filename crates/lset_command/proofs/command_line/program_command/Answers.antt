@@ -2,7 +2,8 @@ use Rattle.std.proofs.Common.{◌∙◌, ap, codes, true}
 use Rattle.std.proofs.lemmas.Result.{IfOk-weaker}
 use Rattle.clap.specs.Words.{new_app}
 use Rattle.clap.specs.Simple.{on_top}
-use Rattle.lset_command.proofs.Commands.{IsApp, IsApp-subcommand, app_of_fields-same}
+use Rattle.lset_command.specs.CommandLine.{IsApp}
+use Rattle.lset_command.proofs.Commands.{Makes-named, app_of_fields-same, both}
 use Rattle.lset_command.proofs.command_line.program_command.Goals as goal
 
 pub returns : goal.returns
@@ -19,45 +20,21 @@ returns c =
       app_of_fields-same c.no_binary_name.ensures ∙ ap (on_top (λ s. record s { no_binary_name = true })) versioned.0,
       ap (λ f. f.has_globals) c.no_binary_name.ensures ∙ versioned.1,
     ) in
-    let program : IsApp c.in_ok-bin_name.field-0 _ = (
-      app_of_fields-same c.in_ok-bin_name.ensures.0 ∙ begun.0,
-      ap (λ f. f.has_globals) c.in_ok-bin_name.ensures.0 ∙ begun.1,
-    ) in
-    let replay = IsApp-subcommand c.in_ok-subcommand.ensures program (
-      c.in_ok-replay_command.ensures.app,
-      c.in_ok-replay_command.ensures.local,
-    ) in
-    let check = IsApp-subcommand c.in_ok-subcommand-2.ensures replay (
-      c.in_ok-check_command.ensures.app,
-      c.in_ok-check_command.ensures.local,
-    ) in
-    let show = IsApp-subcommand c.in_ok-subcommand-3.ensures check (
-      c.in_ok-show_command.ensures.app,
-      c.in_ok-show_command.ensures.local,
-    ) in
-    let trace = IsApp-subcommand c.in_ok-subcommand-4.ensures show (
-      c.in_ok-trace_command.ensures.app,
-      c.in_ok-trace_command.ensures.local,
-    ) in
-    let draft = IsApp-subcommand c.in_ok-subcommand-5.ensures trace (
-      c.in_ok-draft_command.ensures.app,
-      c.in_ok-draft_command.ensures.local,
-    ) in
-    let example = IsApp-subcommand c.in_ok-subcommand-6.ensures draft (
-      c.in_ok-example_command.ensures.app,
-      c.in_ok-example_command.ensures.local,
-    ) in
-    let gen = IsApp-subcommand c.in_ok-subcommand-7.ensures example (
-      c.in_ok-gen_command.ensures.app,
-      c.in_ok-gen_command.ensures.local,
-    ) in
-    let run = IsApp-subcommand c.in_ok-subcommand-8.ensures gen (
-      c.in_ok-run_command.ensures.app,
-      c.in_ok-run_command.ensures.local,
-    ) in
-    let serve = IsApp-subcommand c.in_ok-subcommand-9.ensures run (
-      c.in_ok-serve_command.ensures.app,
-      c.in_ok-serve_command.ensures.local,
-    ) in
-    let faults : IsApp c.faults_command.result _ = (c.faults_command.ensures.app, c.faults_command.ensures.local) in
-    IfOk-weaker c.subcommand-10.result _ _ (λ r adds. (IsApp-subcommand adds serve faults).0) c.subcommand-10.ensures
+    let program = Makes-named c.bin_name-program.result c.no_binary_name.result _ _ c.bin_name-program.ensures begun in
+    let replay = c.and_subcommand-program.ensures _ _ program
+    (both _ _ c.replay_command.ensures.app c.replay_command.ensures.local) in
+    let check = c.and_subcommand-program-2.ensures _ _ replay
+    (both _ _ c.check_command.ensures.app c.check_command.ensures.local) in
+    let show = c.and_subcommand-program-3.ensures _ _ check (both _ _ c.show_command.ensures.app c.show_command.ensures.local) in
+    let trace = c.and_subcommand-program-4.ensures _ _ show
+    (both _ _ c.trace_command.ensures.app c.trace_command.ensures.local) in
+    let draft = c.and_subcommand-program-5.ensures _ _ trace
+    (both _ _ c.draft_command.ensures.app c.draft_command.ensures.local) in
+    let example = c.and_subcommand-program-6.ensures _ _ draft
+    (both _ _ c.example_command.ensures.app c.example_command.ensures.local) in
+    let gen = c.and_subcommand-program-7.ensures _ _ example (both _ _ c.gen_command.ensures.app c.gen_command.ensures.local) in
+    let run = c.and_subcommand-program-8.ensures _ _ gen (both _ _ c.run_command.ensures.app c.run_command.ensures.local) in
+    let serve = c.and_subcommand-program-9.ensures _ _ run
+    (both _ _ c.serve_command.ensures.app c.serve_command.ensures.local) in
+    let faults = c.and_subcommand.ensures _ _ serve (c.faults_command.ensures.app, c.faults_command.ensures.local) in
+    IfOk-weaker c.and_subcommand.result _ _ (λ r is. is.0) faults

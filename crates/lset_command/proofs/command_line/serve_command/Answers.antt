@@ -1,30 +1,28 @@
-use Rattle.std.proofs.Common.{◌∙◌, ap, IfOk, codes}
+use Rattle.std.proofs.Common.{◌∙◌, ap, codes}
 use Rattle.std.proofs.lemmas.Result.{IfOk-weaker}
 use Rattle.clap.specs.Words.{new_app}
-use Rattle.lset_command.specs.CommandLine.{serve_app}
-use Rattle.lset_command.proofs.Commands.{IsApp, IsApp-arg, app_of_fields-same}
+use Rattle.lset_command.specs.CommandLine.{IsApp, Makes, serve_app}
+use Rattle.lset_command.proofs.Commands.{app_of_fields-same}
 use Rattle.lset_command.proofs.command_line.serve_command.Goals as goal
 
-is_serve : (c : goal.After-arg-7) → IfOk c.arg-7.result (λ r. IsApp r serve_app)
+is_serve : (c : goal.After-and_arg) → Makes c.and_arg.result serve_app
 is_serve c =
-    let named : IsApp c.new.result (new_app (codes "serve")) = (c.new.ensures.app, c.new.ensures.local) in
-    let begun : IsApp c.after_help.result (new_app (codes "serve")) = (
-      app_of_fields-same c.after_help.ensures ∙ app_of_fields-same c.override_usage.ensures ∙ app_of_fields-same c.about.ensures
-          ∙ named.0,
-      ap (λ f. f.has_globals) c.after_help.ensures ∙ ap (λ f. f.has_globals) c.override_usage.ensures
-          ∙ ap (λ f. f.has_globals) c.about.ensures ∙ named.1,
+    let begun : IsApp c.after_help-command.result (new_app (codes "serve")) = (
+      app_of_fields-same c.after_help-command.ensures ∙ app_of_fields-same c.override_usage.ensures
+          ∙ app_of_fields-same c.about.ensures ∙ c.new.ensures.app,
+      ap (λ f. f.has_globals) c.after_help-command.ensures ∙ ap (λ f. f.has_globals) c.override_usage.ensures
+          ∙ ap (λ f. f.has_globals) c.about.ensures ∙ c.new.ensures.local,
     ) in
-    let kind = IsApp-arg c.in_ok-arg.ensures begun c.value.ensures.rule c.value.ensures.local in
-    let seats = IsApp-arg c.in_ok-arg-2.ensures kind c.value-2.ensures.rule c.value-2.ensures.local in
-    let quota = IsApp-arg c.in_ok-arg-3.ensures seats c.value-3.ensures.rule c.value-3.ensures.local in
-    let port = IsApp-arg c.in_ok-arg-4.ensures quota c.value-4.ensures.rule c.value-4.ensures.local in
-    let sessions = IsApp-arg c.in_ok-arg-5.ensures port c.value-5.ensures.rule c.value-5.ensures.local in
-    let file = IsApp-arg c.in_ok-arg-6.ensures sessions c.value-6.ensures.rule c.value-6.ensures.local in
-    IfOk-weaker c.arg-7.result _ _ (λ r adds. IsApp-arg adds file c.values_past_the_last.ensures.rule
-    c.values_past_the_last.ensures.local) c.arg-7.ensures
+    let kind = c.and_value-command.ensures _ begun in
+    let seats = c.and_value-command-2.ensures _ kind in
+    let quota = c.and_value-command-3.ensures _ seats in
+    let port = c.and_value-command-4.ensures _ quota in
+    let sessions = c.and_value-command-5.ensures _ port in
+    let file = c.and_value-command-6.ensures _ sessions in
+    c.and_arg.ensures _ _ file c.values_past_the_last.ensures.rule c.values_past_the_last.ensures.local
 
 pub returns-clause-app : goal.returns-clause-app
-returns-clause-app c = IfOk-weaker c.arg-7.result _ _ (λ r is. is.0) (is_serve c)
+returns-clause-app c = IfOk-weaker c.and_arg.result _ _ (λ r is. is.0) (is_serve c)
 
 pub returns-clause-local : goal.returns-clause-local
-returns-clause-local c = IfOk-weaker c.arg-7.result _ _ (λ r is. is.1) (is_serve c)
+returns-clause-local c = IfOk-weaker c.and_arg.result _ _ (λ r is. is.1) (is_serve c)

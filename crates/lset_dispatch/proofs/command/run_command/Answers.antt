@@ -4,8 +4,7 @@ use Rattle.lset_command.specs.CommandLine.{file_by, options_of}
 use Rattle.lset_command.specs.declared.command_line.Command.TheVariants.{Replay, Check, Show, Trace, Draft, Example, Gen, Run}
 use Rattle.lset_command.specs.declared.command_line.Command.TheVariants.{Serve, Faults}
 use Rattle.tool_examples.specs.Exampling.{Exampled}
-use Rattle.lset_dispatch.proofs.Endings.{at_command, at_once, ends_with, served, with_argument}
-use Rattle.lset_dispatch.specs.Dispatch.{TellsFaults}
+use Rattle.lset_dispatch.proofs.Endings.{at_command, at_once, served, with_argument}
 use Rattle.lset_dispatch.proofs.command.run_command.Goals as goal
 
 pub returns-in-Replay : goal.returns-in-Replay
@@ -62,5 +61,4 @@ returns-in-None g c =
 
 pub returns-in-Faults : goal.returns-in-Faults
 returns-in-Faults g c =
-    let told = ends_with _ _ _ _ _ TellsFaults _ c.faults_told.ensures c.deliver.ensures in
-    at_command _ _ _ _ _ _ Faults _ _ _ _ c.in-Faults.is refl (at_once _ _ _ _ _ _ told)
+    at_command _ _ _ _ _ _ Faults _ _ _ _ c.in-Faults.is refl (at_once _ _ _ _ _ _ c.tool_faults.ensures)
