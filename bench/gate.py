@@ -93,7 +93,7 @@ class Watch(threading.Thread):
 def run_gate(words):
     """Runs the gate, prints what it prints, and gives its status, of each step its seconds by the wall and of one processor, the tasks of
     the crates, and its processor seconds in all."""
-    run = subprocess.Popen([f"{TOP}/gate", *words], stdin=subprocess.DEVNULL, stdout=subprocess.PIPE, text=True, errors="replace")
+    run = subprocess.Popen([f"{TOP}/gate", *(words or ["--anew"])], stdin=subprocess.DEVNULL, stdout=subprocess.PIPE, text=True, errors="replace")
     watch, steps = Watch(run.pid, set(os.listdir(f"{TOP}/crates"))), {}
     watch.start()
     for line in run.stdout:
