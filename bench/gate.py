@@ -1,4 +1,4 @@
-"""What the gate costs: the lines of .ci/run, and of `rt ci` each crate and part."""
+"""What the gate costs: its steps, and of `rt ci` and the must-fail edits each crate and part."""
 
 import os
 import re
@@ -10,6 +10,11 @@ import time
 from measuring import TOP
 
 PARTS = ("proof", "tests", "edits", "programs")
+MEASURED = f"{TOP}/bench/seconds.txt"
+HEAD = "# Seconds by the wall of the gate's steps, and of one processor of each crate, as `bench/run --gate` last measured them\n"
+# what ./gate tells of a step that has ended
+ENDED = re.compile(r"gate: (.+): \d+ passed, \d+ failed \((\d+) s, (\d+) s of one processor\)")
+IN_CRATES = {"rt ci", "must-fail edits"}
 TICKS = os.sysconf("SC_CLK_TCK")
 BETWEEN = 0.5
 DEAREST = 10
@@ -43,25 +48,31 @@ def task_of(words, folder, crates):
     return crate, "programs" if "--crate-checked" in words or any(it.partition(".")[0] == crate for it in made) else "proof"
 
 
-class Watch(threading.Thread):
-    """Looks at the processes below one, and keeps for each task its processor seconds and when it was first and last seen. What a
-    process does after the last look at it is not counted."""
+def is_watched(words):
+    """Whether a process is one of those steps of the gate whose crates are told one by one."""
+    return any(os.path.basename(it) in ("rt", "must_fail") for it in words[:3])
 
-    def __init__(self, top, crates):
+
+class Watch(threading.Thread):
+    """Looks at the processes below the steps of a gate, and keeps for each task its processor seconds and when it was first and last
+    seen. What a process does after the last look at it is not counted."""
+
+    def __init__(self, gate, crates):
         super().__init__(daemon=True)
-        self.top, self.crates, self.began, self.is_over = top, crates, time.monotonic(), threading.Event()
+        self.gate, self.crates, self.began, self.is_over = gate, crates, time.monotonic(), threading.Event()
         self.seconds, self.seen = {}, {}
 
     def look(self):
         found = {it[0][0]: it for it in processes()}
+        tops = {pid for pid, (_, parent, _, words, _) in found.items() if parent == self.gate and is_watched(words)}
         for pid, (key, parent, seconds, words, folder) in found.items():
             # (a process that is ending has no words any more: what it worked for is known from the look before)
             task, at = task_of(words, folder, self.crates) if any(words) else None, pid
-            while at != self.top and at in found:
+            while at not in tops and at in found:
                 at = found[at][1]
                 if not task and at in found:
                     task = task_of(found[at][3], found[at][4], self.crates)
-            if at == self.top and task:
+            if at in tops and task:
                 now = (time.monotonic() - self.began) / 60
                 self.seconds[key] = task, seconds
                 self.seen[task] = self.seen.get(task, (now, now))[0], now
@@ -79,32 +90,38 @@ class Watch(threading.Thread):
         return {it: (self.seen[it][1] - self.seen[it][0], spent[it]) for it in sorted(spent, key=lambda it: began[it[0]])}
 
 
-def gate_lines():
-    """The commands of .ci/run, a line each."""
-    with open(f"{TOP}/.ci/run") as it:
-        return [line for line in it.read().splitlines() if line and not line.startswith(("#", "set ", "cd ", "export "))]
-
-
-def timed_line(line):
-    """Runs a line of .ci/run, and gives its status, its tasks and its processor seconds: of `rt ci` a task for each crate and part,
-    of another line one, as the run of a program."""
-    began, run = time.monotonic(), subprocess.Popen(line.split(), cwd=TOP, stdin=subprocess.DEVNULL)
-    watch = Watch(run.pid, set(os.listdir(f"{TOP}/crates")))
-    if line == "rt ci":
-        watch.start()
+def run_gate(words):
+    """Runs the gate, prints what it prints, and gives its status, of each step its seconds by the wall and of one processor, the tasks of
+    the crates, and its processor seconds in all."""
+    run = subprocess.Popen([f"{TOP}/gate", *(words or ["--anew"])], stdin=subprocess.DEVNULL, stdout=subprocess.PIPE, text=True, errors="replace")
+    watch, steps = Watch(run.pid, set(os.listdir(f"{TOP}/crates"))), {}
+    watch.start()
+    for line in run.stdout:
+        print(line, end="", flush=True)
+        if found := ENDED.match(line):
+            steps[found[1]] = int(found[2]), int(found[3])
     _, status, used = os.wait4(run.pid, 0)
     run.returncode = os.waitstatus_to_exitcode(status)
     watch.is_over.set()
-    seconds = used.ru_utime + used.ru_stime
-    if line != "rt ci":
-        return run.returncode, {(line, "programs"): ((time.monotonic() - began) / 60, seconds)}, seconds
     watch.join()
-    return run.returncode, watch.tasks(), seconds
+    return run.returncode, steps, watch.tasks(), used.ru_utime + used.ru_stime
+
+
+def write_seconds(kind, steps, tasks):
+    """Writes what was measured for the next gate of this kind, beside what is there of the other."""
+    kept = open(MEASURED).read().splitlines()[1:] if os.path.exists(MEASURED) else []
+    replaced = ("quick",) if kind == "quick" else ("whole", "crate")
+    lines = [it for it in kept if it.split()[0] not in replaced]
+    lines += [f"{kind} {seconds:5} {name}" for name, (seconds, _) in steps.items()]
+    crates = {name: sum(seconds for (of, part), (_, seconds) in tasks.items() if of == name and part != "edits") for name, _ in tasks}
+    lines += [f"crate {seconds:5.0f} {name}" for name, seconds in crates.items() if kind == "whole"]
+    with open(MEASURED, "w") as it:
+        it.write(HEAD + "".join(f"{line}\n" for line in lines))
 
 
 def edits_of(name):
     """How many must-fail edits a crate has, in brackets."""
-    folder = f"{TOP}/crates/{name}/must-fail"
+    folder = f"{TOP}/must-fail/{name}"
     return f" ({sum(it.endswith('.edit') for it in os.listdir(folder))})" if os.path.isdir(folder) else ""
 
 
@@ -129,21 +146,20 @@ def wanted_and_taken():
     return user + nice + system + irq + softirq + steal, steal
 
 
-def gate():
-    """Runs the lines of .ci/run in turn, up to the first that fails, and tells what each crate and line took, and the whole."""
+def gate(*words):
+    """Runs the gate, or with `--quick` the quick one, and tells what each step and crate took, and the whole."""
+    if any(it != "--quick" for it in words):
+        sys.exit("bench: --gate takes --quick alone")
     began, load, before = time.monotonic(), os.getloadavg()[0], wanted_and_taken()
-    status, tasks, processor = 0, {}, 0
-    os.environ["RT_JOBS"] = str(len(os.sched_getaffinity(0)))  # as .ci/run exports it
-    for line in gate_lines():
-        status, found, seconds = timed_line(line)
-        tasks, processor = {**tasks, **found}, processor + seconds
-        if status:
-            break
-    gate_table(tasks)
+    status, steps, tasks, processor = run_gate(words)
+    told = {(name, "programs"): (wall / 60, seconds) for name, (wall, seconds) in steps.items() if name not in IN_CRATES}
+    gate_table({**told, **tasks})
     minutes = (time.monotonic() - began) / 60
     print(f"\nThe whole took {minutes:.0f} minutes on {len(os.sched_getaffinity(0))} processors, with a load of {load:.1f} at the start, and {processor / 60:.0f} minutes of one processor.")
     wanted, taken = (now - then for now, then in zip(wanted_and_taken(), before))
     print(f"Of 100 seconds that were wanted of the processors the machine's host took {100 * taken / max(1, wanted):.0f}.")
     if status:
-        print(f"bench: {line} failed, so what stands after it in .ci/run was not run", file=sys.stderr)
+        print("bench: the gate failed, so seconds.txt stays as it is", file=sys.stderr)
+    else:
+        write_seconds("quick" if words else "whole", steps, tasks)
     return status
