@@ -1,5 +1,4 @@
 use anyhow::{Error, Result};
-use lset_tools::{Answer, Trouble};
 use std::alloc::{AllocError, Global};
 
 /// An error where an answer is not as wanted.
@@ -8,14 +7,6 @@ pub fn check(is_as_wanted: bool) -> Result<()> {
         Ok(())
     } else {
         Err(Error::msg("another answer"))
-    }
-}
-
-/// The text of an answer that has this status.
-pub fn text_of(answer: Result<Answer, Trouble>, wanted: u8) -> Result<Vec<u8>> {
-    match answer {
-        Ok(Answer { text, status }) if status == wanted => Ok(text),
-        _ => Err(Error::msg("another answer")),
     }
 }
 

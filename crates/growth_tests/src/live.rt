@@ -13,7 +13,7 @@ use std::alloc::{AllocError, Global};
 use std::sync::Wait;
 
 /// The last of the seats.
-pub fn last_seat<M: Running>(set: &LiveSet<M>, seats: &mut Vec<Seat<M>>) -> Result<Seat<M>>
+fn last_seat<M: Running>(set: &LiveSet<M>, seats: &mut Vec<Seat<M>>) -> Result<Seat<M>>
     requires { All (λ s. s.set ≡ set.now) seats.old.items }
     ensures seat { IfOk result (λ s. s.set ≡ set.now) }
     ensures rest { All (λ s. s.set ≡ set.now) seats.new.items }
@@ -117,7 +117,7 @@ fn answer_session<M: Running, R: Wait>(
 }
 
 /// Closes a set, which has just these keys.
-pub fn close_with<M: Running>(
+fn close_with<M: Running>(
     set: LiveSet<M>,
     calls: &mut Calls,
     seat: Seat<M>,

@@ -1,6 +1,6 @@
-//! Makes the public calls of the libraries and tools that take memory, compares what each answers, and tells which call
-//! answered want of memory (or `Spawn`, where a thread is refused for it). That call is made again, with memory, and then
-//! has to answer as if nothing had been refused.
+//! Makes public calls of the libraries that what the program listset prints does not show one by one, compares what each
+//! answers, and tells which call answered want of memory (or `Spawn`, where a thread is refused for it). That call is made
+//! again, with memory, and then has to answer as if nothing had been refused.
 //!
 //! Run as it stands no growth is refused. `.ci/growths` refuses them in turn: it has the one allocation of a fixed
 //! number fail, and by the number on the standard input this program takes as many blocks before its first call.
@@ -18,18 +18,10 @@ macro_rules! answer {
 }
 
 mod calls;
-mod changes;
-mod examples;
 mod groups;
 mod live;
-mod openings;
-mod pictures;
-mod points;
 mod sets;
-mod texts;
 mod threads;
-mod tools;
-mod traces;
 
 use calls::Calls;
 use groups::make_calls;

@@ -3,16 +3,10 @@ ghost use Rattle.std.specs.Prelude.{◌<◌};
 use crate::calls::{Calls, check};
 use anyhow::Result;
 use lset_coarse::CoarseList;
-use lset_history::{History, HistoryFault, Oracle, OrderFault, check_order};
+use lset_history::{History, HistoryFault, Oracle};
 use lset_steps::{Event, StepFault, World};
-use lset_words::{Call, CallRecord, Key, Placed, Reply, layout};
+use lset_words::{Call, CallRecord, Key, Reply, layout};
 use std::alloc::{AllocError, Global};
-
-/// The world's list has just these keys.
-pub fn world_has(world: &World<CoarseList>, calls: &mut Calls, keys: &[u32]) -> Result<()> {
-    let content = answer!(calls, "World::content", AllocError, world.content())?;
-    check(content.as_slice() == keys)
-}
 
 /// Adds a key, at most 5: the add of that takes 15 steps, and what comes after the end of a call is refused as `Idle`.
 fn add(world: &mut World<CoarseList>, key: u32) -> Result<(), StepFault> {
@@ -36,11 +30,12 @@ pub fn worlds(alloc: Global, calls: &mut Calls) -> Result<()> {
     for key in 1..=5 {
         add(&mut world, key)?;
     }
-    world_has(&world, calls, &[1, 2, 3, 4, 5])
+    let content = answer!(calls, "World::content", AllocError, world.content())?;
+    check(content.as_slice() == [1, 2, 3, 4, 5].as_slice())
 }
 
 /// The sequential set has just these keys.
-pub fn oracle_has(alloc: Global, oracle: &Oracle, calls: &mut Calls, keys: &[u32]) -> Result<()> {
+fn oracle_has(alloc: Global, oracle: &Oracle, calls: &mut Calls, keys: &[u32]) -> Result<()> {
     calls.announce(alloc, "Oracle::keys")?;
     let found = answer!(calls, "Oracle::keys", AllocError, oracle.keys())?;
     check(found.as_slice() == keys)
@@ -58,11 +53,20 @@ fn fill(oracle: &mut Oracle, calls: &mut Calls) -> Result<()>
     Ok(())
 }
 
+const KEYS: [u32; 12] = [1, 2, 3, 4, 5, 6, 7, 8, 9, 10, 11, 12];
+
+/// A set that is filled, and one that opens with the same keys.
 pub fn oracles(alloc: Global, calls: &mut Calls) -> Result<()> {
     let mut oracle = answer!(calls, "Oracle::new", AllocError, Oracle::new(alloc, 1, 12))?;
     fill(&mut oracle, calls)?;
-    let keys = [1, 2, 3, 4, 5, 6, 7, 8, 9, 10, 11, 12];
-    oracle_has(alloc, &oracle, calls, &keys)
+    oracle_has(alloc, &oracle, calls, &KEYS)?;
+    let opened = answer!(
+        calls,
+        "Oracle::opened",
+        AllocError,
+        Oracle::opened(alloc, 1, 0, &KEYS)
+    )?;
+    oracle_has(alloc, &opened, calls, &KEYS)
 }
 
 /// The call with a number, below 5, of a thread that looks for keys in the empty set.
@@ -99,34 +103,5 @@ pub fn histories(alloc: Global, calls: &mut Calls) -> Result<()> {
         looks(alloc, &mut history, calls, number)?;
     }
     let looks = [look(0), look(1), look(2), look(3), look(4)];
-    check(history.calls() == looks.as_slice())?;
-    orders(alloc, &history, calls)
-}
-
-/// What is found of the five calls, none of which found its key, in this order.
-fn is_judged(
-    alloc: Global,
-    history: &History,
-    calls: &mut Calls,
-    order: [u32; 5],
-    wanted: Result<(), OrderFault>,
-) -> Result<()> {
-    let order = order.map(|call| Placed {
-        call,
-        reply: Reply::False,
-    });
-    let explained = answer!(
-        calls,
-        "check_order",
-        OrderFault::Memory,
-        check_order(alloc, history, &order, &[])
-    );
-    check(explained == wanted)
-}
-
-/// The order in which they were made, and one in which two are exchanged.
-fn orders(alloc: Global, history: &History, calls: &mut Calls) -> Result<()> {
-    is_judged(alloc, history, calls, [0, 1, 2, 3, 4], Ok(()))?;
-    let early = Err(OrderFault::TooEarly(2));
-    is_judged(alloc, history, calls, [0, 2, 1, 3, 4], early)
+    check(history.calls() == looks.as_slice())
 }

@@ -1,11 +1,38 @@
-use crate::worlds::{assert_calls, make_call};
 use lset_lazy::LazyList;
 use lset_lock_free::LockFreeList;
-use lset_steps::{OpenReads, World};
+use lset_steps::{Event, OpenReads, StepFault, World};
 use lset_words::{Call, Key, Reply, layout};
 use std::alloc::Global;
 use std::process::Abort;
 use std::test::Fail;
+
+/// Makes a call of the thread to its end, where it has one within 1,000 steps: its reply, and the number of its steps.
+fn make_call<M: OpenReads>(
+    world: &mut World<M>,
+    thread: u32,
+    call: Call,
+) -> Result<Option<(Reply, u64)>, StepFault> {
+    world.step(Event::Begin(thread, call))?;
+    for steps in 1..=1_000 {
+        if let Some(reply) = world.step(Event::Go(thread))?.answer {
+            return Ok(Some((reply, steps)));
+        }
+    }
+    Ok(None)
+}
+
+/// A `contains` of thread 0 has this reply after so many steps.
+fn assert_found<M: OpenReads, R: Abort>(
+    rt: &R,
+    world: &mut World<M>,
+    key: u32,
+    reply: Reply,
+    steps: u64,
+) -> Result<(), Fail> {
+    let made = make_call(world, 0, Call::Contains(Key(key)))?;
+    assert!(rt; made == Some((reply, steps)), "{key}");
+    Ok(())
+}
 
 /// Each slot of each thread is put in, with the keys from 1 on.
 fn fill<M: OpenReads>(world: &mut World<M>, threads: u32, quota: u32) -> Result<(), Fail> {
@@ -30,16 +57,9 @@ fn assert_bound<M: OpenReads, R: Abort>(
     let mut world = World::<M>::new(alloc, shape)?;
     fill(&mut world, threads, quota)?;
     let last = threads.saturating_mul(quota);
-    let calls = [
-        (Call::Contains(Key(1)), Reply::True, 3),
-        (
-            Call::Contains(Key(last)),
-            Reply::True,
-            bound.saturating_sub(1),
-        ),
-        (Call::Contains(Key(u32::MAX)), Reply::False, bound),
-    ];
-    assert_calls(rt, &mut world, &calls)
+    assert_found(rt, &mut world, 1, Reply::True, 3)?;
+    assert_found(rt, &mut world, last, Reply::True, bound.saturating_sub(1))?;
+    assert_found(rt, &mut world, u32::MAX, Reply::False, bound)
 }
 
 const SHAPES: [Shape; 3] = [(1, 2, 6), (2, 4, 18), (3, 5, 32)];
