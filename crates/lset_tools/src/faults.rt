@@ -76,6 +76,7 @@ Other lines
 ";
 
 /// What `faults` tells: `FAULTS`. `Trouble::Memory` where memory was refused.
+#[tactic(auto, unfolding(crate::specs::Faults::faults_text))]
 pub fn faults_told(alloc: Global) -> Result<Answer, Trouble>
     ensures { TellsFaults (view result) }
 {
