@@ -1,8 +1,8 @@
 """What an edit is, which edits can be tried together, and how: the gate's (.ci/must_fail) and the planted ones (.ci/planted).
 
-An edit is a file with a line 'file: PATH' of a crate and pairs of lines 'old: TEXT' and 'new: TEXT', as rt reads it. A proof knows of
-what its function calls the contract alone, so the goals of a function hang on its own edit; and so edits of functions of which none
-leads to another are tried in one check, of these functions alone.
+An edit is a file with a line 'file: PATH' of a crate and pairs of lines 'old: TEXT' and 'new: TEXT', as rt reads it. A proof knows
+of what its function calls the contract alone, so the goals of a function hang on its own edit; and so edits of functions of which
+none leads to another are tried in one check, of these functions alone.
 """
 
 import collections
@@ -59,8 +59,8 @@ def needed(wanted):
 
 
 def top_of(lines, first, depth):
-    """The first line of what stands above a function that begins at a line: rt tells a goal of all that a function ensures at its first
-    attribute."""
+    """The first line of what stands above a function that begins at a line: rt tells a goal of all that a function ensures at its
+    first attribute."""
     top = first
     while top > 1 and lines[top - 2].strip() and lines[top - 2] != depth + "}" and lines[top - 2].startswith(depth):
         top -= 1

@@ -1,5 +1,5 @@
-"""The benches: programs in Rattle that the gate does not prove. They are proved and built in a tree of their own, beside the libraries
-below them; here their files end in `_`, since rt takes no .rt or .antt that is not a crate's of the tree."""
+"""The benches: programs in Rattle that the gate does not prove. They are proved and built in a tree of their own, beside the
+libraries below them; here their files end in `_`, since rt takes no .rt or .antt that is not a crate's of the tree."""
 
 import os
 import pathlib
@@ -52,8 +52,8 @@ def is_old(name):
 
 
 def program_of(name):
-    """The built program of a bench. Where it is old, all that are old are proved and built first, by `rt ci`, which takes what it has
-    kept of the libraries: after a gate on this machine only the benches are proved."""
+    """The built program of a bench. Where it is old, all that are old are proved and built first, by `rt ci`, which takes what it
+    has kept of the libraries: after a gate on this machine only the benches are proved."""
     old = [it for it in NAMES if is_old(it)]
     if name in old:
         print(f"bench: proving and building {', '.join(old)}, once", file=sys.stderr)

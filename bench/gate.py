@@ -26,7 +26,8 @@ def processes():
         try:
             with open(f"/proc/{pid}/stat") as stat, open(f"/proc/{pid}/cmdline", errors="replace") as words:
                 fields = stat.read().rpartition(") ")[2].split()
-                yield (int(pid), int(fields[19])), int(fields[1]), (int(fields[11]) + int(fields[12])) / TICKS, words.read().split("\0"), os.readlink(f"/proc/{pid}/cwd")
+                seconds = (int(fields[11]) + int(fields[12])) / TICKS
+                yield (int(pid), int(fields[19])), int(fields[1]), seconds, words.read().split("\0"), os.readlink(f"/proc/{pid}/cwd")
         except OSError:
             pass
 
@@ -38,7 +39,8 @@ def task_of(words, folder, crates):
         crate = words[words.index("--crate-name") + 1]
     else:
         inside = re.match(re.escape(TOP) + r"/crates/(\w+)", folder)
-        crate = inside[1] if inside else next((it for name in made for it in (name, name.removesuffix("_tests")) if it in crates), None)
+        of_made = (it for name in made for it in (name, name.removesuffix("_tests")) if it in crates)
+        crate = inside[1] if inside else next(of_made, None)
     if crate not in crates:
         return None
     if "/rt-edit-" in folder:
@@ -54,8 +56,8 @@ def is_watched(words):
 
 
 class Watch(threading.Thread):
-    """Looks at the processes below the steps of a gate, and keeps for each task its processor seconds and when it was first and last
-    seen. What a process does after the last look at it is not counted."""
+    """Looks at the processes below the steps of a gate, and keeps for each task its processor seconds and when it was first and
+    last seen. What a process does after the last look at it is not counted."""
 
     def __init__(self, gate, crates):
         super().__init__(daemon=True)
@@ -91,9 +93,10 @@ class Watch(threading.Thread):
 
 
 def run_gate(words):
-    """Runs the gate, prints what it prints, and gives its status, of each step its seconds by the wall and of one processor, the tasks of
-    the crates, and its processor seconds in all."""
-    run = subprocess.Popen([f"{TOP}/gate", *(words or ["--anew"])], stdin=subprocess.DEVNULL, stdout=subprocess.PIPE, text=True, errors="replace")
+    """Runs the gate, prints what it prints, and gives its status, of each step its seconds by the wall and of one processor, the
+    tasks of the crates, and its processor seconds in all."""
+    how = {"stdin": subprocess.DEVNULL, "stdout": subprocess.PIPE, "text": True, "errors": "replace"}
+    run = subprocess.Popen([f"{TOP}/gate", *(words or ["--anew"])], **how)
     watch, steps = Watch(run.pid, set(os.listdir(f"{TOP}/crates"))), {}
     watch.start()
     for line in run.stdout:
@@ -113,7 +116,9 @@ def write_seconds(kind, steps, tasks):
     replaced = ("quick",) if kind == "quick" else ("whole", "crate")
     lines = [it for it in kept if it.split()[0] not in replaced]
     lines += [f"{kind} {seconds:5} {name}" for name, (seconds, _) in steps.items()]
-    crates = {name: sum(seconds for (of, part), (_, seconds) in tasks.items() if of == name and part != "edits") for name, _ in tasks}
+    crates = dict.fromkeys((name for name, _ in tasks), 0)
+    for (name, part), (_, seconds) in tasks.items():
+        crates[name] += seconds if part != "edits" else 0
     lines += [f"crate {seconds:5.0f} {name}" for name, seconds in crates.items() if kind == "whole"]
     with open(MEASURED, "w") as it:
         it.write(HEAD + "".join(f"{line}\n" for line in lines))
@@ -155,7 +160,8 @@ def gate(*words):
     told = {(name, "programs"): (wall / 60, seconds) for name, (wall, seconds) in steps.items() if name not in IN_CRATES}
     gate_table({**told, **tasks})
     minutes = (time.monotonic() - began) / 60
-    print(f"\nThe whole took {minutes:.0f} minutes on {len(os.sched_getaffinity(0))} processors, with a load of {load:.1f} at the start, and {processor / 60:.0f} minutes of one processor.")
+    many = f"{len(os.sched_getaffinity(0))} processors, with a load of {load:.1f} at the start"
+    print(f"\nThe whole took {minutes:.0f} minutes on {many}, and {processor / 60:.0f} minutes of one processor.")
     wanted, taken = (now - then for now, then in zip(wanted_and_taken(), before))
     print(f"Of 100 seconds that were wanted of the processors the machine's host took {100 * taken / max(1, wanted):.0f}.")
     if status:
