@@ -7,9 +7,16 @@ const AT_REST = { pc: 0, used: 0, call: null, ...BEGUN };
 const linkTarget = (link) => link.replace("*", "");
 const keyNumber = (key) => (key === "-inf" ? -1 : key === "+inf" ? Infinity : Number(key));
 
+const MOST_UNDONE = 20000; // events; what lies further back is made again from the start
+
 class State {
   constructor(trace) {
     this.trace = trace;
+    this.begin();
+  }
+
+  begin() {
+    const { trace } = this;
     this.count = 0;
     this.lock = "free"; // the list's own lock
     this.nodes = openingNodes(trace);
@@ -19,7 +26,8 @@ class State {
 
   // Goes to the state after `count` events, on or back.
   moveTo(count) {
-    while (this.count < count) this.apply(this.trace.events[this.count++]);
+    if (count < this.count - this.undo.length) this.begin();
+    while (this.count < count) this.apply(this.trace.event(++this.count));
     while (this.count > count) {
       this.count--;
       for (const [holder, name, before] of this.undo.pop().reverse()) holder[name] = before;
@@ -39,7 +47,7 @@ class State {
     }
     for (const name in event.changes) set(thread, name, event.changes[name]);
     if (event.deed === "store" || (event.deed === "exchange" && event.saw === event.from)) this.write(event, set);
-    this.undo.push(done);
+    if (this.undo.push(done) > 2 * MOST_UNDONE) this.undo.splice(0, MOST_UNDONE);
   }
 
   write(event, set) {
