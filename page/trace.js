@@ -5,7 +5,6 @@
 const HEADER_LINES = 4;
 const NODE_REGISTERS = ["pred", "curr", "succ", "node"];
 const KEY_REGISTERS = ["pkey", "ckey"];
-const NUMBERS = ["pc", "used", "put", "took"]; // what an event's line tells as a number
 const CALL_WORDS = ["add", "remove", "contains", "ceiling"];
 const MOST_NUMBER = 4294967295;
 
@@ -91,21 +90,22 @@ class Trace {
     if (event.deed !== "begin") event.word = pieces[7];
     if (event.deed === "store") event.to = pieces[at++];
     for (; pieces[at] !== "pc"; at += 2) event[pieces[at]] = pieces[at + 1];
-    for (; at < pieces.length; at += 2) tell(event, pieces[at], pieces[at + 1]);
+    for (; at < pieces.length; at += 2) tellIn(event, pieces[at], pieces[at + 1]);
     return event;
-
-    function tell(told, name, value) {
-      const given = NUMBERS.includes(name) ? Number(value) : value;
-      if (name === "answer" || name === "put" || name === "took") told[name] = given;
-      else if (name === "at") told.at = Number(value);
-      else if (name !== "call") told.changes[name] = given;
-    }
   }
 
   // All events, of a short trace.
   events() {
     return this.starts.map((_, index) => this.event(index + 1));
   }
+}
+
+// What the end of an event's line tells: the row and the registers of its thread, a change of the set, an answer and its moment.
+function tellIn(event, name, value) {
+  if (name === "answer") event.answer = value;
+  else if (name === "put" || name === "took" || name === "at") event[name] = Number(value);
+  else if (name === "pc" || name === "used") event.changes[name] = Number(value);
+  else if (name !== "call") event.changes[name] = value;
 }
 
 // The nodes of the opening keys come after the slots of all threads.
