@@ -1,5 +1,6 @@
-// The address of a schedule, as #list=lazy&threads=2&quota=4&s=b0.add.5,g0.11&event=12, or of an example, as
-// #example=snip&event=17. An address is made a text again; whether that is a schedule says the engine.
+// The address of a schedule, as #list=lazy&threads=2&quota=4&s=b0.add.5,g0.11&event=12, of an example, as #example=snip&event=17, or
+// of a course of lessons, as #course=.. with its text packed, or of two lists side by side. With &view=lecture, list or history it
+// shows only that. An address is made a text again; whether that is a schedule says the engine.
 "use strict";
 
 const LONGEST_ADDRESS = 30000; // characters; a longer schedule has no address
@@ -15,6 +16,11 @@ const ADDRESS_PARTS = {
   opening: /^\d+(\.\d+)*$/,
   s: new RegExp(`^(${SHORT_EVENT}(,${SHORT_EVENT})*)?$`),
   event: /^\d+$/,
+  view: /^(lecture|list|history)$/,
+  course: /^[A-Za-z0-9_-]+$/,
+  sides: /^(coarse|fine|optimistic|lazy|lock-free)\.(coarse|fine|optimistic|lazy|lock-free)$/,
+  calls: /^(\d\d?\.[a-z]+\.\d+(,|$))+$/,
+  turns: /^(\d\d?(\.\d\d?)*)?$/,
 };
 
 class AddressFault extends Error {}
@@ -56,17 +62,17 @@ function isAddressOf(address, text) {
 
 const exampleAddress = (name, event) => `#example=${name}&event=${event}`;
 
-// What an address names: the example or the text, and the event. Both are null where it names nothing.
+// What an address names: an example, a text, a course or two lists, each null where it names none; the event, and the view.
 function readAddress(hash) {
-  const parts = partsOf(hash);
-  const event = Number(parts.event ?? 0);
-  if (parts.example !== undefined) {
-    const more = Object.keys(parts).find((name) => name !== "example" && name !== "event");
-    if (more !== undefined) throw new AddressFault(`the address names an example, and has "${more}" too`);
-    return { example: parts.example, text: null, event };
+  const { view = null, course = null, ...parts } = partsOf(hash);
+  const named = { example: parts.example ?? null, text: null, event: Number(parts.event ?? 0), view, course, sides: null };
+  if (parts.sides !== undefined) return { ...named, sides: parts };
+  const ofSchedule = Object.keys(parts).filter((name) => name !== "event" && name !== "example");
+  if (named.example !== null && ofSchedule.length > 0) {
+    throw new AddressFault(`the address names an example, and has "${ofSchedule[0]}" too`);
   }
-  if (Object.keys(parts).length === 0) return { example: null, text: null, event };
-  return { example: null, text: textOfParts(parts), event };
+  if (ofSchedule.length > 0) named.text = textOfParts(parts);
+  return named;
 }
 
 function partsOf(hash) {

@@ -1,66 +1,152 @@
-// The teacher's tool, in node: node page/lessons.js FILE
+// The teacher's tool, in node:
 //
-// It says of each lesson whether the text in the file solves it, and where not, what is missing; a line that is none is told by
-// its number. The schedules are run by the proved replayer, as the module of this folder. The status is 0 where all lessons are
-// solved and 1 where some are not, 2 where the words are wrong or the file cannot be read, and 70 where there is no engine.
+//     node page/check_lessons.js FILE ..           what was handed in, by one student or by a whole class; - is the standard input
+//     node page/check_lessons.js COURSE FILE ..    the same, of courses of one's own
+//     node page/check_lessons.js COURSE            whether a course is one: each lesson is read and tried
+//     node page/check_lessons.js --link COURSE     the part of a link that opens the course on the page
+//
+// A file may have courses and texts of many students, as they came by mail (hand_in.js). Without a course the lessons are those of
+// book.course. Each schedule is run by the proved replayer, each order is judged by the proved check, as the module of this folder.
+// The status is 0 where nothing is missing, 1 where something is, 2 where the words are wrong, a file cannot be read or has no such
+// text, and 70 where there is no engine.
 "use strict";
 
 const fs = require("fs");
+const path = require("path");
 const { NO_ENGINE, NO_MEMORIES, inPage, loadScripts, startedEngine } = require("./in_node.js");
 
-const MOST_BYTES = 1000000; // of a file
-const SCRIPTS = ["rows.js", "trace.js", "state.js", "address.js", "goals.js", "lessons.js", "judge.js", "hand_in.js"];
+const MOST_BYTES = 10000000;
+const BOOK = path.join(__dirname, "book.course");
+const SCRIPTS = ["rows", "trace", "schedule_text", "state", "address", "svg", "draw_history", "run", "goal_words", "lesson_text",
+  "judge_lesson", "judge_answer", "hand_in", "course_link"];
+const USAGE = "node page/check_lessons.js FILE .., with courses among the files or none; or --link COURSE";
 
-// What is said of a lesson: a line, or one for each schedule where none of them is a solution.
-function verdictOf(ask, lesson, solutions) {
-  const own = solutions.filter(({ name }) => name === lesson.name);
-  const judged = own.map((one) => ({ ...one, ...inPage("judged")(ask, lesson, one.schedule) }));
-  const solved = judged.find(({ isSolved }) => isSolved);
-  if (solved !== undefined) {
-    const isShown = solved.schedule === inPage("answerText")(lesson);
-    return { isSolved: true, lines: [`${lesson.name}: solved${isShown ? ", by the answer that the page shows" : ""}`] };
-  }
-  if (own.length === 0) return { isSolved: false, lines: [`${lesson.name}: not handed in`] };
-  const told = judged.map((one) => `${lesson.name}: not solved, line ${one.line}: ${inPage("missingIn")(one)}`);
-  return { isSolved: false, lines: told };
-}
+class Trouble extends Error {}
 
-function checkedText(ask, text) {
-  const { solutions, faults } = inPage("readHandIn")(text);
-  const lessons = inPage("LESSONS");
-  const verdicts = lessons.map((lesson) => verdictOf(ask, lesson, solutions));
-  const count = verdicts.filter(({ isSolved }) => isSolved).length;
-  const told = faults.map(({ line, fault }) => `line ${line}: ${fault}`);
-  const lines = [...told, ...verdicts.flatMap((verdict) => verdict.lines), `${count} of ${lessons.length} solved`];
-  const printed = lines.map((line) => `${line.replace(/[^ -~]/g, "?")}\n`); // what was handed in is not trusted with a terminal
-  return { status: count === lessons.length ? 0 : 1, text: printed.join("") };
-}
+const printable = (text) => text.replace(/[\x00-\x1f\x7f-\x9f\u2028\u2029\u202a-\u202e]/g, "?"); // no text is trusted with a terminal
+const say = (line) => process.stdout.write(`${printable(line)}\n`);
+const tell = (line) => process.stderr.write(`lessons: ${printable(line)}\n`);
 
-function end(status, line) {
-  process.stderr.write(`lessons: ${line}\n`);
-  process.exitCode = status;
-}
-
-// The text of the file, or null where it cannot be read or is no text that the page hands in.
 function textOf(file) {
   try {
-    return fs.statSync(file).size > MOST_BYTES ? null : fs.readFileSync(file, "utf8");
+    const text = fs.readFileSync(file === "-" ? 0 : file, "utf8");
+    if (text.length > MOST_BYTES) throw new Trouble(`${file} is longer than ${MOST_BYTES} bytes`);
+    return text;
   } catch (fault) {
     if (fault.syscall === undefined) throw fault;
-    return null;
+    throw new Trouble(`cannot read ${file}: ${fault.code}`);
   }
+}
+
+// The texts of the files, and whether a file has none or cannot be read, which is told.
+function textsOfFiles(files) {
+  const texts = [];
+  let isBad = false;
+  for (const file of files) {
+    try {
+      const found = inPage("textsIn")(textOf(file));
+      if (found.length === 0) throw new Trouble(`${file}: no line is "listset-course 1" or "listset-lessons 2": no text is here`);
+      texts.push(...found.map((text) => ({ ...text, file })));
+    } catch (fault) {
+      if (!(fault instanceof Trouble)) throw fault;
+      isBad = true;
+      tell(fault.message);
+    }
+  }
+  return { texts, isBad };
+}
+
+// A course that is read and tried; its faults are told.
+function toldCourse(ask, { file, number, text }) {
+  const course = inPage("triedCourse")(ask, text);
+  for (const { line, fault } of course.faults) say(`${file}, line ${line + number - 1}: ${fault}`);
+  return { ...course, file };
+}
+
+// The students by their names, each with the parts that are theirs, and the faults of their texts.
+function studentsIn(texts, courses) {
+  const students = new Map();
+  const names = new Map(); // of each file, how many texts without a name it had
+  for (const text of texts) {
+    const { file } = text;
+    const read = inPage("readHandIn")(text);
+    const count = (names.get(file) ?? 0) + Number(read.student === null);
+    names.set(file, count);
+    const ofFile = path.basename(file).replace(/\.[A-Za-z]+$/, "");
+    const name = read.student ?? (count > 1 ? `${ofFile} (${count})` : ofFile);
+    const own = students.get(name) ?? { name, parts: [], faults: [], courses: new Set() };
+    students.set(name, own);
+    const course = read.course === null ? courses[0] : courses.find((one) => one.name === read.course);
+    own.faults.push(...read.faults.map((fault) => ({ ...fault, file })));
+    if (course === undefined) own.faults.push({ file, line: text.number, fault: `the course "${read.course}" is not among the files` });
+    else own.courses.add(course);
+    own.parts.push(...read.solutions.map((part) => ({ ...part, file, lessons: course?.lessons ?? [] })));
+  }
+  return [...students.values()];
+}
+
+// Says what is missing of a student's, and how much is solved; whether that is all.
+function isWhole(ask, { name, parts, faults, courses }) {
+  for (const { file, line, fault } of faults) say(`${name}: ${file}, line ${line}: ${fault}`);
+  const verdicts = parts.map((part) => ({ ...part, ...inPage("judgedPart")(ask, part.lessons, part.line) }));
+  const solved = new Set(verdicts.filter(({ isSolved }) => isSolved).map(({ task }) => task));
+  const wrong = verdicts.filter(({ isSolved, task }) => !isSolved && !solved.has(task));
+  for (const { file, number, task, says } of wrong) say(`${name}: ${file}, line ${number}: ${task === null ? "" : `${task}: `}${says}`);
+  const lessons = [...courses].flatMap((course) => course.lessons.map((lesson) => lesson.name));
+  const open = lessons.filter((lesson) => !solved.has(lesson));
+  for (const lesson of open.filter((one) => !verdicts.some(({ task }) => task === one))) say(`${name}: ${lesson}: not handed in`);
+  const judgedRight = [...solved].filter((task) => task.startsWith("judge ")).length;
+  const very = new Set(verdicts.filter(({ isVeryAnswer }) => isVeryAnswer).map(({ task }) => task)).size;
+  const more = [
+    judgedRight > 0 ? `${judgedRight} orders judged right` : "",
+    very > 0 ? `${very} by the very schedule of the lesson's answer, which may be its shortest` : "",
+  ];
+  say([`${name}: ${lessons.length - open.length} of ${lessons.length} solved`, ...more.filter((part) => part !== "")].join("; "));
+  return open.length === 0 && faults.length === 0 && wrong.length === 0 && courses.size > 0;
+}
+
+async function toldLink(file) {
+  const address = await inPage("courseAddress")(textOf(file));
+  if (address === null) throw new Trouble("the course is too long for a link: hand out the file");
+  say(`page/index.html${address}`);
+}
+
+// Judges the files' texts, and answers the status.
+async function checked(ask, words) {
+  const isLink = words[0] === "--link" && words.length === 2;
+  const files = isLink ? words.slice(1) : words;
+  const { texts, isBad } = textsOfFiles(files);
+  const handed = texts.filter(({ kind }) => kind === "hand-in");
+  const given = texts.filter(({ kind }) => kind === "course");
+  const courses = given.map((text) => toldCourse(ask, text));
+  const isGood = courses.every(({ faults }) => faults.length === 0);
+  if (handed.length === 0 || !isGood) {
+    for (const { file, name, lessons, faults } of courses) say(`${file}: ${name}: ${lessons.length} lessons, ${faults.length} faults`);
+    if (isLink && isGood && courses.length === 1) await toldLink(files[0]);
+    return isBad ? 2 : isGood ? 0 : 1;
+  }
+  if (courses.length === 0) courses.push(toldCourse(ask, { file: "book.course", number: 1, text: textOf(BOOK) }));
+  const students = studentsIn(handed, courses);
+  const whole = students.filter((student) => isWhole(ask, student)).length;
+  if (students.length > 1) say(`${whole} of ${students.length} students have solved all`);
+  if (isBad) return 2;
+  return whole === students.length ? 0 : 1;
 }
 
 async function main(words) {
-  if (words.length !== 1 || words[0].startsWith("-")) return end(2, "one file is due: node page/lessons.js FILE");
-  const text = textOf(words[0]);
-  if (text === null) return end(2, `cannot read ${words[0]}, or it is longer than ${MOST_BYTES} bytes`);
-  const engine = await startedEngine();
-  if (engine === null) return end(NO_ENGINE, NO_MEMORIES);
-  loadScripts(...SCRIPTS);
-  const checked = checkedText((name, given) => engine.ask(name, given), text);
-  process.exitCode = checked.status;
-  process.stdout.write(checked.text);
+  try {
+    if (words.length === 0 || words.slice(words[0] === "--link").some((word) => word.startsWith("-") && word !== "-")) {
+      throw new Trouble(`the words are ${USAGE}`);
+    }
+    const engine = await startedEngine();
+    if (engine === null) return [NO_ENGINE, tell(NO_MEMORIES)][0];
+    loadScripts(...SCRIPTS.map((name) => `${name}.js`));
+    return await checked((name, ...given) => engine.ask(name, ...given), words);
+  } catch (fault) {
+    if (!(fault instanceof Trouble)) throw fault;
+    tell(fault.message);
+    return 2;
+  }
 }
 
-module.exports = { main };
+main(process.argv.slice(2)).then((status) => (process.exitCode = status));

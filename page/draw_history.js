@@ -15,9 +15,9 @@ function windowOf(total, count, room) {
   return { first, last: first + most - 1 };
 }
 
-// Where an event stands, and a thread's lane.
-function scaleOf(trace, count, width) {
-  const { first, last } = windowOf(trace.events.length, count, width - HISTORY_LEFT - HISTORY_RIGHT);
+// Where an event stands, and a thread's lane. What comes after the event that is shown may be hidden.
+function scaleOf(trace, count, width, hides = false) {
+  const { first, last } = windowOf(trace.total, count, width - HISTORY_LEFT - HISTORY_RIGHT);
   const step = (width - HISTORY_LEFT - HISTORY_RIGHT) / (last - first + 1);
   const lane = trace.threads > 12 ? 24 : trace.threads > 6 ? 32 : 40;
   return {
@@ -27,6 +27,7 @@ function scaleOf(trace, count, width) {
     lane,
     width,
     count,
+    now: hides ? count : Infinity, // the last event of which something is told
     edge: width - HISTORY_RIGHT,
     height: 12 + trace.threads * lane,
     x: (moment) => HISTORY_LEFT + (moment - first + 0.5) * step,
@@ -48,38 +49,46 @@ function drawLane(scale, thread) {
   );
 }
 
-function callInWords(call) {
-  const events = `events ${call.begun} to ${call.ended ?? "the end"}`;
-  return `call ${call.id}: t${call.thread} ${callText(call)} ${call.reply ?? "still open"}, ${events}`;
+function callInWords(call, now) {
+  const isOpen = call.ended === null || call.ended > now;
+  const events = isOpen && now < Infinity ? `from event ${call.begun} on` : `events ${call.begun} to ${call.ended ?? "the end"}`;
+  return `call ${call.id}: t${call.thread} ${callText(call)} ${isOpen ? "still open" : call.reply}, ${events}`;
 }
 
 function drawBar(call, scale) {
-  const { first, last, count } = scale;
+  const { first, last, count, now } = scale;
   const half = scale.lane * 0.34;
   const y = scale.y(call.thread);
   const left = call.begun < first ? HISTORY_LEFT - 6 : scale.x(call.begun);
-  const right = call.ended === null || call.ended > last ? scale.edge : scale.x(call.ended);
-  const state = `${call.begun <= count ? "begun" : "later"}${call.ended === null ? " open" : ""}`;
+  const isOpen = call.ended === null || call.ended > now;
+  const end = call.ended === null || call.ended > last ? scale.edge : scale.x(call.ended);
+  const right = isOpen && now <= last ? Math.min(end, scale.x(now)) : end;
+  const state = `${call.begun <= count ? "begun" : "later"}${isOpen ? " open" : ""}`;
   return tag(
     "g",
     { class: `bar ${state} ${colourOf(call.thread)}` },
-    title(callInWords(call)),
+    title(callInWords(call, now)),
     tag("rect", { x: left, y: y - half, width: Math.max(right - left, 4), height: 2 * half, rx: 4 }),
     drawBarText(call, scale, left, right, y),
   );
 }
 
-// The call and its reply, left of the point or right of it, where there is room.
+// The call and its reply, left of the point or right of it, where there is room; where the rest of the bar is hidden, over its end.
 function drawBarText(call, scale, left, right, y) {
-  const text = `${callText(call)}${call.reply === null ? "" : ` ${call.reply}`}`;
+  const isTold = call.reply !== null && call.ended <= scale.now;
+  const text = `${callText(call)}${isTold ? ` ${call.reply}` : ""}`;
   const wide = 8 * text.length;
-  const point = call.at === null ? -99 : scale.x(call.at) - left;
+  const point = call.at === null || !isShown(call, scale) ? -99 : scale.x(call.at) - left;
   const start = point > wide + 14 || point < -8 ? 6 : point + 13;
-  if (right - left <= wide + start) return "";
+  const room = scale.now < (call.ended ?? Infinity) ? scale.edge - left : right - left;
+  if (room <= wide + start) return "";
   const done = call.ended !== null && call.ended <= scale.count;
-  const reply = call.reply === null ? "" : tag("tspan", { class: done ? "reply" : "reply later" }, ` ${call.reply}`);
+  const reply = isTold ? tag("tspan", { class: done ? "reply" : "reply later" }, ` ${call.reply}`) : "";
   return tag("text", { x: left + start, y: y + 5 }, callText(call), reply);
 }
+
+// Whether the point of a call is drawn.
+const isShown = (call, scale) => scale.now === Infinity || isReached(call, scale.now);
 
 // The point of a call: a disc where it changes the set, a ring where its reply fits there.
 function drawPoint(call, scale) {
@@ -106,20 +115,22 @@ function drawCursor(scale, bottom) {
 // The bars and points: the part that scrolls where there are many threads.
 function drawCalls(trace, scale) {
   const { first, last, width, height } = scale;
-  const shown = trace.calls.filter((call) => call.begun <= last && (call.ended === null || call.ended >= first));
-  const placed = shown.filter((call) => call.at !== null && call.at >= first && call.at <= last);
+  const isIn = (call) => call.begun <= Math.min(last, scale.now) && (call.ended === null || call.ended >= first);
+  const shown = trace.calls.filter(isIn);
+  const placed = shown.filter((call) => call.at !== null && call.at >= first && call.at <= last && isShown(call, scale));
   const lanes = Array.from({ length: trace.threads }, (_, thread) => drawLane(scale, thread));
   const bars = shown.map((call) => drawBar(call, scale));
   const points = placed.map((call) => drawPoint(call, scale));
   const begun = shown.filter((call) => call.begun <= scale.count);
-  const words = begun.length === 0 ? "no call has begun" : begun.slice(-20).map(callInWords).join("; ");
+  const words = begun.length === 0 ? "no call has begun" : begun.slice(-20).map((call) => callInWords(call, scale.now)).join("; ");
   const frame = { width, height, role: "img", "aria-label": `the history of the calls: ${words}` };
   return tag("svg", frame, ...lanes, ...bars, ...points, drawCursor(scale, height));
 }
 
 function drawContent(part, scale) {
   const left = part.from <= scale.first ? HISTORY_LEFT - 6 : scale.x(part.from);
-  const right = part.to > scale.last ? scale.edge : scale.x(part.to);
+  const end = part.to > scale.last ? scale.edge : scale.x(part.to);
+  const right = scale.now < part.to && scale.now <= scale.last ? Math.max(left, scale.x(Math.max(scale.now, scale.first))) : end;
   const all = `{${part.keys.join(", ")}}`;
   const room = Math.floor((right - left - 10) / 8);
   const text = all.length <= room ? all : room > 6 ? `${all.slice(0, room - 2)}…` : "";
@@ -142,25 +153,31 @@ function drawWindow(scale, total, x) {
 
 // The contents of the set, and below them the number of the event.
 function drawContents(trace, scale) {
-  const parts = contentsIn(trace, scale.first, scale.last).map((part) => drawContent(part, scale));
+  const told = contentsIn(trace, scale.first, scale.last).filter((part) => part.from <= Math.max(scale.now, scale.first));
+  const parts = told.map((part) => drawContent(part, scale));
+  const now = told.findLast((part) => part.from <= Math.max(scale.count, scale.first));
   const x = Math.min(Math.max(scale.x(scale.count), HISTORY_LEFT + 12), scale.width - 44);
   const number = scale.count > 0 ? label({ class: "number", x, y: 42 }, `event ${scale.count}`) : "";
   const name = label({ class: "name", x: 6, y: 17 }, "set");
-  const frame = { width: scale.width, height: 50, role: "img", "aria-label": "the contents of the set" };
-  return tag("svg", frame, name, ...parts, drawCursor(scale, 24), number, drawWindow(scale, trace.events.length, x));
+  const words = `the set after event ${scale.count}: {${now.keys.slice(0, 40).join(", ")}}`;
+  const frame = { width: scale.width, height: 50, role: "img", "aria-label": words };
+  return tag("svg", frame, name, ...parts, drawCursor(scale, 24), number, drawWindow(scale, trace.total, x));
 }
 
-// The order of the calls: those that are reached, and pale those that come later.
-function drawOrder(trace, count) {
-  if (trace.order.length === 0) return "No call stands in the order.";
-  const reached = trace.order.filter((call) => isReached(call, count)).length;
-  const first = Math.max(0, Math.min(reached - 8, trace.order.length - 14));
-  const last = Math.min(trace.order.length, first + 22);
-  const items = trace.order.slice(first, last).map((call) => {
-    const state = isReached(call, count) ? "reached" : "later";
-    return `<li class="${state}">${chipOf(call.thread)} ${callText(call)} <b>${call.reply ?? openReply}</b></li>`;
+// The order of the calls: those that are reached and, where nothing is hidden, pale those that come later.
+function drawOrder(trace, count, hides = false) {
+  const reached = trace.order.filter((call) => isReached(call, count));
+  const order = hides ? reached : trace.order;
+  const total = order.length;
+  if (total === 0) return hides ? "No call stands in the order yet." : "No call stands in the order.";
+  const first = Math.max(0, Math.min(reached.length - 8, total - 14));
+  const last = Math.min(total, first + 22);
+  const items = order.slice(first, last).map((call) => {
+    const isAnswered = call.ended !== null && (!hides || call.ended <= count);
+    const reply = isAnswered ? call.reply : openReply;
+    return `<li class="${isReached(call, count) ? "reached" : "later"}">${chipOf(call.thread)} ${callText(call)} <b>${reply}</b></li>`;
   });
   const before = first > 0 ? `<li class="later">${first} before …</li>` : "";
-  const after = last < trace.order.length ? `<li class="later">… ${trace.order.length - last} more</li>` : "";
+  const after = last < total ? `<li class="later">… ${total - last} more</li>` : "";
   return `<ol>${before}${items.join("")}${after}</ol>`;
 }

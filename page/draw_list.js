@@ -289,13 +289,14 @@ function arranged(state, event) {
   return { chain, items, places, labels, names, more, width: wide, height };
 }
 
-function drawList(state, event, room) {
+// The list, in a box so wide and, where that is less than what it takes, so high.
+function drawList(state, event, room, most = Infinity) {
   const { chain, items, places, labels, names, more, width, height } = arranged(state, event);
   const folds = items.map((item, index) => (item.folded ? drawFold(item) + drawFoldLink(item, items[index + 1]) : ""));
   const nodes = names.map((name) => drawNode(state, name, places[name], event));
   const links = names.map((name) => drawLink(state, name, places, event));
   const pointers = labels.map((own) => drawPointer(own, places));
-  const scale = Math.max(0.9, Math.min(1.35, (room - 4) / width));
+  const scale = Math.max(0.9, Math.min(1.35, (room - 4) / width, most / height));
   const frame = {
     width: width * scale,
     height: height * scale,

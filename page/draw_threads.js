@@ -10,9 +10,9 @@ function threadsShown(state, event, all) {
   return every.filter((thread) => state.threads[thread].pc !== 0 || thread === event?.thread);
 }
 
-function callCell(held, moved, event) {
+function callCell(held, moved, event, hidesReplies) {
   if (held.pc !== 0) return callText(held.call);
-  if (moved && event.answer !== undefined) return `${callText(held.call)} <b>${event.answer}</b>`;
+  if (moved && event.answer !== undefined) return `${callText(held.call)} <b>${hidesReplies ? "…" : event.answer}</b>`;
   return '<span class="pale">at rest</span>';
 }
 
@@ -32,24 +32,25 @@ function registerCell(held, name, moved, event, kind) {
   return held[name] === "head" || held[name] === "-inf" ? `<span class="pale">${value}</span>` : value;
 }
 
-function threadRow(state, thread, event) {
+function threadRow(state, thread, event, hidesReplies) {
   const { kind, quota } = state.trace;
   const held = state.threads[thread];
   const moved = event?.thread === thread;
   const cells = [
-    tag("td", {}, callCell(held, moved, event)),
+    tag("td", {}, callCell(held, moved, event, hidesReplies)),
     tag("td", { class: "next" }, rowCell(held, kind)),
     ...LISTS[kind].registers.map((name) => tag("td", {}, registerCell(held, name, moved, event, kind))),
-    tag("td", {}, held.pc !== 0 && held.reply !== "none" ? held.reply : ""),
+    tag("td", {}, held.pc !== 0 && held.reply !== "none" && !hidesReplies ? held.reply : ""),
     tag("td", {}, `${held.used} of ${quota}`),
   ];
   return tag("tr", moved ? { class: "moved" } : {}, tag("th", { scope: "row" }, chipOf(thread)), ...cells);
 }
 
-function drawThreads(state, event, all) {
+// The table; the replies may be hidden.
+function drawThreads(state, event, all, hidesReplies = false) {
   const { registers } = LISTS[state.trace.kind];
   const heads = ["thread", "call", "next row of the table", ...registers, "reply", "slots used"];
-  const rows = threadsShown(state, event, all).map((thread) => threadRow(state, thread, event));
+  const rows = threadsShown(state, event, all).map((thread) => threadRow(state, thread, event, hidesReplies));
   if (rows.length === 0) rows.push(`<tr><td colspan="${heads.length}" class="pale">every thread is at rest</td></tr>`);
   const head = tag("tr", {}, ...heads.map((text) => tag("th", { scope: "col" }, text)));
   return tag("table", {}, tag("thead", {}, head), tag("tbody", {}, ...rows));

@@ -1,6 +1,8 @@
-// The classic examples: their names, texts, questions, and the events at which they turn. Without an engine they are shown from
-// their traces, which are kept beside the page (traces.js).
+// What can be opened by its name: the reader's works, and the classic examples with their texts, questions, and the events at which
+// they turn. Without an engine the examples are shown from their traces, which are kept beside the page (traces.js).
 "use strict";
+
+const WORK = "work: ";
 
 function exampleText(name) {
   if (page.engine === null || name === "") return null;
@@ -10,49 +12,78 @@ function exampleText(name) {
 
 function chooseExample(name) {
   page.example = name;
-  byId("examples").value = name;
+  fillWorks();
   const isBroken = page.engine !== null && name !== "" && page.engine.ask("listset_broken_example", name).status === 0;
-  byId("broken").hidden = byId("see-broken").hidden = !isBroken;
+  byId("see-broken").hidden = !isBroken;
 }
 
 // The names that there are.
-const exampleNames = () => [...byId("examples").options].map((option) => option.value).filter((name) => name !== "");
+const exampleNames = () => [...byId("example-options").children].map((option) => option.value);
+
+// The works of the reader, the last one first, in the list of what can be opened; and what is shown is chosen there.
+function fillWorks() {
+  const options = [...works.byName].reverse().map(([name, { text }]) => {
+    const [, list] = text.split("\n");
+    return new Option(`${name} (${list?.slice("list ".length)}): ${eventsAsked(text)} events`, `${WORK}${name}`);
+  });
+  byId("work-options").replaceChildren(...options);
+  byId("work-options").hidden = options.length === 0;
+  const chosen = page.example === "" ? `${WORK}${page.name}` : page.example;
+  const isThere = page.example !== "" || works.byName.has(page.name);
+  byId("nothing-kept").textContent = page.name; // what was opened, and not changed yet
+  byId("examples").value = isThere ? chosen : "";
+}
+
+// What was chosen in the list of what can be opened.
+function chooseInList(value) {
+  if (value.startsWith(WORK)) openWork(value.slice(WORK.length));
+  else if (value !== "") pickExample(value, 0);
+}
 
 function pickExample(name, count) {
   if (page.engine === null) return pickKept(name, count);
+  const text = exampleText(name);
+  keepWork();
   keepBefore();
+  takeName(`from ${name}`, text);
   chooseExample(name);
-  runText(exampleText(name), count);
+  runText(text, count);
 }
 
 // An example from its trace.
 function pickKept(name, count) {
   chooseExample(name);
-  if (!takeTrace(TRACES[name], count, "a trace that is kept beside the page")) return;
-  page.text = byId("schedule").value = scheduleLines(page.trace, page.trace.events.length).join("\n") + "\n";
-  byId("opening").value = page.trace.opening.join(" ");
+  takeTrace(new Trace(TRACES[name]), count, "a trace that is kept beside the page");
+  takeScheduleOfTrace();
   showMarks();
 }
 
-// The names of the examples, each with its list and the line about it: cut as `listset example` prints them.
+// The names of the examples, each with its list: cut as `listset example` prints them. What that says of them would tell the answer.
 function fillExamples() {
   const list = page.engine === null ? EXAMPLES : page.engine.ask("listset_examples", "").text;
   for (const line of list.trimEnd().split("\n")) {
-    const [, name, kind, about] = /^(\S+) +(\S+) +(.*)$/.exec(line);
-    byId("examples").append(new Option(`${name} (${kind}): ${about}`, name));
+    const [name, kind] = line.split(/ +/);
+    byId("example-options").append(new Option(`${name} (${kind})`, name));
   }
 }
 
-// The question of the example, what it turns on, and a tick and a button for each event at which it turns.
-function showTurns(classic, total, count) {
+// The question of the example. Where it turns is told where that is asked for: by ticks on the slider, and a button for each event.
+function showQuestion() {
+  const classic = CLASSICS[page.example];
   byId("question-box").hidden = classic === undefined;
-  const turns = classic?.turns ?? [];
+  const box = byId("turns-box");
+  if (classic === undefined || box.dataset.example !== page.example) {
+    box.open = byId("without-box").open = false;
+    box.dataset.example = page.example;
+  }
+  const { total } = page.trace;
+  const turns = box.open && !isJudging() ? (classic?.turns ?? []) : [];
   const place = (event) => `left: calc(8px + (100% - 16px) * ${event / total})`;
   byId("ticks").innerHTML = turns.map((event) => `<i style="${place(event)}"></i>`).join("");
   if (classic === undefined) return;
   byId("question").textContent = classic.question;
   byId("turns-on").textContent = classic.turnsOn;
   byId("without").textContent = classic.without;
-  const here = (event) => (event === count ? { "aria-current": "true" } : {});
-  byId("turns").innerHTML = turns.map((event) => tag("button", { "data-event": event, ...here(event) }, event)).join(" ");
+  const here = (event) => (event === page.count ? { "aria-current": "true" } : {});
+  redraw(byId("turns"), turns.map((event) => tag("button", { "data-event": event, ...here(event) }, event)).join(" "));
 }

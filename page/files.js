@@ -2,6 +2,7 @@
 "use strict";
 
 const REPLY_WIDTH = 60; // of a call in the picture of a report: what stands right of its bar
+const LONG_TEXT = 200000; // characters of a report that has no picture here
 
 function saveText(name, text) {
   const link = document.createElement("a");
@@ -21,7 +22,7 @@ function kindOfFile(text) {
 function comparedTrace(engine, trace) {
   if (engine === null) return "a trace from a file; its grammar was checked";
   if (trace.refused !== null) return "a trace from a file; its grammar was checked, and it ends with a refused event";
-  const own = engine.ask("listset_trace", scheduleLines(trace, trace.events.length).join("\n") + "\n");
+  const own = engine.ask("listset_trace", scheduleOfTrace(trace));
   const given = trace.text.split("\n").filter((line) => !/^chain( |$)/.test(line));
   const line = own.text.split("\n").findIndex((text, index) => text !== given[index]);
   if (line === -1) return "a trace from a file, and the proved replayer gives the same for its schedule";
@@ -36,18 +37,22 @@ async function openFile(file) {
   if (kind === "report") {
     if (page.engine === null) return tellFault(page.faultLine, "", NO_ENGINE, !page.isRun);
     await openReportBox();
-    return showReport(page.engine, text, `The report in ${file.name}:`);
+    return showReport(text, `The report in ${file.name}:`);
   }
-  if (kind === "schedule") return openText(text, 0);
-  const before = present();
-  if (!takeTrace(text, 0, "a trace from a file")) return;
-  work.before.push(before);
-  work.after = [];
+  const name = works.newName(`from ${file.name}`);
+  if (kind === "schedule") return openText(text, 0, name);
+  openTrace(text, name);
+}
+
+function openTrace(text, name) {
+  const fault = faultOfTrace(text);
+  if (fault !== null) return tellFault(null, "", `this is no trace: ${fault}`);
+  keepBefore();
+  takeName(name, "");
   chooseExample("");
-  page.text = byId("schedule").value = scheduleLines(page.trace, page.trace.events.length).join("\n") + "\n";
-  byId("opening").value = page.trace.opening.join(" ");
+  takeTrace(new Trace(text), 0, "a trace from a file");
+  takeScheduleOfTrace();
   page.source = comparedTrace(page.engine, page.trace);
-  showUndo();
   show();
 }
 
@@ -61,38 +66,32 @@ async function openReportBox() {
   });
 }
 
-// From beside the picture: unfolds the box and goes to it.
-async function seeBroken() {
-  await openReportBox();
-  showBroken();
-  byId("report-box").scrollIntoView();
-}
-
-function showBroken() {
-  const answer = page.engine.ask("listset_broken_example", page.example);
-  showReport(page.engine, answer.text, "The report of a broken list on this schedule:");
-}
-
-const checkedText = (answer) => answer.text.trim();
-
 // Shows a report, and what `check` says of it.
-function showReport(engine, text, whose) {
+async function showReport(text, whose) {
   byId("report").textContent = text;
   byId("report-of").textContent = whose;
-  byId("checked").textContent = checkedText(engine.ask("listset_check", text));
-  showPicture(engine, text);
+  const checked = (await askLong("listset_check", text)).text.trim();
+  if (byId("report").textContent !== text) return;
+  byId("checked").textContent = checked;
+  if (text.length < LONG_TEXT) drawPicture(text);
+  else byId("picture-box").hidden = true;
 }
 
-// The picture of a report or of a schedule as `listset show` draws it, and what it says is refused, where the module draws one.
-function showPicture(engine, text) {
-  const drawn = engine.has("listset_show_svg") ? engine.ask("listset_show_svg", text).text : "";
+// The picture of a report or of a schedule as `listset show` draws it, and what it says is refused.
+function drawPicture(text) {
+  const drawn = askNow("listset_show_svg", text).text;
   byId("picture-box").hidden = !drawn.startsWith("<svg ");
   if (byId("picture-box").hidden) return;
   byId("picture").innerHTML = drawn;
+  const said = lastLine(askNow("listset_show", text).text);
+  byId("picture-says").textContent = said.startsWith("refused ") ? said : "";
+  const svg = byId("picture").firstElementChild;
+  svg.setAttribute("role", "img");
+  svg.setAttribute("aria-label", `the calls of the report${said.startsWith("refused ") ? `; ${said}` : ""}`);
   scrollToClash();
-  const said = engine.ask("listset_show", text).text.trimEnd().split("\n");
-  byId("picture-says").textContent = said[said.length - 1].startsWith("refused ") ? said[said.length - 1] : "";
 }
+
+const lastLine = (text) => text.trimEnd().split("\n").at(-1);
 
 // Brings the first call that clashes into sight, with its reply, where the picture is wider than its place.
 function scrollToClash() {
@@ -103,11 +102,12 @@ function scrollToClash() {
 }
 
 // The report of the schedule that is shown, or the line about its first fault.
-function showOwnReport(engine, schedule) {
-  const answer = engine.ask("listset_replay", schedule);
-  if (answer.status === 0) return showReport(engine, answer.text, "The report of this schedule:");
+async function showOwnReport(schedule) {
+  const answer = await askLong("listset_replay", schedule);
+  if (page.text !== schedule) return;
+  if (answer.status === 0) return showReport(answer.text, "The report of this schedule:");
   byId("report").textContent = answer.text;
   byId("report-of").textContent = "There is no report:";
   byId("checked").textContent = "—";
-  showPicture(engine, schedule);
+  drawPicture(schedule);
 }

@@ -1,44 +1,126 @@
-// A text that is handed in: a title, and a line for each solution, with the name of the lesson, a space and the address of a
-// schedule, or a whole link that ends with it.
+// A text that is handed in: a title, the course and the student, and a line for each solution: the name of its lesson, a space and
+// the address of a schedule (or a whole link that ends with it), or an order that was judged right.
 //
-//     listset-lessons 1
+//     listset-lessons 2
+//     course The twelve lessons of the five lists
+//     student Ada
 //     marked-in-chain #list=lazy&threads=2&quota=4&opening=5&s=b1.remove.5,g1.7,b0.contains.5,g0.3&event=12
+//     judge snip points 2-true,0-true,1-true
+//     end
 //
-// Blank lines are passed over, and a lesson may have several lines.
+// It comes by mail as often as not: lines may be quoted, folded or coded as mail does that, and others may stand around the text.
+// One file may have the texts of a whole class, and courses too.
 "use strict";
 
-const HAND_IN_TITLE = "listset-lessons 1";
+const HAND_IN_TITLE = /^listset-lessons [12]$/;
 
-// The text with these solutions: of each the name of its lesson and its schedule.
-function handInText(solutions) {
-  const lines = solutions.map(({ name, schedule }) => `${name} ${addressOf(schedule, eventsIn(schedule))}`);
-  return [HAND_IN_TITLE, ...lines, ""].join("\n");
+// The text with these solutions, each with the name of its lesson and its schedule, and these lines about runs that were judged.
+function handInText(course, student, solutions, judgedLines) {
+  const lines = solutions.map(({ name, schedule }) => `${name} ${addressOf(schedule, eventsAsked(schedule))}`);
+  return ["listset-lessons 2", `course ${course}`, `student ${student}`, ...lines, ...judgedLines, "end", ""].join("\n");
 }
 
-// The solutions of a text that was handed in, each with the number of its line, and the lines that are none, each with its fault.
-function readHandIn(text) {
-  const [title, ...lines] = text.split("\n").map((line) => line.trim());
-  if (title !== HAND_IN_TITLE) return { solutions: [], faults: [{ line: 1, fault: `"${HAND_IN_TITLE}" is due here` }] };
-  const numbered = lines.map((given, at) => ({ given, line: at + 2 })).filter(({ given }) => given !== "");
-  const read = numbered.map(({ given, line }) => ({ line, ...readSolution(given) }));
-  return { solutions: read.filter(({ fault }) => fault === undefined), faults: read.filter(({ fault }) => fault !== undefined) };
+// The lines of a text without what mail has done to them, each with the number of its first line.
+function unmailed(text) {
+  const isCoded = /=3D/i.test(text); // quoted-printable: a line goes on behind =, and =3D is =
+  const lines = [];
+  let goesOn = false;
+  text.split(/\r\n|\r|\n/).forEach((given, index) => {
+    const bare = given.replace(/[\u200b\ufeff]/g, "").replaceAll("\u00a0", " ").replace(/^[\s>|]+/, "").trimEnd();
+    const line = isCoded ? bare.replace(/=$/, "") : bare;
+    if (goesOn) lines[lines.length - 1].line += line;
+    else lines.push({ line, number: index + 1 });
+    goesOn = isCoded && bare.endsWith("=");
+  });
+  const decoded = (line) => (isCoded ? line.replace(/=([0-9A-F]{2})/gi, (_, code) => String.fromCharCode(parseInt(code, 16))) : line);
+  return lines.map(({ line, number }) => ({ line: decoded(line).replaceAll("&amp;", "&"), number }));
 }
 
-// The name and the schedule that a line has, or its fault.
-function readSolution(given) {
-  const [name, link, ...more] = given.split(" ");
-  if (lessonNamed(name) === undefined) return { fault: `there is no lesson ${JSON.stringify(name.slice(0, 60))}` };
-  if (link === undefined || !link.includes("#")) return { fault: "the address of a schedule is missing, from # on" };
-  if (more.length > 0) return { fault: "something stands behind the address" };
-  return { name, ...readSchedule(link.slice(link.indexOf("#"))) };
+// The texts that a file has, by their titles: courses as they stand, and what was handed in.
+function textsIn(text) {
+  const found = [];
+  const given = text.split(/\r\n|\r|\n/);
+  for (const { line, number } of unmailed(text)) {
+    const last = found.at(-1);
+    if (line === COURSE_TITLE) found.push({ kind: "course", number, lines: [] });
+    else if (HAND_IN_TITLE.test(line)) found.push({ kind: "hand-in", number, version: Number(line.at(-1)), lines: [] });
+    else if (last?.kind === "hand-in" && !last.isEnded && line === "end") last.isEnded = true;
+    else if (last?.kind === "hand-in" && !last.isEnded && line !== "") last.lines.push({ line, number });
+  }
+  for (const [index, course] of found.entries()) {
+    if (course.kind !== "course") continue;
+    course.text = given.slice(course.number - 1, (found[index + 1]?.number ?? given.length + 1) - 1).join("\n");
+  }
+  return found;
 }
 
-function readSchedule(address) {
+// Whether a line begins a part of a text that is handed in, with a space behind its first word, and whether a part still lacks words.
+const isBegin = (line) => /^(student|course|judge) /.test(line) || /^[a-z][a-z0-9-]* +(\S*#|<?https?:)/.test(line);
+const lacksWords = (line) => (/^judge /.test(line) ? line.split(" ").length < 4 : !/^(student|course) /.test(line) && !line.includes("#"));
+const isPiece = (line) => !line.includes(" ") || /^\S*[.,=&]\S* /.test(line);
+
+// What was handed in: the course and the student, or null, the parts with the numbers of their lines, and the faults.
+function readHandIn({ lines, version, isEnded, number }) {
+  const parts = [];
+  const faults = [];
+  for (const given of lines) {
+    const last = parts.at(-1);
+    const isName = /^[a-z][a-z0-9-]*$/.test(given.line) && (last === undefined || !lacksWords(last.line));
+    if (isBegin(given.line) || isName) parts.push({ ...given });
+    else if (last !== undefined && lacksWords(last.line)) last.line += ` ${given.line}`;
+    else if (last !== undefined && isPiece(given.line)) last.line += given.line;
+    else faults.push({ line: given.number, fault: `"${given.line.slice(0, 40)}" is no line of a solution` });
+  }
+  const valueOf = (word) => parts.find(({ line }) => line.startsWith(`${word} `))?.line.slice(word.length + 1) ?? null;
+  if (version === 2 && !isEnded) faults.push({ line: number, fault: 'the text is cut: the line "end" is missing' });
+  const solutions = parts.filter(({ line }) => !/^(student|course) /.test(line));
+  return { course: valueOf("course"), student: valueOf("student"), solutions, faults };
+}
+
+// The schedule of a link or an address, or its fault.
+function readSchedule(link) {
   try {
-    const { text } = readAddress(address);
+    const { text } = readAddress(link.slice(link.indexOf("#")).replace(/>$/, ""));
     return text === null ? { fault: "the address is not that of a schedule" } : { schedule: text };
   } catch (fault) {
     if (!(fault instanceof AddressFault)) throw fault;
     return { fault: fault.message };
   }
+}
+
+// What is said of a part: the task, whether it is solved, and why not.
+function judgedPart(ask, lessons, line) {
+  const [word, ...words] = line.split(/ +/);
+  if (word === "judge") return judgedOrder(ask, words);
+  const lesson = lessons.find(({ name }) => name === word);
+  const not = (says) => ({ task: lesson?.name ?? null, isSolved: false, says });
+  if (lesson === undefined) return not(`there is no lesson ${JSON.stringify(word.slice(0, 60))}`);
+  if (words.length === 0 || !words[0].includes("#")) return not("the address of a schedule is missing, from # on");
+  if (words.length > 1) return not("something stands behind the address");
+  const { schedule, fault } = readSchedule(words[0]);
+  if (fault !== undefined) return not(fault);
+  const verdict = judged(ask, lesson, schedule);
+  if (!verdict.isSolved) return not(missingIn(verdict));
+  return { task: lesson.name, isSolved: true, says: "", isVeryAnswer: schedule === lesson.solution };
+}
+
+// Of a line `judge RUN LEVEL ORDER`: the order is judged by `check`. The run is an example or the address of a schedule.
+function judgedOrder(ask, [run = "", level = "", word = "", ...more]) {
+  const task = `judge ${run} ${level}`;
+  const not = (says) => ({ task, isSolved: false, says });
+  if (!Object.hasOwn(LEVELS, level)) return not(`a level is due, one of ${Object.keys(LEVELS).join(", ")}`);
+  if (more.length > 0) return not("something stands behind the order");
+  const { schedule, fault } = run.includes("#") ? readSchedule(run) : scheduleOfExample(ask, run);
+  if (fault !== undefined) return not(fault);
+  const report = ask("listset_replay", schedule);
+  if (report.status !== 0) return not(`the schedule is refused: ${report.text.trim()}`);
+  const answer = answerOfWord(exerciseOf(report.text, level), word);
+  if (answer === null) return not("the order is due, as 0-true,2-true,1-false");
+  const { isRight, says } = verdictOn(ask, answer);
+  return { task, isSolved: isRight === true, says: isRight === true ? "" : says };
+}
+
+function scheduleOfExample(ask, name) {
+  const { status, text } = ask("listset_example", name);
+  return status === 0 ? { schedule: text } : { fault: `there is no example ${JSON.stringify(name.slice(0, 60))}` };
 }

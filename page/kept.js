@@ -1,25 +1,74 @@
-// What is kept in this browser from one visit to the next: the text of the box, the schedule that was run last, and its event.
+// What is kept in this browser from one visit to the next: each schedule that the reader made, under the name of where it began (a
+// lesson, an example, a link, a file, or none of these), and what the reader has set. Nothing takes the place of another work.
 "use strict";
 
-const KEPT = "listset-page";
+const KEPT = "listset-page-2";
+const KEPT_BEFORE = "listset-page"; // one text, as the page kept it before
+const MOST_WORKS = 60; // the oldest ones go
 
-// What was kept, or null.
-function keptWork() {
+// What stands in the browser's storage under a name, or null where it keeps nothing, or something else stands there.
+function keptUnder(name) {
   try {
-    const kept = JSON.parse(localStorage.getItem(KEPT));
-    return typeof kept?.text === "string" && typeof kept.box === "string" && Number.isInteger(kept.count) ? kept : null;
+    return JSON.parse(localStorage.getItem(name));
   } catch {
-    return null; // the browser keeps nothing, or what it kept is another page's
+    return null;
   }
 }
 
-// Keeps a text of the reader's own; an example that was only looked at takes nobody's work away.
+// Whether the browser keeps it.
+function keepUnder(name, value) {
+  try {
+    localStorage.setItem(name, JSON.stringify(value));
+    return true;
+  } catch {
+    return false;
+  }
+}
+
+const isWork = (kept) => typeof kept?.text === "string" && typeof kept.box === "string" && Number.isInteger(kept.count);
+
+// The works by their names, the last one last: of each its text, that of the box, and its event.
+const works = {
+  byName: new Map(),
+  isKept: true,
+
+  load() {
+    const kept = keptUnder(KEPT);
+    const before = keptUnder(KEPT_BEFORE);
+    const entries = Array.isArray(kept) ? kept : isWork(before) ? [["my schedule", before]] : [];
+    const isGood = (entry) => Array.isArray(entry) && typeof entry[0] === "string" && isWork(entry[1]);
+    this.byName = new Map(entries.filter(isGood));
+  },
+
+  set(name, work) {
+    this.byName.delete(name);
+    this.byName.set(name, work);
+    const names = [...this.byName.keys()];
+    for (const old of names.slice(0, Math.max(0, names.length - MOST_WORKS))) this.byName.delete(old);
+    this.isKept = keepUnder(KEPT, [...this.byName]);
+  },
+
+  // The name of the work with this text, or null.
+  nameOf(text) {
+    return [...this.byName].findLast(([, work]) => work.text === text)?.[0] ?? null;
+  },
+
+  // A name that no work has yet.
+  newName(word) {
+    for (let number = 1; ; number++) {
+      const name = number === 1 ? word : `${word} ${number}`;
+      if (!this.byName.has(name)) return name;
+    }
+  },
+};
+
+// Keeps what the reader made; what was only looked at, an example, a link or the start of a lesson, is not kept.
 function keepWork() {
   const box = byId("schedule").value;
-  if (page.engine === null || (page.example !== "" && box === page.text)) return;
-  try {
-    localStorage.setItem(KEPT, JSON.stringify({ text: page.text, box, count: page.count }));
-  } catch {
-    // A browser may keep nothing, or not as much.
-  }
+  const isLookedAt = box === page.text && page.text === page.begun;
+  if (page.engine === null || page.text === "" || isLookedAt) return;
+  const before = works.byName.get(page.name);
+  if (before?.text === page.text && before.box === box && before.count === page.count) return;
+  works.set(page.name, { text: page.text, box, count: page.count });
+  fillWorks();
 }

@@ -1,254 +1,238 @@
-// The panel of the lessons: the list with ticks, the chosen lesson, and the solutions, which are kept in the browser and handed
-// in. Of the page it uses what interface.js has. A schedule is judged once it is shown, by the run that the engine makes of it.
+// The panel of the lessons: the course and its lessons with ticks, the chosen lesson, what is said of a try, and the text that is
+// handed in. A schedule is judged once it is shown, by the run that the engine makes of it. No answer is told that was not asked for.
 "use strict";
 
-const LESSONS_KEPT = "listset-lessons-1"; // in the local storage; what is kept in another form gets another number
-
-// What is kept: whether the panel is open, the lesson that is chosen, the schedules that solved one, and the lessons whose answer
-// was looked at.
-class KeptLessons {
-  constructor({ isOpen, chosen, solutions, looked }) {
-    const isKnown = (name) => lessonNamed(name) !== undefined;
-    this.isOpen = isOpen === true;
-    this.chosen = isKnown(chosen) ? chosen : LESSONS[0].name;
-    this.solutions = new Map(Object.entries(solutions ?? {}).filter(([name, text]) => isKnown(name) && typeof text === "string"));
-    this.looked = new Set(Array.isArray(looked) ? looked.filter(isKnown) : []);
-  }
-
-  // What the browser has kept; nothing where it keeps nothing, or something else stands there.
-  static load() {
-    try {
-      return new KeptLessons(JSON.parse(localStorage.getItem(LESSONS_KEPT)) ?? {});
-    } catch {
-      return new KeptLessons({});
-    }
-  }
-
-  // Whether the browser keeps it.
-  save() {
-    const { isOpen, chosen, solutions, looked } = this;
-    const kept = { isOpen, chosen, solutions: Object.fromEntries(solutions), looked: [...looked] };
-    try {
-      localStorage.setItem(LESSONS_KEPT, JSON.stringify(kept));
-      return true;
-    } catch {
-      return false;
-    }
-  }
-}
-
-const LESSON_PARTS = `
-<details id="lesson-box">
-  <summary><b>Lessons</b> <span id="lesson-count"></span></summary>
-  <ol id="lesson-list" aria-label="the lessons"></ol>
-  <div class="lesson-columns">
-    <div>
-      <h2 id="lesson-title"></h2>
-      <p id="lesson-question"></p>
-      <p class="lesson-buttons">
-        <button id="lesson-start">Start</button>
-        <button id="lesson-own">Open my solution</button>
-        <button id="lesson-hint" aria-controls="lesson-hint-fold">Hint</button>
-        <button id="lesson-answer" aria-controls="lesson-answer-fold">Answer</button>
-        <button id="lesson-next">Next lesson</button>
-      </p>
-      <p id="lesson-hint-fold" class="lesson-fold"></p>
-      <p id="lesson-answer-fold" class="lesson-fold">
-        After the start: <code id="lesson-lines"></code> <button id="lesson-open">Open it</button>
-      </p>
-    </div>
-    <div>
-      <p id="lesson-verdict" aria-live="polite"></p>
-      <ul id="lesson-conditions" aria-label="what a solution shows"></ul>
-    </div>
-  </div>
-  <p class="note"><b>What it teaches.</b> <span id="lesson-teaches"></span></p>
-  <p class="lesson-buttons">
-    <button id="lesson-hand-in">Hand in</button>
-    <button id="lesson-forget">Forget my solutions</button>
-    <span id="lesson-told" aria-live="polite"></span>
-  </p>
-  <textarea id="lesson-text" rows="6" readonly hidden wrap="off" aria-label="the text to hand in"></textarea>
-  <p class="note">The proved replayer makes the run of a schedule. Whether the run solves a lesson is a plain test of this page
-    over its lines.</p>
-</details>`;
+const lessonPart = (name) => byId(`lesson-${name}`);
 
 class LessonsOnPage {
-  constructor(page, section) {
-    this.page = page;
+  constructor() {
+    this.kept = new KeptLessons();
     this.trace = undefined; // the one that was judged last
-    this.ask = (name, text) => page.ask(name, text);
-    this.kept = KeptLessons.load();
-    this.dropFalse();
-    section.innerHTML = LESSON_PARTS;
-    this.at("list").append(...LESSONS.map((lesson) => this.lineOf(lesson)));
-    this.at("box").open = this.kept.isOpen;
+    this.ticks = new Set(); // the conditions that were met since the lesson was begun
+    this.verdict = null;
     this.listen();
-    this.choose(lessonNamed(this.kept.chosen));
-    page.addEventListener("shown", () => this.look());
-  }
-
-  at(name) {
-    return document.getElementById(`lesson-${name}`);
-  }
-
-  // What was kept is judged anew: it is none of the page's own words.
-  dropFalse() {
-    for (const [name, schedule] of this.kept.solutions) {
-      if (!judged(this.ask, lessonNamed(name), schedule).isSolved) this.kept.solutions.delete(name);
-    }
-  }
-
-  lineOf(lesson) {
-    const button = document.createElement("button");
-    button.dataset.lesson = lesson.name;
-    button.onclick = () => this.choose(lesson);
-    const line = document.createElement("li");
-    line.append(button);
-    return line;
+    lessonPart("box").open = this.kept.isOpen;
+    lessonPart("student").value = this.kept.student;
+    const text = this.kept.courses.get(this.kept.course) ?? BOOK;
+    const course = triedCourse(askNow, text);
+    this.takeCourse(course.faults.length === 0 ? course : triedCourse(askNow, BOOK));
   }
 
   listen() {
-    this.at("box").ontoggle = () => {
-      this.kept.isOpen = this.at("box").open;
+    lessonPart("box").ontoggle = () => {
+      this.kept.isOpen = lessonPart("box").open;
       this.kept.save();
     };
-    this.at("start").onclick = () => this.open(startText(this.lesson));
-    this.at("own").onclick = () => this.open(this.kept.solutions.get(this.lesson.name));
-    this.at("open").onclick = () => this.open(answerText(this.lesson));
-    this.at("hint").onclick = () => this.setFold("hint", this.at("hint-fold").hidden);
-    this.at("answer").onclick = () => this.tellAnswer();
-    this.at("next").onclick = () => this.goOn();
-    this.at("hand-in").onclick = () => this.handIn();
-    this.at("forget").onclick = () => this.forget();
+    lessonPart("list").onchange = () => this.choose(this.course.lessons.find(({ name }) => name === lessonPart("list").value));
+    lessonPart("start").onclick = () => this.begin();
+    lessonPart("go-on").onclick = () => openWork(this.ownWork());
+    lessonPart("own").onclick = () => this.open(this.own.solutions.get(this.lesson.name), "Your solution.");
+    lessonPart("open").onclick = () => this.open(this.lesson.solution, "");
+    lessonPart("judge").onclick = () => this.judge();
+    lessonPart("hint").onclick = () => this.setFold("hint", lessonPart("hint-fold").hidden);
+    lessonPart("answer").onclick = () => this.tellAnswer();
+    lessonPart("next").onclick = () => this.goOn();
+    lessonPart("hand-in").onclick = () => this.handIn();
+    lessonPart("student").onchange = () => {
+      this.kept.student = lessonPart("student").value.trim();
+      this.save();
+    };
+    thePage.addEventListener("shown", () => this.look());
   }
 
-  open(schedule) {
-    this.page.openText(schedule, eventsIn(schedule));
+  // ---- the course and the lesson
+
+  // Takes a course without faults, and the lesson that was chosen in it last.
+  takeCourse(course) {
+    this.course = course;
+    if (course.name !== BOOK_NAME) this.kept.courses.set(course.name, course.text);
+    this.kept.course = course.name;
+    this.own = this.kept.ofCourse(course.name);
+    const names = [BOOK_NAME, ...[...this.kept.courses.keys()].filter((name) => name !== BOOK_NAME)];
+    lessonPart("course").replaceChildren(...names.map((name) => new Option(name, name)));
+    lessonPart("course").value = course.name;
+    this.choose(course.lessons.find(({ name }) => name === this.own.chosen) ?? course.lessons[0]);
   }
 
   choose(lesson) {
     this.lesson = lesson;
-    this.kept.chosen = lesson.name;
+    this.own.chosen = lesson.name;
     this.trace = undefined;
+    this.ticks.clear();
     const { title, list, threads, opening, question, hint, teaches, answer } = lesson;
     const keys = opening.length === 0 ? "" : `, opens with ${opening.join(", ")}`;
-    this.at("title").innerHTML = `${escaped(title)} <small>${LISTS[list].name}, ${threads} threads${keys}</small>`;
-    this.at("question").textContent = question;
-    this.at("hint-fold").textContent = hint;
-    this.at("lines").textContent = answer.join(", ");
-    this.at("teaches").textContent = teaches;
+    lessonPart("title").innerHTML = `${escaped(title)} <small>${LISTS[list].name}, ${threads} threads${keys}</small>`;
+    lessonPart("question").textContent = question;
+    lessonPart("hint-fold").textContent = hint;
+    lessonPart("hint").hidden = hint === "";
+    lessonPart("lines").textContent = answer.join(", ");
+    lessonPart("answer").hidden = answer.length === 0;
+    lessonPart("teaches").textContent = teaches;
     ["hint", "answer"].forEach((name) => this.setFold(name, false));
     this.look();
   }
 
   setFold(name, isOpen) {
-    this.at(`${name}-fold`).hidden = !isOpen;
-    this.at(name).setAttribute("aria-expanded", String(isOpen));
+    lessonPart(`${name}-fold`).hidden = !isOpen;
+    lessonPart(name).setAttribute("aria-expanded", String(isOpen));
+  }
+
+  // The name under which tries of the lesson are kept.
+  workName() {
+    return this.course.name === BOOK_NAME ? `lesson ${this.lesson.name}` : `lesson ${this.lesson.name} of ${this.course.name}`;
+  }
+
+  // The name of the last try that is kept, or null.
+  ownWork() {
+    const name = this.workName();
+    const isTry = (other) => other === name || (other.startsWith(`${name} `) && /^\d+$/.test(other.slice(name.length + 1)));
+    return [...works.byName.keys()].findLast(isTry) ?? null;
+  }
+
+  open(schedule, told) {
+    openText(schedule, eventsAsked(schedule), works.newName(this.workName()), told);
+  }
+
+  // Begins at the start; a try that was begun before stays kept.
+  begin() {
+    this.ticks.clear();
+    keepWork();
+    const isKept = this.ownWork() !== null;
+    this.open(this.lesson.begun, isKept ? "Your try before is kept: Go on with mine leads back to it." : "");
+  }
+
+  goOn() {
+    this.choose(this.course.lessons[this.course.lessons.indexOf(this.lesson) + 1]);
+    this.begin();
+    lessonPart("start").focus();
   }
 
   // From now on the answer itself is no solution of this reader's own.
   tellAnswer() {
-    this.setFold("answer", this.at("answer-fold").hidden);
-    this.kept.looked.add(this.lesson.name);
+    this.setFold("answer", lessonPart("answer-fold").hidden);
+    this.own.looked.add(this.lesson.name);
     this.trace = undefined;
     this.look();
   }
 
-  goOn() {
-    this.choose(LESSONS[LESSONS.indexOf(this.lesson) + 1]);
-    this.open(startText(this.lesson));
-  }
+  // ---- what is said of a try
 
   // Judges the schedule that is shown, where it is another one than before, and draws what changed.
   look() {
-    const trace = this.page.currentTrace();
-    if (trace === this.trace) return;
+    const { trace } = page;
+    if (trace === this.trace) return this.drawButtons();
     this.trace = trace;
-    const schedule = trace === null ? "" : [...scheduleLines(trace, trace.events.length), ""].join("\n");
-    const { name } = this.lesson;
-    const verdict = judged(this.ask, this.lesson, schedule);
-    const { solutions, looked } = this.kept;
-    const isShown = looked.has(name) && schedule === answerText(this.lesson) && schedule !== solutions.get(name);
-    if (verdict.isSolved && !isShown && !solutions.has(name)) this.take(schedule);
-    const isKept = this.kept.save();
+    const { name, solution } = this.lesson;
+    const schedule = this.isOfLesson(trace) ? scheduleOfTrace(trace) : null;
+    this.verdict = schedule === null ? { isSolved: false, reason: OTHER_SET, conditions: [] } : judged(askNow, this.lesson, schedule);
+    for (const { says, isMet } of this.verdict.conditions) if (isMet) this.ticks.add(says);
+    const { solutions, looked } = this.own;
+    this.verdict.isShown = looked.has(name) && schedule === solution && schedule !== solutions.get(name);
+    if (this.verdict.isSolved && !this.verdict.isShown && !solutions.has(name)) this.take(schedule);
+    this.save();
     this.drawList();
-    this.drawVerdict(verdict, isShown);
-    if (!isKept) this.at("told").textContent = "This browser keeps nothing: hand in before you leave the page.";
+    this.drawButtons();
+    this.drawVerdict(verdictText(this.verdict, schedule === this.lesson.begun));
+  }
+
+  // Whether a run has the lesson's set, and is no longer than a solution.
+  isOfLesson({ kind, threads, quota, opening, total, refused }) {
+    const { lesson } = this;
+    const isSame = kind === lesson.list && threads === lesson.threads && quota === lesson.quota && refused === null;
+    return isSame && total <= MOST_EVENTS && opening.length === lesson.opening.length && opening.join() === lesson.opening.join();
   }
 
   // A solution more: the text that was handed in before is no more the whole one.
   take(schedule) {
-    this.kept.solutions.set(this.lesson.name, schedule);
-    this.hideText();
+    this.own.solutions.set(this.lesson.name, schedule);
+    lessonPart("text").hidden = true;
+    lessonPart("told").textContent = "";
   }
 
-  hideText() {
-    this.at("text").hidden = true;
-    this.at("told").textContent = "";
+  // What a wrong try lacks: the first condition, and what the lesson says of a way that leads nowhere.
+  judge() {
+    const { verdict } = this;
+    const begun = "Nothing is tried yet: press Start, and go on from there.";
+    const deadEnd = verdict.deadEnd == null ? "" : ` ${verdict.deadEnd}`;
+    const wrong = verdict.reason === OTHER_SET ? begun : `${missingIn(verdict)?.replace("missing: ", "Missing: ")}${deadEnd}`;
+    this.drawVerdict(verdict.isSolved ? verdictText(verdict, false) : wrong);
+  }
+
+  save() {
+    if (this.kept.save()) return;
+    lessonPart("told").textContent = "This browser keeps nothing: hand in before you leave the page.";
+  }
+
+  // ---- what is drawn
+
+  isSolved(name) {
+    return this.own.solutions.has(name);
   }
 
   drawList() {
-    const { solutions } = this.kept;
-    this.at("count").textContent = `${solutions.size} of ${LESSONS.length} solved`;
-    for (const button of this.at("list").querySelectorAll("button")) {
-      const lesson = lessonNamed(button.dataset.lesson);
-      const tick = solutions.has(lesson.name) ? ' <b class="lesson-tick" role="img" aria-label="solved">✓</b>' : "";
-      button.innerHTML = `${LESSONS.indexOf(lesson) + 1} ${escaped(lesson.title)}${tick}`;
-      if (lesson === this.lesson) button.setAttribute("aria-current", "true");
-      else button.removeAttribute("aria-current");
-    }
-    this.at("own").hidden = !solutions.has(this.lesson.name);
-    this.at("next").hidden = !solutions.has(this.lesson.name) || this.lesson === LESSONS[LESSONS.length - 1];
-    this.at("hand-in").disabled = this.at("forget").disabled = solutions.size === 0;
+    const { lessons } = this.course;
+    lessonPart("count").textContent = `${lessons.filter(({ name }) => this.isSolved(name)).length} of ${lessons.length} solved`;
+    const textOf = ({ name, title }, index) => `${this.isSolved(name) ? "✓ " : ""}${index + 1} ${title}`;
+    lessonPart("list").replaceChildren(...lessons.map((lesson, index) => new Option(textOf(lesson, index), lesson.name)));
+    lessonPart("list").value = this.lesson.name;
   }
 
-  // The conditions stand there before a schedule of the lesson is shown, too: then none is met.
-  drawVerdict({ isSolved, reason, conditions }, isShown) {
-    const shown = reason === null ? conditions : judged(this.ask, this.lesson, startText(this.lesson)).conditions;
-    const lineOf = ({ says, isMet }) => {
-      const isTicked = reason === null && isMet;
-      return tag("li", { class: isTicked ? "met" : "unmet" }, isTicked ? "✓ " : "○ ", escaped(says));
+  drawButtons() {
+    const { lesson, course } = this;
+    const own = this.ownWork();
+    const mine = own === null || works.byName.get(own).text === page.text ? null : own;
+    setHidden(lessonPart("go-on"), mine === null, lessonPart("start"));
+    setHidden(lessonPart("own"), !this.isSolved(lesson.name), lessonPart("start"));
+    setHidden(lessonPart("next"), !this.isSolved(lesson.name) || lesson === course.lessons.at(-1), lessonPart("start"));
+    const isTold = this.isSolved(lesson.name) || this.own.looked.has(lesson.name);
+    lessonPart("teaches-fold").hidden = !isTold || lesson.teaches === "";
+  }
+
+  // The conditions stand there before a schedule of the lesson is shown, too. One that was met keeps its tick.
+  drawVerdict(text) {
+    const says = this.lesson.goal.map((line) => line.says).filter((said) => said !== undefined);
+    const now = new Set(this.verdict.conditions.filter(({ isMet }) => isMet).map((condition) => condition.says));
+    const lineOf = (said) => {
+      const kind = now.has(said) ? "met" : this.ticks.has(said) ? "was-met" : "unmet";
+      const more = kind === "was-met" ? " <small>(met before, not by this schedule)</small>" : "";
+      return tag("li", { class: kind }, kind === "unmet" ? "○ " : "✓ ", escaped(said), more);
     };
-    this.at("conditions").innerHTML = shown.map(lineOf).join("");
-    const text = verdictText(isSolved, isShown, reason);
-    if (this.at("verdict").textContent !== text) this.at("verdict").textContent = text; // a reader hears it once
+    lessonPart("conditions").innerHTML = says.map(lineOf).join("");
+    if (lessonPart("verdict").textContent !== text) lessonPart("verdict").textContent = text; // a reader hears it once
   }
 
   // The text with all solutions is shown, and copied where the browser does that.
   async handIn() {
-    const solutions = LESSONS.filter(({ name }) => this.kept.solutions.has(name));
-    const box = this.at("text");
-    box.value = handInText(solutions.map(({ name }) => ({ name, schedule: this.kept.solutions.get(name) })));
+    const solved = this.course.lessons.filter(({ name }) => this.isSolved(name));
+    const solutions = solved.map(({ name }) => ({ name, schedule: this.own.solutions.get(name) }));
+    const orders = Object.values(keptUnder(JUDGED) ?? {}).filter(isText);
+    const box = lessonPart("text");
+    box.value = handInText(this.course.name, lessonPart("student").value.trim() || "?", solutions, orders);
     box.hidden = false;
+    box.focus();
     box.select();
+    const count = `${solutions.length} solution${solutions.length === 1 ? "" : "s"} and ${orders.length} judged orders`;
     const isCopied = await copied(box.value);
-    const count = `${solutions.length} solution${solutions.length > 1 ? "s" : ""}`;
-    this.at("told").textContent = isCopied ? `The text with ${count} is copied.` : `Copy this text: it has ${count}.`;
-  }
-
-  // Begins anew, at the start of the lesson.
-  forget() {
-    if (!window.confirm("Forget all solutions that this browser has kept?")) return;
-    this.kept = new KeptLessons({ isOpen: true, chosen: this.lesson.name });
-    this.hideText();
-    this.open(startText(this.lesson));
+    lessonPart("told").textContent = isCopied ? `The text with ${count} is copied.` : `Copy this text: it has ${count}.`;
   }
 }
 
-function verdictText(isSolved, isShown, reason) {
+// Hides a part, or shows it; where it had the focus another one has it then.
+function setHidden(part, isHidden, other) {
+  if (isHidden && part === document.activeElement) other.focus();
+  part.hidden = isHidden;
+}
+
+function verdictText({ isSolved, isShown, reason, conditions }, isStart) {
   if (isSolved) return isShown ? "This is the answer that was shown. Find another one." : "Solved.";
-  if (reason !== null) return reason === OTHER_SET ? "Press Start: the page shows another set now." : reason;
-  return "Not solved yet. A solution shows all of this:";
+  if (reason === OTHER_SET) return "Press Start. A solution shows all of this:";
+  if (reason !== null) return reason;
+  return isStart || conditions.length === 0 ? "A solution shows all of this:" : "Not solved yet: Judge tells what is missing.";
 }
 
-async function copied(text) {
-  try {
-    await navigator.clipboard.writeText(text);
-    return true;
-  } catch {
-    return false; // not allowed here, or there is no clipboard
-  }
-}
-
-const LessonPanel = { start: (page) => new LessonsOnPage(page, document.getElementById("lessons")) };
+const LessonPanel = {
+  start() {
+    this.onPage = new LessonsOnPage();
+    listenToCourses(this.onPage);
+  },
+};

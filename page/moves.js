@@ -13,16 +13,11 @@ function drawMoves(state, isAble) {
     row.dataset.thread = thread;
     row.innerHTML = chipOf(thread);
     row.append(...(held.pc !== 0 ? stepControls(state, thread) : beginControls(thread)));
+    row.querySelectorAll("button, select, input").forEach((control) => (control.dataset.of = thread));
     if (!isAble) row.querySelectorAll("button, select, input").forEach((control) => (control.disabled = true));
     return row;
   });
-  const box = document.getElementById("moves");
-  const focused = box.contains(document.activeElement) ? document.activeElement : null;
-  const [thread, name] = [focused?.closest(".row").dataset.thread, focused?.dataset.deed];
-  box.replaceChildren(...rows);
-  if (focused === null) return;
-  const row = rows[Number(thread)];
-  (row?.querySelector(`[data-deed="${name}"]`) ?? row?.querySelector("button"))?.focus();
+  redraw(document.getElementById("moves"), rows);
 }
 
 function buttonOf(text, deed, title, onclick) {

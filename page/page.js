@@ -2,7 +2,7 @@
 "use strict";
 
 const LINE_HEIGHT = 21;
-const MANY_EVENTS = 20000; // of so many it says that it runs, before it does
+const MANY_EVENTS = 20000; // so many run beside the page, with a button to cancel that
 const CAUSES = {
   Header: 'line 1 is to be "listset-schedule 1", or "listset-schedule 2", which has ceilings and opening keys',
   Kind: 'line 2 is to be "list" and one of coarse, fine, optimistic, lazy, lock-free',
@@ -33,7 +33,11 @@ const page = {
   isRun: false, // whether the trace is that of this text
   faultLine: null, // of that text
   example: "", // whose text that is
+  name: "", // under which a work is kept
+  begun: "", // the text with which the work began
   allThreads: false,
+  hides: true, // what is to come
+  view: null, // lecture, list or history, where only that is shown
 };
 const byId = (id) => document.getElementById(id);
 
@@ -41,12 +45,13 @@ function show() {
   const { trace, state, count } = page;
   const moment = momentAt(state, count);
   showBar(moment);
-  byId("list").innerHTML = drawList(state, moment.event, byId("stage").clientWidth);
+  byId("list").innerHTML = drawList(state, moment.event, byId("stage").clientWidth, listHeight());
   scrollToTouched();
   showThreads(moment.event);
   showTable(moment);
-  showHistory(moment.event);
-  byId("order").innerHTML = drawOrder(trace, count);
+  showListing(moment);
+  if (isJudging()) judging.draw();
+  else showHistory(moment.event);
   drawMoves(state, page.engine !== null);
   const goesOn = `Each goes on from event ${count}; what came after it is dropped.`;
   byId("moves-note").textContent = page.engine === null ? "The engine is not here." : goesOn;
@@ -56,24 +61,27 @@ function show() {
   tellShown();
 }
 
-// The names, the sentence and the bar above the picture.
+// The names, the question, the sentence and the bar above the picture.
 function showBar(moment) {
   const { trace, count } = page;
-  const total = trace.events.length;
-  byId("title").textContent = `${LISTS[trace.kind].name}, ${trace.threads} thread${trace.threads > 1 ? "s" : ""}, step by step`;
+  const { total } = trace;
+  const { name } = LISTS[trace.kind];
+  byId("title").textContent = `${name}, ${trace.threads} thread${trace.threads > 1 ? "s" : ""}, step by step`;
+  document.title = `${page.example === "" ? page.name : page.example}, event ${count}: ${name}`;
   byId("source").textContent = page.source;
-  byId("slider").max = total;
-  byId("slider").value = count;
+  byId("said").innerHTML = sentenceOf(moment, hiddenOutcomes());
+  const slider = byId("slider");
+  Object.assign(slider, { max: total, value: count });
+  slider.setAttribute("aria-valuetext", `event ${count} of ${total}: ${byId("said").textContent}`);
   byId("where").textContent = `event ${count} of ${total}`;
-  byId("said").innerHTML = sentenceOf(moment);
-  byId("first").disabled = byId("back").disabled = count === 0;
-  byId("next").disabled = byId("last").disabled = count === total;
-  showTurns(CLASSICS[page.example], total, count);
+  for (const name of ["first", "back"]) setAble(name, count > 0);
+  for (const name of ["next", "last"]) setAble(name, count < total);
+  showQuestion();
 }
 
 function showThreads(event) {
   const many = page.trace.threads > MOST_ROWS;
-  byId("threads").innerHTML = drawThreads(page.state, event, page.allThreads);
+  byId("threads").innerHTML = drawThreads(page.state, event, page.allThreads, hiddenOutcomes().includes("reply"));
   byId("all-threads").hidden = !many;
   byId("all-threads").textContent = page.allThreads ? "only those with an open call" : `show all ${page.trace.threads}`;
 }
@@ -84,15 +92,30 @@ function showTable(moment) {
   if (byId("table-box").open) byId("table").innerHTML = drawTable(moment);
 }
 
+// The rows of each open call, while they are unfolded.
+function showListing(moment) {
+  if (byId("listing-box").open) byId("listing").innerHTML = drawListing(moment);
+}
+
 function showHistory(event) {
-  const scale = scaleOf(page.trace, page.count, Math.max(300, byId("calls").clientWidth));
-  byId("calls").innerHTML = drawCalls(page.trace, scale);
-  byId("contents").innerHTML = drawContents(page.trace, scale);
+  const { trace, count, hides } = page;
+  const scale = scaleOf(trace, count, Math.max(300, byId("history").clientWidth), hides);
+  byId("calls").innerHTML = drawCalls(trace, scale);
+  byId("contents").innerHTML = drawContents(trace, scale);
+  byId("order").innerHTML = drawOrder(trace, count, hides);
   page.scale = scale;
   const box = byId("calls");
   if (event === null || box.scrollHeight <= box.clientHeight) return;
   const y = scale.y(event.thread);
   if (y < box.scrollTop + 20 || y > box.scrollTop + box.clientHeight - 20) box.scrollTop = y - box.clientHeight / 2;
+}
+
+// Where the page is as wide as a table, controls, list and history stand on one screen: what is above and below the list leaves so
+// many pixels for it.
+function listHeight() {
+  if (page.view !== null || innerWidth <= 940) return Infinity;
+  const below = isJudging() ? 340 : 280;
+  return Math.max(150, innerHeight - byId("list").getBoundingClientRect().top - scrollY - below);
 }
 
 // Keeps the node of the event in sight where the list is wider than the page.
@@ -117,7 +140,7 @@ function showMarks() {
   const box = byId("schedule");
   const isStale = box.value !== page.text;
   const mark = (line, kind) => `<div class="${kind}" style="top:${6 + LINE_HEIGHT * (line - 1) - box.scrollTop}px"></div>`;
-  const event = page.count > 0 ? page.trace.events[page.count - 1] : null;
+  const event = page.count > 0 ? page.trace.event(page.count) : null;
   const lines = [];
   if (event !== null && page.isRun) lines.push(mark(event.line, "event"));
   if (page.faultLine !== null) lines.push(mark(page.faultLine, "bad"));
@@ -127,7 +150,7 @@ function showMarks() {
 }
 
 function goTo(count) {
-  page.count = Math.max(0, Math.min(page.trace.events.length, count));
+  page.count = Math.max(0, Math.min(page.trace.total, count));
   tell("");
   show();
 }
@@ -152,24 +175,21 @@ function tellLine(text) {
   else tellFault(null, "", text);
 }
 
-// Shows a trace, of a schedule of this version where it is known, at an event or where a function of it says; false where its
-// text is none.
-function takeTrace(text, at, source, version) {
-  let trace;
-  try {
-    trace = readTrace(text, version);
-  } catch (fault) {
-    if (!(fault instanceof TraceFault)) throw fault;
-    tellFault(null, "", `this is no trace: ${fault.message}`);
-    return false;
-  }
+// Shows a trace at an event, or where a function of it says.
+function takeTrace(trace, at, source) {
   const { refused } = trace;
   Object.assign(page, { trace, state: new State(trace), source });
+  endJudging();
   if (refused === null) tellFault(null, "", "", false);
   else tellFault(refused.line, refused.cause, `line ${refused.line}: ${refused.cause}`, false);
   showHeader(trace);
   goTo(typeof at === "function" ? at(trace) : at);
-  return true;
+}
+
+// The schedule of the trace that is shown, in the box.
+function takeScheduleOfTrace() {
+  page.text = page.begun = byId("schedule").value = scheduleOfTrace(page.trace);
+  byId("opening").value = page.trace.opening.join(" ");
 }
 
 // Runs a text by the engine, and then tells a line: its trace is shown, or the line about its first fault.
@@ -180,49 +200,37 @@ function runText(text, at, told = "") {
   byId("opening").value = openingIn(text).join(" ");
   if (page.engine === null) return tellFault(null, "", NO_ENGINE);
   const asked = eventsAsked(text);
-  if (asked < MANY_EVENTS) return runNow(text, at, told);
-  tell(`running ${asked.toLocaleString("en")} events ..`);
-  afterPaint(() => page.text === text && runNow(text, at, told));
+  if (asked >= MANY_EVENTS) return runLong(text, asked, at, told);
+  stopLong();
+  takeAnswer(askNow("listset_trace", text), text, at, told);
 }
 
-function runNow(text, at, told) {
-  const answer = answerTo("listset_trace", text);
-  if (answer === null) return;
-  if (answer.text.startsWith("listset-trace")) takeTrace(answer.text, at, "run by the proved replayer", versionOf(text));
+// Shows what the engine says of a text.
+function takeAnswer(answer, text, at, told) {
+  if (answer.text.startsWith("listset-trace")) takeTrace(new Trace(answer.text, versionOf(text)), at, "run by the proved replayer");
   else tellLine(answer.text.trim());
-  tell(told);
+  tell(works.isKept ? told : `${told} This browser keeps nothing: save the schedule before you leave the page.`);
   showMarks();
   keepSoon();
   refreshReport();
 }
 
-// What the engine answers, or null, with a line, where it stopped.
-function answerTo(name, text) {
+// What the engine answers at once; a line about the trouble where it stopped.
+function askNow(name, text) {
   try {
     return page.engine.ask(name, text);
   } catch (fault) {
-    tell("");
-    tellFault(null, "", fault.message);
-    return null;
+    return { status: 1, text: fault.message };
   }
 }
 
-// How many events the lines of a text ask for, where it is a schedule.
-function eventsAsked(text) {
-  let count = 0;
-  for (const [, steps] of text.matchAll(/^(?:begin |go \d+ (\d+)$)/gm)) count += Number(steps ?? 1);
-  return count;
-}
-
-const afterPaint = (deed) => requestAnimationFrame(() => setTimeout(deed));
-
 function refreshReport() {
-  if (byId("report-box").open && page.engine !== null) showOwnReport(page.engine, page.text);
+  if (byId("report-box").open && page.engine !== null) showOwnReport(page.text);
 }
 
 async function startPage() {
   listen();
-  takeTrace(EMPTY_TRACE, 0, "");
+  takeTrace(new Trace(EMPTY_TRACE), 0, "");
   try {
     page.engine = await Engine.start();
   } catch (fault) {
@@ -231,7 +239,7 @@ async function startPage() {
   }
   fillExamples();
   if (page.engine !== null) startOthers();
-  openFirst();
+  await openFirst();
   document.body.dataset.ready = "yes";
 }
 

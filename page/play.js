@@ -20,15 +20,15 @@ function stopPlay() {
 
 // Plays on from here, and from the start where nothing is left.
 function startPlay() {
-  if (page.trace.events.length === 0) return;
-  if (page.count === page.trace.events.length) goTo(0);
+  if (page.trace.total === 0) return;
+  if (page.count === page.trace.total) goTo(0);
   playing = setInterval(playOn, SPEEDS[byId("speed").value]);
   showPlay();
 }
 
 function playOn() {
   goTo(page.count + 1);
-  if (page.count === page.trace.events.length) stopPlay();
+  if (page.count === page.trace.total) stopPlay();
 }
 
 const togglePlay = () => (playing === null ? startPlay() : stopPlay());

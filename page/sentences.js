@@ -24,7 +24,7 @@ function deedText(event) {
 function marksOf(trace) {
   if (trace.marks !== undefined) return trace.marks;
   trace.marks = new Map();
-  for (const event of trace.events) {
+  for (const event of trace.starred.map((number) => trace.event(number))) {
     if (isLinkOf(event) && event.to?.endsWith("*") && isDone(event)) trace.marks.set(ownerIn(event.word), event);
   }
   return trace.marks;
@@ -149,13 +149,14 @@ function secondWalkAtKey(held, row) {
 
 const isOpeningNode = (trace, name) => /^n/.test(name) && Number(name.slice(1)) >= firstOpeningNode(trace);
 
-// Where a call that answers here took effect.
-function effectText({ trace, event }) {
+// What a call answers here, and where it took effect; who judges for themselves may be told neither.
+function effectText({ trace, event }, hidden) {
   const { call } = event;
   if (event.answer === undefined) return "";
-  const answers = `<b>${callText(call)} answers ${event.answer}</b>`;
+  const answers = `<b>${callText(call)} answers ${hidden.includes("reply") ? "… what?" : event.answer}</b>`;
+  if (hidden.includes("effect")) return hidden.includes("reply") ? answers : `${answers}.`;
   if (call.at === event.number) return `${answers}, and takes effect here.`;
-  const other = trace.events[call.at - 1].thread;
+  const other = trace.event(call.at).thread;
   const whose = other === event.thread ? "" : `, <b>a step of t${other}</b>`;
   return `${answers}; it took effect at event ${call.at}${whose}.`;
 }
@@ -169,7 +170,7 @@ function openingText(trace) {
 // The state after `count` events of its trace, with the event that led there and what its thread held before. The state is moved.
 function momentAt(state, count) {
   const { trace } = state;
-  const event = count > 0 ? trace.events[count - 1] : null;
+  const event = count > 0 ? trace.event(count) : null;
   state.moveTo(Math.max(count - 1, 0));
   const before = event === null ? null : { ...state.threads[event.thread] };
   state.moveTo(count);
@@ -178,10 +179,12 @@ function momentAt(state, count) {
   return { trace, state, event, before, held: state.threads[event.thread], row };
 }
 
-function sentenceOf(moment) {
+// The sentence of a moment, without what is hidden: some of the outcomes, and "effect", where a call took effect.
+function sentenceOf(moment, hidden = []) {
   const { trace, event } = moment;
-  if (event === null) return trace.events.length === 0 ? "The schedule has no event." : openingText(trace);
+  if (event === null) return trace.total === 0 ? "The schedule has no event." : openingText(trace);
   if (event.deed === "begin") return `${chipOf(event.thread)} ${deedText(event)}`;
-  const outcomes = Object.values(OUTCOMES).map((outcome) => outcome(moment));
-  return [chipOf(event.thread), deedText(event), ...outcomes, effectText(moment)].filter((text) => text !== "").join(" ");
+  const told = Object.keys(OUTCOMES).filter((name) => !hidden.includes(name));
+  const outcomes = told.map((name) => OUTCOMES[name](moment));
+  return [chipOf(event.thread), deedText(event), ...outcomes, effectText(moment, hidden)].filter((text) => text !== "").join(" ");
 }

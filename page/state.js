@@ -7,9 +7,16 @@ const AT_REST = { pc: 0, used: 0, call: null, ...BEGUN };
 const linkTarget = (link) => link.replace("*", "");
 const keyNumber = (key) => (key === "-inf" ? -1 : key === "+inf" ? Infinity : Number(key));
 
+const MOST_UNDONE = 20000; // events that can be gone back; what lies further back is made again from the start
+
 class State {
   constructor(trace) {
     this.trace = trace;
+    this.begin();
+  }
+
+  begin() {
+    const { trace } = this;
     this.count = 0;
     this.lock = "free"; // the list's own lock
     this.nodes = openingNodes(trace);
@@ -19,17 +26,19 @@ class State {
 
   // Goes to the state after `count` events, on or back.
   moveTo(count) {
-    while (this.count < count) this.apply(this.trace.events[this.count++]);
+    if (count < this.count - this.undo.length) this.begin();
+    while (this.count < count) this.apply(this.trace.event(++this.count), count - this.count < MOST_UNDONE);
     while (this.count > count) {
       this.count--;
       for (const [holder, name, before] of this.undo.pop().reverse()) holder[name] = before;
     }
   }
 
-  apply(event) {
+  // Makes an event; it can be gone back where it is kept.
+  apply(event, isKept) {
     const done = [];
     const set = (holder, name, value) => {
-      done.push([holder, name, holder[name]]);
+      if (isKept) done.push([holder, name, holder[name]]);
       holder[name] = value;
     };
     const thread = this.threads[event.thread];
@@ -39,7 +48,8 @@ class State {
     }
     for (const name in event.changes) set(thread, name, event.changes[name]);
     if (event.deed === "store" || (event.deed === "exchange" && event.saw === event.from)) this.write(event, set);
-    this.undo.push(done);
+    if (!isKept) this.undo = [];
+    else if (this.undo.push(done) > 2 * MOST_UNDONE) this.undo.splice(0, MOST_UNDONE);
   }
 
   write(event, set) {

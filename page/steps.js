@@ -1,8 +1,8 @@
 // Steps of one thread, from the event that is shown: one, as many as end its call, as many as lead to a row. How many these are
-// says the engine: it is asked for more than enough, and its trace tells where they end.
+// says the engine: the line is that of a draft.
 "use strict";
 
-const MOST_STEPS = 1000; // of one button or key
+const MOST_TRIED = 1000; // steps of a thread that does not come to where it is sent, to see for what it waits
 
 const isAtRest = (thread) => page.state.threads[thread].pc === 0;
 const tellRest = (thread) => tell(`${chipOf(thread)} is at rest: let it begin a call first, by its row of "Go on from here".`);
@@ -12,44 +12,39 @@ function oneStep(thread) {
   else goOn(`go ${thread} 1`);
 }
 
-function stepsToEnd(thread) {
-  const told = ({ call, answer }) => `${chipOf(thread)} ended ${callText(call)}: ${answer}.`;
-  stepsUntil(thread, (event) => event.answer !== undefined, told, "its call has not ended");
+function stepsToEnd(thread, told = `ended ${callText(page.state.threads[thread].call ?? {})}`) {
+  if (isAtRest(thread)) return tellRest(thread);
+  const { count, fault } = stepsOfDraft(`go ${thread} out`);
+  if (count === null) stepsToLock(thread, fault, "its call has not ended");
+  else goOn(`go ${thread} ${count}`, count, `${chipOf(thread)} ${told}.`);
 }
 
 function stepsToRow(thread, row) {
-  const isThere = (event) => event.changes.pc === row || event.answer !== undefined;
-  const where = (event) => (event.answer === undefined ? `is at row ${row}.` : `ended its call before it came to row ${row}.`);
-  const told = (event) => `${chipOf(thread)} ${where(event)}`;
-  stepsUntil(thread, isThere, told, `it has not come to row ${row}`);
+  if (isAtRest(thread)) return tellRest(thread);
+  const { count, fault } = stepsOfDraft(`go ${thread} to ${row}`);
+  if (count !== null) goOn(`go ${thread} ${count}`, count, `${chipOf(thread)} is at row ${row}.`);
+  else if (fault.endsWith(": Idle")) stepsToEnd(thread, `ended its call before it came to row ${row}`);
+  else stepsToLock(thread, fault, `it has not come to row ${row}`);
 }
 
-// Goes on to the first event of the thread's next ones of which `isThere` holds; else to the lock for which it waits; else as
-// far as one deed may lead.
-function stepsUntil(thread, isThere, told, notYet) {
-  if (isAtRest(thread)) return tellRest(thread);
-  const events = eventsAhead(thread);
-  if (events === null) return;
-  const found = events.findIndex(isThere);
-  if (found !== -1) return goOnSteps(thread, found + 1, told(events[found]));
+// How many steps a line of a draft stands for, or the engine's line about why it stands for none.
+function stepsOfDraft(line) {
+  const { text, fault } = scheduleOfDraft(askNow, scheduleAndLine(page.trace, page.count, line));
+  return fault === null ? { count: Number(text.trimEnd().split(" ").at(-1)), fault } : { count: null, fault };
+}
+
+// Goes on to the lock for which the thread waits; else as far as one deed may lead.
+function stepsToLock(thread, fault, notYet) {
+  const text = scheduleAndLine(page.trace, page.count, `go ${thread} ${MOST_TRIED}`);
+  const answer = askNow("listset_trace", text);
+  if (!fault.endsWith(": Waits") || !answer.text.startsWith("listset-trace")) {
+    return tell(`No steps: the engine says "${escaped(fault)}".`);
+  }
+  const events = new Trace(answer.text).events().slice(page.count);
   const waits = waitsAt(events);
   const line = waits < events.length ? waitingText(thread, events[waits]) : `${chipOf(thread)} made ${events.length} steps`;
-  goOnSteps(thread, waits, `${line}, and ${notYet}.`);
-}
-
-function goOnSteps(thread, count, told) {
-  if (count === 0) tell(told);
-  else goOn(`go ${thread} ${count}`, count, told);
-}
-
-// What the thread's next steps do, by the engine: as many as its call has, and no more than the most.
-function eventsAhead(thread) {
-  const text = scheduleAndLine(page.trace, page.count, `go ${thread} ${MOST_STEPS}`);
-  const answer = answerTo("listset_trace", text);
-  if (answer === null) return null;
-  if (answer.text.startsWith("listset-trace")) return readTrace(answer.text).events.slice(page.count);
-  tell(`No steps: the engine says "${escaped(answer.text.trim())}" of the schedule with ${MOST_STEPS} more.`);
-  return null;
+  if (waits === 0) tell(`${line}, and ${notYet}.`);
+  else goOn(`go ${thread} ${waits}`, waits, `${line}, and ${notYet}.`);
 }
 
 // The place of the first of the tries of a lock with which these events end, all in vain; their number where there are none.

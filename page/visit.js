@@ -4,7 +4,10 @@
 const MOMENT = 400; // milliseconds: the bar follows once nothing has moved for so long, since browsers refuse quick changes of it
 const visit = { timer: 0, text: null }; // the schedule whose address stands there
 
-const ownAddress = () => (page.example === "" ? addressOf(page.text, page.count) : exampleAddress(page.example, page.count));
+function ownAddress() {
+  const address = page.example === "" ? addressOf(page.text, page.count) : exampleAddress(page.example, page.count);
+  return address === null || page.view === null ? address : `${address}&view=${page.view}`;
+}
 
 // The address and what is kept in the browser follow what is shown.
 function keepSoon() {
@@ -34,18 +37,22 @@ function setAddress() {
 }
 
 // Opens what the address bar names since the reader went back or forward, took a link in this page or typed.
-function followAddress(event) {
+async function followAddress(event) {
   clearTimeout(visit.timer);
+  keepWork();
   const { state } = event;
   if (typeof state?.text === "string") openVisited({ example: null, text: state.text, event: state.count });
-  else openAddress();
+  else await openAddress();
   visit.text = page.text;
 }
 
 // Opens what the address names: false, with a line, where it names nothing that there is.
-function openAddress() {
+async function openAddress() {
   try {
     const wanted = readAddress(location.hash);
+    setView(wanted.view);
+    if (wanted.course !== null) return await openCourseOfAddress(wanted.course);
+    if (wanted.sides !== null) return openSides(wanted.sides) ?? false;
     if (wanted.example !== null && !exampleNames().includes(wanted.example)) {
       throw new AddressFault(`the address names the example "${wanted.example}", which there is not`);
     }
@@ -63,30 +70,44 @@ function openVisited({ example, text, event }) {
   if (example === null && page.engine === null) throw new AddressFault("the address names a schedule, which cannot be run here");
   if (wanted === page.text && page.isRun && page.example === (example ?? "")) goTo(event);
   else if (example !== null) pickExample(example, event);
-  else openText(text, event);
+  else openLink(text, event);
   return true;
 }
 
-// What the page shows first: what the address names; else the work that was kept; else the first example.
-function openFirst() {
-  const kept = keptWork();
-  const isNamed = openAddress();
+// A link opens under a name of its own: that of the reader's work with this very text, or a new one.
+function openLink(text, event) {
+  const own = works.nameOf(text);
+  const kept = works.byName.size;
+  if (own === null) {
+    const told = "Opened from a link. What you change of it is kept under a name of its own";
+    openText(text, event, works.newName("from a link"), kept === 0 ? `${told}.` : `${told}; your ${kept} other works stay under Open.`);
+  } else {
+    openText(text, event, own);
+    page.begun = "";
+  }
+}
+
+// What the page shows first: what the address names; else the reader's last work; else the first example.
+async function openFirst() {
+  works.load();
+  fillWorks();
+  const isNamed = await openAddress();
   const said = byId("told").innerHTML;
-  if (!isNamed && kept !== null && page.engine !== null) openText(kept.text, kept.count);
+  const last = [...works.byName.keys()].at(-1);
+  if (!isNamed && last !== undefined && page.engine !== null) openWork(last);
   else if (!isNamed) pickExample(exampleNames()[0], 0);
+  else bringBack();
   if (!isNamed) tell(said);
   work.before = [];
-  if (kept !== null && page.engine !== null) bringBack(kept);
   showUndo();
 }
 
-// Takes the kept text of the box into the box, where it was edited from the text that is shown; else Undo leads to it.
-function bringBack(kept) {
-  if (kept.text !== page.text) work.before.push({ text: kept.box, count: kept.count, example: "" });
-  else if (kept.box !== page.text) {
-    byId("schedule").value = kept.box;
-    showMarks();
-  }
+// What stood in the box of this work, and was not run.
+function bringBack() {
+  const kept = works.byName.get(page.name);
+  if (kept === undefined || kept.text !== page.text || kept.box === kept.text) return;
+  byId("schedule").value = kept.box;
+  showMarks();
 }
 
 // A link to what is shown: it is told, and copied where the browser lets a page do that.
@@ -95,10 +116,15 @@ async function copyLink() {
   if (address === null) return tell("This schedule has no link: it is refused, or too long for an address. Save it as a file.");
   const link = location.href.replace(/#.*$/, "") + address;
   tell(`Copy this link: <code>${escaped(link)}</code>`);
+  if (await copied(link)) tell(`The link is copied: <code>${escaped(link)}</code>`);
+}
+
+// Whether a text is copied, where the browser lets a page do that.
+async function copied(text) {
   try {
-    await navigator.clipboard.writeText(link);
-    tell(`The link is copied: <code>${escaped(link)}</code>`);
+    await navigator.clipboard.writeText(text);
+    return true;
   } catch {
-    // It stands there to be copied by hand.
+    return false;
   }
 }

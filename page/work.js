@@ -3,15 +3,15 @@
 
 const work = { before: [], after: [] }; // the schedules before, for Undo, and those that were undone, for Redo
 
-const present = () => ({ text: page.text, count: page.count, example: page.example });
+const present = () => ({ text: page.text, count: page.count, example: page.example, name: page.name, begun: page.begun });
 
 function showUndo() {
-  byId("undo").disabled = work.before.length === 0;
-  byId("redo").disabled = work.after.length === 0;
+  setAble("undo", work.before.length > 0);
+  setAble("redo", work.after.length > 0);
 }
 
 function keepBefore() {
-  work.before.push(present());
+  if (page.text !== "") work.before.push(present());
   work.after = [];
   showUndo();
 }
@@ -22,6 +22,7 @@ function exchangeWork(from, others) {
   if (wanted === undefined) return;
   others.push(present());
   showUndo();
+  takeName(wanted.name, wanted.begun);
   chooseExample(wanted.example);
   runText(wanted.text, wanted.count);
 }
@@ -29,36 +30,54 @@ function exchangeWork(from, others) {
 const undo = () => exchangeWork(work.before, work.after);
 const redo = () => exchangeWork(work.after, work.before);
 
-// Opens a text as a new schedule, at this event of it.
-function openText(text, at) {
+// From now on what the reader makes is kept under this name, once it is another text than the one with which it began.
+function takeName(name, begun) {
+  keepWork();
+  Object.assign(page, { name, begun });
+}
+
+// Opens a text under a name, at this event of it; what was shown before stays, and Undo leads back to it.
+function openText(text, at, name = works.newName("my schedule"), told = "") {
+  keepWork();
   keepBefore();
+  takeName(name, text);
   chooseExample("");
-  runText(text, at);
+  runText(text, at, told);
+}
+
+function openWork(name) {
+  const { text, box, count } = works.byName.get(name);
+  openText(text, count, name);
+  page.begun = "";
+  if (box !== text) byId("schedule").value = box;
+  showMarks();
 }
 
 const newSchedule = (list, threads, quota) =>
-  openText(`listset-schedule 1\nlist ${list}\nthreads ${threads}\nquota ${quota}\n`, 0);
+  openText(`listset-schedule 1\nlist ${list}\nthreads ${threads}\nquota ${quota}\n`, 0, works.newName("my schedule"));
 
 // How many events from the first on two traces have in common, where they are of one list.
 function eventsInCommon(one, other) {
   const header = ({ kind, threads, quota, opening }) => [kind, threads, quota, ...opening].join();
   if (header(one) !== header(other)) return 0;
-  const most = Math.min(one.events.length, other.events.length);
-  const parts = ({ thread, deed, call }) => `${thread} ${deed} ${call.operation} ${call.key}`;
+  const most = Math.min(one.total, other.total);
+  const deedOf = (trace, number) => trace.lineOf(number).replace(/^event \d+ line \d+/, "");
   let count = 0;
-  while (count < most && parts(one.events[count]) === parts(other.events[count])) count++;
+  while (count < most && deedOf(one, count + 1) === deedOf(other, count + 1)) count++;
   return count;
 }
 
-// Runs the text of the box. Its last line gets its newline where it has none. The event stays where the events up to it do; a
-// text with a refused event is shown up to that.
+// Runs the text of the box, in which a line may be that of a draft. Its last line gets its newline where it has none. The event
+// stays where the events up to it do; a text with a refused event is shown up to that.
 function runBox() {
-  const text = byId("schedule").value;
+  const box = byId("schedule").value;
+  const { text, fault } = scheduleOfDraft(askNow, box === "" || box.endsWith("\n") ? box : `${box}\n`);
+  if (fault !== null) return tellLine(fault);
   const { trace, count } = page;
   keepBefore();
   if (text !== exampleText(page.example)) chooseExample("");
-  const at = (made) => (made.refused === null ? Math.min(count, eventsInCommon(trace, made)) : made.events.length);
-  runText(text === "" || text.endsWith("\n") ? text : `${text}\n`, at);
+  const at = (made) => (made.refused === null ? Math.min(count, eventsInCommon(trace, made)) : made.total);
+  runText(text, at);
 }
 
 // Runs the text of the box with the keys of the opening field in it: as they are typed, so that the engine names what is wrong.

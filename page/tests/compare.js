@@ -6,7 +6,7 @@ const path = require("path");
 const vm = require("vm");
 
 const folder = path.dirname(__dirname);
-for (const file of ["engine.js", "rows.js", "calls.js", "trace.js", "state.js", "tests/cases.js"]) {
+for (const file of ["engine.js", "rows.js", "calls.js", "trace.js", "check_trace.js", "schedule_text.js", "state.js", "tests/cases.js"]) {
   vm.runInThisContext(fs.readFileSync(path.join(folder, file), "utf8"), { filename: file });
 }
 const inPage = (words) => vm.runInThisContext(words);
@@ -24,13 +24,14 @@ function checkTraces(result, engine, cases) {
     const schedule = Buffer.from(texts[0], "base64").toString();
     const answer = engine.ask("listset_trace", schedule);
     if (!answer.text.startsWith("listset-trace")) continue;
-    const trace = inPage("readTrace")(answer.text, inPage("versionOf")(schedule));
+    const trace = new (inPage("Trace"))(answer.text, inPage("versionOf")(schedule));
+    check(result, `the grammar of the trace of ${schedule}`, inPage("faultOfTrace")(answer.text) === null);
     trace.calls.forEach((call) => replies.add(call.reply));
-    const lines = inPage("scheduleLines")(trace, trace.events.length).join("\n") + "\n";
+    const lines = inPage("scheduleOfTrace")(trace);
     if (trace.refused === null) check(result, `the schedule of the trace of ${schedule}`, lines === schedule);
     const state = new (inPage("State"))(trace);
     const atFirst = JSON.stringify(state.threads);
-    state.moveTo(trace.events.length);
+    state.moveTo(trace.total);
     check(result, `the keys in the chain of ${schedule}`, keysOf(state) === keysAtLast(trace));
     state.moveTo(0);
     check(result, `back to the start of ${schedule}`, JSON.stringify(state.threads) === atFirst);
@@ -46,7 +47,7 @@ function keysOf(state) {
 }
 
 function keysAtLast(trace) {
-  const last = trace.events.length;
+  const last = trace.total;
   const parts = inPage("contentsIn")(trace, last + 1, last + 1);
   return parts[0].keys.join();
 }

@@ -8,8 +8,8 @@ const { inPage, loadScripts, startedEngine } = require("../in_node.js");
 
 const folder = path.dirname(__dirname);
 const DRAWING = ["svg", "draw_history", "sentences", "draw_list"];
-const TESTED = ["address", "tests/turns", "tests/colours", "tests/arrows"];
-const PARTS = ["rows", "classics", "traces", "trace", "state", ...DRAWING, ...TESTED];
+const TESTED = ["check_trace", "schedule_text", "address", "sides", "tests/turns", "tests/colours", "tests/arrows"];
+const PARTS = ["rows", "classics", "traces", "trace", "state", ...DRAWING, "draw_threads", "draw_listing", ...TESTED];
 loadScripts(...PARTS.map((part) => `${part}.js`));
 const result = { passed: 0, failed: [] };
 
@@ -18,6 +18,7 @@ function check(name, isGood) {
   else result.failed.push(name);
 }
 
+const traceOf = (engine, schedule) => new (inPage("Trace"))(engine.ask("listset_trace", schedule).text, inPage("versionOf")(schedule));
 const withoutTags = (text) => text.replace(/<[^>]*>/g, "");
 
 function checkTurns(engine) {
@@ -30,7 +31,7 @@ function checkTurns(engine) {
     check(`${name}: there is a word for each event at which it turns`, Object.keys(turns[name]).join() === events.join());
     check(`${name}: it has a question, and what it turns on`, question.endsWith("?") && turnsOn.length > 40);
     check(`${name}: what is said of it leads to nothing below it`, turnsOn.endsWith(".") && without.endsWith("."));
-    const trace = inPage("readTrace")(engine.ask("listset_trace", engine.ask("listset_example", name).text).text);
+    const trace = traceOf(engine, engine.ask("listset_example", name).text);
     const state = new (inPage("State"))(trace);
     for (const [event, words] of Object.entries(turns[name])) {
       const sentence = withoutTags(inPage("sentenceOf")(inPage("momentAt")(state, Number(event))));
@@ -42,9 +43,9 @@ function checkTurns(engine) {
 // A list has a few sentences more that the examples do not have at their turns.
 function checkSentences(engine) {
   const sentences = (lines) => {
-    const trace = inPage("readTrace")(engine.ask("listset_trace", `${lines.join("\n")}\n`).text);
+    const trace = traceOf(engine, `${lines.join("\n")}\n`);
     const state = new (inPage("State"))(trace);
-    return trace.events.map((_, index) => withoutTags(inPage("sentenceOf")(inPage("momentAt")(state, index + 1))));
+    return trace.events().map((_, index) => withoutTags(inPage("sentenceOf")(inPage("momentAt")(state, index + 1))));
   };
   const header = (kind, quota) => [`listset-schedule 1`, `list ${kind}`, "threads 2", `quota ${quota}`];
   const coarse = sentences([...header("coarse", 0), "begin 0 add 5", "go 0 4"]);
@@ -135,9 +136,9 @@ function checkTraces(engine, names) {
 function checkArrows(engine, texts) {
   let labels = 0;
   for (const text of texts) {
-    const trace = inPage("readTrace")(engine.ask("listset_trace", text).text);
+    const trace = traceOf(engine, text);
     const state = new (inPage("State"))(trace);
-    const crossed = trace.events.flatMap((event, index) => {
+    const crossed = trace.events().flatMap((event, index) => {
       state.moveTo(index + 1);
       const drawing = inPage("drawList")(state, event, 860);
       labels += drawing.split('class="pointer').length - 1;
@@ -172,7 +173,7 @@ function longerBy(engine, text, line) {
 
 // Every colour of a text on every ground on which it stands, in light and in dark, and the edges of the controls.
 function checkColours() {
-  const sheet = fs.readFileSync(path.join(folder, "page.css"), "utf8");
+  const sheet = ["page.css", "drawings.css"].map((name) => fs.readFileSync(path.join(folder, name), "utf8")).join("");
   const contrasts = inPage("contrastsOf")(sheet);
   check("colours were found", contrasts.length > 60);
   for (const { name, contrast, least } of contrasts) check(`${name}: a contrast of ${contrast.toFixed(2)}`, contrast >= least);

@@ -1,0 +1,70 @@
+// What a lesson says of a schedule: whether it is a solution, which conditions of the goal its run meets, and why none is looked
+// at. A lesson is tried when it is read: its start does not reach its goal, and its answer does.
+"use strict";
+
+const MOST_EVENTS = 1000; // of a solution
+const OTHER_SET = "The list, the number of threads, the quota and the opening keys are to be those of the lesson.";
+
+// The lines of a schedule that tell its set: list, threads, quota and opening keys.
+const setOf = (schedule) => schedule.split("\n").slice(1).filter((line) => !/^(begin|go) /.test(line)).join("\n");
+
+// The run of a schedule by the engine, or why there is none: `ask` gives what a function of the engine says of a text.
+function runOfSchedule(ask, schedule) {
+  const made = ask("listset_trace", schedule).text;
+  if (!made.startsWith("listset-trace")) return { trace: null, fault: `the schedule is refused: ${made.trim()}` };
+  const trace = new Trace(made, versionOf(schedule));
+  if (trace.refused === null) return { trace, fault: null };
+  return { trace: null, fault: `line ${trace.refused.line} of the schedule is refused: ${trace.refused.cause}` };
+}
+
+// Judges a schedule of a lesson that was tried.
+function judged(ask, lesson, schedule) {
+  const unjudged = (reason) => ({ isSolved: false, reason, conditions: [], deadEnd: null });
+  if (setOf(schedule) !== setOf(lesson.begun)) return unjudged(OTHER_SET);
+  if (eventsAsked(schedule) > MOST_EVENTS) return unjudged(`A solution has at most ${MOST_EVENTS} events.`);
+  const { trace, fault } = runOfSchedule(ask, schedule);
+  if (trace === null) return unjudged(`${fault[0].toUpperCase()}${fault.slice(1)}.`);
+  const run = new Run(trace);
+  const conditions = conditionsOf(lesson.goal, run);
+  const isSolved = conditions.every(({ isMet }) => isMet);
+  return { isSolved, reason: null, conditions, deadEnd: isSolved ? null : deadEndIn(lesson, run) };
+}
+
+// What the lesson's text says of a run that leads nowhere, or null.
+function deadEndIn(lesson, run) {
+  const met = lesson.deadEnds.map((lines) => conditionsOf(lines, run)[0]).find(({ isMet }) => isMet);
+  return met?.says ?? null;
+}
+
+// Why a schedule that was judged is no solution: why it was not looked at, or the first condition that it does not meet.
+function missingIn({ reason, conditions }) {
+  const missing = conditions.find(({ isMet }) => !isMet);
+  return reason ?? (missing === undefined ? null : `missing: ${missing.says}`);
+}
+
+// Tries a lesson, which then has the schedules of its start and of its answer: what is wrong with it, or null.
+function troubleOf(ask, lesson) {
+  const start = scheduleOfDraft(ask, lessonText(lesson, lesson.start));
+  if (start.fault !== null) return `its start is refused: ${start.fault}`;
+  lesson.begun = start.text;
+  const begin = runOfSchedule(ask, start.text);
+  if (begin.trace === null) return `its start is refused: ${begin.fault}`;
+  if (conditionsOf(lesson.goal, new Run(begin.trace)).every(({ isMet }) => isMet)) return "its start meets the goal already";
+  lesson.solution = null;
+  if (lesson.answer.length === 0) return null;
+  const answer = scheduleOfDraft(ask, lessonText(lesson, [...lesson.start, ...lesson.answer]));
+  if (answer.fault !== null) return `its answer is refused: ${answer.fault}`;
+  lesson.solution = answer.text;
+  const verdict = judged(ask, lesson, answer.text);
+  return verdict.isSolved ? null : `its answer does not solve it: ${missingIn(verdict)}`;
+}
+
+// A course that is read and tried: its name, its lessons, and all faults by their lines.
+function triedCourse(ask, text) {
+  const { name, lessons, faults } = readCourse(text);
+  for (const lesson of lessons) {
+    const fault = troubleOf(ask, lesson);
+    if (fault !== null) faults.push({ line: lesson.line, fault: `${lesson.name}: ${fault}` });
+  }
+  return { name, lessons, text, faults: faults.sort((one, other) => one.line - other.line) };
+}

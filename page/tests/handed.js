@@ -1,0 +1,192 @@
+// node tests/handed.js: the texts that are handed in, as mail brings them, and the teacher's tool. Prints how many checks passed, and
+// what failed, as JSON.
+"use strict";
+
+const { spawnSync } = require("child_process");
+const fs = require("fs");
+const os = require("os");
+const path = require("path");
+const { inPage, loadScripts, startedEngine } = require("../in_node.js");
+
+const SCRIPTS = ["rows", "trace", "schedule_text", "state", "address", "svg", "draw_history", "run", "goal_words", "lesson_text",
+  "judge_lesson", "judge_answer", "hand_in", "book"];
+loadScripts(...SCRIPTS.map((name) => `${name}.js`));
+const [textsIn, readHandIn, handInText, triedCourse] = ["textsIn", "readHandIn", "handInText", "triedCourse"].map(inPage);
+const PAGE = path.join(__dirname, "..");
+const BOOK = path.join(PAGE, "book.course");
+const NAME = inPage("BOOK_NAME");
+const ORDER = "judge read-in-anothers-step replies 0-true,2-true,1-false,3-true";
+const result = { passed: 0, failed: [] };
+
+function check(name, isGood) {
+  if (isGood) result.passed++;
+  else result.failed.push(name);
+}
+
+const same = (one, other) => JSON.stringify(one) === JSON.stringify(other);
+const quoted = (text) => text.replace(/^/gm, "> ");
+const folded = (text, width) => text.replace(new RegExp(`(\\S{${width}})(?=\\S)`, "g"), "$1\n");
+const atSpaces = (text) => text.replace(/^(?!student|course|listset).*$/gm, (line) => line.replaceAll(" ", "\n"));
+const coded = (text) => text.replaceAll("=", "=3D").replace(/(.{60}[^=]{3})(?=.)/g, "$1=\n");
+
+// What mail does to a text, and what stands around it.
+const MAILED = {
+  "as it is": (text) => text,
+  "with CRLF": (text) => text.replaceAll("\n", "\r\n"),
+  "with old line ends": (text) => text.replaceAll("\n", "\r"),
+  quoted,
+  "quoted three times": (text) => quoted(quoted(quoted(text))),
+  "folded at 40": (text) => folded(text, 40),
+  "folded at 76, quoted, CRLF": (text) => quoted(folded(text, 76)).replaceAll("\n", "\r\n"),
+  "folded at spaces": atSpaces,
+  "quoted-printable": coded,
+  "quoted-printable, quoted": (text) => quoted(coded(text)),
+  "as HTML": (text) => text.replaceAll("&", "&amp;"),
+  "with links": (text) => text.replaceAll("#", "https://lists.example/page/index.html#"),
+  "with links in brackets": (text) => text.replace(/(#\S+)/g, "<https://lists.example/page/index.html$1>"),
+  "with blank lines and spaces": (text) => text.replaceAll("\n", "  \n\n"),
+  "with no-break spaces": (text) => text.replaceAll(" ", "\u00a0"),
+  "between other words": (text) => `Dear Professor,\nhere it is: judge me mildly.\n\n${text}\nBest wishes\nAda #1\n`,
+};
+
+function checkMail(course) {
+  const answers = course.lessons.map(({ name, solution }) => ({ name, schedule: solution }));
+  const text = handInText(NAME, "Ada Lovelace", answers, [ORDER]);
+  const wanted = readHandIn(textsIn(text)[0]);
+  check("a text that is made is read", wanted.solutions.length === 13 && wanted.student === "Ada Lovelace" && wanted.faults.length === 0);
+  for (const [how, mailed] of Object.entries(MAILED)) {
+    const found = textsIn(mailed(text));
+    const read = found.length === 1 ? readHandIn(found[0]) : {};
+    const linesOf = ({ solutions }) => solutions?.map(({ line }) => line.replace(/<?https:\S*?(?=#)/, "").replace(/>$/, ""));
+    const isSame = same(linesOf(read), linesOf(wanted)) && read.student === wanted.student && read.course === NAME && read.faults.length === 0;
+    check(`${how}: ${JSON.stringify(read).slice(0, 600)}`, isSame);
+  }
+  const before = textsIn(text.replace("lessons 2", "lessons 1").replace(/^(course|student) .*\n/gm, "").replace("end\n", ""));
+  check("a text as the page made it before", readHandIn(before[0]).solutions.length === 13 && readHandIn(before[0]).faults.length === 0);
+  const class_ = textsIn(`${text}${fs.readFileSync(BOOK, "utf8")}${quoted(text)}`);
+  check("a class and a course in one file", same(class_.map(({ kind }) => kind), ["hand-in", "course", "hand-in"]));
+  check("the course as it stands", class_[1].text === fs.readFileSync(BOOK, "utf8").replace(/\n$/, ""));
+}
+
+// What the teacher's tool prints of these files, and its status.
+function said(folder, ...texts) {
+  const files = texts.map((text, index) => {
+    const file = path.join(folder, `${index}.txt`);
+    fs.writeFileSync(file, text);
+    return file;
+  });
+  return told(...files);
+}
+
+function told(...words) {
+  const done = spawnSync(process.execPath, [path.join(PAGE, "check_lessons.js"), ...words], { encoding: "utf8" });
+  return { status: done.status, lines: done.stdout.split("\n").slice(0, -1), fault: done.stderr };
+}
+
+function checkTeacher(course, folder) {
+  const answers = course.lessons.map(({ name, solution }) => ({ name, schedule: solution }));
+  const text = (student, solutions, orders = []) => handInText(NAME, student, solutions, orders);
+  const all = said(folder, text("Ada", answers, [ORDER]));
+  const very = "12 by the very schedule of the lesson's answer, which may be its shortest";
+  check(`all: ${all.lines}`, same(all, { status: 0, lines: [`Ada: 12 of 12 solved; 1 orders judged right; ${very}`], fault: "" }));
+  const group = said(folder, `${text("Ada", answers)}\n${quoted(text("Bo", answers.slice(1)))}`, text("Cy", [], ["judge snip points none"]));
+  check(`a class: ${group.lines.join("; ")}`, group.status === 1 && group.lines.includes("Bo: one-lock: not handed in"));
+  check("how many have all", group.lines.at(-1) === "1 of 3 students have solved all" && group.lines.includes("Cy: 0 of 12 solved"));
+  const claim = group.lines.find((line) => line.startsWith("Cy: ") && line.includes("judge snip points"));
+  check(`a claim that is wrong: ${claim}`, claim?.includes("There is one: this is a run"));
+  const twice = said(folder, text("Ada", answers.slice(0, 6)), text("Ada", answers.slice(6)));
+  check(`two texts of one student: ${twice.lines}`, twice.status === 0 && twice.lines.length === 1);
+}
+
+function checkBadTexts(folder) {
+  const text = `listset-lessons 2
+student \u001b[2JEve
+one-lock
+two-at-once #list=fine&threads=2&quota=4&opening=3.6.9&s=b0.remove.9,g0.12,b1.add.3,g1.6&event=20
+two-at-once #list=fine&threads=2&quota=4&opening=3.6.9&s=b0.remove.9,g0.99
+lost-pred #example=stale-pred&event=30
+changed-link #list=optimistic&threads=2&quota=4&s=
+marked-in-chain #list=lazy&threads=2&quota=4&opening=5&s=b0.add &event=3
+no-lesson #list=lazy&threads=2&quota=4&s=
+judge snip points 0-true
+judge nosuch points 0-true
+judge snip deep 0-true
+This is no line of a solution.
+`;
+  const { status, lines } = said(folder, text);
+  const file = path.join(folder, "0.txt");
+  const due = [
+    `line 13: "This is no line of a solution." is no line of a solution`,
+    'line 1: the text is cut: the line "end" is missing',
+    "line 3: one-lock: the address of a schedule is missing, from # on",
+    "line 4: two-at-once: missing: Thread 1 has an add that answers true.",
+    "line 5: two-at-once: Line 9 of the schedule is refused: Idle.",
+    "line 6: lost-pred: the address is not that of a schedule",
+    "line 7: changed-link: The list, the number of threads, the quota and the opening keys are to be those of the lesson.",
+    "line 8: marked-in-chain: something stands behind the address",
+    'line 9: there is no lesson "no-lesson"',
+    "line 10: judge snip points: Still to be said: remove(5) of t0, add(7) of t1.",
+    'line 11: judge nosuch points: there is no example "nosuch"',
+    "line 12: judge snip deep: a level is due, one of points, replies, claim",
+  ].map((line) => `?[2JEve: ${file}, ${line}`);
+  for (const line of due) check(`told: ${line}; ${lines.slice(0, 14).join("; ")}`, lines.includes(line));
+  check("nothing is solved", status === 1 && lines.at(-1) === "?[2JEve: 0 of 12 solved");
+  const other = said(folder, "listset-lessons 2\ncourse Another\nstudent Ada\nend\n");
+  check(`another course: ${other.lines}`, other.status === 1 && other.lines.some((line) => line.endsWith('the course "Another" is not among the files')));
+}
+
+function checkCourses(folder) {
+  const own = `listset-course 1
+course Mine
+lesson first
+title First
+list lazy
+threads 2
+quota 4
+question
+  Let thread 0 add 5.
+answer
+  begin 0 add 5
+  go 0 11
+goal
+  call C of 0: add, key 5, answers true
+  say Thread 0 has added 5.
+`;
+  const good = said(folder, own);
+  check(`a course: ${good.lines}`, good.status === 0 && good.lines[0].endsWith("Mine: 1 lessons, 0 faults"));
+  const bad = said(folder, own.replace("go 0 11", "go 0 12"));
+  check(`its answer is refused: ${bad.lines}`, bad.status === 1 && bad.lines[0].includes("line 3: first: its answer does not solve it: Line 6"));
+  const handed = "listset-lessons 2\ncourse Mine\nstudent Ada\nfirst #list=lazy&threads=2&quota=4&s=b0.add.5,g0.11&event=12\nend\n";
+  const both = said(folder, own, handed);
+  check(`of one's own course: ${both.lines}`, both.status === 0 && both.lines[0].startsWith("Ada: 1 of 1 solved"));
+  check("in one file", said(folder, own + handed).status === 0);
+  fs.writeFileSync(path.join(folder, "own.course"), own);
+  const ofCourse = told("--link", path.join(folder, "own.course"));
+  check(`the link of a course: ${ofCourse.lines}`, ofCourse.status === 0 && /^page\/index\.html#course=[\w-]+$/.test(ofCourse.lines[1]));
+}
+
+// Words that are wrong, and files that are none, are told; the others are judged all the same.
+function checkWords(folder) {
+  for (const words of [[], ["--help"], ["-x", BOOK], ["--link"], [path.join(folder, "no-such-file")], [folder]]) {
+    const { status, lines, fault } = told(...words);
+    check(`the words ${words}: ${fault}`, status === 2 && lines.length === 0 && /^lessons: .+\n$/.test(fault));
+  }
+  const mixed = said(folder, "listset-schedule 1\n", "listset-lessons 2\nstudent Ada\nend\n");
+  check(`a bad file among others: ${mixed.fault}`, mixed.status === 2 && mixed.fault.includes("0.txt: no line is") && mixed.lines.length > 5);
+  check("an empty file", said(folder, "").status === 2);
+}
+
+async function main() {
+  const engine = await startedEngine();
+  const course = triedCourse((name, text) => engine.ask(name, text), fs.readFileSync(BOOK, "utf8"));
+  const folder = fs.mkdtempSync(path.join(os.tmpdir(), "lessons-"));
+  checkMail(course);
+  checkTeacher(course, folder);
+  checkBadTexts(folder);
+  checkCourses(folder);
+  checkWords(folder);
+  fs.rmSync(folder, { recursive: true });
+  process.stdout.write(JSON.stringify(result));
+}
+
+main();

@@ -1,0 +1,151 @@
+// node tests/judge.js: the reader's answers about a run, judged by the engine's check; and two lists side by side. Prints how many
+// checks passed, and what failed, as JSON.
+"use strict";
+
+const { inPage, loadScripts, startedEngine } = require("../in_node.js");
+
+const SCRIPTS = ["rows", "trace", "schedule_text", "state", "address", "svg", "draw_history", "sentences", "judge_answer", "sides"];
+loadScripts(...SCRIPTS.map((name) => `${name}.js`));
+const [exerciseOf, answerOfWord, wordOfAnswer, verdictOn] = ["exerciseOf", "answerOfWord", "wordOfAnswer", "verdictOn"].map(inPage);
+const [reportOfAnswer, OwnAnswer, repliesOf, LEVELS] = ["reportOfAnswer", "OwnAnswer", "repliesOf", "LEVELS"].map(inPage);
+const result = { passed: 0, failed: [] };
+
+function check(name, isGood) {
+  if (isGood) result.passed++;
+  else result.failed.push(name);
+}
+
+const wordIn = (report) => [...report.matchAll(/^place (\d+) (\S+)$/gm)].map(([, id, reply]) => `${id}-${reply}`);
+
+// At each level the replayer's own order is right; one that is turned round is judged as check judges it.
+function checkLevels(ask, name, report) {
+  const places = wordIn(report);
+  for (const level in LEVELS) {
+    const exercise = exerciseOf(report, level);
+    const own = answerOfWord(exercise, places.join());
+    const verdict = verdictOn(ask, own);
+    check(`${name}, ${level}: the replayer's own order: ${verdict.says}`, verdict.isRight === true && verdict.says.endsWith("gives, too."));
+    check(`${name}, ${level}: its report is the engine's`, reportOfAnswer(own) === report);
+    check(`${name}, ${level}: and back to its word`, wordOfAnswer(own) === places.join());
+    const turned = answerOfWord(exercise, [...places].reverse().join());
+    const isOk = ask("listset_check", reportOfAnswer(turned)).text.trim() === "ok"; // two adds of two keys may be turned round
+    const said = verdictOn(ask, turned);
+    check(`${name}, ${level}: turned round: ${said.says}`, said.isRight === isOk && !said.says.startsWith("refused"));
+    const isAsked = exercise.calls.some((call) => call.ended !== null);
+    check(`${name}, ${level}: nothing said`, verdictOn(ask, new OwnAnswer(exercise)).isRight === (isAsked ? null : false));
+  }
+}
+
+// That there is no order is right of a report of a list without its check, and wrong of a run.
+function checkClaims(ask, name, report) {
+  const claimOf = (exercise) => verdictOn(ask, Object.assign(new OwnAnswer(exercise), { isNone: true }));
+  check(`${name}: there is an order`, claimOf(exerciseOf(report, "claim")).isRight === false);
+  const broken = ask("listset_broken_example", name);
+  if (broken.status !== 0) return;
+  const exercise = exerciseOf(broken.text, "claim", true);
+  check(`${name}: none, of the broken report`, claimOf(exercise).isRight === true);
+  const refused = verdictOn(ask, answerOfWord(exercise, wordIn(broken.text).join()));
+  check(`${name}: its order: ${refused.says}`, refused.isRight === false && !refused.says.startsWith("refused"));
+}
+
+// No sentence of a run tells what is asked for.
+function checkHidden(ask, name, schedule) {
+  const trace = new (inPage("Trace"))(ask("listset_trace", schedule).text);
+  const state = new (inPage("State"))(trace);
+  for (const level of ["points", "replies"]) {
+    for (let count = 1; count <= trace.total; count++) {
+      const text = inPage("sentenceOf")(inPage("momentAt")(state, count), LEVELS[level].hidden).replace(/<[^>]*>/g, "");
+      const isPoint = /takes effect|took effect|into the set|out of the set/.test(text);
+      const isTold = isPoint || (level === "replies" && /answers? (true|false|at-|full|nothing)/.test(text));
+      check(`${name}, event ${count}, ${level}: "${text}"`, !isTold);
+    }
+  }
+}
+
+// The contains that takes effect in another thread's step: by moments, with a wrong reply, and at a wrong moment.
+function checkByHand(ask) {
+  const report = ask("listset_replay", ask("listset_example", "read-in-anothers-step").text).text;
+  const answer = new OwnAnswer(exerciseOf(report, "replies"));
+  const [first, contains, remove, second] = answer.exercise.calls;
+  [[first, 10], [contains, 39], [remove, 23], [second, 36]].forEach(([call, at]) => answer.place(call, at));
+  [first, remove, second].forEach((call) => answer.say(call, "true"));
+  const says = () => verdictOn(ask, answer).says;
+  check(`a reply is missing: ${says()}`, says() === "Still to be said: contains(5) of t0.");
+  answer.say(contains, "true");
+  check(`the wrong reply: ${says()}`, says().startsWith("contains(5) of t0 does not answer true in this run."));
+  answer.say(contains, "false");
+  const wrong = "contains(5) of t0 cannot answer false there: after add(5) of t1 in your order the set is {5}, and it would answer true.";
+  check(`the wrong moment: ${says()}`, says() === wrong && verdictOn(ask, answer).clash === 1);
+  answer.place(contains, 23.6);
+  check("the right moment", verdictOn(ask, answer).isRight === true && answer.points.get(1).at === 23.5);
+  answer.place(contains, 2);
+  check("a point stays in its bar", answer.points.get(1).at === 13);
+  answer.take(contains);
+  check("a point is taken away", !answer.points.has(1));
+  const exercise = exerciseOf(report, "points");
+  for (const word of ["", "0", "9-true", "0-true,0-true", "x", "0-true;1-true"]) check(`no answer: ${word}`, answerOfWord(exercise, word) === null);
+  const early = verdictOn(ask, answerOfWord(exercise, "2-true,0-true,1-false,3-true")).says;
+  check(`told why: ${early}`, /cannot answer|stands before/.test(early));
+  const ceiling = exerciseOf(ask("listset_replay", ask("listset_example", "behind-the-walk").text).text, "replies");
+  check("replies of a ceiling", repliesOf(ceiling, { operation: "ceiling" }).join() === "nothing,at-5,at-9");
+}
+
+// An open call stands in an order where it has changed the set, and may be left out where not.
+function checkOpenCalls(ask) {
+  const head = "listset-schedule 1\nlist lazy\nthreads 2\nquota 4\nbegin 0 add 5\n";
+  const judgedAs = (steps, word) => {
+    const report = ask("listset_replay", `${head}go 0 ${steps}\nbegin 1 contains 5\ngo 1 ${steps > 8 ? 3 : 2}\n`).text;
+    return verdictOn(ask, answerOfWord(exerciseOf(report, "points"), word));
+  };
+  check("an open call that has changed the set", judgedAs(9, "0-true,1-true").isRight === true);
+  check("left out", judgedAs(9, "1-true").isRight === false);
+  check("one that has not", judgedAs(4, "1-false").isRight === true);
+  check("put in", judgedAs(4, "0-true,1-false").isRight === false);
+}
+
+// Two lists: each turn makes a step in both, and one that has answered waits.
+function checkSides(ask) {
+  const [Sides, readProgram, programText] = ["Sides", "readProgram", "programText"].map(inPage);
+  const program = readProgram("0: add 5, remove 5\n t1 : contains 5\n");
+  check("a program", JSON.stringify(program) === '[["add 5","remove 5"],["contains 5"]]');
+  check("and its text", programText(program) === "0: add 5, remove 5\n1: contains 5\n");
+  for (const text of ["", "x", "0 add 5", "0: ad 5", "0: add 5; remove 5", "64: add 5"]) {
+    let fault = "";
+    try {
+      readProgram(text);
+    } catch (found) {
+      fault = found.message;
+    }
+    check(`no program: ${text}: ${fault}`, fault.length > 10);
+  }
+  const both = new Sides(ask, ["coarse", "lazy"], { program, quota: 4, opening: [] });
+  let turns = 0;
+  while (both.turn(0)) turns++;
+  const [coarse, lazy] = both.sides;
+  const counts = `${coarse.trace.total} and ${lazy.trace.total} events in ${turns} turns`;
+  check(`the shorter one waits: ${counts}`, counts === "15 and 23 events in 23 turns" && turns === both.turns.length);
+  check("each is a run by the engine", both.sides.every((side) => ask("listset_replay", side.schedule).text.includes("place 1 true")));
+  const waits = coarse.counts.filter((count, at) => at > 0 && count === coarse.counts[at - 1]).length;
+  check(`turns at which it waits: ${waits}`, waits === 8);
+  check("both begin the next call at one turn", coarse.counts.indexOf(9) === lazy.counts.indexOf(13));
+  check("the other thread goes on", both.turn(1) && both.turns.at(-1) === 1);
+  check("a thread that there is not", !both.turn(2));
+}
+
+async function main() {
+  const engine = await startedEngine();
+  const ask = (name, text) => engine.ask(name, text);
+  for (const name of ask("listset_examples", "").text.trimEnd().split("\n").map((line) => line.split(" ")[0])) {
+    const schedule = ask("listset_example", name).text;
+    const report = ask("listset_replay", schedule).text;
+    checkLevels(ask, name, report);
+    checkClaims(ask, name, report);
+    checkHidden(ask, name, schedule);
+  }
+  checkByHand(ask);
+  checkOpenCalls(ask);
+  checkSides(ask);
+  process.stdout.write(JSON.stringify(result));
+}
+
+main();
