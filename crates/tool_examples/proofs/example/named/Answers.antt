@@ -7,5 +7,5 @@ use Rattle.tool_examples.proofs.example.named.Goals as goal
 pub returns-clause-only : goal.returns-clause-only
 returns-clause-only c = λ e is.
     let at = is_listed e in
-    let known : at.0 < 16 = at.1 in
+    let known : at.0 < 18 = at.1 in
     absurd (c.loop-example.invariant at.0 e (omega arith) (is ∙ sym (ap name_of at.2)))
