@@ -201,7 +201,7 @@ fn waits_at_a_lock<M: Running + Send + Sync, R: Threads + Wait + Clock + Abort +
 /// Also a pause that is to be asked after failed steps alone.
 #[test]
 fn a_pause_is_told_of_each_try_at_a_lock_that_another_seat_has(rt: HostRuntime) {
-    for seldom in [false, true] {
+    for &seldom in &[false, true] {
         waits_at_a_lock::<CoarseList, HostRuntime>(&rt, rt.alloc(), 0, seldom);
         waits_at_a_lock::<FineList, HostRuntime>(&rt, rt.alloc(), 0, seldom);
         waits_at_a_lock::<OptimisticList, HostRuntime>(&rt, rt.alloc(), 2, seldom);
