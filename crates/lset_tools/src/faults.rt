@@ -1,5 +1,4 @@
-ghost use Rattle.std.specs.Prelude.{◌≡◌};
-ghost use Rattle.lset_tools.specs.Faults.{TellsFaults, faults_text};
+ghost use Rattle.lset_tools.specs.Faults.{TellsFaults};
 ghost use Rattle.lset_tools.specs.Tools.{Ends, view};
 
 use crate::answer::{Answer, deliver};
@@ -76,19 +75,12 @@ Other lines
   listset: out of memory  The system gave no memory; status 3.
 ";
 
-#[tactic(auto, unfolding(crate::specs::Faults::faults_text))]
-fn faults_text() -> &'static str
-    ensures { result.now ≡ faults_text }
-{
-    FAULTS
-}
-
 /// What `faults` tells: `FAULTS`. `Trouble::Memory` where memory was refused.
 #[tactic(auto, unfolding(crate::specs::Faults::faults_text))]
 pub fn faults_told(alloc: Global) -> Result<Answer, Trouble>
     ensures { TellsFaults (view result) }
 {
-    let text = Vec::from_slice(alloc, faults_text().as_bytes())?;
+    let text = Vec::from_slice(alloc, FAULTS.as_bytes())?;
     Ok(Answer { text, status: 0 })
 }
 
