@@ -20,7 +20,7 @@ use atomic_table::Table;
 use lset_headline::runs_are_linearizable;
 use lset_rule::{Cutting, Follows, Learning, Pause, Place, Shape, Spin, Taking, View};
 use lset_words::{Call, Key, Reply};
-use std::alloc::Global;
+use std::alloc::{AllocError, Global};
 use std::marker::Model;
 use std::sync::Wait;
 
@@ -187,6 +187,19 @@ impl<M: Running> LiveSet<M> {
             quota,
             opening,
         })
+    }
+
+    /// Closes the set, of which the seat holds all seats, and gives the keys that are left. It fails only where memory was
+    /// refused.
+    pub fn keys_left(self, seat: Seat<M>) -> Result<Vec<u32>, AllocError>
+        requires seat { seat.set ≡ self }
+        requires all { seat.held ≡ self.shape.threads }
+        ensures { IfOk result (λ v. Explains self.shape (seat.past ∷ []) v.items) }
+    {
+        let Ok(closed) = self.close(seat) else {
+            unreachable!()
+        };
+        closed.keys()
     }
 
     pub(crate) fn split_off(&self, place: &mut Place) -> Place

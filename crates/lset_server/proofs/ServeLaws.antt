@@ -12,9 +12,6 @@ use Rattle.lset_live.specs.Seats.{SeatValue, gather_onto}
 use Rattle.lset_words.proofs.Records.{with_calls-append}
 use Rattle.lset_live.proofs.Records.{gather_more}
 use Rattle.lset_session.specs.declared.TheConstants.{MOST_LINES}
-use Rattle.lset_session.specs.declared.sessions.Why.{Why}
-use Rattle.lset_session.specs.SessionText.{calls_in}
-use Rattle.lset_session.specs.Sessions.{IsSession}
 use Rattle.lset_words.specs.declared.TheConstants.{MOST_THREADS}
 use Rattle.lset_server.specs.declared.channel.TheConstants.{PARTS}
 use Rattle.lset_server.specs.declared.channel.Tally.{Tally}
@@ -29,18 +26,16 @@ pub worked_none : (s : SeatValue) (v : Tally) → v ≡ tally 1 [] [] → HasWor
 worked_none s v e = record { received = []; view = e; number = refl; added = []; recorded = refl; count = refl; held = refl }
 
 -- one session more
-pub worked_more : (s s1 s2 : SeatValue) (v v' : Tally) (n m k : ℕ) (ns : List ℕ) (why : Why) (i i' w w' : Option (List ℕ)) →
-    HasWorked s s1 v n m
-    → length ns ≡ 1 → v' ≡ tally v.parts v.sent (v.received ++ ns) → IsSession why k i i' s1.past s2.past w w' → s2.held ≡ s1.held
-    → HasWorked s s2 v' (n + 1) (m + k)
-worked_more s s1 s2 v v' n m k ns why i i' w w' b one e did same = record {
-  received = b.received ++ ns;
-  view = e ∙ ap (λ (u : Tally). tally u.parts u.sent (u.received ++ ns)) b.view;
-  number = omega (arith, b.number, one, length-append b.received ns);
-  added = b.added ++ calls_in did.talk;
-  recorded = did.recorded ∙ ap (λ (q : Record). with_calls q (calls_in did.talk)) b.recorded
-      ∙ sym (with_calls-append s.past b.added (calls_in did.talk));
-  count = omega (arith, b.count, did.count, length-append b.added (calls_in did.talk));
+pub worked_more : (s s1 s2 : SeatValue) (v v' : Tally) (n m k number : ℕ) → HasWorked s s1 v n m
+    → v' ≡ tally v.parts v.sent (v.received ++ number ∷ []) → s2.held ≡ s1.held
+    → ((added : List CallMade) × (s2.past ≡ with_calls s1.past added) × (k ≡ length added)) → HasWorked s s2 v' (n + 1) (m + k)
+worked_more s s1 s2 v v' n m k number b e same (more, recorded, count) = record {
+  received = b.received ++ number ∷ [];
+  view = e ∙ ap (λ (u : Tally). tally u.parts u.sent (u.received ++ number ∷ [])) b.view;
+  number = omega (arith, b.number, length-append b.received (number ∷ []));
+  added = b.added ++ more;
+  recorded = recorded ∙ ap (λ (q : Record). with_calls q more) b.recorded ∙ sym (with_calls-append s.past b.added more);
+  count = omega (arith, b.count, count, length-append b.added more);
   held = same ∙ b.held;
 }
 
@@ -143,6 +138,9 @@ joined_next f hs rest rest' h s s' end end' v u u' w n m k c step (done, split, 
   },
 )
 
+pub bound_none : (most n total : ℕ) → n ≡ total → 0 + most * n ≤ most * total
+bound_none most n total e = let same : most * n ≡ most * total = ap (λ k. most * k) e in omega (arith, same)
+
 pub bound_next : (s d most n n' total : ℕ) → s + most * n ≤ total → n ≡ n' + 1 → d ≤ most → s + d + most * n' ≤ total
 bound_next s d most n n' total h e small =
     let full : s + most * (n' + 1) ≤ total = subst (λ x. s + most * x ≤ total) e h in
@@ -170,14 +168,14 @@ pub as_many : {H T : Type 0} (seat_of : H → T) (hs : List H) (ss : List T) →
 as_many seat_of hs ss e = sym (length-map hs seat_of) ∙ ap (λ l. length l) e
 
 -- the pass of the sender has all parts again, and has sent the numbers of all connections
-pub whole_again : (n many : ℕ) (v u w x y : Tally) (received : List ℕ) (k : ℕ) → v ≡ tally PARTS [] [] → n ≤ MOST_THREADS →
+pub whole_again : (n many : ℕ) (v u x y : Tally) (received : List ℕ) (k : ℕ) → v ≡ tally PARTS [] [] → n ≤ MOST_THREADS →
     u ≡ tally (v.parts - n) v.sent v.received
-    → w ≡ tally u.parts (u.sent ++ numbers_below many) u.received → x ≡ w → k ≡ n →
+    → x ≡ tally u.parts (u.sent ++ numbers_below many) u.received → k ≡ n →
     y ≡ tally (x.parts + k) x.sent (x.received ++ received)
     → y ≡ tally PARTS (numbers_below many) received
-whole_again n many v u w x y received k a few b c d e f =
+whole_again n many v u x y received k a few b c e f =
     let xv : x ≡ tally (PARTS - n) (numbers_below many) [] =
-    d ∙ c ∙ ap (λ (z : Tally). tally z.parts (z.sent ++ numbers_below many) z.received) (b
+    c ∙ ap (λ (z : Tally). tally z.parts (z.sent ++ numbers_below many) z.received) (b
     ∙ ap (λ (z : Tally). tally (z.parts - n) z.sent z.received) a) in
     f ∙ ap (λ (z : Tally). tally (z.parts + k) z.sent (z.received ++ received)) xv
     ∙ ap (λ p. tally p (numbers_below many) received) (omega (arith, few, e))

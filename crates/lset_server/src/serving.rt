@@ -112,6 +112,24 @@ fn close_all<R: Wait>(
     Ok(())
 }
 
+/// Accepts so many connections, sends them on, and tells so many workers that no more come.
+fn send_all<R: Wait>(
+    rt: &R,
+    listener: &TcpListener,
+    to: &Sender<TcpStream>,
+    pass: &mut Token<TcpStream>,
+    sessions: u32,
+    workers: usize,
+) -> Result<(), ServeCause>
+    requires { IsSeatAt (sends_on to.now) pass.old × (0 < (view pass.old).parts) }
+    ensures cause { IfErr result (λ e. e ≢ ServeCause.Seats) }
+    ensures told { OnOk result (IsSeatAt (sends_on to.now) pass.new × (view pass.new
+        ≡ tally (view pass.old).parts ((view pass.old).sent ++ numbers_below sessions) (view pass.old).received)) }
+{
+    accept_all(rt, listener, to, pass, sessions)?;
+    close_all(rt, to, pass, workers)
+}
+
 /// Starts the workers, accepts the connections and joins the workers. Gives the pass with all parts, and the gathered seat.
 fn serve_in<'s, E, R: Threads + Wait + Clock + Sync, M: Running + Send + Sync>(
     scope: &Scope<'s, E>,
@@ -135,8 +153,7 @@ fn serve_in<'s, E, R: Threads + Wait + Clock + Sync, M: Running + Send + Sync>(
 {
     let workers = seats.len();
     let started = start_all(alloc, scope, rt, to, from, &mut pass, set, seats, sessions)?;
-    accept_all(rt, listener, to, &mut pass, sessions)?;
-    close_all(rt, to, &mut pass, workers)?;
+    send_all(rt, listener, to, &mut pass, sessions, workers)?;
     let gathered = join_all(rt, to, &mut pass, set, started, sessions);
     balance(to, &mut pass);
     if gathered.sessions != u64::from(sessions) {
@@ -226,10 +243,7 @@ pub fn serve<R: Threads + Wait + Clock + Sync, M: Running + Send + Sync>(
         calls,
     } = gathered;
     let Some(seat) = seat else { unreachable!() };
-    let Ok(closed) = set.close(seat) else {
-        unreachable!()
-    };
-    let Ok(keys) = closed.keys() else {
+    let Ok(keys) = set.keys_left(seat) else {
         return Err(ServeFault {
             cause: ServeCause::Memory,
             back: None,

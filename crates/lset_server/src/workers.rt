@@ -1,9 +1,11 @@
 //! The workers of a server, one for each seat.
-ghost use Rattle.std.specs.Prelude.{◌≡◌, ◌≢◌, ◌<◌, ◌≤◌, ◌-◌, ◌*◌, [], All, IfErr, IfOk, IfSome, OnOk, length, map, sum_by};
+ghost use Rattle.std.specs.Prelude.{◌≡◌, ◌≢◌, ◌<◌, ◌≤◌, ◌-◌, ◌*◌, ◌++◌, List, [], ◌∷◌, All, length, map, sum_by};
+ghost use Rattle.std.specs.Prelude.{IfErr, IfOk, IfSome, MatchOption, OnOk};
 ghost use Rattle.std.specs.Option.{option_map};
 ghost use Rattle.lset_words.specs.declared.TheConstants.{MOST_THREADS};
 ghost use Rattle.crossbeam_channel.specs.Claims.{view, IsSeatAt};
 ghost use Rattle.crossbeam_channel.specs.Ends.{sends_on, receives_on};
+ghost use Rattle.lset_words.specs.Records.{CallMade, with_calls};
 ghost use Rattle.lset_live.specs.Seats.{held_in};
 ghost use Rattle.lset_session.specs.declared.TheConstants.{MOST_LINES};
 ghost use Rattle.lset_server.specs.Tallies.{tally};
@@ -49,8 +51,45 @@ impl<M: Running> Promise<Back<M>> for Owed<M> {
 /// A worker that was started.
 pub type Worker<M> = PromisedHandle<Back<M>, Owed<M>>;
 
-/// Serves connections on the seat, until no more come or `most` were received. A session that ends with a fault ends no
-/// more than itself.
+/// Waits for the next connection. `None` where no more come.
+fn next<R: Wait>(
+    rt: &R,
+    from: &Receiver<TcpStream>,
+    pass: &mut Token<TcpStream>,
+) -> Option<Connection<TcpStream>>
+    requires channel { IsSeatAt (receives_on from.now) pass.old }
+    requires part { 0 < (view pass.old).parts }
+    ensures channel { IsSeatAt (receives_on from.now) pass.new }
+    ensures told { MatchOption result (view pass.new ≡ view pass.old)
+        (λ c. view pass.new ≡ tally (view pass.old).parts (view pass.old).sent ((view pass.old).received ++ c.number ∷ [])) }
+{
+    match receive(rt, from, pass) {
+        Ok(Message::Connection(connection)) => Some(connection),
+        Ok(Message::Close) | Err(_) => None,
+    }
+}
+
+/// Holds a session with a client on the seat and takes leave of it. Gives the number of its calls. A session that ends with a
+/// fault ends no more than itself.
+fn hold<R: Wait + Clock, M: Running>(
+    rt: &R,
+    stream: &TcpStream,
+    set: &LiveSet<M>,
+    seat: &mut Seat<M>,
+) -> u64
+    requires { seat.old.set ≡ set.now }
+    ensures seat { (seat.new.set ≡ set.now) × (seat.new.held ≡ seat.old.held) }
+    ensures calls { (added : List CallMade) × (seat.new.past ≡ with_calls seat.old.past added) × (result ≡ length added) }
+    ensures few { result ≤ MOST_LINES }
+{
+    // Where the option is refused, answers may come later, and nothing else changes.
+    let _ = stream.set_nodelay(true);
+    let ended = buffered_session(rt, Device::new(stream), Device::new(stream), set, seat);
+    take_leave(rt, stream, ended.why);
+    ended.calls
+}
+
+/// Serves connections on the seat, until no more come or `most` were received.
 fn work<R: Wait + Clock, M: Running>(
     rt: &R,
     from: &Receiver<TcpStream>,
@@ -69,22 +108,11 @@ fn work<R: Wait + Clock, M: Running>(
     let mut sessions = 0u64;
     let mut calls = 0u64;
     while sessions < u64::from(most) {
-        let Ok(Message::Connection(connection)) = receive(rt, from, &mut pass) else {
+        let Some(connection) = next(rt, from, &mut pass) else {
             break;
         };
-        let Connection { number: _, stream } = connection;
-        // Where the option is refused, answers may come later, and nothing else changes.
-        let _ = stream.set_nodelay(true);
-        let ended = buffered_session(
-            rt,
-            Device::new(&stream),
-            Device::new(&stream),
-            set,
-            &mut seat,
-        );
-        take_leave(rt, &stream, ended.why);
+        calls += hold(rt, &connection.stream, set, &mut seat);
         sessions += 1;
-        calls += ended.calls;
     }
     Back {
         pass,

@@ -1,5 +1,5 @@
 //! The threads: what each makes of its program, their starts and their ends.
-ghost use Rattle.std.specs.Prelude.{◌≡◌, ◌≤◌, [], IfSome, MatchOption, All, map, length, true, vec_capacity};
+ghost use Rattle.std.specs.Prelude.{◌≡◌, ◌<◌, ◌≤◌, ◌^◌, [], IfSome, MatchBool, MatchOption, All, map, length, true, vec_capacity};
 ghost use Rattle.lset_work.specs.Programs.{HaveRun, IsMadeOn};
 
 use crate::gate::Gate;
@@ -36,6 +36,34 @@ impl<M: Running, G: Gate> Promise<Done<M>> for Owed<M, G> {
 /// A thread that was started.
 pub type Worker<M, G> = PromisedHandle<Done<M>, Owed<M, G>>;
 
+/// Makes the calls of a program until the gate answers false, and adds their replies. Tells whether all were made.
+fn make_calls<R: Wait, M: Running, G: Gate>(
+    rt: &R,
+    set: &LiveSet<M>,
+    gate: &G,
+    seat: &mut Seat<M>,
+    calls: &[Call],
+    replies: &mut Vec<Reply>,
+) -> bool
+    requires seat { seat.old.set ≡ set.now }
+    requires room { (replies.old.items ≡ []) × (length calls.now ≤ vec_capacity replies.old) }
+    requires short { length calls.now < 2 ^ 32 }
+    ensures seat { (seat.new.set ≡ set.now) × (seat.new.held ≡ seat.old.held) }
+    ensures made { MatchBool result (IsMadeOn seat.old.past calls.now replies.new.items seat.new.past) (G.may_shut gate.now ≡ true) }
+{
+    let thread = seat.thread();
+    for (number, call) in calls.iter().enumerate() {
+        if !gate.pass(thread, number as u32) {
+            return false;
+        }
+        let reply = set.call(rt, seat, *call, &Spin::new());
+        let Ok(()) = replies.push(reply) else {
+            unreachable!()
+        };
+    }
+    true
+}
+
 fn run_program<R: Wait, M: Running, G: Gate>(
     rt: &R,
     set: &LiveSet<M>,
@@ -49,17 +77,10 @@ fn run_program<R: Wait, M: Running, G: Gate>(
         (λ v. IsMadeOn seat.past program.calls.items v.items result.seat.past) }
 {
     let Program { calls, mut replies } = program;
-    let thread = seat.thread();
-    for (number, call) in calls.iter().enumerate() {
-        if !gate.pass(thread, number as u32) {
-            return Done {
-                seat,
-                replies: None,
-            };
-        }
-        let reply = set.call(rt, &mut seat, *call, &Spin::new());
-        let Ok(()) = replies.push(reply) else {
-            unreachable!()
+    if !make_calls(rt, set, gate, &mut seat, &calls, &mut replies) {
+        return Done {
+            seat,
+            replies: None,
         };
     }
     Done {

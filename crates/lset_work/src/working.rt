@@ -126,10 +126,7 @@ pub fn work<R: Threads + Wait + Sync, M: Running + Send + Sync, G: Gate + Sync>(
     };
     let Gathered { seat, replies } = gathered;
     let Some(seat) = seat else { unreachable!() };
-    let Ok(closed) = set.close(seat) else {
-        unreachable!()
-    };
-    match closed.keys() {
+    match set.keys_left(seat) {
         Ok(keys) => Ok(Outcome { replies, keys }),
         Err(_) => Err(WorkFault {
             cause: WorkCause::Memory,

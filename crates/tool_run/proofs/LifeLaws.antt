@@ -1,5 +1,5 @@
 -- The programs of a life and the seats of its set fit each other.
-use Rattle.std.proofs.Common.{◌≡◌, ℕ, zero, suc, ◌+◌, ◌<◌, ◌%◌, ◌^◌, true, false, List, [], ◌∷◌, length, map, sum_by, All}
+use Rattle.std.proofs.Common.{◌≡◌, ℕ, zero, suc, ◌+◌, ◌<◌, ◌≤◌, ◌%◌, ◌^◌, true, false, List, [], ◌∷◌, length, map, sum_by, All}
 use Rattle.std.proofs.Common.{refl, sym, ap, ◌∙◌, subst, arith}
 use Rattle.std.specs.List.{range_with_len}
 use Rattle.std.proofs.lemmas.List.{length-map}
@@ -9,6 +9,7 @@ use Rattle.std.proofs.lemmas.List.Sums.{sum_by-cons}
 use Rattle.rand_core.specs.Stream.{Stream}
 use Rattle.lset_words.specs.declared.Call.{Call}
 use Rattle.lset_words.specs.Words.{Opening}
+use Rattle.lset_words.specs.declared.TheConstants.{MOST_OPENING}
 use Rattle.lset_words.specs.Records.{fresh}
 use Rattle.lset_live.specs.Seats.{SeatValue, SetValue, IsOpened, new_seat}
 use Rattle.lset_work.specs.declared.fault.WorkCause.{WorkCause}
@@ -78,10 +79,11 @@ programs_length calls_of ps threads calls keys seed e =
     sym (length-map ps calls_of) ∙ ap (λ l. length l) e ∙ length-map (range_with_len 0 threads) (program_of calls keys seed)
     ∙ length-range_with_len 0 threads
 
-pub life_trouble : (opening : List ℕ) (c : WorkCause) (F : Type 0) → F → (c ≡ cause.Programs → ¬ F) →
-    (c ≡ cause.Gate → false ≡ true)
+pub life_trouble : (opening : List ℕ) → length opening ≤ MOST_OPENING → (c : WorkCause) (F : Type 0) → F →
+    (c ≡ cause.Programs → ¬ F)
+    → (c ≡ cause.Gate → false ≡ true)
     → (t : Trouble) → t ≡ of_work c → EndsLife opening t
-life_trouble opening cause.Programs F f other never t e = absurd (other refl f)
-life_trouble opening cause.Spawn F f other never t e = subst (EndsLife opening) (sym e) tt
-life_trouble opening cause.Gate F f other never t e = absurd (let z : false ≡ true = never refl in cc)
-life_trouble opening cause.Memory F f other never t e = subst (EndsLife opening) (sym e) tt
+life_trouble opening few cause.Programs F f other never t e = absurd (other refl f)
+life_trouble opening few cause.Spawn F f other never t e = subst (EndsLife opening) (sym e) few
+life_trouble opening few cause.Gate F f other never t e = absurd (let z : false ≡ true = never refl in cc)
+life_trouble opening few cause.Memory F f other never t e = subst (EndsLife opening) (sym e) few

@@ -86,14 +86,14 @@ pub record IsSummary (first : RandomRequest) (many : ℕ) (counts : Counts) (key
   pub counts_are : counts ≡ counts_of (replies_of lives)
   pub keys_are : keys ≡ keys_left [] lives
 
--- Lives that are not all that are asked for, after which the next would open with too many keys.
-pub record IsOutgrown (asked : LivesRequest) : Type 0 where
+-- Lives that are not all that are asked for. The next one would open with the keys that they leave, of which there are so many.
+pub record AreCutOff (asked : LivesRequest) (SoMany : ℕ → Type 0) : Type 0 where
   pub lives : List Life
   pub fewer : length lives < asked.lives
   pub in_turn : AreLives asked.run 0 [] lives
-  pub too_many : MOST_OPENING < length (keys_left [] lives)
+  pub left : SoMany (length (keys_left [] lives))
 
--- what ends a run: memory or a thread was refused, or a life would open with too many keys
+-- what ends a run: memory was refused, or a thread of a life, or a life would open with too many keys
 abbrev pub EndsRun : LivesRequest → Trouble → Type 0
 EndsRun asked CannotRead = ⊥
 EndsRun asked TooLong = ⊥
@@ -103,9 +103,9 @@ EndsRun asked (Line number cause) = ⊥
 EndsRun asked (Bad wrong) = ⊥
 EndsRun asked CannotListen = ⊥
 EndsRun asked (Work work.Programs) = ⊥
-EndsRun asked (Work work.Spawn) = Unit {0}
+EndsRun asked (Work work.Spawn) = AreCutOff asked (λ n. n ≤ MOST_OPENING)
 EndsRun asked (Work work.Gate) = ⊥
-EndsRun asked (Work work.Opening) = IsOutgrown asked
+EndsRun asked (Work work.Opening) = AreCutOff asked (λ n. MOST_OPENING < n)
 EndsRun asked (Serve name) = ⊥
 
 -- what is made of a request: the text of what its lives come to; a wrong value is named
@@ -127,17 +127,17 @@ of_work cause.Spawn = Work work.Spawn
 of_work cause.Gate = Work work.Gate
 of_work cause.Memory = Memory
 
--- what ends a life that opens with these keys: memory or a thread was refused, or they are too many
+-- what ends a life that opens with these keys: they are too many, or else memory or a thread was refused
 abbrev pub EndsLife : List ℕ → Trouble → Type 0
 EndsLife opening CannotRead = ⊥
 EndsLife opening TooLong = ⊥
 EndsLife opening CannotWrite = ⊥
-EndsLife opening Memory = Unit {0}
+EndsLife opening Memory = length opening ≤ MOST_OPENING
 EndsLife opening (Line number cause) = ⊥
 EndsLife opening (Bad wrong) = ⊥
 EndsLife opening CannotListen = ⊥
 EndsLife opening (Work work.Programs) = ⊥
-EndsLife opening (Work work.Spawn) = Unit {0}
+EndsLife opening (Work work.Spawn) = length opening ≤ MOST_OPENING
 EndsLife opening (Work work.Gate) = ⊥
 EndsLife opening (Work work.Opening) = MOST_OPENING < length opening
 EndsLife opening (Serve name) = ⊥

@@ -10,9 +10,9 @@ returns-clause-gathered g c =
     let started = c.in_ok-started.ensures.seats in
     let workers = c.in_ok-started.started.items in
     let j = c.join_all-gathered.ensures.joined in
-    let whole = whole_again (length seats) c.args.sessions (view c.args.pass) _ _ _ _ j.received (length workers)
+    let whole = whole_again (length seats) c.args.sessions (view c.args.pass) _ _ _ j.received (length workers)
     c.requires.pass.2 c.requires.seats.1
-    c.in_ok-started.ensures.pass.1 c.in_ok-accept_all.ensures.told.1 c.in_ok-close_all.ensures.told.1
+    c.in_ok-started.ensures.pass.1 c.in_ok-send_all.ensures.told.1
     (as_many _ workers seats started) j.view in
     let all : c.join_all-gathered.result.sessions ≡ c.args.sessions = grind arith in
     let (left, told) = c.balance.ensures.told in

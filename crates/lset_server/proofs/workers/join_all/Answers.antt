@@ -1,23 +1,24 @@
-use Rattle.std.proofs.Common.{◌≡◌, length, ap, refl, arith, rules}
-use Rattle.std.proofs.lemmas.Grind.{common_steps}
+use Rattle.std.proofs.Common.{◌≡◌, ◌*◌, length, ap, refl, arith, rules}
 use Rattle.crossbeam_channel.specs.Ends.{sends_on, receives_on}
 use Rattle.std.specs.Vec.Iter.{into_iter_items}
+use Rattle.lset_session.specs.declared.TheConstants.{MOST_LINES}
 use Rattle.lset_live.proofs.Handing.{all_rest, held_next}
-use Rattle.lset_server.proofs.ServeLaws.{joined_none, joined_next, bound_next, bound_next'}
+use Rattle.lset_server.proofs.ServeLaws.{joined_none, joined_next, bound_none, bound_next, bound_next'}
 use Rattle.lset_server.proofs.workers.join_all.Goals as goal
 
 pub loop-worker-init : goal.loop-worker-init
 loop-worker-init g c =
     let e : into_iter_items c.into_iter-worker-iterator.result ≡ c.args.workers.items =
     c.into_iter-worker-iterator.ensures.into_iter_gives.0 in
+    let many = ap (λ l. length l) e in
     record {
       joined = joined_none _ _ _ _ e;
       held = rw e (omega arith);
       seat = search rules;
       owed = rw e c.requires.owed;
       pass = c.requires.pass.0;
-      sessions = rw e (grind (arith, common_steps));
-      calls = rw e (grind (arith, common_steps));
+      sessions = bound_none c.args.most _ _ many;
+      calls = bound_none MOST_LINES _ _ (ap (λ n. c.args.most * n) many);
     }
 
 pub loop-worker-preserved : goal.loop-worker-preserved

@@ -1,4 +1,4 @@
-use Rattle.std.proofs.Common.{◌≡◌, ◌≤◌, ◌+◌, ◌*◌, ◌++◌, List, map, length, sum_by, All, IfSome, vec_len}
+use Rattle.std.proofs.Common.{◌≡◌, ◌≤◌, ◌+◌, ◌*◌, ◌++◌, List, map, length, sum_by, All, IfSome}
 use Rattle.std.specs.Option.{option_map}
 use Rattle.std.specs.Vec.Iter.{into_iter_items}
 use Rattle.crossbeam_channel.specs.Claims.{view, IsSeatAt}
@@ -21,7 +21,7 @@ invariant-loop-worker g l = record {
   owed : All (λ h. (receives_on h.promise.from.value ≡ sends_on l.to) × (h.promise.set.value ≡ l.set) × (h.promise.most ≡ l.most))
       (into_iter_items l.worker-iterator);
   pass : IsSeatAt (sends_on l.to) l.pass;
-  sessions : l.sessions + l.most * length (into_iter_items l.worker-iterator) ≤ l.most * vec_len l.fn.workers;
+  sessions : l.sessions + l.most * length (into_iter_items l.worker-iterator) ≤ l.most * length l.fn.workers.items;
   calls : l.calls + MOST_LINES * (l.most * length (into_iter_items l.worker-iterator)) ≤ MOST_LINES *
-      (l.most * vec_len l.fn.workers);
+      (l.most * length l.fn.workers.items);
 }

@@ -20,8 +20,8 @@ returns-in-Err-clause-refused g c =
 pub returns-in-Err-clause-gate : goal.returns-in-Err-clause-gate
 returns-in-Err-clause-gate g c = shut_gate _ _ c.in-Err.ensures
 
-pub returns-in-Ok-keys-clause-outcome : goal.returns-in-Ok-keys-clause-outcome
-returns-in-Ok-keys-clause-outcome g c =
+pub returns-in-Ok-keys_left-clause-outcome : goal.returns-in-Ok-keys_left-clause-outcome
+returns-in-Ok-keys_left-clause-outcome g c =
     let starts = map (λ s. s.past) c.args.seats.items in
     let replies = map (λ v. v.items) c.in-Ok.gathered.replies.items in
     let programs = starts_map (λ p. p.calls) (λ v. v.items) c.in-Some.room.programs.items c.args.programs.items c.in-Some.ensures
@@ -29,11 +29,10 @@ returns-in-Ok-keys-clause-outcome g c =
     let told = sym (ap (option_map (λ s. s.past)) c.in-Some-seat.is) ∙ c.in-Ok.ensures.gathers
     ∙ ap (λ ps. gather_onto None (worked starts ps replies)) programs in
     gathered_explains c.args.set.shape c.in-Some-seat.seat.past (worked starts (map (λ p. p.items) c.args.programs.items) replies)
-    c.in-Ok-keys.keys.items told
-    (c.in-Ok-close.ensures.closed _ c.in-Ok-keys.ensures)
+    c.in-Ok-keys_left.keys.items told c.in-Ok-keys_left.ensures
 
-pub returns-in-Ok-keys-clause-replies : goal.returns-in-Ok-keys-clause-replies
-returns-in-Ok-keys-clause-replies g c =
+pub returns-in-Ok-keys_left-clause-replies : goal.returns-in-Ok-keys_left-clause-replies
+returns-in-Ok-keys_left-clause-replies g c =
     let programs = starts_map (λ p. p.calls) (λ v. v.items) c.in-Some.room.programs.items c.args.programs.items c.in-Some.ensures
     in
     starts_map (λ v. v.items) (λ l. length l) c.in-Ok.gathered.replies.items _ refl ∙ c.in-Ok.ensures.counted

@@ -1,10 +1,11 @@
-use Rattle.std.proofs.Common.{◌<◌, ◌^◌, refl, sym, ap, ◌∙◌, subst, rules, arith, length, map}
+use Rattle.std.proofs.Common.{◌<◌, ◌≤◌, ◌^◌, refl, sym, ap, ◌∙◌, subst, rules, arith, length, map}
 use Rattle.std.specs.List.{range_with_len}
 use Rattle.std.specs.List.Sorted.{IsStrictlyIncreasing}
 use Rattle.lset_live.specs.Explained.{Explains}
 use Rattle.lset_live.proofs.Handing.{starts_map}
 use Rattle.lset_work.specs.Programs.{Fit, worked}
 use Rattle.lset_words.specs.Records.{fresh}
+use Rattle.lset_words.specs.declared.TheConstants.{MOST_OPENING}
 use Rattle.tool_run.specs.Running.{programs_for}
 use Rattle.tool_run.proofs.LifeLaws.{life_trouble, opened_held, opened_length, opened_records, programs_length, seen_short}
 use Rattle.tool_run.proofs.LifeLaws.{short_programs}
@@ -54,5 +55,6 @@ returns-in-Err-work-clause-outcome g c =
     ∙ sym (opened_length _ _ _ opened) in
     let fit : Fit c.in-Ok-open_with.opened.0 c.in-Ok-open_with.opened.1.items (length c.in-Ok.programs.items) =
     (many, opened_held _ _ _ opened ∙ sym (ap (λ k. k.threads) opened.0)) in
-    life_trouble c.args.opening.now c.in-Err-work.fault.cause _ fit c.in-Err-work.ensures.refused.0 c.in-Err-work.ensures.gate _
+    let few : length c.args.opening.now ≤ MOST_OPENING = omega (arith, c.if-opening.false) in
+    life_trouble c.args.opening.now few c.in-Err-work.fault.cause _ fit c.in-Err-work.ensures.refused.0 c.in-Err-work.ensures.gate _
     c.trouble_of.ensures

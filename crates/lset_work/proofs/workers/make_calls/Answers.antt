@@ -1,12 +1,12 @@
 use Rattle.std.proofs.Common.{◌∙◌, ap, arith, length, [], ◌∷◌, length-append}
 use Rattle.std.proofs.lemmas.Grind.{common_steps}
 use Rattle.lset_work.proofs.ProgramLaws.{call_at}
-use Rattle.lset_work.proofs.workers.run_program.Goals as goal
+use Rattle.lset_work.proofs.workers.make_calls.Goals as goal
 
 pub loop-number-preserved : goal.loop-number-preserved
 loop-number-preserved g c =
     let inv = c.loop-number.invariant in
-    let items = c.deref-call-items.result.now in
+    let items = c.args.calls.now in
     let told = c.call-reply.ensures in
     record {
       set = told.of_set;
@@ -17,7 +17,6 @@ loop-number-preserved g c =
         ap (λ l. length l) c.in-Ok.ensures.items,
         length-append c.loop-number.replies.items (c.call-reply.result ∷ []),
       );
-      items = inv.items;
       room = grind (arith, common_steps);
       made = call_at _ _ _ items c.loop-number.replies.items _ c.loop-number.number _ c.call-reply.result c.loop-number-test.true
           inv.each
