@@ -1,1 +1,2 @@
 mod ExampleNames
+mod Marks

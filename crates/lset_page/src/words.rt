@@ -1,5 +1,5 @@
 ghost use Rattle.std.specs.Prelude.{◌≡◌, IfOk, map, option_map, string_bytes};
-ghost use Rattle.lset_page.specs.Page.{option_at, words_in};
+ghost use Rattle.lset_page.specs.Page.{given_in, option_at, words_in};
 
 use std::alloc::{AllocError, Global};
 
@@ -16,10 +16,17 @@ pub fn words_in(alloc: Global, bytes: &[u8]) -> Result<Vec<String>, AllocError>
     Ok(words)
 }
 
-/// The text of the option whose word has this index, from 0: what stands behind its `=`. `None` where the word is missing, or
-/// begins otherwise, as an empty one: that option is not given.
+/// The text behind the `=` of a word; `None` where it begins otherwise, as an empty one.
+fn given(word: &str) -> Option<&str>
+    ensures { option_map (λ text. text.now) result ≡ given_in word.now }
+{
+    word.strip_prefix('=')
+}
+
+/// The text of the option whose word has this index, from 0. `None` where that word is missing, or has no `=` before a text: the
+/// option is not given.
 pub fn option_at(words: &[String], index: usize) -> Option<&str>
     ensures { option_map (λ text. text.now) result ≡ option_at (map string_bytes words.now) index }
 {
-    words.get(index)?.strip_prefix('=')
+    given(words.get(index)?.as_str())
 }

@@ -3,4 +3,4 @@ use Rattle.std.specs.String.{string_bytes}
 use Rattle.lset_page.proofs.words.words_in.Given as goal
 
 abbrev pub invariant-loop-piece : goal.invariant-loop-piece
-invariant-loop-piece l = map string_bytes l.words.items ≡ map (λ t. t.now) (take l.piece-index l.pieces.items)
+invariant-loop-piece l = map string_bytes l.words.items ≡ map (λ t. t.now) (take l.piece-index l.piece-items)
