@@ -152,10 +152,10 @@ function takeAccess(pieces, number, thread, deed, trace) {
     pieces.number(0, MOST_NUMBER, "key");
     call.changedAt = number;
   }
-  if (pieces.isNext("answer")) takeAnswer(pieces, number, thread, trace);
+  if (pieces.isNext("answer")) takeReplied(pieces, number, thread, trace);
 }
 
-function takeAnswer(pieces, number, thread, trace) {
+function takeReplied(pieces, number, thread, trace) {
   const { id, begun, changedAt } = trace.open[thread];
   takeReply(pieces);
   pieces.expect("call");
@@ -227,7 +227,7 @@ function takeOpening(lines) {
 }
 
 // Reads the whole text. Throws a TraceFault that names the first line that is wrong.
-function takeTrace(text) {
+function readWhole(text) {
   const lines = text.split("\n");
   const trace = takeHeader(lines);
   let number = HEADER_LINES + trace.opening.length + 1;
@@ -248,7 +248,7 @@ function takeTrace(text) {
 // What is wrong with a text that should be a trace, in a line, or null.
 function faultOfTrace(text) {
   try {
-    takeTrace(text);
+    readWhole(text);
     return null;
   } catch (fault) {
     if (!(fault instanceof TraceFault)) throw fault;

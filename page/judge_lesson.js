@@ -59,10 +59,10 @@ function troubleOf(ask, lesson) {
   return verdict.isSolved ? null : `its answer does not solve it: ${missingIn(verdict)}`;
 }
 
-// A course that is read and tried: its name, its lessons, and all faults by their lines.
+// A course that is read and, where its text has no fault, tried: its name, its lessons, and all faults by their lines.
 function triedCourse(ask, text) {
   const { name, lessons, faults } = readCourse(text);
-  for (const lesson of lessons) {
+  for (const lesson of faults.length === 0 ? lessons : []) {
     const fault = troubleOf(ask, lesson);
     if (fault !== null) faults.push({ line: lesson.line, fault: `${lesson.name}: ${fault}` });
   }

@@ -6,8 +6,8 @@ const LESSONS_KEPT = "listset-lessons-2";
 const LESSONS_KEPT_BEFORE = "listset-lessons-1"; // the book's alone, as the page kept them before
 
 const isText = (value) => typeof value === "string";
-const textsOf = (kept) => Object.entries(kept ?? {}).filter(([, text]) => isText(text));
-const namesOf = (kept) => (Array.isArray(kept) ? kept.filter(isText) : []);
+const textsKept = (kept) => Object.entries(kept ?? {}).filter(([, text]) => isText(text));
+const namesKept = (kept) => (Array.isArray(kept) ? kept.filter(isText) : []);
 
 class KeptLessons {
   constructor() {
@@ -15,7 +15,7 @@ class KeptLessons {
     this.isOpen = kept.isOpen === true;
     this.student = isText(kept.student) ? kept.student : "";
     this.course = isText(kept.course) ? kept.course : BOOK_NAME;
-    this.courses = new Map(textsOf(kept.courses));
+    this.courses = new Map(textsKept(kept.courses));
     this.of = new Map(Object.entries(kept.of ?? {}).map(([name, own]) => [name, ownOf(own)]));
   }
 
@@ -37,7 +37,7 @@ class KeptLessons {
 function ownOf(kept) {
   return {
     chosen: isText(kept?.chosen) ? kept.chosen : "",
-    solutions: new Map(textsOf(kept?.solutions)),
-    looked: new Set(namesOf(kept?.looked)),
+    solutions: new Map(textsKept(kept?.solutions)),
+    looked: new Set(namesKept(kept?.looked)),
   };
 }

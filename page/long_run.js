@@ -10,7 +10,7 @@ const longRun = { worker: null, timer: 0 };
 const workerText = (room) => `"use strict";
 const FIRST_ROOM = ${room};
 const LARGE_MEMORY = ${LARGE_MEMORY};
-${[Engine, answerOf, answerInRoom, blockOf].join("\n")}
+${[Engine, answerOf, textsOf, answerInRoom, blockOf].join("\n")}
 onmessage = ({ data: { module, name, given } }) => {
   try {
     const { status, bytes } = new Engine(module).askBytes(name, given);

@@ -7,7 +7,7 @@ function driveExamples() {
   check("the examples of docs/CLASSIC.md", names.length > 0 && names.join() === inPage("Object.keys(CLASSICS).join()"));
   for (const name of names) {
     pick(name);
-    const total = inPage("page.trace.events.length");
+    const total = inPage("page.trace.total");
     for (let count = 0; count < total; count++) part("next").click();
     check(`${name} goes to its end`, textOf("where") === `event ${total} of ${total}` && total > 0 && textOf("fault") === "");
     check(`${name} is a run of the replayer`, textOf("source").includes("by the proved replayer"));
@@ -16,7 +16,7 @@ function driveExamples() {
     const order = inPage("page.trace.order.map((call) => call.id).join()");
     check(`${name}: the order is that of the report`, places.join() === order);
     for (let count = 0; count < total; count++) part("back").click();
-    check(`${name} goes back to its start`, textOf("where") === `event 0 of ${total}` && part("back").disabled);
+    check(`${name} goes back to its start`, textOf("where") === `event 0 of ${total}` && !isAble("back"));
   }
 }
 
@@ -28,7 +28,7 @@ function driveMoves() {
   part("moves").querySelector('[data-thread="0"] button').click();
   const text = part("schedule").value;
   check("a step of another thread", textOf("where") === "event 15 of 15" && text.endsWith("begin 0 contains 5\ngo 0 2\n"));
-  check("the example is left", part("examples").value === "");
+  check("the example is left", part("examples").value !== "read-in-anothers-step" && inPage("page.example") === "");
   beginCall(1, "remove", 5);
   check("a call is begun", part("schedule").value.endsWith("go 0 2\nbegin 1 remove 5\n") && textOf("where") === "event 16 of 16");
   press("1");
@@ -54,9 +54,6 @@ function driveCeilingExamples() {
   check("the key above the one that came in", textOf("said").endsWith("ceiling(3) answers at-9; it took effect at event 8."));
   check("it stands before the add", orderShown() === "t1 add(9) true; t0 ceiling(3) at-9; t1 add(5) true");
   check("its bar has the reply", part("calls").textContent.includes("ceiling(3) at-9"));
-  pick("ceiling-left-in-chain");
-  part("broken").click();
-  check("the report of a ceiling that looks at no mark is refused", textOf("checked") === "refused WrongReply 3");
 }
 
 // On each list a thread begins a ceiling of a key that is not there, and another above all keys, and goes on to the answers.
@@ -118,7 +115,7 @@ function driveKeys() {
   press("ArrowLeft", { shiftKey: true });
   check("shift and left arrow", textOf("where").startsWith("event 10 "));
   press("End");
-  check("the end", textOf("where").startsWith("event 39 ") && part("last").disabled);
+  check("the end", textOf("where").startsWith("event 39 ") && !isAble("last"));
   check("contains stands in the step of the other thread", textOf("said").includes("it took effect at event 23, a step of t1"));
   goToEvent(23);
   check("the slider", textOf("where").startsWith("event 23 "));
@@ -160,40 +157,29 @@ async function driveFiles() {
   check("a schedule is opened", textOf("where") === "event 0 of 8");
   await open("one.report", inPage("page.engine.ask('listset_replay', page.text).text"));
   check("a report is checked", textOf("checked") === "ok");
-  await driveBrokenReports(open);
+  await driveReports(open);
 }
 
-// The report of a broken list: by its button, from beside the picture, and from a file, which unfolds the box.
-async function driveBrokenReports(open) {
+// A report from a file unfolds the box; one that is refused is drawn with the calls that clash.
+async function driveReports(open) {
+  await foldReport();
   pick("stale-pred");
-  part("broken").click();
-  check("the report of a broken list is refused", textOf("checked") === "refused WrongSet");
-  const isDrawn = part("picture").querySelector("svg") !== null && textOf("picture-says").startsWith("refused WrongSet: ");
-  check("and drawn, where the module draws", isDrawn === inPage("page.engine.has('listset_show_svg')"));
-  if (isDrawn) checkColoursOfPicture();
-  const isOfIt = () => textOf("report").startsWith("listset-report 1\nlist optimistic\n");
-  const isShown = () => isOfIt() && textOf("checked") === "refused WrongSet";
-  await foldReport();
-  part("see-broken").click();
-  await sleep(100);
-  check("it is shown from beside the picture", isShown() && part("report-box").open);
-  const box = part("picture");
-  check("and nothing of it is cut off", box.scrollWidth <= box.clientWidth && isClashInSight());
-  const report = textOf("report");
-  await foldReport();
-  pick("snip");
+  const report = inPage("page.engine.ask('listset_broken_example', 'stale-pred').text");
   await open("broken.report", report);
   await sleep(100);
-  check("a report from a file unfolds the box and stays", isShown() && textOf("report-of") === "The report in broken.report:");
+  const isShown = textOf("report") === report && textOf("checked") === "refused WrongSet" && part("report-box").open;
+  check("a report from a file unfolds the box and stays", isShown && textOf("report-of") === "The report in broken.report:");
+  const picture = part("picture").firstElementChild;
+  check("it is drawn, and says what is refused", textOf("picture-says").startsWith("refused WrongSet: "));
+  check("with a label", picture.getAttribute("role") === "img" && picture.getAttribute("aria-label").includes("refused WrongSet"));
+  checkColoursOfPicture();
   await open("none.report", report.replace("place 2 true", "place 02 true"));
   check("a report that is none has no picture", textOf("checked").startsWith("listset: line 9: ") && part("picture-box").hidden);
   runSchedule([...header("fine", 2), "begin 0 add 5", "go 0 3", "go 1 1"]);
+  await sleep(50);
   check("a refused schedule has no report", textOf("report-of") === "There is no report:" && textOf("checked") === "—");
-  const isDrawnUpTo = inPage("page.engine.ask('listset_show', page.text).text").endsWith("\nrefused line 7 Idle\n");
-  const says = isDrawnUpTo ? textOf("picture-says") === "refused line 7 Idle" : part("picture-box").hidden;
-  check("but a picture up to the refused event, where the module draws that", says && part("picture-box").hidden !== isDrawnUpTo);
-  pick("full");
-  check("an example without such a report offers none", part("broken").hidden && part("see-broken").hidden);
+  check("but a picture up to the refused event", textOf("picture-says") === "refused line 7 Idle" && !part("picture-box").hidden);
+  await foldReport();
 }
 
 async function foldReport() {
@@ -204,9 +190,8 @@ async function foldReport() {
 // The page leaves the picture its colours and its one width of letters.
 function checkColoursOfPicture() {
   const styleOf = (name) => frame.contentWindow.getComputedStyle(part("picture").querySelector(name));
-  const [plain, clash] = [styleOf("text.plain"), styleOf("text.clash")];
-  const isOfSheet = plain.fill === styleOf("svg").color && clash.fill !== plain.fill && clash.fontWeight === "700";
-  check(`the colours of a picture: ${plain.fill}, ${clash.fill}`, isOfSheet);
+  const [plain, own] = [styleOf("text.plain"), styleOf("svg")];
+  check(`the colours of a picture: ${plain.fill}, ${own.color}`, plain.fill === own.color);
   check(`its letters: ${plain.fontFamily}, ${plain.fontSize}`, /mono/i.test(plain.fontFamily) && plain.fontSize === "12px");
 }
 
@@ -224,12 +209,23 @@ function driveManyThreads() {
   part("all-threads").click();
   check("or all", part("threads").querySelectorAll("tbody tr").length === 64);
   part("all-threads").click();
+  press("t");
+  press("1");
+  check("a thread from 10 on has a key by a prefix: it waits for the second digit", inPage("page.text").endsWith("go 63 3\n"));
+  press("3");
+  check("and makes a step", inPage("page.text").endsWith("go 63 3\ngo 13 1\n"));
+  press("e");
+  press("t");
+  press("1");
+  press("5");
+  check(`also to its end: ${textOf("told")}`, /go 15 \d+\n$/.test(inPage("page.text")) && textOf("told").startsWith("t15 ended"));
+  press("t");
+  press("1");
+  press("x");
+  press("7");
+  check("another key ends the waiting", inPage("page.text").endsWith("go 7 1\n"));
   const wide = frame.contentDocument.documentElement;
   check("nothing is wider than the page", wide.scrollWidth <= wide.clientWidth);
-  frame.width = 380;
-  frame.contentWindow.dispatchEvent(new frame.contentWindow.Event("resize"));
-  check("nor on a narrow screen", wide.scrollWidth <= wide.clientWidth);
-  frame.width = 1300;
 }
 
 async function compareCases() {
@@ -240,7 +236,7 @@ async function compareCases() {
   result.failed.push(...found.failed);
 }
 
-// What is driven, one part after the other: at the width of a table, and what is new on a narrow screen too.
+// What is driven, one part after the other: at the width of a table, and what is new on a narrow screen and a wide one too.
 const PARTS = {
   "the examples": driveExamples,
   "steps of other threads": driveMoves,
@@ -251,11 +247,17 @@ const PARTS = {
   files: driveFiles,
   "many threads": driveManyThreads,
   lessons: driveLessons,
+  courses: driveCourses,
+  judging: driveJudging,
+  views: driveViews,
   "a student's work": driveWork,
-  "the same on a narrow screen": () => onNarrowScreen(driveWork),
+  "the same on a narrow screen": () => onScreen(390, 844, driveNarrow),
+  "and on a wide one": () => onScreen(1920, 1080, driveWide),
+  "a million events": driveMillion,
   "the comparison": compareCases,
   "without 64-bit memories": driveLess,
 };
+const only = new URLSearchParams(location.hash.slice(1)).get("only")?.split("|"); // these parts alone, where a person tries them
 
 async function drive() {
   await isReady();
@@ -264,6 +266,7 @@ async function drive() {
   check("less motion is asked for where the page is a file", wantsLess === (location.protocol === "file:"));
   check("the play begins slow there", part("speed").value === (wantsLess ? "slow" : "medium"));
   for (const name in PARTS) {
+    if (only !== undefined && !only.includes(name)) continue;
     await post({ told: name });
     await PARTS[name]();
   }
@@ -271,11 +274,25 @@ async function drive() {
 
 const isLoaded = new Promise((done) => frame.addEventListener("load", done, { once: true }));
 
-async function onNarrowScreen(deed) {
-  frame.width = 380;
-  await sleep(100);
+async function onScreen(width, height, deed) {
+  Object.assign(frame, { width, height });
+  await sleep(200);
   await deed();
-  frame.width = 1300;
+  Object.assign(frame, { width: 1300, height: 900 });
+  await sleep(200);
+}
+
+async function driveNarrow() {
+  driveHeight();
+  await driveLessonByKeyboard();
+  await driveJudging();
+  await driveWork();
+}
+
+async function driveWide() {
+  await driveJudging();
+  await driveViews();
+  driveSides();
 }
 
 isLoaded

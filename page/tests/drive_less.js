@@ -7,7 +7,7 @@ function driveExamplesLess() {
   check("the examples of docs/CLASSIC.md", names.length > 0 && names.join() === inPage("Object.keys(CLASSICS).join()"));
   for (const name of names) {
     pick(name);
-    const total = inPage("page.trace.events.length");
+    const total = inPage("page.trace.total");
     for (let count = 0; count < total; count++) part("next").click();
     check(`${name} goes to its end`, textOf("where") === `event ${total} of ${total}` && total > 0 && textOf("fault") === "");
     check(`${name}: its schedule stands in the box`, part("schedule").value.startsWith("listset-schedule "));

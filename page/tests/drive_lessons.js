@@ -1,11 +1,16 @@
-// Drives the panel of the lessons, as a student does. The driving script calls driveLessons; what it uses is in hand.js.
+// Drives the lessons as a student does, and courses as a teacher does; what it uses is in hand.js.
 "use strict";
 
 const lessonPart = (name) => part(`lesson-${name}`);
 const lessonText = (name) => lessonPart(name).textContent;
-const lessonButtons = () => [...lessonPart("list").querySelectorAll("button")];
 const solvedLessons = () => Number(/^\d+/.exec(lessonText("count"))?.[0]);
-const ofLesson = (what, index) => inPage(`${what}(LESSONS[${index}])`);
+const chosenLesson = () => inPage("LessonPanel.onPage.lesson");
+const lessonNames = () => [...lessonPart("list").options].map((option) => option.value);
+
+function chooseLesson(name) {
+  lessonPart("list").value = name;
+  lessonPart("list").onchange();
+}
 
 // Writes a text in the box and runs it.
 function runText(text) {
@@ -14,124 +19,241 @@ function runText(text) {
   part("run").click();
 }
 
-// A reload, with this in the browser's storage before, at an example: the page would show a solution again, and so tick it.
+// A reload, with nothing or this in the browser's storage of the lessons, at an example.
 async function reloadWithKept(kept) {
-  if (kept !== undefined) inPage("localStorage").setItem("listset-lessons-1", kept);
+  await sleep(KEEPS);
+  if (kept !== undefined) {
+    inPage("localStorage").clear();
+    inPage("removeEventListener('pagehide', keepNow)");
+    for (const [name, value] of Object.entries(kept)) inPage("localStorage").setItem(name, value);
+  }
   await loadAgain("#example=snip&event=0");
   lessonPart("box").open = true;
   await sleep(50); // that is told to the panel later
 }
 
-// The lesson of this number is begun by the button; then its text is run, as if typed.
-function driveLesson(index) {
-  lessonButtons()[index].click();
-  const title = inPage(`LESSONS[${index}].title`);
+// A lesson is begun by the button; then its answer is run, as if typed.
+function driveLesson(name, count) {
+  chooseLesson(name);
+  const { title, begun, solution, teaches } = chosenLesson();
   check(`${title}: it is chosen`, lessonText("title").startsWith(title));
-  const marked = lessonPart("list").querySelectorAll("[aria-current]");
-  check(`${title}: it alone is marked`, marked.length === 1 && marked[0] === lessonButtons()[index]);
+  check(`${title}: no answer is told`, ["hint-fold", "answer-fold", "teaches-fold"].every((fold) => lessonPart(fold).hidden));
   lessonPart("start").click();
-  const start = ofLesson("startText", index);
-  check(`${title}: its start is shown`, part("schedule").value === start && textOf("fault") === "");
-  const total = inPage("page.trace.events.length");
+  check(`${title}: its start is shown`, part("schedule").value === begun && textOf("fault") === "");
+  const total = inPage("page.trace.total");
   check(`${title}: at the end`, textOf("where") === `event ${total} of ${total}`);
-  check(`${title}: the start does not solve it`, lessonText("verdict").startsWith("Not solved yet") && solvedLessons() === index);
-  check(`${title}: its conditions are told`, lessonPart("conditions").querySelectorAll(".unmet").length >= 2);
-  runText(ofLesson("answerText", index));
-  check(`${title}: a solution is ticked`, lessonText("verdict") === "Solved." && solvedLessons() === index + 1);
+  check(`${title}: the start does not solve it`, lessonText("verdict") === "A solution shows all of this:" && solvedLessons() === count);
+  check(`${title}: its conditions are told`, lessonPart("conditions").querySelectorAll(".unmet").length >= 1);
+  runText(solution);
+  check(`${title}: a solution is ticked`, lessonText("verdict") === "Solved." && solvedLessons() === count + 1);
   check(`${title}: all conditions are met`, lessonPart("conditions").querySelectorAll(".unmet").length === 0);
-  check(`${title}: in the list`, lessonButtons()[index].querySelector(".lesson-tick") !== null);
+  check(`${title}: in the list`, lessonPart("list").selectedOptions[0].textContent.startsWith("✓ "));
+  check(`${title}: now it is told what it teaches`, !lessonPart("teaches-fold").hidden && lessonText("teaches") === teaches);
 }
 
-// By hand: a remove up to its mark, and a contains of the key.
+// By hand: a remove up to its mark, and a contains of the key; before that a try that goes wrong.
 function driveLessonByHand() {
-  lessonButtons()[5].click();
+  chooseLesson("marked-in-chain");
+  lessonPart("judge").click();
+  check("nothing is tried yet", lessonText("verdict").startsWith("Nothing is tried yet: press Start"));
   lessonPart("start").click();
-  for (let count = 0; count < 7; count++) press("1");
+  check("it opens under its own name", inPage("page.name") === "lesson marked-in-chain");
+  for (let count = 0; count < 9; count++) press("1");
   beginCall(0, "contains", 5);
   press("0");
   press("0");
-  check("the answer is still to come", lessonText("verdict").startsWith("Not solved yet") && solvedLessons() === 0);
+  check("one condition is met", lessonPart("conditions").querySelectorAll(".met").length === 1 && solvedLessons() === 0);
+  lessonPart("judge").click();
+  check(`what is missing: ${lessonText("verdict")}`, lessonText("verdict").startsWith("Missing: Its last step reads the link of the node"));
+  for (let count = 0; count < 5; count++) press("u");
+  const kept = lessonPart("conditions").querySelectorAll(".was-met");
+  check("a condition that was met keeps its tick", kept.length === 1 && kept[0].textContent.startsWith("✓ "));
+  beginCall(0, "contains", 5);
   press("0");
-  check("a lesson is solved by hand", lessonText("verdict") === "Solved." && solvedLessons() === 1);
+  press("0");
+  check("the answer is still to come", solvedLessons() === 0);
+  press("0");
+  check(`a lesson is solved by hand: ${lessonText("verdict")}`, lessonText("verdict") === "Solved." && solvedLessons() === 1);
   press("Home");
   check("it stays so at another event", lessonText("verdict") === "Solved.");
-  check("a further lesson is offered", !lessonPart("next").hidden);
   lessonPart("next").click();
-  check("and begun", lessonText("title").startsWith("The stopped thread") && part("schedule").value === ofLesson("startText", 6));
+  check("a further lesson is begun", lessonText("title").startsWith("The stopped thread") && part("schedule").value === chosenLesson().begun);
+}
+
+// A way that leads nowhere is told, in the words of the lesson.
+function driveDeadEnd() {
+  chooseLesson("in-anothers-step");
+  lessonPart("start").click();
+  for (let count = 0; count < 3; count++) press("0");
+  check("no word of it before it is asked for", lessonText("verdict") === "Not solved yet: Judge tells what is missing.");
+  lessonPart("judge").click();
+  const wrong = "Missing: A contains of thread 0 answers false. This contains has answered true: it saw its key.";
+  check(`a dead end: ${lessonText("verdict")}`, lessonText("verdict").startsWith(wrong));
 }
 
 // The hint and the answer are shown on request; the answer itself is no solution of one's own.
 function driveAnswer() {
-  lessonButtons()[0].click();
+  chooseLesson("one-lock");
   check("no hint and no answer at first", lessonPart("hint-fold").hidden && lessonPart("answer-fold").hidden);
   lessonPart("hint").click();
   check("the hint", !lessonPart("hint-fold").hidden && lessonPart("hint").getAttribute("aria-expanded") === "true");
-  lessonPart("hint").click();
-  check("the hint is folded", lessonPart("hint-fold").hidden && lessonPart("hint").getAttribute("aria-expanded") === "false");
   lessonPart("answer").click();
   check("the answer", lessonText("lines").startsWith("go 2 1, ") && !lessonPart("answer-fold").hidden);
   lessonPart("open").click();
-  check("it is opened", part("schedule").value === ofLesson("answerText", 0));
+  check("it is opened", part("schedule").value === chosenLesson().solution);
   check("and does not count", lessonText("verdict").startsWith("This is the answer that was shown.") && solvedLessons() === 0);
-  runText(ofLesson("answerText", 0).replace("go 0 1\n", "go 0 2\n"));
+  runText(chosenLesson().solution.replace("go 0 1\n", "go 0 2\n"));
   check("another one counts", lessonText("verdict") === "Solved." && solvedLessons() === 1);
-  lessonPart("hand-in").click();
-  check("a text is shown", !lessonPart("text").hidden);
-  lessonButtons()[1].click();
-  runText(ofLesson("answerText", 1));
-  check("with a further solution it is another text", lessonPart("text").hidden && solvedLessons() === 2);
-  lessonButtons()[0].click();
   pick("snip");
   check("an example is of another set", lessonText("verdict").startsWith("Press Start"));
   lessonPart("own").click();
   check("one's own solution is opened", part("schedule").value.includes("go 0 2\n") && lessonText("verdict") === "Solved.");
 }
 
+// A try that is half done stays, whatever is opened.
+async function driveHalfDone() {
+  chooseLesson("lost-pred");
+  lessonPart("start").click();
+  press("0");
+  press("0");
+  const half = inPage("page.text");
+  pick("snip");
+  check("a try that is half done is offered", !lessonPart("go-on").hidden);
+  lessonPart("start").click();
+  check("beginning anew tells of it", textOf("told").startsWith("Your try before is kept"));
+  press("0");
+  await reloadWithKept();
+  check("it is kept over a reload", lessonText("title").startsWith("The lost predecessor") && !lessonPart("go-on").hidden);
+  const names = inPage("[...works.byName].filter(([name]) => name.startsWith('lesson lost-pred')).map(([, work]) => work.text)");
+  check("both tries are", names.length === 2 && names.includes(half));
+  lessonPart("go-on").click();
+  check("and gone on with", inPage("page.name") === "lesson lost-pred 2");
+}
+
 async function driveHandIn() {
+  lessonPart("hand").open = true;
+  lessonPart("student").value = "Ada";
+  lessonPart("student").onchange();
   lessonPart("hand-in").click();
   await until(() => lessonText("told") !== "");
-  check("it tells how many are handed in", /12 solutions/.test(lessonText("told")));
-  const text = lessonPart("text").value;
-  const { solutions, faults } = inPage("readHandIn")(text);
-  const names = inPage("LESSONS.map((lesson) => lesson.name).join()");
-  check("the text has them all", faults.length === 0 && solutions.map((one) => one.name).join() === names);
-  const isAll = solutions.every((one, index) => one.schedule === ofLesson("answerText", index));
-  check("each with its schedule", isAll && text.startsWith("listset-lessons 1\none-lock #list=coarse&"));
-}
-
-async function driveKeptLessons() {
-  await reloadWithKept();
-  const areTicked = lessonButtons().every((button) => button.querySelector(".lesson-tick") !== null);
-  check("solutions survive a reload", solvedLessons() === 12 && areTicked);
-  check("and the lesson", lessonText("title").startsWith("A ceiling"));
-  await reloadWithKept(JSON.stringify({ solutions: { "one-lock": ofLesson("startText", 0), "no-lesson": "x", "lost-pred": 5 } }));
-  check("what solves nothing is dropped", solvedLessons() === 0);
-  for (const kept of ["none", "null", "[]", '{"solutions":[1],"looked":{},"chosen":7}']) {
-    await reloadWithKept(kept);
-    check(`${kept} is no hindrance`, solvedLessons() === 0 && lessonText("title").startsWith("The one lock"));
-  }
-}
-
-async function driveForgetting() {
-  frame.contentWindow.confirm = () => false;
-  lessonPart("forget").click();
-  check("nothing is forgotten", solvedLessons() === 12);
-  frame.contentWindow.confirm = () => true;
-  lessonPart("forget").click();
-  check("all is forgotten", solvedLessons() === 0 && lessonPart("hand-in").disabled && lessonPart("text").hidden);
+  check(`it tells how many are handed in: ${lessonText("told")}`, /12 solutions and \d+ judged orders/.test(lessonText("told")));
+  const [read] = inPage(`textsIn(${JSON.stringify(lessonPart("text").value)}).map(readHandIn)`);
+  const names = read.solutions.map(({ line }) => line.split(" ")[0]).filter((name) => name !== "judge");
+  check("the text has them all", read.student === "Ada" && read.faults.length === 0 && names.join() === lessonNames().join());
 }
 
 async function driveLessons() {
-  await reloadWithKept("{}");
-  check("twelve lessons", lessonButtons().length === 12 && solvedLessons() === 0);
+  await reloadWithKept({});
+  check("twelve lessons", lessonNames().length === 12 && solvedLessons() === 0);
   driveLessonByHand();
-  await reloadWithKept("{}");
+  driveDeadEnd();
+  await driveHalfDone();
+  await reloadWithKept({});
   driveAnswer();
-  await reloadWithKept("{}");
-  for (let index = 0; index < 12; index++) driveLesson(index);
+  await reloadWithKept({});
+  lessonNames().forEach(driveLesson);
   await driveHandIn();
-  await driveForgetting();
-  await reloadWithKept("{}");
-  for (let index = 0; index < 12; index++) driveLesson(index);
-  await driveKeptLessons();
+  await reloadWithKept();
+  check("solutions survive a reload", solvedLessons() === 12 && lessonText("title").startsWith("A ceiling"));
+  const before = JSON.stringify({ chosen: "lost-pred", solutions: { "one-lock": "x" }, looked: ["lost-pred"] });
+  await reloadWithKept({ "listset-lessons-1": before });
+  check("what was kept before is taken over", lessonText("title").startsWith("The lost") && !lessonPart("teaches-fold").hidden);
+  for (const kept of ["none", "null", "[]", '{"of":[1],"course":7}']) {
+    await reloadWithKept({ "listset-lessons-2": kept });
+    check(`${kept} is no hindrance`, solvedLessons() === 0 && lessonText("title").startsWith("The one lock"));
+  }
+  await driveLessonByKeyboard();
+}
+
+// A student with the keyboard alone: from the list of lessons to a solution.
+async function driveLessonByKeyboard() {
+  await reloadWithKept({});
+  lessonPart("box").open = false;
+  const summary = lessonPart("box").querySelector("summary");
+  check("the panel is reached by Tab", tabTo(summary));
+  typeKey("Enter");
+  check("and unfolds", lessonPart("box").open);
+  check("a lesson is chosen", typeChoice(lessonPart("list"), "marked-in-chain"));
+  check("the button is reached", tabTo(lessonPart("start")));
+  typeKey("Enter");
+  check("it begins", part("schedule").value === chosenLesson().begun && focused() === lessonPart("start"));
+  for (let count = 0; count < 7; count++) typeKey("1");
+  const row = () => part("moves").querySelector('[data-thread="0"]');
+  check("a call is chosen", typeChoice(row().querySelector("select"), "contains"));
+  check("and begun", tabTo(row().querySelector("button")));
+  typeKey("Enter");
+  check("the focus stays in the row of the thread", focused().closest(".row")?.dataset.thread === "0");
+  for (let count = 0; count < 3; count++) typeKey("0");
+  check(`it is solved: ${lessonText("verdict")}`, lessonText("verdict") === "Solved." && solvedLessons() === 1);
+  check("the focus never falls to the body", focused() !== frame.contentDocument.body);
+  check("the next one is reached", tabTo(lessonPart("next")));
+  typeKey("Enter");
+  check("and begun too", lessonText("title").startsWith("The stopped thread") && focused() !== frame.contentDocument.body);
+}
+
+const OWN_COURSE = `listset-course 1
+course Mine
+lesson first
+title First things
+list lazy
+threads 2
+quota 4
+question
+  Let thread 0 add 5.
+teaches
+  That an add answers.
+goal
+  call C of 0: add, key 5, answers true
+  say Thread 0 has added 5.
+`;
+
+// A teacher writes a course, hands out a link, and a student opens that and solves it.
+async function driveCourses() {
+  await reloadWithKept({});
+  lessonPart("write").open = true;
+  await sleep(50);
+  const box = lessonPart("course-text");
+  check("the course that is shown stands there to be changed", box.value.startsWith("listset-course 1\n"));
+  box.value = OWN_COURSE.replace("list lazy", "list lasy").replace("goal", "gaol");
+  lessonPart("try").click();
+  const faults = lessonText("faults");
+  check(`faults by their lines: ${faults}`, faults.includes('line 5: "lasy" is no list') && faults.includes('line 12: "gaol" is no word'));
+  check("the lessons before stay", lessonNames().length === 12);
+  box.value = OWN_COURSE;
+  lessonPart("try").click();
+  check(`a good one is taken: ${lessonText("faults")}`, lessonText("faults") === "Mine: 1 lessons, all good." && lessonNames().join() === "first");
+  lessonPart("link").click();
+  await until(() => lessonText("faults").includes("it opens"));
+  const link = lessonPart("link-text").value;
+  check(`a link: ${link.length} letters`, link.length < 900 && lessonText("faults").includes('it opens "Mine"'));
+  runSchedule(TWO_ADDS.map((line) => line.replace("add 5", "add 3")));
+  const before = inPage("page.text");
+  await sleep(KEEPS);
+  await loadAgain(link.slice(link.indexOf("#")));
+  check("the student sees the lesson", lessonPart("box").open && lessonText("title").startsWith("First things"));
+  check("and its start", inPage("page.name") === "lesson first of Mine" && textOf("where") === "event 0 of 0");
+  const told = ["answer", "hint", "teaches-fold"].filter((name) => !lessonPart(name).hidden);
+  check(`nothing of it is told, but ${told}`, told.length === 0);
+  check("the work before is kept", inPage(`works.nameOf(${JSON.stringify(before)})`) !== null);
+  beginCall(0, "add", 5);
+  for (let count = 0; count < 11; count++) press("0");
+  check("it is solved", lessonText("verdict") === "Solved." && solvedLessons() === 1);
+  lessonPart("hand-in").click();
+  await until(() => lessonText("told") !== "");
+  check("the text names the course", lessonPart("text").value.includes("\ncourse Mine\n") && lessonPart("text").value.includes("\nfirst #list=lazy"));
+  await reloadWithKept();
+  check("the course is there after a reload", lessonText("title").startsWith("First things") && solvedLessons() === 1);
+  typeChoice(lessonPart("course"), inPage("BOOK_NAME"));
+  check("the book's lessons again", lessonNames().length === 12);
+  await driveBadCourses(link);
+}
+
+async function driveBadCourses(link) {
+  frame.contentWindow.location.hash = link.slice(link.indexOf("#"), -20);
+  await until(() => textOf("told").includes("cannot be unpacked"));
+  check("a link that is cut is told", textOf("told").includes("the course of the address cannot be unpacked: the link is cut"));
+  const bad = await inPage("courseAddress")(OWN_COURSE.replace("list lazy", "list lasy"));
+  frame.contentWindow.location.hash = bad;
+  await until(() => textOf("told").includes("has faults"));
+  check(`one with faults: ${textOf("told")}`, textOf("told").includes('the course of the address has faults: line 5: "lasy" is no list'));
 }

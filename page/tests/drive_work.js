@@ -67,7 +67,7 @@ const BAD_ADDRESSES = [
   ["#list=lazy&threads=2&quota=4&s=b0.add.5,g1.1&event=0", "line 6: Idle"],
 ];
 
-// What stands in the box and was not run is there after a reload, and an address does not take it away for good.
+// What stands in the box and was not run is there after a reload, and neither an address nor an example takes it away.
 async function driveBox() {
   runSchedule(TWO_ADDS);
   const edited = [...TWO_ADDS, "go 1 2"].join("\n");
@@ -77,15 +77,37 @@ async function driveBox() {
   check("the box survives a reload", part("schedule").value === edited && textOf("run") === "Run the changes");
   await loadAgain("");
   check("also without an address", part("schedule").value === edited && textOf("where") === "event 0 of 16");
+  const name = inPage("page.name");
   await loadAgain("#example=snip&event=3");
   check("a link goes before it", textOf("where") === "event 3 of 23");
-  part("undo").click();
-  check("and undo leads to it", inPage("page.text") === edited);
+  pick(`work: ${name}`);
+  check("and the list of works leads to it", part("schedule").value === edited);
   await loadAgain("#example=nosuch");
   check("a bad address is told at first too", told().includes('"nosuch", which there is not'));
+}
+
+// Each work has a name: an example, a link and a new schedule take nothing away.
+async function driveNames() {
   pick("snip");
-  pick("");
-  check("the reader's own schedule is an option", part("schedule").value === edited);
+  goToEvent(4);
+  press("1");
+  const own = inPage("page.text");
+  await sleep(KEEPS);
+  check("what is made of an example has its name", inPage("page.name") === "from snip" && part("examples").value === "work: from snip");
+  frame.contentWindow.location.hash = "#list=fine&threads=2&quota=4&s=b0.add.5,g0.3&event=4";
+  await until(() => textOf("where") === "event 4 of 4");
+  check(`a link opens under a name of its own, which is told: ${told()}`, /^from a link/.test(inPage("page.name")) && told().startsWith("Opened from a link."));
+  await sleep(KEEPS);
+  check("what was only looked at is not kept", inPage("works.byName.has(page.name)") === false);
+  press("0");
+  await sleep(KEEPS);
+  check("what is changed is", inPage("works.byName.has(page.name)"));
+  part("new").click();
+  press("0");
+  check("a new schedule has a name of its own", inPage("page.name").startsWith("my schedule"));
+  check("the first is still there", inPage("works.byName.get('from snip').text") === own);
+  await loadAgain("#list=fine&threads=2&quota=4&s=b0.add.5,g0.4&event=5");
+  check("a link to a work of one's own opens that", /^from a link/.test(inPage("page.name")) && told() === "");
 }
 
 function driveUndo() {
@@ -110,14 +132,14 @@ function driveUndo() {
   part("undo").click();
   check("undo", part("schedule").value.endsWith("go 1 3\ngo 1 2\n") && textOf("where") === "event 14 of 18");
   part("redo").click();
-  check("redo", part("schedule").value.endsWith("go 0 2\n") && part("redo").disabled);
+  check("redo", part("schedule").value.endsWith("go 0 2\n") && !isAble("redo"));
   press("u");
   press("u");
   check("undo twice, by the key", part("schedule").value.endsWith("begin 0 add 9\n"));
   press("y");
   check("redo, by the key", part("schedule").value.endsWith("go 1 2\n"));
   runSchedule(TWO_ADDS);
-  check("a new text ends what can be done again", part("redo").disabled);
+  check("a new text ends what can be done again", !isAble("redo"));
 }
 
 function driveNew() {
@@ -129,7 +151,7 @@ function driveNew() {
   part("new").click();
   const text = part("schedule").value;
   check("a new schedule", text === "listset-schedule 1\nlist optimistic\nthreads 3\nquota 7\n" && textOf("fault") === "");
-  check("it has no event yet", textOf("where") === "event 0 of 0" && part("examples").value === "");
+  check("it has no event yet", textOf("where") === "event 0 of 0" && inPage("page.example") === "");
   part("new-threads").value = "65";
   part("new").click();
   check("with too many threads", textOf("fault").startsWith("listset: line 3: Threads"));
@@ -145,7 +167,7 @@ function driveSteps() {
   deedOf(0, "end").click();
   check("to the end of its call", part("schedule").value.endsWith("begin 0 add 5\ngo 0 11\n"));
   check("which is shown", textOf("where") === "event 12 of 12");
-  check("is told", told() === "t0 ended add(5): true.");
+  check("is told", told() === "t0 ended add(5).");
   beginCall(0, "remove", 5);
   deedOf(0, "row").value = "12";
   deedOf(0, "row").onchange();
@@ -201,8 +223,15 @@ async function driveTold() {
   pick("snip");
   check("the example has a question", !part("question-box").hidden);
   check("its own", textOf("question").startsWith("Thread 0 has marked the node of 5"));
+  check("no turn is told before that is asked for", part("ticks").children.length === 0 && part("turns").children.length === 0);
+  part("turns-box").open = true;
+  await sleep(50);
   check("what it turns on", textOf("turns-on").startsWith("No thread waits for another"));
   check("a tick for each turn", part("ticks").children.length === 4 && part("turns").children.length === 4);
+  const turn = part("turns").children[1];
+  turn.focus();
+  turn.click();
+  check("the focus stays on the button", focused() === part("turns").children[1] && focused().getAttribute("aria-current") === "true");
   part("turns").children[2].click();
   check("a button leads to it", textOf("where").startsWith("event 17 ") && textOf("said").includes("out of the chain"));
   part("table-box").open = true;
@@ -218,7 +247,7 @@ async function driveTold() {
   const registers = part("list").firstElementChild.getAttribute("aria-label");
   check(`the label of the list: ${registers}`, registers.includes("t0 remove(5) at row 10: pred head, curr n2, succ tail"));
   const calls = part("calls").firstElementChild.getAttribute("aria-label");
-  check(`the label of the history: ${calls}`, calls.endsWith("call 2: t1 add(7) true, events 14 to 22"));
+  check(`the label of the history: ${calls}`, calls.endsWith("call 2: t1 add(7) still open, from event 14 on"));
   pick("marked-in-chain");
   goToEvent(23);
   check("contains has no pred", !part("list").textContent.includes("t0 pred") && rowOf(0).includes("; ; n6; ; ;"));
@@ -227,18 +256,6 @@ async function driveTold() {
   part("link").click();
   await sleep(300);
   check(`a link: ${told()}`, /^(Copy this link|The link is copied): .*#example=marked-in-chain&event=23$/.test(told()));
-}
-
-// On a narrow screen the picture of a report is wider than its place: the call that clashes is brought into sight.
-async function driveClash() {
-  pick("left-in-chain");
-  part("see-broken").click();
-  await sleep(100);
-  check("the call that clashes is in sight", textOf("checked") === "refused WrongReply 3" && isClashInSight());
-  const isNarrow = frame.clientWidth <= 940;
-  check("where the picture has room, or has none", part("picture").scrollLeft > 0 === isNarrow);
-  part("report-box").open = false;
-  await sleep(50); // that is told to the page later
 }
 
 // What the lessons use of the page.
@@ -285,26 +302,45 @@ function driveFingers() {
   check(`${shown.length} controls are large enough for a finger, but for: ${names}`, small.length === 0 && shown.length > 20);
 }
 
-// A schedule of 100,000 events: a line says that it runs, before it does.
-async function driveManyEvents() {
-  runSchedule([...header("coarse", 2), "begin 0 add 5", "go 0 2", "begin 1 add 5", ...Array(10).fill("go 1 10000")]);
-  check("it says that it runs", told() === "running 100,004 events ..");
-  for (let rounds = 0; rounds < 6; rounds++) await until(() => textOf("where").endsWith(" of 100004"));
-  check("and then it is shown", textOf("where").endsWith(" of 100004") && told() === "");
+// What the reader has set, a draft in the box, and the page's parts for those who cannot see or point.
+async function driveForEveryone() {
+  runSchedule([...header("lazy", 2), "begin 0 add 5", "go 0 to 4", "begin 1 contains 5", "go 1 out"]);
+  check("a draft in the box", part("schedule").value.endsWith("begin 0 add 5\ngo 0 3\nbegin 1 contains 5\ngo 1 2\n"));
+  runSchedule([...header("lazy", 2), "begin 0 add 5", "go 0 to 30"]);
+  check(`one that is refused: ${textOf("fault")}`, textOf("fault").startsWith("listset: line 6: Idle"));
   part("undo").click();
+  pick("snip");
+  goToEvent(22);
+  part("next").focus();
+  part("next").click();
+  check("a button that does nothing now keeps the focus", focused() === part("next") && !isAble("next"));
+  part("next").click();
+  check("and does nothing", textOf("where") === "event 23 of 23");
+  check("the slider says its value in words", /^event 23 of 23: t0 tries/.test(part("slider").getAttribute("aria-valuetext")));
+  const { contentDocument: document } = frame;
+  check("no button stands in a heading", document.querySelector("h1 button, h2 button, h3 button, summary button") === null);
+  const pictures = [...document.querySelectorAll("svg[role=img]")];
+  check("each picture has its label", pictures.length >= 3 && pictures.every((one) => one.getAttribute("aria-label").length > 4));
+  part("single-keys").click();
+  press("0");
+  press("u");
+  check("letters and digits can be switched off", textOf("where") === "event 23 of 23" && told() === "");
+  press("ArrowLeft");
+  check("the arrows stay", textOf("where") === "event 22 of 23");
+  part("single-keys").click();
 }
 
 async function driveWork() {
   await driveAddresses();
   await driveBox();
+  await driveNames();
   driveUndo();
   driveNew();
   driveSteps();
   driveLimit();
   await drivePlay();
   await driveTold();
-  await driveClash();
   driveInterface();
   drivePlaces();
-  await driveManyEvents();
+  await driveForEveryone();
 }

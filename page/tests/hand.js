@@ -52,11 +52,44 @@ const textsOf = (elements) => [...elements].map((element) => element.textContent
 const rowOf = (thread) => textsOf(part("threads").querySelectorAll("tbody tr")[thread].children);
 const orderShown = () => textsOf(part("order").querySelectorAll("li"));
 
-// Whether the first call that clashes, in the picture of a report, is within the place of the picture.
-function isClashInSight() {
-  const place = part("picture").getBoundingClientRect();
-  const clash = part("picture").querySelector(".bar.clash").getBoundingClientRect();
-  return clash.left >= place.left && clash.right <= place.right;
+// Whether a button does something now.
+const isAble = (id) => part(id).getAttribute("aria-disabled") !== "true";
+const focused = () => frame.contentDocument.activeElement;
+
+// A pointer that is pressed, moved or lifted at a place of the window.
+function point(kind, target, x) {
+  const { PointerEvent } = frame.contentWindow;
+  const box = target.getBoundingClientRect();
+  target.dispatchEvent(new PointerEvent(kind, { bubbles: true, cancelable: true, pointerId: 1, clientX: x, clientY: box.top + box.height / 2 }));
+}
+
+// What the key Tab leads to, in its order.
+function tabStops() {
+  const parts = [...frame.contentDocument.querySelectorAll("a[href], button, select, textarea, input, summary, [tabindex]")];
+  return parts.filter((one) => one.tabIndex >= 0 && !one.disabled && one.getClientRects().length > 0 && one.checkVisibility());
+}
+
+// Goes to a part by the key Tab, as far as that leads there: whether it does.
+function tabTo(wanted) {
+  if (!tabStops().includes(wanted)) return false;
+  wanted.focus();
+  return focused() === wanted;
+}
+
+// A key that is pressed where the focus is: as a browser does it, Enter and Space press a button or unfold what is folded.
+function typeKey(key, more = {}) {
+  const target = focused();
+  const event = new frame.contentWindow.KeyboardEvent("keydown", { key, bubbles: true, cancelable: true, ...more });
+  const isFree = target.dispatchEvent(event);
+  if (isFree && (key === "Enter" || key === " ") && /^(BUTTON|SUMMARY|A)$/.test(target.tagName)) target.click();
+}
+
+// Picks an option by the keyboard: the browser's own list is not driven, only what it tells the page.
+function typeChoice(select, value) {
+  const isThere = tabTo(select);
+  select.value = value;
+  select.dispatchEvent(new frame.contentWindow.Event("change", { bubbles: true }));
+  return isThere && select.value === value;
 }
 
 async function isReady() {

@@ -1,0 +1,161 @@
+// Drives "Judge yourself": points by the pointer and by the keyboard, replies, the verdict, the hint, a claim, a broken report.
+"use strict";
+
+const judgedText = (name) => textOf(`judge-${name}`);
+const barOf = (id) => part("judge-bars").querySelector(`[data-call="${id}"]`);
+const pointsOf = () => inPage("[...judging.answer.points].sort(([a], [b]) => a - b).map(([, { at }]) => at).join()");
+
+function dragPoint(id, from, to) {
+  part("judge-bars").setPointerCapture = () => {};
+  const left = part("judge-bars").firstElementChild.getBoundingClientRect().left;
+  const xOf = (moment) => left + inPage(`judging.scale.x(${moment})`);
+  point("pointerdown", barOf(id), xOf(from));
+  point("pointermove", barOf(id), xOf(to));
+  point("pointerup", barOf(id), xOf(to));
+}
+
+function sayReply(index, reply) {
+  const choice = part("judge-replies").querySelectorAll("select")[index];
+  return typeChoice(choice, reply);
+}
+
+const setLevel = (level) => typeChoice(part("judge-level"), level);
+
+async function driveJudging() {
+  const math = inPage("Math");
+  const { random } = math;
+  pick("read-in-anothers-step");
+  part("judge-begin").click();
+  driveNothingTold();
+  driveByPointer();
+  driveByKeyboard();
+  driveHints();
+  math.random = () => 0;
+  pick("left-in-chain");
+  part("judge-begin").click();
+  setLevel("claim");
+  check("a claim shows no run", part("list").getClientRects().length === 0 && part("bar").getClientRects().length === 0);
+  part("judge-none").click();
+  check(`none, of the broken one: ${judgedText("verdict")}`, judgedText("verdict").startsWith("Right: that no order explains"));
+  math.random = () => 0.9;
+  part("judge-again").click();
+  part("judge-none").click();
+  check("there is one, of the run", judgedText("verdict").startsWith("There is one"));
+  math.random = random;
+  driveEnds();
+  driveBroken();
+  driveOwnRun();
+}
+
+// Before the reader has said anything, nothing of it is told at any event.
+function driveNothingTold() {
+  check("the history and the order are gone", part("past").getClientRects().length === 0);
+  check("the question is not told", part("question-box").getClientRects().length === 0);
+  check("no reply and no point is shown", !/true|false/.test(judgedText("bars")) && part("judge-bars").querySelector(".point") === null);
+  press("Home");
+  for (let count = 0; count < 39; count++) {
+    part("next").click();
+    const told = `${textOf("said")} ${textOf("threads")} ${textOf("told")} ${part("slider").getAttribute("aria-valuetext")}`;
+    check(`event ${count + 1} tells no reply and no point: ${told}`, !/true|false|takes effect|took effect|into the set|out of the set/.test(told));
+  }
+}
+
+function driveByPointer() {
+  part("judge-ask").click();
+  check("what is still to be said", judgedText("verdict").startsWith("Still to be said: add(5) of t1, contains(5) of t0"));
+  [[0, 3, 10], [1, 20, 39], [2, 17, 23], [3, 30, 36]].forEach((one) => dragPoint(...one));
+  check(`the points are where they were put: ${pointsOf()}`, pointsOf() === "10,39,23,36");
+  check("the order as text", /1\..*|add\(5\)/.test(judgedText("order")) && part("judge-order").querySelectorAll("li").length === 4);
+  check("replies are said", ["true", "false", "true", "true"].every((reply, index) => sayReply(index, reply)));
+  part("judge-ask").click();
+  const says = "contains(5) of t0 cannot answer false there: after add(5) of t1 in your order the set is {5}, and it would answer true.";
+  check(`refused: ${judgedText("verdict")}`, judgedText("verdict") === says && judgedText("tries") === "1 try refused");
+  const clash = barOf(1);
+  check("the clash is red", clash.classList.contains("clash") && clash.getAttribute("aria-valuetext").endsWith("clashes there"));
+  check("and drawn by show", part("judge-picture").querySelector(".clash") !== null);
+  check("no hint after one try", judgedText("hint") === "");
+}
+
+function driveByKeyboard() {
+  check("a bar is reached by Tab", tabTo(barOf(1)));
+  for (let count = 0; count < 31; count++) typeKey("ArrowLeft");
+  check(`the keys move the point: ${pointsOf()}`, pointsOf() === "10,23.5,23,36");
+  check("and the focus stays on it", focused() === barOf(1) && focused().getAttribute("role") === "slider");
+  check("its value in words", focused().getAttribute("aria-valuetext") === "after 23");
+  check("the page's own event stays", textOf("where").startsWith("event 39 "));
+  check("what was changed is not judged yet", judgedText("verdict") === "");
+  check("the button is reached by Tab", tabTo(part("judge-ask")));
+  typeKey("Enter");
+  check(`right: ${judgedText("verdict")}`, judgedText("verdict").startsWith("check says ok: this order explains the run. It is the order"));
+  check("the focus stays on the button", focused() === part("judge-ask"));
+  check("what is handed in", judgedText("line").endsWith("judge read-in-anothers-step replies 0-true,2-true,1-false,3-true"));
+  check("is kept", JSON.stringify(inPage("keptUnder(JUDGED)")).includes("0-true,2-true,1-false,3-true"));
+  tabTo(barOf(1));
+  typeKey("Delete");
+  check("a point is taken away", pointsOf() === "10,23,36");
+  typeKey("End");
+  typeKey("End");
+  check("and put at the end", pointsOf() === "10,39,23,36");
+}
+
+function driveHints() {
+  const before = judgedText("tries");
+  part("judge-ask").click();
+  check(`a second try: ${before}, ${judgedText("tries")}`, judgedText("tries") === "2 tries refused");
+  check("then the events at which it turns", judgedText("hint") === "It turns at the events 15, 23, 36, 39.");
+  part("judge-again").click();
+  check("it begins again", pointsOf() === "" && judgedText("tries") === "" && judgedText("hint") === "");
+  setLevel("points");
+  check("at the first level the replies are shown", /contains\(5\) false/.test(judgedText("bars")) && judgedText("replies") === "");
+}
+
+function driveEnds() {
+  tabTo(part("judge-end"));
+  typeKey("Enter");
+  check("back to the history", part("judge").getClientRects().length === 0 && part("past").getClientRects().length > 0);
+  check("the focus is where it began", focused() === part("judge-begin"));
+  part("judge-begin").click();
+  press("0");
+  beginCall(0, "add", 9);
+  check("another run ends it", part("judge").getClientRects().length === 0);
+}
+
+// The report of a list without its check is told once, with its order, and can be stepped through.
+function driveBroken() {
+  pick("left-in-chain");
+  part("without-box").open = true;
+  part("see-broken").click();
+  check(`it is told: ${judgedText("verdict")}`, judgedText("verdict").startsWith("contains(5) of t0 cannot answer true there"));
+  check("with the order of its own points", pointsOf().split(",").length === 4 && barOf(3).classList.contains("clash"));
+  const slider = part("judge-moment");
+  check("its moments are reached by Tab", tabTo(slider));
+  const told = [];
+  for (let moment = 1; moment <= Number(slider.max); moment++) {
+    slider.value = moment;
+    slider.oninput();
+    told.push(judgedText("said"));
+  }
+  check(`each moment is told: ${told[19]}`, told[0] === "Moment 1: t0 begins add(5)." && told[19] === "Moment 20: t0 add(3) answers true.");
+  check("also to a reader of the screen", slider.getAttribute("aria-valuetext") === "Moment 27: t0 contains(5) answers true.");
+  part("judge-end").click();
+  pick("full");
+  check("an example without such a report offers none", part("see-broken").hidden);
+}
+
+// A schedule of one's own is judged too, and one that is too long is not.
+function driveOwnRun() {
+  runSchedule([...header("lazy", 2), "begin 0 add 5", "go 0 11", "begin 1 contains 5", "go 1 3"]);
+  part("judge-begin").click();
+  setLevel("points");
+  dragPoint(0, 5, 12);
+  dragPoint(1, 14, 14);
+  part("judge-ask").click();
+  check(`an own run: ${judgedText("verdict")}`, judgedText("verdict").startsWith("check says ok"));
+  check("what is handed in has its address", /judge #list=lazy&threads=2&quota=4&s=\S+ points 0-true,1-true$/.test(judgedText("line")));
+  part("judge-end").click();
+  runSchedule([...header("lazy", 1), "begin 0 add 5", "go 0 11", "begin 0 remove 5", "go 0 10", "begin 0 add 7", "go 0 11", "begin 0 remove 7",
+    "go 0 10", "begin 0 add 9", "go 0 11", "begin 0 contains 9"]);
+  runSchedule([...inPage("page.text").trimEnd().split("\n"), "go 0 3"]);
+  part("judge-begin").click();
+  check(`a long one is not: ${textOf("told")}`, textOf("told").startsWith("Judged are runs of at most 60 events"));
+}

@@ -1,0 +1,142 @@
+// Drives the views of a lecture, pictures that are saved, what is to come, the listing, two lists side by side, and long runs.
+"use strict";
+
+const isSeen = (id) => part(id).getClientRects().length > 0;
+
+async function showView(hash, where) {
+  frame.contentWindow.location.hash = hash;
+  await until(() => textOf("where").startsWith(where));
+  await sleep(100);
+}
+
+async function driveViews() {
+  await showView("#example=read-in-anothers-step&event=20&view=lecture", "event 20 ");
+  const seen = ["list", "said", "calls", "contents"].every(isSeen);
+  check("a lecture has list, sentence and history alone", seen && !["lessons", "moves-box", "schedule-box", "order"].some(isSeen));
+  press("PageDown");
+  check("a presenter's key goes on", textOf("where").startsWith("event 21 "));
+  press("PageUp");
+  check("and back", textOf("where").startsWith("event 20 "));
+  const { contentDocument: document, contentWindow: window } = frame;
+  check("the title of the window", document.title === "read-in-anothers-step, event 20: LazyList");
+  if (frame.clientWidth >= 1920) driveSlide(document, window);
+  await sleep(KEEPS);
+  check("the view stays in the address", hashOf().endsWith("&view=lecture"));
+  await showView("#example=snip&event=17&view=list", "event 17 ");
+  check("the list alone", isSeen("list") && !isSeen("calls") && !isSeen("title"));
+  await showView("#example=snip&event=16&view=history", "event 16 ");
+  check("the history alone", !isSeen("list") && isSeen("calls"));
+  await showView("#example=snip&event=12", "event 12 ");
+  check("and all again", isSeen("list") && isSeen("calls") && isSeen("lessons"));
+  drivePicture();
+  driveHiding();
+  await driveListing();
+}
+
+// At 1920 x 1080 a lecture is one slide, and its labels are large: a text of 18 pixels is 20 high, with what goes below its line.
+function driveSlide(document, window) {
+  check("one slide", document.documentElement.scrollHeight <= window.innerHeight);
+  const labels = [...document.querySelectorAll("#list text, #history text")];
+  const least = Math.min(...labels.map((label) => label.getBoundingClientRect().height));
+  check(`no label is smaller than 18 pixels: ${least.toFixed(1)}`, labels.length > 10 && least >= 20);
+}
+
+function drivePicture() {
+  const text = inPage("wholePicture()");
+  const drawn = new DOMParser().parseFromString(text, "image/svg+xml");
+  check("a picture is an SVG of its own", drawn.querySelector("parsererror") === null && drawn.documentElement.localName === "svg");
+  const fill = drawn.querySelector(".badge rect").style.fill;
+  check(`its colours are written out: ${fill}`, fill.startsWith("rgb"));
+  check("it has the list and the history", drawn.querySelector(".node") !== null && drawn.querySelector(".bar") !== null);
+}
+
+// What is to come is not told, unless the reader wants that.
+function driveHiding() {
+  pick("read-in-anothers-step");
+  goToEvent(20);
+  const told = () => `${textOf("calls")} ${textOf("contents")} ${textOf("order")} ${part("calls").firstElementChild.getAttribute("aria-label")}`;
+  check(`replies, points and sets to come are hidden: ${told()}`, !/false|remove\(5\) true|\{5\}.*\{\}.*\{5\}/.test(told()));
+  check("the set ends now", part("contents").querySelectorAll(".content").length === 2);
+  check("and the points", part("calls").querySelectorAll(".point").length === 1);
+  check("what it turns on is folded, and its events", !part("turns-box").open && part("ticks").children.length === 0);
+  part("hides").click();
+  check("shown, where that is wanted", /contains\(5\) false/.test(told()) && part("contents").querySelectorAll(".content").length === 4);
+  check("it is kept", inPage("keptUnder('listset-settings').hides") === false);
+  part("hides").click();
+  const names = [...part("examples").options].map((option) => option.textContent).join();
+  check("no name of an example tells more than it has to", !/answers|stands in/.test(names));
+}
+
+async function driveListing() {
+  goToEvent(20);
+  part("listing-box").open = true;
+  await sleep(50);
+  const here = [...part("listing").querySelectorAll(".here")].map((line) => line.textContent);
+  check(`the line of each call: ${here}`, here.length === 2 && here[0].startsWith("load link of curr") && here[1].startsWith("load link of pred"));
+  part("listing-box").open = false;
+  await sleep(50);
+}
+
+function driveSides() {
+  runSchedule([...header("lazy", 2), "begin 0 add 5", "begin 1 contains 5"]);
+  frame.contentWindow.location.hash = "";
+  inPage("shownSides").sides = null;
+  part("sides-box").open = false;
+  inPage("openSides({ sides: 'coarse.lazy', calls: '0.add.5,0.remove.5,1.contains.5', turns: '0.0' })");
+  const turn = (thread) => part("sides-turns").querySelector(`[data-thread="${thread}"]`);
+  check("two lists are shown", part("sides-pictures").querySelectorAll("section").length === 2);
+  check("at the turns of the address", textOf("sides-where") === "turn 2 of 2");
+  check("a turn is reached by Tab", tabTo(turn(0)));
+  for (let count = 0; count < 7; count++) typeKey("Enter");
+  check("the focus stays on it", focused() === turn(0) && textOf("sides-where") === "turn 9 of 9");
+  const said = () => [...part("sides-pictures").querySelectorAll(".said")].map((line) => line.textContent);
+  check(`one that has answered waits: ${said()}`, said()[0] === "t0 has answered, and waits for the other." && said()[1].startsWith("t0 "));
+  turn(1).click();
+  check("the other thread goes on in both", said().every((line) => line === "t1 begins contains(5)."));
+  part("sides-slider").value = 1;
+  part("sides-slider").oninput();
+  check("back to the first turn", said().every((line) => line === "t0 begins add(5)."));
+  turn(1).click();
+  check("and another way from there", textOf("sides-where") === "turn 2 of 2");
+  const address = inPage("addressOfSides()");
+  check(`its address: ${address}`, address === "#sides=coarse.lazy&quota=4&calls=0.add.5,0.remove.5,1.contains.5&turns=0.1");
+  part("sides-program").value = "0: ad 5";
+  part("sides-begin").click();
+  check("a call that is none is told", textOf("sides-told") === '"ad 5" is no call as "add 5"');
+  part("sides-box").open = false;
+}
+
+// A million events: the page can be used while they run, the run can be cancelled, and each event is there at once.
+async function driveMillion() {
+  const lines = [...header("coarse", 2), "begin 0 add 5", "go 0 2", "begin 1 add 5", ...Array(99).fill("go 1 10000"), "go 1 9990"];
+  pick("snip");
+  goToEvent(5);
+  runSchedule(lines);
+  check("it says that it runs", isSeen("long") && textOf("long-said").startsWith("running 999,994 events"));
+  press("ArrowRight");
+  check("the page can be used meanwhile", textOf("where") === "event 6 of 23");
+  tabTo(part("long-cancel"));
+  typeKey("Enter");
+  check("it is cancelled", !isSeen("long") && textOf("fault").startsWith("The run was cancelled") && !part("old").hidden);
+  check("the focus is not lost", focused() !== frame.contentDocument.body);
+  part("run").click();
+  for (let rounds = 0; rounds < 12; rounds++) await until(() => textOf("where").endsWith(" of 999994"));
+  check(`it is shown: ${textOf("where")}`, textOf("where").endsWith(" of 999994") && !isSeen("long") && textOf("fault") === "");
+  press("End");
+  check("its last event", textOf("said").startsWith("t1 tries list.lock, which t0 has"));
+  press("ArrowLeft");
+  check("and the one before", textOf("where") === "event 999993 of 999994");
+  part("undo").click();
+  check("undo leads back", textOf("where").endsWith(" of 23"));
+}
+
+// On a narrow screen the page is no taller than this before a fold is opened.
+function driveHeight() {
+  pick("read-in-anothers-step");
+  goToEvent(20);
+  lessonPart("box").open = false;
+  const { documentElement } = frame.contentDocument;
+  const isFinger = frame.contentWindow.matchMedia("(pointer: coarse)").matches;
+  check(`the page is ${documentElement.scrollHeight} pixels tall`, documentElement.scrollHeight <= (isFinger ? 2000 : 1600));
+  check("and not wider than the screen", documentElement.scrollWidth <= documentElement.clientWidth);
+}
