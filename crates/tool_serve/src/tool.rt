@@ -1,7 +1,8 @@
 //! The tool.
-ghost use Rattle.std.specs.Prelude.{◌≡◌, [], IfErr, IfOk, OnOk, map, string_bytes};
+ghost use Rattle.std.specs.Prelude.{◌≡◌, ◌≤◌, ℕ, [], IfErr, IfOk, OnOk, map, string_bytes};
 ghost use Rattle.std.specs.Io.KnownBytes.{Appends};
 ghost use Rattle.lset_tools.specs.Tools as tools;
+ghost use Rattle.tool_serve.specs.declared.request.TheConstants.{MOST_PORT};
 ghost use Rattle.tool_serve.specs.Keys.{AreKeys};
 ghost use Rattle.tool_serve.specs.Serving.{AreKeysOf, IsTroubleOf, IsWithinLimits};
 ghost use Rattle.tool_serve.specs.Serving.{Announces, Answers, EndsServer, ServeEnds, ServeWithEnds, Serves, ServesFrom, ServesWith, first_line, of_server, serve_request_of};
@@ -51,6 +52,27 @@ fn announce<W: Write>(alloc: Global, output: &mut W, port: u16) -> Result<(), Tr
     }
 }
 
+/// Listens on the port of the loopback, and says so.
+fn listen<R: Net<Listener = TcpListener, Stream = TcpStream>, W: Write>(
+    rt: &R,
+    alloc: Global,
+    port: u32,
+    output: &mut W,
+) -> Result<TcpListener, Trouble>
+    requires { port ≤ MOST_PORT }
+    ensures whole { OnOk result ((p : ℕ) × Appends (W.contents output.old) (W.contents output.new) (first_line p)) }
+    ensures trouble { IfErr result (λ t. (p : ℕ) × EndsServer t (first_line p) (W.contents output.old) (W.contents output.new)) }
+{
+    let Ok(listener) = TcpListener::bind(rt, (Ipv4Addr::LOCALHOST, port as u16)) else {
+        return Err(Trouble::CannotListen);
+    };
+    let Ok(address) = listener.local_addr() else {
+        return Err(Trouble::CannotListen);
+    };
+    announce(alloc, output, address.port())?;
+    Ok(listener)
+}
+
 /// Opens a set of the list `M`, which is that of the request, with these keys, listens, says so, and serves.
 fn serve_list<
     M: Running + Send + Sync,
@@ -74,13 +96,7 @@ fn serve_list<
         Err(OpenFault::Memory) => return Err(Trouble::Memory),
         Err(_) => unreachable!(),
     };
-    let Ok(listener) = TcpListener::bind(rt, (Ipv4Addr::LOCALHOST, request.port as u16)) else {
-        return Err(Trouble::CannotListen);
-    };
-    let Ok(address) = listener.local_addr() else {
-        return Err(Trouble::CannotListen);
-    };
-    announce(alloc, output, address.port())?;
+    let listener = listen(rt, alloc, request.port, output)?;
     match serve(rt, alloc, listener, set, seats, request.sessions) {
         Ok(served) => {
             let text = served_text(alloc, &served)?;

@@ -1,6 +1,5 @@
-use Rattle.std.proofs.Common.{rules, sym, subst}
-use Rattle.tool_serve.specs.Serving.{EndsServer, first_line}
-use Rattle.tool_serve.proofs.Endings.{after_memory, ends_after}
+use Rattle.std.proofs.Common.{rules}
+use Rattle.tool_serve.proofs.Endings.{after_memory, server_ended}
 use Rattle.tool_serve.proofs.NewSets.{served_new}
 use Rattle.tool_serve.proofs.tool.serve_list.Goals as goal
 
@@ -14,15 +13,10 @@ returns-in_ok-text-in-Ok-serve-clause-made g c = (
 
 pub returns-in_err-text-in-Ok-serve-clause-first : goal.returns-in_err-text-in-Ok-serve-clause-first
 returns-in_err-text-in-Ok-serve-clause-first g c =
-    after_memory c.port.result (g.W.Write.contents c.args.output.now) (g.W.Write.contents c.announce.new.output)
-    c.from_residual-in_err-text-in-Ok-serve.result c.from_residual-in_err-text-in-Ok-serve.ensures.1
-    c.in_ok-announce.ensures.whole
+    let (port, whole) = c.in_ok-listener.ensures.whole in
+    after_memory port _ _ c.from_residual-in_err-text-in-Ok-serve.result c.from_residual-in_err-text-in-Ok-serve.ensures.1 whole
 
 pub returns-in-Err-serve-clause-first : goal.returns-in-Err-serve-clause-first
-returns-in-Err-serve-clause-first g c = (
-  c.port.result,
-  subst (λ t. EndsServer t (first_line c.port.result) (g.W.Write.contents c.args.output.now)
-      (g.W.Write.contents c.announce.new.output))
-      (sym c.trouble_of.ensures)
-      (ends_after c.in-Err-serve.fault.cause (first_line c.port.result) _ _ c.in_ok-announce.ensures.whole),
-)
+returns-in-Err-serve-clause-first g c =
+    let (port, whole) = c.in_ok-listener.ensures.whole in
+    server_ended port _ _ c.in-Err-serve.fault.cause _ c.trouble_of.ensures whole
