@@ -3,12 +3,28 @@
 #![tactic(auto)]
 
 #[cfg(test)]
+mod ceilings;
+#[cfg(test)]
+mod coarse;
+#[cfg(test)]
+mod fine;
+#[cfg(test)]
 mod history;
 #[cfg(test)]
 mod laws;
 #[cfg(test)]
+mod lazy;
+#[cfg(test)]
+mod lock_free;
+#[cfg(test)]
 mod marked;
+#[cfg(test)]
+mod openings;
+#[cfg(test)]
+mod optimistic;
 #[cfg(test)]
 mod schedule;
 #[cfg(test)]
 mod tables;
+#[cfg(test)]
+mod worlds;

@@ -1,5 +1,5 @@
 //! Two calls, of which one stops between two of its steps until the other has ended or waits.
-ghost use Rattle.std.specs.Prelude.{◌≡◌, ◌×◌};
+ghost use Rattle.std.specs.Prelude.{◌≡◌};
 
 use crate::opened::{add, two_seats};
 use crate::waiting::comes;

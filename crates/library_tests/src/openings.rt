@@ -1,0 +1,105 @@
+//! Layouts, worlds, oracles, changes and histories of sets that open with given keys.
+ghost use Rattle.std.specs.Prelude.{◌≡◌, IfOk};
+
+use crate::history::{Judged, assert_judged, assert_replies};
+use crate::worlds::{self, assert_content};
+use lset_coarse::CoarseList;
+use lset_history::{Changes, History, Oracle, OrderFault};
+use lset_lock_free::LockFreeList;
+use lset_steps::{Machine, World};
+use lset_words::{Call, Key, Placed, Reply, layout_opening};
+use std::alloc::{AllocError, Global};
+use std::process::Abort;
+use std::test::Fail;
+
+/// A world of one thread with one slot, and the keys 0, 7 and 4294967295.
+fn with_three_keys<M: Machine>(alloc: Global) -> Result<World<M>, Fail> {
+    let layout = layout_opening(1, 1, 3)?;
+    Ok(World::opened(alloc, layout, &[0, 7, u32::MAX])?)
+}
+
+/// An opening key goes out as any other and comes in again in a slot; the head's first key and the last before the tail too.
+const COME_AND_GO: [(Call, Reply); 6] = [
+    (Call::Add(Key(7)), Reply::False),
+    (Call::Remove(Key(0)), Reply::True),
+    (Call::Ceiling(Key(8)), Reply::At(Key(u32::MAX))),
+    (Call::Remove(Key(u32::MAX)), Reply::True),
+    (Call::Add(Key(0)), Reply::True),
+    (Call::Add(Key(8)), Reply::Full),
+];
+
+fn keys_come_and_go<M: Machine, R: Abort>(rt: &R, alloc: Global) -> Result<(), Fail> {
+    let mut world = with_three_keys::<M>(alloc)?;
+    assert_content(rt, &world, &[0, 7, u32::MAX])?;
+    worlds::assert_replies(rt, &mut world, &COME_AND_GO)?;
+    assert_content(rt, &world, &[0, 7])
+}
+
+#[test]
+fn opening_keys_come_and_go(rt: HostRuntime) -> Result<(), Fail> {
+    keys_come_and_go::<CoarseList, HostRuntime>(&rt, rt.alloc())?;
+    keys_come_and_go::<LockFreeList, HostRuntime>(&rt, rt.alloc())
+}
+
+#[test]
+fn opening_keys_are_nobodys_adds(rt: HostRuntime) -> Result<(), Fail> {
+    let calls = [
+        (Call::Add(Key(9)), Reply::False),
+        (Call::Add(Key(4)), Reply::Full),
+        (Call::Remove(Key(9)), Reply::True),
+    ];
+    let mut oracle = Oracle::opened(rt.alloc(), 1, 0, &[9])?;
+    assert_replies(&rt, &mut oracle, &calls)?;
+    assert!(rt; oracle.keys()?.is_empty());
+    Ok(())
+}
+
+#[test]
+fn opening_keys_are_there_from_moment_0(rt: HostRuntime) -> Result<(), Fail> {
+    let changes = Changes::opened(rt.alloc(), &[9])?;
+    let found = [
+        changes.first(9, true, 0, 5).0,
+        changes.first(9, false, 0, 5).0,
+        changes.first(8, true, 0, 5).0,
+        changes.first_ceiling(4, Some(9), 0, 5),
+        changes.first_ceiling(10, None, 0, 5),
+    ];
+    let wanted = [Some(0), None, None, Some(0), Some(0)];
+    assert!(rt; found.as_slice() == wanted.as_slice());
+    Ok(())
+}
+
+fn vector_of(alloc: Global, keys: &[u32]) -> Result<Vec<u32>, AllocError>
+    ensures { IfOk result (λ v. v.items ≡ keys.now) }
+{
+    Vec::from_slice(alloc, keys)
+}
+
+/// After this history, one call that takes the key 9 out.
+fn remove_of_nine(mut history: History) -> Result<History, Fail> {
+    history.begin(0, Call::Remove(Key(9)), 1)?;
+    history.end(0, Reply::True, 2)?;
+    Ok(history)
+}
+
+/// That call is legal from the key 9 alone.
+#[test]
+fn an_order_is_judged_from_the_opening_keys(rt: HostRuntime) -> Result<(), Fail> {
+    let alloc = rt.alloc();
+    let order = [Placed {
+        call: 0,
+        reply: Reply::True,
+    }];
+    let opening = vector_of(alloc, &[9, 11])?;
+    let opened = remove_of_nine(History::opened(alloc, 1, 0, opening))?;
+    assert!(rt; opened.opening() == [9, 11].as_slice());
+    let of_opened: [Judged; 2] = [
+        (&order, &[11], Ok(())),
+        (&order, &[], Err(OrderFault::WrongSet)),
+    ];
+    assert_judged(&rt, alloc, &opened, &of_opened);
+    let empty = remove_of_nine(History::new(alloc, 1, 0))?;
+    let of_empty: [Judged; 1] = [(&order, &[], Err(OrderFault::WrongReply(0)))];
+    assert_judged(&rt, alloc, &empty, &of_empty);
+    Ok(())
+}

@@ -1,0 +1,110 @@
+//! Events and calls on a world, and what is seen of them.
+use lset_steps::{Event, Machine, StepFault, World};
+use lset_words::{Call, Key, Reply, layout};
+use std::alloc::Global;
+use std::process::Abort;
+use std::test::Fail;
+
+/// An event, how often it is made, and the answer of the last one.
+pub type Line = (Event, u32, Option<Reply>);
+
+/// Makes the event so many times: the answer of the last one. A step past the end of a call is refused.
+pub fn make<M: Machine>(
+    world: &mut World<M>,
+    event: Event,
+    times: u32,
+) -> Result<Option<Reply>, StepFault> {
+    let mut answer = None;
+    for _ in 0..times {
+        answer = world.step(event)?.answer;
+    }
+    Ok(answer)
+}
+
+/// Makes a call of the thread to its end, where it has one within 1,000 steps: its reply, and the number of its steps.
+pub fn make_call<M: Machine>(
+    world: &mut World<M>,
+    thread: u32,
+    call: Call,
+) -> Result<Option<(Reply, u64)>, StepFault> {
+    world.step(Event::Begin(thread, call))?;
+    for steps in 1..=1_000 {
+        if let Some(reply) = world.step(Event::Go(thread))?.answer {
+            return Ok(Some((reply, steps)));
+        }
+    }
+    Ok(None)
+}
+
+/// Makes the events in turn: each line has its answer.
+pub fn assert_lines<M: Machine, R: Abort>(
+    rt: &R,
+    world: &mut World<M>,
+    lines: &[Line],
+) -> Result<(), Fail> {
+    for (event, times, answer) in lines {
+        assert_eq!(rt; make(world, *event, *times)?, *answer, "{event:?}");
+    }
+    Ok(())
+}
+
+/// Makes the calls of thread 0 in turn: each has its reply after so many steps.
+pub fn assert_calls<M: Machine, R: Abort>(
+    rt: &R,
+    world: &mut World<M>,
+    calls: &[(Call, Reply, u64)],
+) -> Result<(), Fail> {
+    for (call, reply, steps) in calls {
+        let made = make_call(world, 0, *call)?;
+        assert_eq!(rt; made, Some((*reply, *steps)), "{call:?}");
+    }
+    Ok(())
+}
+
+/// Makes the calls of thread 0 in turn: each has its reply.
+pub fn assert_replies<M: Machine, R: Abort>(
+    rt: &R,
+    world: &mut World<M>,
+    calls: &[(Call, Reply)],
+) -> Result<(), Fail> {
+    for (call, reply) in calls {
+        let made = make_call(world, 0, *call)?;
+        assert!(rt;
+            made.is_some_and(|(answer, _)| answer == *reply),
+            "{call:?}"
+        );
+    }
+    Ok(())
+}
+
+/// The keys of the set are these.
+pub fn assert_content<M: Machine, R: Abort>(
+    rt: &R,
+    world: &World<M>,
+    keys: &[u32],
+) -> Result<(), Fail> {
+    assert_eq!(rt; world.content()?.as_slice(), keys);
+    Ok(())
+}
+
+/// The least key and the greatest are put in, found and taken out: each call answers true, after so many steps.
+pub fn assert_ends<M: Machine, R: Abort>(
+    rt: &R,
+    alloc: Global,
+    adds: [u64; 2],
+    finds: [u64; 2],
+    removes: [u64; 2],
+) -> Result<(), Fail> {
+    let (least, most) = (Key(0), Key(u32::MAX));
+    let calls = [
+        (Call::Add(least), Reply::True, adds[0]),
+        (Call::Add(most), Reply::True, adds[1]),
+        (Call::Contains(least), Reply::True, finds[0]),
+        (Call::Contains(most), Reply::True, finds[1]),
+        (Call::Remove(least), Reply::True, removes[0]),
+        (Call::Remove(most), Reply::True, removes[1]),
+    ];
+    let mut world = World::<M>::new(alloc, layout(1, 2)?)?;
+    assert_calls(rt, &mut world, &calls)?;
+    assert_content(rt, &world, &[])
+}
