@@ -2,7 +2,7 @@
 //! And a recorded schedule is replayed.
 #![tactic(auto)]
 
-ghost use Rattle.std.specs.Prelude.{◌≡◌, [], ◌∷◌, IfOk, map, string_bytes};
+ghost use Rattle.std.specs.Prelude.{◌≡◌, [], ◌∷◌, IfOk, map};
 ghost use Rattle.lset_schedule.specs.Plan.{Plan, IsSchedule, schedule_text};
 ghost use Rattle.lset_replay.specs.Reports.{IsExplained};
 ghost use Rattle.lset_report.specs.Report.{view};
@@ -89,7 +89,7 @@ fn two_lives<R: Threads + Wait + Sync>(
 /// The report of the schedule that has this text.
 fn replayed(alloc: Global, text: &str) -> Result<Report, Refusal>
     // the text is a schedule's, and the report's order linearizes its calls and leaves its keys
-    ensures { IfOk result (λ r. (p : Plan) × IsSchedule p × (string_bytes text.now ≡ schedule_text p) × IsExplained (view r)) }
+    ensures { IfOk result (λ r. (p : Plan) × IsSchedule p × (text.now ≡ schedule_text p) × IsExplained (view r)) }
 {
     let schedule = read_schedule(alloc, text.as_bytes())?;
     Ok(replay(alloc, &schedule)?)
