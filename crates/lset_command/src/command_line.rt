@@ -588,7 +588,7 @@ fn command_named(name: &str) -> Command
 ///
 /// The error has the text for the user: the help or the version, where words ask for it (`exit_code` 0), or what is
 /// wrong with the words (`exit_code` 2). It may also say that memory was refused: `is_out_of_memory`.
-pub fn tool_words<'a>(
+pub fn words_given<'a>(
     alloc: Global,
     words: &'a [&'a str],
     faults_help: &'a str,

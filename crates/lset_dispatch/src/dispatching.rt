@@ -1,12 +1,12 @@
-ghost use Rattle.std.specs.Prelude.{◌≡◌};
-ghost use Rattle.clap.specs.Words.{kind_of};
+ghost use Rattle.std.specs.Prelude.{◌≡◌, IfOk};
+ghost use Rattle.clap.specs.Words.{FailsBy, fault_of, kind_of, subcommand_of};
 ghost use Rattle.clap.specs.Walk.{texts};
-ghost use Rattle.lset_command.specs.CommandLine.{choice_in};
+ghost use Rattle.lset_command.specs.CommandLine.{choice_in, choice_of, listset};
 ghost use Rattle.lset_dispatch.specs.Dispatch.{CommandEnds, Declines, DoesOnInput, Runs};
 
 use crate::command::run_command;
 use clap::Error;
-use lset_command::{Words, is_out_of_memory, tool_words};
+use lset_command::{Words, is_out_of_memory, words_given};
 use lset_tools::{Answer, FAULTS, Trouble, deliver, put};
 use std::alloc::Global;
 use std::fs::File;
@@ -63,6 +63,17 @@ fn run_taken<
     }
 }
 
+/// Reads the words that stand after the program's name, as `words_given` does, with the help on `faults` that `faults` prints.
+///
+/// The error has the text for the user: the help or the version, where words ask for it (`exit_code` 0), or what is
+/// wrong with the words (`exit_code` 2). It may also say that memory was refused: `is_out_of_memory`.
+pub fn tool_words(alloc: Global, words: &[&str]) -> Result<Words, Error>
+    ensures taken { IfOk result (λ w. choice_in w ≡ choice_of (subcommand_of listset (texts words.entry.now))) }
+    ensures refused { FailsBy (fault_of listset (texts words.entry.now)) result }
+{
+    words_given(alloc, words, FAULTS)
+}
+
 /// Runs the program on the words that stand after its name: does the command that they ask for, on the file that they
 /// name among the files of `rt`, on `input` where they name none or `-`, or on their values, or ends as `decline` does.
 /// Gives the exit status. `serve` opens with the keys of its file or, at `-`, of `input`, and reads nothing without a word
@@ -76,7 +87,7 @@ pub fn run_words<
     ensures { Runs (texts words.entry.now) (λ bytes. (file : H.File) × (bytes ≡ H.File.remaining file)) (R.remaining input.old)
         (W.contents output.old) (W.contents output.new) (F.contents faults.old) (F.contents faults.new) result }
 {
-    match tool_words(alloc, words, FAULTS) {
+    match tool_words(alloc, words) {
         Ok(words) => run_taken(rt, alloc, &words, input, output, faults),
         Err(error) => decline(alloc, &error, output, faults),
     }

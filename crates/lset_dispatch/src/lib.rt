@@ -6,4 +6,4 @@ mod command;
 mod dispatching;
 
 pub use command::run_command;
-pub use dispatching::{decline, run_words};
+pub use dispatching::{decline, run_words, tool_words};
