@@ -23,7 +23,8 @@ const USAGE = "node page/check_lessons.js FILE .., with courses among the files 
 
 class Trouble extends Error {}
 
-const printable = (text) => text.replace(/[\x00-\x1f\x7f-\x9f\u2028\u2029\u202a-\u202e]/g, "?"); // no text is trusted with a terminal
+const UNTRUSTED = /[\x00-\x1f\x7f-\x9f\u2028\u2029\u202a-\u202e]/g; // what no text may send to a terminal
+const printable = (text) => text.replace(UNTRUSTED, "?");
 const say = (line) => process.stdout.write(`${printable(line)}\n`);
 const tell = (line) => process.stderr.write(`lessons: ${printable(line)}\n`);
 
@@ -78,7 +79,8 @@ function studentsIn(texts, courses) {
     students.set(name, own);
     const course = read.course === null ? courses[0] : courses.find((one) => one.name === read.course);
     own.faults.push(...read.faults.map((fault) => ({ ...fault, file })));
-    if (course === undefined) own.faults.push({ file, line: text.number, fault: `the course "${read.course}" is not among the files` });
+    const fault = `the course "${read.course}" is not among the files`;
+    if (course === undefined) own.faults.push({ file, line: text.number, fault });
     else own.courses.add(course);
     own.parts.push(...read.solutions.map((part) => ({ ...part, file, lessons: course?.lessons ?? [] })));
   }
@@ -91,7 +93,8 @@ function isWhole(ask, { name, parts, faults, courses }) {
   const verdicts = parts.map((part) => ({ ...part, ...inPage("judgedPart")(ask, part.lessons, part.line) }));
   const solved = new Set(verdicts.filter(({ isSolved }) => isSolved).map(({ task }) => task));
   const wrong = verdicts.filter(({ isSolved, task }) => !isSolved && !solved.has(task));
-  for (const { file, number, task, says } of wrong) say(`${name}: ${file}, line ${number}: ${task === null ? "" : `${task}: `}${says}`);
+  const whose = (task) => (task === null ? "" : `${task}: `);
+  for (const { file, number, task, says } of wrong) say(`${name}: ${file}, line ${number}: ${whose(task)}${says}`);
   const lessons = [...courses].flatMap((course) => course.lessons.map((lesson) => lesson.name));
   const open = lessons.filter((lesson) => !solved.has(lesson));
   for (const lesson of open.filter((one) => !verdicts.some(({ task }) => task === one))) say(`${name}: ${lesson}: not handed in`);
@@ -121,7 +124,9 @@ async function checked(ask, words) {
   const courses = given.map((text) => toldCourse(ask, text));
   const isGood = courses.every(({ faults }) => faults.length === 0);
   if (handed.length === 0 || !isGood) {
-    for (const { file, name, lessons, faults } of courses) say(`${file}: ${name}: ${lessons.length} lessons, ${faults.length} faults`);
+    for (const { file, name, lessons, faults } of courses) {
+      say(`${file}: ${name}: ${lessons.length} lessons, ${faults.length} faults`);
+    }
     if (isLink && isGood && courses.length === 1) await toldLink(files[0]);
     return isBad ? 2 : isGood ? 0 : 1;
   }

@@ -117,7 +117,7 @@ function placeParts() {
   const narrow = matchMedia("(max-width: 940px)");
   const place = () => {
     byId(narrow.matches ? "moves-narrow" : "moves-wide").append(byId("moves-box"));
-    for (const name of ["schedule-box", "new-box", "files-box", "threads-box"]) byId(name).open = !narrow.matches;
+    for (const name of ["schedule-box", "new-box", "files-box", "threads-box", "legend-box"]) byId(name).open = !narrow.matches;
   };
   narrow.addEventListener("change", place);
   place();

@@ -31,7 +31,8 @@ async function openCourseOfAddress(letters) {
 
 async function copyCourseLink(panel) {
   const address = await courseAddress(panel.course.text);
-  if (address === null) return (lessonPart("faults").textContent = "This course is too long for a link: save it, and hand out the file.");
+  const tooLong = "This course is too long for a link: save it, and hand out the file.";
+  if (address === null) return (lessonPart("faults").textContent = tooLong);
   const link = location.href.replace(/#.*$/, "") + address;
   const box = lessonPart("link-text");
   box.value = link;

@@ -175,7 +175,8 @@ function drawOrder(trace, count, hides = false) {
   const items = order.slice(first, last).map((call) => {
     const isAnswered = call.ended !== null && (!hides || call.ended <= count);
     const reply = isAnswered ? call.reply : openReply;
-    return `<li class="${isReached(call, count) ? "reached" : "later"}">${chipOf(call.thread)} ${callText(call)} <b>${reply}</b></li>`;
+    const state = isReached(call, count) ? "reached" : "later";
+    return `<li class="${state}">${chipOf(call.thread)} ${callText(call)} <b>${reply}</b></li>`;
   });
   const before = first > 0 ? `<li class="later">${first} before …</li>` : "";
   const after = last < total ? `<li class="later">… ${total - last} more</li>` : "";

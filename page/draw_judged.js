@@ -34,6 +34,8 @@ function drawJudgedCall(call, { answer, exercise, verdict, scale }) {
   const right = scale.x(lastMoment(exercise, call)) + scale.step / 2;
   const point = answer.points.get(call.id);
   const reply = call.ended === null ? "(open)" : (answer.replyOf(call) ?? "?");
+  const isClash = verdict?.clash === call.id;
+  const where = point === undefined ? "not placed yet" : momentInWords(point.at);
   const slider = {
     role: "slider",
     tabindex: 0,
@@ -42,8 +44,8 @@ function drawJudgedCall(call, { answer, exercise, verdict, scale }) {
     "aria-valuemin": call.begun,
     "aria-valuemax": lastMoment(exercise, call),
     "aria-valuenow": point?.at ?? call.begun,
-    "aria-valuetext": point === undefined ? "not placed yet" : `${momentInWords(point.at)}${verdict?.clash === call.id ? ", and clashes there" : ""}`,
-    class: `bar own ${colourOf(call.thread)}${verdict?.clash === call.id ? " clash" : ""}${call.ended === null ? " open" : ""}`,
+    "aria-valuetext": `${where}${isClash ? ", and clashes there" : ""}`,
+    class: `bar own ${colourOf(call.thread)}${isClash ? " clash" : ""}${call.ended === null ? " open" : ""}`,
   };
   const bar = tag("rect", { x: left, y: y - 15, width: Math.max(right - left, 12), height: 30, rx: 4 });
   const name = label({ class: "call", x: left + 2, y: y - 19 }, `${callText(call)} ${reply}`);
@@ -64,7 +66,8 @@ function drawJudged(judged) {
   const at = exercise.level === "claim" ? moment : page.count;
   const line = { class: "cursor", x1: scale.x(at), x2: scale.x(at), y1: 0, y2: scale.height };
   const frame = { width: scale.width, height: scale.height, role: "group", "aria-label": "the calls, each with a point to place" };
-  return tag("svg", frame, ...lanes, at === 0 ? "" : tag("line", line), ...exercise.calls.map((call) => drawJudgedCall(call, judged)));
+  const calls = exercise.calls.map((call) => drawJudgedCall(call, judged));
+  return tag("svg", frame, ...lanes, at === 0 ? "" : tag("line", line), ...calls);
 }
 
 // The reader's order as text.

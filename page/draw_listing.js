@@ -1,4 +1,4 @@
-// Draws the listing: for each thread with an open call the rows of that call, as the table has them, with the row at which it stands.
+// Draws the listing: for each thread with an open call the rows of that call, as the table has them, that at which it stands lit.
 "use strict";
 
 const MOST_LISTINGS = 6;

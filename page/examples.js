@@ -58,7 +58,7 @@ function pickKept(name, count) {
   showMarks();
 }
 
-// The names of the examples, each with its list: cut as `listset example` prints them. What that says of them would tell the answer.
+// The names of the examples, each with its list, of what `listset example` prints; the rest of that would tell the answers.
 function fillExamples() {
   const list = page.engine === null ? EXAMPLES : page.engine.ask("listset_examples", "").text;
   for (const line of list.trimEnd().split("\n")) {

@@ -32,7 +32,8 @@ function unmailed(text) {
     else lines.push({ line, number: index + 1 });
     goesOn = isCoded && bare.endsWith("=");
   });
-  const decoded = (line) => (isCoded ? line.replace(/=([0-9A-F]{2})/gi, (_, code) => String.fromCharCode(parseInt(code, 16))) : line);
+  const letterOf = (_, code) => String.fromCharCode(parseInt(code, 16));
+  const decoded = (line) => (isCoded ? line.replace(/=([0-9A-F]{2})/gi, letterOf) : line);
   return lines.map(({ line, number }) => ({ line: decoded(line).replaceAll("&amp;", "&"), number }));
 }
 
@@ -54,9 +55,10 @@ function textsIn(text) {
   return found;
 }
 
-// Whether a line begins a part of a text that is handed in, with a space behind its first word, and whether a part still lacks words.
+// Whether a line begins a part of a text that is handed in, whether a part lacks words, and whether a line may go on with one.
 const isBegin = (line) => /^(student|course|judge) /.test(line) || /^[a-z][a-z0-9-]* +(\S*#|<?https?:)/.test(line);
-const lacksWords = (line) => (/^judge /.test(line) ? line.split(" ").length < 4 : !/^(student|course) /.test(line) && !line.includes("#"));
+const lacksWords = (line) =>
+  /^judge /.test(line) ? line.split(" ").length < 4 : !/^(student|course) /.test(line) && !line.includes("#");
 const isPiece = (line) => !line.includes(" ") || /^\S*[.,=&]\S* /.test(line);
 
 // What was handed in: the course and the student, or null, the parts with the numbers of their lines, and the faults.

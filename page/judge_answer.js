@@ -87,7 +87,8 @@ class OwnAnswer {
   }
 
   order() {
-    const placed = this.exercise.calls.filter(({ id }) => this.points.has(id)).map((call) => ({ call, ...this.points.get(call.id) }));
+    const calls = this.exercise.calls.filter(({ id }) => this.points.has(id));
+    const placed = calls.map((call) => ({ call, ...this.points.get(call.id) }));
     placed.sort((one, other) => one.at - other.at || one.turn - other.turn);
     return placed.map(({ call, at }) => ({ call, at, reply: this.replyOf(call) }));
   }
@@ -149,7 +150,8 @@ function faultInWords(answer, line) {
   const early = /^refused TooEarly (\d+): it begins at (\d+) and stands before call (\d+), which ended at (\d+)$/.exec(line);
   if (early !== null) {
     const [, late, begun, first, ended] = early;
-    return `${named(late)} begins at event ${begun}, and in your order it stands before ${named(first)}, which ended at event ${ended}.`;
+    const stands = `in your order it stands before ${named(first)}, which ended at event ${ended}`;
+    return `${named(late)} begins at event ${begun}, and ${stands}.`;
   }
   const leaves = /^refused WrongSet: the order leaves (\{.*\}), and the keys are (\{.*\})$/.exec(line);
   if (leaves !== null) return `Your order leaves the set ${leaves[1]}, and at the end of this run it is ${leaves[2]}.`;

@@ -17,9 +17,10 @@ function runOfSchedule(ask, schedule) {
   return { trace: null, fault: `line ${trace.refused.line} of the schedule is refused: ${trace.refused.cause}` };
 }
 
+const unjudged = (reason) => ({ isSolved: false, reason, conditions: [], deadEnd: null });
+
 // Judges a schedule of a lesson that was tried.
 function judged(ask, lesson, schedule) {
-  const unjudged = (reason) => ({ isSolved: false, reason, conditions: [], deadEnd: null });
   if (setOf(schedule) !== setOf(lesson.begun)) return unjudged(OTHER_SET);
   if (eventsAsked(schedule) > MOST_EVENTS) return unjudged(`A solution has at most ${MOST_EVENTS} events.`);
   const { trace, fault } = runOfSchedule(ask, schedule);

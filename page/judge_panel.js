@@ -4,6 +4,8 @@
 
 const JUDGED = "listset-judged"; // in the browser's storage: of each run and level the order that was right
 
+const HALF_STEPS = { ArrowLeft: -0.5, ArrowDown: -0.5, ArrowRight: 0.5, ArrowUp: 0.5 };
+const SLIDER_KEYS = { ...HALF_STEPS, PageDown: -5, PageUp: 5, Home: -Infinity, End: Infinity };
 const judgePart = (name) => byId(`judge-${name}`);
 
 class Judging {
@@ -25,7 +27,7 @@ class Judging {
     this.take(exerciseOf(report, "claim", true));
     this.answer = answerOfWord(this.exercise, this.exercise.places.join());
     this.verdict = verdictOn(askNow, this.answer);
-    this.told = "This report is that of a list without the check: here is the order of its own points. No order explains it: that is proved.";
+    this.told = "The report of a list without the check, with the order of its own points. That no order explains it is proved.";
     this.draw();
   }
 
@@ -72,7 +74,7 @@ class Judging {
 
   press(event) {
     const call = this.callAt(event);
-    const by = { ArrowLeft: -0.5, ArrowDown: -0.5, ArrowRight: 0.5, ArrowUp: 0.5, PageDown: -5, PageUp: 5, Home: -1e9, End: 1e9 }[event.key];
+    const by = SLIDER_KEYS[event.key];
     if (call === null || event.ctrlKey || event.altKey || event.metaKey) return;
     if (event.key === "Delete" || event.key === "Backspace") {
       this.answer.take(call);

@@ -1,5 +1,5 @@
-// What this browser keeps of the lessons: the courses that were opened, and of each the schedules that solved a lesson and the lessons
-// whose answer was looked at.
+// What this browser keeps of the lessons: the courses that were opened, and of each the schedules that solved a lesson, and the
+// lessons whose answer was looked at.
 "use strict";
 
 const LESSONS_KEPT = "listset-lessons-2";

@@ -1,5 +1,5 @@
 // The panel of the lessons: the course and its lessons with ticks, the chosen lesson, what is said of a try, and the text that is
-// handed in. A schedule is judged once it is shown, by the run that the engine makes of it. No answer is told that was not asked for.
+// handed in. A schedule is judged once it is shown, by the run that the engine makes of it. No answer is told unasked.
 "use strict";
 
 const lessonPart = (name) => byId(`lesson-${name}`);
@@ -124,7 +124,7 @@ class LessonsOnPage {
     this.trace = trace;
     const { name, solution } = this.lesson;
     const schedule = this.isOfLesson(trace) ? scheduleOfTrace(trace) : null;
-    this.verdict = schedule === null ? { isSolved: false, reason: OTHER_SET, conditions: [] } : judged(askNow, this.lesson, schedule);
+    this.verdict = schedule === null ? unjudged(OTHER_SET) : judged(askNow, this.lesson, schedule);
     for (const { says, isMet } of this.verdict.conditions) if (isMet) this.ticks.add(says);
     const { solutions, looked } = this.own;
     this.verdict.isShown = looked.has(name) && schedule === solution && schedule !== solutions.get(name);

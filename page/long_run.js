@@ -5,8 +5,8 @@
 const EVENT_ROOM = 96; // bytes of a trace's line, so that the engine is asked once
 const longRun = { worker: null, timer: 0 };
 
-// The text of the worker's program: the functions of calls.js, with so much room for the answer. (A page that is opened as a file may
-// not start a worker from a file.)
+// The text of the worker's program: the functions of calls.js, with so much room for the answer. (A page that is opened as a file
+// may not start a worker from a file.)
 const workerText = (room) => `"use strict";
 const FIRST_ROOM = ${room};
 const LARGE_MEMORY = ${LARGE_MEMORY};

@@ -66,7 +66,7 @@ function showBar(moment) {
   const { trace, count } = page;
   const { total } = trace;
   const { name } = LISTS[trace.kind];
-  byId("title").textContent = `${name}, ${trace.threads} thread${trace.threads > 1 ? "s" : ""}, step by step`;
+  byId("title").textContent = `${name}, ${trace.threads} thread${trace.threads > 1 ? "s" : ""}`;
   document.title = `${page.example === "" ? page.name : page.example}, event ${count}: ${name}`;
   byId("source").textContent = page.source;
   byId("said").innerHTML = sentenceOf(moment, hiddenOutcomes());
@@ -88,7 +88,7 @@ function showThreads(event) {
 
 // The table of the list's rows, while it is unfolded.
 function showTable(moment) {
-  byId("table-title").textContent = `The table of ${LISTS[page.trace.kind].name}, and where each thread stands`;
+  byId("table-title").textContent = `The table of ${LISTS[page.trace.kind].name}`;
   if (byId("table-box").open) byId("table").innerHTML = drawTable(moment);
 }
 

@@ -11,7 +11,8 @@ function readProgram(text) {
   const program = [];
   for (const line of text.split("\n").filter((one) => one.trim() !== "")) {
     const [, thread, calls] = /^\s*t?(\d+)\s*:\s*(.+?)\s*$/.exec(line) ?? [];
-    if (thread === undefined || Number(thread) > 63) throw new ProgramFault(`"${line.slice(0, 60)}" is no line as "0: add 5, remove 5"`);
+    const isLine = thread !== undefined && Number(thread) < 64;
+    if (!isLine) throw new ProgramFault(`"${line.slice(0, 60)}" is no line as "0: add 5, remove 5"`);
     for (const call of calls.split(",").map((one) => one.trim())) {
       const [, operation, key] = /^(add|remove|contains|ceiling) (\d+)$/.exec(call) ?? [];
       if (key === undefined) throw new ProgramFault(`"${call.slice(0, 40)}" is no call as "add 5"`);
@@ -22,7 +23,10 @@ function readProgram(text) {
   return Array.from(program, (calls) => calls ?? []);
 }
 
-const programText = (program) => program.map((calls, thread) => `${thread}: ${calls.join(", ")}\n`).filter((line) => !/: \n/.test(line)).join("");
+function programText(program) {
+  const lines = program.map((calls, thread) => (calls.length === 0 ? "" : `${thread}: ${calls.join(", ")}\n`));
+  return lines.join("");
+}
 
 // The calls of each thread of a run.
 const programOf = (trace) => trace.callsOf.map((calls) => calls.map(({ operation, key }) => `${operation} ${key}`));
@@ -31,7 +35,8 @@ const programOf = (trace) => trace.callsOf.map((calls) => calls.map(({ operation
 class Side {
   constructor(ask, kind, { program, quota, opening }) {
     Object.assign(this, { ask, kind, lines: [], counts: [0] });
-    this.head = ["listset-schedule 2", `list ${kind}`, `threads ${program.length}`, `quota ${quota}`, ...opening.map((key) => `opening ${key}`)];
+    const set = [titleOf(2), `list ${kind}`, `threads ${program.length}`, `quota ${quota}`];
+    this.head = [...set, ...opening.map((key) => `opening ${key}`)];
     this.run();
   }
 
@@ -68,7 +73,7 @@ class Sides {
     this.sides = kinds.map((kind) => new Side(ask, kind, { program, quota, opening }));
   }
 
-  // What a turn of the thread makes in each list: a line of its schedule, or null where it waits; null where the thread has done all.
+  // What a turn of the thread makes in each list: a line of its schedule, or null where it waits; null where all is done.
   linesOf(thread) {
     if (thread >= this.program.length) return null;
     const isOpen = this.sides.map((side) => side.isOpen(thread));

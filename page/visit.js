@@ -80,7 +80,8 @@ function openLink(text, event) {
   const kept = works.byName.size;
   if (own === null) {
     const told = "Opened from a link. What you change of it is kept under a name of its own";
-    openText(text, event, works.newName("from a link"), kept === 0 ? `${told}.` : `${told}; your ${kept} other works stay under Open.`);
+    const others = kept === 0 ? "" : `; your ${kept} other works stay under Open`;
+    openText(text, event, works.newName("from a link"), `${told}${others}.`);
   } else {
     openText(text, event, own);
     page.begun = "";

@@ -74,7 +74,7 @@ function runBox() {
   const { text, fault } = scheduleOfDraft(askNow, box === "" || box.endsWith("\n") ? box : `${box}\n`);
   if (fault !== null) return tellLine(fault);
   const { trace, count } = page;
-  keepBefore();
+  if (text !== page.text) keepBefore();
   if (text !== exampleText(page.example)) chooseExample("");
   const at = (made) => (made.refused === null ? Math.min(count, eventsInCommon(trace, made)) : made.total);
   runText(text, at);

@@ -6,7 +6,8 @@ const path = require("path");
 const vm = require("vm");
 
 const folder = path.dirname(__dirname);
-for (const file of ["engine.js", "rows.js", "calls.js", "trace.js", "check_trace.js", "schedule_text.js", "state.js", "tests/cases.js"]) {
+const PARTS = ["engine", "rows", "calls", "trace", "check_trace", "schedule_text", "state", "tests/cases"];
+for (const file of PARTS.map((part) => `${part}.js`)) {
   vm.runInThisContext(fs.readFileSync(path.join(folder, file), "utf8"), { filename: file });
 }
 const inPage = (words) => vm.runInThisContext(words);

@@ -204,7 +204,7 @@ function driveManyThreads() {
   }
   runSchedule(lines);
   part("last").click();
-  check("64 threads", textOf("fault") === "" && textOf("title") === "LazyList, 64 threads, step by step");
+  check("64 threads", textOf("fault") === "" && textOf("title") === "LazyList, 64 threads");
   check("the table has those with a call", part("threads").querySelectorAll("tbody tr").length === 32);
   part("all-threads").click();
   check("or all", part("threads").querySelectorAll("tbody tr").length === 64);

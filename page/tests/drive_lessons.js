@@ -42,7 +42,10 @@ function driveLesson(name, count) {
   check(`${title}: its start is shown`, part("schedule").value === begun && textOf("fault") === "");
   const total = inPage("page.trace.total");
   check(`${title}: at the end`, textOf("where") === `event ${total} of ${total}`);
-  check(`${title}: the start does not solve it`, lessonText("verdict") === "A solution shows all of this:" && solvedLessons() === count);
+  check(
+    `${title}: the start does not solve it`,
+    lessonText("verdict") === "A solution shows all of this:" && solvedLessons() === count,
+  );
   check(`${title}: its conditions are told`, lessonPart("conditions").querySelectorAll(".unmet").length >= 1);
   runText(solution);
   check(`${title}: a solution is ticked`, lessonText("verdict") === "Solved." && solvedLessons() === count + 1);
@@ -64,7 +67,10 @@ function driveLessonByHand() {
   press("0");
   check("one condition is met", lessonPart("conditions").querySelectorAll(".met").length === 1 && solvedLessons() === 0);
   lessonPart("judge").click();
-  check(`what is missing: ${lessonText("verdict")}`, lessonText("verdict").startsWith("Missing: Its last step reads the link of the node"));
+  check(
+    `what is missing: ${lessonText("verdict")}`,
+    lessonText("verdict").startsWith("Missing: Its last step reads the link of the node"),
+  );
   for (let count = 0; count < 5; count++) press("u");
   const kept = lessonPart("conditions").querySelectorAll(".was-met");
   check("a condition that was met keeps its tick", kept.length === 1 && kept[0].textContent.startsWith("✓ "));
@@ -77,7 +83,10 @@ function driveLessonByHand() {
   press("Home");
   check("it stays so at another event", lessonText("verdict") === "Solved.");
   lessonPart("next").click();
-  check("a further lesson is begun", lessonText("title").startsWith("The stopped thread") && part("schedule").value === chosenLesson().begun);
+  check(
+    "a further lesson is begun",
+    lessonText("title").startsWith("The stopped thread") && part("schedule").value === chosenLesson().begun,
+  );
 }
 
 // A way that leads nowhere is told, in the words of the lesson.
@@ -217,11 +226,17 @@ async function driveCourses() {
   box.value = OWN_COURSE.replace("list lazy", "list lasy").replace("goal", "gaol");
   lessonPart("try").click();
   const faults = lessonText("faults");
-  check(`faults by their lines: ${faults}`, faults.includes('line 5: "lasy" is no list') && faults.includes('line 12: "gaol" is no word'));
+  check(
+    `faults by their lines: ${faults}`,
+    faults.includes('line 5: "lasy" is no list') && faults.includes('line 12: "gaol" is no word'),
+  );
   check("the lessons before stay", lessonNames().length === 12);
   box.value = OWN_COURSE;
   lessonPart("try").click();
-  check(`a good one is taken: ${lessonText("faults")}`, lessonText("faults") === "Mine: 1 lessons, all good." && lessonNames().join() === "first");
+  check(
+    `a good one is taken: ${lessonText("faults")}`,
+    lessonText("faults") === "Mine: 1 lessons, all good." && lessonNames().join() === "first",
+  );
   lessonPart("link").click();
   await until(() => lessonText("faults").includes("it opens"));
   const link = lessonPart("link-text").value;
@@ -240,7 +255,10 @@ async function driveCourses() {
   check("it is solved", lessonText("verdict") === "Solved." && solvedLessons() === 1);
   lessonPart("hand-in").click();
   await until(() => lessonText("told") !== "");
-  check("the text names the course", lessonPart("text").value.includes("\ncourse Mine\n") && lessonPart("text").value.includes("\nfirst #list=lazy"));
+  check(
+    "the text names the course",
+    lessonPart("text").value.includes("\ncourse Mine\n") && lessonPart("text").value.includes("\nfirst #list=lazy"),
+  );
   await reloadWithKept();
   check("the course is there after a reload", lessonText("title").startsWith("First things") && solvedLessons() === 1);
   typeChoice(lessonPart("course"), inPage("BOOK_NAME"));
@@ -255,5 +273,8 @@ async function driveBadCourses(link) {
   const bad = await inPage("courseAddress")(OWN_COURSE.replace("list lazy", "list lasy"));
   frame.contentWindow.location.hash = bad;
   await until(() => textOf("told").includes("has faults"));
-  check(`one with faults: ${textOf("told")}`, textOf("told").includes('the course of the address has faults: line 5: "lasy" is no list'));
+  check(
+    `one with faults: ${textOf("told")}`,
+    textOf("told").includes('the course of the address has faults: line 5: "lasy" is no list'),
+  );
 }

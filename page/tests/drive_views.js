@@ -54,13 +54,17 @@ function drivePicture() {
 function driveHiding() {
   pick("read-in-anothers-step");
   goToEvent(20);
-  const told = () => `${textOf("calls")} ${textOf("contents")} ${textOf("order")} ${part("calls").firstElementChild.getAttribute("aria-label")}`;
+  const labelOf = () => part("calls").firstElementChild.getAttribute("aria-label");
+  const told = () => `${textOf("calls")} ${textOf("contents")} ${textOf("order")} ${labelOf()}`;
   check(`replies, points and sets to come are hidden: ${told()}`, !/false|remove\(5\) true|\{5\}.*\{\}.*\{5\}/.test(told()));
   check("the set ends now", part("contents").querySelectorAll(".content").length === 2);
   check("and the points", part("calls").querySelectorAll(".point").length === 1);
   check("what it turns on is folded, and its events", !part("turns-box").open && part("ticks").children.length === 0);
   part("hides").click();
-  check("shown, where that is wanted", /contains\(5\) false/.test(told()) && part("contents").querySelectorAll(".content").length === 4);
+  check(
+    "shown, where that is wanted",
+    /contains\(5\) false/.test(told()) && part("contents").querySelectorAll(".content").length === 4,
+  );
   check("it is kept", inPage("keptUnder('listset-settings').hides") === false);
   part("hides").click();
   const names = [...part("examples").options].map((option) => option.textContent).join();
@@ -72,7 +76,10 @@ async function driveListing() {
   part("listing-box").open = true;
   await sleep(50);
   const here = [...part("listing").querySelectorAll(".here")].map((line) => line.textContent);
-  check(`the line of each call: ${here}`, here.length === 2 && here[0].startsWith("load link of curr") && here[1].startsWith("load link of pred"));
+  check(
+    `the line of each call: ${here}`,
+    here.length === 2 && here[0].startsWith("load link of curr") && here[1].startsWith("load link of pred"),
+  );
   part("listing-box").open = false;
   await sleep(50);
 }
@@ -90,7 +97,10 @@ function driveSides() {
   for (let count = 0; count < 7; count++) typeKey("Enter");
   check("the focus stays on it", focused() === turn(0) && textOf("sides-where") === "turn 9 of 9");
   const said = () => [...part("sides-pictures").querySelectorAll(".said")].map((line) => line.textContent);
-  check(`one that has answered waits: ${said()}`, said()[0] === "t0 has answered, and waits for the other." && said()[1].startsWith("t0 "));
+  check(
+    `one that has answered waits: ${said()}`,
+    said()[0] === "t0 has answered, and waits for the other." && said()[1].startsWith("t0 "),
+  );
   turn(1).click();
   check("the other thread goes on in both", said().every((line) => line === "t1 begins contains(5)."));
   part("sides-slider").value = 1;
@@ -136,7 +146,10 @@ function driveHeight() {
   goToEvent(20);
   lessonPart("box").open = false;
   const { documentElement } = frame.contentDocument;
+  const open = [...frame.contentDocument.querySelectorAll("details[open]")].map(({ id }) => id);
+  check(`no fold is open on a narrow screen, but ${open}`, open.length === 0);
   const isFinger = frame.contentWindow.matchMedia("(pointer: coarse)").matches;
-  check(`the page is ${documentElement.scrollHeight} pixels tall`, documentElement.scrollHeight <= (isFinger ? 2000 : 1600));
+  const height = documentElement.scrollHeight;
+  check(`the page is ${height} pixels tall`, height <= (isFinger ? 1750 : 1600));
   check("and not wider than the screen", documentElement.scrollWidth <= documentElement.clientWidth);
 }

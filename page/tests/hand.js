@@ -60,7 +60,8 @@ const focused = () => frame.contentDocument.activeElement;
 function point(kind, target, x) {
   const { PointerEvent } = frame.contentWindow;
   const box = target.getBoundingClientRect();
-  target.dispatchEvent(new PointerEvent(kind, { bubbles: true, cancelable: true, pointerId: 1, clientX: x, clientY: box.top + box.height / 2 }));
+  const where = { pointerId: 1, clientX: x, clientY: box.top + box.height / 2 };
+  target.dispatchEvent(new PointerEvent(kind, { bubbles: true, cancelable: true, ...where }));
 }
 
 // What the key Tab leads to, in its order.

@@ -1,5 +1,5 @@
-// node tests/handed.js: the texts that are handed in, as mail brings them, and the teacher's tool. Prints how many checks passed, and
-// what failed, as JSON.
+// node tests/handed.js: the texts that are handed in, as mail brings them, and the teacher's tool. Prints how many checks passed,
+// and what failed, as JSON.
 "use strict";
 
 const { spawnSync } = require("child_process");
@@ -53,16 +53,23 @@ function checkMail(course) {
   const answers = course.lessons.map(({ name, solution }) => ({ name, schedule: solution }));
   const text = handInText(NAME, "Ada Lovelace", answers, [ORDER]);
   const wanted = readHandIn(textsIn(text)[0]);
-  check("a text that is made is read", wanted.solutions.length === 13 && wanted.student === "Ada Lovelace" && wanted.faults.length === 0);
+  check(
+    "a text that is made is read",
+    wanted.solutions.length === 13 && wanted.student === "Ada Lovelace" && wanted.faults.length === 0,
+  );
   for (const [how, mailed] of Object.entries(MAILED)) {
     const found = textsIn(mailed(text));
     const read = found.length === 1 ? readHandIn(found[0]) : {};
     const linesOf = ({ solutions }) => solutions?.map(({ line }) => line.replace(/<?https:\S*?(?=#)/, "").replace(/>$/, ""));
-    const isSame = same(linesOf(read), linesOf(wanted)) && read.student === wanted.student && read.course === NAME && read.faults.length === 0;
+    const isWhole = read.student === wanted.student && read.course === NAME && read.faults.length === 0;
+    const isSame = isWhole && same(linesOf(read), linesOf(wanted));
     check(`${how}: ${JSON.stringify(read).slice(0, 600)}`, isSame);
   }
   const before = textsIn(text.replace("lessons 2", "lessons 1").replace(/^(course|student) .*\n/gm, "").replace("end\n", ""));
-  check("a text as the page made it before", readHandIn(before[0]).solutions.length === 13 && readHandIn(before[0]).faults.length === 0);
+  check(
+    "a text as the page made it before",
+    readHandIn(before[0]).solutions.length === 13 && readHandIn(before[0]).faults.length === 0,
+  );
   const class_ = textsIn(`${text}${fs.readFileSync(BOOK, "utf8")}${quoted(text)}`);
   check("a class and a course in one file", same(class_.map(({ kind }) => kind), ["hand-in", "course", "hand-in"]));
   check("the course as it stands", class_[1].text === fs.readFileSync(BOOK, "utf8").replace(/\n$/, ""));
@@ -89,9 +96,13 @@ function checkTeacher(course, folder) {
   const all = said(folder, text("Ada", answers, [ORDER]));
   const very = "12 by the very schedule of the lesson's answer, which may be its shortest";
   check(`all: ${all.lines}`, same(all, { status: 0, lines: [`Ada: 12 of 12 solved; 1 orders judged right; ${very}`], fault: "" }));
-  const group = said(folder, `${text("Ada", answers)}\n${quoted(text("Bo", answers.slice(1)))}`, text("Cy", [], ["judge snip points none"]));
+  const two = `${text("Ada", answers)}\n${quoted(text("Bo", answers.slice(1)))}`;
+  const group = said(folder, two, text("Cy", [], ["judge snip points none"]));
   check(`a class: ${group.lines.join("; ")}`, group.status === 1 && group.lines.includes("Bo: one-lock: not handed in"));
-  check("how many have all", group.lines.at(-1) === "1 of 3 students have solved all" && group.lines.includes("Cy: 0 of 12 solved"));
+  check(
+    "how many have all",
+    group.lines.at(-1) === "1 of 3 students have solved all" && group.lines.includes("Cy: 0 of 12 solved"),
+  );
   const claim = group.lines.find((line) => line.startsWith("Cy: ") && line.includes("judge snip points"));
   check(`a claim that is wrong: ${claim}`, claim?.includes("There is one: this is a run"));
   const twice = said(folder, text("Ada", answers.slice(0, 6)), text("Ada", answers.slice(6)));
@@ -132,7 +143,10 @@ This is no line of a solution.
   for (const line of due) check(`told: ${line}; ${lines.slice(0, 14).join("; ")}`, lines.includes(line));
   check("nothing is solved", status === 1 && lines.at(-1) === "?[2JEve: 0 of 12 solved");
   const other = said(folder, "listset-lessons 2\ncourse Another\nstudent Ada\nend\n");
-  check(`another course: ${other.lines}`, other.status === 1 && other.lines.some((line) => line.endsWith('the course "Another" is not among the files')));
+  check(
+    `another course: ${other.lines}`,
+    other.status === 1 && other.lines.some((line) => line.endsWith('the course "Another" is not among the files')),
+  );
 }
 
 function checkCourses(folder) {
@@ -155,14 +169,20 @@ goal
   const good = said(folder, own);
   check(`a course: ${good.lines}`, good.status === 0 && good.lines[0].endsWith("Mine: 1 lessons, 0 faults"));
   const bad = said(folder, own.replace("go 0 11", "go 0 12"));
-  check(`its answer is refused: ${bad.lines}`, bad.status === 1 && bad.lines[0].includes("line 3: first: its answer does not solve it: Line 6"));
+  check(
+    `its answer is refused: ${bad.lines}`,
+    bad.status === 1 && bad.lines[0].includes("line 3: first: its answer does not solve it: Line 6"),
+  );
   const handed = "listset-lessons 2\ncourse Mine\nstudent Ada\nfirst #list=lazy&threads=2&quota=4&s=b0.add.5,g0.11&event=12\nend\n";
   const both = said(folder, own, handed);
   check(`of one's own course: ${both.lines}`, both.status === 0 && both.lines[0].startsWith("Ada: 1 of 1 solved"));
   check("in one file", said(folder, own + handed).status === 0);
   fs.writeFileSync(path.join(folder, "own.course"), own);
   const ofCourse = told("--link", path.join(folder, "own.course"));
-  check(`the link of a course: ${ofCourse.lines}`, ofCourse.status === 0 && /^page\/index\.html#course=[\w-]+$/.test(ofCourse.lines[1]));
+  check(
+    `the link of a course: ${ofCourse.lines}`,
+    ofCourse.status === 0 && /^page\/index\.html#course=[\w-]+$/.test(ofCourse.lines[1]),
+  );
 }
 
 // Words that are wrong, and files that are none, are told; the others are judged all the same.
@@ -172,7 +192,10 @@ function checkWords(folder) {
     check(`the words ${words}: ${fault}`, status === 2 && lines.length === 0 && /^lessons: .+\n$/.test(fault));
   }
   const mixed = said(folder, "listset-schedule 1\n", "listset-lessons 2\nstudent Ada\nend\n");
-  check(`a bad file among others: ${mixed.fault}`, mixed.status === 2 && mixed.fault.includes("0.txt: no line is") && mixed.lines.length > 5);
+  check(
+    `a bad file among others: ${mixed.fault}`,
+    mixed.status === 2 && mixed.fault.includes("0.txt: no line is") && mixed.lines.length > 5,
+  );
   check("an empty file", said(folder, "").status === 2);
 }
 

@@ -24,7 +24,10 @@ function checkLevels(ask, name, report) {
     const exercise = exerciseOf(report, level);
     const own = answerOfWord(exercise, places.join());
     const verdict = verdictOn(ask, own);
-    check(`${name}, ${level}: the replayer's own order: ${verdict.says}`, verdict.isRight === true && verdict.says.endsWith("gives, too."));
+    check(
+      `${name}, ${level}: the replayer's own order: ${verdict.says}`,
+      verdict.isRight === true && verdict.says.endsWith("gives, too."),
+    );
     check(`${name}, ${level}: its report is the engine's`, reportOfAnswer(own) === report);
     check(`${name}, ${level}: and back to its word`, wordOfAnswer(own) === places.join());
     const turned = answerOfWord(exercise, [...places].reverse().join());
@@ -74,7 +77,8 @@ function checkByHand(ask) {
   answer.say(contains, "true");
   check(`the wrong reply: ${says()}`, says().startsWith("contains(5) of t0 does not answer true in this run."));
   answer.say(contains, "false");
-  const wrong = "contains(5) of t0 cannot answer false there: after add(5) of t1 in your order the set is {5}, and it would answer true.";
+  const set = "after add(5) of t1 in your order the set is {5}, and it would answer true.";
+  const wrong = `contains(5) of t0 cannot answer false there: ${set}`;
   check(`the wrong moment: ${says()}`, says() === wrong && verdictOn(ask, answer).clash === 1);
   answer.place(contains, 23.6);
   check("the right moment", verdictOn(ask, answer).isRight === true && answer.points.get(1).at === 23.5);
@@ -83,7 +87,9 @@ function checkByHand(ask) {
   answer.take(contains);
   check("a point is taken away", !answer.points.has(1));
   const exercise = exerciseOf(report, "points");
-  for (const word of ["", "0", "9-true", "0-true,0-true", "x", "0-true;1-true"]) check(`no answer: ${word}`, answerOfWord(exercise, word) === null);
+  for (const word of ["", "0", "9-true", "0-true,0-true", "x", "0-true;1-true"]) {
+    check(`no answer: ${word}`, answerOfWord(exercise, word) === null);
+  }
   const early = verdictOn(ask, answerOfWord(exercise, "2-true,0-true,1-false,3-true")).says;
   check(`told why: ${early}`, /cannot answer|stands before/.test(early));
   const ceiling = exerciseOf(ask("listset_replay", ask("listset_example", "behind-the-walk").text).text, "replies");
@@ -124,7 +130,10 @@ function checkSides(ask) {
   const [coarse, lazy] = both.sides;
   const counts = `${coarse.trace.total} and ${lazy.trace.total} events in ${turns} turns`;
   check(`the shorter one waits: ${counts}`, counts === "15 and 23 events in 23 turns" && turns === both.turns.length);
-  check("each is a run by the engine", both.sides.every((side) => ask("listset_replay", side.schedule).text.includes("place 1 true")));
+  check(
+    "each is a run by the engine",
+    both.sides.every((side) => ask("listset_replay", side.schedule).text.includes("place 1 true")),
+  );
   const waits = coarse.counts.filter((count, at) => at > 0 && count === coarse.counts[at - 1]).length;
   check(`turns at which it waits: ${waits}`, waits === 8);
   check("both begin the next call at one turn", coarse.counts.indexOf(9) === lazy.counts.indexOf(13));

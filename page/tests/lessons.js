@@ -1,6 +1,6 @@
 // node tests/lessons.js: the lessons as text, their goals, and what a lesson says of a try. Prints how many checks passed, and what
-// failed, as JSON. recorded.txt has what the lessons as code said of 964 schedules before they were a text: of each schedule, by the
-// name of its lesson, the conditions that its run meets, up to the event that is refused.
+// failed, as JSON. recorded.txt has what the lessons as code said of 964 schedules before they were a text: of each schedule, by
+// the name of its lesson, the conditions that its run meets, up to the event that is refused.
 "use strict";
 
 const fs = require("fs");
@@ -10,7 +10,8 @@ const { inPage, loadScripts, startedEngine } = require("../in_node.js");
 const SCRIPTS = ["rows", "trace", "schedule_text", "state", "address", "run", "goal_words", "lesson_text", "judge_lesson", "book",
   "course_link"];
 loadScripts(...SCRIPTS.map((name) => `${name}.js`));
-const [readCourse, triedCourse, judged, missingIn, lessonText] = ["readCourse", "triedCourse", "judged", "missingIn", "lessonText"].map(inPage);
+const [readCourse, triedCourse, judged] = ["readCourse", "triedCourse", "judged"].map(inPage);
+const [missingIn, lessonText] = ["missingIn", "lessonText"].map(inPage);
 const TEXT = fs.readFileSync(path.join(__dirname, "..", "book.course"), "utf8");
 
 const result = { passed: 0, failed: [] };
@@ -88,7 +89,10 @@ function checkReasons(ask, [lesson]) {
     const verdict = judged(ask, lesson, schedule);
     check(`${reason} of ${schedule}: ${verdict.reason}`, !verdict.isSolved && verdict.reason?.startsWith(reason));
   }
-  check("a text of version 2 with the same set is looked at", judged(ask, lesson, answer.replace("schedule 1", "schedule 2")).isSolved);
+  check(
+    "a text of version 2 with the same set is looked at",
+    judged(ask, lesson, answer.replace("schedule 1", "schedule 2")).isSolved,
+  );
 }
 
 // What is changed in the text, the line of the changed text that is named (by a part of it), and what is said of it.
@@ -156,7 +160,10 @@ async function checkLinks(ask) {
   const address = await inPage("courseAddress")(TEXT);
   const { course } = inPage("readAddress")(address);
   const back = triedCourse(ask, await inPage("courseOfAddress")(course));
-  check(`a link of ${address.length} letters has the whole course`, address.length < 8000 && back.lessons.length === 12 && back.faults.length === 0);
+  check(
+    `a link of ${address.length} letters has the whole course`,
+    address.length < 8000 && back.lessons.length === 12 && back.faults.length === 0,
+  );
   for (const cut of [course.slice(0, 200), `${course.slice(0, -8)}`, "A", "____"]) {
     const found = await inPage("courseOfAddress")(cut).catch((fault) => fault.message);
     check(`a link that is cut: ${found.slice(0, 60)}`, found.startsWith("the course of the address cannot be unpacked"));

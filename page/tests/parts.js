@@ -18,7 +18,8 @@ function check(name, isGood) {
   else result.failed.push(name);
 }
 
-const traceOf = (engine, schedule) => new (inPage("Trace"))(engine.ask("listset_trace", schedule).text, inPage("versionOf")(schedule));
+const traceOf = (engine, schedule) =>
+  new (inPage("Trace"))(engine.ask("listset_trace", schedule).text, inPage("versionOf")(schedule));
 const withoutTags = (text) => text.replace(/<[^>]*>/g, "");
 
 function checkTurns(engine) {
