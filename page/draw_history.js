@@ -132,7 +132,8 @@ function drawContent(part, scale) {
   const end = part.to > scale.last ? scale.edge : scale.x(part.to);
   const right = scale.now < part.to && scale.now <= scale.last ? Math.max(left, scale.x(Math.max(scale.now, scale.first))) : end;
   const all = `{${part.keys.join(", ")}}`;
-  const room = Math.floor((right - left - 10) / 8);
+  const free = scale.now < part.to ? scale.edge : right; // right of what is shown now nothing stands
+  const room = Math.floor((free - left - 10) / 8);
   const text = all.length <= room ? all : room > 6 ? `${all.slice(0, room - 2)}…` : "";
   const isNow = scale.count < part.to && (scale.count >= part.from || part.from <= scale.first);
   return tag(

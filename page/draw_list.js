@@ -8,7 +8,7 @@ const GAP = 48;
 const LEAST_GAP = 12; // between nodes that are not in the chain
 const FOLD_WIDTH = 84;
 const TOP = 58;
-const LOCK_HEIGHT = 28; // of what stands above a node
+const LOCK_HEIGHT = 31; // of what stands above a node
 const MOST_UNFOLDED = 14; // a longer chain is folded
 const MOST_ASIDE = 10; // nodes drawn that are not in the chain
 const MOST_POINTING = 6; // threads whose registers are drawn
@@ -293,7 +293,7 @@ function arranged(state, event) {
 // The list, in a box so wide and, where that is less than what it takes, so high.
 function drawList(state, event, room, most = Infinity) {
   const { chain, items, places, labels, names, more, width, height: whole } = arranged(state, event);
-  const above = state.trace.kind === "coarse" ? 0 : TOP - LOCK_HEIGHT; // the list's own lock stands there
+  const above = state.trace.kind === "coarse" ? -4 : TOP - LOCK_HEIGHT; // the list's own lock stands there
   const height = whole - above;
   const folds = items.map((item, index) => (item.folded ? drawFold(item) + drawFoldLink(item, items[index + 1]) : ""));
   const nodes = names.map((name) => drawNode(state, name, places[name], event));

@@ -45,7 +45,7 @@ function drawSide(side, thread) {
     { "aria-label": LISTS[side.kind].name },
     tag("h3", {}, `${LISTS[side.kind].name} <small>${count} events</small>`),
     tag("p", { class: "said" }, said),
-    tag("div", { class: "scrolls" }, drawList(side.state, moment.event, width, 260)),
+    tag("div", { class: "scrolls" }, drawList(side.state, moment.event, width, 180)),
     tag("div", { class: "scrolls" }, drawCalls(side.trace, scale), drawContents(side.trace, scale)),
     tag("p", { class: "note" }, tag("a", { href: addressOf(side.schedule, count) ?? "#" }, "open this run")),
   );
