@@ -221,7 +221,7 @@ pub fn set_text(alloc: Global, keys: &[u32]) -> Result<String, AllocError>
 }
 
 /// The first keys of a set, as many as are shown.
-#[tactic(auto, using(crate::proofs::Reached::none_left, crate::proofs::Reached::all_taken))]
+#[tactic(auto, using(crate::proofs::Reached::none_left))]
 fn first_in(alloc: Global, keys: &BTreeSet<u32>) -> Result<Vec<u32>, AllocError>
     ensures { IfOk result (λ v. v.items ≡ take MOST_KEYS_SHOWN keys.now.keys) }
 {
