@@ -1,5 +1,5 @@
 -- Sets that were reached, and what the changes of the places behind make of them.
-use Rattle.std.proofs.Common.{◌≡◌, ℕ, suc, ◌+◌, ◌≤◌, List, [], ◌∷◌, ◌++◌, length, take, drop, Option, None, refl, sym, ap, ◌∙◌, arith}
+use Rattle.std.proofs.Common.{◌≡◌, ℕ, suc, ◌+◌, ◌-◌, ◌≤◌, List, [], ◌∷◌, ◌++◌, length, take, drop, Option, None, refl, sym, ap, ◌∙◌, arith}
 use Rattle.std.proofs.Common.{append-nil, length-drop, drop-drop}
 use Rattle.std.proofs.lemmas.List.{take_all, take-append-le}
 use Rattle.std.specs.List.{All}
@@ -14,6 +14,12 @@ nothing_left m keys [] none = refl
 nothing_left m keys (s ∷ ss) none =
     ap (λ (c : Option Call). set_upto m (after_change keys c) ss) (none 0 s (omega arith))
     ∙ nothing_left m keys ss (λ k other low. none (suc k) other (omega arith))
+
+-- what a slice of the places from one on has
+pub rest_of : (next : ℕ) (standings : List Standing)
+    → take (length standings - next) (drop next standings) ≡ drop next standings
+rest_of next standings =
+    take_all (length standings - next) (drop next standings) (omega (arith, length-drop next standings))
 
 -- from one set to a further one, and from there on
 pub leads_further : (from to last : List ℕ) (standings : List Standing) (next count m later : ℕ) → m ≤ later
