@@ -1,3 +1,4 @@
 pub mod MoreLines
 pub mod MoreMoments
+pub mod Reached
 mod FirstMoments

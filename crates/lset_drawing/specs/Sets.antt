@@ -1,5 +1,5 @@
 -- The set under a picture, and its text.
-use Rattle.std.specs.Prelude.{ℕ, ◌-◌, ◌&&◌, nat_lt, nat_le, if◌then◌else◌, List, [], ◌∷◌, ◌++◌, length, take, codes}
+use Rattle.std.specs.Prelude.{◌≡◌, ℕ, ◌≤◌, ◌-◌, ◌&&◌, nat_lt, nat_le, if◌then◌else◌, List, [], ◌∷◌, ◌++◌, length, take, drop, codes}
 use Rattle.std.specs.Prelude.{Option, Some, None}
 use Rattle.std.specs.Fmt.{decimal}
 use Rattle.std.specs.Ordering.{nat_cmp}
@@ -37,6 +37,15 @@ after_change keys (Some c) = changed keys c
 abbrev pub set_upto : ℕ → List ℕ → List Standing → List ℕ
 set_upto m keys [] = keys
 set_upto m keys (s ∷ ss) = set_upto m (after_change keys (change_upto m s)) ss
+
+-- the change of a place, if it makes one, comes not after a moment
+abbrev pub IsSettled : ℕ → Standing → Type 0
+IsSettled m s = (later : ℕ) → m ≤ later → change_upto later s ≡ change_upto m s
+
+-- The changes of the places before `next` lead from a set to another, from a moment on: the places from there on go on from it.
+pub record Leads (from : List ℕ) (standings : List Standing) (to : List ℕ) (next m : ℕ) : Type 0 where
+  pub inside : next ≤ length standings
+  pub goes_on : (later : ℕ) → m ≤ later → set_upto later from standings ≡ set_upto later to (drop next standings)
 
 -- keys, each after a separator, and with one between two
 abbrev pub keys_after : List ℕ → List ℕ → List ℕ

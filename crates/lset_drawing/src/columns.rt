@@ -1,5 +1,6 @@
 ghost use Rattle.std.specs.Prelude.{◌≡◌, ◌++◌, length, vec_len, map, true, IfOk, OnOk, string_bytes};
 ghost use Rattle.std.specs.List.{list_any};
+ghost use Rattle.lset_drawing.specs.Sets.{Leads};
 ghost use Rattle.lset_drawing.specs.Columns.{
   begin_mark,
   begun_at,
@@ -11,12 +12,12 @@ ghost use Rattle.lset_drawing.specs.Columns.{
   is_change,
   has_change,
   set_shown,
-  column_at,
   column_view,
+  column_with,
   columns_from,
 };
 
-use crate::sets::{set_at, set_text};
+use crate::sets::{Reached, reached_at_first, set_text_at};
 use crate::signs::width_of;
 use crate::standings::Standing;
 use lset_history::History;
@@ -162,33 +163,29 @@ fn set_shown(
     alloc: Global,
     history: &History,
     standings: &[Standing],
+    reached: &mut Reached,
     shown: bool,
     moment: u32,
 ) -> Result<String, AllocError>
-    ensures { IfOk result (λ s. string_bytes s ≡ set_shown history.now standings.now shown moment) }
+    requires { Leads history.now.opening.keys standings.now reached.old.keys.keys reached.old.next reached.old.moment }
+    ensures leads { OnOk result (Leads history.now.opening.keys standings.now reached.new.keys.keys reached.new.next reached.new.moment) }
+    ensures text { IfOk result (λ s. string_bytes s ≡ set_shown history.now standings.now shown moment) }
 {
     if !shown {
         return Ok(String::new(alloc));
     }
-    let keys = set_at(alloc, history, standings, moment)?;
-    set_text(alloc, &keys)
+    set_text_at(alloc, history, standings, reached, moment)
 }
 
-/// The column of a moment; the set is told where there is a change, and where it is asked for.
-fn column_at(
+/// The column of a moment, of its signs and the text of its set.
+fn column_with(
     alloc: Global,
-    history: &History,
-    standings: &[Standing],
-    known: bool,
-    first: bool,
     moment: u32,
+    marks: Vec<Mark>,
+    set: String,
 ) -> Result<Column, AllocError>
-    ensures { IfOk result (λ c. column_view c ≡ column_at history.now standings.now known first moment) }
+    ensures { IfOk result (λ c. column_view c ≡ column_with marks.items (string_bytes set) moment) }
 {
-    let marks = marks_at(alloc, history.calls(), standings, moment)?;
-    let changes = has_change(&marks);
-    let shown = known && (first || changes);
-    let set = set_shown(alloc, history, standings, shown, moment)?;
     let width = width_of(alloc, moment, &marks, &set)?;
     Ok(Column {
         moment,
@@ -198,7 +195,7 @@ fn column_at(
     })
 }
 
-/// The columns of these moments.
+/// The columns of these moments. The set is told, where points are known, in the first one and in those with a change.
 pub fn columns(
     alloc: Global,
     history: &History,
@@ -210,9 +207,13 @@ pub fn columns(
     ensures count { IfOk result (λ v. vec_len v ≡ length moments.now) }
 {
     let mut columns = Vec::new(alloc);
+    let mut reached = reached_at_first(alloc, history)?;
     let mut first = true;
     for moment in moments {
-        columns.push(column_at(alloc, history, standings, known, first, *moment)?)?;
+        let marks = marks_at(alloc, history.calls(), standings, *moment)?;
+        let shown = known && (first || has_change(&marks));
+        let set = set_shown(alloc, history, standings, &mut reached, shown, *moment)?;
+        columns.push(column_with(alloc, *moment, marks, set)?)?;
         first = false;
     }
     Ok(columns)
