@@ -126,5 +126,6 @@ function placeParts() {
 // A view shows one thing alone: for a lecture the list, the sentence and the history, or one of them for a frame.
 function setView(view) {
   page.view = view;
-  document.body.className = view === null ? "" : `view ${view}`;
+  document.body.classList.remove("view", "lecture", "list", "history");
+  if (view !== null) document.body.classList.add("view", view);
 }

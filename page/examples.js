@@ -45,7 +45,7 @@ function pickExample(name, count) {
   const text = exampleText(name);
   keepWork();
   keepBefore();
-  takeName(`from ${name}`, text);
+  takeName(works.newName(`from ${name}`), text);
   chooseExample(name);
   runText(text, count);
 }

@@ -216,8 +216,8 @@ goal
   say Thread 0 has added 5.
 `;
 
-// A teacher writes a course, hands out a link, and a student opens that and solves it.
-async function driveCourses() {
+// A teacher writes a course and makes a link, which is answered.
+async function driveWriting() {
   await reloadWithKept({});
   lessonPart("write").open = true;
   await sleep(50);
@@ -241,6 +241,12 @@ async function driveCourses() {
   await until(() => lessonText("faults").includes("it opens"));
   const link = lessonPart("link-text").value;
   check(`a link: ${link.length} letters`, link.length < 900 && lessonText("faults").includes('it opens "Mine"'));
+  return link;
+}
+
+// A student opens the link of a teacher, and solves what there is.
+async function driveCourses() {
+  const link = await driveWriting();
   runSchedule(TWO_ADDS.map((line) => line.replace("add 5", "add 3")));
   const before = inPage("page.text");
   await sleep(KEEPS);

@@ -3,6 +3,22 @@
 
 const isSeen = (id) => part(id).getClientRects().length > 0;
 
+// Controls, list and history of an example stand on one screen, at any of its events.
+function driveOneScreen() {
+  const below = [];
+  lessonPart("box").open = false;
+  for (const name of inPage("exampleNames()")) {
+    pick(name);
+    for (let count = 0; count <= inPage("page.trace.total"); count++) {
+      goToEvent(count);
+      frame.contentWindow.scrollTo(0, 0);
+      const bottom = Math.max(...["history", "moves-box"].map((id) => part(id).getBoundingClientRect().bottom));
+      if (bottom > frame.contentWindow.innerHeight) below.push(`${name}, event ${count}: ${bottom}`);
+    }
+  }
+  check(`below the screen: ${below.slice(0, 5)}`, below.length === 0);
+}
+
 async function showView(hash, where) {
   frame.contentWindow.location.hash = hash;
   await until(() => textOf("where").startsWith(where));
@@ -30,6 +46,7 @@ async function driveViews() {
   check("and all again", isSeen("list") && isSeen("calls") && isSeen("lessons"));
   drivePicture();
   driveHiding();
+  if (frame.clientWidth === 1300) driveOneScreen();
   await driveListing();
 }
 
@@ -72,6 +89,7 @@ function driveHiding() {
 }
 
 async function driveListing() {
+  pick("read-in-anothers-step");
   goToEvent(20);
   part("listing-box").open = true;
   await sleep(50);

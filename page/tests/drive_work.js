@@ -93,10 +93,11 @@ async function driveNames() {
   press("0");
   const own = inPage("page.text");
   await sleep(KEEPS);
-  check(
-    "what is made of an example has its name",
-    inPage("page.name") === "from snip" && part("examples").value === "work: from snip",
-  );
+  const name = inPage("page.name");
+  check(`what is made of an example has its name: ${name}`, /^from snip/.test(name) && part("examples").value === `work: ${name}`);
+  pick("snip");
+  press("1");
+  check("also where it is made twice", inPage("page.name") !== name && /^from snip/.test(inPage("page.name")));
   frame.contentWindow.location.hash = "#list=fine&threads=2&quota=4&s=b0.add.5,g0.3&event=4";
   await until(() => textOf("where") === "event 4 of 4");
   check(
@@ -111,7 +112,7 @@ async function driveNames() {
   part("new").click();
   press("0");
   check("a new schedule has a name of its own", inPage("page.name").startsWith("my schedule"));
-  check("the first is still there", inPage("works.byName.get('from snip').text") === own);
+  check("the first is still there", inPage(`works.byName.get("${name}").text`) === own);
   await loadAgain("#list=fine&threads=2&quota=4&s=b0.add.5,g0.4&event=5");
   check("a link to a work of one's own opens that", /^from a link/.test(inPage("page.name")) && told() === "");
 }
@@ -253,6 +254,10 @@ async function driveTold() {
   part("table-box").open = false;
   part("list").querySelector(".node.out rect").dispatchEvent(new frame.contentWindow.MouseEvent("click", { bubbles: true }));
   check("what a tooltip says is told at a touch", told().startsWith("n2: key 5, link tail, marked, lock free, taken out"));
+  await driveLabels();
+}
+
+async function driveLabels() {
   const registers = part("list").firstElementChild.getAttribute("aria-label");
   check(`the label of the list: ${registers}`, registers.includes("t0 remove(5) at row 10: pred head, curr n2, succ tail"));
   const calls = part("calls").firstElementChild.getAttribute("aria-label");
@@ -313,7 +318,10 @@ function driveFingers() {
 
 // What the reader has set, a draft in the box, and the page's parts for those who cannot see or point.
 async function driveForEveryone() {
-  runSchedule(TWO_ADDS);
+  runSchedule([...header("lazy", 2), "begin 0 add 5", "go 0 to 4", "begin 1 contains 5", "go 1 out"]);
+  check("a draft in the box", part("schedule").value.endsWith("begin 0 add 5\ngo 0 2\nbegin 1 contains 5\ngo 1 2\n"));
+  runSchedule([...header("lazy", 2), "begin 0 add 5", "go 0 to 30"]);
+  check(`one that is refused: ${textOf("fault")}`, textOf("fault").startsWith("listset: line 6: Idle"));
   part("undo").click();
   pick("snip");
   goToEvent(22);
@@ -342,8 +350,8 @@ async function driveWork() {
   await driveNames();
   driveUndo();
   driveNew();
-  // driveSteps();
-  // driveLimit();
+  driveSteps();
+  driveLimit();
   await drivePlay();
   await driveTold();
   driveInterface();
