@@ -2,22 +2,24 @@
 "use strict";
 
 const EXAMPLES = `
-failed-tries           coarse      two adds of one key: the second's tries of the lock fail
-full                   coarse      an add beyond its thread's quota; a remove gives no slot back
-hand-over-hand         fine        a remover waits for an adder before it, then goes hand over hand
-same-gap               optimistic  two adds into one gap: the second sees the changed link and walks again
-stale-pred             optimistic  pred is taken out after the walk: the second walk does not find it
-marked-in-chain        lazy        contains answers false, and the key's node is still in the chain
-marked-pred            lazy        pred is marked after the walk: its link gives it away
-read-in-anothers-step  lazy        contains stands in the step of the thread that removed its key
-opens-with-keys        lazy        two opening keys take no slot, and the remove of one gives none back
-two-removers           lock-free   two removes of one key: one marks, the other walks again and answers false
-snip                   lock-free   an add takes out the node that a remove has marked
-tries-again            lock-free   an exchange fails, and the add walks again with the same slot
-left-in-chain          lock-free   a remove has ended, and its node is still in the chain: contains answers false
-ceiling-meets-mark     lock-free   the node at which ceiling stops is marked: it walks again and answers nothing
-ceiling-left-in-chain  lock-free   ceiling stops at the node of a remove that has ended: it may not answer that key
-behind-the-walk        lock-free   a key comes in behind the walk of ceiling, which answers the key above it
+failed-tries              coarse      two adds of one key: the second's tries of the lock fail
+full                      coarse      an add beyond its thread's quota; a remove gives no slot back
+hand-over-hand            fine        a remover waits for an adder before it, then goes hand over hand
+same-gap                  optimistic  two adds into one gap: the second sees the changed link and walks again
+stale-pred                optimistic  pred is taken out after the walk: the second walk does not find it
+marked-in-chain           lazy        contains answers false, and the key's node is still in the chain
+marked-pred               lazy        pred is marked after the walk: its link gives it away
+read-in-anothers-step     lazy        contains stands in the step of the thread that removed its key
+ceiling-in-anothers-step  lazy        the answer of ceiling fits after steps of the other thread, and after none of its own
+opens-with-keys           lazy        two opening keys take no slot, and the remove of one gives none back
+two-removers              lock-free   two removes of one key: one marks, the other walks again and answers false
+snip                      lock-free   an add takes out the node that a remove has marked
+tries-again               lock-free   an exchange fails, and the add walks again with the same slot
+left-in-chain             lock-free   a remove has ended, and its node is still in the chain: contains answers false
+ceiling-meets-mark        lock-free   the node at which ceiling stops is marked: it walks again and answers nothing
+ceiling-left-in-chain     lock-free   ceiling stops at the node of a remove that has ended: it may not answer that key
+behind-the-walk           lock-free   a key comes in behind the walk of ceiling, which answers the key above it
+nothing-in-anothers-step  lock-free   ceiling answers nothing, and a key is there just after each of its own steps
 `.slice(1);
 
 const TRACES = {
@@ -329,6 +331,57 @@ event 38 line 12 thread 1 store head.lock free pc 0 answer true call 3 at 36
 event 39 line 13 thread 0 load n6.link saw tail* pc 0 answer false call 1 at 23
 end
 `.slice(1),
+  "ceiling-in-anothers-step": `
+listset-trace 1
+list lazy
+threads 2
+quota 2
+opening 5
+event 1 line 6 thread 0 begin ceiling 6 call 0 pc 23
+event 2 line 7 thread 0 load head.link saw n6 pc 24 curr n6
+event 3 line 7 thread 0 load n6.key saw 5 pc 23 ckey 5
+event 4 line 8 thread 1 begin add 9 call 1 pc 1
+event 5 line 9 thread 1 load head.link saw n6 pc 2 curr n6
+event 6 line 9 thread 1 load n6.key saw 5 pc 3 ckey 5
+event 7 line 9 thread 1 load n6.link saw tail pc 2 pred n6 curr tail
+event 8 line 9 thread 1 load tail.key saw +inf pc 4 ckey +inf
+event 9 line 9 thread 1 exchange n6.lock from free to t1 saw free pc 5
+event 10 line 9 thread 1 exchange tail.lock from free to t1 saw free pc 6
+event 11 line 9 thread 1 load n6.link saw tail pc 7
+event 12 line 9 thread 1 load tail.link saw tail pc 8 succ tail
+event 13 line 9 thread 1 store n4.key 9 pc 9
+event 14 line 9 thread 1 store n4.link tail pc 10
+event 15 line 9 thread 1 store n6.link n4 pc 13 used 1 reply true put 9
+event 16 line 9 thread 1 store tail.lock free pc 14
+event 17 line 9 thread 1 store n6.lock free pc 0 answer true call 1 at 15
+event 18 line 10 thread 1 begin remove 5 call 2 pc 1
+event 19 line 11 thread 1 load head.link saw n6 pc 2 curr n6
+event 20 line 11 thread 1 load n6.key saw 5 pc 4 ckey 5
+event 21 line 11 thread 1 exchange head.lock from free to t1 saw free pc 5
+event 22 line 11 thread 1 exchange n6.lock from free to t1 saw free pc 6
+event 23 line 11 thread 1 load head.link saw n6 pc 7
+event 24 line 11 thread 1 load n6.link saw n4 pc 11 succ n4
+event 25 line 11 thread 1 store n6.link n4* pc 12 took 5
+event 26 line 11 thread 1 store head.link n4 pc 13 reply true
+event 27 line 11 thread 1 store n6.lock free pc 14
+event 28 line 11 thread 1 store head.lock free pc 0 answer true call 2 at 25
+event 29 line 12 thread 1 begin add 7 call 3 pc 1
+event 30 line 13 thread 1 load head.link saw n4 pc 2 curr n4
+event 31 line 13 thread 1 load n4.key saw 9 pc 4 ckey 9
+event 32 line 13 thread 1 exchange head.lock from free to t1 saw free pc 5
+event 33 line 13 thread 1 exchange n4.lock from free to t1 saw free pc 6
+event 34 line 13 thread 1 load head.link saw n4 pc 7
+event 35 line 13 thread 1 load n4.link saw tail pc 8 succ tail
+event 36 line 13 thread 1 store n5.key 7 pc 9
+event 37 line 13 thread 1 store n5.link n4 pc 10
+event 38 line 13 thread 1 store head.link n5 pc 13 used 2 reply true put 7
+event 39 line 13 thread 1 store n4.lock free pc 14
+event 40 line 13 thread 1 store head.lock free pc 0 answer true call 3 at 38
+event 41 line 14 thread 0 load n6.link saw n4* pc 24 curr n4
+event 42 line 14 thread 0 load n4.key saw 9 pc 25 ckey 9
+event 43 line 14 thread 0 load n4.link saw tail pc 0 answer at-9 call 0 at 15
+end
+`.slice(1),
   "opens-with-keys": `
 listset-trace 1
 list lazy
@@ -597,6 +650,43 @@ event 15 line 10 thread 1 store n7.link n6 pc 7
 event 16 line 10 thread 1 exchange head.link from n6 to n7 saw n6 pc 0 used 2 put 5 answer true call 2 at 16
 event 17 line 11 thread 0 load n6.key saw 9 pc 25 ckey 9
 event 18 line 11 thread 0 load n6.link saw tail pc 0 answer at-9 call 1 at 8
+end
+`.slice(1),
+  "nothing-in-anothers-step": `
+listset-trace 1
+list lock-free
+threads 2
+quota 1
+opening 5
+opening 7
+event 1 line 7 thread 0 begin ceiling 6 call 0 pc 23
+event 2 line 8 thread 0 load head.link saw n4 pc 24 curr n4
+event 3 line 8 thread 0 load n4.key saw 5 pc 23 ckey 5
+event 4 line 9 thread 1 begin remove 7 call 1 pc 1
+event 5 line 10 thread 1 load head.link saw n4 pc 2 curr n4
+event 6 line 10 thread 1 load n4.link saw n5 pc 4 succ n5
+event 7 line 10 thread 1 load n4.key saw 5 pc 2 pred n4 curr n5
+event 8 line 10 thread 1 load n5.link saw tail pc 4 succ tail
+event 9 line 10 thread 1 load n5.key saw 7 pc 8
+event 10 line 10 thread 1 load n5.link saw tail pc 9
+event 11 line 10 thread 1 exchange n5.link from tail to tail* saw tail pc 10 took 7
+event 12 line 10 thread 1 exchange n4.link from n5 to tail saw n5 pc 0 answer true call 1 at 11
+event 13 line 11 thread 1 begin remove 5 call 2 pc 1
+event 14 line 12 thread 1 load head.link saw n4 pc 2 curr n4
+event 15 line 12 thread 1 load n4.link saw tail pc 4 succ tail
+event 16 line 12 thread 1 load n4.key saw 5 pc 8
+event 17 line 12 thread 1 load n4.link saw tail pc 9
+event 18 line 12 thread 1 exchange n4.link from tail to tail* saw tail pc 10 took 5
+event 19 line 12 thread 1 exchange head.link from n4 to tail saw n4 pc 0 answer true call 2 at 18
+event 20 line 13 thread 1 begin add 7 call 3 pc 1
+event 21 line 14 thread 1 load head.link saw tail pc 2 curr tail
+event 22 line 14 thread 1 load tail.link saw tail pc 4 succ tail
+event 23 line 14 thread 1 load tail.key saw +inf pc 5
+event 24 line 14 thread 1 store n3.key 7 pc 6
+event 25 line 14 thread 1 store n3.link tail pc 7
+event 26 line 14 thread 1 exchange head.link from tail to n3 saw tail pc 0 used 1 put 7 answer true call 3 at 26
+event 27 line 15 thread 0 load n4.link saw tail* pc 24 curr tail
+event 28 line 15 thread 0 load tail.key saw +inf pc 0 ckey +inf answer nothing call 0 at 11
 end
 `.slice(1),
 };
