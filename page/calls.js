@@ -15,11 +15,6 @@ class Engine {
     return new Engine(await WebAssembly.compile(bytes));
   }
 
-  // Whether the module has a function: an older one may lack one.
-  has(name) {
-    return WebAssembly.Module.exports(this.module).some((found) => found.name === name);
-  }
-
   // What an export says of the texts that it takes: the exit status of the program, and what it prints. Those left out are empty.
   ask(name, ...texts) {
     const encoder = new TextEncoder();

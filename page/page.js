@@ -114,7 +114,7 @@ function showHistory(event) {
 // many pixels for it.
 function listHeight() {
   if (page.view !== null || innerWidth <= 940) return Infinity;
-  const below = isJudging() ? 340 : 280;
+  const below = isJudging() ? 390 : 280;
   return Math.max(150, innerHeight - byId("list").getBoundingClientRect().top - scrollY - below);
 }
 

@@ -105,6 +105,9 @@ function checkTeacher(course, folder) {
   );
   const claim = group.lines.find((line) => line.startsWith("Cy: ") && line.includes("judge snip points"));
   check(`a claim that is wrong: ${claim}`, claim?.includes("There is one: this is a run"));
+  const before = text("Ada", answers).replace("lessons 2", "lessons 1").replace(/^(course|student) .*\n/gm, "").replace("end\n", "");
+  const ofBefore = said(folder, before);
+  check(`as the page made it before: ${ofBefore.lines}`, ofBefore.status === 0 && ofBefore.lines[0].startsWith("0: 12 of 12 solved"));
   const twice = said(folder, text("Ada", answers.slice(0, 6)), text("Ada", answers.slice(6)));
   check(`two texts of one student: ${twice.lines}`, twice.status === 0 && twice.lines.length === 1);
 }

@@ -139,6 +139,16 @@ function checkFaults() {
   }
 }
 
+// Starts and answers may be drafts, which the engine makes schedules.
+function checkDrafts(ask, { lessons }) {
+  const drafted = TEXT.replace("  go 1 7\n  begin 0 contains 5\n  go 0 3\n", "  go 1 to 12\n  begin 0 contains 5\n  go 0 out\n");
+  const course = triedCourse(ask, drafted);
+  const [plain, own] = [lessons, course.lessons].map((all) => all.find(({ name }) => name === "marked-in-chain"));
+  check(`a draft is its schedule: ${JSON.stringify(course.faults)}`, drafted !== TEXT && own.solution === plain.solution);
+  const [{ fault }] = triedCourse(ask, TEXT.replace("  go 1 7\n", "  go 1 to 99\n")).faults;
+  check(`one that is refused: ${fault}`, fault.startsWith("marked-in-chain: its answer is refused: listset: line 7: Idle"));
+}
+
 // A lesson that is read is also tried.
 function checkTrials(ask) {
   const trials = [
@@ -183,6 +193,7 @@ async function main() {
   checkReasons(ask, course.lessons);
   checkFaults();
   checkTrials(ask);
+  checkDrafts(ask, course);
   await checkLinks(ask);
   process.stdout.write(JSON.stringify(result));
 }
