@@ -27,7 +27,7 @@ function fillWorks() {
     return new Option(`${name} (${list?.slice("list ".length)}): ${eventsAsked(text)} events`, `${WORK}${name}`);
   });
   byId("work-options").replaceChildren(...options);
-  byId("work-options").hidden = options.length === 0;
+  byId("work-options").hidden = options.length === 0 || page.engine === null;
   const chosen = page.example === "" ? `${WORK}${page.name}` : page.example;
   const isThere = page.example !== "" || works.byName.has(page.name);
   byId("nothing-kept").textContent = page.name; // what was opened, and not changed yet

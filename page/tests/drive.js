@@ -3,7 +3,7 @@
 
 // Each example goes to its end, event by event, and its calls stand in the order of its report.
 function driveExamples() {
-  const names = [...part("examples").options].map((option) => option.value).filter((name) => name !== "");
+  const names = inPage("exampleNames()");
   check("the examples of docs/CLASSIC.md", names.length > 0 && names.join() === inPage("Object.keys(CLASSICS).join()"));
   for (const name of names) {
     pick(name);
@@ -275,10 +275,16 @@ async function drive() {
 const isLoaded = new Promise((done) => frame.addEventListener("load", done, { once: true }));
 
 async function onScreen(width, height, deed) {
-  Object.assign(frame, { width, height });
-  await sleep(200);
+  await resize(width, height);
   await deed();
-  Object.assign(frame, { width: 1300, height: 900 });
+  await resize(1300, 900);
+}
+
+// Gives the page another size, and waits until it has placed its parts.
+async function resize(width, height) {
+  Object.assign(frame, { width, height });
+  const place = width <= 940 ? "moves-narrow" : "moves-wide";
+  await until(() => part("moves-box").parentElement.id === place);
   await sleep(200);
 }
 

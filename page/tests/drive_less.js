@@ -3,7 +3,7 @@
 "use strict";
 
 function driveExamplesLess() {
-  const names = [...part("examples").options].map((option) => option.value).filter((name) => name !== "");
+  const names = inPage("exampleNames()");
   check("the examples of docs/CLASSIC.md", names.length > 0 && names.join() === inPage("Object.keys(CLASSICS).join()"));
   for (const name of names) {
     pick(name);
