@@ -25,6 +25,7 @@ class Trouble extends Error {}
 
 const UNTRUSTED = /[\x00-\x1f\x7f-\x9f\u2028\u2029\u202a-\u202e]/g; // what no text may send to a terminal
 const printable = (text) => text.replace(UNTRUSTED, "?");
+const counted = (count, word) => `${count} ${word}${count === 1 ? "" : "s"}`;
 const say = (line) => process.stdout.write(`${printable(line)}\n`);
 const tell = (line) => process.stderr.write(`lessons: ${printable(line)}\n`);
 
@@ -101,7 +102,7 @@ function isWhole(ask, { name, parts, faults, courses }) {
   const judgedRight = [...solved].filter((task) => task.startsWith("judge ")).length;
   const very = new Set(verdicts.filter(({ isVeryAnswer }) => isVeryAnswer).map(({ task }) => task)).size;
   const more = [
-    judgedRight > 0 ? `${judgedRight} orders judged right` : "",
+    judgedRight > 0 ? `${counted(judgedRight, "order")} judged right` : "",
     very > 0 ? `${very} by the very schedule of the lesson's answer, which may be its shortest` : "",
   ];
   say([`${name}: ${lessons.length - open.length} of ${lessons.length} solved`, ...more.filter((part) => part !== "")].join("; "));
@@ -125,7 +126,7 @@ async function checked(ask, words) {
   const isGood = courses.every(({ faults }) => faults.length === 0);
   if (handed.length === 0 || !isGood) {
     for (const { file, name, lessons, faults } of courses) {
-      say(`${file}: ${name}: ${lessons.length} lessons, ${faults.length} faults`);
+      say(`${file}: ${name}: ${counted(lessons.length, "lesson")}, ${counted(faults.length, "fault")}`);
     }
     if (isLink && isGood && courses.length === 1) await toldLink(files[0]);
     return isBad ? 2 : isGood ? 0 : 1;

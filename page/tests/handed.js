@@ -95,7 +95,7 @@ function checkTeacher(course, folder) {
   const text = (student, solutions, orders = []) => handInText(NAME, student, solutions, orders);
   const all = said(folder, text("Ada", answers, [ORDER]));
   const very = "12 by the very schedule of the lesson's answer, which may be its shortest";
-  check(`all: ${all.lines}`, same(all, { status: 0, lines: [`Ada: 12 of 12 solved; 1 orders judged right; ${very}`], fault: "" }));
+  check(`all: ${all.lines}`, same(all, { status: 0, lines: [`Ada: 12 of 12 solved; 1 order judged right; ${very}`], fault: "" }));
   const two = `${text("Ada", answers)}\n${quoted(text("Bo", answers.slice(1)))}`;
   const group = said(folder, two, text("Cy", [], ["judge snip points none"]));
   check(`a class: ${group.lines.join("; ")}`, group.status === 1 && group.lines.includes("Bo: one-lock: not handed in"));
@@ -170,7 +170,7 @@ goal
   say Thread 0 has added 5.
 `;
   const good = said(folder, own);
-  check(`a course: ${good.lines}`, good.status === 0 && good.lines[0].endsWith("Mine: 1 lessons, 0 faults"));
+  check(`a course: ${good.lines}`, good.status === 0 && good.lines[0].endsWith("Mine: 1 lesson, 0 faults"));
   const bad = said(folder, own.replace("go 0 11", "go 0 12"));
   check(
     `its answer is refused: ${bad.lines}`,
