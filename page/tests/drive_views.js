@@ -168,6 +168,6 @@ function driveHeight() {
   check(`no fold is open on a narrow screen, but ${open}`, open.length === 0);
   const isFinger = frame.contentWindow.matchMedia("(pointer: coarse)").matches;
   const height = documentElement.scrollHeight;
-  check(`the page is ${height} pixels tall`, height <= (isFinger ? 1750 : 1600));
+  check(`the page is ${height} pixels tall`, height <= (isFinger ? 1800 : 1600));
   check("and not wider than the screen", documentElement.scrollWidth <= documentElement.clientWidth);
 }
