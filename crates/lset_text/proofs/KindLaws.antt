@@ -44,6 +44,26 @@ line_found v causes pieces Good ks line x known e =
     let found = first_found v causes pieces Good ks (cut_at 32 line) x known e in
     (line_from_cut line (pieces x) found.0, found.1)
 
+-- and has no newline in it
+lacks_too : {X : Type 0} (v : Version) (pieces : X → List (List ℕ)) (Good : X → Type 0) (ks : List (LineKind X))
+    → AllByRecursion (Knows v pieces Good) ks → AllByRecursion (Knows v pieces (λ x. Lacks 10 (line_of (pieces x)))) ks
+lacks_too v pieces Good [] known = tt
+lacks_too v pieces Good (k ∷ ks) known = (
+  (
+    known.0.0,
+    λ t fit. let m = known.0.1 t fit in
+        (m.0, subst (λ (ps : List (List ℕ)). Lacks 10 (line_of ps)) m.0 (form_line_lacks v k.0 t known.0.0 fit)),
+  ),
+  lacks_too v pieces Good ks known.1,
+)
+
+pub line_found_lacks : {X C : Type 0} (v : Version) (causes : LineCauses C) (pieces : X → List (List ℕ)) (Good : X → Type 0)
+    (ks : List (LineKind X)) (line : List ℕ) (x : X)
+    → AllByRecursion (Knows v pieces Good) ks → line_in v causes ks line ≡ Ok x → Lacks 10 line
+line_found_lacks v causes pieces Good ks line x known e =
+    let found = line_found v causes pieces (λ y. Lacks 10 (line_of (pieces y))) ks line x (lacks_too v pieces Good ks known) e in
+    subst (Lacks 10) (sym found.0) found.1
+
 -- one of the kinds makes it, and no kind above has its form
 abbrev pub IsMade : {X : Type 0} → Version → (X → List (List ℕ)) → List (LineKind X) → X → Type 0
 IsMade v pieces [] x = ⊥

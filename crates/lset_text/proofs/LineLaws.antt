@@ -1,8 +1,9 @@
 -- Lines that are read one after another, as a loop does: once for every text.
 use Rattle.std.proofs.Common.{◌≡◌, ℕ, ◌+◌, ◌<◌, ◌≤◌, ◌⊎◌, inl, inr, Bool, true, false, cond, eqb, List, [], ◌∷◌, ◌++◌, length}
-use Rattle.std.proofs.Common.{Result, Ok, Err, refl, sym, ap, subst, ◌∙◌, append_assoc, arith}
+use Rattle.std.proofs.Common.{Result, Ok, Err, refl, sym, ap, subst, ◌∙◌, append_assoc, length-append, arith}
+use Rattle.std.specs.List.{AllByRecursion}
 use Rattle.std.proofs.lemmas.Bool.{eqb-true, ne_eqb}
-use Rattle.std.proofs.lemmas.List.{nil_from_length}
+use Rattle.std.proofs.lemmas.List.{append-nil, nil_from_length}
 use Rattle.lset_text.specs.Parts.{cut_at}
 use Rattle.lset_text.specs.Results.{◌>>=◌, map_fault}
 use Rattle.lset_text.specs.Lines.{Grammar, lines_from, Leads, IsFaultlessTo, IsGoodLine, Stands}
@@ -121,28 +122,40 @@ ended : {S C E : Type 0} (g : Grammar S C E) (line : ℕ) (b : Bool) (s t : S)
 ended g line true s t e = (refl, map_fault_ok (g.at line) (g.ends s) t e)
 ended g line false s t e = absurd cc
 
--- WHAT IS READ STANDS THERE: where each line that is taken stands behind those of the state, so do all, and there the text may end
-pub lines_found : {S C E : Type 0} (g : Grammar S C E) (text : S → List (List ℕ))
-    → ((s t : S) (x : List ℕ) → g.step s x ≡ Ok t → text t ≡ text s ++ x ∷ [])
+-- WHAT IS READ STANDS THERE: where each line that is taken stands behind those of the state, so do all, and there the text may end.
+-- Of the states on the way it may be known that each line that is taken keeps `P`.
+pub lines_hold : {S C E : Type 0} (g : Grammar S C E) (P : S → Type 0) (text : S → List (List ℕ))
+    → ((s t : S) (x : List ℕ) → P s → g.step s x ≡ Ok t → P t × (text t ≡ text s ++ x ∷ []))
     → ((s t : S) → g.ends s ≡ Ok t → s ≡ t)
-    → (line : ℕ) (s t : S) (parts : List (List ℕ)) → 0 < length parts → lines_from g line s parts ≡ Ok t
-    → (text s ++ parts ≡ text t ++ [] ∷ []) × (g.ends t ≡ Ok t)
+    → (line : ℕ) (s t : S) (parts : List (List ℕ)) → 0 < length parts → P s → lines_from g line s parts ≡ Ok t
+    → (text s ++ parts ≡ text t ++ [] ∷ []) × (g.ends t ≡ Ok t) × P t
 unfolding lines_from
-lines_found g text one same line s t [] some is = absurd (omega arith)
-lines_found {S} g text one same line s t (x ∷ []) some is =
+lines_hold g P text one same line s t [] some holds is = absurd (omega arith)
+lines_hold {S} g P text one same line s t (x ∷ []) some holds is =
     let last = ended g line (eqb (length x) 0) s t is in
     let none : x ≡ [] = nil_from_length x (eqb-true _ _ last.0) in
     let at_end = same s t last.1 in (
       ap (λ (y : List ℕ). text s ++ y ∷ []) none ∙ ap (λ (u : S). text u ++ [] ∷ []) at_end,
       subst (λ (u : S). g.ends u ≡ Ok t) at_end last.1,
+      subst P at_end holds,
     )
-lines_found {S} g text one same line s t (x ∷ y ∷ more) some is =
+lines_hold {S} g P text one same line s t (x ∷ y ∷ more) some holds is =
     let next = bind_ok (map_fault (g.at line) (g.step s x)) (λ (u : S). lines_from g (line + 1) u (y ∷ more)) t is in
-    let moved = one s next.0 x (map_fault_ok (g.at line) (g.step s x) next.0 next.1) in
-    let others = lines_found g text one same (line + 1) next.0 t (y ∷ more) (omega arith) next.2 in (
-      sym (append_assoc (text s) (x ∷ []) (y ∷ more)) ∙ ap (λ (ls : List (List ℕ)). ls ++ y ∷ more) (sym moved) ∙ others.0,
+    let moved = one s next.0 x holds (map_fault_ok (g.at line) (g.step s x) next.0 next.1) in
+    let others = lines_hold g P text one same (line + 1) next.0 t (y ∷ more) (omega arith) moved.0 next.2 in (
+      sym (append_assoc (text s) (x ∷ []) (y ∷ more)) ∙ ap (λ (ls : List (List ℕ)). ls ++ y ∷ more) (sym moved.1) ∙ others.0,
       others.1,
+      others.2,
     )
+
+pub lines_found : {S C E : Type 0} (g : Grammar S C E) (text : S → List (List ℕ))
+    → ((s t : S) (x : List ℕ) → g.step s x ≡ Ok t → text t ≡ text s ++ x ∷ [])
+    → ((s t : S) → g.ends s ≡ Ok t → s ≡ t)
+    → (line : ℕ) (s t : S) (parts : List (List ℕ)) → 0 < length parts → lines_from g line s parts ≡ Ok t
+    → (text s ++ parts ≡ text t ++ [] ∷ []) × (g.ends t ≡ Ok t)
+lines_found {S} g text one same line s t parts some is =
+    let none : S → Type 0 = λ u. Unit {0} in
+    let found = lines_hold g none text (λ u w x h e. (tt, one u w x e)) same line s t parts some tt is in (found.0, found.1)
 
 some_more : (ls : List (List ℕ)) → 0 < length (ls ++ [] ∷ [])
 some_more [] = omega arith
@@ -160,6 +173,35 @@ pub leads_on : {S C E : Type 0} (g : Grammar S C E) (s t u : S) (xs ys : List (L
     → Leads g s (xs ++ ys) u
 leads_on {S} g s t u [] ys a b = subst (λ (v : S). Leads g v ys u) (sym a) b
 leads_on g s t u (x ∷ xs) ys a b = (a.0, a.1, leads_on g a.0 t u xs ys a.2 b)
+
+-- and each of them is as every line that is taken
+pub leads_all : {S C E : Type 0} (g : Grammar S C E) (P : S → Type 0) (Q : List ℕ → Type 0)
+    → ((s t : S) (x : List ℕ) → P s → g.step s x ≡ Ok t → P t × Q x)
+    → (s t : S) (xs : List (List ℕ)) → P s → Leads g s xs t → AllByRecursion Q xs
+leads_all g P Q one s t [] holds leads = tt
+leads_all g P Q one s t (x ∷ xs) holds leads =
+    let moved = one s leads.0 x holds leads.1 in (moved.1, leads_all g P Q one leads.0 t xs moved.0 leads.2)
+
+-- THE LINES OF A LIST: where each item leads from the state of those before it to the state with it, so do all
+pub items_lead : {S C E X : Type 0} (g : Grammar S C E) (state : List X → S) (lines : ℕ → List X → List (List ℕ))
+    (line : ℕ → X → List ℕ) → ((n : ℕ) → lines n [] ≡ [])
+    → ((n : ℕ) (x : X) (xs : List X) → lines n (x ∷ xs) ≡ line n x ∷ lines (n + 1) xs)
+    → (before xs : List X)
+    → ((front more : List X) (x : X) → front ++ x ∷ more ≡ before ++ xs
+    → g.step (state front) (line (length front) x) ≡ Ok (state (front ++ x ∷ [])))
+    → Leads g (state before) (lines (length before) xs) (state (before ++ xs))
+items_lead g state lines line none some before [] each =
+    subst (λ (ls : List (List ℕ)). Leads g (state before) ls (state (before ++ []))) (sym (none (length before)))
+    (ap state (sym (append-nil before)))
+items_lead {X = X} g state lines line none some before (x ∷ xs) each =
+    let next : List X = before ++ x ∷ [] in
+    let grouped : next ++ xs ≡ before ++ x ∷ xs = append_assoc before (x ∷ []) xs in
+    let counted : length next ≡ length before + 1 = length-append before (x ∷ []) in
+    let rest = items_lead g state lines line none some next xs (λ front more y is. each front more y (is ∙ grouped)) in
+    let named = subst (λ (n : ℕ). Leads g (state next) (lines n xs) (state (next ++ xs))) counted rest in
+    let all = subst (λ (ys : List X). Leads g (state next) (lines (length before + 1) xs) (state ys)) grouped named in
+    subst (λ (ls : List (List ℕ)). Leads g (state before) ls (state (before ++ x ∷ xs))) (sym (some (length before) x xs))
+    (state next, each before xs x refl, all)
 
 -- what each line that is taken keeps, all of them keep
 pub lines_keep : {S C E : Type 0} (g : Grammar S C E) (P : S → Type 0) → ((s t : S) (x : List ℕ) → P s → g.step s x ≡ Ok t → P t)
