@@ -170,7 +170,7 @@ impl Running for LazyList {
         key: Key,
         pause: &P,
     ) -> (Slots, Reply) {
-        lset_locked_loops::lazy_add_on::<R, P>(rt, table, place, slots, key, pause)
+        lset_loops::lazy_add_on::<R, P>(rt, table, place, slots, key, pause)
     }
 
     fn remove_on<R: Wait, P: Pause>(
@@ -181,7 +181,7 @@ impl Running for LazyList {
         key: Key,
         pause: &P,
     ) -> (Slots, Reply) {
-        lset_locked_loops::lazy_remove_on::<R, P>(rt, table, place, slots, key, pause)
+        lset_loops::lazy_remove_on::<R, P>(rt, table, place, slots, key, pause)
     }
 
     fn contains_on<R: Wait, P: Pause>(
@@ -205,7 +205,7 @@ impl Running for LockFreeList {
         key: Key,
         pause: &P,
     ) -> (Slots, Reply) {
-        lset_loops::add_on::<R, P>(rt, table, place, slots, key, pause)
+        lset_loops::lock_free_add_on::<R, P>(rt, table, place, slots, key, pause)
     }
 
     fn remove_on<R: Wait, P: Pause>(
@@ -216,7 +216,7 @@ impl Running for LockFreeList {
         key: Key,
         pause: &P,
     ) -> (Slots, Reply) {
-        lset_loops::remove_on::<R, P>(rt, table, place, slots, key, pause)
+        lset_loops::lock_free_remove_on::<R, P>(rt, table, place, slots, key, pause)
     }
 
     fn contains_on<R: Wait, P: Pause>(

@@ -5,9 +5,9 @@ use Rattle.lset_steps.specs.Rows.{decided_on}
 use Rattle.lset_fine.specs.Fine.{fine, targets}
 use Rattle.lset_rule.specs.declared.slots.Slots.{Slots}
 use Rattle.lset_rule.specs.Seats.{Place}
-use Rattle.lset_locked_loops.specs.declared.decision.Found.{Found}
-use Rattle.lset_locked_loops.specs.Begun.{Begun}
-use Rattle.lset_locked_loops.specs.Calling.{Holds, Rest, row}
+use Rattle.lset_caller.specs.declared.decision.Found.{Found}
+use Rattle.lset_caller.specs.Begun.{Begun}
+use Rattle.lset_caller.specs.Calling.{Holds, Rest, row}
 
 -- It has locked the head.
 abbrev pub AtHead : Begun → Slots → Place → Type 0

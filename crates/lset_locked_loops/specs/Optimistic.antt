@@ -5,10 +5,10 @@ use Rattle.lset_steps.specs.Rows.{decided_on}
 use Rattle.lset_optimistic.specs.Optimistic.{optimistic, targets, at_locks}
 use Rattle.lset_rule.specs.declared.slots.Slots.{Slots}
 use Rattle.lset_rule.specs.Seats.{Place}
-use Rattle.lset_locked_loops.specs.declared.caller.Node.{Node}
-use Rattle.lset_locked_loops.specs.declared.decision.Found.{Found}
-use Rattle.lset_locked_loops.specs.Begun.{Begun}
-use Rattle.lset_locked_loops.specs.Calling.{Holds, Rest, row}
+use Rattle.lset_caller.specs.declared.caller.Node.{Node}
+use Rattle.lset_caller.specs.declared.decision.Found.{Found}
+use Rattle.lset_caller.specs.Begun.{Begun}
+use Rattle.lset_caller.specs.Calling.{Holds, Rest, row}
 use Rattle.lset_locked_loops.specs.declared.optimistic.Stopped.{Stopped}
 
 -- It is about to load the key of the node x, to which the link of p led, at which it saw the key word `before`.
