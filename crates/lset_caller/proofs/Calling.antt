@@ -14,9 +14,9 @@ use Rattle.lset_steps.specs.Steps.{Table}
 use Rattle.lset_steps.specs.Laws.{Lawful, word_named}
 use Rattle.lset_steps.specs.ReadRows.{continued}
 use Rattle.lset_words.specs.Words.{Opening}
-use Rattle.lset_rule.specs.Seats.{Place, IsOf, IsSeat, MayCall, HasCalled}
-use Rattle.lset_rule.specs.declared.slots.Slots.{Slots}
-use Rattle.lset_rule.specs.Slots.{slots_of, resting}
+use Rattle.lset_rule.specs.Seats.{TableSeat, IsOf, IsSeat, MayCall, HasCalled}
+use Rattle.lset_rule.specs.declared.slots.OwnSlots.{OwnSlots}
+use Rattle.lset_rule.specs.OwnSlots.{slots_of, resting}
 use Rattle.lset_rule.specs.Views.{IsOpen, Stands}
 use Rattle.lset_rule.specs.Calls.{Goes, Starts, Makes}
 use Rattle.lset_rule.proofs.Calls.{IsMid, comes_first, comes_next, is_mid, mid_open}
@@ -27,17 +27,17 @@ use Rattle.lset_caller.specs.Calling.{HasAnswered}
 
 module _ (m : Table) (b : Begun) where
   -- the seat of a step
-  pub of_table : (c : Call) (z : TableId) (k : Opening) → IsCall b c z k → (l : Local) (s : Place) → Holds m b l s → IsOf z k s
+  pub of_table : (c : Call) (z : TableId) (k : Opening) → IsCall b c z k → (l : Local) (s : TableSeat) → Holds m b l s → IsOf z k s
   of_table c z k is l s h = let P : TableId × Opening → Type 0 = λ q. q.0.words ≡ word_count (sizes q.1) in
       (h.seat.0 ∙ is.1, h.mid.same.1 ∙ is.2, subst P (λ i. (is.1 i, is.2 i)) h.words)
 
-  pub open_now : (l : Local) (s : Place) → Holds m b l s → IsOpen s.me.0 × Stands m s.me.0
+  pub open_now : (l : Local) (s : TableSeat) → Holds m b l s → IsOpen s.me.0 × Stands m s.me.0
   open_now l s h = (mid_open b.call b.me.0 s.me.0 h.used h.mid, h.stands)
 
-  pub row_now : (a : Action) (s : Place) → (h : MayStep m b a s) → a ≡ m.next s.me.0.local
+  pub row_now : (a : Action) (s : TableSeat) → (h : MayStep m b a s) → a ≡ m.next s.me.0.local
   row_now a s h = h.acts ∙ ap m.next (sym h.holds.local)
 
-  pub onward : (l : Local) (s : Place) (n : ℕ) (s' : Place) → IsSeat s s' → Goes m s.me.0 n s'.me.0 → (m.feed l n).answer ≡ None
+  pub onward : (l : Local) (s : TableSeat) (n : ℕ) (s' : TableSeat) → IsSeat s s' → Goes m s.me.0 n s'.me.0 → (m.feed l n).answer ≡ None
       → Holds m b l s → Holds m b (m.feed l n).local s'
   onward l s n s' seat g none h =
       let come = comes_next m b.call b.me.0 s.me.0 (continued l) n s'.me.0 (m.feed l n) (h.local, (h.mid, h.stands)) refl g refl
@@ -52,14 +52,14 @@ module _ (m : Table) (b : Begun) where
       }
 
   -- a step that does not answer leads on, whatever it is known to hold
-  pub leads : (a : Action) (s : Place) (n : ℕ) (s' : Place) → MayStep m b a s → IsSeat s s' → Goes m s.me.0 n s'.me.0 →
+  pub leads : (a : Action) (s : TableSeat) (n : ℕ) (s' : TableSeat) → MayStep m b a s → IsSeat s s' → Goes m s.me.0 n s'.me.0 →
       HasStepped m b s n s'
   leads a s n s' h seat g l holds =
       let same : h.held ≡ l = sym h.holds.local ∙ holds.local in
       onward l s n s' seat g (subst (λ x. (m.feed x n).answer ≡ None) same (h.goes_on n)) holds
 
   -- the word of a step from registers that are held
-  pub few_held : Lawful m → (l : Local) (a : Action) (s : Place) → Holds m b l s → a ≡ m.next l → word_named a < MOST_WORDS
+  pub few_held : Lawful m → (l : Local) (a : Action) (s : TableSeat) → Holds m b l s → a ≡ m.next l → word_named a < MOST_WORDS
   few_held law l a s h acts =
       let o = open_now l s h in
       let w : word_named a < b.table_id.words = in_words m law s.me.0.shape _ _ s.me.0.local (stands_at m law s.me.0 o.1 o.0) a
@@ -70,26 +70,26 @@ module _ (m : Table) (b : Begun) where
       h.mid.same.1 few in
       omega arith
 
-  pub few_words : Lawful m → (a : Action) (s : Place) → MayStep m b a s → word_named a < MOST_WORDS
+  pub few_words : Lawful m → (a : Action) (s : TableSeat) → MayStep m b a s → word_named a < MOST_WORDS
   few_words law a s h = few_held law h.held a s h.holds h.acts
 
-  pub few_locks : Lawful m → (word thread : ℕ) (s : Place) → MayLock m b word thread s → word < MOST_WORDS
+  pub few_locks : Lawful m → (word thread : ℕ) (s : TableSeat) → MayLock m b word thread s → word < MOST_WORDS
   few_locks law word thread s h = few_held law h.held (Exchange word 0 (thread + 1)) s h.holds h.acts
 
-  pub few_asks : Lawful m → (a : Action) (s : Place) → MayAnswer m b a s → word_named a < MOST_WORDS
+  pub few_asks : Lawful m → (a : Action) (s : TableSeat) → MayAnswer m b a s → word_named a < MOST_WORDS
   few_asks law a s h = few_held law h.held a s h.holds h.acts
 
-  pub row_asked : (a : Action) (s : Place) → (h : MayAnswer m b a s) → a ≡ m.next s.me.0.local
+  pub row_asked : (a : Action) (s : TableSeat) → (h : MayAnswer m b a s) → a ≡ m.next s.me.0.local
   row_asked a s h = h.acts ∙ ap m.next (sym h.holds.local)
 
   -- a thread holds what its seat's view says
-  pub itself : (l : Local) (s : Place) → Holds m b l s → Holds m b s.me.0.local s
+  pub itself : (l : Local) (s : TableSeat) → Holds m b l s → Holds m b s.me.0.local s
   itself l s h = record { words = h.words; used = h.used; seat = h.seat; mid = h.mid; stands = h.stands; local = refl }
 
-  pub same_held : (l l' : Local) (s : Place) → Holds m b l s → Holds m b l' s → l ≡ l'
+  pub same_held : (l l' : Local) (s : TableSeat) → Holds m b l s → Holds m b l' s → l ≡ l'
   same_held l l' s h h' = sym h.local ∙ h'.local
 
-  pub now_holds : (l l' : Local) (s : Place) → l ≡ l' → Holds m b l s → Holds m b l' s
+  pub now_holds : (l l' : Local) (s : TableSeat) → l ≡ l' → Holds m b l s → Holds m b l' s
   now_holds l l' s same h = record {
     words = h.words;
     used = h.used;
@@ -100,7 +100,7 @@ module _ (m : Table) (b : Begun) where
   }
 
   -- a try of a lock that fails
-  pub tried : (word thread : ℕ) (s0 s : Place) (n : ℕ) (s' : Place) → MayLock m b word thread s0 → n ≢ 0 →
+  pub tried : (word thread : ℕ) (s0 s : TableSeat) (n : ℕ) (s' : TableSeat) → MayLock m b word thread s0 → n ≢ 0 →
       Holds m b s0.me.0.local s
       → IsSeat s s' → Goes m s.me.0 n s'.me.0 → Holds m b s0.me.0.local s'
   tried word thread s0 s n s' lk ne h seat g =
@@ -109,7 +109,7 @@ module _ (m : Table) (b : Begun) where
       (onward lk.held s n s' seat g (ap (λ (f : Fed). f.answer) (lk.again n ne)) at)
 
   -- then the same lock is tried on,
-  pub still : (word thread : ℕ) (s0 : Place) (n : ℕ) (s' : Place) → MayLock m b word thread s0 → n ≢ 0 → IsSeat s0 s' →
+  pub still : (word thread : ℕ) (s0 : TableSeat) (n : ℕ) (s' : TableSeat) → MayLock m b word thread s0 → n ≢ 0 → IsSeat s0 s' →
       Goes m s0.me.0 n s'.me.0 → MayLock m b word thread s'
   still word thread s0 n s' lk ne seat g = record {
     held = lk.held;
@@ -120,19 +120,19 @@ module _ (m : Table) (b : Begun) where
     goes_on = lk.goes_on;
   }
 
-  pub leads_still : (word thread : ℕ) (s0 : Place) (n : ℕ) (s s' : Place) → MayLock m b word thread s0 → n ≢ 0 → IsSeat s0 s →
+  pub leads_still : (word thread : ℕ) (s0 : TableSeat) (n : ℕ) (s s' : TableSeat) → MayLock m b word thread s0 → n ≢ 0 → IsSeat s0 s →
       Goes m s0.me.0 n s.me.0 → HasStepped m b s 0 s' → HasStepped m b s0 0 s'
   leads_still word thread s0 n s s' lk ne seat g on l h =
       on l (now_holds s0.me.0.local l s h.local (tried word thread s0 s0 n s lk ne (itself lk.held s0 lk.holds) seat g))
 
   -- and one that succeeds leads on
-  pub leads_had : (word thread : ℕ) (s0 : Place) (n : ℕ) (s' : Place) → MayLock m b word thread s0 → n ≡ 0 → IsSeat s0 s' →
+  pub leads_had : (word thread : ℕ) (s0 : TableSeat) (n : ℕ) (s' : TableSeat) → MayLock m b word thread s0 → n ≡ 0 → IsSeat s0 s' →
       Goes m s0.me.0 n s'.me.0 → HasStepped m b s0 0 s'
   leads_had word thread s0 n s' lk zero seat g l h = onward l s0 0 s' seat (subst (λ i. Goes m s0.me.0 i s'.me.0) zero g)
       (subst (λ x. (m.feed x 0).answer ≡ None) (same_held lk.held l s0 lk.holds h) lk.goes_on) h
 
   -- A STEP THAT MAY ANSWER
-  pub tells : (s : Place) (n : ℕ) (s' : Place) → IsSeat s s' → Goes m s.me.0 n s'.me.0 → HasTold m b s n s'
+  pub tells : (s : TableSeat) (n : ℕ) (s' : TableSeat) → IsSeat s s' → Goes m s.me.0 n s'.me.0 → HasTold m b s n s'
   tells s n s' seat g l h f is =
       let come = comes_next m b.call b.me.0 s.me.0 (continued l) n s'.me.0 f (h.local, (h.mid, h.stands)) refl g (sym is) in
       by_answer f.local f.answer come.0 come.1
@@ -155,21 +155,21 @@ module _ (m : Table) (b : Begun) where
       }
 
 -- THE FIRST STEP
-begun_is : (m : Table) → Lawful m → (b : Begun) (own : Slots) (l : Local) → own ≡ slots_of l → m.begin b.call l ≡ first m b own
+begun_is : (m : Table) → Lawful m → (b : Begun) (own : OwnSlots) (l : Local) → own ≡ slots_of l → m.begin b.call l ≡ first m b own
 begun_is m law b own l same = (law.begins b.call l).alike ∙ ap (λ s. m.begin b.call (resting s)) (sym same)
 
-pub of_table_first : (m : Table) (b : Begun) (c : Call) (z : TableId) (k : Opening) (own : Slots) (s : Place) → IsCall b c z k →
+pub of_table_first : (m : Table) (b : Begun) (c : Call) (z : TableId) (k : Opening) (own : OwnSlots) (s : TableSeat) → IsCall b c z k →
     MayBegin m b own s → IsOf z k s
 of_table_first m b c z k own s is may = let P : TableId × Opening → Type 0 = λ q. IsOf q.0 q.1 s in
     subst P (λ i. (is.1 i, is.2 i)) may.may.place
 
-pub acts_first : (m : Table) → Lawful m → (b : Begun) (own : Slots) (s : Place) (c : Call) (a : Action) → b.call ≡ c →
+pub acts_first : (m : Table) → Lawful m → (b : Begun) (own : OwnSlots) (s : TableSeat) (c : Call) (a : Action) → b.call ≡ c →
     MayBegin m b own s
     → a ≡ m.next (first m b own) → a ≡ m.next (m.begin c s.me.0.local)
 acts_first m law b own s c a same may is =
     is ∙ (ap m.next (sym (begun_is m law b own s.me.0.local may.may.slots)) ∙ ap (λ x. m.next (m.begin x s.me.0.local)) same)
 
-pub begins_holding : (m : Table) → Lawful m → (b : Begun) (own : Slots) (s : Place) (n : ℕ) (s' : Place) (c : Call) → b.call ≡ c →
+pub begins_holding : (m : Table) → Lawful m → (b : Begun) (own : OwnSlots) (s : TableSeat) (n : ℕ) (s' : TableSeat) (c : Call) → b.call ≡ c →
     MayBegin m b own s
     → IsSeat s s' → Starts m c s.me.0 n s'.me.0 → (m.feed (first m b own) n).answer ≡ None →
     Holds m b (m.feed (first m b own) n).local s'
@@ -190,7 +190,7 @@ begins_holding m law b own s n s' c same may seat starts none =
     } in subst (λ x. Holds m x f.local s') (sym may.now) here
 
 -- which was the try of a lock that failed
-pub first_tried : (m : Table) → Lawful m → (b : Begun) (own : Slots) (s : Place) (n : ℕ) (s' : Place) (c : Call) → b.call ≡ c →
+pub first_tried : (m : Table) → Lawful m → (b : Begun) (own : OwnSlots) (s : TableSeat) (n : ℕ) (s' : TableSeat) (c : Call) → b.call ≡ c →
     MayBegin m b own s
     → IsSeat s s' → Starts m c s.me.0 n s'.me.0 → ((i : ℕ) → i ≢ 0 → m.feed (first m b own) i ≡ continued (first m b own)) → n ≢ 0
     → Holds m b (first m b own) s'
@@ -199,24 +199,24 @@ first_tried m law b own s n s' c same may seat starts again ne =
     (begins_holding m law b own s n s' c same may seat starts (ap (λ (f : Fed). f.answer) (again n ne)))
 
 -- the same registers in other words
-pub moved : {m : Table} {b : Begun} {l l' : Local} {s : Place} → Holds m b l s → l ≡ l' → Holds m b l' s
+pub moved : {m : Table} {b : Begun} {l l' : Local} {s : TableSeat} → Holds m b l s → l ≡ l' → Holds m b l' s
 moved h same = record { words = h.words; used = h.used; seat = h.seat; mid = h.mid; stands = h.stands; local = h.local ∙ same }
 
 -- of a number that a loop has a variable for
-pub to_curr : {m : Table} {b : Begun} {d : Call} {own : Slots} {pc p x x' : ℕ} {r : Option Reply} {j : Rest} {s : Place}
+pub to_curr : {m : Table} {b : Begun} {d : Call} {own : OwnSlots} {pc p x x' : ℕ} {r : Option Reply} {j : Rest} {s : TableSeat}
     → x' ≡ x → Holds m b (row own d pc r p x j) s → Holds m b (row own d pc r p x' j) s
 to_curr {d = d} {own = own} {pc = pc} {p = p} {r = r} {j = j} is h = moved h (ap (λ i. row own d pc r p i j) (sym is))
 
-pub to_pred : {m : Table} {b : Begun} {d : Call} {own : Slots} {pc p p' x : ℕ} {r : Option Reply} {j : Rest} {s : Place}
+pub to_pred : {m : Table} {b : Begun} {d : Call} {own : OwnSlots} {pc p p' x : ℕ} {r : Option Reply} {j : Rest} {s : TableSeat}
     → p' ≡ p → Holds m b (row own d pc r p x j) s → Holds m b (row own d pc r p' x j) s
 to_pred {d = d} {own = own} {pc = pc} {x = x} {r = r} {j = j} is h = moved h (ap (λ i. row own d pc r i x j) (sym is))
 
-pub to_succ : {m : Table} {b : Begun} {d : Call} {own : Slots} {pc p x n : ℕ} {r : Option Reply} {j : Rest} {s : Place}
+pub to_succ : {m : Table} {b : Begun} {d : Call} {own : OwnSlots} {pc p x n : ℕ} {r : Option Reply} {j : Rest} {s : TableSeat}
     → n ≡ j.succ → Holds m b (row own d pc r p x j) s → Holds m b (row own d pc r p x (record j { succ = n })) s
 to_succ {d = d} {own = own} {pc = pc} {p = p} {x = x} {r = r} {j = j} is h =
     moved h (ap (λ i. row own d pc r p x (record j { succ = i })) (sym is))
 
-pub to_slots : {m : Table} {b : Begun} {d : Call} {own own' : Slots} {pc p x : ℕ} {r : Option Reply} {j : Rest} {s : Place}
+pub to_slots : {m : Table} {b : Begun} {d : Call} {own own' : OwnSlots} {pc p x : ℕ} {r : Option Reply} {j : Rest} {s : TableSeat}
     → own' ≡ own → Holds m b (row own d pc r p x j) s → Holds m b (row own' d pc r p x j) s
 to_slots {d = d} {pc = pc} {p = p} {x = x} {r = r} {j = j} is h = moved h (ap (λ o. row o d pc r p x j) (sym is))
 
@@ -224,7 +224,7 @@ abbrev pub no_rest : Rest
 no_rest = record { succ = 0; node = 0; pkey = 0; ckey = 0 }
 
 -- A WHOLE CALL
-pub may_begin : {m : Table} {z : TableId} {k : Opening} {own : Slots} {s : Place} (c : Call) → MayCall m z k own s →
+pub may_begin : {m : Table} {z : TableId} {k : Opening} {own : OwnSlots} {s : TableSeat} (c : Call) → MayCall m z k own s →
     MayBegin m (begun_at c s) own s
 may_begin c may = record {
   now = refl;
@@ -241,10 +241,10 @@ may_begin c may = record {
   };
 }
 
-pub is_call : {m : Table} {z : TableId} {k : Opening} {own : Slots} {s : Place} (c : Call) → MayCall m z k own s →
+pub is_call : {m : Table} {z : TableId} {k : Opening} {own : OwnSlots} {s : TableSeat} (c : Call) → MayCall m z k own s →
     IsCall (begun_at c s) c z k
 is_call c may = (refl, may.place.0, may.place.1)
 
-pub called : {m : Table} {c : Call} {s s' : Place} {answer : Slots × Reply} → HasAnswered m (begun_at c s) answer s' →
+pub called : {m : Table} {c : Call} {s s' : TableSeat} {answer : OwnSlots × Reply} → HasAnswered m (begun_at c s) answer s' →
     HasCalled m c s answer s'
 called e = record { place = e.1.seat; slots = e.2 ∙ ap slots_of (sym e.1.local); made = e.1.makes }

@@ -6,7 +6,7 @@ use Rattle.lset_words.specs.declared.Call.TheVariants.{Contains}
 use Rattle.lset_words.specs.Words.{Opening}
 use Rattle.lset_rule.specs.declared.view.View.{View}
 use Rattle.lset_rule.specs.Rule.{nobody}
-use Rattle.lset_rule.specs.Seats.{Place}
+use Rattle.lset_rule.specs.Seats.{TableSeat}
 
 pub record Begun : Type 0 where
   pub call : Call
@@ -14,7 +14,7 @@ pub record Begun : Type 0 where
   pub id : ℕ
   pub me : View × List (ℕ × Unit {0})
 
-abbrev pub begun_at : Call → Place → Begun
+abbrev pub begun_at : Call → TableSeat → Begun
 begun_at c s = record { call = c; table_id = s.table_id; id = s.id; me = s.me }
 
 abbrev pub no_call : Begun

@@ -13,16 +13,16 @@ use Rattle.lset_steps.specs.Steps.{Table}
 use Rattle.lset_steps.specs.Rows.{goes_to, decided_on}
 use Rattle.lset_caller.specs.declared.decision.Decision.{Decision}
 use Rattle.lset_caller.specs.declared.decision.Decision.TheVariants.{PutIn, TakeOut, Answer}
-use Rattle.lset_rule.specs.declared.slots.Slots.{Slots}
-use Rattle.lset_rule.specs.Seats.{Place, MayCall}
-use Rattle.lset_rule.specs.Slots.{slots_of, resting}
+use Rattle.lset_rule.specs.declared.slots.OwnSlots.{OwnSlots}
+use Rattle.lset_rule.specs.Seats.{TableSeat, MayCall}
+use Rattle.lset_rule.specs.OwnSlots.{slots_of, resting}
 use Rattle.lset_rule.specs.Views.{Stands}
 use Rattle.lset_rule.specs.Calls.{Makes}
 use Rattle.lset_rule.proofs.Calls.{IsMid}
 use Rattle.lset_caller.specs.Begun.{Begun, begun_at}
 
 -- THE THREAD HOLDS l: a call of the machine m has begun so, has not answered yet, and its seat is s now.
-pub record Holds (m : Table) (b : Begun) (l : Local) (s : Place) : Type 0 where
+pub record Holds (m : Table) (b : Begun) (l : Local) (s : TableSeat) : Type 0 where
   pub words : b.table_id.words ≡ word_count (sizes b.me.0.shape)
   pub used : b.me.0.spent ≡ false
   pub seat : (s.table_id ≡ b.table_id) × (s.id ≡ b.id) × (s.me.1 ≡ b.me.1)
@@ -31,18 +31,18 @@ pub record Holds (m : Table) (b : Begun) (l : Local) (s : Place) : Type 0 where
   pub local : s.me.0.local ≡ l
 
 -- The table's next step there is a, and does not answer.
-pub record MayStep (m : Table) (b : Begun) (a : Action) (s : Place) : Type 0 where
+pub record MayStep (m : Table) (b : Begun) (a : Action) (s : TableSeat) : Type 0 where
   pub held : Local
   pub holds : Holds m b held s
   pub acts : a ≡ m.next held
   pub goes_on : (n : ℕ) → (m.feed held n).answer ≡ None
 
 -- what it holds after a step in which it saw n
-abbrev pub HasStepped : Table → Begun → Place → ℕ → Place → Type 0
+abbrev pub HasStepped : Table → Begun → TableSeat → ℕ → TableSeat → Type 0
 HasStepped m b s n s' = (l : Local) → Holds m b l s → Holds m b (m.feed l n).local s'
 
 -- The table's next step there is the try of a lock, which is made again until it is free.
-pub record MayLock (m : Table) (b : Begun) (word thread : ℕ) (s : Place) : Type 0 where
+pub record MayLock (m : Table) (b : Begun) (word thread : ℕ) (s : TableSeat) : Type 0 where
   pub held : Local
   pub holds : Holds m b held s
   pub acts : Exchange word 0 (thread + 1) ≡ m.next held
@@ -50,7 +50,7 @@ pub record MayLock (m : Table) (b : Begun) (word thread : ℕ) (s : Place) : Typ
   pub goes_on : (m.feed held 0).answer ≡ None
 
 -- the slot that the thread's next successful add puts in
-abbrev pub slot : Slots → ℕ
+abbrev pub slot : OwnSlots → ℕ
 slot own = slot_node own.quota own.thread own.used
 
 -- what a thread holds after stores of these values
@@ -64,53 +64,53 @@ Stores m l [] = Unit {0}
 Stores m l ((word, value) ∷ more) = (Store word value ≡ m.next l) × ((n : ℕ) → (m.feed l n).answer ≡ None)
     × Stores m (m.feed l value).local more
 
-pub record MayStore (m : Table) (b : Begun) (words : List (ℕ × ℕ)) (s : Place) : Type 0 where
+pub record MayStore (m : Table) (b : Begun) (words : List (ℕ × ℕ)) (s : TableSeat) : Type 0 where
   pub held : Local
   pub holds : Holds m b held s
   pub stores : Stores m held words
 
-abbrev pub HasStored : Table → Begun → List (ℕ × ℕ) → Place → Place → Type 0
+abbrev pub HasStored : Table → Begun → List (ℕ × ℕ) → TableSeat → TableSeat → Type 0
 HasStored m b stores s s' = (l : Local) → Holds m b l s → Holds m b (feeds m l stores) s'
 
 -- the stores that fill the thread's next slot, which is to lead to the node x,
-abbrev pub slot_stores : Slots → ℕ → ℕ → List (ℕ × ℕ)
+abbrev pub slot_stores : OwnSlots → ℕ → ℕ → List (ℕ × ℕ)
 slot_stores own word x = (key_index (slot own), word) ∷ (link_index (slot own), 2 * x) ∷ []
 
 -- and those that put it in between p and x
-abbrev pub put_stores : Slots → ℕ → ℕ → ℕ → List (ℕ × ℕ)
+abbrev pub put_stores : OwnSlots → ℕ → ℕ → ℕ → List (ℕ × ℕ)
 put_stores own word p x = (key_index (slot own), word) ∷ (link_index (slot own), 2 * x) ∷ (link_index p, 2 * slot own) ∷ []
 
 -- It is to begin so at the seat s, whose thread has these slots.
-pub record MayBegin (m : Table) (b : Begun) (own : Slots) (s : Place) : Type 0 where
+pub record MayBegin (m : Table) (b : Begun) (own : OwnSlots) (s : TableSeat) : Type 0 where
   pub now : b ≡ begun_at b.call s
   pub may : MayCall m b.table_id b.me.0.shape own s
 
 -- what the thread holds when it has begun
-abbrev pub first : Table → Begun → Slots → Local
+abbrev pub first : Table → Begun → OwnSlots → Local
 first m b own = m.begin b.call (resting own)
 
 -- The call has answered r, and the thread holds l.
-pub record Answered (m : Table) (b : Begun) (r : Reply) (l : Local) (s : Place) : Type 0 where
+pub record Answered (m : Table) (b : Begun) (r : Reply) (l : Local) (s : TableSeat) : Type 0 where
   pub seat : (s.table_id ≡ b.table_id) × (s.id ≡ b.id) × (s.me.1 ≡ b.me.1)
   pub makes : Makes m b.call b.me.0 r s.me.0
   pub local : s.me.0.local ≡ l
 
 -- The table's next step there is a. It may answer.
-pub record MayAnswer (m : Table) (b : Begun) (a : Action) (s : Place) : Type 0 where
+pub record MayAnswer (m : Table) (b : Begun) (a : Action) (s : TableSeat) : Type 0 where
   pub held : Local
   pub holds : Holds m b held s
   pub acts : a ≡ m.next held
 
 -- what is so after a step: the call goes on, or it has answered
-abbrev pub StandsAfter : Table → Begun → Fed → Place → Type 0
+abbrev pub StandsAfter : Table → Begun → Fed → TableSeat → Type 0
 StandsAfter m b f s = MatchOption f.answer (Holds m b f.local s) (λ r. Answered m b r f.local s)
 
 -- what is so after a step in which it saw n
-abbrev pub HasTold : Table → Begun → Place → ℕ → Place → Type 0
+abbrev pub HasTold : Table → Begun → TableSeat → ℕ → TableSeat → Type 0
 HasTold m b s n s' = (l : Local) → Holds m b l s → (f : Fed) → m.feed l n ≡ f → StandsAfter m b f s'
 
 -- and by whether an exchange of `old` was made
-abbrev pub HasExchanged : Table → Begun → ℕ → Place → Bool → Place → Type 0
+abbrev pub HasExchanged : Table → Begun → ℕ → TableSeat → Bool → TableSeat → Type 0
 HasExchanged m b old s true s' = HasTold m b s old s'
 HasExchanged m b old s false s' = (n : ℕ) × (n ≢ old) × HasTold m b s n s'
 
@@ -122,7 +122,7 @@ pub record Rest : Type 0 where
   pub ckey : ℕ
 
 -- what a thread holds at the row pc
-abbrev pub row : Slots → Call → ℕ → Option Reply → ℕ → ℕ → Rest → Local
+abbrev pub row : OwnSlots → Call → ℕ → Option Reply → ℕ → ℕ → Rest → Local
 row own c pc r p x j = record {
   thread = own.thread;
   quota = own.quota;
@@ -145,14 +145,14 @@ done t TakeOut l = goes_to t.removes None l
 done t (Answer r) l = goes_to t.leaves (Some r) l
 
 -- what is decided of a key word
-abbrev pub Decides : Call → Slots → ℕ → Decision → Type 0
+abbrev pub Decides : Call → OwnSlots → ℕ → Decision → Type 0
 Decides c own word d = (t : Targets) (l : Local) → l.call ≡ c → l.used ≡ own.used → l.quota ≡ own.quota →
     decided_on t word l ≡ done t d l
 
 -- a slot more is used
-abbrev pub one_more : Slots → Slots
+abbrev pub one_more : OwnSlots → OwnSlots
 one_more own = record own { used = own.used + 1 }
 
 -- It has answered with these slots and this reply.
-abbrev pub HasAnswered : Table → Begun → Slots × Reply → Place → Type 0
+abbrev pub HasAnswered : Table → Begun → OwnSlots × Reply → TableSeat → Type 0
 HasAnswered m b answer s = (l : Local) × Answered m b answer.1 l s × (answer.0 ≡ slots_of l)

@@ -4,7 +4,7 @@ ghost use Rattle.std.proofs.Props.{props};
 ghost use Rattle.lset_words.specs.Words.{tail_word, target};
 ghost use Rattle.lset_caller.specs.Begun.{Begun, IsCall, no_call};
 
-use lset_rule::{Pause, Slots, Words};
+use lset_rule::{OwnSlots, Pause, Words};
 use lset_steps::Machine;
 use lset_words::Call;
 use std::marker::{Brand, PhantomData};
@@ -47,7 +47,7 @@ impl Node {
 pub struct Caller<'a, M: Machine, O: Origin, P: Pause> {
     pub table: &'a Words<M>,
     pub pause: &'a P,
-    pub slots: Slots,
+    pub slots: OwnSlots,
     pub call: Call,
     pub key: u64,
     pub origin: PhantomData<O>,

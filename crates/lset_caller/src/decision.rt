@@ -3,7 +3,7 @@ ghost use Rattle.std.specs.Prelude.{◌≡◌, ◌<◌};
 ghost use Rattle.lset_caller.specs.Calling.{Decides, HasStored, MayStore, one_more, put_stores, slot, slot_stores};
 
 use crate::caller::{Caller, Node, Origin};
-use lset_rule::{Pause, Place, Slots};
+use lset_rule::{OwnSlots, Pause, TableSeat};
 use lset_steps::Machine;
 use lset_steps::rows::ceiling_at;
 use lset_words::{Call, Reply, slot_node};
@@ -25,7 +25,7 @@ pub enum Decision {
 }
 
 /// What `call` is to do at this key word.
-pub fn decide(call: Call, word: u64, slots: Slots) -> Decision
+pub fn decide(call: Call, word: u64, slots: OwnSlots) -> Decision
     ensures deed { Decides call slots word result }
     ensures room { result ≡ Decision.PutIn → slots.used < slots.quota }
 {
@@ -43,11 +43,11 @@ pub fn decide(call: Call, word: u64, slots: Slots) -> Decision
 }
 
 /// The slots, of which one more is used.
-pub fn one_more(slots: Slots) -> Slots
+pub fn one_more(slots: OwnSlots) -> OwnSlots
     requires { slots.used < slots.quota }
     ensures { result ≡ one_more slots }
 {
-    Slots {
+    OwnSlots {
         used: slots.used + 1,
         ..slots
     }
@@ -55,7 +55,7 @@ pub fn one_more(slots: Slots) -> Slots
 
 impl<'a, M: Machine, O: Origin, P: Pause> Caller<'a, M, O, P> {
     /// Writes the key and the link of the thread's next slot, which is to lead to `next`, and answers its node.
-    pub fn fill_slot(&self, place: &mut Place, next: Node) -> Node
+    pub fn fill_slot(&self, place: &mut TableSeat, next: Node) -> Node
         requires { MayStore M.table O.begun (slot_stores self.now.slots self.now.key next.number) place.old }
         ensures node { result.number ≡ slot self.now.slots }
         ensures stored { HasStored M.table O.begun (slot_stores self.now.slots self.now.key next.number) place.old place.new }
@@ -70,7 +70,7 @@ impl<'a, M: Machine, O: Origin, P: Pause> Caller<'a, M, O, P> {
     }
 
     /// Fills the thread's next slot, and puts it in between `pred` and `curr`.
-    pub fn put_in(&self, place: &mut Place, found: Found)
+    pub fn put_in(&self, place: &mut TableSeat, found: Found)
         requires { MayStore M.table O.begun (put_stores self.now.slots self.now.key found.pred.number found.curr.number) place.old }
         ensures { HasStored M.table O.begun (put_stores self.now.slots self.now.key found.pred.number found.curr.number) place.old place.new }
     {

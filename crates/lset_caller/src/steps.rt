@@ -7,7 +7,7 @@ ghost use Rattle.lset_rule.specs.Calls.{Goes};
 ghost use Rattle.lset_caller.specs.Calling.{HasExchanged, HasStepped, HasTold, Holds, MayAnswer, MayBegin, MayLock, MayStep, first};
 
 use crate::caller::{Caller, Node, Origin};
-use lset_rule::{Pause, Place, exchange_first, exchange_on, load_first, load_on, store_on};
+use lset_rule::{Pause, TableSeat, exchange_first, exchange_on, load_first, load_on, store_on};
 use lset_steps::Machine;
 use lset_steps::rows::{key_index, link_index, lock_index};
 use std::marker::Brand;
@@ -23,7 +23,7 @@ impl<'a, M: Machine, O: Origin, P: Pause> Caller<'a, M, O, P> {
     }
 
     /// Loads the key word of a node.
-    pub fn load_key(&self, place: &mut Place, node: Node) -> u64
+    pub fn load_key(&self, place: &mut TableSeat, node: Node) -> u64
         requires { MayStep M.table O.begun (Load (key_index node.number)) place.old }
         ensures { HasStepped M.table O.begun place.old result place.new }
     {
@@ -34,7 +34,7 @@ impl<'a, M: Machine, O: Origin, P: Pause> Caller<'a, M, O, P> {
 
     /// Loads the key word of a node, by which the call may answer. Where it goes on, the loop asks the pause.
     #[inline(always)]
-    pub fn look_at_key(&self, place: &mut Place, node: Node) -> u64
+    pub fn look_at_key(&self, place: &mut TableSeat, node: Node) -> u64
         requires { MayAnswer M.table O.begun (Load (key_index node.number)) place.old }
         ensures told { HasTold M.table O.begun place.old result place.new }
         ensures goes { Goes M.table place.old.me.0 result place.new.me.0 }
@@ -43,7 +43,7 @@ impl<'a, M: Machine, O: Origin, P: Pause> Caller<'a, M, O, P> {
     }
 
     /// Loads the link word of a node.
-    pub fn load_link(&self, place: &mut Place, node: Node) -> u64
+    pub fn load_link(&self, place: &mut TableSeat, node: Node) -> u64
         requires { MayStep M.table O.begun (Load (link_index node.number)) place.old }
         ensures { HasStepped M.table O.begun place.old result place.new }
     {
@@ -54,7 +54,7 @@ impl<'a, M: Machine, O: Origin, P: Pause> Caller<'a, M, O, P> {
 
     /// Loads the link word of a node, by which the call may answer. Where it goes on, the loop asks the pause.
     #[inline(always)]
-    pub fn look_at_link(&self, place: &mut Place, node: Node) -> u64
+    pub fn look_at_link(&self, place: &mut TableSeat, node: Node) -> u64
         requires { MayAnswer M.table O.begun (Load (link_index node.number)) place.old }
         ensures told { HasTold M.table O.begun place.old result place.new }
         ensures goes { Goes M.table place.old.me.0 result place.new.me.0 }
@@ -63,7 +63,7 @@ impl<'a, M: Machine, O: Origin, P: Pause> Caller<'a, M, O, P> {
     }
 
     /// Stores a value in the word with this index.
-    fn store(&self, place: &mut Place, word: u64, value: u64)
+    fn store(&self, place: &mut TableSeat, word: u64, value: u64)
         requires { MayStep M.table O.begun (Store word value) place.old }
         ensures { HasStepped M.table O.begun place.old value place.new }
     {
@@ -72,7 +72,7 @@ impl<'a, M: Machine, O: Origin, P: Pause> Caller<'a, M, O, P> {
     }
 
     /// Writes the key word of a node.
-    pub fn store_key(&self, place: &mut Place, node: Node, key: u64)
+    pub fn store_key(&self, place: &mut TableSeat, node: Node, key: u64)
         requires { MayStep M.table O.begun (Store (key_index node.number) key) place.old }
         ensures { HasStepped M.table O.begun place.old key place.new }
     {
@@ -80,7 +80,7 @@ impl<'a, M: Machine, O: Origin, P: Pause> Caller<'a, M, O, P> {
     }
 
     /// Has the link of a node lead to another.
-    pub fn store_link(&self, place: &mut Place, node: Node, next: Node)
+    pub fn store_link(&self, place: &mut TableSeat, node: Node, next: Node)
         requires { MayStep M.table O.begun (Store (link_index node.number) (2 * next.number)) place.old }
         ensures { HasStepped M.table O.begun place.old (2 * next.number) place.new }
     {
@@ -88,7 +88,7 @@ impl<'a, M: Machine, O: Origin, P: Pause> Caller<'a, M, O, P> {
     }
 
     /// Marks a node, whose link leads to another.
-    pub fn store_mark(&self, place: &mut Place, node: Node, next: Node)
+    pub fn store_mark(&self, place: &mut TableSeat, node: Node, next: Node)
         requires { MayStep M.table O.begun (Store (link_index node.number) (2 * next.number + 1)) place.old }
         ensures { HasStepped M.table O.begun place.old (2 * next.number + 1) place.new }
     {
@@ -96,7 +96,7 @@ impl<'a, M: Machine, O: Origin, P: Pause> Caller<'a, M, O, P> {
     }
 
     /// Gives the lock of a node back.
-    pub fn unlock(&self, place: &mut Place, node: Node)
+    pub fn unlock(&self, place: &mut TableSeat, node: Node)
         requires { MayStep M.table O.begun (Store (lock_index node.number) 0) place.old }
         ensures { HasStepped M.table O.begun place.old 0 place.new }
     {
@@ -106,7 +106,7 @@ impl<'a, M: Machine, O: Origin, P: Pause> Caller<'a, M, O, P> {
     /// Puts `new` in a word if it is `old`, and answers whether it was. The call may answer by it; where it goes on although
     /// the exchange was made, the loop asks the pause.
     #[inline(always)]
-    fn exchange(&self, place: &mut Place, word: u64, old: u64, new: u64) -> bool
+    fn exchange(&self, place: &mut TableSeat, word: u64, old: u64, new: u64) -> bool
         requires { MayAnswer M.table O.begun (Exchange word old new) place.old }
         ensures { HasExchanged M.table O.begun old place.old result place.new }
     {
@@ -120,7 +120,7 @@ impl<'a, M: Machine, O: Origin, P: Pause> Caller<'a, M, O, P> {
 
     /// Has the link of a node lead to `new` if it leads to `old` and the node has no mark, and answers whether it did.
     #[inline(always)]
-    pub fn exchange_link(&self, place: &mut Place, node: Node, old: Node, new: Node) -> bool
+    pub fn exchange_link(&self, place: &mut TableSeat, node: Node, old: Node, new: Node) -> bool
         requires { MayAnswer M.table O.begun (Exchange (link_index node.number) (2 * old.number) (2 * new.number)) place.old }
         ensures { HasExchanged M.table O.begun (2 * old.number) place.old result place.new }
     {
@@ -129,7 +129,7 @@ impl<'a, M: Machine, O: Origin, P: Pause> Caller<'a, M, O, P> {
     }
 
     /// The same at a step with which the call answers, whether it did or not.
-    pub fn exchange_link_last(&self, place: &mut Place, node: Node, old: Node, new: Node) -> u64
+    pub fn exchange_link_last(&self, place: &mut TableSeat, node: Node, old: Node, new: Node) -> u64
         requires { MayAnswer M.table O.begun (Exchange (link_index node.number) (2 * old.number) (2 * new.number)) place.old }
         ensures { HasTold M.table O.begun place.old result place.new }
     {
@@ -144,7 +144,7 @@ impl<'a, M: Machine, O: Origin, P: Pause> Caller<'a, M, O, P> {
     }
 
     /// Marks a node if it leads to `next` and has no mark, and answers whether it did.
-    pub fn exchange_mark(&self, place: &mut Place, node: Node, next: Node) -> bool
+    pub fn exchange_mark(&self, place: &mut TableSeat, node: Node, next: Node) -> bool
         requires { MayAnswer M.table O.begun (Exchange (link_index node.number) (2 * next.number) (2 * next.number + 1)) place.old }
         ensures { HasExchanged M.table O.begun (2 * next.number) place.old result place.new }
     {
@@ -154,7 +154,7 @@ impl<'a, M: Machine, O: Origin, P: Pause> Caller<'a, M, O, P> {
 
     /// Tries the lock in this word again and again, until the thread has it.
     #[inline(never)]
-    fn wait_for<R: Wait>(&self, rt: &R, place: &mut Place, word: u64)
+    fn wait_for<R: Wait>(&self, rt: &R, place: &mut TableSeat, word: u64)
         requires { MayLock M.table O.begun word self.now.slots.thread place.old }
         ensures { HasStepped M.table O.begun place.old 0 place.new }
     {
@@ -171,7 +171,7 @@ impl<'a, M: Machine, O: Origin, P: Pause> Caller<'a, M, O, P> {
 
     /// Takes the lock in this word.
     #[inline(always)]
-    fn take<R: Wait>(&self, rt: &R, place: &mut Place, word: u64)
+    fn take<R: Wait>(&self, rt: &R, place: &mut TableSeat, word: u64)
         requires { MayLock M.table O.begun word self.now.slots.thread place.old }
         ensures { HasStepped M.table O.begun place.old 0 place.new }
     {
@@ -184,7 +184,7 @@ impl<'a, M: Machine, O: Origin, P: Pause> Caller<'a, M, O, P> {
 
     /// Takes the lock of a node.
     #[inline(always)]
-    pub fn lock<R: Wait>(&self, rt: &R, place: &mut Place, node: Node)
+    pub fn lock<R: Wait>(&self, rt: &R, place: &mut TableSeat, node: Node)
         requires { MayLock M.table O.begun (lock_index node.number) self.now.slots.thread place.old }
         ensures { HasStepped M.table O.begun place.old 0 place.new }
     {
@@ -192,7 +192,7 @@ impl<'a, M: Machine, O: Origin, P: Pause> Caller<'a, M, O, P> {
     }
 
     /// Begins the call with the taking of the lock in this word.
-    pub fn begin_locked<R: Wait>(&self, rt: &R, place: &mut Place, word: u64)
+    pub fn begin_locked<R: Wait>(&self, rt: &R, place: &mut TableSeat, word: u64)
         requires begins { MayBegin M.table O.begun self.now.slots place.old }
         requires acts { Exchange word 0 (self.now.slots.thread + 1) ≡ M.table.next (first M.table O.begun self.now.slots) }
         requires again { (n : ℕ) → n ≢ 0 → M.table.feed (first M.table O.begun self.now.slots) n ≡ continued (first M.table O.begun self.now.slots) }
@@ -208,7 +208,7 @@ impl<'a, M: Machine, O: Origin, P: Pause> Caller<'a, M, O, P> {
     }
 
     /// Begins the call with the load of the head's link.
-    pub fn begin_at_head(&self, place: &mut Place) -> u64
+    pub fn begin_at_head(&self, place: &mut TableSeat) -> u64
         requires begins { MayBegin M.table O.begun self.now.slots place.old }
         requires acts { Load (link_index 0) ≡ M.table.next (first M.table O.begun self.now.slots) }
         requires goes_on { (n : ℕ) → (M.table.feed (first M.table O.begun self.now.slots) n).answer ≡ None }
@@ -220,7 +220,7 @@ impl<'a, M: Machine, O: Origin, P: Pause> Caller<'a, M, O, P> {
     }
 
     /// Gives the lock in this word back, with which the call answers.
-    pub fn release_last(&self, place: &mut Place, word: u64)
+    pub fn release_last(&self, place: &mut TableSeat, word: u64)
         requires { MayAnswer M.table O.begun (Store word 0) place.old }
         ensures { HasTold M.table O.begun place.old 0 place.new }
     {
@@ -228,7 +228,7 @@ impl<'a, M: Machine, O: Origin, P: Pause> Caller<'a, M, O, P> {
     }
 
     /// Gives the lock of a node back, with which the call answers.
-    pub fn unlock_last(&self, place: &mut Place, node: Node)
+    pub fn unlock_last(&self, place: &mut TableSeat, node: Node)
         requires { MayAnswer M.table O.begun (Store (lock_index node.number) 0) place.old }
         ensures { HasTold M.table O.begun place.old 0 place.new }
     {

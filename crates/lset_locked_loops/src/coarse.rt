@@ -8,19 +8,16 @@ ghost use Rattle.lset_locked_loops.specs.Coarse.{AtHead, Leaves, StopsAt};
 
 use lset_caller::{Caller, Decision, Found, Node, Origin, decide, one_more};
 use lset_coarse::CoarseList;
-use lset_rule::{Pause, Place, Slots, Words};
-use lset_words::{Call, Reply};
+use lset_rule::{OwnSlots, Pause, TableSeat, Words};
+use lset_words::{Call, LOCK, Reply};
 use std::marker::{Brand, PhantomData};
 use std::sync::Wait;
-
-/// The list's lock.
-const LOCK: u64 = 0;
 
 /// Walks from the head to the first key that is not below that of the call.
 fn walk<O: Origin, R: Wait, P: Pause>(
     rt: &R,
     caller: &Caller<CoarseList, O, P>,
-    place: &mut Place,
+    place: &mut TableSeat,
 ) -> Found
     requires { AtHead O.begun caller.now.slots place.old }
     ensures { StopsAt O.begun caller.now.slots result place.new }
@@ -43,9 +40,9 @@ fn walk<O: Origin, R: Wait, P: Pause>(
 /// Does what the call does at the key that was found.
 fn act<O: Origin, P: Pause>(
     caller: &Caller<CoarseList, O, P>,
-    place: &mut Place,
+    place: &mut TableSeat,
     found: Found,
-) -> (Slots, Reply)
+) -> (OwnSlots, Reply)
     requires { StopsAt O.begun caller.now.slots found place.old }
     ensures { Leaves O.begun result place.new }
 {
@@ -66,11 +63,11 @@ fn act<O: Origin, P: Pause>(
 fn make<O: Origin, R: Wait, P: Pause>(
     rt: &R,
     table: &Words<CoarseList>,
-    place: &mut Place,
-    slots: Slots,
+    place: &mut TableSeat,
+    slots: OwnSlots,
     call: Call,
     pause: &P,
-) -> (Slots, Reply)
+) -> (OwnSlots, Reply)
     requires begins { MayBegin coarse O.begun slots place.old }
     requires call { IsCall O.begun call table.now.table_id table.now.key }
     ensures { HasAnswered coarse O.begun result place.new }
@@ -95,11 +92,11 @@ fn make<O: Origin, R: Wait, P: Pause>(
 pub fn coarse_on<R: Wait, P: Pause>(
     rt: &R,
     table: &Words<CoarseList>,
-    place: &mut Place,
-    slots: Slots,
+    place: &mut TableSeat,
+    slots: OwnSlots,
     call: Call,
     pause: &P,
-) -> (Slots, Reply)
+) -> (OwnSlots, Reply)
     requires { MayCall coarse table.now.table_id table.now.key slots place.old }
     ensures { HasCalled coarse call place.old result place.new }
 {

@@ -8,19 +8,17 @@ ghost use Rattle.lset_locked_loops.specs.Fine.{AtHead, Leaves, StopsAt};
 
 use lset_caller::{Caller, Decision, Found, Node, Origin, decide, one_more};
 use lset_fine::FineList;
-use lset_rule::{Pause, Place, Slots, Words};
+use lset_rule::{OwnSlots, Pause, TableSeat, Words};
 use lset_steps::rows::lock_index;
-use lset_words::{Call, Reply};
+use lset_words::{Call, HEAD, Reply};
 use std::marker::{Brand, PhantomData};
 use std::sync::Wait;
-
-const HEAD: u64 = 0;
 
 /// Walks hand over hand from the head, which is locked, to the first key that is not below that of the call.
 fn walk<O: Origin, R: Wait, P: Pause>(
     rt: &R,
     caller: &Caller<FineList, O, P>,
-    place: &mut Place,
+    place: &mut TableSeat,
 ) -> Found
     requires { AtHead O.begun caller.now.slots place.old }
     ensures { StopsAt O.begun caller.now.slots result place.new }
@@ -45,9 +43,9 @@ fn walk<O: Origin, R: Wait, P: Pause>(
 /// Does what the call does at the key that was found, between two nodes that it has locked.
 fn act<O: Origin, P: Pause>(
     caller: &Caller<FineList, O, P>,
-    place: &mut Place,
+    place: &mut TableSeat,
     found: Found,
-) -> (Slots, Reply)
+) -> (OwnSlots, Reply)
     requires { StopsAt O.begun caller.now.slots found place.old }
     ensures { Leaves O.begun found result place.new }
 {
@@ -68,11 +66,11 @@ fn act<O: Origin, P: Pause>(
 fn make<O: Origin, R: Wait, P: Pause>(
     rt: &R,
     table: &Words<FineList>,
-    place: &mut Place,
-    slots: Slots,
+    place: &mut TableSeat,
+    slots: OwnSlots,
     call: Call,
     pause: &P,
-) -> (Slots, Reply)
+) -> (OwnSlots, Reply)
     requires begins { MayBegin fine O.begun slots place.old }
     requires call { IsCall O.begun call table.now.table_id table.now.key }
     ensures { HasAnswered fine O.begun result place.new }
@@ -98,11 +96,11 @@ fn make<O: Origin, R: Wait, P: Pause>(
 pub fn fine_on<R: Wait, P: Pause>(
     rt: &R,
     table: &Words<FineList>,
-    place: &mut Place,
-    slots: Slots,
+    place: &mut TableSeat,
+    slots: OwnSlots,
     call: Call,
     pause: &P,
-) -> (Slots, Reply)
+) -> (OwnSlots, Reply)
     requires { MayCall fine table.now.table_id table.now.key slots place.old }
     ensures { HasCalled fine call place.old result place.new }
 {

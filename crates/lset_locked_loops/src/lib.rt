@@ -2,7 +2,7 @@
 //! Herlihy and Shavit write them.
 //!
 //! Each step is that of the row of the list's table at which the seat's view stands (`lset_caller`). The contracts are those
-//! of the interpreter (`lset_rule::walk`).
+//! of the interpreter (`lset_rule::interpret`).
 #![tactic(auto)]
 
 mod coarse;

@@ -8,12 +8,10 @@ ghost use Rattle.lset_locked_loops.specs.Optimistic.{AreNeighbours, AtKey, HasLo
 
 use lset_caller::{Caller, Decision, Found, Node, Origin, decide, one_more};
 use lset_optimistic::OptimisticList;
-use lset_rule::{Pause, Place, Slots, Words};
-use lset_words::{Call, Reply};
+use lset_rule::{OwnSlots, Pause, TableSeat, Words};
+use lset_words::{Call, HEAD, Reply};
 use std::marker::{Brand, PhantomData};
 use std::sync::Wait;
-
-const HEAD: u64 = 0;
 
 /// Where the walk has stopped, and the key word that it saw at `pred`, or 0 at the head.
 #[derive(Clone, Copy)]
@@ -27,7 +25,7 @@ pub(crate) struct Stopped {
 fn walk<O: Origin, R: Wait, P: Pause>(
     rt: &R,
     caller: &Caller<OptimisticList, O, P>,
-    place: &mut Place,
+    place: &mut TableSeat,
     first: Node,
 ) -> Stopped
     requires { AtKey O.begun caller.now.slots 0 first.number 0 place.old }
@@ -57,7 +55,7 @@ fn walk<O: Origin, R: Wait, P: Pause>(
 fn reaches<O: Origin, R: Wait, P: Pause>(
     rt: &R,
     caller: &Caller<OptimisticList, O, P>,
-    place: &mut Place,
+    place: &mut TableSeat,
     stopped: Stopped,
 ) -> bool
     requires { HasLocked O.begun caller.now.slots stopped place.old }
@@ -87,7 +85,7 @@ fn reaches<O: Origin, R: Wait, P: Pause>(
 fn validate<O: Origin, R: Wait, P: Pause>(
     rt: &R,
     caller: &Caller<OptimisticList, O, P>,
-    place: &mut Place,
+    place: &mut TableSeat,
     stopped: Stopped,
 ) -> bool
     requires { HasLocked O.begun caller.now.slots stopped place.old }
@@ -107,9 +105,9 @@ fn validate<O: Origin, R: Wait, P: Pause>(
 /// Does what the call does at the key that was found, between two nodes that it has locked.
 fn act<O: Origin, P: Pause>(
     caller: &Caller<OptimisticList, O, P>,
-    place: &mut Place,
+    place: &mut TableSeat,
     found: Found,
-) -> (Slots, Reply)
+) -> (OwnSlots, Reply)
     requires { AreNeighbours O.begun caller.now.slots found place.old }
     ensures { Leaves O.begun found result place.new }
 {
@@ -130,11 +128,11 @@ fn act<O: Origin, P: Pause>(
 fn make<O: Origin, R: Wait, P: Pause>(
     rt: &R,
     table: &Words<OptimisticList>,
-    place: &mut Place,
-    slots: Slots,
+    place: &mut TableSeat,
+    slots: OwnSlots,
     call: Call,
     pause: &P,
-) -> (Slots, Reply)
+) -> (OwnSlots, Reply)
     requires begins { MayBegin optimistic O.begun slots place.old }
     requires call { IsCall O.begun call table.now.table_id table.now.key }
     ensures { HasAnswered optimistic O.begun result place.new }
@@ -171,11 +169,11 @@ fn make<O: Origin, R: Wait, P: Pause>(
 pub fn optimistic_on<R: Wait, P: Pause>(
     rt: &R,
     table: &Words<OptimisticList>,
-    place: &mut Place,
-    slots: Slots,
+    place: &mut TableSeat,
+    slots: OwnSlots,
     call: Call,
     pause: &P,
-) -> (Slots, Reply)
+) -> (OwnSlots, Reply)
     requires { MayCall optimistic table.now.table_id table.now.key slots place.old }
     ensures { HasCalled optimistic call place.old result place.new }
 {

@@ -14,9 +14,9 @@ use Rattle.lset_steps.specs.Laws.{Lawful}
 use Rattle.lset_steps.specs.ReadRows.{continued, leaves_with, first_row}
 use Rattle.lset_steps.specs.RowLaws.{HasReading}
 use Rattle.lset_steps.specs.BoundedReads.{BoundedReads, most_reads}
-use Rattle.lset_rule.specs.declared.slots.Slots.{Slots}
-use Rattle.lset_rule.specs.Slots.{resting}
-use Rattle.lset_rule.specs.Seats.{Place}
+use Rattle.lset_rule.specs.declared.slots.OwnSlots.{OwnSlots}
+use Rattle.lset_rule.specs.OwnSlots.{resting}
+use Rattle.lset_rule.specs.Seats.{TableSeat}
 use Rattle.lset_rule.specs.Calls.{Goes}
 use Rattle.lset_rule.proofs.Calls.{Comes}
 use Rattle.lset_rule.proofs.Ending.{steps_of, not_yet, one_more}
@@ -25,7 +25,7 @@ use Rattle.lset_caller.specs.Calling.{Holds, first, row}
 use Rattle.lset_caller.proofs.Calling.{no_rest}
 
 -- what the thread holds at the row pc
-abbrev pub reading : Begun → Slots → ℕ → ℕ → Local
+abbrev pub reading : Begun → OwnSlots → ℕ → ℕ → Local
 reading b own pc x = row own b.call pc None 0 x no_rest
 
 leaves_by : (found : Bool) (l : Local) → (if found then leaves_with True l else leaves_with False l)
@@ -33,7 +33,7 @@ leaves_by : (found : Bool) (l : Local) → (if found then leaves_with True l els
 leaves_by true l = refl
 leaves_by false l = refl
 
-module _ (m : Table) (laws : HasReading m) (b : Begun) (own : Slots) where
+module _ (m : Table) (laws : HasReading m) (b : Begun) (own : OwnSlots) where
   pub begins : (k : Key) → b.call ≡ Contains k → first m b own ≡ reading b own 20 0
   begins k is = laws.begins b.call (resting own) ∙ ap (λ pc. reading b own pc 0) (ap first_row is)
 
@@ -70,7 +70,7 @@ module _ (m : Table) (laws : HasReading m) (b : Begun) (own : Slots) where
 
 -- Two steps more are made, of those that are left.
 pub falls : (m : Table) → Lawful m → BoundedReads m → (b : Begun) (k : Key) → b.call ≡ Contains k → (l l' l'' : Local)
-    (s s' s'' : Place) (n n' : ℕ) → Holds m b l s → Goes m s.me.0 n s'.me.0 → Holds m b l' s' → Goes m s'.me.0 n' s''.me.0
+    (s s' s'' : TableSeat) (n n' : ℕ) → Holds m b l s → Goes m s.me.0 n s'.me.0 → Holds m b l' s' → Goes m s'.me.0 n' s''.me.0
     → Holds m b l'' s''
     → most_reads (sizes b.me.0.shape) - steps_of s''.me.0.under < most_reads (sizes b.me.0.shape) - steps_of s.me.0.under
 falls m law reads b k is l l' l'' s s' s'' n n' h g h' g' h'' =

@@ -11,7 +11,7 @@ ghost use Rattle.lset_loops.specs.Lazy.{AreNeighbours, AtKey, HasLocked, HasVali
 
 use lset_caller::{Caller, Decision, Found, Node, Origin, decide, one_more};
 use lset_lazy::LazyList;
-use lset_rule::{Pause, Place, Slots, Words};
+use lset_rule::{OwnSlots, Pause, TableSeat, Words};
 use lset_words::{Call, Key, Reply};
 use std::marker::{Brand, PhantomData};
 use std::sync::Wait;
@@ -21,7 +21,7 @@ use std::sync::Wait;
 fn walk<O: Origin, R: Wait, P: Pause>(
     rt: &R,
     caller: &Caller<LazyList, O, P>,
-    place: &mut Place,
+    place: &mut TableSeat,
     first: Node,
 ) -> Found
     requires { AtKey O.begun caller.now.slots 0 first.number place.old }
@@ -45,7 +45,7 @@ fn walk<O: Origin, R: Wait, P: Pause>(
 /// Whether `pred` leads to `curr`, and neither has a mark: then the answer is the node behind `curr`.
 fn validate<O: Origin, P: Pause>(
     caller: &Caller<LazyList, O, P>,
-    place: &mut Place,
+    place: &mut TableSeat,
     found: Found,
 ) -> Option<Node>
     requires { HasLocked O.begun caller.now.slots found place.old }
@@ -65,10 +65,10 @@ fn validate<O: Origin, P: Pause>(
 /// Does what the call does at the key that was found, between two nodes that it has locked.
 fn act<O: Origin, P: Pause>(
     caller: &Caller<LazyList, O, P>,
-    place: &mut Place,
+    place: &mut TableSeat,
     found: Found,
     succ: Node,
-) -> (Slots, Reply)
+) -> (OwnSlots, Reply)
     requires { AreNeighbours O.begun caller.now.slots found succ place.old }
     ensures { Leaves O.begun found result place.new }
 {
@@ -89,11 +89,11 @@ fn act<O: Origin, P: Pause>(
 fn make<O: Origin, R: Wait, P: Pause>(
     rt: &R,
     table: &Words<LazyList>,
-    place: &mut Place,
-    slots: Slots,
+    place: &mut TableSeat,
+    slots: OwnSlots,
     call: Call,
     pause: &P,
-) -> (Slots, Reply)
+) -> (OwnSlots, Reply)
     requires begins { MayBegin lazy O.begun slots place.old }
     requires call { IsCall O.begun call table.now.table_id table.now.key }
     requires walks { first_row O.begun.call ≡ 1 }
@@ -135,11 +135,11 @@ fn make<O: Origin, R: Wait, P: Pause>(
 pub fn lazy_add_on<R: Wait, P: Pause>(
     rt: &R,
     table: &Words<LazyList>,
-    place: &mut Place,
-    slots: Slots,
+    place: &mut TableSeat,
+    slots: OwnSlots,
     key: Key,
     pause: &P,
-) -> (Slots, Reply)
+) -> (OwnSlots, Reply)
     requires { MayCall lazy table.now.table_id table.now.key slots place.old }
     ensures { HasCalled lazy (Add key) place.old result place.new }
 {
@@ -150,11 +150,11 @@ pub fn lazy_add_on<R: Wait, P: Pause>(
 pub fn lazy_remove_on<R: Wait, P: Pause>(
     rt: &R,
     table: &Words<LazyList>,
-    place: &mut Place,
-    slots: Slots,
+    place: &mut TableSeat,
+    slots: OwnSlots,
     key: Key,
     pause: &P,
-) -> (Slots, Reply)
+) -> (OwnSlots, Reply)
     requires { MayCall lazy table.now.table_id table.now.key slots place.old }
     ensures { HasCalled lazy (Remove key) place.old result place.new }
 {

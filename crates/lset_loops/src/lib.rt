@@ -2,7 +2,7 @@
 //! `contains` of LazyList and of LockFreeList.
 //!
 //! Each step is that of the row of the list's table at which the seat's view stands (`lset_caller`). The contracts are those
-//! of the interpreter (`lset_rule::walk`, `lset_rule::read`).
+//! of the interpreter (`lset_rule::interpret`, `lset_rule::interpret_read`).
 #![tactic(auto)]
 
 mod lazy;

@@ -10,7 +10,7 @@ ghost use Rattle.lset_loops.specs.LockFree.{AtLink, HasTried, StopsAt};
 
 use lset_caller::{Caller, Decision, Found, Node, Origin, decide, one_more};
 use lset_lock_free::LockFreeList;
-use lset_rule::{Pause, Place, Slots, Words};
+use lset_rule::{OwnSlots, Pause, TableSeat, Words};
 use lset_words::{Call, Key, Reply};
 use std::marker::{Brand, PhantomData};
 use std::sync::Wait;
@@ -20,7 +20,7 @@ use std::sync::Wait;
 fn find<O: Origin, R: Wait, P: Pause>(
     rt: &R,
     caller: &Caller<LockFreeList, O, P>,
-    place: &mut Place,
+    place: &mut TableSeat,
     first: Node,
 ) -> Found
     requires { AtLink O.begun caller.now.slots 0 first.number place.old }
@@ -56,9 +56,9 @@ fn find<O: Origin, R: Wait, P: Pause>(
 /// Does what the call does at the key that was found. `None` where a link was another by then.
 fn attempt<O: Origin, P: Pause>(
     caller: &Caller<LockFreeList, O, P>,
-    place: &mut Place,
+    place: &mut TableSeat,
     found: Found,
-) -> Option<(Slots, Reply)>
+) -> Option<(OwnSlots, Reply)>
     requires { StopsAt O.begun caller.now.slots found place.old }
     ensures { HasTried O.begun caller.now.slots result place.new }
 {
@@ -88,11 +88,11 @@ fn attempt<O: Origin, P: Pause>(
 fn make<O: Origin, R: Wait, P: Pause>(
     rt: &R,
     table: &Words<LockFreeList>,
-    place: &mut Place,
-    slots: Slots,
+    place: &mut TableSeat,
+    slots: OwnSlots,
     call: Call,
     pause: &P,
-) -> (Slots, Reply)
+) -> (OwnSlots, Reply)
     requires begins { MayBegin lock_free O.begun slots place.old }
     requires call { IsCall O.begun call table.now.table_id table.now.key }
     requires walks { first_row O.begun.call ≡ 1 }
@@ -122,11 +122,11 @@ fn make<O: Origin, R: Wait, P: Pause>(
 pub fn lock_free_add_on<R: Wait, P: Pause>(
     rt: &R,
     table: &Words<LockFreeList>,
-    place: &mut Place,
-    slots: Slots,
+    place: &mut TableSeat,
+    slots: OwnSlots,
     key: Key,
     pause: &P,
-) -> (Slots, Reply)
+) -> (OwnSlots, Reply)
     requires { MayCall lock_free table.now.table_id table.now.key slots place.old }
     ensures { HasCalled lock_free (Add key) place.old result place.new }
 {
@@ -138,11 +138,11 @@ pub fn lock_free_add_on<R: Wait, P: Pause>(
 pub fn lock_free_remove_on<R: Wait, P: Pause>(
     rt: &R,
     table: &Words<LockFreeList>,
-    place: &mut Place,
-    slots: Slots,
+    place: &mut TableSeat,
+    slots: OwnSlots,
     key: Key,
     pause: &P,
-) -> (Slots, Reply)
+) -> (OwnSlots, Reply)
     requires { MayCall lock_free table.now.table_id table.now.key slots place.old }
     ensures { HasCalled lock_free (Remove key) place.old result place.new }
 {

@@ -12,7 +12,7 @@ ghost use Rattle.lset_lock_free.proofs.Rows.{lock_free_rows};
 use lset_caller::{Caller, Node, Origin};
 use lset_lazy::LazyList;
 use lset_lock_free::LockFreeList;
-use lset_rule::{Pause, Place, Slots, Words};
+use lset_rule::{OwnSlots, Pause, TableSeat, Words};
 use lset_steps::OpenReads;
 use lset_words::{Call, Key, Reply};
 use std::marker::{Brand, PhantomData};
@@ -43,11 +43,11 @@ fn reply_by_mark(link: u64) -> Reply
 
 fn make<M: ReadsByRows, O: Origin, P: Pause>(
     table: &Words<M>,
-    place: &mut Place,
-    slots: Slots,
+    place: &mut TableSeat,
+    slots: OwnSlots,
     key: Key,
     pause: &P,
-) -> (Slots, Reply)
+) -> (OwnSlots, Reply)
     requires begins { MayBegin M.table O.begun slots place.old }
     requires call { IsCall O.begun (Contains key) table.now.table_id table.now.key }
     ensures { HasAnswered M.table O.begun result place.new }
@@ -85,11 +85,11 @@ fn make<M: ReadsByRows, O: Origin, P: Pause>(
 /// reply. `pause` is asked after each step that does not answer. It waits for nobody, and returns.
 pub fn contains_on<M: ReadsByRows, P: Pause>(
     table: &Words<M>,
-    place: &mut Place,
-    slots: Slots,
+    place: &mut TableSeat,
+    slots: OwnSlots,
     key: Key,
     pause: &P,
-) -> (Slots, Reply)
+) -> (OwnSlots, Reply)
     requires { MayCall M.table table.now.table_id table.now.key slots place.old }
     ensures { HasCalled M.table (Contains key) place.old result place.new }
 {
@@ -107,10 +107,10 @@ impl Pause for Unasked {
 /// The same with no pause.
 pub fn contains_now_on<M: ReadsByRows>(
     table: &Words<M>,
-    place: &mut Place,
-    slots: Slots,
+    place: &mut TableSeat,
+    slots: OwnSlots,
     key: Key,
-) -> (Slots, Reply)
+) -> (OwnSlots, Reply)
     requires { MayCall M.table table.now.table_id table.now.key slots place.old }
     ensures { HasCalled M.table (Contains key) place.old result place.new }
 {

@@ -5,7 +5,7 @@ use Rattle.lset_rule.proofs.Ending.{steps_of}
 use Rattle.lset_rule.proofs.Ending.{steps_left}
 use Rattle.lset_words.specs.Words.{sizes}
 use Rattle.lset_steps.specs.BoundedReads.{most_reads}
-use Rattle.lset_rule.proofs.interpreter.read.Given as goal
+use Rattle.lset_rule.proofs.interpreter.interpret_read.Given as goal
 
 abbrev pub ghosts-start_on : goal.ghosts-start_on
 ghosts-start_on g a = record { call = a.call }

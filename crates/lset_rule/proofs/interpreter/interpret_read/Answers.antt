@@ -1,11 +1,11 @@
 use Rattle.std.proofs.Common.{rules, ◌≡◌, ◌<◌, None, sym, ap, ◌∙◌}
 use Rattle.lset_words.specs.declared.Call.TheVariants.{Contains}
 use Rattle.lset_words.specs.Words.{target, tail_word}
-use Rattle.lset_rule.specs.Slots.{slots_of}
+use Rattle.lset_rule.specs.OwnSlots.{slots_of}
 use Rattle.lset_rule.proofs.Calls.{first_comes, first_reached, comes_next, made}
 use Rattle.lset_rule.proofs.RowSteps.{may_step}
 use Rattle.lset_rule.proofs.Ending.{falls}
-use Rattle.lset_rule.proofs.interpreter.read.Goals as goal
+use Rattle.lset_rule.proofs.interpreter.interpret_read.Goals as goal
 
 pub next-requires : goal.next-requires
 next-requires g c = let low : target (Contains c.args.key) < tail_word = search rules in
