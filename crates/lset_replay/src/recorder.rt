@@ -22,7 +22,7 @@ ghost use Rattle.lset_replay.specs.Trace.{
   MayFollow,
 };
 
-use crate::places::{OpenCall, Linearized, found_in, needs_key};
+use crate::places::{Linearized, OpenCall, found_in, needs_key};
 use lset_history::{Changes, History, HistoryFault};
 use lset_steps::{Event, Told};
 use lset_words::{Call, Key, Reply};

@@ -17,4 +17,7 @@ pub use interpreter::{Pause, Spin, interpret, interpret_read};
 pub use rule::{Asking, Cutting, Follows, Learning, Onward, Starting, Taking};
 pub use slots::OwnSlots;
 pub use view::{Aside, Opened, OwnCall, Past, Under, View};
-pub use word_steps::{TableSeat, Words, exchange_first, exchange_on, load_first, load_on, start_on, step_on, store_first, store_on};
+pub use word_steps::{
+    TableSeat, Words, exchange_first, exchange_on, load_first, load_on, start_on, step_on,
+    store_first, store_on,
+};

@@ -24,7 +24,11 @@ pub fn has_failed(action: Action, seen: u64) -> bool {
 
 /// Makes the next step of a call that stands at the row `PC`. The row is a number that the compiler knows, so that of the
 /// machine's `next` and `feed` this row alone is left: its access, and what follows from what it saw.
-fn row_step<M: Machine, const PC: u8>(table: &Words<M>, place: &mut TableSeat, local: &Local) -> Stepped
+fn row_step<M: Machine, const PC: u8>(
+    table: &Words<M>,
+    place: &mut TableSeat,
+    local: &Local,
+) -> Stepped
     requires call { MayStep M.table table.now.table_id table.now.key local.now place.old }
     requires row { local.now.pc ≡ PC }
     ensures { HasStepped M.table local.now place.old result.fed place.new }
