@@ -1,7 +1,7 @@
 -- The two laws: what is read is the text of the draft, and the text of a draft is read.
-use Rattle.std.proofs.Common.{◌≡◌, ℕ, ◌<◌, ◌≤◌, ◌^◌, inl, inr, Bool, true, false, List, [], ◌∷◌, ◌++◌, codes, Some, Result, Ok, Err}
+use Rattle.std.proofs.Common.{◌≡◌, ℕ, ◌≤◌, inl, inr, Bool, true, false, List, codes, Option, Some, None, Result, Ok, Err}
 use Rattle.std.proofs.Common.{refl, ap, subst, ◌∙◌, arith}
-use Rattle.std.specs.Prelude.{IfOk, MatchResult}
+use Rattle.std.specs.Prelude.{IfOk, MatchOption, MatchResult}
 use Rattle.std.specs.Fmt.{decimal}
 use Rattle.std.specs.List.{AllByRecursion}
 use Rattle.std.specs.Str.{bytes_eq}
@@ -12,7 +12,6 @@ use Rattle.lset_text.specs.Forms.{have_form}
 use Rattle.lset_text.specs.Numbers.{number_in}
 use Rattle.lset_text.specs.Openings.{opening_form}
 use Rattle.lset_text.specs.Parts.{cut_at}
-use Rattle.lset_text.specs.Results.{◌>>=◌}
 use Rattle.lset_text.proofs.PartLaws.{Lacks-from_test}
 use Rattle.lset_text.proofs.NumberLaws.{number_again}
 use Rattle.lset_text.proofs.WordLaws.{same_bytes}
@@ -32,8 +31,13 @@ use Rattle.lset_schedule.proofs.TextLaws.{events_known, event_made, gives_ok}
 use Rattle.tool_draft.specs.declared.value.Draft.{Draft}
 use Rattle.tool_draft.specs.declared.value.DraftLine.{DraftLine}
 use Rattle.tool_draft.specs.declared.value.DraftLine.TheVariants.{Plain, Out, To}
-use Rattle.tool_draft.specs.Drafts.{DraftValue, view, title, header_in, pieces_of, draft_lines, draft_text, IsDraftLine, IsDraft}
-use Rattle.tool_draft.specs.DraftReading.{out_kind, to_kind, events, draft_told, reading}
+use Rattle.tool_draft.specs.Drafts.{DraftValue, view, title, header_in, pieces_of, draft_text, IsDraftLine, IsDraft}
+use Rattle.tool_draft.specs.DraftReading.{to_kind, events, draft_told, reading}
+
+-- where nothing is told, a second thing is known too
+pub also_none : {A B R : Type 0} (P : R → Type 0) (o : Option R) → (A → B) → MatchOption o A P → MatchOption o B P
+also_none P None more a = more a
+also_none P (Some r) more p = p
 
 -- ---- the kinds of lines of events
 
@@ -73,11 +77,23 @@ draft_made (Out t) is = inl ((tt, (t, (tt, tt))), refl, (tt, ((omega arith, omeg
 draft_made (To t row) is =
     inr (refl, inl ((tt, (t, (tt, (row, tt)))), refl, (tt, ((omega arith, omega (arith, is.0)), (tt, ((is.1, is.2), tt))))))
 draft_made (Plain (Begin t c)) is =
-    inr (refl, inr (not_to t c, made_as Plain Two plan.pieces_of pieces_of (λ l. refl) schedule.events.kinds (Begin t c)
-      (event_made Two (Begin t c) is)))
+    inr (
+      refl,
+      inr (
+        not_to t c,
+        made_as Plain Two plan.pieces_of pieces_of (λ l. refl) schedule.events.kinds (Begin t c)
+            (event_made Two (Begin t c) is),
+      ),
+    )
 draft_made (Plain (Go t n)) is =
-    inr (rw (not_out n is.1 is.2) refl, inr (refl, made_as Plain Two plan.pieces_of pieces_of (λ l. refl) schedule.events.kinds (Go t n)
-      (event_made Two (Go t n) is)))
+    inr (
+      rw (not_out n is.1 is.2) refl,
+      inr (
+        refl,
+        made_as Plain Two plan.pieces_of pieces_of (λ l. refl) schedule.events.kinds (Go t n)
+            (event_made Two (Go t n) is),
+      ),
+    )
 
 -- it has three pieces or four
 no_opening : (l : DraftLine) → IsDraftLine l → have_form Two opening_form (pieces_of l) ≡ false

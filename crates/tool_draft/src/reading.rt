@@ -29,9 +29,9 @@ fn to(thread: &[u8], row: &[u8]) -> Result<DraftLine, Cause>
 
 /// What three pieces tell that are `go`, a thread and `out`; `None` where the words are others.
 fn out_in(word: &[u8], thread: &[u8], end: &[u8]) -> Option<Result<DraftLine, Cause>>
-    ensures { MatchOption result
-        (have_form Version.Two out_kind.0 (word.now ∷ thread.now ∷ end.now ∷ []) ≡ false)
-        (λ told. told ≡ first_of Version.Two causes events.kinds (word.now ∷ thread.now ∷ end.now ∷ [])) }
+    ensures { (version : Version) → MatchOption result
+        (have_form version out_kind.0 (word.now ∷ thread.now ∷ end.now ∷ []) ≡ false)
+        (λ told. told ≡ first_of version causes events.kinds (word.now ∷ thread.now ∷ end.now ∷ [])) }
 {
     if word == b"go".as_slice() && end == b"out".as_slice() {
         Some(out(thread))
@@ -42,9 +42,9 @@ fn out_in(word: &[u8], thread: &[u8], end: &[u8]) -> Option<Result<DraftLine, Ca
 
 /// What four pieces tell that are `go`, a thread, `to` and a row; `None` where the words are others.
 fn to_in(word: &[u8], thread: &[u8], place: &[u8], row: &[u8]) -> Option<Result<DraftLine, Cause>>
-    ensures { MatchOption result
-        (have_form Version.Two to_kind.0 (word.now ∷ thread.now ∷ place.now ∷ row.now ∷ []) ≡ false)
-        (λ told. told ≡ first_of Version.Two causes events.kinds (word.now ∷ thread.now ∷ place.now ∷ row.now ∷ [])) }
+    ensures { (version : Version) → MatchOption result
+        (have_form version to_kind.0 (word.now ∷ thread.now ∷ place.now ∷ row.now ∷ []) ≡ false)
+        (λ told. told ≡ first_of version causes events.kinds (word.now ∷ thread.now ∷ place.now ∷ row.now ∷ [])) }
 {
     if word == b"go".as_slice() && place == b"to".as_slice() {
         Some(to(thread, row))
@@ -55,10 +55,10 @@ fn to_in(word: &[u8], thread: &[u8], place: &[u8], row: &[u8]) -> Option<Result<
 
 /// What a line tells that has the words of one without a count; `None` for any other line.
 fn stop(line: &[u8]) -> Option<Result<DraftLine, Cause>>
-    ensures { MatchOption result
-        ((have_form Version.Two out_kind.0 (cut_at 32 line.now) ≡ false)
-        × (have_form Version.Two to_kind.0 (cut_at 32 line.now) ≡ false))
-        (λ told. told ≡ line_in Version.Two causes events.kinds line.now) }
+    ensures { (version : Version) → MatchOption result
+        ((have_form version out_kind.0 (cut_at 32 line.now) ≡ false)
+        × (have_form version to_kind.0 (cut_at 32 line.now) ≡ false))
+        (λ told. told ≡ line_in version causes events.kinds line.now) }
 {
     let (first, rest) = cut(line, b' ')?;
     let (second, rest) = cut(rest, b' ')?;
