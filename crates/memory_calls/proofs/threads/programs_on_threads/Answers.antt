@@ -2,7 +2,7 @@ use Rattle.std.proofs.Common.{Option, Some, None, IfSome, subst, sym, rules}
 use Rattle.lset_work.specs.declared.fault.WorkCause.{WorkCause}
 use Rattle.lset_work.specs.declared.fault.WorkCause.TheVariants.{Programs, Spawn, Gate, Memory}
 use Rattle.lset_work.specs.Programs.{GivesBack}
-use Rattle.growth_tests.proofs.threads.programs_on_threads.Goals as goal
+use Rattle.memory_calls.proofs.threads.programs_on_threads.Goals as goal
 
 -- what holds of what was given holds of what comes back
 back_has : {G : Type 0} (P : G → Type 0) (given : G) (cause : WorkCause) (back : Option G) → GivesBack given cause back → P given
