@@ -8,7 +8,7 @@ use Rattle.lset_text.specs.Parts.{cut_at}
 use Rattle.lset_text.specs.Results.{◌>>=◌, map_fault}
 use Rattle.lset_text.specs.Lines.{Grammar, lines_from, Leads, IsFaultlessTo, IsGoodLine, Stands}
 use Rattle.lset_text.proofs.PartLaws.{some_part}
-use Rattle.lset_text.proofs.ReadingLaws.{bind_ok, map_fault_ok, ok_is}
+use Rattle.lset_text.proofs.ReadingLaws.{bind_ok, map_fault_ok}
 
 -- ---- one whole line
 
