@@ -1,11 +1,6 @@
--- Lines of two pieces, and the lines before the keys.
-use Rattle.std.proofs.Common.{◌≡◌, ℕ, ◌+◌, ◌<◌, true, false, List, [], ◌∷◌, length, None, refl, arith}
-use Rattle.tool_serve.specs.Keys.{Lines, is_word_and_piece, two_in_pieces, without_at}
-
--- three pieces are too many
-pub two_many : (a b : List ℕ) (parts : List (List ℕ)) → 0 < length parts → None ≡ two_in_pieces (a ∷ b ∷ parts)
-two_many a b [] some = absurd (omega arith)
-two_many a b (c ∷ more) some = refl
+-- The lines before the keys.
+use Rattle.std.proofs.Common.{◌≡◌, ℕ, ◌+◌, ◌<◌, true, false, List, [], ◌∷◌, length, refl, arith}
+use Rattle.tool_serve.specs.Keys.{Lines, is_word_and_piece, without_at}
 
 abbrev pub lines : ℕ → List (List ℕ) → Lines
 lines line parts = record { line = line; parts = parts }
