@@ -1,7 +1,7 @@
 -- What a server prints is read: its head is passed over, and each line of a key tells its key.
 use Rattle.std.proofs.Common.{◌≡◌, ℕ, ◌+◌, ◌<◌, ◌≤◌, ◌^◌, true, false, List, [], ◌∷◌, ◌++◌, length, map, codes}
 use Rattle.std.proofs.Common.{Ok, refl, sym, ap, subst, ◌∙◌, arith, append_assoc, length-append}
-use Rattle.std.specs.Prelude.{All}
+use Rattle.std.specs.Prelude.{All, if◌then◌else◌}
 use Rattle.std.specs.Fmt.{decimal}
 use Rattle.std.specs.List.{AllByRecursion}
 use Rattle.std.specs.Str.{bytes_eq}
@@ -21,23 +21,16 @@ use Rattle.lset_text.proofs.HeaderLaws.{number_line_lacks}
 use Rattle.lset_text.proofs.OpeningLaws.{above_before}
 use Rattle.lset_text.proofs.FormLaws.{cut_form}
 use Rattle.lset_text.proofs.LineLaws.{lines_again}
-use Rattle.tool_serve.specs.Keys.{AreKeys, Lines, is_word_and_piece, key_causes, key_lines, key_in, key_grammar, keys_in}
+use Rattle.tool_serve.specs.Keys.{AreKeys, Lines, key_causes, key_lines, key_in, key_grammar, keys_in}
 use Rattle.tool_serve.specs.Keys.{without, without_at}
 use Rattle.tool_serve.specs.Printed.{PrintedKeysAreRead}
 use Rattle.tool_serve.specs.Serving.{first_line, served_text}
-use Rattle.tool_serve.proofs.HeadLaws.{lines, without_goes, without_stays}
+use Rattle.tool_serve.proofs.HeadLaws.{lines}
 
 -- ---- a line of a word and a piece
 
 abbrev pair_line : List ℕ → List ℕ → List ℕ
 pair_line word piece = line_of (word ∷ piece ∷ [])
-
-told_by : (word other piece : List ℕ) → Lacks 32 word → Lacks 32 piece → is_word_and_piece other (pair_line word piece) ≡ bytes_eq
-    word other
-told_by word other piece lacks plain = rw (cut_line word (piece ∷ []) lacks (plain, tt)) refl
-
-letters_lack : (byte : ℕ) (word : List ℕ) → byte < 97 → all_from 97 word ≡ true → Lacks byte word
-letters_lack byte word low is = Lacks-below 97 byte word low is
 
 plain_number : (n : ℕ) → n < 2 ^ 64 → Lacks 32 (decimal n)
 plain_number n small = decimal_lacks 32 n (omega arith) small
@@ -82,28 +75,28 @@ key_lines_lack (k ∷ ks) low = (
 
 -- ---- the head
 
--- a line of the head is passed over where it is the one that is due
-passes : (word piece : List ℕ) (line : ℕ) (parts : List (List ℕ)) → Lacks 32 word → Lacks 32 piece → bytes_eq word word ≡ true →
-    0 < length parts
-    → without_at word line (pair_line word piece ∷ parts) ≡ lines (line + 1) parts
-passes word piece line parts lacks plain same some =
-    sym (without_goes word line (pair_line word piece) parts some (told_by word word piece lacks plain ∙ same))
+-- a line of a word and a piece is passed over where its word is the one that is due, and stays where it is another
+pair_head : (word other piece : List ℕ) (line : ℕ) (parts : List (List ℕ)) → all_from 97 word ≡ true → Lacks 32 piece
+    → 0 < length parts
+    → without_at other line (pair_line word piece ∷ parts)
+    ≡ (if bytes_eq word other then lines (line + 1) parts else lines line (pair_line word piece ∷ parts))
+pair_head word other piece line [] letters plain some = absurd (omega arith)
+pair_head word other piece line (y ∷ more) letters plain some =
+    rw (cut_line word (piece ∷ []) (Lacks-below 97 32 word (omega arith) letters) (plain, tt)) refl
 
--- and stays where it is another
-stays : (word other piece : List ℕ) (line : ℕ) (parts : List (List ℕ)) → Lacks 32 word → Lacks 32 piece →
-    bytes_eq word other ≡ false
-    → without_at other line (pair_line word piece ∷ parts) ≡ lines line (pair_line word piece ∷ parts)
-stays word other piece line parts lacks plain differs =
-    sym (without_stays other line (pair_line word piece) parts (told_by word other piece lacks plain ∙ differs))
+number_head : (word other : List ℕ) (n line : ℕ) (parts : List (List ℕ)) → all_from 97 word ≡ true → n < 2 ^ 64
+    → 0 < length parts
+    → without_at other line (number_line word n ∷ parts)
+    ≡ (if bytes_eq word other then lines (line + 1) parts else lines line (number_line word n ∷ parts))
+number_head word other n line parts letters small some = pair_head word other (decimal n) line parts letters (plain_number n small) some
 
 -- the lines of keys stay
 keys_stay : (other : List ℕ) (line : ℕ) (keys : List ℕ) → bytes_eq (codes "key") other ≡ false → All (λ k. k ≤ max_number) keys
     → without_at other line (key_parts keys) ≡ lines line (key_parts keys)
 keys_stay other line [] differs low = refl
 keys_stay other line (k ∷ ks) differs low =
-    let small = All-head (λ k. k ≤ max_number) k ks low in
-    stays (codes "key") other (decimal k) line (key_parts ks) (letters_lack 32 (codes "key") (omega arith) refl)
-    (plain_number k (omega (arith, small))) differs
+    number_head (codes "key") other k line (key_parts ks) refl (omega (arith, All-head (λ k. k ≤ max_number) k ks low)) (some_parts ks)
+    ∙ rw differs refl
 
 abbrev head_of : List (List ℕ) → Lines
 head_of parts = without (codes "calls") (without (codes "sessions") (without (codes "listening") (lines 1 parts)))
@@ -135,23 +128,18 @@ module _ (port sessions calls : ℕ) (keys : List ℕ) (port_fits : port < 2 ^ 1
 
   after_calls : (line : ℕ) → without (codes "calls") (lines line (calls_line ∷ key_parts keys)) ≡ lines (line + 1)
       (key_parts keys)
-  after_calls line =
-      passes (codes "calls") (decimal calls) line (key_parts keys) (letters_lack 32 (codes "calls") (omega arith) refl)
-      (plain_number calls calls_fit) refl (some_parts keys)
+  after_calls line = number_head (codes "calls") (codes "calls") calls line (key_parts keys) refl calls_fit (some_parts keys)
 
   after_sessions : (line : ℕ) → without (codes "sessions") (lines line (sessions_line ∷ calls_line ∷ key_parts keys)) ≡ lines
       (line + 1) (calls_line ∷ key_parts keys)
   after_sessions line =
-      passes (codes "sessions") (decimal sessions) line (calls_line ∷ key_parts keys)
-      (letters_lack 32 (codes "sessions") (omega arith) refl)
-      (plain_number sessions sessions_fit) refl (omega arith)
+      number_head (codes "sessions") (codes "sessions") sessions line (calls_line ∷ key_parts keys) refl sessions_fit (omega arith)
 
   after_listening : without (codes "listening") (lines 1 (listening_line ∷ sessions_line ∷ calls_line ∷ key_parts keys)) ≡ lines 2
       (sessions_line ∷ calls_line ∷ key_parts keys)
   after_listening =
-      passes (codes "listening") place 1 (sessions_line ∷ calls_line ∷ key_parts keys)
-      (letters_lack 32 (codes "listening") (omega arith) refl)
-      (place_lacks 32 (omega arith)) refl (omega arith)
+      pair_head (codes "listening") (codes "listening") place 1 (sessions_line ∷ calls_line ∷ key_parts keys) refl
+      (place_lacks 32 (omega arith)) (omega arith)
 
   -- the head of each of the three texts
   whole_head : head_of (listening_line ∷ sessions_line ∷ calls_line ∷ key_parts keys) ≡ lines 4 (key_parts keys)
@@ -161,9 +149,8 @@ module _ (port sessions calls : ℕ) (keys : List ℕ) (port_fits : port < 2 ^ 1
 
   served_head : head_of (sessions_line ∷ calls_line ∷ key_parts keys) ≡ lines 3 (key_parts keys)
   served_head =
-      let first = stays (codes "sessions") (codes "listening") (decimal sessions) 1 (calls_line ∷ key_parts keys)
-      (letters_lack 32 (codes "sessions") (omega arith) refl)
-      (plain_number sessions sessions_fit) refl in
+      let first = number_head (codes "sessions") (codes "listening") sessions 1 (calls_line ∷ key_parts keys) refl sessions_fit
+      (omega arith) in
       ap (λ l. without (codes "calls") (without (codes "sessions") l)) first ∙ ap (without (codes "calls")) (after_sessions 1)
       ∙ after_calls 2
 
@@ -190,7 +177,7 @@ module _ (port sessions calls : ℕ) (keys : List ℕ) (port_fits : port < 2 ^ 1
   whole_lack : AllByRecursion (Lacks 10) (listening_line ∷ sessions_line ∷ calls_line ∷ map key_line keys)
   whole_lack = (
     line_lacks (codes "listening" ∷ place ∷ []) (
-      letters_lack 10 (codes "listening") (omega arith) refl,
+      Lacks-below 97 10 (codes "listening") (omega arith) refl,
       (place_lacks 10 (omega arith), tt),
     ),
     served_lack,
