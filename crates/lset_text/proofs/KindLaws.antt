@@ -11,7 +11,7 @@ use Rattle.lset_text.proofs.PartLaws.{line_from_cut}
 use Rattle.lset_text.proofs.ReadingLaws.{or_fail_ok, ok_is}
 use Rattle.lset_text.proofs.FormLaws.{form_ok, form_again, cut_form, are_pieces, form_line_lacks, too_many}
 
-made_ok : {X Y C : Type 0} (f : X → Y) (r : Result X C) (y : Y) → made f r ≡ Ok y → (x : X) × (r ≡ Ok x) × (f x ≡ y)
+pub made_ok : {X Y C : Type 0} (f : X → Y) (r : Result X C) (y : Y) → made f r ≡ Ok y → (x : X) × (r ≡ Ok x) × (f x ≡ y)
 made_ok f (Ok x) y e = (x, refl, ok_is (f x) y e)
 made_ok f (Err d) y e = absurd cc
 
