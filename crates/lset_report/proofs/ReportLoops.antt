@@ -37,14 +37,15 @@ use Rattle.lset_report.specs.ReportReader.{so_far, state, IsFull}
 
 -- ---- the judgement of a line
 
-kept_if : (b : Bool) (d : ReportCause) (l k : Line) → cond b (Ok l) (Err d) ≡ Ok k → (b ≡ true) × (l ≡ k)
-kept_if true d l k e = (refl, cc)
-kept_if false d l k e = absurd cc
+pub kept_if : {A E : Type 0} (b : Bool) (d : E) (x y : A) → cond b (Ok x) (Err d) ≡ Ok y → (b ≡ true) × (x ≡ y)
+kept_if true d x y e = (refl, ok_is x y e)
+kept_if false d x y e = absurd cc
 
-counted_ok : (most count : ℕ) (l k : Line) → counted most count l ≡ Ok k → (count < most) × (l ≡ k)
-counted_ok most count l k e =
-    let kept = kept_if (ltb count most) wrong.TooMany l k e in
-    (ltb-true count most kept.0, kept.1)
+kept_twice : (a b : Bool) (c d : ReportCause) (l k : Line) → (cond a (Ok l) (Err c) >>= λ m. cond b (Ok m) (Err d)) ≡ Ok k
+    → (l ≡ k) × (a ≡ true) × (b ≡ true)
+kept_twice true true c d l k e = (ok_is l k e, refl, refl)
+kept_twice true false c d l k e = absurd cc
+kept_twice false b c d l k e = absurd cc
 
 -- a good line: there is room for it, and an opening key rises, and a call follows
 abbrev pub IsGood : ReportValue → Line → Type 0
@@ -58,18 +59,18 @@ IsGood r End = Unit {0}
 
 pub judged_ok : (r : ReportValue) (l k : Line) → judged r l ≡ Ok k → (l ≡ k) × IsGood r l
 judged_ok r (Opening n) k e =
-    let one = bind_ok (counted MOST_OPENING (length r.history.opening.keys) (Opening n)) (rising r n) k e in
-    let room = counted_ok MOST_OPENING (length r.history.opening.keys) (Opening n) one.0 one.1 in
-    let test = kept_if (is_above r.history.opening.keys n) wrong.Opening one.0 k one.2 in
-    (room.1 ∙ test.1, (room.0, test.0))
+    let keys = r.history.opening.keys in
+    let kept = kept_twice (ltb (length keys) MOST_OPENING) (is_above keys n) wrong.TooMany wrong.Opening (Opening n) k e in
+    (kept.0, (ltb-true _ _ kept.1, kept.2))
 judged_ok r (Call number x) k e =
-    let one = bind_ok (counted MOST_CALLS (length r.history.calls) (Call number x)) (following r number x) k e in
-    let room = counted_ok MOST_CALLS (length r.history.calls) (Call number x) one.0 one.1 in
-    let test = kept_if (is_next r number x) wrong.History one.0 k one.2 in
-    let parts = and_parts (eqb number (length r.history.calls)) _ test.0 in
-    (room.1 ∙ test.1, (room.0, eqb-true _ _ parts.0, parts.1))
-judged_ok r (Place p) k e = let room = counted_ok MOST_PLACES (length r.order) (Place p) k e in (room.1, room.0)
-judged_ok r (Key n) k e = let room = counted_ok (most_keys r.version) (length r.keys) (Key n) k e in (room.1, room.0)
+    let calls = r.history.calls in
+    let kept = kept_twice (ltb (length calls) MOST_CALLS) (is_next r number x) wrong.TooMany wrong.History (Call number x) k e in
+    let parts = and_parts (eqb number (length calls)) _ kept.2 in
+    (kept.0, (ltb-true _ _ kept.1, eqb-true _ _ parts.0, parts.1))
+judged_ok r (Place p) k e =
+    let kept = kept_if (ltb (length r.order) MOST_PLACES) wrong.TooMany (Place p) k e in (kept.1, ltb-true _ _ kept.0)
+judged_ok r (Key n) k e =
+    let kept = kept_if (ltb (length r.keys) (most_keys r.version)) wrong.TooMany (Key n) k e in (kept.1, ltb-true _ _ kept.0)
 judged_ok r End k e = (cc, tt)
 
 pub judged_good : (r : ReportValue) (l : Line) → IsGood r l → judged r l ≡ Ok l

@@ -50,7 +50,7 @@ use Rattle.lset_report.proofs.ReportHistories.{history_more, may_again}
 use Rattle.lset_report.proofs.ReportLines.{line_text, IsEndLine, IsLine, Reaches, line_ok, line_free, IsTold, line_again, later, reached}
 use Rattle.lset_report.proofs.ReportLines.{opening_told, call_told_so, place_told, key_told, end_told_so, call_comes, place_comes}
 use Rattle.lset_report.proofs.ReportLines.{key_comes}
-use Rattle.lset_report.proofs.ReportLoops.{IsGood, judged_good, line_read, report_told}
+use Rattle.lset_report.proofs.ReportLoops.{kept_if, IsGood, judged_good, line_read, report_told}
 
 calls_pushed : (n : ℕ) (xs : List CallRecord) (x : CallRecord)
     → call_lines n (xs ++ x ∷ []) ≡ call_lines n xs ++ call_line (n + length xs) x ∷ []
@@ -62,52 +62,52 @@ calls_pushed n (y ∷ ys) x =
 
 -- ---- the lines of the report so far
 
-abbrev lines_so_far : ReportValue → List (List ℕ)
-lines_so_far r = header_lines (title r.version) (header_in r) ++ opening_lines r.history.opening.keys
-    ++ call_lines 0 r.history.calls ++ map place_line r.order ++ map key_line r.keys
+abbrev header : ReportValue → List (List ℕ)
+header r = header_lines (title r.version) (header_in r)
+
+abbrev to_calls : ReportValue → List (List ℕ)
+to_calls r = header r ++ opening_lines r.history.opening.keys
+
+abbrev to_order : ReportValue → List (List ℕ)
+to_order r = to_calls r ++ call_lines 0 r.history.calls
+
+abbrev to_keys : ReportValue → List (List ℕ)
+to_keys r = to_order r ++ map place_line r.order
+
+abbrev to_end : ReportValue → List (List ℕ)
+to_end r = to_keys r ++ map key_line r.keys
 
 abbrev lines_at : SoFar → List (List ℕ)
-lines_at s = cond (is_done s.section) (lines_so_far s.report ++ last_line ∷ []) (lines_so_far s.report)
+lines_at s = cond (is_done s.section) (to_end s.report ++ last_line ∷ []) (to_end s.report)
 
--- where nothing stands behind some lines, one more stands behind them
-last_of_one : (f o k : List (List ℕ)) (y : List ℕ) → k ≡ [] → f ++ (o ++ y ∷ []) ++ k ≡ f ++ o ++ k ++ y ∷ []
-last_of_one f o k y none = rw none (simp (append-nil, append_assoc))
+-- where nothing stands behind the lines of a section, one more stands behind them
+one_opening : (f : List (List ℕ)) (os ks : List ℕ) (cs : List CallRecord) (ps : List Placed) (k : ℕ) → cs ≡ [] → ps ≡ [] → ks ≡ []
+    → f ++ opening_lines (os ++ k ∷ []) ++ call_lines 0 cs ++ map place_line ps ++ map key_line ks
+    ≡ f ++ opening_lines os ++ call_lines 0 cs ++ map place_line ps ++ map key_line ks ++ opening_line k ∷ []
+one_opening f os ks cs ps k c p n = rw (c, p, n, map_push opening_line os k) (simp (append-nil, append_assoc))
 
-last_of_two : (f o p k : List (List ℕ)) (y : List ℕ) → p ≡ [] → k ≡ [] → f ++ (o ++ y ∷ []) ++ p ++ k ≡ f ++ o ++ p ++ k ++ y ∷ []
-last_of_two f o p k y no_p no_k = rw (no_p, no_k) (simp (append-nil, append_assoc))
+one_call : (f : List (List ℕ)) (cs : List CallRecord) (ps : List Placed) (ks : List ℕ) (x : CallRecord) → ps ≡ [] → ks ≡ []
+    → f ++ call_lines 0 (cs ++ x ∷ []) ++ map place_line ps ++ map key_line ks
+    ≡ f ++ call_lines 0 cs ++ map place_line ps ++ map key_line ks ++ call_line (0 + length cs) x ∷ []
+one_call f cs ps ks x p n = rw (p, n, calls_pushed 0 cs x) (simp (append-nil, append_assoc))
 
-last_of_three : (f o c p k : List (List ℕ)) (y : List ℕ) → c ≡ [] → p ≡ [] → k ≡ []
-    → f ++ (o ++ y ∷ []) ++ c ++ p ++ k ≡ f ++ o ++ c ++ p ++ k ++ y ∷ []
-last_of_three f o c p k y no_c no_p no_k = rw (no_c, no_p, no_k) (simp (append-nil, append_assoc))
+one_place : (f : List (List ℕ)) (ps : List Placed) (ks : List ℕ) (p : Placed) → ks ≡ []
+    → f ++ map place_line (ps ++ p ∷ []) ++ map key_line ks ≡ f ++ map place_line ps ++ map key_line ks ++ place_line p ∷ []
+one_place f ps ks p n = rw (n, map_push place_line ps p) (simp (append-nil, append_assoc))
+
+one_key : (f : List (List ℕ)) (ks : List ℕ) (k : ℕ) → f ++ map key_line (ks ++ k ∷ []) ≡ f ++ map key_line ks ++ key_line k ∷ []
+one_key f ks k = rw (map_push key_line ks k) (simp append_assoc)
 
 -- ONE MORE LINE stands after those so far
 more_lines : (r : ReportValue) (l : Line) → Reaches (section_after l) r → IsGood r l
-    → lines_at (record { section = section_after l; report = with_line r l }) ≡ lines_so_far r ++ line_text l ∷ []
+    → lines_at (record { section = section_after l; report = with_line r l }) ≡ to_end r ++ line_text l ∷ []
 more_lines r (told.Opening k) next good =
-    let front = header_lines (title r.version) (header_in r) in
-    let keys = r.history.opening.keys in
-    ap (λ (ls : List (List ℕ)). front ++ ls ++ call_lines 0 r.history.calls ++ map place_line r.order ++ map key_line r.keys)
-    (map_push opening_line keys k)
-    ∙ last_of_three front (opening_lines keys) (call_lines 0 r.history.calls) (map place_line r.order) (map key_line r.keys)
-    (opening_line k) (ap (call_lines 0) next.0) (ap (map place_line) next.1) (ap (map key_line) next.2)
+    one_opening (header r) r.history.opening.keys r.keys r.history.calls r.order k next.0 next.1 next.2
 more_lines r (told.Call n x) next good =
-    let front = header_lines (title r.version) (header_in r) ++ opening_lines r.history.opening.keys in
-    let calls = r.history.calls in
-    let number : 0 + length calls ≡ n = omega (arith, good.1) in
-    ap (λ (ls : List (List ℕ)). front ++ ls ++ map place_line r.order ++ map key_line r.keys) (calls_pushed 0 calls x
-    ∙ ap (λ m. call_lines 0 calls ++ call_line m x ∷ []) number)
-    ∙ last_of_two front (call_lines 0 calls) (map place_line r.order) (map key_line r.keys) (call_line n x)
-    (ap (map place_line) next.0) (ap (map key_line) next.1)
-more_lines r (told.Place p) next good =
-    let front = header_lines (title r.version) (header_in r) ++ opening_lines r.history.opening.keys
-    ++ call_lines 0 r.history.calls in
-    ap (λ (ls : List (List ℕ)). front ++ ls ++ map key_line r.keys) (map_push place_line r.order p)
-    ∙ last_of_one front (map place_line r.order) (map key_line r.keys) (place_line p) (ap (map key_line) next)
-more_lines r (told.Key k) next good =
-    let front = header_lines (title r.version) (header_in r) ++ opening_lines r.history.opening.keys
-    ++ call_lines 0 r.history.calls ++ map place_line r.order in
-    ap (λ (ls : List (List ℕ)). front ++ ls) (map_push key_line r.keys k)
-    ∙ sym (append_assoc front (map key_line r.keys) (key_line k ∷ []))
+    let number : 0 + length r.history.calls ≡ n = omega (arith, good.1) in
+    one_call (to_calls r) r.history.calls r.order r.keys x next.0 next.1 ∙ ap (λ m. to_end r ++ call_line m x ∷ []) number
+more_lines r (told.Place p) next good = one_place (to_order r) r.order r.keys p next
+more_lines r (told.Key k) next good = one_key (to_keys r) r.keys k
 more_lines r told.End next good = refl
 
 -- ---- and the report keeps its limits
@@ -197,7 +197,7 @@ one_line s t x holds is =
     let l = made_ok (with_told s) (line_after s.section r x) t is in
     let read = line_read s.section r x l.0 l.1 in
     let found = line_ok r.version s.section r x l.0 holds.1 read.0 in
-    let before : lines_so_far r ≡ lines_at s = rw (may_come r.version s.section x l.0 read.0) refl in
+    let before : to_end r ≡ lines_at s = rw (may_come r.version s.section x l.0 read.0) refl in
     let lines = more_lines r l.0 found.1.1 read.1 ∙ ap (λ (ls : List (List ℕ)). ls ++ line_text l.0 ∷ []) before
     ∙ ap (λ (y : List ℕ). lines_at s ++ y ∷ []) (sym found.0) in
     subst (λ (u : SoFar). IsSoFar u × (lines_at u ≡ lines_at s ++ x ∷ []) × Lacks 10 x) l.2 (
@@ -206,12 +206,8 @@ one_line s t x holds is =
       line_free r.version s.section r x l.0 holds.1 read.0,
     )
 
-test_ok : {A E : Type 0} (b : Bool) (d : E) (x y : A) → cond b (Ok x) (Err d) ≡ Ok y → (b ≡ true) × (x ≡ y)
-test_ok true d x y e = (refl, ok_is x y e)
-test_ok false d x y e = absurd cc
-
 same_end : (s t : SoFar) → ends s ≡ Ok t → s ≡ t
-same_end s t is = (test_ok (is_done s.section) wrong.NotEnded s t is).1
+same_end s t is = (kept_if (is_done s.section) wrong.NotEnded s t is).1
 
 opens_empty : (v : Version) → HasOpening v []
 opens_empty One = refl
@@ -241,7 +237,7 @@ is_found bytes r is =
     let last = bind_ok (text_from (text v) (cut_at 10 bytes)) report_told r is in
     let found = text_found (text v) IsSoFar lines_at (starts v) (λ s t x h e. let m = one_line s t x h e in (m.0, m.1)) same_end
     bytes last.0 last.1 in
-    let done = (test_ok (is_done last.0.section) wrong.NotEnded last.0 last.0 found.1).0 in
+    let done = (kept_if (is_done last.0.section) wrong.NotEnded last.0 last.0 found.1).0 in
     subst (λ (q : ReportValue). IsReport q × (bytes ≡ report_text q)) (ok_is last.0.report r last.2)
     (found.2.0, found.0 ∙ rw done refl)
 
@@ -459,22 +455,6 @@ words_found bytes (Err e) gives = tt
 
 -- ---- as what a writer writes
 
-pub text_parts : (r : ReportValue)
-    → report_text r ≡ text_of (header_lines (title r.version) (header_in r)) ++ text_of (opening_lines r.history.opening.keys)
-    ++ text_of (call_lines 0 r.history.calls) ++ text_of (map place_line r.order) ++ text_of (map key_line r.keys)
-    ++ ended last_line
-text_parts r =
-    let header = header_lines (title r.version) (header_in r) in
-    let openings = opening_lines r.history.opening.keys in
-    let calls = call_lines 0 r.history.calls in
-    let places = map place_line r.order in
-    let keys = map key_line r.keys in
-    let last : text_of (last_line ∷ []) ≡ ended last_line = append-nil (ended last_line) in
-    flat_map-append ended (header ++ openings ++ calls ++ places ++ keys) (last_line ∷ [])
-    ∙ rw (
-      flat_map-append ended (header ++ openings ++ calls ++ places) keys,
-      flat_map-append ended (header ++ openings ++ calls) places,
-      flat_map-append ended (header ++ openings) calls,
-      flat_map-append ended header openings,
-      last,
-    ) refl
+pub texts_of : (a b c d e : List (List ℕ)) (z : List ℕ)
+    → text_of (a ++ b ++ c ++ d ++ e ++ z ∷ []) ≡ text_of a ++ text_of b ++ text_of c ++ text_of d ++ text_of e ++ ended z
+texts_of a b c d e z = simp (flat_map-append, append-nil)
