@@ -1,7 +1,7 @@
 -- A header is read from its four lines, and from nothing else.
 use Rattle.std.proofs.Common.{◌≡◌, Result, ℕ, ◌<◌, ◌≤◌, ◌^◌, true, List, [], ◌∷◌, ◌++◌, length, Option, Some, None, Ok}
 use Rattle.std.proofs.Common.{refl, ap, subst, ◌∙◌, arith, codes}
-use Rattle.std.specs.Fmt.{decimal}
+use Rattle.std.specs.Prelude.{option_map}
 use Rattle.std.specs.List.{AllByRecursion}
 use Rattle.std.specs.Str.{bytes_eq}
 use Rattle.std.proofs.lemmas.Slice.Eq.{bytes_eq-Decides}
@@ -11,77 +11,50 @@ use Rattle.lset_text.specs.declared.headers.Header.{Header}
 use Rattle.lset_text.specs.declared.headers.HeaderCause.{HeaderCause}
 use Rattle.lset_text.specs.declared.headers.HeaderFault.{HeaderFault}
 use Rattle.lset_text.specs.declared.headers.HeaderCause.TheVariants as wrong
-use Rattle.lset_text.specs.Parts.{cut_at, text_of, Lacks}
-use Rattle.lset_text.specs.Numbers.{number_in}
-use Rattle.lset_text.specs.Spellings.{kind_text, kind_of}
+use Rattle.lset_text.specs.declared.words.Version.TheVariants.{Two}
+use Rattle.lset_text.specs.Parts.{cut_at, text_of, all_from, Lacks}
+use Rattle.lset_text.specs.Forms.{told_in}
 use Rattle.lset_text.specs.Results.{◌>>=◌, or_fail}
-use Rattle.lset_text.specs.Headers.{kind_line, number_line, header_lines, IsHeader, fault, title_in, kind_in_pieces}
-use Rattle.lset_text.specs.Headers.{kind_in, number_in_pieces, number_after, line_due, told_by_line, title_told, kind_told}
+use Rattle.lset_text.specs.Headers.{kind_line, number_line, header_lines, IsHeader, fault, title_in, kind_form, kind_in}
+use Rattle.lset_text.specs.Headers.{number_form, number_after, line_due, told_by_line, title_told, kind_told}
 use Rattle.lset_text.specs.Headers.{threads_told, quota_told, header_of}
-use Rattle.lset_text.proofs.PartLaws.{some_part, Lacks-from_test, line_lacks, cut_line, line_from_cut, cut_text, text_from_cut}
-use Rattle.lset_text.proofs.NumberLaws.{number_ok, number_again, decimal_lacks}
+use Rattle.lset_text.proofs.PartLaws.{some_part, cut_text, text_from_cut}
 use Rattle.lset_text.proofs.ReadingLaws.{bind_ok, or_fail_ok, test_some, ok_is}
-use Rattle.lset_text.proofs.WordLaws.{same_bytes, kind_ok, kind_again, kind_lacks}
+use Rattle.lset_text.proofs.WordLaws.{same_bytes}
+use Rattle.lset_text.proofs.FormLaws.{line_ok, line_again, form_line_lacks}
 
 -- ---- one line
-
-two : (a b x y : List ℕ) → a ≡ x → b ≡ y → a ∷ b ∷ [] ≡ x ∷ y ∷ []
-two a b x y e f = cc
 
 title_ok : (title line told : List ℕ) → title_in title line ≡ Some told → line ≡ title
 title_ok title line told is = same_bytes line title (test_some (bytes_eq line title) (Some title) told is).0
 
-kind_pieces_ok : (ps : List (List ℕ)) (k : Kind) → kind_in_pieces ps ≡ Some k → ps ≡ codes "list" ∷ kind_text k ∷ []
-kind_pieces_ok [] k is = absurd cc
-kind_pieces_ok (a ∷ []) k is = absurd cc
-kind_pieces_ok (a ∷ b ∷ []) k is =
-    let found = test_some (bytes_eq a (codes "list")) (kind_of b) k is in
-    two a b (codes "list") (kind_text k) (same_bytes a (codes "list") found.0) (kind_ok b k found.1)
-kind_pieces_ok (a ∷ b ∷ c ∷ more) k is = absurd cc
+-- what the second of two pieces tells, the first being a word
+second : {A : Type 0} (o : Option (Unit {0} × (A × Unit {0}))) (a : A) → option_map (λ t. t.1.0) o ≡ Some a → o ≡ Some (tt, (a, tt))
+second {A} None a is = absurd cc
+second {A} (Some t) a is = ap (λ (x : A). Some (tt, (x, tt))) (some_is t.1.0 a is)
+  where
+    some_is : (x y : A) → Some x ≡ Some y → x ≡ y
+    some_is x y e = cc
 
 pub kind_in_ok : (line : List ℕ) (k : Kind) → kind_in line ≡ Some k → line ≡ kind_line k
-kind_in_ok line k is = line_from_cut line (codes "list" ∷ kind_text k ∷ []) (kind_pieces_ok (cut_at 32 line) k is)
+kind_in_ok line k is =
+    (line_ok Two kind_form line (tt, (k, tt)) (refl, (tt, tt)) (second (told_in Two kind_form (cut_at 32 line)) k is)).0
 
 pub kind_in_again : (k : Kind) → kind_in (kind_line k) ≡ Some k
-kind_in_again k =
-    let word = Lacks-from_test 32 (codes "list") refl in
-    let cut = cut_line (codes "list") (kind_text k ∷ []) word (kind_lacks 32 k (omega arith), tt) in
-    rw cut (kind_again k)
+kind_in_again k = ap (option_map (λ t. t.1.0)) (line_again Two kind_form (tt, (k, tt)) (refl, (tt, tt)) (tt, (tt, tt)))
 
-number_pieces_ok : (word : List ℕ) (low high : ℕ) (ps : List (List ℕ)) (n : ℕ) → high < 2 ^ 64
-    → number_in_pieces word low high ps ≡ Some n → (ps ≡ word ∷ decimal n ∷ []) × (low ≤ n) × (n ≤ high)
-number_pieces_ok word low high [] n wide is = absurd cc
-number_pieces_ok word low high (a ∷ []) n wide is = absurd cc
-number_pieces_ok word low high (a ∷ b ∷ []) n wide is =
-    let found = test_some (bytes_eq a word) (number_in low high b) n is in
-    let number = number_ok low high b n wide found.1 in
-    (two a b word (decimal n) (same_bytes a word found.0) number.0, number.1, number.2)
-number_pieces_ok word low high (a ∷ b ∷ c ∷ more) n wide is = absurd cc
+pub number_after_ok : (w : List ℕ) (low high : ℕ) (line : List ℕ) (n : ℕ) → all_from 45 w ≡ true → high < 2 ^ 64
+    → number_after w low high line ≡ Some n → (line ≡ number_line w n) × (low ≤ n) × (n ≤ high)
+number_after_ok w low high line n letters wide is =
+    let form = number_form w low high in
+    let found = line_ok Two form line (tt, (n, tt)) (letters, (wide, tt)) (second (told_in Two form (cut_at 32 line)) n is) in
+    (found.0, found.1.1.0.0, found.1.1.0.1)
 
-pub number_after_ok : (word : List ℕ) (low high : ℕ) (line : List ℕ) (n : ℕ) → high < 2 ^ 64
-    → number_after word low high line ≡ Some n → (line ≡ number_line word n) × (low ≤ n) × (n ≤ high)
-number_after_ok word low high line n wide is =
-    let found = number_pieces_ok word low high (cut_at 32 line) n wide is in
-    (line_from_cut line (word ∷ decimal n ∷ []) found.0, found.1, found.2)
-
-same_true : (w : List ℕ) → bytes_eq w w ≡ true
-same_true w = (bytes_eq-Decides w w).1 refl
-
-pub number_after_again : (word : List ℕ) (low high n : ℕ) → Lacks 32 word → high < 2 ^ 64 → low ≤ n → n ≤ high
-    → number_after word low high (number_line word n) ≡ Some n
-number_after_again word low high n lacks wide low_ok high_ok =
-    let cut = cut_line word (decimal n ∷ []) lacks (decimal_lacks 32 n (omega arith) (omega arith), tt) in
-    rw (cut, same_true word) (number_again low high n wide low_ok high_ok)
-
--- a line of more pieces is none of these
-pub kind_many : (a b : List ℕ) (parts : List (List ℕ)) → 0 < length parts → None ≡ kind_in_pieces (a ∷ b ∷ parts)
-kind_many a b [] h = absurd (omega arith)
-kind_many a b (c ∷ more) h = refl
-
-pub number_many : (word : List ℕ) (low high : ℕ) (a b : List ℕ) (parts : List (List ℕ)) → 0 < length parts
-    → None ≡ number_in_pieces word low high (a ∷ b ∷ parts)
-number_many word low high a b [] h = absurd (omega arith)
-number_many word low high a b (c ∷ more) h = refl
+pub number_after_again : (w : List ℕ) (low high n : ℕ) → all_from 45 w ≡ true → high < 2 ^ 64 → low ≤ n → n ≤ high
+    → number_after w low high (number_line w n) ≡ Some n
+number_after_again w low high n letters wide low_ok high_ok =
+    ap (option_map (λ t. t.1.0))
+    (line_again Two (number_form w low high) (tt, (n, tt)) (letters, (wide, tt)) (tt, ((low_ok, high_ok), tt)))
 
 -- ---- a line that is due
 
@@ -161,8 +134,8 @@ header_ok title parts found is =
     let line4 = told_ok 4 wrong.Quota (number_after (codes "quota") 0 MOST_QUOTA) threads.0.1 quota.0 quota.1 in
     let is_title = title_ok title line1.0 first.0.0 line1.2 in
     let is_kind = kind_in_ok line2.0 kind.0.0 line2.2 in
-    let is_threads = number_after_ok (codes "threads") 1 MOST_THREADS line3.0 threads.0.0 (omega arith) line3.2 in
-    let is_quota = number_after_ok (codes "quota") 0 MOST_QUOTA line4.0 quota.0.0 (omega arith) line4.2 in
+    let is_threads = number_after_ok (codes "threads") 1 MOST_THREADS line3.0 threads.0.0 refl (omega arith) line3.2 in
+    let is_quota = number_after_ok (codes "quota") 0 MOST_QUOTA line4.0 quota.0.0 refl (omega arith) line4.2 in
     let header : Header = record { kind = kind.0.0; threads = threads.0.0; quota = quota.0.0 } in
     let within : IsHeader header = record {
       some = omega (arith, is_threads.1);
@@ -174,18 +147,11 @@ header_ok title parts found is =
     joined line1.1 is_title (joined line2.1 is_kind (joined line3.1 is_threads.0 (joined line4.1 is_quota.0 refl))) in
     subst (BeginsWith title parts) (ok_is (header, quota.0.1) found quota.2) (all, within, line4.3)
 
+same_true : (w : List ℕ) → bytes_eq w w ≡ true
+same_true w = (bytes_eq-Decides w w).1 refl
+
 title_again : (title : List ℕ) → title_in title title ≡ Some title
 title_again title = rw (same_true title) refl
-
-threads_again : (n : ℕ) → 0 < n → n ≤ MOST_THREADS →
-    number_after (codes "threads") 1 MOST_THREADS (number_line (codes "threads") n) ≡ Some n
-threads_again n some few =
-    let word = Lacks-from_test 32 (codes "threads") refl in
-    number_after_again (codes "threads") 1 MOST_THREADS n word (omega arith) (omega (arith, some)) few
-
-quota_again : (n : ℕ) → n ≤ MOST_QUOTA → number_after (codes "quota") 0 MOST_QUOTA (number_line (codes "quota") n) ≡ Some n
-quota_again n small =
-    number_after_again (codes "quota") 0 MOST_QUOTA n (Lacks-from_test 32 (codes "quota") refl) (omega arith) (omega arith) small
 
 pub header_again : (title : List ℕ) (h : Header) (y : List ℕ) (more : List (List ℕ)) → IsHeader h
     → header_of title (header_lines title h ++ y ∷ more) ≡ Ok (h, y ∷ more)
@@ -198,27 +164,22 @@ header_again title h y more within =
     let is_title = told_again 1 wrong.Header (title_in title) title line2 (line3 ∷ parts4) title (title_again title) in
     let is_kind = told_again 2 wrong.Kind kind_in line2 line3 parts4 h.kind (kind_in_again h.kind) in
     let is_threads = told_again 3 wrong.Threads (number_after (codes "threads") 1 MOST_THREADS) line3 line4 (y ∷ more) h.threads
-    (threads_again h.threads within.some within.few) in
+    (number_after_again (codes "threads") 1 MOST_THREADS h.threads refl (omega arith) (omega (arith, within.some)) within.few) in
     let is_quota = told_again 4 wrong.Quota (number_after (codes "quota") 0 MOST_QUOTA) line4 y more h.quota
-    (quota_again h.quota within.small) in
+    (number_after_again (codes "quota") 0 MOST_QUOTA h.quota refl (omega arith) (omega arith) within.small) in
     rw (is_title, is_kind, is_threads, is_quota) refl
 
-kind_line_lacks : (k : Kind) → Lacks 10 (kind_line k)
-kind_line_lacks k =
-    let word = Lacks-from_test 10 (codes "list") refl in
-    line_lacks (codes "list" ∷ kind_text k ∷ []) (word, (kind_lacks 10 k (omega arith), tt))
-
-pub number_line_lacks : (word : List ℕ) (n : ℕ) → Lacks 10 word → n < 2 ^ 64 → Lacks 10 (number_line word n)
-number_line_lacks word n free small = line_lacks (word ∷ decimal n ∷ []) (free, (decimal_lacks 10 n (omega arith) small, tt))
+pub number_line_lacks : (w : List ℕ) (n : ℕ) → all_from 45 w ≡ true → n < 2 ^ 64 → Lacks 10 (number_line w n)
+number_line_lacks w n letters small =
+    form_line_lacks Two (number_form w 0 n) (tt, (n, tt)) (letters, (small, tt)) (tt, ((omega arith, omega arith), tt))
 
 -- no line of a header has a newline in it
 pub header_lacks : (title : List ℕ) (h : Header) → Lacks 10 title → IsHeader h → AllByRecursion (Lacks 10) (header_lines title h)
 header_lacks title h lacks within =
-    let word3 = Lacks-from_test 10 (codes "threads") refl in
-    let line3 = number_line_lacks (codes "threads") h.threads word3 (omega (arith, within.few)) in
-    let word4 = Lacks-from_test 10 (codes "quota") refl in
-    let line4 = number_line_lacks (codes "quota") h.quota word4 (omega (arith, within.small)) in
-    (lacks, (kind_line_lacks h.kind, (line3, (line4, tt))))
+    let line2 = form_line_lacks Two kind_form (tt, (h.kind, tt)) (refl, (tt, tt)) (tt, (tt, tt)) in
+    let line3 = number_line_lacks (codes "threads") h.threads refl (omega (arith, within.few)) in
+    let line4 = number_line_lacks (codes "quota") h.quota refl (omega (arith, within.small)) in
+    (lacks, (line2, (line3, (line4, tt))))
 
 -- ---- texts that begin with a header
 

@@ -2,5 +2,9 @@ pub mod PartLaws
 pub mod NumberLaws
 pub mod WordLaws
 pub mod ReadingLaws
+pub mod FormLaws
+pub mod KindLaws
+pub mod LineLaws
 pub mod HeaderLaws
 pub mod OpeningLaws
+pub mod TextLaws

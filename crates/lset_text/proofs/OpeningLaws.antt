@@ -10,12 +10,11 @@ use Rattle.std.proofs.lemmas.List.{get_or_push, get_or_append_left, length_push}
 use Rattle.std.proofs.lemmas.Option.{slice_get-get_or}
 use Rattle.lset_text.specs.Parts.{Lacks}
 use Rattle.lset_text.specs.Openings.{opening_line, opening_lines, above_last, is_above}
-use Rattle.lset_text.proofs.PartLaws.{Lacks-from_test}
 use Rattle.lset_text.proofs.HeaderLaws.{number_line_lacks}
 
 -- no line of an opening key has a newline in it
 pub opening_lacks : (key : ℕ) → key < 2 ^ 32 → Lacks 10 (opening_line key)
-opening_lacks key low = number_line_lacks (codes "opening") key (Lacks-from_test 10 (codes "opening") refl) (omega (arith, low))
+opening_lacks key low = number_line_lacks (codes "opening") key refl (omega (arith, low))
 
 pub openings_lack : (keys : List ℕ) → AllByRecursion (λ k. k < 2 ^ 32) keys → AllByRecursion (Lacks 10) (opening_lines keys)
 openings_lack [] low = tt

@@ -1,5 +1,5 @@
 -- Cutting texts into lines and lines into pieces, and joining them again.
-use Rattle.std.proofs.Common.{◌≡◌, ℕ, ◌+◌, ◌-◌, ◌<◌, ◌≤◌, Bool, true, false, cond, eqb, ltb, leb, not, ◌&&◌, List, [], ◌∷◌}
+use Rattle.std.proofs.Common.{◌≡◌, ℕ, ◌+◌, ◌-◌, ◌<◌, ◌≤◌, Bool, true, false, cond, eqb, ltb, not, ◌&&◌, List, [], ◌∷◌}
 use Rattle.std.proofs.Common.{◌++◌, length, take, drop, Some, None, refl, sym, ap, ◌∙◌, append_assoc, arith, length-append}
 use Rattle.std.specs.Prelude.{position}
 use Rattle.std.specs.List.{join_with_byte, position_or_len, AllByRecursion}
@@ -10,7 +10,7 @@ use Rattle.std.proofs.lemmas.List.Quantifiers.{position-Some}
 use Rattle.std.proofs.lemmas.List.Splits.{slice_split_none, slice_split_at, slice_split_first, length-slice_split}
 use Rattle.std.proofs.lemmas.List.Splits.{join_with_byte-slice_split}
 use Rattle.std.proofs.lemmas.List.Sums.{position_or_len_is, fails_before_first}
-use Rattle.lset_text.specs.Parts.{cut_at, line_of, text_of, Lacks}
+use Rattle.lset_text.specs.Parts.{cut_at, line_of, text_of, all_from, Lacks}
 
 -- ---- one cut
 
@@ -51,11 +51,6 @@ Lacks-from_test byte [] h = All-nil (λ b. eqb b byte ≡ false)
 Lacks-from_test byte (b ∷ bs) h =
     let parts = and_parts _ _ h in
     All-cons (λ b. eqb b byte ≡ false) b bs (not-true _ parts.0) (Lacks-from_test byte bs parts.1)
-
--- a test for texts of letters, digits and dashes
-abbrev pub all_from : ℕ → List ℕ → Bool
-all_from low [] = true
-all_from low (b ∷ bs) = leb low b && all_from low bs
 
 pub Lacks-below : (low byte : ℕ) (text : List ℕ) → byte < low → all_from low text ≡ true → Lacks byte text
 Lacks-below low byte [] lt h = All-nil (λ b. eqb b byte ≡ false)

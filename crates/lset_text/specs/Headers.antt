@@ -1,6 +1,6 @@
 -- The four lines at the head of a text: its title, the kind of list, the number of threads and their quota.
 use Rattle.std.specs.Prelude.{◌≡◌, ℕ, ◌==◌, List, [], ◌∷◌, ◌++◌, length, codes, Option, Some, None, Result, Ok, Err}
-use Rattle.std.specs.Prelude.{if◌then◌else◌}
+use Rattle.std.specs.Prelude.{if◌then◌else◌, option_map}
 use Rattle.std.specs.Fmt.{decimal}
 use Rattle.std.specs.Str.{bytes_eq}
 use Rattle.lset_words.specs.declared.TheConstants.{MOST_THREADS, MOST_QUOTA}
@@ -13,8 +13,9 @@ use Rattle.lset_text.specs.declared.headers.HeaderCause.{HeaderCause}
 use Rattle.lset_text.specs.declared.headers.HeaderCause.TheVariants as wrong
 use Rattle.lset_text.specs.declared.headers.HeaderFault.{HeaderFault}
 use Rattle.lset_text.specs.Parts.{cut_at, line_of, text_of, Lacks}
-use Rattle.lset_text.specs.Numbers.{number_in}
-use Rattle.lset_text.specs.Spellings.{kind_text, kind_of}
+use Rattle.lset_text.specs.Forms.{Form, told_in}
+use Rattle.lset_text.specs.Forms as piece
+use Rattle.lset_text.specs.Spellings.{kind_text}
 use Rattle.lset_text.specs.Results.{◌>>=◌, or_fail}
 
 -- ---- the text of a header
@@ -48,25 +49,19 @@ fault line cause = record { line = line; cause = cause }
 abbrev pub title_in : List ℕ → List ℕ → Option (List ℕ)
 title_in title line = if bytes_eq line title then Some title else None
 
-abbrev pub kind_in_pieces : List (List ℕ) → Option Kind
-kind_in_pieces [] = None
-kind_in_pieces (a ∷ []) = None
-kind_in_pieces (a ∷ b ∷ []) = if bytes_eq a (codes "list") then kind_of b else None
-kind_in_pieces (a ∷ b ∷ c ∷ more) = None
+abbrev pub kind_form : Form
+kind_form = piece.word (codes "list") ∷ piece.kind ∷ []
 
 -- the kind that a line tells
 abbrev pub kind_in : List ℕ → Option Kind
-kind_in line = kind_in_pieces (cut_at 32 line)
+kind_in line = option_map (λ t. t.1.0) (told_in Two kind_form (cut_at 32 line))
 
-abbrev pub number_in_pieces : List ℕ → ℕ → ℕ → List (List ℕ) → Option ℕ
-number_in_pieces word low high [] = None
-number_in_pieces word low high (a ∷ []) = None
-number_in_pieces word low high (a ∷ b ∷ []) = if bytes_eq a word then number_in low high b else None
-number_in_pieces word low high (a ∷ b ∷ c ∷ more) = None
+abbrev pub number_form : List ℕ → ℕ → ℕ → Form
+number_form word low high = piece.word word ∷ piece.number low high ∷ []
 
 -- the number of a range that a line tells after a word
 abbrev pub number_after : List ℕ → ℕ → ℕ → List ℕ → Option ℕ
-number_after word low high line = number_in_pieces word low high (cut_at 32 line)
+number_after word low high line = option_map (λ t. t.1.0) (told_in Two (number_form word low high) (cut_at 32 line))
 
 -- The header line that is due, and the parts after it. Where no byte is left the fault is the one of the line that is due.
 abbrev pub line_due : ℕ → HeaderCause → List (List ℕ) → Result (List ℕ × List (List ℕ)) HeaderFault

@@ -2,5 +2,9 @@ pub mod Parts
 pub mod Numbers
 pub mod Spellings
 pub mod Results
+pub mod Forms
+pub mod Kinds
+pub mod Lines
 pub mod Headers
 pub mod Openings
+pub mod Texts

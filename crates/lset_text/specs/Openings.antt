@@ -2,13 +2,19 @@
 use Rattle.std.specs.Prelude.{◌≡◌, ℕ, ◌-◌, nat_lt, Bool, true, List, [], length, map, codes, Option, Some, None, slice_get}
 use Rattle.lset_text.specs.declared.words.Version.{Version}
 use Rattle.lset_text.specs.declared.words.Version.TheVariants.{One, Two}
-use Rattle.lset_text.specs.Headers.{number_line}
+use Rattle.lset_text.specs.Numbers.{max_number}
+use Rattle.lset_text.specs.Forms.{Form}
+use Rattle.lset_text.specs.Headers.{number_line, number_form}
 
 abbrev pub opening_line : ℕ → List ℕ
 opening_line key = number_line (codes "opening") key
 
 abbrev pub opening_lines : List ℕ → List (List ℕ)
 opening_lines keys = map opening_line keys
+
+-- as a form
+abbrev pub opening_form : Form
+opening_form = number_form (codes "opening") 0 max_number
 
 -- A text of the first version has none.
 abbrev pub HasOpening : Version → List ℕ → Type 0

@@ -1,5 +1,5 @@
 -- Texts as lists of lines, and lines as lists of pieces.
-use Rattle.std.specs.Prelude.{◌≡◌, ℕ, ◌==◌, false, List, [], ◌∷◌, ◌++◌, All}
+use Rattle.std.specs.Prelude.{◌≡◌, ℕ, ◌==◌, ◌&&◌, nat_le, Bool, true, false, List, [], ◌∷◌, ◌++◌, All}
 use Rattle.std.specs.List.{slice_split, flat_map, join_with_byte}
 
 -- The parts of a text between the bytes of one kind. At newlines these are its whole lines, and then what comes after the
@@ -22,3 +22,8 @@ text_of lines = flat_map ended lines
 -- no such byte stands there
 abbrev pub Lacks : ℕ → List ℕ → Type 0
 Lacks byte text = All (λ b. b == byte ≡ false) text
+
+-- a test for texts of letters, digits and dashes
+abbrev pub all_from : ℕ → List ℕ → Bool
+all_from low [] = true
+all_from low (b ∷ bs) = nat_le low b && all_from low bs

@@ -2,12 +2,14 @@
 //! header, and the lines of opening keys. (This project's own format.)
 #![tactic(auto)]
 
+mod forms;
 mod headers;
 mod numbers;
 mod openings;
 mod parts;
 mod words;
 
+pub use forms::forms_read_back;
 pub use headers::{
     Header, HeaderCause, HeaderFault, headers_read_back, number_of_line, put_header, read_header,
     version_of,

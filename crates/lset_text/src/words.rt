@@ -1,17 +1,15 @@
 ghost use Rattle.std.specs.Prelude.{◌≡◌, Some};
-ghost use Rattle.lset_text.specs.Parts.{cut_at};
 ghost use Rattle.lset_text.specs.Spellings.{
   kind_text,
   kind_of,
   call_text,
-  call_word_of,
   call_word_in,
   with_key,
   reply_text,
+  plain_in,
   reply_of,
   reply_in,
   at_number,
-  begins_at,
   is_reply_in,
   KindsReadBack,
   CallsReadBack,
@@ -19,7 +17,6 @@ ghost use Rattle.lset_text.specs.Spellings.{
 };
 
 use crate::numbers::number;
-use crate::parts::cut;
 use lset_words::{Call, Key, Kind, Reply};
 use std::fmt;
 
@@ -71,18 +68,13 @@ pub fn kind_word(kind: Kind) -> &'static str
 pub fn read_kind(piece: &[u8]) -> Option<Kind>
     ensures { result ≡ kind_of piece.now }
 {
-    if piece == b"coarse".as_slice() {
-        Some(Kind::Coarse)
-    } else if piece == b"fine".as_slice() {
-        Some(Kind::Fine)
-    } else if piece == b"optimistic".as_slice() {
-        Some(Kind::Optimistic)
-    } else if piece == b"lazy".as_slice() {
-        Some(Kind::Lazy)
-    } else if piece == b"lock-free".as_slice() {
-        Some(Kind::LockFree)
-    } else {
-        None
+    match piece {
+        b"coarse" => Some(Kind::Coarse),
+        b"fine" => Some(Kind::Fine),
+        b"optimistic" => Some(Kind::Optimistic),
+        b"lazy" => Some(Kind::Lazy),
+        b"lock-free" => Some(Kind::LockFree),
+        _ => None,
     }
 }
 
@@ -98,33 +90,17 @@ pub fn call_word(call: Call) -> &'static str
     }
 }
 
-/// The call word that the piece is, in any version; `None` for any other piece.
-#[tactic(auto, unfolding(crate::specs::Spellings::call_word_of))]
-fn read_any_call(piece: &[u8]) -> Option<CallWord>
-    ensures { result ≡ call_word_of piece.now }
-{
-    if piece == b"add".as_slice() {
-        Some(CallWord::Add)
-    } else if piece == b"remove".as_slice() {
-        Some(CallWord::Remove)
-    } else if piece == b"contains".as_slice() {
-        Some(CallWord::Contains)
-    } else if piece == b"ceiling".as_slice() {
-        Some(CallWord::Ceiling)
-    } else {
-        None
-    }
-}
-
 /// The call word of a version that the piece is; `None` for any other piece.
+#[tactic(auto, unfolding(crate::specs::Spellings::call_word_of))]
 pub fn read_call(version: Version, piece: &[u8]) -> Option<CallWord>
     ensures { result ≡ call_word_in version piece.now }
 {
-    let word = read_any_call(piece)?;
-    match (version, word) {
-        (_, CallWord::Add | CallWord::Remove | CallWord::Contains) => Some(word),
-        (Version::One, CallWord::Ceiling) => None,
-        (Version::Two, CallWord::Ceiling) => Some(word),
+    match (version, piece) {
+        (_, b"add") => Some(CallWord::Add),
+        (_, b"remove") => Some(CallWord::Remove),
+        (_, b"contains") => Some(CallWord::Contains),
+        (Version::Two, b"ceiling") => Some(CallWord::Ceiling),
+        _ => None,
     }
 }
 
@@ -156,57 +132,35 @@ pub fn reply_word(reply: Reply) -> ReplyWord
     ReplyWord(reply)
 }
 
-/// The reply that the piece is the word for, where it has no number; `None` for any other piece.
+/// The reply of a version that the piece is the word for, where it has no number; `None` for any other piece.
 #[tactic(auto, unfolding(crate::specs::Spellings::reply_of))]
-fn read_plain_reply(piece: &[u8]) -> Option<Reply>
-    ensures { result ≡ reply_of piece.now }
+fn read_plain_reply(version: Version, piece: &[u8]) -> Option<Reply>
+    ensures { result ≡ reply_of (plain_in version) piece.now }
 {
-    if piece == b"true".as_slice() {
-        Some(Reply::True)
-    } else if piece == b"false".as_slice() {
-        Some(Reply::False)
-    } else if piece == b"full".as_slice() {
-        Some(Reply::Full)
-    } else if piece == b"nothing".as_slice() {
-        Some(Reply::Nothing)
-    } else {
-        None
+    match (version, piece) {
+        (_, b"true") => Some(Reply::True),
+        (_, b"false") => Some(Reply::False),
+        (_, b"full") => Some(Reply::Full),
+        (Version::Two, b"nothing") => Some(Reply::Nothing),
+        _ => None,
     }
 }
 
 /// The key of `at-` and a number.
 fn read_at(piece: &[u8]) -> Option<Reply>
-    ensures { result ≡ at_number (cut_at 45 piece.now) }
+    ensures { result ≡ at_number piece.now }
 {
-    let (word, key) = cut(piece, b'-')?;
-    if let Some((_, _more)) = cut(key, b'-') {
-        return None;
-    }
-    if word != b"at".as_slice() {
-        return None;
-    }
+    let key = piece.strip_prefix(b"at-")?;
     Some(Reply::At(Key(number(key, 0, u32::MAX)?)))
-}
-
-/// Whether the piece begins with `at-`.
-fn begins_at(piece: &[u8]) -> bool
-    ensures { result ≡ begins_at (cut_at 45 piece.now) }
-{
-    match cut(piece, b'-') {
-        Some((word, _)) => word == b"at".as_slice(),
-        None => false,
-    }
 }
 
 /// The reply of a version that the piece spells; `None` for any other piece.
 pub fn read_reply(version: Version, piece: &[u8]) -> Option<Reply>
     ensures { result ≡ reply_in version piece.now }
 {
-    let plain = read_plain_reply(piece);
-    match (version, plain) {
-        (_, Some(Reply::True | Reply::False | Reply::Full | Reply::At(_))) => plain,
-        (Version::Two, Some(Reply::Nothing)) => plain,
-        (Version::One, Some(Reply::Nothing) | None) => None,
+    match (version, read_plain_reply(version, piece)) {
+        (_, Some(reply)) => Some(reply),
+        (Version::One, None) => None,
         (Version::Two, None) => read_at(piece),
     }
 }
@@ -215,11 +169,10 @@ pub fn read_reply(version: Version, piece: &[u8]) -> Option<Reply>
 pub fn is_reply(version: Version, piece: &[u8]) -> bool
     ensures { result ≡ is_reply_in version piece.now }
 {
-    match (version, read_plain_reply(piece)) {
-        (_, Some(Reply::True | Reply::False | Reply::Full | Reply::At(_))) => true,
-        (Version::Two, Some(Reply::Nothing)) => true,
-        (Version::One, Some(Reply::Nothing) | None) => false,
-        (Version::Two, None) => begins_at(piece),
+    let plain = read_plain_reply(version, piece).is_some();
+    match version {
+        Version::One => plain,
+        Version::Two => plain || piece.starts_with(b"at-"),
     }
 }
 

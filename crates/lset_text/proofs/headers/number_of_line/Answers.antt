@@ -1,8 +1,14 @@
+use Rattle.std.proofs.Common.{◌∷◌, refl, arith}
+use Rattle.lset_text.specs.Parts.{cut_at}
+use Rattle.lset_text.specs.declared.words.Version.TheVariants.{Two}
+use Rattle.lset_text.specs.Headers.{number_form}
 use Rattle.lset_text.proofs.PartLaws.{some_part}
-use Rattle.lset_text.proofs.HeaderLaws.{number_many}
+use Rattle.lset_text.proofs.FormLaws.{too_many}
 use Rattle.lset_text.proofs.headers.number_of_line.Goals as goal
 
 pub returns-in-Some : goal.returns-in-Some
 returns-in-Some c =
     rw (c.in_ok-first.ensures.parts, c.in-Some.ensures.parts)
-    (number_many c.args.word.now c.args.low c.args.high c.in_ok-first.first.now _ _ (some_part 32 c.in-Some._more.now))
+    (rw (too_many Two (number_form c.args.word.now c.args.low c.args.high)
+    (c.in_ok-first.first.now ∷ c.in-Some.field-0-0.now ∷ cut_at 32 c.in-Some._more.now)
+    (omega (arith, some_part 32 c.in-Some._more.now))) refl)

@@ -1,0 +1,165 @@
+-- The first kind that a line is of: what is read stands there, and what stands there is read. Once for every list of kinds.
+use Rattle.std.proofs.Common.{◌≡◌, ◌⊎◌, inl, inr, ℕ, Bool, true, false, cond, List, [], ◌∷◌, map, length, ◌<◌, Option, Some, None}
+use Rattle.std.proofs.Common.{Result, Ok, Err, refl, sym, ap, subst, ◌∙◌}
+use Rattle.std.specs.List.{AllByRecursion}
+use Rattle.lset_text.specs.declared.words.Version.{Version}
+use Rattle.lset_text.specs.Parts.{cut_at, line_of, Lacks}
+use Rattle.lset_text.specs.Forms.{Told, spell, AllFit, have_form, all_told, IsForm}
+use Rattle.lset_text.specs.Kinds.{LineKind, kind_as, LineCauses, made, first_of, line_in}
+use Rattle.lset_text.specs.Results.{or_fail}
+use Rattle.lset_text.proofs.PartLaws.{line_from_cut}
+use Rattle.lset_text.proofs.ReadingLaws.{or_fail_ok, ok_is}
+use Rattle.lset_text.proofs.FormLaws.{form_ok, form_again, cut_form, are_pieces, form_line_lacks, too_many}
+
+pub made_ok : {X Y C : Type 0} (f : X → Y) (r : Result X C) (y : Y) → made f r ≡ Ok y → (x : X) × (r ≡ Ok x) × (f x ≡ y)
+made_ok f (Ok x) y e = (x, refl, ok_is (f x) y e)
+made_ok f (Err d) y e = absurd cc
+
+-- WHAT IS KNOWN OF A KIND: it has a form, and what it makes of what fits is good and has just these pieces
+abbrev pub Knows : {X : Type 0} → Version → (X → List (List ℕ)) → (X → Type 0) → LineKind X → Type 0
+Knows v pieces Good k = IsForm k.0 × ((t : Told k.0) → AllFit v k.0 t → (spell k.0 t ≡ pieces (k.1 t)) × Good (k.1 t))
+
+-- WHAT IS READ stands there, and is good
+pub first_found : {X C : Type 0} (v : Version) (causes : LineCauses C) (pieces : X → List (List ℕ)) (Good : X → Type 0)
+    (ks : List (LineKind X)) (ps : List (List ℕ)) (x : X)
+    → AllByRecursion (Knows v pieces Good) ks → first_of v causes ks ps ≡ Ok x → (ps ≡ pieces x) × Good x
+first_found v causes pieces Good [] ps x known e = absurd cc
+first_found {X} v causes pieces Good (k ∷ ks) ps x known e =
+    either (have_form v k.0 ps) refl (λ is. first_found v causes pieces Good ks ps x known.1 is) e
+  where
+    either : (b : Bool) → have_form v k.0 ps ≡ b → (first_of v causes ks ps ≡ Ok x → (ps ≡ pieces x) × Good x)
+        → cond b (made k.1 (or_fail causes.number (all_told v k.0 ps))) (first_of v causes ks ps) ≡ Ok x → (ps ≡ pieces x) × Good x
+    either true has others is =
+        let m = made_ok k.1 (or_fail causes.number (all_told v k.0 ps)) x is in
+        let told = or_fail_ok causes.number (all_told v k.0 ps) m.0 m.1 in
+        let found = form_ok v k.0 ps m.0 (are_pieces k.0 known.0.0) has told in
+        let good = known.0.1 m.0 found.1 in
+        (found.0 ∙ good.0 ∙ ap pieces m.2, subst Good m.2 good.1)
+    either false has others is = others is
+
+pub line_found : {X C : Type 0} (v : Version) (causes : LineCauses C) (pieces : X → List (List ℕ)) (Good : X → Type 0)
+    (ks : List (LineKind X)) (line : List ℕ) (x : X)
+    → AllByRecursion (Knows v pieces Good) ks → line_in v causes ks line ≡ Ok x → (line ≡ line_of (pieces x)) × Good x
+line_found v causes pieces Good ks line x known e =
+    let found = first_found v causes pieces Good ks (cut_at 32 line) x known e in
+    (line_from_cut line (pieces x) found.0, found.1)
+
+-- and has no newline in it
+lacks_too : {X : Type 0} (v : Version) (pieces : X → List (List ℕ)) (Good : X → Type 0) (ks : List (LineKind X))
+    → AllByRecursion (Knows v pieces Good) ks → AllByRecursion (Knows v pieces (λ x. Lacks 10 (line_of (pieces x)))) ks
+lacks_too v pieces Good [] known = tt
+lacks_too v pieces Good (k ∷ ks) known = (
+  (
+    known.0.0,
+    λ t fit. let m = known.0.1 t fit in
+        (m.0, subst (λ (ps : List (List ℕ)). Lacks 10 (line_of ps)) m.0 (form_line_lacks v k.0 t known.0.0 fit)),
+  ),
+  lacks_too v pieces Good ks known.1,
+)
+
+pub line_found_lacks : {X C : Type 0} (v : Version) (causes : LineCauses C) (pieces : X → List (List ℕ)) (Good : X → Type 0)
+    (ks : List (LineKind X)) (line : List ℕ) (x : X)
+    → AllByRecursion (Knows v pieces Good) ks → line_in v causes ks line ≡ Ok x → Lacks 10 line
+line_found_lacks v causes pieces Good ks line x known e =
+    let found = line_found v causes pieces (λ y. Lacks 10 (line_of (pieces y))) ks line x (lacks_too v pieces Good ks known) e in
+    subst (Lacks 10) (sym found.0) found.1
+
+-- one of the kinds makes it, and no kind above has its form
+abbrev pub IsMade : {X : Type 0} → Version → (X → List (List ℕ)) → List (LineKind X) → X → Type 0
+IsMade v pieces [] x = ⊥
+IsMade v pieces (k ∷ ks) x =
+    ((t : Told k.0) × (k.1 t ≡ x) × AllFit v k.0 t) ⊎ ((have_form v k.0 (pieces x) ≡ false) × IsMade v pieces ks x)
+
+first_made : {X C : Type 0} (v : Version) (causes : LineCauses C) (pieces : X → List (List ℕ)) (Good : X → Type 0)
+    (ks : List (LineKind X)) (x : X)
+    → AllByRecursion (Knows v pieces Good) ks → IsMade v pieces ks x → first_of v causes ks (pieces x) ≡ Ok x
+first_made v causes pieces Good [] x known is = absurd is
+first_made v causes pieces Good (k ∷ ks) x known (inl m) =
+    let spelled = (known.0.1 m.0 m.2).0 ∙ ap pieces m.1 in
+    let again = form_again v k.0 m.0 (are_pieces k.0 known.0.0) m.2 in
+    let here : first_of v causes (k ∷ ks) (spell k.0 m.0) ≡ Ok (k.1 m.0) = rw (again.1, again.0) refl in
+    ap (first_of v causes (k ∷ ks)) (sym spelled) ∙ here ∙ ap Ok m.1
+first_made v causes pieces Good (k ∷ ks) x known (inr m) = rw m.0 (first_made v causes pieces Good ks x known.1 m.1)
+
+-- what a kind makes spells a line of its form
+made_spells : {X : Type 0} (v : Version) (pieces : X → List (List ℕ)) (Good : X → Type 0) (P : List (List ℕ) → Type 0)
+    → ((k : LineKind X) → IsForm k.0 → (t : Told k.0) → AllFit v k.0 t → P (spell k.0 t))
+    → (ks : List (LineKind X)) (x : X) → AllByRecursion (Knows v pieces Good) ks → IsMade v pieces ks x → P (pieces x)
+made_spells v pieces Good P of_form [] x known is = absurd is
+made_spells v pieces Good P of_form (k ∷ ks) x known (inl m) =
+    subst P ((known.0.1 m.0 m.2).0 ∙ ap pieces m.1) (of_form k known.0.0 m.0 m.2)
+made_spells v pieces Good P of_form (k ∷ ks) x known (inr m) = made_spells v pieces Good P of_form ks x known.1 m.1
+
+-- WHAT STANDS THERE is read
+pub line_made : {X C : Type 0} (v : Version) (causes : LineCauses C) (pieces : X → List (List ℕ)) (Good : X → Type 0)
+    (ks : List (LineKind X)) (x : X)
+    → AllByRecursion (Knows v pieces Good) ks → IsMade v pieces ks x → line_in v causes ks (line_of (pieces x)) ≡ Ok x
+line_made v causes pieces Good ks x known is =
+    ap (first_of v causes ks)
+    (made_spells v pieces Good (λ ps. cut_at 32 (line_of ps) ≡ ps) (λ k form t fit. cut_form v k.0 t form fit) ks x known is)
+    ∙ first_made v causes pieces Good ks x known is
+
+-- and has no newline in it
+pub line_made_lacks : {X : Type 0} (v : Version) (pieces : X → List (List ℕ)) (Good : X → Type 0) (ks : List (LineKind X)) (x : X)
+    → AllByRecursion (Knows v pieces Good) ks → IsMade v pieces ks x → Lacks 10 (line_of (pieces x))
+line_made_lacks v pieces Good ks x known is =
+    made_spells v pieces Good (λ ps. Lacks 10 (line_of ps)) (λ k form t fit. form_line_lacks v k.0 t form fit) ks x known is
+
+-- ---- faults
+
+-- a line that is refused has one of the two causes
+abbrev pub IsOneOf : {C : Type 0} → LineCauses C → C → Type 0
+IsOneOf causes c = (c ≡ causes.form) ⊎ (c ≡ causes.number)
+
+kind_fails : {X C T : Type 0} (causes : LineCauses C) (f : T → X) (b : Bool) (o : Option T) (others : Result X C) (c : C)
+    → (others ≡ Err c → IsOneOf causes c) → cond b (made f (or_fail causes.number o)) others ≡ Err c → IsOneOf causes c
+kind_fails causes f true None others c more is = inr cc
+kind_fails causes f true (Some t) others c more is = absurd cc
+kind_fails causes f false o others c more is = more is
+
+pub first_fails : {X C : Type 0} (v : Version) (causes : LineCauses C) (ks : List (LineKind X)) (ps : List (List ℕ)) (c : C)
+    → first_of v causes ks ps ≡ Err c → IsOneOf causes c
+first_fails v causes [] ps c e = inl cc
+first_fails v causes (k ∷ ks) ps c e =
+    kind_fails causes k.1 (have_form v k.0 ps) (all_told v k.0 ps) (first_of v causes ks ps) c (first_fails v causes ks ps c) e
+
+-- more pieces than any kind has
+abbrev pub AreBelow : {X : Type 0} → ℕ → List (LineKind X) → Type 0
+AreBelow n ks = AllByRecursion (λ k. length k.0 < n) ks
+
+pub first_many : {X C : Type 0} (v : Version) (causes : LineCauses C) (ks : List (LineKind X)) (ps : List (List ℕ))
+    → AreBelow (length ps) ks → first_of v causes ks ps ≡ Err causes.form
+first_many v causes [] ps below = refl
+first_many v causes (k ∷ ks) ps below = rw (too_many v k.0 ps below.0) (first_many v causes ks ps below.1)
+
+-- ---- kinds whose value is seen as another
+
+kind_seen : {X Y C T : Type 0} (f : X → Y) (g : T → X) (c : C) (b : Bool) (o : Option T) (r : Result Y C) (s : Result X C)
+    → r ≡ made f s → cond b (made (λ t. f (g t)) (or_fail c o)) r ≡ made f (cond b (made g (or_fail c o)) s)
+kind_seen f g c true None r s is = refl
+kind_seen f g c true (Some t) r s is = refl
+kind_seen f g c false o r s is = is
+
+-- a line tells what it would tell, seen so
+pub first_as : {X Y C : Type 0} (f : X → Y) (v : Version) (causes : LineCauses C) (ks : List (LineKind X)) (ps : List (List ℕ))
+    → first_of v causes (map (kind_as f) ks) ps ≡ made f (first_of v causes ks ps)
+first_as f v causes [] ps = refl
+first_as f v causes (k ∷ ks) ps =
+    kind_seen f k.1 causes.number (have_form v k.0 ps) (all_told v k.0 ps) (first_of v causes (map (kind_as f) ks) ps)
+    (first_of v causes ks ps) (first_as f v causes ks ps)
+
+-- what is known of the kinds is known of them seen so, and what they make they make then
+module _ {X Y : Type 0} (f : X → Y) (v : Version) (pieces : X → List (List ℕ)) (seen : Y → List (List ℕ))
+    (same : (x : X) → pieces x ≡ seen (f x)) where
+  pub knows_as : (Good : X → Type 0) (Fine : Y → Type 0) → ((x : X) → Good x → Fine (f x)) → (ks : List (LineKind X))
+      → AllByRecursion (Knows v pieces Good) ks → AllByRecursion (Knows v seen Fine) (map (kind_as f) ks)
+  knows_as Good Fine fine [] known = tt
+  knows_as Good Fine fine (k ∷ ks) known = (
+    (known.0.0, λ t fit. let m = known.0.1 t fit in (m.0 ∙ same (k.1 t), fine (k.1 t) m.1)),
+    knows_as Good Fine fine ks known.1,
+  )
+
+  pub made_as : (ks : List (LineKind X)) (x : X) → IsMade v pieces ks x → IsMade v seen (map (kind_as f) ks) (f x)
+  made_as [] x is = absurd is
+  made_as (k ∷ ks) x (inl m) = inl (m.0, ap f m.1, m.2)
+  made_as (k ∷ ks) x (inr m) = inr (subst (λ ps. have_form v k.0 ps ≡ false) (same x) m.0, made_as ks x m.1)

@@ -1,0 +1,133 @@
+-- Lines as forms: what stands at each piece of a line, how it is spelled, and how it is read.
+use Rattle.std.specs.Prelude.{◌≡◌, ℕ, ◌<◌, ◌≤◌, ◌^◌, ◌&&◌, Bool, true, false, List, [], ◌∷◌, Option, Some, None, is_some}
+use Rattle.std.specs.Prelude.{if◌then◌else◌}
+use Rattle.std.specs.Fmt.{decimal}
+use Rattle.std.specs.Str.{bytes_eq}
+use Rattle.lset_words.specs.declared.Kind.{Kind}
+use Rattle.lset_words.specs.declared.Reply.{Reply}
+use Rattle.lset_text.specs.declared.words.CallWord.{CallWord}
+use Rattle.lset_text.specs.declared.words.Version.{Version}
+use Rattle.lset_text.specs.Parts.{cut_at, line_of, all_from}
+use Rattle.lset_text.specs.Numbers.{number_in, max_number}
+use Rattle.lset_text.specs.Spellings.{kind_text, kind_of, call_word_text, call_word_in, reply_text, reply_in, is_reply_in}
+use Rattle.lset_text.specs.Spellings.{HasWord, HasReply}
+
+-- ONE PIECE of a line: a fixed word, a number of a range, or the word of a kind of list, of a call or of a reply
+pub data Piece : Type 0 where
+  word : List ℕ → Piece
+  number : ℕ → ℕ → Piece
+  kind : Piece
+  call : Piece
+  reply : Piece
+
+-- any number of a text
+abbrev pub any : Piece
+any = number 0 max_number
+
+-- a moment, counted from 1
+abbrev pub moment : Piece
+moment = number 1 max_number
+
+-- what a piece tells
+abbrev pub Tells : Piece → Type 0
+Tells (word w) = Unit {0}
+Tells (number low high) = ℕ
+Tells kind = Kind
+Tells call = CallWord
+Tells reply = Reply
+
+-- how that is spelled
+abbrev pub spelled : (p : Piece) → Tells p → List ℕ
+spelled (word w) t = w
+spelled (number low high) n = decimal n
+spelled kind k = kind_text k
+spelled call w = call_word_text w
+spelled reply r = reply_text r
+
+-- what a version has a spelling for
+abbrev pub Fits : Version → (p : Piece) → Tells p → Type 0
+Fits v (word w) t = Unit {0}
+Fits v (number low high) n = (low ≤ n) × (n ≤ high)
+Fits v kind k = Unit {0}
+Fits v call w = HasWord v w
+Fits v reply r = HasReply v r
+
+-- whether a piece has its form: a word is that word, a number may be anything
+abbrev pub has_form : Version → Piece → List ℕ → Bool
+has_form v (word w) x = bytes_eq x w
+has_form v (number low high) x = true
+has_form v kind x = is_some (kind_of x)
+has_form v call x = is_some (call_word_in v x)
+has_form v reply x = is_reply_in v x
+
+-- and what it tells then
+abbrev pub told : Version → (p : Piece) → List ℕ → Option (Tells p)
+told v (word w) x = if bytes_eq x w then Some tt else None
+told v (number low high) x = number_in low high x
+told v kind x = kind_of x
+told v call x = call_word_in v x
+told v reply x = reply_in v x
+
+-- A FORM is the pieces of a line
+abbrev pub Form : Type 0
+Form = List Piece
+
+-- what its pieces tell, one after another
+abbrev pub Told : Form → Type 0
+Told [] = Unit {0}
+Told (p ∷ f) = Tells p × Told f
+
+abbrev pub spell : (f : Form) → Told f → List (List ℕ)
+spell [] t = []
+spell (p ∷ f) t = spelled p t.0 ∷ spell f t.1
+
+-- the line that tells this
+abbrev pub line_with : (f : Form) → Told f → List ℕ
+line_with f t = line_of (spell f t)
+
+abbrev pub AllFit : Version → (f : Form) → Told f → Type 0
+AllFit v [] t = Unit {0}
+AllFit v (p ∷ f) t = Fits v p t.0 × AllFit v f t.1
+
+-- as many pieces as the form has, each of its form
+abbrev pub have_form : Version → Form → List (List ℕ) → Bool
+have_form v [] [] = true
+have_form v [] (x ∷ xs) = false
+have_form v (p ∷ f) [] = false
+have_form v (p ∷ f) (x ∷ xs) = have_form v f xs && has_form v p x
+
+abbrev pub both : {A B : Type 0} → Option A → Option B → Option (A × B)
+both None o = None
+both (Some a) None = None
+both (Some a) (Some b) = Some (a, b)
+
+abbrev pub all_told : Version → (f : Form) → List (List ℕ) → Option (Told f)
+all_told v [] xs = Some tt
+all_told v (p ∷ f) [] = None
+all_told v (p ∷ f) (x ∷ xs) = both (told v p x) (all_told v f xs)
+
+-- what a line of a form tells; `None` for any other line
+abbrev pub told_in : Version → (f : Form) → List (List ℕ) → Option (Told f)
+told_in v f xs = if have_form v f xs then all_told v f xs else None
+
+-- a form of at least one piece, whose words are of letters, digits and dashes, and whose numbers are not too great
+abbrev pub IsPiece : Piece → Type 0
+IsPiece (word w) = all_from 45 w ≡ true
+IsPiece (number low high) = high < 2 ^ 64
+IsPiece kind = Unit {0}
+IsPiece call = Unit {0}
+IsPiece reply = Unit {0}
+
+abbrev pub ArePieces : Form → Type 0
+ArePieces [] = Unit {0}
+ArePieces (p ∷ f) = IsPiece p × ArePieces f
+
+abbrev pub IsForm : Form → Type 0
+IsForm [] = ⊥
+IsForm (p ∷ f) = IsPiece p × ArePieces f
+
+-- THE LAW of forms: a line of a form is read from its text, and from nothing else
+abbrev pub FormsReadBack : Type 0
+FormsReadBack = (v : Version) (f : Form) (line : List ℕ) (t : Told f) → IsForm f
+    → (AllFit v f t → told_in v f (cut_at 32 (line_with f t)) ≡ Some t)
+    × (told_in v f (cut_at 32 line) ≡ Some t → (line ≡ line_with f t) × AllFit v f t)
