@@ -23,9 +23,9 @@ use Rattle.lset_schedule.specs.declared.fault.Cause.TheVariants.{Memory}
 use Rattle.lset_schedule.specs.declared.fault.ScheduleFault.{ScheduleFault}
 use Rattle.lset_schedule.specs.Plan.{IsLine}
 use Rattle.lset_schedule.specs.Plan as plan
-use Rattle.lset_schedule.specs.ScheduleReading.{BodyValue, text_in, Gives}
+use Rattle.lset_schedule.specs.ScheduleReading.{texts, Gives}
 use Rattle.lset_schedule.specs.ScheduleReading as schedule
-use Rattle.lset_schedule.proofs.BodyLaws.{HasText, text_found, text_cut, text_again}
+use Rattle.lset_schedule.proofs.BodyLaws.{body_found, body_again}
 use Rattle.lset_text.proofs.KindLaws.{knows_as, made_as}
 use Rattle.lset_schedule.proofs.TextLaws.{events_known, event_made, gives_ok}
 use Rattle.tool_draft.specs.declared.value.Draft.{Draft}
@@ -106,20 +106,17 @@ no_opening (To t row) is = refl
 
 pub is_found : (bytes : List ℕ) (d : DraftValue) → reading bytes ≡ Ok d → IsDraft d × (bytes ≡ draft_text d)
 is_found bytes d is =
-    let told = bind_ok (text_in events Two title (cut_at 10 bytes)) (λ told. Ok (draft_told told)) d is in
-    let found = text_found events Two pieces_of IsDraftLine draft_known draft_made no_opening title bytes told.0 told.1 in
-    subst (λ x. IsDraft x × (bytes ≡ draft_text x)) (ok_is (draft_told told.0) d told.2)
+    let body = bind_ok (text_from (texts events Two title) (cut_at 10 bytes)) (λ b. Ok (drafted b.header b.keys b.lines)) d is in
+    let found = body_found events Two title pieces_of IsDraftLine draft_known draft_made no_opening bytes body.0 body.1 in
+    subst (λ x. IsDraft x × (bytes ≡ draft_text x)) (ok_is (drafted body.0.header body.0.keys body.0.lines) d body.2)
     (record { opens = found.0.opens; lines = found.0.lines; few = found.0.few }, found.1)
 
 pub reads_text : (d : DraftValue) → IsDraft d → reading (draft_text d) ≡ Ok d
 reads_text d is =
-    let body : BodyValue DraftLine = record { keys = d.opening; lines = d.lines } in
-    let has : HasText events Two IsDraftLine (header_in d) body =
-    record { opens = is.opens; opening = tt; lines = is.lines; few = is.few } in
-    let cut = text_cut events Two pieces_of IsDraftLine draft_known draft_made no_opening title (header_in d) body
-    (Lacks-from_test 10 title refl) has in
-    let again = text_again events Two pieces_of IsDraftLine draft_known draft_made no_opening title (header_in d) body has in
-    rw (cut, again) refl
+    let again = body_again events Two title pieces_of IsDraftLine draft_known draft_made no_opening
+    (record { header = header_in d; keys = d.opening; lines = d.lines }) (Lacks-from_test 10 title refl)
+    (record { opens = is.opens; opening = tt; lines = is.lines; few = is.few }) in
+    rw (again.0, again.1) refl
 
 -- ---- as a reader's clauses
 

@@ -90,11 +90,11 @@ fn draft(alloc: Global, bytes: &[u8]) -> Result<Draft, ScheduleFault>
     ensures exact { Gives view result (reading bytes.now) }
     ensures memory { IfErr result (λ e. e.cause ≡ Cause.Memory → IsGoodAfterHeader bytes.now (reading bytes.now) e.line) }
 {
-    let (header, body) = read_text(alloc, Version::Two, TITLE.as_bytes(), bytes)?;
+    let body = read_text(alloc, Version::Two, TITLE.as_bytes(), bytes)?;
     Ok(Draft {
-        kind: header.kind,
-        threads: header.threads,
-        quota: header.quota,
+        kind: body.header.kind,
+        threads: body.header.threads,
+        quota: body.header.quota,
         opening: body.opening,
         lines: body.lines,
     })
