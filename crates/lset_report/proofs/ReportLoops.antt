@@ -30,8 +30,8 @@ use Rattle.lset_report.specs.declared.report_fault.ReportCause.TheVariants as wr
 use Rattle.lset_report.specs.declared.report_fault.ReportFault.{ReportFault}
 use Rattle.lset_report.specs.Report.{ReportValue}
 use Rattle.lset_report.specs.Texts.{title, last_line}
-use Rattle.lset_report.specs.ReportReading.{fault, in_report, causes, kinds, may_follow, most_keys, is_next, counted, rising, following}
-use Rattle.lset_report.specs.ReportReading.{judged, line_after, SoFar, with_told, step, ends, is_done, grammar, text}
+use Rattle.lset_report.specs.ReportReading.{fault, in_report, causes, kinds, may_follow, most_keys, is_next}
+use Rattle.lset_report.specs.ReportReading.{judged, line_after, SoFar, with_told, step, grammar, text}
 use Rattle.lset_report.specs.ReportReading.{no_lines, nothing_told, version_told, reading, line_number, RunsOut}
 use Rattle.lset_report.specs.ReportReader.{so_far, state, IsFull}
 
@@ -127,21 +127,6 @@ stops_at all start s line rest x after e parts (inr full) stands =
           (subst (λ (y : List ℕ). line_in s.report.version causes (kinds s.report.version s.section) y ≡ Ok full.0)
           (sym here ∙ is_end) read))),
     )
-
--- ---- where a text ends
-
-pub ended_at : (s : SoFar) → s.section ≡ section.Done → ends s ≡ Ok s
-ended_at s is = let done : is_done s.section ≡ true = ap is_done is in rw done refl
-
-unfinished : (s : Section) → (s ≡ section.Done → ⊥) → is_done s ≡ false
-unfinished section.Opening h = refl
-unfinished section.Calls h = refl
-unfinished section.Order h = refl
-unfinished section.Keys h = refl
-unfinished section.Done h = absurd (h refl)
-
-pub not_ended_at : (s : SoFar) → (s.section ≡ section.Done → ⊥) → ends s ≡ Err wrong.NotEnded
-not_ended_at s is = rw (unfinished s.section is) refl
 
 -- ---- texts with their headers
 

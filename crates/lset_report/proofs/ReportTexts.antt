@@ -1,5 +1,5 @@
 -- The two laws: what is read is the text of the report, and the text of a report is read.
-use Rattle.std.proofs.Common.{◌≡◌, ℕ, ◌+◌, ◌<◌, ◌≤◌, ◌^◌, inl, inr, Bool, true, false, cond, List, [], ◌∷◌, ◌++◌, map, length}
+use Rattle.std.proofs.Common.{◌≡◌, ℕ, ◌+◌, ◌<◌, ◌≤◌, ◌^◌, inl, inr, true, false, cond, List, [], ◌∷◌, ◌++◌, map, length}
 use Rattle.std.proofs.Common.{Option, Some, None, Result, Ok, Err, refl, sym, ap, subst, ◌∙◌, arith, append_assoc, length-append}
 use Rattle.std.specs.Prelude.{IfOk, MatchResult}
 use Rattle.std.specs.List.{AllByRecursion}
@@ -47,7 +47,7 @@ use Rattle.lset_report.specs.ReportReading.{IsEnd, IsCall, IsPlace, IsReport, mo
 use Rattle.lset_report.specs.ReportReading.{section_after, with_key_opened, with_line, SoFar, with_told, step, ends, is_done, grammar}
 use Rattle.lset_report.specs.ReportReading.{no_lines, nothing_told, text, version_told, report_of, reading, Gives}
 use Rattle.lset_report.proofs.ReportHistories.{history_more, may_again}
-use Rattle.lset_report.proofs.ReportLines.{line_text, IsEndLine, IsLine, Reaches, line_ok, line_free, IsTold, line_again, later, reached}
+use Rattle.lset_report.proofs.ReportLines.{line_text, IsLine, Reaches, line_ok, line_free, IsTold, line_again, later, reached}
 use Rattle.lset_report.proofs.ReportLines.{opening_told, call_told_so, place_told, key_told, end_told_so, call_comes, place_comes}
 use Rattle.lset_report.proofs.ReportLines.{key_comes}
 use Rattle.lset_report.proofs.ReportLoops.{kept_if, IsGood, judged_good, line_read, report_told}
@@ -112,10 +112,6 @@ more_lines r told.End next good = refl
 
 -- ---- and the report keeps its limits
 
-is_end : (v : Version) (o : Option (ℕ × Reply)) → IsEndLine v o → IsEnd v o
-is_end v None h = tt
-is_end v (Some e) h = (h.1, h.2)
-
 length-one : {X : Type 0} (xs : List X) (x : X) → length (xs ++ x ∷ []) ≡ length xs + 1
 length-one xs x = length-append xs (x ∷ [])
 
@@ -155,8 +151,7 @@ report_more r (told.Opening k) is line good =
     is_report (with_line r (told.Opening k)) (opens_more r.history.opening k is.opens line.0 good.0 good.1) has is.history
     (is.calls, is.few_calls) (is.places, is.few_places) (is.keys, is.few_keys)
 report_more r (told.Call n x) is line good =
-    let calls = all_both (IsCall r.version) r.history.calls (x ∷ []) is.calls
-    ((line.4, line.2, is_end r.version x.ended line.5, line.6), tt) in
+    let calls = all_both (IsCall r.version) r.history.calls (x ∷ []) is.calls (line.4, tt) in
     is_report (with_line r (told.Call n x)) is.opens is.opening
     (history_more r.history.opening.threads r.history.calls x is.history good.2)
     (calls, omega (arith, length-one r.history.calls x, good.0)) (is.places, is.few_places) (is.keys, is.few_keys)
@@ -308,9 +303,9 @@ openings_lead Two h os has rising long low =
     step_again (at Two h front [] [] []) (told.Opening k) (opening_told k (middle (λ n. n < 2 ^ 32) front more os k is low))
     (omega (arith, shorter front more os k is, long), above_before front k more (subst IsStrictlyIncreasing (sym is) rising)))
 
-end_line : (v : Version) (o : Option (ℕ × Reply)) (b : ℕ) → IfSome o (λ (e : ℕ × Reply). b < e.0) → IsEnd v o → IsEndLine v o
-end_line v None b later_is h = tt
-end_line v (Some e) b later_is h = (omega arith, h.0, h.1)
+some_end : (o : Option (ℕ × Reply)) (b : ℕ) → IfSome o (λ (e : ℕ × Reply). b < e.0) → IfSome o (λ (e : ℕ × Reply). 0 < e.0)
+some_end None b after = tt
+some_end (Some e) b after = omega (arith, after)
 
 calls_lead : (v : Version) (h : Header) (os : List ℕ) (cs : List CallRecord) → h.threads ≤ 64 → length cs ≤ MOST_CALLS
     → IsHistory h.threads cs → AllByRecursion (IsCall v) cs
@@ -321,15 +316,8 @@ calls_lead v h os cs few long history are =
     let low : length front < MOST_CALLS = omega (arith, shorter front more cs x is, long) in
     let call = middle (IsCall v) front more cs x is are in
     let may = follows h.threads [] front more x (subst (IsHistory h.threads) (sym is) history) in
-    let line : IsLine v (told.Call (length front) x) = (
-      omega (arith, low),
-      omega (arith, may.of_a_thread, few),
-      call.1,
-      may.counted,
-      call.0,
-      end_line v x.ended x.begun may.ends_later call.2,
-      call.3,
-    ) in
+    let line : IsLine v (told.Call (length front) x) =
+    (omega (arith, low), omega (arith, may.of_a_thread, few), may.counted, some_end x.ended x.begun may.ends_later, call) in
     step_again (at v h os front [] []) (told.Call (length front) x) (call_comes v front (told.Call (length front) x) refl
     (call_told_so v (length front) x.thread x.begun x.call x.ended line))
     (low, refl, may_again h.threads front x may)

@@ -1,12 +1,13 @@
-use Rattle.std.proofs.Common.{refl, sym, ap, ◌∙◌, inl, arith}
+use Rattle.std.proofs.Common.{◌≡◌, Ok, Err, rules, refl, sym, ap, ◌∙◌, inl, arith}
 use Rattle.std.proofs.lemmas.Bool.{eqb-true, eqb-false}
 use Rattle.std.proofs.lemmas.Result.{err_from_is_err_and}
 use Rattle.lset_text.specs.Results.{map_fault}
 use Rattle.lset_text.specs.Texts.{first_line}
 use Rattle.lset_text.proofs.LineLaws.{starts, goes_on, not_ended, is_done}
-use Rattle.lset_report.specs.ReportReading.{fault, grammar}
+use Rattle.lset_report.specs.declared.report_fault.ReportCause.TheVariants.{NotEnded}
+use Rattle.lset_report.specs.ReportReading.{fault, ends, grammar}
 use Rattle.lset_report.specs.ReportReader.{state}
-use Rattle.lset_report.proofs.ReportLoops.{AllOf, stops_at, ended_at, not_ended_at}
+use Rattle.lset_report.proofs.ReportLoops.{AllOf, stops_at}
 use Rattle.lset_report.proofs.reading.Reader.read_lines.Goals as goal
 
 pub loop-rest-init : goal.loop-rest-init
@@ -46,14 +47,16 @@ loop-rest-preserved c =
 pub returns-in-Done-clause-told : goal.returns-in-Done-clause-told
 returns-in-Done-clause-told c =
     let none = eqb-true _ _ (sym c.is_empty.ensures ∙ c.loop-rest-test.false) in
+    let ended : ends (state c.loop-rest.self) ≡ Ok (state c.loop-rest.self) = rw c.in-Done.is refl in
     is_done grammar first_line c.args.text.now (AllOf c.args.text.now (state c.args.self.now)) c.loop-rest.number
     (state c.loop-rest.self) c.loop-rest.rest.now none c.loop-rest.invariant.stands
-    ∙ ap (map_fault (fault c.loop-rest.number)) (ended_at (state c.loop-rest.self) c.in-Done.is)
+    ∙ ap (map_fault (fault c.loop-rest.number)) ended
 
 pub returns-in_default-section-clause-told : goal.returns-in_default-section-clause-told
 returns-in_default-section-clause-told c =
     let none = eqb-true _ _ (sym c.is_empty.ensures ∙ c.loop-rest-test.false) in
+    let unended : ends (state c.loop-rest.self) ≡ Err NotEnded = search rules in
     inl (rw c.at-in_default-section.ensures
     (is_done grammar first_line c.args.text.now (AllOf c.args.text.now (state c.args.self.now)) c.loop-rest.number
     (state c.loop-rest.self) c.loop-rest.rest.now none c.loop-rest.invariant.stands
-    ∙ ap (map_fault (fault c.loop-rest.number)) (not_ended_at (state c.loop-rest.self) c.in_default-section.not-Done)))
+    ∙ ap (map_fault (fault c.loop-rest.number)) unended))
