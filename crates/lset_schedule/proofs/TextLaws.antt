@@ -10,7 +10,7 @@ use Rattle.lset_text.specs.declared.words.Version.TheVariants.{One, Two}
 use Rattle.lset_text.specs.Parts.{cut_at, Lacks}
 use Rattle.lset_text.specs.Forms.{spell, have_form}
 use Rattle.lset_text.specs.Spellings.{word_of, with_key, HasWord}
-use Rattle.lset_text.specs.Headers.{header_of, header_lines, told_by_line}
+use Rattle.lset_text.specs.Headers.{header_lines}
 use Rattle.lset_text.specs.Openings.{opening_form, opening_lines}
 use Rattle.lset_text.specs.Texts.{text_from}
 use Rattle.lset_text.proofs.PartLaws.{Lacks-from_test}
@@ -21,10 +21,10 @@ use Rattle.lset_schedule.specs.declared.value.Line.{Line}
 use Rattle.lset_schedule.specs.declared.value.Line.TheVariants.{Begin, Go}
 use Rattle.lset_schedule.specs.declared.value.Schedule.{Schedule}
 use Rattle.lset_schedule.specs.declared.fault.Cause.{Cause}
-use Rattle.lset_schedule.specs.declared.fault.Cause.TheVariants.{NotEnded, Memory}
+use Rattle.lset_schedule.specs.declared.fault.Cause.TheVariants.{Memory}
 use Rattle.lset_schedule.specs.declared.fault.ScheduleFault.{ScheduleFault}
 use Rattle.lset_schedule.specs.Plan.{Plan, view, planned, header_in, pieces_of, line_text, title, schedule_text, IsLine, IsSchedule}
-use Rattle.lset_schedule.specs.ScheduleReading.{fault, begin_kind, events, schedules, plan_in, version_told, plan_of}
+use Rattle.lset_schedule.specs.ScheduleReading.{begin_kind, events, schedules, plan_in, version_told, plan_of}
 use Rattle.lset_schedule.specs.ScheduleReading.{reading, Gives}
 use Rattle.lset_text.proofs.TextLaws.{version_again}
 use Rattle.lset_schedule.proofs.BodyLaws.{body_found, body_again}
@@ -61,12 +61,6 @@ no_opening v (Begin t c) is = refl
 no_opening v (Go t n) is = refl
 
 -- ---- the whole
-
--- a first line without its newline is not ended, in either version
-pub title_not_ended : (v : Version) → reading (title v) ≡ Err (fault 1 NotEnded)
-unfolding text_from header_of told_by_line
-title_not_ended One = refl
-title_not_ended Two = refl
 
 title_lacks : (v : Version) → Lacks 10 (title v)
 title_lacks One = Lacks-from_test 10 (title One) refl

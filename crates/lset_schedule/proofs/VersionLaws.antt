@@ -1,11 +1,10 @@
 -- Which schedules may be written: those that can be read, and all of the second version.
-use Rattle.std.proofs.Common.{◌≡◌, List, [], ◌∷◌, sym, subst}
+use Rattle.std.proofs.Common.{List, [], ◌∷◌}
 use Rattle.std.specs.List.{AllByRecursion}
 use Rattle.lset_words.specs.declared.Call.{Call}
 use Rattle.lset_words.specs.declared.Call.TheVariants as call
 use Rattle.lset_text.specs.declared.words.Version.{Version}
 use Rattle.lset_text.specs.declared.words.Version.TheVariants.{Two}
-use Rattle.lset_text.specs.Openings.{HasOpening}
 use Rattle.lset_text.specs.Spellings.{HasCall}
 use Rattle.lset_schedule.specs.declared.value.Line.{Line}
 use Rattle.lset_schedule.specs.declared.value.Line.TheVariants.{Begin, Go}
@@ -30,8 +29,3 @@ lines_of_two : (ls : List Line) → AllByRecursion (HasCallOfLine Two) ls
 lines_of_two [] = tt
 lines_of_two (Begin t c ∷ ls) = (call_of_two c, lines_of_two ls)
 lines_of_two (Go t n ∷ ls) = (tt, lines_of_two ls)
-
--- the second version has words for all
-pub two_has_words : (p : Plan) → p.version ≡ Two → HasWordsOfVersion p
-two_has_words p two =
-    subst (λ v. HasOpening v p.opening × AllByRecursion (HasCallOfLine v) p.lines) (sym two) (tt, lines_of_two p.lines)

@@ -18,9 +18,6 @@ pub record HasStepped (T : Table) (w : WorldState) (t n : ℕ) (w' : WorldState)
   pub enabled : AreEnabled T w.state t n
   pub world : w' ≡ world_on T w t n
 
-pub stepped_none : (T : Table) (w : WorldState) (t : ℕ) → HasStepped T w t 0 w
-stepped_none T w t = record { enabled = λ m l. absurd (omega arith); world = refl }
-
 last_or_before : (m n : ℕ) → m < suc n → (m ≡ n) ⊎ (m < n)
 last_or_before m n l = grind arith
 
