@@ -9,8 +9,9 @@ use Rattle.std.specs.Option.{IfSome, IsSomeAnd}
 use Rattle.std.specs.Ordering.{nat_cmp}
 use Rattle.std.specs.BTreeSet.{contains}
 use Rattle.std.proofs.lemmas.List.{get_or-set_other, get_or-set_same, append-nil, length-set}
-use Rattle.std.proofs.lemmas.List.Elements.{All-cons, All-nil, All-head, All-tail}
-use Rattle.std.proofs.lemmas.List.Folds.{list_any-append, list_all-append}
+use Rattle.std.proofs.lemmas.List.Elements.{All-cons, All-nil}
+use Rattle.std.proofs.lemmas.List.Folds.{list_any-append, list_all-append, list_any_none}
+use Rattle.std.proofs.lemmas.List.Sums.{AllPass-from_list_all, list_all-from_AllPass}
 use Rattle.std.proofs.lemmas.Bool.{cases_eq, cases_Bool, and_parts, and_from, and_right, or_parts, or_from}
 use Rattle.std.proofs.lemmas.Bool.{or_cases, or_left, or_right, not-true, not_from_false, ltb-true, lt-ltb}
 use Rattle.std.proofs.lemmas.Bool.{eqb-false, eq-eqb, ne_eqb, true≢false}
@@ -26,16 +27,11 @@ use Rattle.lset_report.specs.ReportCalls.{threads_of, is_before, end_moment, Tra
 
 all_tests : {X : Type 0} (p : X → Bool) (P : X → Type 0) → ((x : X) → p x ≡ true → P x) → (xs : List X) → list_all p xs ≡ true
     → All P xs
-all_tests p P each [] h = All-nil P
-all_tests p P each (x ∷ xs) h =
-    let parts = and_parts (p x) (list_all p xs) h in
-    All-cons P x xs (each x parts.0) (all_tests p P each xs parts.1)
+all_tests p P each xs h k d b = each (get_or xs k d) (AllPass-from_list_all p xs h k d b)
 
 tests_all : {X : Type 0} (p : X → Bool) (P : X → Type 0) → ((x : X) → P x → p x ≡ true) → (xs : List X) → All P xs
     → list_all p xs ≡ true
-tests_all p P each [] h = refl
-tests_all p P each (x ∷ xs) h =
-    and_from (p x) (list_all p xs) (each x (All-head P x xs h)) (tests_all p P each xs (All-tail P x xs h))
+tests_all p P each xs h = list_all-from_AllPass p xs (λ k d b. each (get_or xs k d) (h k d b))
 
 none_tests : {X : Type 0} (p : X → Bool) (P : X → Type 0) → ((x : X) → p x ≡ false → P x) → (xs : List X)
     → list_any p xs ≡ false → All P xs
@@ -46,9 +42,7 @@ none_tests p P each (x ∷ xs) h =
 
 tests_none : {X : Type 0} (p : X → Bool) (P : X → Type 0) → ((x : X) → P x → p x ≡ false) → (xs : List X) → All P xs
     → list_any p xs ≡ false
-tests_none p P each [] h = refl
-tests_none p P each (x ∷ xs) h =
-    or_from (p x) (list_any p xs) (each x (All-head P x xs h)) (tests_none p P each xs (All-tail P x xs h))
+tests_none p P each xs h = list_any_none p xs (λ k d b. each (get_or xs k d) (h k d b))
 
 -- ---- one end, and a moment
 

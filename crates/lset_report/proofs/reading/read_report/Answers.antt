@@ -1,5 +1,5 @@
 use Rattle.lset_report.proofs.ReportTexts.{found_in, words_found}
-use Rattle.lset_report.proofs.ReportAgain.{only_in}
+use Rattle.lset_report.proofs.ReportTexts.{only_in}
 use Rattle.lset_report.proofs.reading.read_report.Goals as goal
 
 pub returns-clause-found : goal.returns-clause-found
