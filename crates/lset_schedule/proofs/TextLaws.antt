@@ -82,7 +82,7 @@ reads_text p is =
     (record { opens = is.opens; opening = is.opening; lines = is.lines; few = is.few }) in
     let rest : List (List ℕ) = (opening_lines p.opening ++ map line_text p.lines) ++ [] ∷ [] in
     let parts : List (List ℕ) = header_lines (title v) (header_in p) ++ rest in
-    ap plan_of again.0 ∙ ap (λ w. plan_in w parts) (version_again schedules refl v []) ∙ rw again.1 refl
+    ap plan_of again.0 ∙ ap (λ w. plan_in w parts) (version_again schedules refl v (header_in p) rest) ∙ rw again.1 refl
 
 -- ---- as a reader's clauses
 

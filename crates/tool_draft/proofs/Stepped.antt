@@ -38,9 +38,6 @@ module _ (T : Table) (w : WorldState) (t n : ℕ) (w' : WorldState) (h : HasStep
       } in
       subst (λ k. HasStepped T w t k w'') (sym (add-one n)) one_more
 
-  pub refused_at : (why : StepFault) → Refused w' (Go t) why → IsRefusedAt T w t n why
-  refused_at why refused = record { enabled = h.enabled; refused = subst (λ z. Refused z (Go t) why) h.world refused }
-
   pub come : (row before most : ℕ) → n ≡ before + 1 → n ≤ most → IsNotYet T w.state t row before → (local_of w'.state t).pc ≡ row
       → HasCome T w t row most n w'
   come row before most is few not_yet there = record {
