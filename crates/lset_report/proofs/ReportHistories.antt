@@ -8,6 +8,7 @@ use Rattle.std.specs.List.{All, list_any, list_all}
 use Rattle.std.specs.Option.{IfSome, IsSomeAnd}
 use Rattle.std.specs.Ordering.{nat_cmp}
 use Rattle.std.specs.BTreeSet.{contains}
+use Rattle.std.proofs.lemmas.Option.{IfSome_then}
 use Rattle.std.proofs.lemmas.List.{get_or-set_other, get_or-set_same, append-nil, length-set}
 use Rattle.std.proofs.lemmas.List.Elements.{All-cons, All-nil}
 use Rattle.std.proofs.lemmas.List.Folds.{list_any-append, list_all-append, list_any_none}
@@ -54,14 +55,6 @@ at_none : (m : ℕ) (o : Option (ℕ × Reply)) → IfSome o (λ (e : ℕ × Rep
 at_none m None h = refl
 at_none m (Some e) h = ne_eqb e.0 m h
 
-turned : (m : ℕ) (o : Option (ℕ × Reply)) → IfSome o (λ (e : ℕ × Reply). e.0 ≢ m) → IfSome o (λ (e : ℕ × Reply). m ≢ e.0)
-turned m None h = tt
-turned m (Some e) h = λ same. h (sym same)
-
-turned_back : (m : ℕ) (o : Option (ℕ × Reply)) → IfSome o (λ (e : ℕ × Reply). m ≢ e.0) → IfSome o (λ (e : ℕ × Reply). e.0 ≢ m)
-turned_back m None h = tt
-turned_back m (Some e) h = λ same. h (sym same)
-
 has_ended : (m : ℕ) (o : Option (ℕ × Reply)) → ended_before m o ≡ true → IsSomeAnd o (λ (e : ℕ × Reply). e.0 < m)
 has_ended m None h = absurd cc
 has_ended m (Some e) h = ltb-true e.0 m h
@@ -94,10 +87,10 @@ Apart m y = (m ≢ y.begun) × IfSome y.ended (λ (d : ℕ × Reply). m ≢ d.0)
 apart_of : (m : ℕ) (y : CallRecord) → is_entry m y ≡ false → Apart m y
 apart_of m y h =
     let parts = or_parts (eqb y.begun m) (ends_at m y.ended) h in
-    (λ same. eqb-false y.begun m parts.0 (sym same), turned m y.ended (not_at m y.ended parts.1))
+    (λ same. eqb-false y.begun m parts.0 (sym same), IfSome_then y.ended (not_at m y.ended parts.1) (λ e other same. other (sym same)))
 
 apart_test : (m : ℕ) (y : CallRecord) → Apart m y → is_entry m y ≡ false
-apart_test m y h = or_from _ _ (ne_eqb y.begun m (λ same. h.0 (sym same))) (at_none m y.ended (turned_back m y.ended h.1))
+apart_test m y h = or_from _ _ (ne_eqb y.begun m (λ same. h.0 (sym same))) (at_none m y.ended (IfSome_then y.ended h.1 (λ e other same. other (sym same))))
 
 later_of : (calls : List CallRecord) (b : ℕ) (o : Option (ℕ × Reply)) → ends_later calls b o ≡ true
     → IfSome o (λ (e : ℕ × Reply). b < e.0)

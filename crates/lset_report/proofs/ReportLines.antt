@@ -1,5 +1,5 @@
 -- A line of a report is read from its text, and from nothing else.
-use Rattle.std.proofs.Common.{◌≡◌, ℕ, ◌<◌, ◌≤◌, ◌^◌, inl, inr, Bool, false, List, [], ◌∷◌, Option, Some, None, Ok, refl, ap, arith}
+use Rattle.std.proofs.Common.{◌≡◌, ℕ, ◌<◌, ◌≤◌, ◌^◌, inl, inr, Bool, false, List, [], ◌∷◌, Option, Some, None, refl, ap, arith}
 use Rattle.std.proofs.Common.{codes}
 use Rattle.std.specs.Fmt.{decimal}
 use Rattle.std.specs.List.{AllByRecursion}
@@ -13,20 +13,20 @@ use Rattle.lset_text.specs.declared.words.CallWord.{CallWord}
 use Rattle.lset_text.specs.declared.words.CallWord.TheVariants.{Add, Remove, Contains, Ceiling}
 use Rattle.lset_text.specs.declared.words.Version.{Version}
 use Rattle.lset_text.specs.declared.words.Version.TheVariants.{One, Two}
-use Rattle.lset_text.specs.Parts.{line_of, Lacks}
+use Rattle.lset_text.specs.Parts.{line_of}
 use Rattle.lset_text.specs.Numbers.{max_number}
 use Rattle.lset_text.specs.Spellings.{call_text, call_word_text, word_of, with_key, reply_text, HasWord}
 use Rattle.lset_text.specs.Forms.{word, moment, reply, Form, Told, spell, AllFit, have_form, ArePieces}
-use Rattle.lset_text.specs.Kinds.{LineKind, line_in}
+use Rattle.lset_text.specs.Kinds.{LineKind}
 use Rattle.lset_text.proofs.WordLaws.{with_key-word_of}
-use Rattle.lset_text.proofs.KindLaws.{Knows, IsMade, line_found, line_found_lacks, line_made}
+use Rattle.lset_text.proofs.KindLaws.{Knows, IsMade}
 use Rattle.lset_report.specs.declared.reading.lines.Line.{Line}
 use Rattle.lset_report.specs.declared.reading.lines.Line.TheVariants as told
 use Rattle.lset_report.specs.declared.reading.lines.Section.{Section}
 use Rattle.lset_report.specs.declared.reading.lines.Section.TheVariants as section
 use Rattle.lset_report.specs.Report.{ReportValue}
 use Rattle.lset_report.specs.Texts.{end_pieces}
-use Rattle.lset_report.specs.ReportReading.{call_told, call_form, IsEnd, IsCall, IsPlace, causes, opening_kind, open_kind, ended_kind, place_kind}
+use Rattle.lset_report.specs.ReportReading.{call_told, call_form, IsEnd, IsCall, IsPlace, opening_kind, open_kind, ended_kind, place_kind}
 use Rattle.lset_report.specs.ReportReading.{from_calls, from_order, from_keys, kinds, section_after}
 
 -- ---- lines and their texts
@@ -69,9 +69,6 @@ IsNext v r l = IsLine v l × Reaches (section_after l) r
 abbrev Known : Version → ReportValue → LineKind Line → Type 0
 Known v r = Knows v pieces_of (IsNext v r)
 
-abbrev AreKnown : Version → ReportValue → List (LineKind Line) → Type 0
-AreKnown v r ks = AllByRecursion (Known v r) ks
-
 -- a call that was told, whatever its end
 abbrev call_with : CallWord → ℕ → ℕ → ℕ → ℕ → Option (ℕ × Reply) → Line
 call_with w n t k b o = told.Call n (record { thread = t; call = with_key w (record { 0 = k }); begun = b; ended = o })
@@ -107,39 +104,31 @@ ended_known v r reached =
     call_known v r (moment ∷ reply ∷ []) (λ e. Some (e.0, e.1.0)) reached (omega arith, (tt, tt))
     (λ e fit. (refl, omega (arith, fit.0.0), (omega (arith, fit.0.1), fit.1.0)))
 
-keys_known : (v : Version) (r : ReportValue) → AreKnown v r from_keys
+keys_known : (v : Version) (r : ReportValue) → AllByRecursion (Known v r) from_keys
 keys_known v r = (
   ((refl, (omega arith, tt)), λ t fit. (refl, (omega (arith, fit.1.0.1), tt))),
   (((refl, tt), λ t fit. (refl, (tt, tt))), tt),
 )
 
-order_known : (v : Version) (r : ReportValue) → Reaches section.Order r → AreKnown v r from_order
+order_known : (v : Version) (r : ReportValue) → Reaches section.Order r → AllByRecursion (Known v r) from_order
 order_known v r reached = (
   ((refl, (omega arith, (tt, tt))), λ t fit. (refl, ((omega (arith, fit.1.0.1), fit.1.1.0), reached))),
   keys_known v r,
 )
 
-calls_known : (v : Version) (r : ReportValue) → Reaches section.Calls r → AreKnown v r from_calls
+calls_known : (v : Version) (r : ReportValue) → Reaches section.Calls r → AllByRecursion (Known v r) from_calls
 calls_known v r reached = (open_known v r reached, (ended_known v r reached, order_known v r reached.1))
 
 opening_known : (r : ReportValue) → Reaches section.Opening r → Known Two r opening_kind
 opening_known r reached = ((refl, (omega arith, tt)), λ t fit. (refl, ((omega (arith, fit.1.0.1), refl), reached)))
 
-kinds_known : (v : Version) (s : Section) (r : ReportValue) → Reaches s r → AreKnown v r (kinds v s)
+pub kinds_known : (v : Version) (s : Section) (r : ReportValue) → Reaches s r → AllByRecursion (Known v r) (kinds v s)
 kinds_known One section.Opening r reached = calls_known One r (reached.1, reached.2)
 kinds_known Two section.Opening r reached = (opening_known r reached, calls_known Two r (reached.1, reached.2))
 kinds_known v section.Calls r reached = calls_known v r reached
 kinds_known v section.Order r reached = order_known v r reached
 kinds_known v section.Keys r reached = keys_known v r
 kinds_known v section.Done r reached = tt
-
-pub line_ok : (v : Version) (s : Section) (r : ReportValue) (x : List ℕ) (l : Line) → Reaches s r
-    → line_in v causes (kinds v s) x ≡ Ok l → (x ≡ line_text l) × IsNext v r l
-line_ok v s r x l reached is = line_found v causes pieces_of (IsNext v r) (kinds v s) x l (kinds_known v s r reached) is
-
-pub line_free : (v : Version) (s : Section) (r : ReportValue) (x : List ℕ) (l : Line) → Reaches s r
-    → line_in v causes (kinds v s) x ≡ Ok l → Lacks 10 x
-line_free v s r x l reached is = line_found_lacks v causes pieces_of (IsNext v r) (kinds v s) x l (kinds_known v s r reached) is
 
 -- ---- what stands there is read
 
@@ -220,7 +209,3 @@ pub key_comes : (v : Version) (cs : List CallRecord) (ps : List Placed) (ks : Li
     → Has v place_kind l ≡ false → IsTold v from_keys l → IsTold v (kinds v (reached cs ps ks)) l
 key_comes v cs ps [] l other no_place is = place_comes v cs ps l other (inr (no_place, is))
 key_comes v cs ps (k ∷ ks) l other no_place is = is
-
-pub line_again : (v : Version) (s : Section) (r : ReportValue) (l : Line) → Reaches s r → IsTold v (kinds v s) l
-    → line_in v causes (kinds v s) (line_text l) ≡ Ok l
-line_again v s r l reached is = line_made v causes pieces_of (IsNext v r) (kinds v s) l (kinds_known v s r reached) is

@@ -4,7 +4,7 @@ use Rattle.std.proofs.Common.{Option, Some, None, Result, Ok, Err, refl, sym, ap
 use Rattle.std.specs.Prelude.{IfOk, MatchResult}
 use Rattle.std.specs.List.{AllByRecursion}
 use Rattle.std.specs.List.Sorted.{IsStrictlyIncreasing}
-use Rattle.std.specs.Option.{IfSome}
+use Rattle.std.proofs.lemmas.Option.{IfSome_then}
 use Rattle.std.proofs.lemmas.Grind.{flat_map-append}
 use Rattle.std.proofs.lemmas.List.{append-nil, map_push}
 use Rattle.std.proofs.lemmas.List.Elements.{All-append, All-cons, All-nil, recursion_from_All}
@@ -28,7 +28,7 @@ use Rattle.lset_text.specs.Texts.{text_from}
 use Rattle.lset_text.proofs.PartLaws.{Lacks-from_test}
 use Rattle.lset_text.proofs.ReadingLaws.{bind_ok, ok_is}
 use Rattle.lset_text.proofs.OpeningLaws.{rises_more, above_before}
-use Rattle.lset_text.proofs.KindLaws.{made_ok}
+use Rattle.lset_text.proofs.KindLaws.{made_ok, line_found, line_found_lacks, line_made}
 use Rattle.lset_text.proofs.LineLaws.{leads_on, items_lead}
 use Rattle.lset_text.proofs.TextLaws.{all_both, text_found, text_again, version_again}
 use Rattle.lset_report.specs.declared.reading.lines.Line.{Line}
@@ -47,7 +47,7 @@ use Rattle.lset_report.specs.ReportReading.{IsEnd, IsCall, IsPlace, IsReport, mo
 use Rattle.lset_report.specs.ReportReading.{section_after, with_key_opened, with_line, SoFar, with_told, step, ends, is_done, grammar}
 use Rattle.lset_report.specs.ReportReading.{no_lines, nothing_told, text, version_told, report_of, reading, Gives}
 use Rattle.lset_report.proofs.ReportHistories.{history_more, may_again}
-use Rattle.lset_report.proofs.ReportLines.{line_text, IsLine, Reaches, line_ok, line_free, IsTold, line_again, later, reached}
+use Rattle.lset_report.proofs.ReportLines.{pieces_of, line_text, IsLine, Reaches, IsNext, kinds_known, IsTold, later, reached}
 use Rattle.lset_report.proofs.ReportLines.{opening_told, call_told_so, place_told, key_told, end_told_so, call_comes, place_comes}
 use Rattle.lset_report.proofs.ReportLines.{key_comes}
 use Rattle.lset_report.proofs.ReportLoops.{kept_if, IsGood, judged_good, line_read, report_told}
@@ -112,9 +112,6 @@ more_lines r told.End next good = refl
 
 -- ---- and the report keeps its limits
 
-length-one : {X : Type 0} (xs : List X) (x : X) → length (xs ++ x ∷ []) ≡ length xs + 1
-length-one xs x = length-append xs (x ∷ [])
-
 opens_more : (o : Opening) (k : ℕ) → Opens o → k < 2 ^ 32 → length o.keys < MOST_OPENING → is_above o.keys k ≡ true
     → Opens (with_key_opened o k)
 opens_more o k is low room above = record {
@@ -122,7 +119,7 @@ opens_more o k is low room above = record {
     some = is.within.some;
     few = is.within.few;
     small = is.within.small;
-    opens = let long = length-one o.keys k in omega (arith, long, room);
+    opens = omega (arith, length-append o.keys (k ∷ []), room);
   };
   rising = rises_more o.keys k is.rising above;
   low = let P : ℕ → Type 0 = λ j. j < 2 ^ 32 in All-append P o.keys (k ∷ []) is.low (All-cons P k [] low (All-nil P));
@@ -154,15 +151,15 @@ report_more r (told.Call n x) is line good =
     let calls = all_both (IsCall r.version) r.history.calls (x ∷ []) is.calls (line.4, tt) in
     is_report (with_line r (told.Call n x)) is.opens is.opening
     (history_more r.history.opening.threads r.history.calls x is.history good.2)
-    (calls, omega (arith, length-one r.history.calls x, good.0)) (is.places, is.few_places) (is.keys, is.few_keys)
+    (calls, omega (arith, length-append r.history.calls (x ∷ []), good.0)) (is.places, is.few_places) (is.keys, is.few_keys)
 report_more r (told.Place p) is line good =
     let places = all_both (IsPlace r.version) r.order (p ∷ []) is.places (line, tt) in
     is_report (with_line r (told.Place p)) is.opens is.opening is.history (is.calls, is.few_calls)
-    (places, omega (arith, length-one r.order p, good)) (is.keys, is.few_keys)
+    (places, omega (arith, length-append r.order (p ∷ []), good)) (is.keys, is.few_keys)
 report_more r (told.Key k) is line good =
     let keys = all_both (λ j. j < 2 ^ 32) r.keys (k ∷ []) is.keys (line, tt) in
     is_report (with_line r (told.Key k)) is.opens is.opening is.history (is.calls, is.few_calls) (is.places, is.few_places)
-    (keys, omega (arith, length-one r.keys k, good))
+    (keys, omega (arith, length-append r.keys (k ∷ []), good))
 report_more r told.End is line good = is
 
 reaches_more : (r : ReportValue) (l : Line) → Reaches (section_after l) r → Reaches (section_after l) (with_line r l)
@@ -191,14 +188,15 @@ one_line s t x holds is =
     let r = s.report in
     let l = made_ok (with_told s) (line_after s.section r x) t is in
     let read = line_read s.section r x l.0 l.1 in
-    let found = line_ok r.version s.section r x l.0 holds.1 read.0 in
+    let known = kinds_known r.version s.section r holds.1 in
+    let found = line_found r.version causes pieces_of (IsNext r.version r) (kinds r.version s.section) x l.0 known read.0 in
     let before : to_end r ≡ lines_at s = rw (may_come r.version s.section x l.0 read.0) refl in
     let lines = more_lines r l.0 found.1.1 read.1 ∙ ap (λ (ls : List (List ℕ)). ls ++ line_text l.0 ∷ []) before
     ∙ ap (λ (y : List ℕ). lines_at s ++ y ∷ []) (sym found.0) in
     subst (λ (u : SoFar). IsSoFar u × (lines_at u ≡ lines_at s ++ x ∷ []) × Lacks 10 x) l.2 (
       (report_more r l.0 holds.0 found.1.0 read.1, reaches_more r l.0 found.1.1),
       lines,
-      line_free r.version s.section r x l.0 holds.1 read.0,
+      line_found_lacks r.version causes pieces_of (IsNext r.version r) (kinds r.version s.section) x l.0 known read.0,
     )
 
 same_end : (s t : SoFar) → ends s ≡ Ok t → s ≡ t
@@ -250,8 +248,9 @@ step_again : (s : SoFar) (l : Line) → IsTold s.report.version (kinds s.report.
     → step s (line_text l) ≡ Ok (with_told s l)
 step_again s l is good =
     let v = s.report.version in
-    let h = header_in s.report in
-    let read = line_again v s.section (no_lines v h) l (none_reached s.section v h) is in
+    let r = no_lines v (header_in s.report) in
+    let known = kinds_known v s.section r (none_reached s.section v (header_in s.report)) in
+    let read = line_made v causes pieces_of (IsNext v r) (kinds v s.section) l known is in
     ap (λ (x : Result Line ReportCause). made (with_told s) (x >>= judged s.report)) read
     ∙ ap (made (with_told s)) (judged_good s.report l good)
 
@@ -277,21 +276,21 @@ follows threads earlier (y ∷ ys) more x history =
 
 -- ---- the lines of each section lead on
 
-abbrev value : Version → Header → List ℕ → List CallRecord → List Placed → List ℕ → ReportValue
-value v h os cs ps ks = record {
-  version = v;
-  kind = h.kind;
-  history = record { opening = record { threads = h.threads; quota = h.quota; keys = os }; calls = cs };
-  order = ps;
-  keys = ks;
-}
-
 later_pushed : {X : Type 0} (xs : List X) (x : X) (s t : Section) → t ≡ later (xs ++ x ∷ []) s t
 later_pushed [] x s t = refl
 later_pushed (y ∷ ys) x s t = refl
 
 abbrev at : Version → Header → List ℕ → List CallRecord → List Placed → List ℕ → SoFar
-at v h os cs ps ks = record { section = reached cs ps ks; report = value v h os cs ps ks }
+at v h os cs ps ks = record {
+  section = reached cs ps ks;
+  report = record {
+    version = v;
+    kind = h.kind;
+    history = record { opening = record { threads = h.threads; quota = h.quota; keys = os }; calls = cs };
+    order = ps;
+    keys = ks;
+  };
+}
 
 openings_lead : (v : Version) (h : Header) (os : List ℕ) → HasOpening v os → IsStrictlyIncreasing os → length os ≤ MOST_OPENING
     → AllByRecursion (λ k. k < 2 ^ 32) os → Leads grammar (at v h [] [] [] []) (opening_lines os) (at v h os [] [] [])
@@ -303,10 +302,6 @@ openings_lead Two h os has rising long low =
     step_again (at Two h front [] [] []) (told.Opening k) (opening_told k (middle (λ n. n < 2 ^ 32) front more os k is low))
     (omega (arith, shorter front more os k is, long), above_before front k more (subst IsStrictlyIncreasing (sym is) rising)))
 
-some_end : (o : Option (ℕ × Reply)) (b : ℕ) → IfSome o (λ (e : ℕ × Reply). b < e.0) → IfSome o (λ (e : ℕ × Reply). 0 < e.0)
-some_end None b after = tt
-some_end (Some e) b after = omega (arith, after)
-
 calls_lead : (v : Version) (h : Header) (os : List ℕ) (cs : List CallRecord) → h.threads ≤ 64 → length cs ≤ MOST_CALLS
     → IsHistory h.threads cs → AllByRecursion (IsCall v) cs
     → Leads grammar (at v h os [] [] []) (call_lines 0 cs) (at v h os cs [] [])
@@ -317,11 +312,11 @@ calls_lead v h os cs few long history are =
     let call = middle (IsCall v) front more cs x is are in
     let may = follows h.threads [] front more x (subst (IsHistory h.threads) (sym is) history) in
     let line : IsLine v (told.Call (length front) x) =
-    (omega (arith, low), omega (arith, may.of_a_thread, few), may.counted, some_end x.ended x.begun may.ends_later, call) in
+    (omega (arith, low), omega (arith, may.of_a_thread, few), may.counted, IfSome_then x.ended may.ends_later (λ e after. omega (arith, after)), call) in
     step_again (at v h os front [] []) (told.Call (length front) x) (call_comes v front (told.Call (length front) x) refl
     (call_told_so v (length front) x.thread x.begun x.call x.ended line))
     (low, refl, may_again h.threads front x may)
-    ∙ ap (λ (s : Section). Ok (record { section = s; report = value v h os (front ++ x ∷ []) [] [] }))
+    ∙ ap (λ (s : Section). Ok (record { section = s; report = (at v h os (front ++ x ∷ []) [] []).report }))
     (later_pushed front x section.Opening section.Calls))
 
 places_lead : (v : Version) (h : Header) (os : List ℕ) (cs : List CallRecord) (ps : List Placed) → length ps ≤ MOST_PLACES
@@ -332,7 +327,7 @@ places_lead v h os cs ps long are =
     step_again (at v h os cs front []) (told.Place p) (place_comes v cs front (told.Place p) (refl, refl, refl)
     (place_told v p (middle (IsPlace v) front more ps p is are)))
     (omega (arith, shorter front more ps p is, long))
-    ∙ ap (λ (s : Section). Ok (record { section = s; report = value v h os cs (front ++ p ∷ []) [] }))
+    ∙ ap (λ (s : Section). Ok (record { section = s; report = (at v h os cs (front ++ p ∷ []) []).report }))
     (later_pushed front p (reached cs [] []) section.Order))
 
 keys_lead : (v : Version) (h : Header) (os : List ℕ) (cs : List CallRecord) (ps : List Placed) (ks : List ℕ)
@@ -344,7 +339,7 @@ keys_lead v h os cs ps ks long are =
     step_again (at v h os cs ps front) (told.Key k) (key_comes v cs ps front (told.Key k) (refl, refl, refl) refl
     (key_told v k (middle (λ n. n < 2 ^ 32) front more ks k is are)))
     (omega (arith, shorter front more ks k is, long))
-    ∙ ap (λ (s : Section). Ok (record { section = s; report = value v h os cs ps (front ++ k ∷ []) }))
+    ∙ ap (λ (s : Section). Ok (record { section = s; report = (at v h os cs ps (front ++ k ∷ [])).report }))
     (later_pushed front k (reached cs ps []) section.Keys))
 
 -- ---- the whole
@@ -436,10 +431,6 @@ words_in Two calls order are places = tt
 -- a report that has a text has the words of its version, so what was read can be written
 pub has_words : (r : ReportValue) → IsReport r → HasWordsOfVersion r
 has_words r is = record { opening = is.opening; words = words_in r.version r.history.calls r.order is.calls is.places }
-
-pub words_found : (bytes : List ℕ) (r : Result Report ReportFault) → Gives view r bytes → IfOk r (λ s. HasWordsOfVersion (view s))
-words_found bytes (Ok s) gives = has_words (view s) (is_found bytes (view s) gives).0
-words_found bytes (Err e) gives = tt
 
 -- ---- as what a writer writes
 

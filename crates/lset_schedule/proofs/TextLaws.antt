@@ -10,7 +10,7 @@ use Rattle.lset_text.specs.declared.words.Version.TheVariants.{One, Two}
 use Rattle.lset_text.specs.Parts.{cut_at, Lacks}
 use Rattle.lset_text.specs.Forms.{spell, have_form}
 use Rattle.lset_text.specs.Spellings.{word_of, with_key, HasWord}
-use Rattle.lset_text.specs.Headers.{header_of, header_lines, told_by_line}
+use Rattle.lset_text.specs.Headers.{header_lines}
 use Rattle.lset_text.specs.Openings.{opening_form, opening_lines}
 use Rattle.lset_text.specs.Texts.{text_from}
 use Rattle.lset_text.proofs.PartLaws.{Lacks-from_test}
@@ -21,10 +21,10 @@ use Rattle.lset_schedule.specs.declared.value.Line.{Line}
 use Rattle.lset_schedule.specs.declared.value.Line.TheVariants.{Begin, Go}
 use Rattle.lset_schedule.specs.declared.value.Schedule.{Schedule}
 use Rattle.lset_schedule.specs.declared.fault.Cause.{Cause}
-use Rattle.lset_schedule.specs.declared.fault.Cause.TheVariants.{NotEnded, Memory}
+use Rattle.lset_schedule.specs.declared.fault.Cause.TheVariants.{Memory}
 use Rattle.lset_schedule.specs.declared.fault.ScheduleFault.{ScheduleFault}
 use Rattle.lset_schedule.specs.Plan.{Plan, view, planned, header_in, pieces_of, line_text, title, schedule_text, IsLine, IsSchedule}
-use Rattle.lset_schedule.specs.ScheduleReading.{fault, begin_kind, events, schedules, plan_in, version_told, plan_of}
+use Rattle.lset_schedule.specs.ScheduleReading.{begin_kind, events, schedules, plan_in, version_told, plan_of}
 use Rattle.lset_schedule.specs.ScheduleReading.{reading, Gives}
 use Rattle.lset_text.proofs.TextLaws.{version_again}
 use Rattle.lset_schedule.proofs.BodyLaws.{body_found, body_again}
@@ -62,12 +62,6 @@ no_opening v (Go t n) is = refl
 
 -- ---- the whole
 
--- a first line without its newline is not ended, in either version
-pub title_not_ended : (v : Version) → reading (title v) ≡ Err (fault 1 NotEnded)
-unfolding text_from header_of told_by_line
-title_not_ended One = refl
-title_not_ended Two = refl
-
 title_lacks : (v : Version) → Lacks 10 (title v)
 title_lacks One = Lacks-from_test 10 (title One) refl
 title_lacks Two = Lacks-from_test 10 (title Two) refl
@@ -88,7 +82,7 @@ reads_text p is =
     (record { opens = is.opens; opening = is.opening; lines = is.lines; few = is.few }) in
     let rest : List (List ℕ) = (opening_lines p.opening ++ map line_text p.lines) ++ [] ∷ [] in
     let parts : List (List ℕ) = header_lines (title v) (header_in p) ++ rest in
-    ap plan_of again.0 ∙ ap (λ w. plan_in w parts) (version_again schedules refl v []) ∙ rw again.1 refl
+    ap plan_of again.0 ∙ ap (λ w. plan_in w parts) (version_again schedules refl v (header_in p) rest) ∙ rw again.1 refl
 
 -- ---- as a reader's clauses
 

@@ -5,7 +5,7 @@ use Rattle.std.proofs.Common.{refl, sym, ap, ◌∙◌, subst, append_assoc, app
 use Rattle.std.proofs.Common.{take-append-drop}
 use Rattle.std.proofs.lemmas.Bool.{ne_eqb, lt-ltb, le-ltb}
 use Rattle.std.proofs.Math.Seq.{take-suc}
-use Rattle.std.proofs.Common.{◌⊎◌, inl, inr, add-one}
+use Rattle.std.proofs.Common.{add-one}
 use Rattle.std.proofs.lemmas.List.{map-append}
 use Rattle.std.proofs.lemmas.Grind.{flat_map-append}
 use Rattle.std.proofs.lemmas.List.Elements.{All-head, All-tail}
@@ -255,18 +255,12 @@ told_then l l' l'' p p' p'' cs (Some w) s t h k = (
 wrote_then : (o : Option Why) (w w' w'' : Option (List ℕ)) (s t : List Exchange) → Appends w w' (answers_in s) →
     WroteSoFar o w' w'' t → WroteSoFar o w w'' (s ++ t)
 wrote_then None w w' w'' s t h k = wrote_whole w w' w'' s t h k
-wrote_then (Some why.WriteFault) w w' w'' s t h (said, last, front, b, cut, all, is, k) = (
-  s ++ said,
-  last,
-  front,
-  b,
-  cut,
-  ap (λ l. s ++ l) all ∙ sym (append_assoc s said (last ∷ [])),
-  is,
-  subst (Appends w w'')
-      (sym (append_assoc (answers_in s) (answers_in said) front) ∙ ap (λ l. l ++ front) (sym (flat_map-append answer_of s said)))
-      (Appends-trans w w' w'' (answers_in s) (answers_in said ++ front) h k),
-)
+wrote_then (Some why.WriteFault) w w' w'' s t h (said, last, front, b, cut, all, is, k) =
+    let others = ap (λ l. s ++ l) all ∙ sym (append_assoc s said (last ∷ [])) in
+    let answers = sym (append_assoc (answers_in s) (answers_in said) front)
+    ∙ ap (λ l. l ++ front) (sym (flat_map-append answer_of s said)) in
+    let whole = Appends-trans w w' w'' (answers_in s) (answers_in said ++ front) h k in
+    (s ++ said, last, front, b, cut, others, is, subst (Appends w w'') answers whole)
 wrote_then (Some o) w w' w'' s t h k = wrote_whole w w' w'' s t h k
 
 pub heard_then : (l l' l'' : ℕ) (p p' p'' cs : List ℕ) (o : Option Why) (r r' r'' : Record) (w w' w'' : Option (List ℕ))
@@ -280,30 +274,12 @@ heard_then l l' l'' p p' p'' cs o r r' r'' w w' w'' n n' n'' h k = record {
       ∙ sym (with_calls-append r (calls_in h.talk) (calls_in k.talk))
       ∙ ap (with_calls r) (sym (flat_map-append call_of h.talk k.talk));
   wrote = wrote_then o w w' w'' h.talk k.talk h.wrote k.wrote;
-  count = omega (
-    arith,
-    h.count,
-    k.count,
-    ap (λ (l : List CallMade). length l) (flat_map-append call_of h.talk k.talk),
-    length-append (calls_in h.talk) (calls_in k.talk),
-  );
+  count = omega (arith, h.count, k.count, calls);
 }
-
--- what comes after the end is not heard
-pub heard_more : (l l' : ℕ) (p p' cs : List ℕ) (end : Why) (r r' : Record) (w w' : Option (List ℕ)) (n n' : ℕ)
-    → Heard l p (Some end) l' p' r r' w w' n n' → Heard l (p ++ cs) (Some end) l' p' r r' w w' n n'
-heard_more l l' p p' cs end r r' w w' n n' h = record {
-  talk = h.talk;
-  told = (
-    h.told.0,
-    λ more.
-        let last = h.told.1 (cs ++ more) in
-        (last.0, ap (λ b. turns_at l (cut_at 10 b)) (append_assoc p cs more) ∙ last.1, last.2),
-  );
-  recorded = h.recorded;
-  wrote = h.wrote;
-  count = h.count;
-}
+  where
+    calls : length (calls_in (h.talk ++ k.talk)) ≡ length (calls_in h.talk) + length (calls_in k.talk)
+    calls = ap (λ (l : List CallMade). length l) (flat_map-append call_of h.talk k.talk)
+        ∙ length-append (calls_in h.talk) (calls_in k.talk)
 
 -- ---- the bytes of one read
 
@@ -323,20 +299,33 @@ heard_byte l l' l'' p p' p'' xs i o r r' r'' w w' w'' n n' n'' lt h k =
 -- the bytes after the end are not heard
 pub heard_rest : (l l' : ℕ) (p p' xs : List ℕ) (i : ℕ) (end : Why) (r r' : Record) (w w' : Option (List ℕ)) (n n' : ℕ)
     → Heard l (p ++ take i xs) (Some end) l' p' r r' w w' n n' → Heard l (p ++ xs) (Some end) l' p' r r' w w' n n'
-heard_rest l l' p p' xs i end r r' w w' n n' h =
-    subst (λ t. Heard l t (Some end) l' p' r r' w w' n n') (append_assoc p (take i xs) (drop i xs)
-    ∙ ap (λ t. p ++ t) (take-append-drop i xs))
-    (heard_more l l' (p ++ take i xs) p' (drop i xs) end r r' w w' n n' h)
+heard_rest l l' p p' xs i end r r' w w' n n' h = record {
+  talk = h.talk;
+  told = (
+    h.told.0,
+    λ more.
+        let last = h.told.1 (drop i xs ++ more) in
+        (last.0, ap (λ b. turns_at l (cut_at 10 b)) (regrouped more) ∙ last.1, last.2),
+  );
+  recorded = h.recorded;
+  wrote = h.wrote;
+  count = h.count;
+}
+  where
+    regrouped : (more : List ℕ) → (p ++ xs) ++ more ≡ (p ++ take i xs) ++ (drop i xs ++ more)
+    regrouped more = ap (λ t. (p ++ t) ++ more) (sym (take-append-drop i xs))
+        ∙ ap (λ t. t ++ more) (sym (append_assoc p (take i xs) (drop i xs))) ∙ append_assoc (p ++ take i xs) (drop i xs) more
 
 -- ---- the end
 
 -- no whole line is left, and no line has ended the session
 pub spoken_rest : (end : Why) (bytes : List ℕ) (t : Talk) (r r' : Record) (s s' w w' : Option (List ℕ)) → IsTalk t
-    → (end ≡ why.End) ⊎ (end ≡ why.ReadFault) → (end ≡ why.End → IsAtEnd s') → Consumes s s' bytes →
+    → ((talk : List Exchange) → Appends w w' (answers_in talk) → Wrote end w w' talk) → why.End ≡ text_end end
+    → (end ≡ why.End → IsAtEnd s') → Consumes s s' bytes →
     Heard MOST_LINES bytes None t.left (pending_of t) r r' w w' 0 t.calls
     → IsSession end t.calls s s' r r' w w'
 unfolding turns_of
-spoken_rest end bytes t r r' s s' w w' is which drained read h =
+spoken_rest end bytes t r r' s s' w w' is wrote at_end drained read h =
     let short : length (pending_of t) ≤ LONGEST_LINE = omega (arith, length-take t.len t.line, is.short) in
     let all : turns_of bytes ≡ turns_in h.talk =
     ap (λ b. turns_at MOST_LINES (cut_at 10 b)) (sym (append-nil bytes)) ∙ h.told.1 []
@@ -348,20 +337,11 @@ spoken_rest end bytes t r r' s s' w w' is which drained read h =
       read = read;
       recorded = h.recorded;
       count = omega (arith, h.count);
-      wrote = wrote_so end which h.talk h.wrote;
+      wrote = wrote h.talk h.wrote;
       turns = ([], all ∙ sym (append-nil (turns_in h.talk)), λ _. refl);
-      ends = λ _. ap end_of all ∙ h.told.0 ∙ at_end end which;
+      ends = λ _. ap end_of all ∙ h.told.0 ∙ at_end;
       drained = drained;
     }
-  where
-    wrote_so : (end : Why) → (end ≡ why.End) ⊎ (end ≡ why.ReadFault) → (talk : List Exchange) → Appends w w' (answers_in talk) →
-        Wrote end w w' talk
-    wrote_so end (inl is) talk h = rw is h
-    wrote_so end (inr is) talk h = rw is h
-
-    at_end : (end : Why) → (end ≡ why.End) ⊎ (end ≡ why.ReadFault) → why.End ≡ text_end end
-    at_end end (inl is) = rw is refl
-    at_end end (inr is) = rw is refl
 
 pub spoken_last : (end : Why) (bytes : List ℕ) (left : ℕ) (p : List ℕ) (r r' : Record) (s s' w w' : Option (List ℕ)) (n : ℕ)
     → Consumes s s' bytes → Heard MOST_LINES bytes (Some end) left p r r' w w' 0 n → IsSession end n s s' r r' w w'

@@ -1,6 +1,6 @@
 -- The two laws: what is read is the text of the draft, and the text of a draft is read.
 use Rattle.std.proofs.Common.{◌≡◌, ℕ, ◌≤◌, inl, inr, Bool, true, false, List, codes, Option, Some, None, Result, Ok, Err}
-use Rattle.std.proofs.Common.{refl, ap, subst, ◌∙◌, arith}
+use Rattle.std.proofs.Common.{refl, sym, ap, subst, ◌∙◌, arith}
 use Rattle.std.specs.Prelude.{IfOk, MatchOption, MatchResult}
 use Rattle.std.specs.Fmt.{decimal}
 use Rattle.std.specs.List.{AllByRecursion}
@@ -9,9 +9,12 @@ use Rattle.lset_words.specs.declared.Call.{Call}
 use Rattle.lset_words.specs.declared.Call.TheVariants as call
 use Rattle.lset_text.specs.declared.words.Version.TheVariants.{Two}
 use Rattle.lset_text.specs.Forms.{have_form}
+use Rattle.lset_text.specs.Lines.{IsFaultlessTo}
 use Rattle.lset_text.specs.Numbers.{number_in}
 use Rattle.lset_text.specs.Openings.{opening_form}
 use Rattle.lset_text.specs.Parts.{cut_at}
+use Rattle.lset_text.specs.Results.{◌>>=◌}
+use Rattle.lset_text.specs.Texts.{text_from}
 use Rattle.lset_text.proofs.PartLaws.{Lacks-from_test}
 use Rattle.lset_text.proofs.NumberLaws.{number_again}
 use Rattle.lset_text.proofs.WordLaws.{same_bytes}
@@ -23,7 +26,7 @@ use Rattle.lset_schedule.specs.declared.fault.Cause.TheVariants.{Memory}
 use Rattle.lset_schedule.specs.declared.fault.ScheduleFault.{ScheduleFault}
 use Rattle.lset_schedule.specs.Plan.{IsLine}
 use Rattle.lset_schedule.specs.Plan as plan
-use Rattle.lset_schedule.specs.ScheduleReading.{texts, Gives}
+use Rattle.lset_schedule.specs.ScheduleReading.{BodyValue, texts, Gives, IsGoodAfterHeader}
 use Rattle.lset_schedule.specs.ScheduleReading as schedule
 use Rattle.lset_schedule.proofs.BodyLaws.{body_found, body_again}
 use Rattle.lset_text.proofs.KindLaws.{knows_as, made_as}
@@ -31,8 +34,8 @@ use Rattle.lset_schedule.proofs.TextLaws.{events_known, event_made, gives_ok}
 use Rattle.tool_draft.specs.declared.value.Draft.{Draft}
 use Rattle.tool_draft.specs.declared.value.DraftLine.{DraftLine}
 use Rattle.tool_draft.specs.declared.value.DraftLine.TheVariants.{Plain, Out, To}
-use Rattle.tool_draft.specs.Drafts.{DraftValue, view, title, header_in, pieces_of, draft_text, IsDraftLine, IsDraft}
-use Rattle.tool_draft.specs.DraftReading.{to_kind, events, draft_told, reading}
+use Rattle.tool_draft.specs.Drafts.{DraftValue, view, drafted, title, header_in, pieces_of, draft_text, IsDraftLine, IsDraft}
+use Rattle.tool_draft.specs.DraftReading.{to_kind, events, reading}
 
 -- where nothing is told, a second thing is known too
 pub also_none : {A B R : Type 0} (P : R → Type 0) (o : Option R) → (A → B) → MatchOption o A P → MatchOption o B P
@@ -119,6 +122,23 @@ reads_text d is =
     rw (again.0, again.1) refl
 
 -- ---- as a reader's clauses
+
+-- what is read with this title is made a draft, and its good lines are good
+module _ (t bytes : List ℕ) (same : t ≡ title) where
+  abbrev told : Result (BodyValue DraftLine) ScheduleFault
+  told = text_from (texts events Two t) (cut_at 10 bytes)
+
+  pub reading_is : reading bytes ≡ (told >>= λ b. Ok (drafted b.header b.keys b.lines))
+  reading_is = rw same refl
+
+  pub still_good : (line : ℕ) → IsGoodAfterHeader bytes told line → IsGoodAfterHeader bytes (reading bytes) line
+  still_good line good =
+      subst (λ r. IsGoodAfterHeader bytes r line) (sym reading_is) (good.0, (good.1.0, good.1.1, seen told good.1.2))
+    where
+      seen : (r : Result (BodyValue DraftLine) ScheduleFault) → IsFaultlessTo (λ e. e.line) line r
+          → IsFaultlessTo {X = DraftValue} (λ e. e.line) line (r >>= λ b. Ok (drafted b.header b.keys b.lines))
+      seen (Ok b) faultless = tt
+      seen (Err e) faultless = faultless
 
 pub found_in : (bytes : List ℕ) (r : Result Draft ScheduleFault) → Gives view r (reading bytes)
     → IfOk r (λ d. IsDraft (view d) × (bytes ≡ draft_text (view d)))

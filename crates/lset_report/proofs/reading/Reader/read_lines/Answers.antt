@@ -54,8 +54,8 @@ returns-in-Done-clause-told c =
 
 pub returns-in_default-section-clause-told : goal.returns-in_default-section-clause-told
 returns-in_default-section-clause-told c =
-    let none = eqb-true _ _ (sym c.is_empty.ensures ∙ c.loop-rest-test.false) in
     let unended : ends (state c.loop-rest.self) ≡ Err NotEnded = search rules in
+    let none = eqb-true _ _ (sym c.is_empty.ensures ∙ c.loop-rest-test.false) in
     inl (rw c.at-in_default-section.ensures
     (is_done grammar first_line c.args.text.now (AllOf c.args.text.now (state c.args.self.now)) c.loop-rest.number
     (state c.loop-rest.self) c.loop-rest.rest.now none c.loop-rest.invariant.stands
