@@ -5,7 +5,6 @@
 #include <cstdlib>
 #include <mutex>
 #include <string>
-#include <thread>
 #include <vector>
 
 struct Node {
@@ -73,7 +72,7 @@ public:
     bool contains(long key) {
         Node *at = &head;
         while (at->key < key) {
-            if (uses_again) std::this_thread::yield();  // so that few runs show it
+            for (volatile int i = 0; uses_again && i < 5000; i = i + 1) {}  // so that few runs show it
             at = at->next;
         }
         return at->key == key && !at->marked;

@@ -94,8 +94,8 @@ final class LazyList {
     boolean contains(long key) {
         Node at = head;
         while (at.key < key) {
-            if (USES_AGAIN) {
-                Thread.yield(); // so that few runs show it
+            for (int i = 0; USES_AGAIN && i < 500; i++) {
+                Thread.onSpinWait(); // so that few runs show it
             }
             at = at.next;
         }

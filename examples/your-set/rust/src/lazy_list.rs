@@ -60,7 +60,7 @@ impl LazyList {
         let mut at = HEAD;
         while self.nodes[at].key.load(SeqCst) < u64::from(key) + 1 {
             if self.wrong == "used-again" {
-                std::thread::yield_now(); // so that few runs show it
+                (0..500).for_each(|_| std::hint::spin_loop()); // so that few runs show it
             }
             at = self.next(at);
         }
