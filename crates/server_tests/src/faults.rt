@@ -1,7 +1,7 @@
+use crate::failing::{FailingReader, FailingWriter};
 use crate::opened::{
     ANSWERS, CEILINGS, LINES, held, held_buffered, one_seat, stopped_at, was_held,
 };
-use lset_server::failing::{FailingReader, FailingWriter};
 use lset_server::{Device, Ended, Why, session};
 use std::alloc::Global;
 use std::process::Abort;
