@@ -1,0 +1,233 @@
+-- The calls of a text, or its first fault: line by line, and in each line in the order of the checks.
+use Rattle.std.specs.Prelude.{◌≡◌, ◌≢◌, ◌⊎◌, ℕ, ◌+◌, ◌<◌, ◌≤◌, nat_lt, Bool, true, false, List, [], ◌∷◌, ◌++◌, length, codes}
+use Rattle.std.specs.Prelude.{Option, Some, None, Result, Ok, Err, if◌then◌else◌, slice_index_or}
+use Rattle.lset_words.specs.declared.Reply.{Reply}
+use Rattle.lset_words.specs.declared.TheConstants.{MOST_OPENING}
+use Rattle.lset_words.specs.Words.{Opening, empty}
+use Rattle.lset_text.specs.declared.words.CallWord.{CallWord}
+use Rattle.lset_text.specs.declared.words.Version.TheVariants.{Two}
+use Rattle.lset_text.specs.declared.headers.Header.{Header as HeaderTold}
+use Rattle.lset_text.specs.declared.headers.HeaderCause.{HeaderCause}
+use Rattle.lset_text.specs.declared.headers.HeaderCause.TheVariants as head
+use Rattle.lset_text.specs.declared.headers.HeaderFault.{HeaderFault}
+use Rattle.lset_text.specs.Parts.{cut_at}
+use Rattle.lset_text.specs.Spellings.{with_key}
+use Rattle.lset_text.specs.Results.{◌>>=◌, map_fault}
+use Rattle.lset_text.specs.Forms.{Form, Piece}
+use Rattle.lset_text.specs.Forms as piece
+use Rattle.lset_text.specs.Kinds.{LineKind, LineCauses, made, line_in}
+use Rattle.lset_text.specs.Lines.{Grammar, lines_from, IsFaultlessTo}
+use Rattle.lset_text.specs.Headers.{header_of}
+use Rattle.lset_text.specs.Openings.{opening_form, is_above}
+use Rattle.lset_report.specs.declared.report.TheConstants.{MOST_CALLS, MOST_KEYS_OPENED}
+use Rattle.lset_report.specs.Texts.{last_line}
+use Rattle.lset_calls.specs.declared.value.TimedCall.{TimedCall}
+use Rattle.lset_calls.specs.declared.reading.lines.Line.{Line as CallsLine}
+use Rattle.lset_calls.specs.declared.reading.lines.Line.TheVariants as told
+use Rattle.lset_calls.specs.declared.reading.lines.Section.{Section}
+use Rattle.lset_calls.specs.declared.reading.lines.Section.TheVariants as section
+use Rattle.lset_calls.specs.declared.fault.CallsCause.{CallsCause}
+use Rattle.lset_calls.specs.declared.fault.CallsCause.TheVariants as wrong
+use Rattle.lset_calls.specs.declared.fault.CallsFault.{CallsFault}
+use Rattle.lset_calls.specs.Calls.{CallsValue, AreCalls, is_of_history, has_point}
+use Rattle.lset_calls.specs.Texts.{title, dash, calls_text}
+
+-- ---- faults
+
+abbrev pub fault : ℕ → CallsCause → CallsFault
+fault line cause = record { line = line; cause = cause }
+
+abbrev pub cause_of : HeaderCause → CallsCause
+cause_of head.Header = wrong.Header
+cause_of head.Kind = wrong.Kind
+cause_of head.Threads = wrong.Threads
+cause_of head.Quota = wrong.Quota
+cause_of head.NotEnded = wrong.NotEnded
+
+-- the fault of a header as one of a text of calls
+abbrev pub in_calls : HeaderFault → CallsFault
+in_calls e = fault e.line (cause_of e.cause)
+
+-- ---- the lines that may come
+
+abbrev pub causes : LineCauses CallsCause
+causes = record { form = wrong.Line; number = wrong.Number }
+
+abbrev pub opening_kind : LineKind CallsLine
+opening_kind = (opening_form, λ t. told.Opening t.1.0)
+
+abbrev pub none : Piece
+none = piece.word dash
+
+-- a call by its thread, its word, its key and its beginning
+abbrev pub call_told : {X : Type 0} → ℕ × (CallWord × (ℕ × (ℕ × X))) → Option ℕ → Option (ℕ × Reply) → CallsLine
+call_told t point end = told.Call (record {
+  thread = t.0;
+  call = with_key t.1.0 (record { 0 = t.1.1.0 });
+  begun = t.1.1.1.0;
+  point = point;
+  ended = end;
+})
+
+-- its form, up to its point and its end
+abbrev pub call_form : Form → Form
+call_form end = piece.word (codes "call") ∷ piece.any ∷ piece.call ∷ piece.any ∷ piece.moment ∷ end
+
+-- an open call without and with a point, and one that has ended without and with a point
+abbrev pub open_kind : LineKind CallsLine
+open_kind = (call_form (none ∷ none ∷ none ∷ []), λ t. call_told t.1 None None)
+
+abbrev pub open_pointed_kind : LineKind CallsLine
+open_pointed_kind = (call_form (piece.moment ∷ none ∷ none ∷ []), λ t. call_told t.1 (Some t.1.1.1.1.1.0) None)
+
+abbrev pub ended_kind : LineKind CallsLine
+ended_kind = (
+  call_form (none ∷ piece.moment ∷ piece.reply ∷ []),
+  λ t. call_told t.1 None (Some (t.1.1.1.1.1.1.0, t.1.1.1.1.1.1.1.0)),
+)
+
+abbrev pub ended_pointed_kind : LineKind CallsLine
+ended_pointed_kind = (
+  call_form (piece.moment ∷ piece.moment ∷ piece.reply ∷ []),
+  λ t. call_told t.1 (Some t.1.1.1.1.1.0) (Some (t.1.1.1.1.1.1.0, t.1.1.1.1.1.1.1.0)),
+)
+
+abbrev pub key_kind : LineKind CallsLine
+key_kind = (piece.word (codes "key") ∷ piece.any ∷ [], λ t. told.Key t.1.0)
+
+abbrev pub end_kind : LineKind CallsLine
+end_kind = (piece.word last_line ∷ [], λ t. told.End)
+
+-- sections come in one order, and each may be left out
+abbrev pub from_keys : List (LineKind CallsLine)
+from_keys = key_kind ∷ end_kind ∷ []
+
+abbrev pub from_calls : List (LineKind CallsLine)
+from_calls = open_kind ∷ open_pointed_kind ∷ ended_kind ∷ ended_pointed_kind ∷ from_keys
+
+-- THE LINES THAT MAY COME in a text that has come to a section
+abbrev pub kinds : Section → List (LineKind CallsLine)
+kinds section.Opening = opening_kind ∷ from_calls
+kinds section.Calls = from_calls
+kinds section.Keys = from_keys
+kinds section.Done = []
+
+-- ---- a line after those above it
+
+-- a line whose section has room for it
+abbrev pub counted : ℕ → ℕ → CallsLine → Result CallsLine CallsCause
+counted most count l = if nat_lt count most then Ok l else Err wrong.TooMany
+
+abbrev pub rising : List ℕ → ℕ → CallsLine → Result CallsLine CallsCause
+rising keys k l = if is_above keys k then Ok l else Err wrong.Opening
+
+-- its thread and its end, and then its point
+abbrev pub timed : ℕ → TimedCall → CallsLine → Result CallsLine CallsCause
+timed threads x l =
+    if is_of_history threads x then (if has_point x then Ok l else Err wrong.Point) else Err wrong.History
+
+-- the count of a line, and then that an opening key rises, or the moments of a call
+abbrev pub judged : CallsValue → CallsLine → Result CallsLine CallsCause
+judged c (told.Opening k) = counted MOST_OPENING (length c.opening.keys) (told.Opening k) >>= rising c.opening.keys k
+judged c (told.Call x) = counted MOST_CALLS (length c.calls) (told.Call x) >>= timed c.opening.threads x
+judged c (told.Key k) = counted MOST_KEYS_OPENED (length c.keys) (told.Key k)
+judged c told.End = Ok told.End
+
+-- what a line tells after the calls of the lines above
+abbrev pub line_after : Section → CallsValue → List ℕ → Result CallsLine CallsCause
+line_after s c line = line_in Two causes (kinds s) line >>= judged c
+
+abbrev pub section_after : CallsLine → Section
+section_after (told.Opening k) = section.Opening
+section_after (told.Call x) = section.Calls
+section_after (told.Key k) = section.Keys
+section_after told.End = section.Done
+
+abbrev pub with_opening : Opening → ℕ → Opening
+with_opening o k = record o { keys = o.keys ++ k ∷ [] }
+
+abbrev pub with_line : CallsValue → CallsLine → CallsValue
+with_line c (told.Opening k) = record c { opening = with_opening c.opening k }
+with_line c (told.Call x) = record c { calls = c.calls ++ x ∷ [] }
+with_line c (told.Key k) = record c { keys = c.keys ++ k ∷ [] }
+with_line c told.End = c
+
+-- ---- texts, as their parts between newlines: whole lines, and what comes after the last newline
+
+-- the last line of the header, and the first one after it
+abbrev pub last_of_header : ℕ
+last_of_header = 4
+
+abbrev pub first_line : ℕ
+first_line = last_of_header + 1
+
+-- what lines tell: the section to which they came, and their calls
+pub record SoFar : Type 0 where
+  pub section : Section
+  pub calls : CallsValue
+
+abbrev pub with_told : SoFar → CallsLine → SoFar
+with_told s l = record { section = section_after l; calls = with_line s.calls l }
+
+abbrev pub step : SoFar → List ℕ → Result SoFar CallsCause
+step s line = made (with_told s) (line_after s.section s.calls line)
+
+-- a text ends after the line `end`
+abbrev pub is_done : Section → Bool
+is_done section.Opening = false
+is_done section.Calls = false
+is_done section.Keys = false
+is_done section.Done = true
+
+abbrev pub ends : SoFar → Result SoFar CallsCause
+ends s = if is_done s.section then Ok s else Err wrong.NotEnded
+
+-- THE GRAMMAR of the lines after the header
+abbrev pub grammar : Grammar SoFar CallsCause CallsFault
+grammar = record { step = step; ends = ends; not_ended = wrong.NotEnded; at = fault }
+
+abbrev pub no_lines : HeaderTold → CallsValue
+no_lines h = record { kind = h.kind; opening = empty h.threads h.quota; calls = []; keys = [] }
+
+abbrev pub nothing_told : HeaderTold → SoFar
+nothing_told h = record { section = section.Opening; calls = no_lines h }
+
+unfoldable pub calls_of : List (List ℕ) → Result CallsValue CallsFault
+calls_of parts = do
+  head ← map_fault in_calls (header_of title parts)
+  last ← lines_from grammar first_line (nothing_told head.0) head.1
+  Ok last.calls
+
+abbrev pub reading : List ℕ → Result CallsValue CallsFault
+reading bytes = calls_of (cut_at 10 bytes)
+
+-- what is read is the text of calls, and the text of calls is read
+abbrev pub CallsReadBack : Type 0
+CallsReadBack = (c : CallsValue) (bytes : List ℕ)
+    → (AreCalls c → reading (calls_text c) ≡ Ok c)
+    × (reading bytes ≡ Ok c → AreCalls c × (bytes ≡ calls_text c))
+
+-- ---- want of memory
+
+abbrev pub line_number : CallsFault → ℕ
+line_number e = e.line
+
+-- Memory is answered for a line after its other checks. The parts are those of a text from the line `first` on, of which the last
+-- comes after the last newline, and reading the text gives `read` where memory is ample.
+pub record RunsOut {X : Type 0} (first : ℕ) (parts : List (List ℕ)) (read : Result X CallsFault) (e : CallsFault) : Type 0 where
+  pub cause : e.cause ≡ wrong.Memory
+  -- the line comes after the header, whose lines take no memory,
+  pub after_header : last_of_header < e.line
+  -- it is a whole line of the text,
+  pub index : ℕ
+  pub line_is : e.line ≡ first + index
+  pub whole : index + 1 < length parts
+  -- but not `end`, for which nothing is asked,
+  pub asks : slice_index_or parts index [] ≢ last_line
+  -- and neither it nor a line above it has a fault
+  pub good : IsFaultlessTo line_number e.line read
+
+-- what a function returned, seen by `view`, is what reading the bytes gives, or want of memory
+abbrev pub Gives : {X : Type 0} → (X → CallsValue) → Result X CallsFault → List ℕ → Type 0
+Gives view (Ok x) bytes = reading bytes ≡ Ok (view x)
+Gives view (Err e) bytes = (reading bytes ≡ Err e) ⊎ RunsOut 1 (cut_at 10 bytes) (reading bytes) e
