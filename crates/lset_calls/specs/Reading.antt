@@ -16,12 +16,13 @@ use Rattle.lset_text.specs.Results.{◌>>=◌, map_fault}
 use Rattle.lset_text.specs.Forms.{Form, Piece}
 use Rattle.lset_text.specs.Forms as piece
 use Rattle.lset_text.specs.Kinds.{LineKind, LineCauses, made, line_in}
-use Rattle.lset_text.specs.Lines.{Grammar, lines_from, IsFaultlessTo}
+use Rattle.lset_text.specs.Lines.{Grammar, lines_from, IsGoodLine}
 use Rattle.lset_text.specs.Headers.{header_of}
 use Rattle.lset_text.specs.Openings.{opening_form, is_above}
 use Rattle.lset_report.specs.declared.report.TheConstants.{MOST_CALLS, MOST_KEYS_OPENED}
 use Rattle.lset_report.specs.Texts.{last_line}
 use Rattle.lset_calls.specs.declared.value.TimedCall.{TimedCall}
+use Rattle.lset_calls.specs.declared.reading.Reader.{Reader}
 use Rattle.lset_calls.specs.declared.reading.lines.Line.{Line as CallsLine}
 use Rattle.lset_calls.specs.declared.reading.lines.Line.TheVariants as told
 use Rattle.lset_calls.specs.declared.reading.lines.Section.{Section}
@@ -29,7 +30,7 @@ use Rattle.lset_calls.specs.declared.reading.lines.Section.TheVariants as sectio
 use Rattle.lset_calls.specs.declared.fault.CallsCause.{CallsCause}
 use Rattle.lset_calls.specs.declared.fault.CallsCause.TheVariants as wrong
 use Rattle.lset_calls.specs.declared.fault.CallsFault.{CallsFault}
-use Rattle.lset_calls.specs.Calls.{CallsValue, AreCalls, is_of_history, has_point}
+use Rattle.lset_calls.specs.Calls.{CallsValue, view, AreCalls, is_of_history, has_point}
 use Rattle.lset_calls.specs.Texts.{title, dash, calls_text}
 
 -- ---- faults
@@ -102,8 +103,11 @@ end_kind = (piece.word last_line ∷ [], λ t. told.End)
 abbrev pub from_keys : List (LineKind CallsLine)
 from_keys = key_kind ∷ end_kind ∷ []
 
+abbrev pub call_kinds : List (LineKind CallsLine)
+call_kinds = open_kind ∷ open_pointed_kind ∷ ended_kind ∷ ended_pointed_kind ∷ []
+
 abbrev pub from_calls : List (LineKind CallsLine)
-from_calls = open_kind ∷ open_pointed_kind ∷ ended_kind ∷ ended_pointed_kind ∷ from_keys
+from_calls = call_kinds ++ from_keys
 
 -- THE LINES THAT MAY COME in a text that has come to a section
 abbrev pub kinds : Section → List (LineKind CallsLine)
@@ -212,22 +216,41 @@ CallsReadBack = (c : CallsValue) (bytes : List ℕ)
 abbrev pub line_number : CallsFault → ℕ
 line_number e = e.line
 
--- Memory is answered for a line after its other checks. The parts are those of a text from the line `first` on, of which the last
--- comes after the last newline, and reading the text gives `read` where memory is ample.
-pub record RunsOut {X : Type 0} (first : ℕ) (parts : List (List ℕ)) (read : Result X CallsFault) (e : CallsFault) : Type 0 where
-  pub cause : e.cause ≡ wrong.Memory
-  -- the line comes after the header, whose lines take no memory,
-  pub after_header : last_of_header < e.line
-  -- it is a whole line of the text,
-  pub index : ℕ
-  pub line_is : e.line ≡ first + index
-  pub whole : index + 1 < length parts
-  -- but not `end`, for which nothing is asked,
-  pub asks : slice_index_or parts index [] ≢ last_line
-  -- and neither it nor a line above it has a fault
-  pub good : IsFaultlessTo line_number e.line read
+-- a whole line after the header with no fault in it or above it, of a text that is read so
+abbrev pub IsGoodAfterHeader : {X : Type 0} → List ℕ → Result X CallsFault → ℕ → Type 0
+IsGoodAfterHeader bytes read line = (last_of_header < line) × IsGoodLine line_number 1 (cut_at 10 bytes) read line
 
--- what a function returned, seen by `view`, is what reading the bytes gives, or want of memory
-abbrev pub Gives : {X : Type 0} → (X → CallsValue) → Result X CallsFault → List ℕ → Type 0
-Gives view (Ok x) bytes = reading bytes ≡ Ok (view x)
-Gives view (Err e) bytes = (reading bytes ≡ Err e) ⊎ RunsOut 1 (cut_at 10 bytes) (reading bytes) e
+-- what a function returned, seen by `view`, is what reading gives, or memory ran out
+abbrev pub Gives : {X Y : Type 0} → (X → Y) → Result X CallsFault → Result Y CallsFault → Type 0
+Gives view (Ok x) read = read ≡ Ok (view x)
+Gives view (Err e) read = e.cause ≢ wrong.Memory → read ≡ Err e
+
+-- ---- what a reader holds
+
+abbrev pub state : Reader → SoFar
+state s = record { section = s.section; calls = view s.calls }
+
+-- with a line it took what the grammar makes of it, or told what is wrong, or had no memory for a good line
+abbrev pub Takes : {X : Type 0} → Result SoFar CallsCause → SoFar → Result X CallsCause → Type 0
+Takes next now (Ok x) = next ≡ Ok now
+Takes next now (Err cause) = (next ≡ Err cause) ⊎ ((cause ≡ wrong.Memory) × (s : SoFar) × (next ≡ Ok s))
+
+-- which lines may come in a section
+abbrev pub takes_opening : Section → Bool
+takes_opening section.Opening = true
+takes_opening section.Calls = false
+takes_opening section.Keys = false
+takes_opening section.Done = false
+
+abbrev pub takes_calls : Section → Bool
+takes_calls section.Opening = true
+takes_calls section.Calls = true
+takes_calls section.Keys = false
+takes_calls section.Done = false
+
+-- keys, or the end
+abbrev pub takes_keys : Section → Bool
+takes_keys section.Opening = true
+takes_keys section.Calls = true
+takes_keys section.Keys = true
+takes_keys section.Done = false

@@ -7,4 +7,5 @@ mod reading;
 mod value;
 
 pub use fault::{CallsCause, CallsFault, ClashFault};
+pub use reading::{calls_read_back, read_calls};
 pub use value::{Calls, TimedCall};

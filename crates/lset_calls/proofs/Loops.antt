@@ -1,0 +1,120 @@
+-- Reading the lines after a header one after another, as the loop does: which line a fault stands in, and that want of memory is
+-- none.
+use Rattle.std.proofs.Common.{◌≡◌, ℕ, ◌+◌, inl, inr, Bool, true, false, cond, ltb, List, [], ◌∷◌, length}
+use Rattle.std.proofs.Common.{Result, Ok, Err, refl, sym, ap, subst, ◌∙◌, arith}
+use Rattle.std.specs.Prelude.{◌≢◌, IfErr}
+use Rattle.std.specs.Result.{IsErrAnd}
+use Rattle.lset_words.specs.declared.TheConstants.{MOST_OPENING}
+use Rattle.lset_text.specs.declared.headers.Header.{Header}
+use Rattle.lset_text.specs.declared.words.Version.TheVariants.{Two}
+use Rattle.lset_text.specs.Parts.{cut_at}
+use Rattle.lset_text.specs.Kinds.{made, line_in}
+use Rattle.lset_text.specs.Lines.{lines_from, IsFaultlessTo, IsGoodLine, Stands}
+use Rattle.lset_text.specs.Results.{◌>>=◌}
+use Rattle.lset_text.specs.Headers.{header_of}
+use Rattle.lset_text.specs.Openings.{is_above}
+use Rattle.lset_text.proofs.HeaderLaws.{header_ok}
+use Rattle.lset_text.proofs.KindLaws.{IsOneOf, first_fails}
+use Rattle.lset_text.proofs.LineLaws.{bind_err, stops, is_good}
+use Rattle.lset_report.specs.declared.report.TheConstants.{MOST_CALLS, MOST_KEYS_OPENED}
+use Rattle.lset_calls.specs.declared.fault.CallsCause.{CallsCause}
+use Rattle.lset_calls.specs.declared.fault.CallsCause.TheVariants as wrong
+use Rattle.lset_calls.specs.declared.fault.CallsFault.{CallsFault}
+use Rattle.lset_calls.specs.declared.reading.lines.Line.{Line}
+use Rattle.lset_calls.specs.declared.reading.lines.Line.TheVariants as told
+use Rattle.lset_calls.specs.Calls.{CallsValue, is_of_history, has_point}
+use Rattle.lset_calls.specs.Texts.{title}
+use Rattle.lset_calls.specs.Reading.{fault, causes, kinds, judged, line_after, SoFar, with_told, step, grammar, first_line, nothing_told}
+use Rattle.lset_calls.specs.Reading.{calls_of, line_number, IsGoodAfterHeader, Takes}
+
+-- ---- no check fails by want of memory
+
+one_fails : {A : Type 0} (b : Bool) (x : A) (e : CallsCause) → e ≢ wrong.Memory → cond b (Ok x) (Err e) ≡ Err wrong.Memory → ⊥
+one_fails true x e other is = cc
+one_fails false x e other is = other cc
+
+counted_fails : {A : Type 0} (b : Bool) (x : A) (f : A → Result A CallsCause) → (f x ≡ Err wrong.Memory → ⊥)
+    → (cond b (Ok x) (Err wrong.TooMany) >>= f) ≡ Err wrong.Memory → ⊥
+counted_fails true x f later is = later is
+counted_fails false x f later is = cc
+
+timed_fails : (b c : Bool) (l : Line) → cond b (cond c (Ok l) (Err wrong.Point)) (Err wrong.History) ≡ Err wrong.Memory → ⊥
+timed_fails true true l is = cc
+timed_fails true false l is = cc
+timed_fails false c l is = cc
+
+judged_fails : (c : CallsValue) (l : Line) → judged c l ≡ Err wrong.Memory → ⊥
+judged_fails c (told.Opening k) is =
+    counted_fails (ltb (length c.opening.keys) MOST_OPENING) (told.Opening k) _
+    (λ e. one_fails (is_above c.opening.keys k) (told.Opening k) wrong.Opening (λ same. cc) e) is
+judged_fails c (told.Call x) is =
+    counted_fails (ltb (length c.calls) MOST_CALLS) (told.Call x) _
+    (λ e. timed_fails (is_of_history c.opening.threads x) (has_point x) (told.Call x) e) is
+judged_fails c (told.Key k) is =
+    one_fails (ltb (length c.keys) MOST_KEYS_OPENED) (told.Key k) wrong.TooMany (λ same. cc) is
+judged_fails c told.End is = cc
+
+no_cause : IsOneOf causes wrong.Memory → ⊥
+no_cause (inl is) = cc
+no_cause (inr is) = cc
+
+made_fails : {X Y C : Type 0} (f : X → Y) (r : Result X C) (e : C) → made f r ≡ Err e → r ≡ Err e
+made_fails f (Ok x) e is = absurd cc
+made_fails f (Err d) e is = cc
+
+never_memory : (s : SoFar) (x : List ℕ) → step s x ≡ Err wrong.Memory → ⊥
+never_memory s x is =
+    let bad = made_fails (with_told s) (line_after s.section s.calls x) wrong.Memory is in
+    elim (bind_err (line_in Two causes (kinds s.section) x) (judged s.calls) wrong.Memory bad) [
+      | inl form ↦ no_cause (first_fails Two causes (kinds s.section) (cut_at 32 x) wrong.Memory form)
+      | inr later ↦ judged_fails s.calls later.0 later.2
+    ]
+
+-- ---- a line that is not taken
+
+module _ (whole : List ℕ) (read : Result SoFar CallsFault) (number : ℕ) (s t : SoFar) (rest x after : List ℕ)
+    (parts : cut_at 10 rest ≡ x ∷ cut_at 10 after) (stands : Stands grammar first_line whole read number s rest) where
+  pub refused : (cause : CallsCause) → Takes {X = Unit {0}} (step s x) t (Err cause) → cause ≢ wrong.Memory
+      → read ≡ Err (fault number cause)
+  refused cause (inl is) other = stops grammar first_line whole read number s cause rest x after parts is stands
+  refused cause (inr none) other = absurd (other none.0)
+
+  pub out_of_memory : (cause : CallsCause) → Takes {X = Unit {0}} (step s x) t (Err cause) → cause ≡ wrong.Memory
+      → IsGoodLine line_number first_line (cut_at 10 whole) read number
+  out_of_memory cause (inl is) memory = absurd (never_memory s x (is ∙ ap (λ (c : CallsCause). Err c) memory))
+  out_of_memory cause (inr none) memory =
+      is_good grammar line_number (λ line c. refl) first_line whole read number s none.1 rest x after parts none.2 stands
+
+-- ---- a fault that is passed on
+
+pub passed_on : {X : Type 0} (IsGood : ℕ → Type 0) (e : CallsFault) (answer : Result X CallsFault) →
+    IsErrAnd answer (λ f. f ≡ e)
+    → (e.cause ≡ wrong.Memory → IsGood e.line) → IfErr answer (λ f. f.cause ≡ wrong.Memory → IsGood f.line)
+passed_on IsGood e (Ok x) is good = tt
+passed_on IsGood e (Err f) is good = λ memory.
+    subst (λ (x : CallsFault). IsGood x.line) (sym is) (good (ap (λ (x : CallsFault). x.cause) (sym is) ∙ memory))
+
+still_faultless : {X Y : Type 0} (line : ℕ) (read : Result Y CallsFault) (f : Y → X) → IsFaultlessTo line_number line read
+    → IsFaultlessTo line_number line (read >>= λ y. Ok (f y))
+still_faultless line (Ok y) f good = tt
+still_faultless line (Err e) f good = good
+
+four_more : (parts more : List (List ℕ)) (a b c d : List ℕ) → parts ≡ a ∷ b ∷ c ∷ d ∷ more → length parts ≡ 4 + length more
+four_more parts more a b c d is = rw is (omega arith)
+
+-- a good line of what comes after the header is one of the text
+pub good_in_text : (bytes rest : List ℕ) (h : Header) (line : ℕ)
+    → header_of title (cut_at 10 bytes) ≡ Ok (h, cut_at 10 rest)
+    → IsGoodLine line_number first_line (cut_at 10 rest) (lines_from grammar first_line (nothing_told h) (cut_at 10 rest)) line
+    → IsGoodAfterHeader bytes (calls_of (cut_at 10 bytes)) line
+unfolding calls_of
+good_in_text bytes rest h line is good =
+    let parts = (header_ok title (cut_at 10 bytes) (h, cut_at 10 rest) is).0 in
+    let counted = four_more (cut_at 10 bytes) (cut_at 10 rest) _ _ _ _ parts in (
+      omega (arith, good.0),
+      (
+        omega (arith, good.0),
+        omega (arith, good.1, counted),
+        rw is (still_faultless line (lines_from grammar first_line (nothing_told h) (cut_at 10 rest)) (λ last. last.calls) good.2),
+      ),
+    )
