@@ -118,6 +118,18 @@ function answerOrTrouble(engine, words) {
   }
 }
 
+// Whether standard output was closed. Node then puts /dev/null there, for reading and writing, as no shell's > opens it; Python's
+// DEVNULL and node's own "ignore" do, and cannot be told from it. Linux alone shows how it is open.
+function isOutputClosed() {
+  try {
+    const [, flags] = /^flags:\s*(\d+)/m.exec(fs.readFileSync("/proc/self/fdinfo/1", "latin1"));
+    const isBoth = (parseInt(flags, 8) & fs.constants.O_RDWR) !== 0;
+    return isBoth && fs.readlinkSync("/proc/self/fd/1") === "/dev/null";
+  } catch {
+    return false;
+  }
+}
+
 // Writes the answer on standard output, or the line about a trouble, which begins as no answer does, on the other.
 function write({ status, bytes }) {
   const text = Buffer.from(bytes);
@@ -126,11 +138,14 @@ function write({ status, bytes }) {
     process.stderr.write(text);
     return;
   }
-  process.stdout.on("error", () => {
-    process.exitCode = 1;
-    process.stderr.write("listset: cannot write\n");
-  });
+  if (text.length > 0 && isOutputClosed()) return tellCannotWrite();
+  process.stdout.on("error", tellCannotWrite);
   process.stdout.write(text);
+}
+
+function tellCannotWrite() {
+  process.exitCode = 1;
+  process.stderr.write("listset: cannot write\n");
 }
 
 async function main(given) {

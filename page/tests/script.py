@@ -67,6 +67,12 @@ def compared_full(program, script, words):
     return None if ours == due and due[2] == 1 else f"listset.js {' '.join(words)} > /dev/full: {ours}, not {due}"
 
 
+def compared_closed(program, script, words):
+    """The same of an output that is closed."""
+    ours, due = (said(["sh", "-c", 'exec "$@" >&-', "sh", *which, *words], b"") for which in (script, program))
+    return None if ours == due and due[2] == 1 else f"listset.js {' '.join(words)} >&-: {ours}, not {due}"
+
+
 def generated(program, dice):
     """Few schedules of each list."""
     for kind in ["coarse", "fine", "optimistic", "lazy", "lock-free"]:
@@ -122,6 +128,7 @@ def in_node(program, script, names, folder):
     with ThreadPoolExecutor(os.cpu_count()) as pool:
         found = [*pool.map(lambda it: compared(program, script, *it), [*asked(program, names, folder)])]
         found += pool.map(lambda words: compared_wrong(program, script, words), rows(WRONG))
-    found += [compared_full(program, script, words) for words in (["example"], ["example", "snip"], ["faults"])]
+    written = (["example"], ["example", "snip"], ["faults"])
+    found += [test(program, script, words) for words in written for test in (compared_full, compared_closed)]
     failed = [line for line in found if line]
     return {"passed": len(found) - len(failed), "failed": failed}

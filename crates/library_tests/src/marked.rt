@@ -44,13 +44,13 @@ fn fill<M: OpenReads>(world: &mut World<M>, threads: u32, quota: u32) -> Result<
 }
 
 /// So many threads with so many slots each, and the bound of a `contains`.
-type Shape = (u32, u32, u64);
+type Opened = (u32, u32, u64);
 
 /// A `contains` of the first key, of the last, and of one above all others.
 fn assert_bound<M: OpenReads, R: Abort>(
     rt: &R,
     alloc: Global,
-    (threads, quota, bound): Shape,
+    (threads, quota, bound): Opened,
 ) -> Result<(), Fail> {
     let shape = layout(threads, quota)?;
     assert!(rt; M::bound(&shape) == bound);
@@ -62,7 +62,7 @@ fn assert_bound<M: OpenReads, R: Abort>(
     assert_found(rt, &mut world, u32::MAX, Reply::False, bound)
 }
 
-const SHAPES: [Shape; 3] = [(1, 2, 6), (2, 4, 18), (3, 5, 32)];
+const SHAPES: [Opened; 3] = [(1, 2, 6), (2, 4, 18), (3, 5, 32)];
 
 /// A key above all others is met after two loads for each node but the tail, and that is the bound.
 #[test]

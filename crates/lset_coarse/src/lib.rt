@@ -9,16 +9,11 @@ ghost use Rattle.lset_coarse.specs.Lawful.{coarse_lawful};
 
 use lset_steps::rows::{Targets, begun, decide, key_index, link_index, own_slot};
 use lset_steps::{Action, Fed, Local, Machine};
-use lset_words::{Call, Key, Kind, Reply};
+use lset_words::{Call, HEAD, Key, Kind, LOCK, Reply};
 
 /// The list with one lock.
 #[derive(Clone, Copy)]
 pub struct CoarseList;
-
-/// The list's lock.
-const LOCK: u64 = 0;
-
-const HEAD: u64 = 0;
 
 /// The rows to which a call goes on from its decision.
 const TARGETS: Targets = Targets {

@@ -11,14 +11,12 @@ use lset_steps::rows::{
     Targets, begun, decide, key_index, link_index, lock_index, own_slot, try_lock,
 };
 use lset_steps::{Action, Fed, Local, Machine};
-use lset_words::{Call, Key, Kind, Reply};
+use lset_words::{Call, HEAD, Key, Kind, Reply};
 
 /// The list with a lock in each node: a walk locks a node before it gives up the one behind it (Herlihy
 /// and Shavit's fine-grained list, by this project's own table).
 #[derive(Clone, Copy)]
 pub struct FineList;
-
-const HEAD: u64 = 0;
 
 /// The rows to which a call goes on from its decision.
 const TARGETS: Targets = Targets {

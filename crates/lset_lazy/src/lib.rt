@@ -14,14 +14,12 @@ pub mod laws;
 use lset_steps::reads::{begun_reading, continued, leaves_with, read_action, read_fed};
 use lset_steps::rows::{Targets, decide, key_index, link_index, lock_index, own_slot, try_lock};
 use lset_steps::{Action, Fed, Local, Machine, OpenReads};
-use lset_words::{Call, Key, Kind, Reply};
+use lset_words::{Call, HEAD, Key, Kind, Reply};
 
 /// The list whose walks take no lock: a call that changes it locks the two nodes at which its walk stopped, and walks
 /// again where they have changed (Herlihy and Shavit's lazy list, by this project's own table).
 #[derive(Clone, Copy)]
 pub struct LazyList;
-
-const HEAD: u64 = 0;
 
 /// The rows to which a call goes on from its decision.
 const TARGETS: Targets = Targets {

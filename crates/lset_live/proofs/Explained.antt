@@ -31,7 +31,7 @@ use Rattle.lset_rule.specs.Pasts.{calls_of, root}
 use Rattle.lset_rule.specs.Runs.{Here, log_by, at_end, IsRunOf, history_of}
 use Rattle.lset_rule.specs.Views.{Stands, AreIdle, HasAside, HasThread}
 use Rattle.lset_rule.specs.Calls.{Makes}
-use Rattle.lset_rule.specs.Seats.{IsSeat, Place}
+use Rattle.lset_rule.specs.Seats.{IsSeat, TableSeat}
 use Rattle.lset_rule.proofs.Stepped.{Tied, tied}
 use Rattle.lset_words.specs.Records.{Keeps, called, thread_of}
 use Rattle.lset_live.specs.Dated.{call_of, record_of}
@@ -168,7 +168,7 @@ module _ (T : Table) (law : Lawful T) (c : Call) (v : View) (r : Reply) (w : Vie
   }
 
 -- THE CONTRACT OF A CALL, from what the call did to the view of its seat
-abbrev seat_at : Place → SeatValue
+abbrev seat_at : TableSeat → SeatValue
 seat_at s = record {
   set = record { table = s.table_id; shape = s.me.0.shape };
   past = record_of s.me.0.past;
@@ -176,7 +176,7 @@ seat_at s = record {
   events = s.me.0.seen;
 }
 
-module _ (T : Table) (law : Lawful T) (linear : RunsAreLinearizable T) (c : Call) (s : Place) (r : Reply) (s' : Place)
+module _ (T : Table) (law : Lawful T) (linear : RunsAreLinearizable T) (c : Call) (s : TableSeat) (r : Reply) (s' : TableSeat)
     (seat : IsSeat s s') (made : Makes T c s.me.0 r s'.me.0) where
   at_seat : HasAnswered T (seat_at s').set (seat_at s) c r (seat_at s')
   at_seat = record {

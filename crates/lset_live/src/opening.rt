@@ -10,7 +10,7 @@ use crate::running::Running;
 use crate::seat::Seat;
 use crate::set::LiveSet;
 use atomic_table::Table;
-use lset_rule::{Shape, Slots};
+use lset_rule::{Opened, OwnSlots};
 use lset_steps::opening_words;
 use lset_words::{Layout, LayoutFault, layout, layout_opening};
 use std::alloc::{AllocError, Global};
@@ -30,7 +30,7 @@ fn open_on<M: Running>(
     let opening = layout.opening();
     let words = opening_words(alloc, &layout, keys)?;
     let copied = Vec::from_slice(alloc, keys)?;
-    let shape = Shape::new(threads, quota, copied);
+    let shape = Opened::new(threads, quota, copied);
     let (table, mut place) = Table::of_words(alloc, words.as_slice(), &shape)?;
     let set = LiveSet {
         alloc,
@@ -43,7 +43,7 @@ fn open_on<M: Running>(
     let mut seats = Vec::new(alloc);
     for t in 0..last {
         let place = set.split_off(&mut place);
-        let slots = Slots::unused(&layout, t);
+        let slots = OwnSlots::unused(&layout, t);
         seats.push(Seat {
             place,
             slots,
@@ -51,7 +51,7 @@ fn open_on<M: Running>(
             of: PhantomData,
         })?;
     }
-    let slots = Slots::unused(&layout, last);
+    let slots = OwnSlots::unused(&layout, last);
     seats.push(Seat {
         place,
         slots,

@@ -8,7 +8,7 @@ use lset_fine::FineList;
 use lset_lazy::LazyList;
 use lset_lock_free::LockFreeList;
 use lset_optimistic::OptimisticList;
-use lset_rule::{Pause, Place, Slots, Words, read, walk};
+use lset_rule::{OwnSlots, Pause, TableSeat, Words, interpret, interpret_read};
 use lset_steps::{Machine, OpenReads};
 use lset_words::{Call, Key, Reply};
 use std::sync::Wait;
@@ -16,7 +16,7 @@ use std::sync::Wait;
 /// A machine whose calls run on words that threads share.
 ///
 /// A list that has its rows (`Machine`) meets this trait with no body: `impl Running for MyList {}`. The default bodies
-/// are the interpreter (`lset_rule::walk`): it takes the row from `next`, makes this one step on the table, feeds what was
+/// are the interpreter (`lset_rule::interpret`): it takes the row from `next`, makes this one step on the table, feeds what was
 /// seen, and asks `pause` after each step that does not answer. A list may have bodies of its own, loops over the steps
 /// of `lset_rule`, under the same contract: one for all of its calls (`make_on`), or one for a kind of call. It asks that a call may be made from the place (`MayCall`): that it is a seat
 /// of the table, with no call under way, and that the slots are those in its view. It owes that the call was made
@@ -30,26 +30,26 @@ pub trait Running: Machine {
     fn make_on<R: Wait, P: Pause>(
         rt: &R,
         table: &Words<Self>,
-        place: &mut Place,
-        slots: Slots,
+        place: &mut TableSeat,
+        slots: OwnSlots,
         call: Call,
         pause: &P,
-    ) -> (Slots, Reply)
+    ) -> (OwnSlots, Reply)
         requires { MayCall Self.table table.now.table_id table.now.key slots place.old }
         ensures { HasCalled Self.table call place.old result place.new }
     {
-        walk::<Self, R, P>(rt, table, place, slots, call, pause)
+        interpret::<Self, R, P>(rt, table, place, slots, call, pause)
     }
 
     /// Makes an `add`: the key goes in where it is not there.
     fn add_on<R: Wait, P: Pause>(
         rt: &R,
         table: &Words<Self>,
-        place: &mut Place,
-        slots: Slots,
+        place: &mut TableSeat,
+        slots: OwnSlots,
         key: Key,
         pause: &P,
-    ) -> (Slots, Reply)
+    ) -> (OwnSlots, Reply)
         requires { MayCall Self.table table.now.table_id table.now.key slots place.old }
         ensures { HasCalled Self.table (Add key) place.old result place.new }
     {
@@ -60,11 +60,11 @@ pub trait Running: Machine {
     fn remove_on<R: Wait, P: Pause>(
         rt: &R,
         table: &Words<Self>,
-        place: &mut Place,
-        slots: Slots,
+        place: &mut TableSeat,
+        slots: OwnSlots,
         key: Key,
         pause: &P,
-    ) -> (Slots, Reply)
+    ) -> (OwnSlots, Reply)
         requires { MayCall Self.table table.now.table_id table.now.key slots place.old }
         ensures { HasCalled Self.table (Remove key) place.old result place.new }
     {
@@ -75,11 +75,11 @@ pub trait Running: Machine {
     fn contains_on<R: Wait, P: Pause>(
         rt: &R,
         table: &Words<Self>,
-        place: &mut Place,
-        slots: Slots,
+        place: &mut TableSeat,
+        slots: OwnSlots,
         key: Key,
         pause: &P,
-    ) -> (Slots, Reply)
+    ) -> (OwnSlots, Reply)
         requires { MayCall Self.table table.now.table_id table.now.key slots place.old }
         ensures { HasCalled Self.table (Contains key) place.old result place.new }
     {
@@ -90,11 +90,11 @@ pub trait Running: Machine {
     fn ceiling_on<R: Wait, P: Pause>(
         rt: &R,
         table: &Words<Self>,
-        place: &mut Place,
-        slots: Slots,
+        place: &mut TableSeat,
+        slots: OwnSlots,
         key: Key,
         pause: &P,
-    ) -> (Slots, Reply)
+    ) -> (OwnSlots, Reply)
         requires { MayCall Self.table table.now.table_id table.now.key slots place.old }
         ensures { HasCalled Self.table (Ceiling key) place.old result place.new }
     {
@@ -106,11 +106,11 @@ pub trait Running: Machine {
 pub(crate) fn call_on<M: Running, R: Wait, P: Pause>(
     rt: &R,
     table: &Words<M>,
-    place: &mut Place,
-    slots: Slots,
+    place: &mut TableSeat,
+    slots: OwnSlots,
     call: Call,
     pause: &P,
-) -> (Slots, Reply)
+) -> (OwnSlots, Reply)
     requires { MayCall M.table table.now.table_id table.now.key slots place.old }
     ensures { HasCalled M.table call place.old result place.new }
 {
@@ -126,11 +126,11 @@ impl Running for CoarseList {
     fn make_on<R: Wait, P: Pause>(
         rt: &R,
         table: &Words<Self>,
-        place: &mut Place,
-        slots: Slots,
+        place: &mut TableSeat,
+        slots: OwnSlots,
         call: Call,
         pause: &P,
-    ) -> (Slots, Reply) {
+    ) -> (OwnSlots, Reply) {
         lset_locked_loops::coarse_on::<R, P>(rt, table, place, slots, call, pause)
     }
 }
@@ -139,11 +139,11 @@ impl Running for FineList {
     fn make_on<R: Wait, P: Pause>(
         rt: &R,
         table: &Words<Self>,
-        place: &mut Place,
-        slots: Slots,
+        place: &mut TableSeat,
+        slots: OwnSlots,
         call: Call,
         pause: &P,
-    ) -> (Slots, Reply) {
+    ) -> (OwnSlots, Reply) {
         lset_locked_loops::fine_on::<R, P>(rt, table, place, slots, call, pause)
     }
 }
@@ -152,11 +152,11 @@ impl Running for OptimisticList {
     fn make_on<R: Wait, P: Pause>(
         rt: &R,
         table: &Words<Self>,
-        place: &mut Place,
-        slots: Slots,
+        place: &mut TableSeat,
+        slots: OwnSlots,
         call: Call,
         pause: &P,
-    ) -> (Slots, Reply) {
+    ) -> (OwnSlots, Reply) {
         lset_locked_loops::optimistic_on::<R, P>(rt, table, place, slots, call, pause)
     }
 }
@@ -165,33 +165,33 @@ impl Running for LazyList {
     fn add_on<R: Wait, P: Pause>(
         rt: &R,
         table: &Words<Self>,
-        place: &mut Place,
-        slots: Slots,
+        place: &mut TableSeat,
+        slots: OwnSlots,
         key: Key,
         pause: &P,
-    ) -> (Slots, Reply) {
-        lset_locked_loops::lazy_add_on::<R, P>(rt, table, place, slots, key, pause)
+    ) -> (OwnSlots, Reply) {
+        lset_loops::lazy_add_on::<R, P>(rt, table, place, slots, key, pause)
     }
 
     fn remove_on<R: Wait, P: Pause>(
         rt: &R,
         table: &Words<Self>,
-        place: &mut Place,
-        slots: Slots,
+        place: &mut TableSeat,
+        slots: OwnSlots,
         key: Key,
         pause: &P,
-    ) -> (Slots, Reply) {
-        lset_locked_loops::lazy_remove_on::<R, P>(rt, table, place, slots, key, pause)
+    ) -> (OwnSlots, Reply) {
+        lset_loops::lazy_remove_on::<R, P>(rt, table, place, slots, key, pause)
     }
 
     fn contains_on<R: Wait, P: Pause>(
         _rt: &R,
         table: &Words<Self>,
-        place: &mut Place,
-        slots: Slots,
+        place: &mut TableSeat,
+        slots: OwnSlots,
         key: Key,
         pause: &P,
-    ) -> (Slots, Reply) {
+    ) -> (OwnSlots, Reply) {
         lset_loops::contains_on::<Self, P>(table, place, slots, key, pause)
     }
 }
@@ -200,33 +200,33 @@ impl Running for LockFreeList {
     fn add_on<R: Wait, P: Pause>(
         rt: &R,
         table: &Words<Self>,
-        place: &mut Place,
-        slots: Slots,
+        place: &mut TableSeat,
+        slots: OwnSlots,
         key: Key,
         pause: &P,
-    ) -> (Slots, Reply) {
-        lset_loops::add_on::<R, P>(rt, table, place, slots, key, pause)
+    ) -> (OwnSlots, Reply) {
+        lset_loops::lock_free_add_on::<R, P>(rt, table, place, slots, key, pause)
     }
 
     fn remove_on<R: Wait, P: Pause>(
         rt: &R,
         table: &Words<Self>,
-        place: &mut Place,
-        slots: Slots,
+        place: &mut TableSeat,
+        slots: OwnSlots,
         key: Key,
         pause: &P,
-    ) -> (Slots, Reply) {
-        lset_loops::remove_on::<R, P>(rt, table, place, slots, key, pause)
+    ) -> (OwnSlots, Reply) {
+        lset_loops::lock_free_remove_on::<R, P>(rt, table, place, slots, key, pause)
     }
 
     fn contains_on<R: Wait, P: Pause>(
         _rt: &R,
         table: &Words<Self>,
-        place: &mut Place,
-        slots: Slots,
+        place: &mut TableSeat,
+        slots: OwnSlots,
         key: Key,
         pause: &P,
-    ) -> (Slots, Reply) {
+    ) -> (OwnSlots, Reply) {
         lset_loops::contains_on::<Self, P>(table, place, slots, key, pause)
     }
 }
@@ -238,24 +238,24 @@ pub trait RunningReads: Running + OpenReads {
     /// Makes a `contains` that waits for nobody. It has no handle to wait by, and makes at most `OpenReads::bound` steps.
     fn contains_now_on(
         table: &Words<Self>,
-        place: &mut Place,
-        slots: Slots,
+        place: &mut TableSeat,
+        slots: OwnSlots,
         key: Key,
-    ) -> (Slots, Reply)
+    ) -> (OwnSlots, Reply)
         requires { MayCall Self.table table.now.table_id table.now.key slots place.old }
         ensures { HasCalled Self.table (Contains key) place.old result place.new }
     {
-        read::<Self>(table, place, slots, key)
+        interpret_read::<Self>(table, place, slots, key)
     }
 }
 
 impl RunningReads for LazyList {
     fn contains_now_on(
         table: &Words<Self>,
-        place: &mut Place,
-        slots: Slots,
+        place: &mut TableSeat,
+        slots: OwnSlots,
         key: Key,
-    ) -> (Slots, Reply) {
+    ) -> (OwnSlots, Reply) {
         lset_loops::contains_now_on::<Self>(table, place, slots, key)
     }
 }
@@ -263,10 +263,10 @@ impl RunningReads for LazyList {
 impl RunningReads for LockFreeList {
     fn contains_now_on(
         table: &Words<Self>,
-        place: &mut Place,
-        slots: Slots,
+        place: &mut TableSeat,
+        slots: OwnSlots,
         key: Key,
-    ) -> (Slots, Reply) {
+    ) -> (OwnSlots, Reply) {
         lset_loops::contains_now_on::<Self>(table, place, slots, key)
     }
 }

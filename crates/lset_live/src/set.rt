@@ -18,7 +18,7 @@ use crate::running::{Running, RunningReads, call_on};
 use crate::seat::Seat;
 use atomic_table::Table;
 use lset_headline::runs_are_linearizable;
-use lset_rule::{Cutting, Follows, Learning, Pause, Place, Shape, Spin, Taking, View};
+use lset_rule::{Cutting, Follows, Learning, Opened, Pause, Spin, TableSeat, Taking, View};
 use lset_words::{Call, Key, Reply};
 use std::alloc::{AllocError, Global};
 use std::marker::Model;
@@ -28,7 +28,7 @@ use std::sync::Wait;
 /// a seat of its own. Contracts see its table, its threads and its quota.
 #[derive(Drop)]
 pub struct LiveSet<M: Running> {
-    pub(crate) table: Table<(), View, Shape, Follows<M>, Global>,
+    pub(crate) table: Table<(), View, Opened, Follows<M>, Global>,
     pub(crate) threads: u32,
     pub(crate) quota: u32,
     pub(crate) opening: u32,
@@ -202,7 +202,7 @@ impl<M: Running> LiveSet<M> {
         closed.keys()
     }
 
-    pub(crate) fn split_off(&self, place: &mut Place) -> Place
+    pub(crate) fn split_off(&self, place: &mut TableSeat) -> TableSeat
         requires place { IsOf self.now.table self.now.shape place.old × IsIdle place.old.me.0 }
         requires fresh { (place.old.me.0.past ≡ Fresh place.old.me.0.thread) × (0 < length place.old.me.0.others) }
         ensures old { (place.new.table_id ≡ place.old.table_id) × (place.new.id ≡ place.old.id)

@@ -15,14 +15,12 @@ pub mod laws;
 use lset_steps::reads::{begun_reading, continued, leaves_with, read_action, read_fed};
 use lset_steps::rows::{Targets, decide, key_index, link_index, own_slot};
 use lset_steps::{Action, Fed, Local, Machine, OpenReads};
-use lset_words::{Call, Key, Kind, Reply};
+use lset_words::{Call, HEAD, Key, Kind, Reply};
 
 /// The list without locks: a node is marked by an exchange of its link, and then taken out by an exchange of the link
 /// before it, by whoever comes by (Herlihy and Shavit's lock-free list, by this project's own table).
 #[derive(Clone, Copy)]
 pub struct LockFreeList;
-
-const HEAD: u64 = 0;
 
 /// The rows to which a call goes on from its decision; where it leaves, it answers at once.
 const TARGETS: Targets = Targets {

@@ -1,6 +1,3 @@
-pub mod Begun
-pub mod Calling
 pub mod Coarse
 pub mod Fine
-pub mod Lazy
 pub mod Optimistic

@@ -2,38 +2,35 @@
 ghost use Rattle.std.specs.Prelude.{◌≡◌};
 ghost use Rattle.lset_coarse.specs.Coarse.{coarse};
 ghost use Rattle.lset_rule.specs.Seats.{HasCalled, MayCall};
-ghost use Rattle.lset_locked_loops.specs.Begun.{IsCall};
-ghost use Rattle.lset_locked_loops.specs.Calling.{HasAnswered, MayBegin};
+ghost use Rattle.lset_caller.specs.Begun.{IsCall};
+ghost use Rattle.lset_caller.specs.Calling.{HasAnswered, MayBegin};
 ghost use Rattle.lset_locked_loops.specs.Coarse.{AtHead, Leaves, StopsAt};
 
-use crate::caller::{Caller, Node, Origin};
-use crate::decision::{Decision, Found, decide, one_more};
+use lset_caller::{Caller, Decision, Found, Node, Origin, decide, one_more};
 use lset_coarse::CoarseList;
-use lset_rule::{Pause, Place, Slots, Words};
-use lset_words::{Call, Reply};
+use lset_rule::{OwnSlots, Pause, TableSeat, Words};
+use lset_words::{Call, LOCK, Reply};
 use std::marker::{Brand, PhantomData};
 use std::sync::Wait;
 
-/// The list's lock.
-const LOCK: u64 = 0;
-
 /// Walks from the head to the first key that is not below that of the call.
 fn walk<O: Origin, R: Wait, P: Pause>(
-    caller: &Caller<CoarseList, O, R, P>,
-    place: &mut Place,
+    rt: &R,
+    caller: &Caller<CoarseList, O, P>,
+    place: &mut TableSeat,
 ) -> Found
     requires { AtHead O.begun caller.now.slots place.old }
     ensures { StopsAt O.begun caller.now.slots result place.new }
 {
     let key = caller.key;
     let mut pred = Node::head();
-    let mut curr = Node::behind(caller.load_link(place, pred));
-    for _ in caller.rt.forever() {
-        let word = caller.load_key(place, curr);
+    let mut curr = Node::behind(caller.load_link(place, pred)); // row 2
+    for _ in rt.forever() {
+        let word = caller.load_key(place, curr); // row 3
         if word >= key {
             return Found { pred, curr, word };
         }
-        let link = caller.load_link(place, curr);
+        let link = caller.load_link(place, curr); // row 4
         pred = curr;
         curr = Node::behind(link);
     }
@@ -41,22 +38,22 @@ fn walk<O: Origin, R: Wait, P: Pause>(
 }
 
 /// Does what the call does at the key that was found.
-fn act<O: Origin, R: Wait, P: Pause>(
-    caller: &Caller<CoarseList, O, R, P>,
-    place: &mut Place,
+fn act<O: Origin, P: Pause>(
+    caller: &Caller<CoarseList, O, P>,
+    place: &mut TableSeat,
     found: Found,
-) -> (Slots, Reply)
+) -> (OwnSlots, Reply)
     requires { StopsAt O.begun caller.now.slots found place.old }
     ensures { Leaves O.begun result place.new }
 {
     match decide(caller.call, found.word, caller.slots) {
         Decision::PutIn => {
-            caller.put_in(place, found);
+            caller.put_in(place, found); // rows 5, 6, 7
             (one_more(caller.slots), Reply::True)
         }
         Decision::TakeOut => {
-            let link = caller.load_link(place, found.curr);
-            caller.store_link(place, found.pred, Node::behind(link));
+            let link = caller.load_link(place, found.curr); // row 8
+            caller.store_link(place, found.pred, Node::behind(link)); // row 9
             (caller.slots, Reply::True)
         }
         Decision::Answer(reply) => (caller.slots, reply),
@@ -66,17 +63,16 @@ fn act<O: Origin, R: Wait, P: Pause>(
 fn make<O: Origin, R: Wait, P: Pause>(
     rt: &R,
     table: &Words<CoarseList>,
-    place: &mut Place,
-    slots: Slots,
+    place: &mut TableSeat,
+    slots: OwnSlots,
     call: Call,
     pause: &P,
-) -> (Slots, Reply)
+) -> (OwnSlots, Reply)
     requires begins { MayBegin coarse O.begun slots place.old }
     requires call { IsCall O.begun call table.now.table_id table.now.key }
     ensures { HasAnswered coarse O.begun result place.new }
 {
-    let caller = Caller::<'_, CoarseList, O, R, P> {
-        rt,
+    let caller = Caller::<'_, CoarseList, O, P> {
         table,
         pause,
         slots,
@@ -84,10 +80,10 @@ fn make<O: Origin, R: Wait, P: Pause>(
         key: call.key().word(),
         origin: PhantomData,
     };
-    caller.begin_locked(place, LOCK);
-    let found = walk(&caller, place);
+    caller.begin_locked(rt, place, LOCK); // row 1
+    let found = walk(rt, &caller, place);
     let answer = act(&caller, place, found);
-    caller.release_last(place, LOCK);
+    caller.release_last(place, LOCK); // row 10
     answer
 }
 
@@ -96,11 +92,11 @@ fn make<O: Origin, R: Wait, P: Pause>(
 pub fn coarse_on<R: Wait, P: Pause>(
     rt: &R,
     table: &Words<CoarseList>,
-    place: &mut Place,
-    slots: Slots,
+    place: &mut TableSeat,
+    slots: OwnSlots,
     call: Call,
     pause: &P,
-) -> (Slots, Reply)
+) -> (OwnSlots, Reply)
     requires { MayCall coarse table.now.table_id table.now.key slots place.old }
     ensures { HasCalled coarse call place.old result place.new }
 {

@@ -2,40 +2,38 @@
 ghost use Rattle.std.specs.Prelude.{◌≡◌};
 ghost use Rattle.lset_fine.specs.Fine.{fine};
 ghost use Rattle.lset_rule.specs.Seats.{HasCalled, MayCall};
-ghost use Rattle.lset_locked_loops.specs.Begun.{IsCall};
-ghost use Rattle.lset_locked_loops.specs.Calling.{HasAnswered, MayBegin};
+ghost use Rattle.lset_caller.specs.Begun.{IsCall};
+ghost use Rattle.lset_caller.specs.Calling.{HasAnswered, MayBegin};
 ghost use Rattle.lset_locked_loops.specs.Fine.{AtHead, Leaves, StopsAt};
 
-use crate::caller::{Caller, Node, Origin};
-use crate::decision::{Decision, Found, decide, one_more};
+use lset_caller::{Caller, Decision, Found, Node, Origin, decide, one_more};
 use lset_fine::FineList;
-use lset_rule::{Pause, Place, Slots, Words};
+use lset_rule::{OwnSlots, Pause, TableSeat, Words};
 use lset_steps::rows::lock_index;
-use lset_words::{Call, Reply};
+use lset_words::{Call, HEAD, Reply};
 use std::marker::{Brand, PhantomData};
 use std::sync::Wait;
 
-const HEAD: u64 = 0;
-
 /// Walks hand over hand from the head, which is locked, to the first key that is not below that of the call.
 fn walk<O: Origin, R: Wait, P: Pause>(
-    caller: &Caller<FineList, O, R, P>,
-    place: &mut Place,
+    rt: &R,
+    caller: &Caller<FineList, O, P>,
+    place: &mut TableSeat,
 ) -> Found
     requires { AtHead O.begun caller.now.slots place.old }
     ensures { StopsAt O.begun caller.now.slots result place.new }
 {
     let key = caller.key;
     let mut pred = Node::head();
-    let mut curr = Node::behind(caller.load_link(place, pred));
-    for _ in caller.rt.forever() {
-        caller.lock(place, curr);
-        let word = caller.load_key(place, curr);
+    let mut curr = Node::behind(caller.load_link(place, pred)); // row 2
+    for _ in rt.forever() {
+        caller.lock(rt, place, curr); // row 3
+        let word = caller.load_key(place, curr); // row 4
         if word >= key {
             return Found { pred, curr, word };
         }
-        caller.unlock(place, pred);
-        let link = caller.load_link(place, curr);
+        caller.unlock(place, pred); // row 5
+        let link = caller.load_link(place, curr); // row 6
         pred = curr;
         curr = Node::behind(link);
     }
@@ -43,22 +41,22 @@ fn walk<O: Origin, R: Wait, P: Pause>(
 }
 
 /// Does what the call does at the key that was found, between two nodes that it has locked.
-fn act<O: Origin, R: Wait, P: Pause>(
-    caller: &Caller<FineList, O, R, P>,
-    place: &mut Place,
+fn act<O: Origin, P: Pause>(
+    caller: &Caller<FineList, O, P>,
+    place: &mut TableSeat,
     found: Found,
-) -> (Slots, Reply)
+) -> (OwnSlots, Reply)
     requires { StopsAt O.begun caller.now.slots found place.old }
     ensures { Leaves O.begun found result place.new }
 {
     match decide(caller.call, found.word, caller.slots) {
         Decision::PutIn => {
-            caller.put_in(place, found);
+            caller.put_in(place, found); // rows 7, 8, 9
             (one_more(caller.slots), Reply::True)
         }
         Decision::TakeOut => {
-            let link = caller.load_link(place, found.curr);
-            caller.store_link(place, found.pred, Node::behind(link));
+            let link = caller.load_link(place, found.curr); // row 10
+            caller.store_link(place, found.pred, Node::behind(link)); // row 11
             (caller.slots, Reply::True)
         }
         Decision::Answer(reply) => (caller.slots, reply),
@@ -68,17 +66,16 @@ fn act<O: Origin, R: Wait, P: Pause>(
 fn make<O: Origin, R: Wait, P: Pause>(
     rt: &R,
     table: &Words<FineList>,
-    place: &mut Place,
-    slots: Slots,
+    place: &mut TableSeat,
+    slots: OwnSlots,
     call: Call,
     pause: &P,
-) -> (Slots, Reply)
+) -> (OwnSlots, Reply)
     requires begins { MayBegin fine O.begun slots place.old }
     requires call { IsCall O.begun call table.now.table_id table.now.key }
     ensures { HasAnswered fine O.begun result place.new }
 {
-    let caller = Caller::<'_, FineList, O, R, P> {
-        rt,
+    let caller = Caller::<'_, FineList, O, P> {
         table,
         pause,
         slots,
@@ -86,11 +83,11 @@ fn make<O: Origin, R: Wait, P: Pause>(
         key: call.key().word(),
         origin: PhantomData,
     };
-    caller.begin_locked(place, lock_index(HEAD));
-    let found = walk(&caller, place);
+    caller.begin_locked(rt, place, lock_index(HEAD)); // row 1
+    let found = walk(rt, &caller, place);
     let answer = act(&caller, place, found);
-    caller.unlock(place, found.curr);
-    caller.unlock_last(place, found.pred);
+    caller.unlock(place, found.curr); // row 12
+    caller.unlock_last(place, found.pred); // row 13
     answer
 }
 
@@ -99,11 +96,11 @@ fn make<O: Origin, R: Wait, P: Pause>(
 pub fn fine_on<R: Wait, P: Pause>(
     rt: &R,
     table: &Words<FineList>,
-    place: &mut Place,
-    slots: Slots,
+    place: &mut TableSeat,
+    slots: OwnSlots,
     call: Call,
     pause: &P,
-) -> (Slots, Reply)
+) -> (OwnSlots, Reply)
     requires { MayCall fine table.now.table_id table.now.key slots place.old }
     ensures { HasCalled fine call place.old result place.new }
 {

@@ -2,19 +2,16 @@
 ghost use Rattle.std.specs.Prelude.{◌≡◌};
 ghost use Rattle.lset_optimistic.specs.Optimistic.{optimistic};
 ghost use Rattle.lset_rule.specs.Seats.{HasCalled, MayCall};
-ghost use Rattle.lset_locked_loops.specs.Begun.{IsCall};
-ghost use Rattle.lset_locked_loops.specs.Calling.{HasAnswered, MayBegin};
+ghost use Rattle.lset_caller.specs.Begun.{IsCall};
+ghost use Rattle.lset_caller.specs.Calling.{HasAnswered, MayBegin};
 ghost use Rattle.lset_locked_loops.specs.Optimistic.{AreNeighbours, AtKey, HasLocked, HasReached, HasValidated, Leaves, StopsAt};
 
-use crate::caller::{Caller, Node, Origin};
-use crate::decision::{Decision, Found, decide, one_more};
+use lset_caller::{Caller, Decision, Found, Node, Origin, decide, one_more};
 use lset_optimistic::OptimisticList;
-use lset_rule::{Pause, Place, Slots, Words};
-use lset_words::{Call, Reply};
+use lset_rule::{OwnSlots, Pause, TableSeat, Words};
+use lset_words::{Call, HEAD, Reply};
 use std::marker::{Brand, PhantomData};
 use std::sync::Wait;
-
-const HEAD: u64 = 0;
 
 /// Where the walk has stopped, and the key word that it saw at `pred`, or 0 at the head.
 #[derive(Clone, Copy)]
@@ -26,8 +23,9 @@ pub(crate) struct Stopped {
 /// Walks from the head, whose link led to `first`, to the first key that is not below that of the call.
 #[inline(always)]
 fn walk<O: Origin, R: Wait, P: Pause>(
-    caller: &Caller<OptimisticList, O, R, P>,
-    place: &mut Place,
+    rt: &R,
+    caller: &Caller<OptimisticList, O, P>,
+    place: &mut TableSeat,
     first: Node,
 ) -> Stopped
     requires { AtKey O.begun caller.now.slots 0 first.number 0 place.old }
@@ -37,13 +35,13 @@ fn walk<O: Origin, R: Wait, P: Pause>(
     let mut pred = Node::head();
     let mut before = 0;
     let mut curr = first;
-    for _ in caller.rt.forever() {
-        let word = caller.load_key(place, curr);
+    for _ in rt.forever() {
+        let word = caller.load_key(place, curr); // row 2
         if word >= key {
             let found = Found { pred, curr, word };
             return Stopped { found, before };
         }
-        let link = caller.load_link(place, curr);
+        let link = caller.load_link(place, curr); // row 3
         pred = curr;
         before = word;
         curr = Node::behind(link);
@@ -55,8 +53,9 @@ fn walk<O: Origin, R: Wait, P: Pause>(
 /// `pred`.
 #[inline(always)]
 fn reaches<O: Origin, R: Wait, P: Pause>(
-    caller: &Caller<OptimisticList, O, R, P>,
-    place: &mut Place,
+    rt: &R,
+    caller: &Caller<OptimisticList, O, P>,
+    place: &mut TableSeat,
     stopped: Stopped,
 ) -> bool
     requires { HasLocked O.begun caller.now.slots stopped place.old }
@@ -68,10 +67,10 @@ fn reaches<O: Origin, R: Wait, P: Pause>(
         return true;
     }
     let mut node = Node::head();
-    for _ in caller.rt.forever() {
-        let link = caller.load_link(place, node);
+    for _ in rt.forever() {
+        let link = caller.load_link(place, node); // row 6
         node = Node::behind(link);
-        let word = caller.load_key(place, node);
+        let word = caller.load_key(place, node); // row 7
         if word > before {
             return false;
         }
@@ -84,18 +83,19 @@ fn reaches<O: Origin, R: Wait, P: Pause>(
 
 /// Whether `pred` is still in the list and leads to `curr`, both of which are locked.
 fn validate<O: Origin, R: Wait, P: Pause>(
-    caller: &Caller<OptimisticList, O, R, P>,
-    place: &mut Place,
+    rt: &R,
+    caller: &Caller<OptimisticList, O, P>,
+    place: &mut TableSeat,
     stopped: Stopped,
 ) -> bool
     requires { HasLocked O.begun caller.now.slots stopped place.old }
     ensures { HasValidated O.begun caller.now.slots stopped.found result place.new }
 {
     let found = stopped.found;
-    if !reaches(caller, place, stopped) {
+    if !reaches(rt, caller, place, stopped) {
         return false;
     }
-    let link = caller.load_link(place, found.pred);
+    let link = caller.load_link(place, found.pred); // row 8
     if link / 2 != found.curr.number {
         return false;
     }
@@ -103,22 +103,22 @@ fn validate<O: Origin, R: Wait, P: Pause>(
 }
 
 /// Does what the call does at the key that was found, between two nodes that it has locked.
-fn act<O: Origin, R: Wait, P: Pause>(
-    caller: &Caller<OptimisticList, O, R, P>,
-    place: &mut Place,
+fn act<O: Origin, P: Pause>(
+    caller: &Caller<OptimisticList, O, P>,
+    place: &mut TableSeat,
     found: Found,
-) -> (Slots, Reply)
+) -> (OwnSlots, Reply)
     requires { AreNeighbours O.begun caller.now.slots found place.old }
     ensures { Leaves O.begun found result place.new }
 {
     match decide(caller.call, found.word, caller.slots) {
         Decision::PutIn => {
-            caller.put_in(place, found);
+            caller.put_in(place, found); // rows 9, 10, 11
             (one_more(caller.slots), Reply::True)
         }
         Decision::TakeOut => {
-            let link = caller.load_link(place, found.curr);
-            caller.store_link(place, found.pred, Node::behind(link));
+            let link = caller.load_link(place, found.curr); // row 12
+            caller.store_link(place, found.pred, Node::behind(link)); // row 13
             (caller.slots, Reply::True)
         }
         Decision::Answer(reply) => (caller.slots, reply),
@@ -128,17 +128,16 @@ fn act<O: Origin, R: Wait, P: Pause>(
 fn make<O: Origin, R: Wait, P: Pause>(
     rt: &R,
     table: &Words<OptimisticList>,
-    place: &mut Place,
-    slots: Slots,
+    place: &mut TableSeat,
+    slots: OwnSlots,
     call: Call,
     pause: &P,
-) -> (Slots, Reply)
+) -> (OwnSlots, Reply)
     requires begins { MayBegin optimistic O.begun slots place.old }
     requires call { IsCall O.begun call table.now.table_id table.now.key }
     ensures { HasAnswered optimistic O.begun result place.new }
 {
-    let caller = Caller::<'_, OptimisticList, O, R, P> {
-        rt,
+    let caller = Caller::<'_, OptimisticList, O, P> {
         table,
         pause,
         slots,
@@ -146,21 +145,21 @@ fn make<O: Origin, R: Wait, P: Pause>(
         key: call.key().word(),
         origin: PhantomData,
     };
-    let mut link = caller.begin_at_head(place);
+    let mut link = caller.begin_at_head(place); // row 1
     for _ in rt.forever() {
-        let stopped = walk(&caller, place, Node::behind(link));
+        let stopped = walk(rt, &caller, place, Node::behind(link));
         let found = stopped.found;
-        caller.lock(place, found.pred);
-        caller.lock(place, found.curr);
-        if validate(&caller, place, stopped) {
+        caller.lock(rt, place, found.pred); // row 4
+        caller.lock(rt, place, found.curr); // row 5
+        if validate(rt, &caller, place, stopped) {
             let answer = act(&caller, place, found);
-            caller.unlock(place, found.pred);
-            caller.unlock_last(place, found.curr);
+            caller.unlock(place, found.pred); // row 14
+            caller.unlock_last(place, found.curr); // row 15
             return answer;
         }
-        caller.unlock(place, found.pred);
-        caller.unlock(place, found.curr);
-        link = caller.load_link(place, Node::head());
+        caller.unlock(place, found.pred); // row 14
+        caller.unlock(place, found.curr); // row 15
+        link = caller.load_link(place, Node::head()); // row 1
     }
     unreachable!()
 }
@@ -170,11 +169,11 @@ fn make<O: Origin, R: Wait, P: Pause>(
 pub fn optimistic_on<R: Wait, P: Pause>(
     rt: &R,
     table: &Words<OptimisticList>,
-    place: &mut Place,
-    slots: Slots,
+    place: &mut TableSeat,
+    slots: OwnSlots,
     call: Call,
     pause: &P,
-) -> (Slots, Reply)
+) -> (OwnSlots, Reply)
     requires { MayCall optimistic table.now.table_id table.now.key slots place.old }
     ensures { HasCalled optimistic call place.old result place.new }
 {

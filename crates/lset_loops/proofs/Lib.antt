@@ -1,3 +1,1 @@
-mod Rows
 mod Reading
-mod Walking

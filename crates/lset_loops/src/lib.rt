@@ -1,17 +1,14 @@
-//! Calls of running sets as plain loops on the shared words, with the registers in local variables: `contains` of the lists
-//! whose rows for it are those of `lset_steps` (LazyList and LockFreeList), and `add` and `remove` of LockFreeList.
+//! Calls of the lists that mark as plain loops on the shared words, as Herlihy and Shavit write them: `add`, `remove` and
+//! `contains` of LazyList and of LockFreeList.
 //!
-//! No table is looked at when they run: each word step is the step of the row at which the seat's view stands, by the laws
-//! that the lists tell of their rows (`lset_lazy::laws`, `lset_lock_free::laws`). The contracts are those of the
-//! interpreter (`lset_rule::walk`, `lset_rule::read`).
+//! Each step is that of the row of the list's table at which the seat's view stands (`lset_caller`). The contracts are those
+//! of the interpreter (`lset_rule::interpret`, `lset_rule::interpret_read`).
 #![tactic(auto)]
 
-mod add;
-mod change;
+mod lazy;
+mod lock_free;
 mod reads;
-mod remove;
-mod walk;
 
-pub use add::add_on;
+pub use lazy::{lazy_add_on, lazy_remove_on};
+pub use lock_free::{lock_free_add_on, lock_free_remove_on};
 pub use reads::{ReadsByRows, contains_now_on, contains_on};
-pub use remove::remove_on;

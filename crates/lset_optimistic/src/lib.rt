@@ -24,15 +24,13 @@ use lset_steps::rows::{
     Targets, begun, decide, key_index, link_index, lock_index, own_slot, try_lock,
 };
 use lset_steps::{Action, Fed, Local, Machine};
-use lset_words::{Call, Key, Kind, Reply};
+use lset_words::{Call, HEAD, Key, Kind, Reply};
 
 /// The list that walks without locks, locks the two nodes that it has come to, and walks a second time from the
 /// head to see that the first of them is still in the chain and leads to the other (Herlihy and Shavit's
 /// optimistic list, by this project's own table).
 #[derive(Clone, Copy)]
 pub struct OptimisticList;
-
-const HEAD: u64 = 0;
 
 /// The rows to which a call goes on from its decision.
 const TARGETS: Targets = Targets {

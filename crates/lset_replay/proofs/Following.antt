@@ -16,7 +16,7 @@ use Rattle.lset_words.specs.Words.{Opening}
 use Rattle.lset_history.proofs.Calls.{open_is, call_is, begun_is, changed_is, new_call}
 use Rattle.lset_history.proofs.OpenCalls.{last_number, number_after, length_began}
 use Rattle.lset_replay.specs.declared.places.OpenCall.{OpenCall}
-use Rattle.lset_replay.specs.declared.places.Place.{Place}
+use Rattle.lset_replay.specs.declared.places.Linearized.{Linearized}
 use Rattle.lset_replay.specs.Trace.{Trace, open_call_at, place_at, number_of, fit, changed_at, settled, begun_on, changed_on}
 use Rattle.lset_replay.specs.Trace.{ended_on}
 use Rattle.lset_history.specs.Changes.{is_present, IsBounded}
@@ -33,13 +33,13 @@ pub record IsWatched (log : Log) (contents : Contents) (counts : Counts) (k t : 
   pub steady : has_changed log t k ≡ false → (m : ℕ) → begun_at log t k ≤ m → m ≤ k → counts m t ≡ counts k t
 
 -- THE PLACE of a call
-abbrev pub PlaceBy : ℕ → Contents → Counts → TracedCall → Option ℕ → Option (ℕ × Reply) → Option Place → Type 0
+abbrev pub PlaceBy : ℕ → Contents → Counts → TracedCall → Option ℕ → Option (ℕ × Reply) → Option Linearized → Type 0
 PlaceBy q contents counts x (Some m) ended p = p ≡ Some (changed_at m)
 PlaceBy q contents counts x None None p = p ≡ None
 PlaceBy q contents counts x None (Some end) p =
     (m : ℕ) × (p ≡ Some (record { moment = m; reply = end.1; change = false })) × IsLeastFit q contents counts x end.0 end.1 m
 
-abbrev pub PlaceOf : ℕ → Contents → Counts → TracedCall → Option Place → Type 0
+abbrev pub PlaceOf : ℕ → Contents → Counts → TracedCall → Option Linearized → Type 0
 PlaceOf q contents counts x p = PlaceBy q contents counts x x.changed x.ended p
 
 -- WHAT IS KEPT after k events
@@ -57,11 +57,11 @@ pub record Follows (op : Opening) (log : Log) (contents : Contents) (counts : Co
       → PlaceOf op.quota contents counts (traced_at (calls_at log k) i) (place_at s.places i)
 
 -- ---- what a step does to the parts of a trace
-abbrev pub change_place : Option Change → ℕ → Option Place → Option Place
+abbrev pub change_place : Option Change → ℕ → Option Linearized → Option Linearized
 change_place None m p = p
 change_place (Some c) m p = Some (changed_at m)
 
-abbrev pub end_place : (ℕ → List ℕ) → ℕ → Option Reply → OpenCall → Option Place → Option Place
+abbrev pub end_place : (ℕ → List ℕ) → ℕ → Option Reply → OpenCall → Option Linearized → Option Linearized
 end_place changes m None o p = p
 end_place changes m (Some r) o p = settled p (fit changes o r m) r
 

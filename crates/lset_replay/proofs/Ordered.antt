@@ -13,14 +13,14 @@ use Rattle.lset_words.specs.Words.{Opening}
 use Rattle.lset_history.proofs.Lists.{all_at}
 use Rattle.lset_history.proofs.Calls.{Traced, ChangedBy, EndedBy}
 use Rattle.lset_history.proofs.CallSteps.{run_of, calls_of}
-use Rattle.lset_replay.specs.declared.places.Place.{Place}
+use Rattle.lset_replay.specs.declared.places.Linearized.{Linearized}
 use Rattle.lset_replay.specs.Trace.{trace_at, place_at}
 use Rattle.lset_replay.specs.Blocks.{placed_at, block_at, blocks_upto, is_same, StandUpTo}
 use Rattle.lset_replay.proofs.KeyChanges.{HoldsKeys}
 use Rattle.lset_replay.proofs.Following.{Follows, PlaceBy, PlaceOf}
 use Rattle.lset_replay.proofs.Ready.{follows}
 
-abbrev pub moment_of : Option Place → Option ℕ
+abbrev pub moment_of : Option Linearized → Option ℕ
 moment_of None = None
 moment_of (Some p) = Some p.moment
 
@@ -30,20 +30,20 @@ changes None = false
 changes (Some m) = true
 
 module _ (q : ℕ) (contents : Contents) (counts : Counts) where
-  reply_there : (x : TracedCall) (changed : Option ℕ) (ended : Option (ℕ × Reply)) (p : Place)
+  reply_there : (x : TracedCall) (changed : Option ℕ) (ended : Option (ℕ × Reply)) (p : Linearized)
       → PlaceBy q contents counts x changed ended (Some p) → reply_by changed ended ≡ p.reply
   reply_there x (Some m) ended p h = cc
   reply_there x None None p h = absurd (cc)
   reply_there x None (Some end) p h = let e = h.1 in cc
 
-  change_there : (x : TracedCall) (changed : Option ℕ) (ended : Option (ℕ × Reply)) (p : Place)
+  change_there : (x : TracedCall) (changed : Option ℕ) (ended : Option (ℕ × Reply)) (p : Linearized)
       → PlaceBy q contents counts x changed ended (Some p) → changes changed ≡ p.change
   unfolding changes
   change_there x (Some m) ended p h = cc
   change_there x None None p h = absurd (cc)
   change_there x None (Some end) p h = let e = h.1 in cc
 
-  pub stands_there : (x : TracedCall) (changed : Option ℕ) (ended : Option (ℕ × Reply)) (p : Option Place)
+  pub stands_there : (x : TracedCall) (changed : Option ℕ) (ended : Option (ℕ × Reply)) (p : Option Linearized)
       → PlaceBy q contents counts x changed ended p
       → StandsBy q contents counts x changed ended (moment_of p)
   stands_there x (Some m) ended p h = ap moment_of h
@@ -79,11 +79,11 @@ one_more c false true m s ss x rest e f h g = rw e h
 one_more c false false m s ss x rest e f h g = rw e h
 
 module _ (q : ℕ) (contents : Contents) (counts : Counts) where
-  AllPlaced : List TracedCall → List (Option Place) → Type 0
+  AllPlaced : List TracedCall → List (Option Linearized) → Type 0
   AllPlaced xs ps = (length ps ≡ length xs) × ((i : ℕ) → i < length xs → PlaceOf q contents counts (traced_at xs i)
       (place_at ps i))
 
-  kind_placed : (c : Bool) (m number : ℕ) (xs : List TracedCall) (ps : List (Option Place)) → length ps ≡ length xs
+  kind_placed : (c : Bool) (m number : ℕ) (xs : List TracedCall) (ps : List (Option Linearized)) → length ps ≡ length xs
       → ((i : ℕ) → i < length xs → PlaceOf q contents counts (traced_at xs i) (place_at ps i))
       → map placed_of (filter (of_kind c) (at_moment m (standing number xs (map moment_of ps)))) ≡ placed_at c m number ps
   kind_placed c m number [] [] l h = refl
@@ -103,7 +103,7 @@ module _ (q : ℕ) (contents : Contents) (counts : Counts) where
       (kind_placed c m (suc number) xs ps (omega arith) (λ i n. h (suc i) (omega arith)))
       (ap (λ z. record { call = number; reply = z }) (reply_there q contents counts x x.changed x.ended p first))
 
-  module _ (xs : List TracedCall) (ps : List (Option Place)) (l : length ps ≡ length xs)
+  module _ (xs : List TracedCall) (ps : List (Option Linearized)) (l : length ps ≡ length xs)
       (h : (i : ℕ) → i < length xs → PlaceOf q contents counts (traced_at xs i) (place_at ps i)) where
     block_placed : (m : ℕ) → map placed_of (block m (standing 0 xs (map moment_of ps))) ≡ block_at ps m
     unfolding of_kind
@@ -135,14 +135,14 @@ module _ (q : ℕ) (contents : Contents) (counts : Counts) where
 module _ (op : Opening) (last : ℕ) (log : Log) (contents : Contents) (counts : Counts)
     (account : Account op last log contents counts)
     (low : HoldsKeys last contents) where
-  upto : (x : TracedCall) (changed : Option ℕ) (ended : Option (ℕ × Reply)) (p : Option Place)
+  upto : (x : TracedCall) (changed : Option ℕ) (ended : Option (ℕ × Reply)) (p : Option Linearized)
       → PlaceBy op.quota contents counts x changed ended p
       → ChangedBy (run_of op.threads op.quota log contents counts) last x.thread x.call x.begun changed
       → EndedBy (run_of op.threads op.quota log contents counts) last x.thread x.call x.begun changed ended
-      → IfSome p (λ (z : Place). z.moment ≤ last)
-  upto x (Some m) ended p h c e = subst (λ y. IfSome y (λ (z : Place). z.moment ≤ last)) (sym h) c.0
-  upto x None None p h c e = subst (λ y. IfSome y (λ (z : Place). z.moment ≤ last)) (sym h) tt
-  upto x None (Some end) p h c e = subst (λ y. IfSome y (λ (z : Place). z.moment ≤ last)) (sym h.1)
+      → IfSome p (λ (z : Linearized). z.moment ≤ last)
+  upto x (Some m) ended p h c e = subst (λ y. IfSome y (λ (z : Linearized). z.moment ≤ last)) (sym h) c.0
+  upto x None None p h c e = subst (λ y. IfSome y (λ (z : Linearized). z.moment ≤ last)) (sym h) tt
+  upto x None (Some end) p h c e = subst (λ y. IfSome y (λ (z : Linearized). z.moment ≤ last)) (sym h.1)
       (let a : h.0 ≤ end.0 = h.2.upto in let b : end.0 ≤ last = e.0 in omega arith)
 
   pub stand_upto : StandUpTo last (trace_at op log last).places

@@ -17,7 +17,7 @@ use Rattle.lset_history.proofs.CallSteps.{run_of, calls_of}
 use Rattle.lset_steps.specs.Steps.{Table}
 use Rattle.lset_steps.specs.Worlds.{WorldState}
 use Rattle.lset_replay.specs.declared.events.LineEvent.{LineEvent}
-use Rattle.lset_replay.specs.declared.places.Place.{Place}
+use Rattle.lset_replay.specs.declared.places.Linearized.{Linearized}
 use Rattle.lset_replay.specs.declared.recorder.Recorder.{Recorder}
 use Rattle.lset_replay.specs.Events.{only_events}
 use Rattle.lset_replay.specs.Trace.{Trace, place_at, trace_of}
@@ -30,14 +30,14 @@ use Rattle.lset_replay.proofs.Ordered.{stands_there}
 use Rattle.lset_replay.proofs.Followed.{TellsKeys, shown, account_then, kept_then}
 
 -- a call with a place is known
-pub known_place : (ps : List (Option Place)) (i : ℕ) (p : Place) → place_at ps i ≡ Some p → i < length ps
+pub known_place : (ps : List (Option Linearized)) (i : ℕ) (p : Linearized) → place_at ps i ≡ Some p → i < length ps
 known_place [] i p e = absurd (cc)
 known_place (x ∷ ps) zero p e = omega arith
 known_place (x ∷ ps) (suc i) p e = let l : i < length ps = known_place ps i p e in omega arith
 
 module _ (q : ℕ) (contents : Contents) (counts : Counts) where
   -- a place tells a change just where the call changes the set at its moment
-  change_tells : (x : TracedCall) (changed : Option ℕ) (ended : Option (ℕ × Reply)) (p : Place)
+  change_tells : (x : TracedCall) (changed : Option ℕ) (ended : Option (ℕ × Reply)) (p : Linearized)
       → PlaceBy q contents counts x changed ended (Some p) → IsTrue p.change ↔ (changed ≡ Some p.moment)
   change_tells x (Some m) ended p h =
       let c : p.change ≡ true = cc in let m' : Some m ≡ Some p.moment = cc in (λ t. m', λ e. c)
@@ -47,7 +47,7 @@ module _ (q : ℕ) (contents : Contents) (counts : Counts) where
 
 module _ (op : Opening) (last : ℕ) (log : Log) (contents : Contents) (counts : Counts) (account : Account op last log contents counts) where
   -- it lies in the bar of its call
-  after_begin : (x : TracedCall) (changed : Option ℕ) (ended : Option (ℕ × Reply)) (p : Place)
+  after_begin : (x : TracedCall) (changed : Option ℕ) (ended : Option (ℕ × Reply)) (p : Linearized)
       → PlaceBy op.quota contents counts x changed ended (Some p)
       → ChangedBy (run_of op.threads op.quota log contents counts) last x.thread x.call x.begun changed
       → x.begun ≤ p.moment
@@ -56,7 +56,7 @@ module _ (op : Opening) (last : ℕ) (log : Log) (contents : Contents) (counts :
   after_begin x None (Some end) p h c =
       let s = h.1 in let l : x.begun ≤ h.0 = h.2.from in let e : p.moment ≡ h.0 = cc in omega arith
 
-  before_end : (x : TracedCall) (changed : Option ℕ) (ended : Option (ℕ × Reply)) (p : Place)
+  before_end : (x : TracedCall) (changed : Option ℕ) (ended : Option (ℕ × Reply)) (p : Linearized)
       → PlaceBy op.quota contents counts x changed ended (Some p)
       → ChangedBy (run_of op.threads op.quota log contents counts) last x.thread x.call x.begun changed
       → EndedBy (run_of op.threads op.quota log contents counts) last x.thread x.call x.begun changed ended
@@ -68,7 +68,7 @@ module _ (op : Opening) (last : ℕ) (log : Log) (contents : Contents) (counts :
   before_end x None (Some end) p h c e =
       let t = h.1 in let l : h.0 ≤ end.0 = h.2.upto in let s : p.moment ≡ h.0 = cc in omega arith
 
-  module _ (places : List (Option Place)) (follow : (s : Trace) × (s.places ≡ places) × Follows op log contents counts last s)
+  module _ (places : List (Option Linearized)) (follow : (s : Trace) × (s.places ≡ places) × Follows op log contents counts last s)
       (order : List Placed) (points : List Point)
       (h : ArePointsAt places order points) where
     abbrev traced : ℕ → TracedCall
@@ -79,7 +79,7 @@ module _ (op : Opening) (last : ℕ) (log : Log) (contents : Contents) (counts :
         let a : (place_numbered order i).call < length places =
         known_place places (place_numbered order i).call (h.there i l).0 (h.there i l).1 in
         let b : length follow.0.places ≡ length (calls_at log last) = follow.2.numbered in
-        let c : length follow.0.places ≡ length places = ap (λ (xs : List (Option Place)). length xs) follow.1 in
+        let c : length follow.0.places ≡ length places = ap (λ (xs : List (Option Linearized)). length xs) follow.1 in
         omega arith
 
     placed_there : (i : ℕ) (l : i < length order) → PlaceOf op.quota contents counts (traced i) (Some (h.there i l).0)

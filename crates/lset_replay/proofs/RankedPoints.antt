@@ -12,7 +12,7 @@ use Rattle.lset_words.specs.declared.history.Placed.{Placed}
 use Rattle.lset_words.specs.declared.history.Point.{Point}
 use Rattle.lset_words.specs.Points.{place_numbered, point_numbered, moment_of}
 use Rattle.lset_replay.specs.declared.order.Ranked.{Ranked}
-use Rattle.lset_replay.specs.declared.places.Place.{Place}
+use Rattle.lset_replay.specs.declared.places.Linearized.{Linearized}
 use Rattle.lset_replay.specs.Trace.{place_at}
 use Rattle.lset_replay.specs.Blocks.{rank_at, ranked_from, point_ranked, point_of, ArePointsAt}
 use Rattle.lset_replay.proofs.Ranks.{placed_in}
@@ -21,13 +21,13 @@ abbrev pub points_in : List Ranked → List Point
 points_in xs = map (λ (x : Ranked). point_ranked x.rank) xs
 
 -- a call stands at the place that its number has, by its rank
-pub record IsRanked (ps : List (Option Place)) (x : Ranked) : Type 0 where
-  pub place : Place
+pub record IsRanked (ps : List (Option Linearized)) (x : Ranked) : Type 0 where
+  pub place : Linearized
   pub is : place_at ps x.placed.call ≡ Some place
   pub rank : x.rank ≡ rank_at place.moment place.change
 
 -- each of those that stand does
-each_ranked : (all : List (Option Place)) (number : ℕ) (ps : List (Option Place)) (d : Ranked)
+each_ranked : (all : List (Option Linearized)) (number : ℕ) (ps : List (Option Linearized)) (d : Ranked)
     → ((i : ℕ) → place_at all (number + i) ≡ place_at ps i)
     → (j : ℕ) → j < length (ranked_from number ps) → IsRanked all (get_or (ranked_from number ps) j d)
 each_ranked all number [] d h j l = absurd (omega arith)
@@ -41,7 +41,7 @@ each_ranked all number (Some p ∷ ps) d h zero l = record {
 each_ranked all number (Some p ∷ ps) d h (suc j) l = each_ranked all (suc number) ps d
     (λ i. ap (λ k. place_at all k) (let e : suc number + i ≡ number + suc i = omega arith in e) ∙ h (suc i)) j (omega arith)
 
-pub sorted_ranked : (ps : List (Option Place)) (xs ys : List Ranked) → xs ≡ ranked_from 0 ps → IsPermutation xs ys → Ranked
+pub sorted_ranked : (ps : List (Option Linearized)) (xs ys : List Ranked) → xs ≡ ranked_from 0 ps → IsPermutation xs ys → Ranked
     → All (λ (x : Ranked). IsRanked ps x) ys
 sorted_ranked ps xs ys is moved d = All-permutation (λ (x : Ranked). IsRanked ps x) xs ys moved
     (subst (λ zs. All (λ (x : Ranked). IsRanked ps x) zs) (sym is)
@@ -62,7 +62,7 @@ point_there m false = same_point (let e : (2 * m + 1) / 2 ≡ m = omega arith in
 half_rises : (a b : ℕ) → a ≤ b → a / 2 ≤ b / 2
 half_rises a b l = omega arith
 
-module _ (ps : List (Option Place)) (ys : List Ranked) (d : Ranked) (rise : IsNonDecreasingBy (λ (x : Ranked). x.rank) ys)
+module _ (ps : List (Option Linearized)) (ys : List Ranked) (d : Ranked) (rise : IsNonDecreasingBy (λ (x : Ranked). x.rank) ys)
     (each : All (λ (x : Ranked). IsRanked ps x) ys) where
   order_at : (i : ℕ) → i < length ys → place_numbered (placed_in ys) i ≡ (get_or ys i d).placed
   order_at i l = get_or-map (λ (x : Ranked). x.placed) ys i d (record { call = 0; reply = True }) l
@@ -76,7 +76,7 @@ module _ (ps : List (Option Place)) (ys : List Ranked) (d : Ranked) (rise : IsNo
   as_many_points : length (points_in ys) ≡ length ys
   as_many_points = length-map ys (λ (x : Ranked). point_ranked x.rank)
 
-  there : (i : ℕ) → i < length ys → (p : Place) × (place_at ps (place_numbered (placed_in ys) i).call ≡ Some p)
+  there : (i : ℕ) → i < length ys → (p : Linearized) × (place_at ps (place_numbered (placed_in ys) i).call ≡ Some p)
       × (point_numbered (points_in ys) i ≡ point_of p)
   there i l =
       let r : IsRanked ps (get_or ys i d) = All-get_or (λ (x : Ranked). IsRanked ps x) ys i d l each in (

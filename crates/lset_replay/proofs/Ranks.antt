@@ -12,7 +12,7 @@ use Rattle.std.proofs.lemmas.List.Sorted.{All-permutation}
 use Rattle.lset_words.proofs.Numbers.{same_or_not, equal_test, unequal_test}
 use Rattle.lset_words.specs.declared.history.Placed.{Placed}
 use Rattle.lset_replay.specs.declared.order.Ranked.{Ranked}
-use Rattle.lset_replay.specs.declared.places.Place.{Place}
+use Rattle.lset_replay.specs.declared.places.Linearized.{Linearized}
 use Rattle.lset_replay.specs.Blocks.{placed_at, block_at, blocks_upto, is_same, rank_at, ranked_from, StandUpTo}
 use Rattle.lset_replay.specs.Trace.{place_at}
 
@@ -92,7 +92,7 @@ one_more : (b : Bool) (x : Ranked) (xs : List Ranked) (rest : List Placed) → p
 one_more true x xs rest e = ap (λ z. x.placed ∷ z) e
 one_more false x xs rest e = e
 
-of_kind : (c : Bool) (m number : ℕ) (ps : List (Option Place))
+of_kind : (c : Bool) (m number : ℕ) (ps : List (Option Linearized))
     → placed_in (of_rank (rank_at m c) (ranked_from number ps)) ≡ placed_at c m number ps
 of_kind c m number [] = refl
 of_kind c m number (None ∷ ps) = of_kind c m (suc number) ps
@@ -130,7 +130,7 @@ ranks_stay xs ys stable d n =
     sym (filter_agree (ties is_earlier x) (λ (y : Ranked). y.rank == n) (λ y. tie_is n y.rank) ys) ∙ stable x
     ∙ filter_agree (ties is_earlier x) (λ (y : Ranked). y.rank == n) (λ y. tie_is n y.rank) xs
 
-module _ (ps : List (Option Place)) (ys : List Ranked) (rise : IsNonDecreasingBy (λ (x : Ranked). x.rank) ys)
+module _ (ps : List (Option Linearized)) (ys : List Ranked) (rise : IsNonDecreasingBy (λ (x : Ranked). x.rank) ys)
     (stay : (n : ℕ) → of_rank n ys ≡ of_rank n (ranked_from 0 ps)) (d : Ranked) where
   one_kind : (c : Bool) (m : ℕ) → placed_in (of_rank (rank_at m c) ys) ≡ placed_at c m 0 ps
   one_kind c m = ap placed_in (stay (rank_at m c)) ∙ of_kind c m 0 ps
@@ -163,7 +163,7 @@ rank_upto : (last m : ℕ) (c : Bool) → m ≤ last → rank_at m c < 2 * last 
 rank_upto last m true l = omega arith
 rank_upto last m false l = omega arith
 
-pub ranks_upto : (last number : ℕ) (ps : List (Option Place)) → StandUpTo last ps → (d : Ranked) (i : ℕ)
+pub ranks_upto : (last number : ℕ) (ps : List (Option Linearized)) → StandUpTo last ps → (d : Ranked) (i : ℕ)
     → i < length (ranked_from number ps) → (get_or (ranked_from number ps) i d).rank < 2 * last + 2
 ranks_upto last number [] h d i l = absurd (omega arith)
 ranks_upto last number (None ∷ ps) h d i l = ranks_upto last (suc number) ps (λ j k. h (suc j) (omega arith)) d i l
@@ -172,7 +172,7 @@ ranks_upto last number (Some p ∷ ps) h d (suc i) l =
     ranks_upto last (suc number) ps (λ j k. h (suc j) (omega arith)) d i (omega arith)
 
 -- in another order too
-pub sorted_upto : (last : ℕ) (ps : List (Option Place)) (xs ys : List Ranked) → xs ≡ ranked_from 0 ps → IsPermutation xs ys
+pub sorted_upto : (last : ℕ) (ps : List (Option Linearized)) (xs ys : List Ranked) → xs ≡ ranked_from 0 ps → IsPermutation xs ys
     → StandUpTo last ps → (d : Ranked) (i : ℕ) → i < length ys → (get_or ys i d).rank < 2 * last + 2
 sorted_upto last ps xs ys is moved h d i l =
     let all : All (λ (x : Ranked). x.rank < 2 * last + 2) xs = subst (λ zs. All (λ (x : Ranked). x.rank < 2 * last + 2) zs)
@@ -182,9 +182,9 @@ sorted_upto last ps xs ys is moved h d i l =
     (All-permutation (λ (x : Ranked). x.rank < 2 * last + 2) xs ys moved all)
 
 -- no call stands after a later moment either
-pub stand_upto_later : (last later : ℕ) (ps : List (Option Place)) → StandUpTo last ps → last ≤ later → StandUpTo later ps
+pub stand_upto_later : (last later : ℕ) (ps : List (Option Linearized)) → StandUpTo last ps → last ≤ later → StandUpTo later ps
 stand_upto_later last later ps h l i below = by_place (place_at ps i) (h i below)
   where
-    by_place : (o : Option Place) → IfSome o (λ (p : Place). p.moment ≤ last) → IfSome o (λ (p : Place). p.moment ≤ later)
+    by_place : (o : Option Linearized) → IfSome o (λ (p : Linearized). p.moment ≤ last) → IfSome o (λ (p : Linearized). p.moment ≤ later)
     by_place None g = g
     by_place (Some p) g = (let a : p.moment ≤ last = g in omega arith)

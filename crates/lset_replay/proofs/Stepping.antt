@@ -18,7 +18,7 @@ use Rattle.lset_history.proofs.Calls.{Run, Traced, EndedBy, OpenAt, open_is, cal
 use Rattle.lset_history.proofs.CallSteps.{run_of, calls_of}
 use Rattle.lset_history.proofs.OpenCalls.{OpenNumber, open_number, last_number, length_stepped, step_sets}
 use Rattle.lset_replay.specs.declared.places.OpenCall.{OpenCall}
-use Rattle.lset_replay.specs.declared.places.Place.{Place}
+use Rattle.lset_replay.specs.declared.places.Linearized.{Linearized}
 use Rattle.lset_replay.specs.Trace.{Trace, open_call_at, place_at, number_of, fit, fit_by, changed_at, read_at, settled}
 use Rattle.lset_replay.specs.Trace.{changed_on, ended_on}
 use Rattle.lset_history.specs.Changes.{IsFirst, is_present, IsBounded}
@@ -31,12 +31,12 @@ use Rattle.lset_replay.proofs.Following.{ended_changes, last_number_is, calls_ar
 
 -- the place of the call that steps
 module _ (q : ℕ) (contents : Contents) (counts : Counts) (x : TracedCall) (m : ℕ) (changes : ℕ → List ℕ) (o : OpenCall) where
-  changed_place : (ch : Option Change) (r : Option Reply) (p : Option Place) (c : ℕ) → p ≡ Some (changed_at c)
+  changed_place : (ch : Option Change) (r : Option Reply) (p : Option Linearized) (c : ℕ) → p ≡ Some (changed_at c)
       → end_place changes m r o p ≡ Some (changed_at c)
   changed_place ch None p c e = e
   changed_place ch (Some r) p c e = ap (λ z. settled z (fit changes o r m) r) e
 
-  place_next : (changed : Option ℕ) (p : Option Place) (ch : Option Change) (r : Option Reply)
+  place_next : (changed : Option ℕ) (p : Option Linearized) (ch : Option Change) (r : Option Reply)
       → PlaceBy q contents counts x changed None p
       → (changed ≡ None → ch ≡ None → (a : Reply) → r ≡ Some a
       → (k : ℕ) × (fit changes o a m ≡ Some k) × IsLeastFit q contents counts x m a k)

@@ -22,7 +22,7 @@ use Rattle.lset_steps.specs.Laws.{Lawful, views, view_of}
 use Rattle.lset_steps.specs.Worlds.{WorldState, AreChainKeys, Refused, thread_of}
 use Rattle.lset_replay.specs.declared.events.LineEvent.{LineEvent}
 use Rattle.lset_replay.specs.declared.places.OpenCall.{OpenCall}
-use Rattle.lset_replay.specs.declared.places.Place.{Place}
+use Rattle.lset_replay.specs.declared.places.Linearized.{Linearized}
 use Rattle.lset_replay.specs.declared.recorder.Recorder.{Recorder}
 use Rattle.lset_replay.specs.declared.traced.CallEnd.{CallEnd}
 use Rattle.lset_replay.specs.declared.traced.Deed.{Deed}
@@ -44,8 +44,8 @@ use Rattle.lset_replay.proofs.Reported.{few_places}
 
 -- a call that has ended has a place
 has_place : (q : ℕ) (contents : Contents) (counts : Counts) (x : TracedCall) (changed : Option ℕ) (ended : Option (ℕ × Reply))
-    (end : ℕ × Reply) (p : Option Place) → ended ≡ Some end → PlaceBy q contents counts x changed ended p
-    → (there : Place) × (p ≡ Some there)
+    (end : ℕ × Reply) (p : Option Linearized) → ended ≡ Some end → PlaceBy q contents counts x changed ended p
+    → (there : Linearized) × (p ≡ Some there)
 has_place q contents counts x (Some m) ended end p e h = (changed_at m, h)
 has_place q contents counts x None None end p e h = absurd (cc)
 has_place q contents counts x None (Some d) end p e h = (record { moment = h.0; reply = d.1; change = false }, h.1)
@@ -121,7 +121,7 @@ module _ (T : Table) (accounts : TellsKeys T) (op : Opening) (events : List Line
       let placed : PlaceOf op.quota contents counts (traced_at (calls_at log (suc k)) (last_number log t k))
       (place_at r'.places.items (last_number log t k)) =
       later.placed (last_number log t k) (omega arith) in
-      let there : (p : Place) × (place_at r'.places.items (last_number log t k) ≡ Some p) =
+      let there : (p : Linearized) × (place_at r'.places.items (last_number log t k) ≡ Some p) =
       has_place op.quota contents counts (traced_at (calls_at log (suc k)) (last_number log t k))
       (traced_at (calls_at log (suc k)) (last_number log t k)).changed
       (traced_at (calls_at log (suc k)) (last_number log t k)).ended

@@ -6,7 +6,7 @@ use Rattle.lset_words.specs.declared.history.Placed.{Placed}
 use Rattle.lset_words.specs.declared.history.Point.{Point}
 use Rattle.lset_words.specs.Points.{place_numbered, point_numbered, moment_of}
 use Rattle.lset_replay.specs.declared.order.Ranked.{Ranked}
-use Rattle.lset_replay.specs.declared.places.Place.{Place}
+use Rattle.lset_replay.specs.declared.places.Linearized.{Linearized}
 use Rattle.lset_replay.specs.Trace.{place_at}
 
 abbrev pub is_same : Bool → Bool → Bool
@@ -14,7 +14,7 @@ is_same true b = b
 is_same false b = not b
 
 -- the calls that stand at a moment, those that change something there or the others, by their numbers
-abbrev pub placed_at : Bool → ℕ → ℕ → List (Option Place) → List Placed
+abbrev pub placed_at : Bool → ℕ → ℕ → List (Option Linearized) → List Placed
 placed_at change moment number [] = []
 placed_at change moment number (None ∷ ps) = placed_at change moment (suc number) ps
 placed_at change moment number (Some p ∷ ps) =
@@ -22,15 +22,15 @@ placed_at change moment number (Some p ∷ ps) =
     then record { call = number; reply = p.reply } ∷ placed_at change moment (suc number) ps
     else placed_at change moment (suc number) ps
 
-abbrev pub block_at : List (Option Place) → ℕ → List Placed
+abbrev pub block_at : List (Option Linearized) → ℕ → List Placed
 block_at ps moment = placed_at true moment 0 ps ++ placed_at false moment 0 ps
 
-abbrev pub blocks_upto : List (Option Place) → ℕ → List Placed
+abbrev pub blocks_upto : List (Option Linearized) → ℕ → List Placed
 blocks_upto ps zero = block_at ps 0
 blocks_upto ps (suc moment) = blocks_upto ps moment ++ block_at ps (suc moment)
 
 -- no call stands after the last moment
-abbrev pub StandUpTo : ℕ → List (Option Place) → Type 0
+abbrev pub StandUpTo : ℕ → List (Option Linearized) → Type 0
 StandUpTo last ps = (i : ℕ) → i < length ps → IfSome (place_at ps i) (λ p. p.moment ≤ last)
 
 -- the ranks by which the calls stand: moment after moment, and at one moment the change first
@@ -39,7 +39,7 @@ rank_at moment true = 2 * moment
 rank_at moment false = 2 * moment + 1
 
 -- the calls that stand, by their numbers, each with its rank
-abbrev pub ranked_from : ℕ → List (Option Place) → List Ranked
+abbrev pub ranked_from : ℕ → List (Option Linearized) → List Ranked
 ranked_from number [] = []
 ranked_from number (None ∷ ps) = ranked_from (suc number) ps
 ranked_from number (Some p ∷ ps) = record {
@@ -52,11 +52,11 @@ abbrev pub point_ranked : ℕ → Point
 point_ranked rank = record { moment = rank / 2; change = rank % 2 == 0 }
 
 -- the points of an order: each says where the place of its call is, and the moments do not fall
-abbrev pub point_of : Place → Point
+abbrev pub point_of : Linearized → Point
 point_of p = record { moment = p.moment; change = p.change }
 
-pub record ArePointsAt (places : List (Option Place)) (order : List Placed) (points : List Point) : Type 0 where
+pub record ArePointsAt (places : List (Option Linearized)) (order : List Placed) (points : List Point) : Type 0 where
   pub one_each : length points ≡ length order
   pub there : (i : ℕ) → i < length order
-      → (p : Place) × (place_at places (place_numbered order i).call ≡ Some p) × (point_numbered points i ≡ point_of p)
+      → (p : Linearized) × (place_at places (place_numbered order i).call ≡ Some p) × (point_numbered points i ≡ point_of p)
   pub never_fall : IsNonDecreasingBy moment_of points

@@ -18,7 +18,7 @@ use Rattle.lset_steps.specs.declared.Event.{Event}
 use Rattle.lset_steps.specs.declared.Event.TheVariants as event
 use Rattle.lset_steps.specs.declared.Told.{Told}
 use Rattle.lset_replay.specs.declared.places.OpenCall.{OpenCall}
-use Rattle.lset_replay.specs.declared.places.Place.{Place}
+use Rattle.lset_replay.specs.declared.places.Linearized.{Linearized}
 use Rattle.lset_replay.specs.declared.recorder.Recorder.{Recorder}
 
 -- ---- an open call
@@ -61,15 +61,15 @@ fit changes o reply last = fit_by changes o.call reply o.begun (last - o.begun)
 
 -- ---- places
 
-abbrev pub changed_at : ℕ → Place
+abbrev pub changed_at : ℕ → Linearized
 changed_at moment = record { moment = moment; reply = reply.True; change = true }
 
-abbrev pub read_at : Option ℕ → Reply → Option Place
+abbrev pub read_at : Option ℕ → Reply → Option Linearized
 read_at None reply = None
 read_at (Some moment) reply = Some (record { moment = moment; reply = reply; change = false })
 
 -- the place of a call that ends with a reply: that of its change, if it has one
-abbrev pub settled : Option Place → Option ℕ → Reply → Option Place
+abbrev pub settled : Option Linearized → Option ℕ → Reply → Option Linearized
 settled (Some p) moment reply = Some p
 settled None moment reply = read_at moment reply
 
@@ -78,13 +78,13 @@ settled None moment reply = read_at moment reply
 pub record Trace : Type 0 where
   pub calls : List CallRecord
   pub under_way : List (Option OpenCall)
-  pub places : List (Option Place)
+  pub places : List (Option Linearized)
   pub changes : ℕ → List ℕ
 
 abbrev pub open_call_at : List (Option OpenCall) → ℕ → Option OpenCall
 open_call_at os thread = slice_index_or os thread None
 
-abbrev pub place_at : List (Option Place) → ℕ → Option Place
+abbrev pub place_at : List (Option Linearized) → ℕ → Option Linearized
 place_at ps number = slice_index_or ps number None
 
 abbrev pub number_of : Option OpenCall → ℕ
@@ -157,7 +157,7 @@ entry_told (event.Begin thread call) told = began thread call
 entry_told (event.Go thread) told = stepped thread told.change told.answer
 
 -- a thread with an open call, which may make a change or end
-pub record MayStep (h : HistoryValue) (under_way : List (Option OpenCall)) (places : List (Option Place))
+pub record MayStep (h : HistoryValue) (under_way : List (Option OpenCall)) (places : List (Option Linearized))
     (thread moment : ℕ) : Type 0 where
   pub of_a_thread : thread < length under_way
   pub goes : IsSomeAnd (open_call_at under_way thread) (λ o.

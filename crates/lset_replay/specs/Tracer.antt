@@ -14,7 +14,7 @@ use Rattle.lset_steps.specs.Laws.{view_of}
 use Rattle.lset_steps.specs.Worlds.{WorldState, AreChainKeys, Refused, thread_of}
 use Rattle.lset_replay.specs.declared.events.LineEvent.{LineEvent}
 use Rattle.lset_replay.specs.declared.places.OpenCall.{OpenCall}
-use Rattle.lset_replay.specs.declared.places.Place.{Place}
+use Rattle.lset_replay.specs.declared.places.Linearized.{Linearized}
 use Rattle.lset_replay.specs.declared.recorder.Recorder.{Recorder}
 use Rattle.lset_replay.specs.declared.traced.CallEnd.{CallEnd}
 use Rattle.lset_replay.specs.declared.traced.Deed.{Deed}
@@ -38,11 +38,11 @@ open_number_of None = None
 open_number_of (Some o) = Some o.number
 
 -- the end of a call that has a place
-abbrev pub end_there : ℕ → Reply → Option Place → Option CallEnd
+abbrev pub end_there : ℕ → Reply → Option Linearized → Option CallEnd
 end_there number reply None = None
 end_there number reply (Some p) = Some (record { call = number; reply = reply; moment = p.moment })
 
-abbrev pub end_with : Option Reply → Option ℕ → List (Option Place) → Option CallEnd
+abbrev pub end_with : Option Reply → Option ℕ → List (Option Linearized) → Option CallEnd
 end_with None number places = None
 end_with (Some reply) None places = None
 end_with (Some reply) (Some number) places = end_there number reply (place_at places number)

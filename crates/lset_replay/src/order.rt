@@ -2,7 +2,7 @@ ghost use Rattle.std.specs.Prelude.{◌≡◌, ℕ, ◌≤◌, length, map, IfOk
 ghost use Rattle.lset_schedule.specs.declared.TheConstants.{MOST_EVENTS};
 ghost use Rattle.lset_replay.specs.Blocks.{ArePointsAt, blocks_upto, point_ranked, StandUpTo, rank_at, ranked_from};
 
-use crate::places::Place;
+use crate::places::Linearized;
 use lset_words::{Placed, Point};
 use std::alloc::{AllocError, Global};
 
@@ -14,7 +14,7 @@ pub struct Ranked {
 }
 
 impl Ranked {
-    fn new(number: u32, place: Place) -> Ranked
+    fn new(number: u32, place: Linearized) -> Ranked
         requires { place.moment ≤ MOST_EVENTS }
         ensures rank { result.rank ≡ rank_at place.moment place.change }
         ensures placed { result.placed ≡ record { call = number; reply = place.reply } }
@@ -47,7 +47,7 @@ pub struct Ordered {
 }
 
 /// The calls that stand, by their numbers.
-fn ranked_calls(alloc: Global, places: &[Option<Place>]) -> Result<Vec<Ranked>, AllocError>
+fn ranked_calls(alloc: Global, places: &[Option<Linearized>]) -> Result<Vec<Ranked>, AllocError>
     requires few { length places.now ≤ MOST_EVENTS }
     requires inside { StandUpTo MOST_EVENTS places.now }
     ensures { IfOk result (λ v. v.items ≡ ranked_from 0 places.now) }
@@ -83,7 +83,7 @@ fn points_of(alloc: Global, ranked: &[Ranked]) -> Result<Vec<Point>, AllocError>
 
 /// The order of calls with these places: moment after moment, and at one moment the change first, then the
 /// others by their numbers; and its points.
-pub fn in_order(alloc: Global, places: &[Option<Place>]) -> Result<Ordered, AllocError>
+pub fn in_order(alloc: Global, places: &[Option<Linearized>]) -> Result<Ordered, AllocError>
     requires few { length places.now ≤ MOST_EVENTS }
     requires inside { StandUpTo MOST_EVENTS places.now }
     ensures order { IfOk result (λ o. (last : ℕ) → StandUpTo last places.now → o.order.items ≡ blocks_upto places.now last) }

@@ -35,18 +35,18 @@ pub fn found_in(reply: Reply) -> Option<u32>
 
 /// Where a call stands in the order: its moment, its reply there, and whether it changes the set there.
 #[derive(Clone, Copy)]
-pub struct Place {
+pub struct Linearized {
     pub moment: u32,
     pub reply: Reply,
     pub change: bool,
 }
 
-impl Place {
+impl Linearized {
     /// The place of a call that changes the set at a moment.
-    pub fn changed(moment: u32) -> Place
+    pub fn changed(moment: u32) -> Linearized
         ensures { result ≡ changed_at moment }
     {
-        Place {
+        Linearized {
             moment,
             reply: Reply::True,
             change: true,
@@ -54,10 +54,10 @@ impl Place {
     }
 
     /// The place of a call that changes nothing, where there is a moment that its reply fits.
-    pub fn read(moment: Option<u32>, reply: Reply) -> Option<Place>
+    pub fn read(moment: Option<u32>, reply: Reply) -> Option<Linearized>
         ensures { result ≡ read_at moment reply }
     {
-        Some(Place {
+        Some(Linearized {
             moment: moment?,
             reply,
             change: false,

@@ -22,7 +22,7 @@ ghost use Rattle.lset_replay.specs.Trace.{
   MayFollow,
 };
 
-use crate::places::{OpenCall, Place, found_in, needs_key};
+use crate::places::{Linearized, OpenCall, found_in, needs_key};
 use lset_history::{Changes, History, HistoryFault};
 use lset_steps::{Event, Told};
 use lset_words::{Call, Key, Reply};
@@ -34,7 +34,7 @@ use std::alloc::{AllocError, Global};
 pub struct Recorder {
     pub history: History,
     pub under_way: Vec<Option<OpenCall>>,
-    pub places: Vec<Option<Place>>,
+    pub places: Vec<Option<Linearized>>,
     pub changes: Changes,
 }
 
@@ -148,7 +148,7 @@ impl Recorder {
     {
         self.changes.note(key.0, present, moment)?;
         let open = self.open_call(thread);
-        self.places[open.number as usize] = Some(Place::changed(moment));
+        self.places[open.number as usize] = Some(Linearized::changed(moment));
         Ok(())
     }
 
@@ -170,7 +170,7 @@ impl Recorder {
         };
         let number = open.number as usize;
         if self.places[number].is_none() {
-            self.places[number] = Place::read(self.fit(open, reply, moment), reply);
+            self.places[number] = Linearized::read(self.fit(open, reply, moment), reply);
         }
         self.under_way[thread as usize] = None;
     }

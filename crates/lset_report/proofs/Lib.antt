@@ -1,4 +1,5 @@
 pub mod ReportHistories
+pub mod ReportPieces
 pub mod ReportLoops
 pub mod ReportLines
 pub mod ReportTexts

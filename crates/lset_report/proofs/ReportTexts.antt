@@ -1,49 +1,51 @@
--- The two laws: what is read is the text of the report, and the text of a report is read.
-use Rattle.std.proofs.Common.{◌≡◌, ℕ, ◌+◌, ◌<◌, ◌^◌, Bool, true, false, cond, eqb, List, [], ◌∷◌}
+-- What is read is the text of a report.
+use Rattle.std.proofs.Common.{◌≡◌, ℕ, ◌+◌, ◌<◌, ◌≤◌, ◌^◌, Bool, true, false, cond, List, [], ◌∷◌}
 use Rattle.std.proofs.Common.{◌++◌, map, length, Option, Some, None, Result, Ok, Err, refl, sym, ap, subst, ◌∙◌, arith}
 use Rattle.std.proofs.Common.{append_assoc, length-append}
 use Rattle.std.specs.Prelude.{IfOk}
 use Rattle.std.specs.List.{AllByRecursion}
-use Rattle.std.proofs.lemmas.Bool.{eqb-true}
 use Rattle.std.proofs.lemmas.Grind.{flat_map-append}
-use Rattle.std.proofs.lemmas.List.{append-nil, nil_from_length, map_push}
+use Rattle.std.proofs.lemmas.List.{append-nil, map_push}
 use Rattle.std.proofs.lemmas.List.Elements.{All-append, All-cons, All-nil}
 use Rattle.lset_words.specs.declared.Reply.{Reply}
 use Rattle.lset_words.specs.declared.history.CallRecord.{CallRecord}
 use Rattle.lset_words.specs.declared.history.Placed.{Placed}
 use Rattle.lset_words.specs.declared.TheConstants.{MOST_OPENING}
+use Rattle.lset_words.specs.History.{IsHistory}
 use Rattle.lset_words.specs.Words.{Opening, Opens}
 use Rattle.lset_text.specs.declared.headers.Header.{Header}
-use Rattle.lset_text.specs.Parts.{cut_at, ended, text_of}
-use Rattle.lset_text.specs.Results.{map_fault}
+use Rattle.lset_text.specs.declared.words.Version.{Version}
+use Rattle.lset_text.specs.declared.words.Version.TheVariants.{One, Two}
+use Rattle.lset_text.specs.Parts.{cut_at, ended, text_of, Lacks}
+use Rattle.lset_text.specs.Results.{◌>>=◌, map_fault}
 use Rattle.lset_text.specs.Headers.{IsHeader, header_lines, header_of}
+use Rattle.lset_text.specs.Kinds.{line_in}
+use Rattle.lset_text.specs.Lines.{lines_from}
+use Rattle.lset_text.specs.Openings.{opening_line, opening_lines, HasOpening, is_above}
+use Rattle.lset_text.specs.Spellings.{HasCall, HasReply}
 use Rattle.lset_text.proofs.PartLaws.{text_from_lines}
 use Rattle.lset_text.proofs.ReadingLaws.{bind_ok, map_fault_ok, ok_is}
 use Rattle.lset_text.proofs.HeaderLaws.{header_ok}
-use Rattle.lset_text.specs.Openings.{opening_line, opening_lines, HasOpening, is_above}
 use Rattle.lset_text.proofs.OpeningLaws.{rises_more}
-use Rattle.lset_text.specs.Spellings.{HasCall, HasReply}
-use Rattle.lset_text.specs.declared.words.Version.{Version}
-use Rattle.lset_text.specs.declared.words.Version.TheVariants.{One, Two}
+use Rattle.lset_text.proofs.KindLaws.{made_ok}
+use Rattle.lset_text.proofs.LineLaws.{lines_hold}
 use Rattle.lset_report.specs.declared.reading.lines.Line.{Line}
 use Rattle.lset_report.specs.declared.reading.lines.Line.TheVariants as told
 use Rattle.lset_report.specs.declared.reading.lines.Section.{Section}
 use Rattle.lset_report.specs.declared.reading.lines.Section.TheVariants as section
 use Rattle.lset_report.specs.declared.report.Report.{Report}
+use Rattle.lset_report.specs.declared.report.TheConstants.{MOST_CALLS, MOST_PLACES}
 use Rattle.lset_report.specs.declared.report_fault.ReportCause.TheVariants as wrong
 use Rattle.lset_report.specs.declared.report_fault.ReportFault.{ReportFault}
 use Rattle.lset_report.specs.Report.{ReportValue, view}
 use Rattle.lset_report.specs.Texts.{title, header_in, call_line, call_lines, place_line, key_line, last_line}
 use Rattle.lset_report.specs.Texts.{report_lines, report_text, HasEnd, HasWordsIn, HasWordsOfVersion}
-use Rattle.lset_report.specs.ReportReading.{IsEnd, IsCall, IsPlace, IsReport, fault, in_report, takes_opening, takes_calls}
-use Rattle.lset_report.specs.ReportReading.{takes_places, takes_keys}
-use Rattle.lset_report.specs.ReportReading.{line_in}
-use Rattle.lset_report.specs.ReportReading.{judged, line_after, section_after, with_key_opened, with_line, ended_in}
-use Rattle.lset_report.specs.ReportReading.{first_line, report_from, no_lines, version_told}
-use Rattle.lset_report.specs.ReportReading.{report_of, reading, Gives}
+use Rattle.lset_report.specs.ReportReading.{IsEnd, IsCall, IsPlace, IsReport, most_keys, causes, kinds, in_report, line_after, section_after}
+use Rattle.lset_report.specs.ReportReading.{with_key_opened, with_line, SoFar, with_told, step, ends, is_done, grammar, first_line}
+use Rattle.lset_report.specs.ReportReading.{no_lines, nothing_told, version_told, report_of, reading, Gives}
 use Rattle.lset_report.proofs.ReportHistories.{history_more}
-use Rattle.lset_report.proofs.ReportLines.{line_text, IsEndLine, IsLine, takes, line_ok}
-use Rattle.lset_report.proofs.ReportLoops.{IsGood, judged_ok}
+use Rattle.lset_report.proofs.ReportLines.{line_text, IsEndLine, IsLine, Reaches, IsNext, line_ok, line_free}
+use Rattle.lset_report.proofs.ReportLoops.{IsGood, line_read, report_told}
 
 -- ---- lists
 
@@ -62,153 +64,66 @@ calls_pushed n (y ∷ ys) x =
 
 -- ---- the lines of the report so far
 
-abbrev to_openings : ReportValue → List (List ℕ)
-to_openings r = header_lines (title r.version) (header_in r) ++ opening_lines r.history.opening.keys
-
 abbrev so_far : ReportValue → List (List ℕ)
-so_far r = to_openings r ++ call_lines 0 r.history.calls ++ map place_line r.order ++ map key_line r.keys
+so_far r = header_lines (title r.version) (header_in r) ++ opening_lines r.history.opening.keys
+    ++ call_lines 0 r.history.calls ++ map place_line r.order ++ map key_line r.keys
 
-abbrev lines_at : Section → ReportValue → List (List ℕ)
-lines_at section.Opening r = so_far r
-lines_at section.Calls r = so_far r
-lines_at section.Order r = so_far r
-lines_at section.Keys r = so_far r
-lines_at section.Done r = so_far r ++ last_line ∷ []
+abbrev lines_at : SoFar → List (List ℕ)
+lines_at s = cond (is_done s.section) (so_far s.report ++ last_line ∷ []) (so_far s.report)
 
--- no line of a later section
-abbrev Reaches : Section → ReportValue → Type 0
-Reaches section.Opening r = (r.history.calls ≡ []) × (r.order ≡ []) × (r.keys ≡ [])
-Reaches section.Calls r = (r.order ≡ []) × (r.keys ≡ [])
-Reaches section.Order r = r.keys ≡ []
-Reaches section.Keys r = Unit {0}
-Reaches section.Done r = Unit {0}
+-- where nothing stands behind some lines, one more stands behind them
+behind_one : (f o k : List (List ℕ)) (y : List ℕ) → k ≡ [] → f ++ (o ++ y ∷ []) ++ k ≡ f ++ o ++ k ++ y ∷ []
+behind_one f o k y no_k = rw no_k (simp (append-nil, append_assoc))
 
-no_keys : (s : Section) (r : ReportValue) → takes_places s ≡ true → Reaches s r → r.keys ≡ []
-no_keys section.Opening r may h = h.2
-no_keys section.Calls r may h = h.1
-no_keys section.Order r may h = h
-no_keys section.Keys r may h = absurd cc
-no_keys section.Done r may h = absurd cc
+behind_two : (f o p k : List (List ℕ)) (y : List ℕ) → p ≡ [] → k ≡ [] → f ++ (o ++ y ∷ []) ++ p ++ k ≡ f ++ o ++ p ++ k ++ y ∷ []
+behind_two f o p k y no_p no_k = rw (no_p, no_k) (simp (append-nil, append_assoc))
 
-no_order : (s : Section) (r : ReportValue) → takes_calls s ≡ true → Reaches s r → r.order ≡ []
-no_order section.Opening r may h = h.1
-no_order section.Calls r may h = h.0
-no_order section.Order r may h = absurd cc
-no_order section.Keys r may h = absurd cc
-no_order section.Done r may h = absurd cc
-
-no_calls : (v : Version) (s : Section) (r : ReportValue) → takes_opening v s ≡ true → Reaches s r → r.history.calls ≡ []
-no_calls One s r may h = absurd cc
-no_calls Two section.Opening r may h = h.0
-no_calls Two section.Calls r may h = absurd cc
-no_calls Two section.Order r may h = absurd cc
-no_calls Two section.Keys r may h = absurd cc
-no_calls Two section.Done r may h = absurd cc
-
-takes_first : (v : Version) (s : Section) → takes_opening v s ≡ true → takes_calls s ≡ true
-takes_first One s may = absurd cc
-takes_first Two section.Opening may = refl
-takes_first Two section.Calls may = refl
-takes_first Two section.Order may = absurd cc
-takes_first Two section.Keys may = absurd cc
-takes_first Two section.Done may = absurd cc
-
-pub takes_more : (s : Section) → takes_calls s ≡ true → takes_places s ≡ true
-takes_more section.Opening may = refl
-takes_more section.Calls may = refl
-takes_more section.Order may = absurd cc
-takes_more section.Keys may = absurd cc
-takes_more section.Done may = absurd cc
-
-pub takes_most : (s : Section) → takes_places s ≡ true → takes_keys s ≡ true
-takes_most section.Opening may = refl
-takes_most section.Calls may = refl
-takes_most section.Order may = refl
-takes_most section.Keys may = absurd cc
-takes_most section.Done may = absurd cc
-
-lines_open : (s : Section) (r : ReportValue) → takes_keys s ≡ true → lines_at s r ≡ so_far r
-lines_open section.Opening r may = refl
-lines_open section.Calls r may = refl
-lines_open section.Order r may = refl
-lines_open section.Keys r may = refl
-lines_open section.Done r may = absurd cc
-
-with_nothing : (hs : List (List ℕ)) (ps : List Placed) (ks : List ℕ) → ps ≡ [] → ks ≡ []
-    → hs ++ map place_line ps ++ map key_line ks ≡ hs
-with_nothing hs ps ks p k = rw (p, k) (append-nil (hs ++ []) ∙ append-nil hs)
-
-with_openings_only : (hs : List (List ℕ)) (cs : List CallRecord) (ps : List Placed) (ks : List ℕ) → cs ≡ [] → ps ≡ [] → ks ≡ []
-    → hs ++ call_lines 0 cs ++ map place_line ps ++ map key_line ks ≡ hs
-with_openings_only hs cs ps ks c p k = with_nothing (hs ++ call_lines 0 cs) ps ks p k ∙ rw c (append-nil hs)
+behind_three : (f o c p k : List (List ℕ)) (y : List ℕ) → c ≡ [] → p ≡ [] → k ≡ []
+    → f ++ (o ++ y ∷ []) ++ c ++ p ++ k ≡ f ++ o ++ c ++ p ++ k ++ y ∷ []
+behind_three f o c p k y no_c no_p no_k = rw (no_c, no_p, no_k) (simp (append-nil, append_assoc))
 
 -- ONE MORE LINE stands after those so far
-more_lines : (s : Section) (r : ReportValue) (l : Line) → Reaches s r → takes r.version s l ≡ true → IsGood r l
-    → lines_at s r ++ line_text l ∷ [] ≡ lines_at (section_after l) (with_line r l)
-more_lines s r (told.Opening k) h may good =
-    let calls = takes_first r.version s may in
-    let places = takes_more s calls in
-    let none = no_calls r.version s r may h in
+more_lines : (r : ReportValue) (l : Line) → Reaches (section_after l) r → IsGood r l
+    → lines_at (record { section = section_after l; report = with_line r l }) ≡ so_far r ++ line_text l ∷ []
+more_lines r (told.Opening k) next good =
     let front = header_lines (title r.version) (header_in r) in
     let keys = r.history.opening.keys in
-    let cs = r.history.calls in
-    ap (λ (ls : List (List ℕ)). ls ++ opening_line k ∷ []) (lines_open s r (takes_most s places)
-    ∙ with_openings_only (front ++ opening_lines keys) cs r.order r.keys none (no_order s r calls h) (no_keys s r places h))
-    ∙ append_assoc front (opening_lines keys) (opening_line k ∷ [])
-    ∙ ap (λ (ls : List (List ℕ)). front ++ ls) (sym (map_push opening_line keys k))
-    ∙ sym (with_openings_only (front ++ opening_lines (keys ++ k ∷ [])) cs r.order r.keys none (no_order s r calls h)
-    (no_keys s r places h))
-more_lines s r (told.Call n x) h may good =
-    let none = no_order s r may h in
-    let nothing = no_keys s r (takes_more s may) h in
-    let front = to_openings r in
-    let cs = r.history.calls in
-    let number : n ≡ 0 + length cs = omega (arith, good.1) in
-    ap (λ (ls : List (List ℕ)). ls ++ call_line n x ∷ []) (lines_open s r (takes_most s (takes_more s may))
-    ∙ with_nothing (front ++ call_lines 0 cs) r.order r.keys none nothing)
-    ∙ append_assoc front (call_lines 0 cs) (call_line n x ∷ [])
-    ∙ ap (λ m. front ++ (call_lines 0 cs ++ call_line m x ∷ [])) number
-    ∙ ap (λ (ls : List (List ℕ)). front ++ ls) (sym (calls_pushed 0 cs x))
-    ∙ sym (with_nothing (front ++ call_lines 0 (cs ++ x ∷ [])) r.order r.keys none nothing)
-more_lines s r (told.Place p) h may good =
-    let nothing = no_keys s r may h in
-    let front = to_openings r ++ call_lines 0 r.history.calls in
-    ap (λ (ls : List (List ℕ)). ls ++ place_line p ∷ []) (lines_open s r (takes_most s may)
-    ∙ ap (λ (ks : List ℕ). front ++ map place_line r.order ++ map key_line ks) nothing
-    ∙ append-nil (front ++ map place_line r.order))
-    ∙ append_assoc front (map place_line r.order) (place_line p ∷ [])
-    ∙ ap (λ (ls : List (List ℕ)). front ++ ls) (sym (map_push place_line r.order p))
-    ∙ sym (ap (λ (ks : List ℕ). front ++ map place_line (r.order ++ p ∷ []) ++ map key_line ks) nothing
-    ∙ append-nil (front ++ map place_line (r.order ++ p ∷ [])))
-more_lines s r (told.Key k) h may good =
-    let front = to_openings r ++ call_lines 0 r.history.calls ++ map place_line r.order in
-    ap (λ (ls : List (List ℕ)). ls ++ key_line k ∷ []) (lines_open s r may)
-    ∙ append_assoc front (map key_line r.keys) (key_line k ∷ [])
-    ∙ ap (λ (ls : List (List ℕ)). front ++ ls) (sym (map_push key_line r.keys k))
-more_lines s r told.End h may good = ap (λ (ls : List (List ℕ)). ls ++ last_line ∷ []) (lines_open s r may)
+    let calls = call_lines 0 r.history.calls in
+    let order = map place_line r.order in
+    let left = map key_line r.keys in
+    ap (λ (ls : List (List ℕ)). front ++ ls ++ calls ++ order ++ left) (map_push opening_line keys k)
+    ∙ behind_three front (opening_lines keys) calls order left (opening_line k) (ap (call_lines 0) next.0)
+    (ap (map place_line) next.1) (ap (map key_line) next.2)
+more_lines r (told.Call n x) next good =
+    let front = header_lines (title r.version) (header_in r) ++ opening_lines r.history.opening.keys in
+    let calls = r.history.calls in
+    let order = map place_line r.order in
+    let left = map key_line r.keys in
+    let number : 0 + length calls ≡ n = omega (arith, good.1) in
+    ap (λ (ls : List (List ℕ)). front ++ ls ++ order ++ left) (calls_pushed 0 calls x
+    ∙ ap (λ m. call_lines 0 calls ++ call_line m x ∷ []) number)
+    ∙ behind_two front (call_lines 0 calls) order left (call_line n x) (ap (map place_line) next.0) (ap (map key_line) next.1)
+more_lines r (told.Place p) next good =
+    let front = header_lines (title r.version) (header_in r) ++ opening_lines r.history.opening.keys
+    ++ call_lines 0 r.history.calls in
+    let left = map key_line r.keys in
+    ap (λ (ls : List (List ℕ)). front ++ ls ++ left) (map_push place_line r.order p)
+    ∙ behind_one front (map place_line r.order) left (place_line p) (ap (map key_line) next)
+more_lines r (told.Key k) next good =
+    let front = header_lines (title r.version) (header_in r) ++ opening_lines r.history.opening.keys
+    ++ call_lines 0 r.history.calls ++ map place_line r.order in
+    ap (λ (ls : List (List ℕ)). front ++ ls) (map_push key_line r.keys k)
+    ∙ sym (append_assoc front (map key_line r.keys) (key_line k ∷ []))
+more_lines r told.End next good = refl
 
-reaches_more : (s : Section) (r : ReportValue) (l : Line) → Reaches s r → takes r.version s l ≡ true
-    → Reaches (section_after l) (with_line r l)
-reaches_more s r (told.Opening k) h may =
-    let calls = takes_first r.version s may in
-    (no_calls r.version s r may h, no_order s r calls h, no_keys s r (takes_more s calls) h)
-reaches_more s r (told.Call n x) h may = (no_order s r may h, no_keys s r (takes_more s may) h)
-reaches_more s r (told.Place p) h may = no_keys s r may h
-reaches_more s r (told.Key k) h may = tt
-reaches_more s r told.End h may = tt
+-- ---- and the report keeps its limits
 
--- and the report keeps its limits
 is_end : (v : Version) (o : Option (ℕ × Reply)) → IsEndLine v o → IsEnd v o
 is_end v None h = tt
 is_end v (Some e) h = (h.1, h.2)
 
 length-one : {X : Type 0} (xs : List X) (x : X) → length (xs ++ x ∷ []) ≡ length xs + 1
 length-one xs x = length-append xs (x ∷ [])
-
--- an opening key comes in texts of the second version alone
-may_open : (v : Version) (s : Section) (keys : List ℕ) → takes_opening v s ≡ true → HasOpening v keys
-may_open One s keys may = absurd cc
-may_open Two s keys may = tt
 
 opens_more : (o : Opening) (k : ℕ) → Opens o → k < 2 ^ 32 → length o.keys < MOST_OPENING → is_above o.keys k ≡ true
     → Opens (with_key_opened o k)
@@ -223,108 +138,108 @@ opens_more o k is low room above = record {
   low = let P : ℕ → Type 0 = λ j. j < 2 ^ 32 in All-append P o.keys (k ∷ []) is.low (All-cons P k [] low (All-nil P));
 }
 
-report_more : (s : Section) (r : ReportValue) (l : Line) → IsReport r → takes r.version s l ≡ true → IsLine r.version l →
-    IsGood r l
-    → IsReport (with_line r l)
-report_more s r (told.Opening k) is may line good = record {
-  opens = opens_more r.history.opening k is.opens line good.0 good.1;
-  opening = may_open r.version s (r.history.opening.keys ++ k ∷ []) may;
-  history = is.history;
-  calls = is.calls;
-  places = is.places;
-  keys = is.keys;
-  few_calls = is.few_calls;
-  few_places = is.few_places;
-  few_keys = is.few_keys;
+is_report : (r : ReportValue) → Opens r.history.opening → HasOpening r.version r.history.opening.keys
+    → IsHistory r.history.opening.threads r.history.calls
+    → (AllByRecursion (IsCall r.version) r.history.calls) × (length r.history.calls ≤ MOST_CALLS)
+    → (AllByRecursion (IsPlace r.version) r.order) × (length r.order ≤ MOST_PLACES)
+    → (AllByRecursion (λ k. k < 2 ^ 32) r.keys) × (length r.keys ≤ most_keys r.version) → IsReport r
+is_report r opens opening history calls places keys = record {
+  opens = opens;
+  opening = opening;
+  history = history;
+  calls = calls.0;
+  places = places.0;
+  keys = keys.0;
+  few_calls = calls.1;
+  few_places = places.1;
+  few_keys = keys.1;
 }
-report_more s r (told.Call n x) is may line good = record {
-  opens = is.opens;
-  opening = is.opening;
-  history = history_more r.history.opening.threads r.history.calls x is.history good.2;
-  calls = all_join (IsCall r.version) r.history.calls (x ∷ []) is.calls (
-    (
-      line.4,
-      line.2,
-      is_end r.version x.ended line.5,
-      line.6,
-    ),
-    tt,
-  );
-  places = is.places;
-  keys = is.keys;
-  few_calls = let long = length-one r.history.calls x in omega (arith, long, good.0);
-  few_places = is.few_places;
-  few_keys = is.few_keys;
-}
-report_more s r (told.Place p) is may line good = record {
-  opens = is.opens;
-  opening = is.opening;
-  history = is.history;
-  calls = is.calls;
-  places = all_join (IsPlace r.version) r.order (p ∷ []) is.places (line, tt);
-  keys = is.keys;
-  few_calls = is.few_calls;
-  few_places = let long = length-one r.order p in omega (arith, long, good);
-  few_keys = is.few_keys;
-}
-report_more s r (told.Key k) is may line good = record {
-  opens = is.opens;
-  opening = is.opening;
-  history = is.history;
-  calls = is.calls;
-  places = is.places;
-  keys = all_join (λ j. j < 2 ^ 32) r.keys (k ∷ []) is.keys (line, tt);
-  few_calls = is.few_calls;
-  few_places = is.few_places;
-  few_keys = let long = length-one r.keys k in omega (arith, long, good);
-}
-report_more s r told.End is may line good = is
+
+report_more : (r : ReportValue) (l : Line) → IsReport r → IsLine r.version l → IsGood r l → IsReport (with_line r l)
+report_more r (told.Opening k) is line good =
+    let has = subst (λ (v : Version). HasOpening v (r.history.opening.keys ++ k ∷ [])) (sym line.1) tt in
+    is_report (with_line r (told.Opening k)) (opens_more r.history.opening k is.opens line.0 good.0 good.1) has is.history
+    (is.calls, is.few_calls) (is.places, is.few_places) (is.keys, is.few_keys)
+report_more r (told.Call n x) is line good =
+    let calls = all_join (IsCall r.version) r.history.calls (x ∷ []) is.calls
+    ((line.4, line.2, is_end r.version x.ended line.5, line.6), tt) in
+    is_report (with_line r (told.Call n x)) is.opens is.opening
+    (history_more r.history.opening.threads r.history.calls x is.history good.2)
+    (calls, omega (arith, length-one r.history.calls x, good.0)) (is.places, is.few_places) (is.keys, is.few_keys)
+report_more r (told.Place p) is line good =
+    let places = all_join (IsPlace r.version) r.order (p ∷ []) is.places (line, tt) in
+    is_report (with_line r (told.Place p)) is.opens is.opening is.history (is.calls, is.few_calls)
+    (places, omega (arith, length-one r.order p, good)) (is.keys, is.few_keys)
+report_more r (told.Key k) is line good =
+    let keys = all_join (λ j. j < 2 ^ 32) r.keys (k ∷ []) is.keys (line, tt) in
+    is_report (with_line r (told.Key k)) is.opens is.opening is.history (is.calls, is.few_calls) (is.places, is.few_places)
+    (keys, omega (arith, length-one r.keys k, good))
+report_more r told.End is line good = is
+
+pub reaches_more : (r : ReportValue) (l : Line) → Reaches (section_after l) r → Reaches (section_after l) (with_line r l)
+reaches_more r (told.Opening k) next = next
+reaches_more r (told.Call n x) next = next
+reaches_more r (told.Place p) next = next
+reaches_more r (told.Key k) next = tt
+reaches_more r told.End next = tt
+
+-- ---- one line
+
+-- what a line that is taken tells
+pub record IsTaken (s t : SoFar) (x : List ℕ) : Type 0 where
+  pub line : Line
+  pub text : x ≡ line_text line
+  pub next : IsNext s.report.version s.report line
+  pub good : IsGood s.report line
+  pub after : with_told s line ≡ t
+  pub free : Lacks 10 x
+  -- no line comes after the line `end`
+  pub undone : is_done s.section ≡ false
+
+may_come : (v : Version) (s : Section) (x : List ℕ) (l : Line) → line_in v causes (kinds v s) x ≡ Ok l → is_done s ≡ false
+may_come v section.Opening x l is = refl
+may_come v section.Calls x l is = refl
+may_come v section.Order x l is = refl
+may_come v section.Keys x l is = refl
+may_come v section.Done x l is = absurd cc
+
+pub taken : (s t : SoFar) (x : List ℕ) → Reaches s.section s.report → step s x ≡ Ok t → IsTaken s t x
+taken s t x reached is =
+    let v = s.report.version in
+    let l = made_ok (with_told s) (line_after s.section s.report x) t is in
+    let read = line_read s.section s.report x l.0 l.1 in
+    let found = line_ok v s.section s.report x l.0 reached read.0 in
+    record {
+      line = l.0;
+      text = found.0;
+      next = found.1;
+      good = read.1;
+      after = l.2;
+      free = line_free v s.section s.report x l.0 reached read.0;
+      undone = may_come v s.section x l.0 read.0;
+    }
 
 -- ---- what is read is the text of a report
 
-abbrev IsFound : List (List ℕ) → ReportValue → Type 0
-IsFound parts r = (parts ≡ report_lines r ++ [] ∷ []) × IsReport r
+abbrev Holds : SoFar → Type 0
+Holds s = IsReport s.report × Reaches s.section s.report
 
-test_ok : {A E : Type 0} (b : Bool) (d : E) (r : Result A E) (y : A) → cond b r (Err d) ≡ Ok y → (b ≡ true) × (r ≡ Ok y)
-test_ok true d r y e = (refl, e)
-test_ok false d r y e = absurd cc
+one_line : (s t : SoFar) (x : List ℕ) → Holds s → step s x ≡ Ok t → Holds t × (lines_at t ≡ lines_at s ++ x ∷ [])
+one_line s t x holds is =
+    let told = taken s t x holds.1 is in
+    let so_far_is : so_far s.report ≡ lines_at s = rw told.undone refl in
+    let lines = more_lines s.report told.line told.next.1 told.good
+    ∙ ap (λ (ls : List (List ℕ)). ls ++ line_text told.line ∷ []) so_far_is
+    ∙ ap (λ (y : List ℕ). lines_at s ++ y ∷ []) (sym told.text) in
+    subst (λ (u : SoFar). Holds u × (lines_at u ≡ lines_at s ++ x ∷ [])) told.after
+    ((report_more s.report told.line holds.0 told.next.0 told.good, reaches_more s.report told.line told.next.1), lines)
 
-ended_ok : (line : ℕ) (s : Section) (r q : ReportValue) → ended_in line s r ≡ Ok q → IsReport r
-    → IsFound (lines_at s r ++ [] ∷ []) q
-ended_ok line section.Opening r q e is = absurd cc
-ended_ok line section.Calls r q e is = absurd cc
-ended_ok line section.Order r q e is = absurd cc
-ended_ok line section.Keys r q e is = absurd cc
-ended_ok line section.Done r q e is = subst (IsFound (so_far r ++ last_line ∷ [] ++ [] ∷ [])) (ok_is r q e) (refl, is)
+test_ok : {A E : Type 0} (b : Bool) (d : E) (x y : A) → cond b (Ok x) (Err d) ≡ Ok y → (b ≡ true) × (x ≡ y)
+test_ok true d x y e = (refl, ok_is x y e)
+test_ok false d x y e = absurd cc
 
--- the line that was read
-told_line : (line : ℕ) (s : Section) (r : ReportValue) (x : List ℕ) (l : Line) → map_fault (fault line) (line_after s r x) ≡ Ok l
-    → (x ≡ line_text l) × IsLine r.version l × (takes r.version s l ≡ true) × IsGood r l
-told_line line s r x l is =
-    let two = bind_ok (line_in r.version s x) (judged r) l (map_fault_ok (fault line) (line_after s r x) l is) in
-    let judged_is = judged_ok r two.0 l two.2 in
-    let text = line_ok r.version s x two.0 two.1 in
-    subst (λ (k : Line). (x ≡ line_text k) × IsLine r.version k × (takes r.version s k ≡ true) × IsGood r k) judged_is.0
-    (text.0, text.1, text.2, judged_is.1)
-
-lines_found : (line : ℕ) (s : Section) (r q : ReportValue) (x : List ℕ) (parts : List (List ℕ)) → IsReport r → Reaches s r
-    → report_from line s r (x ∷ parts) ≡ Ok q → IsFound (lines_at s r ++ x ∷ parts) q
-unfolding report_from
-lines_found line s r q x [] is reached e =
-    let last = test_ok (eqb (length x) 0) (fault line wrong.NotEnded) (ended_in line s r) q e in
-    let none : x ≡ [] = nil_from_length x (eqb-true _ _ last.0) in
-    subst (λ (t : List ℕ). IsFound (lines_at s r ++ t ∷ []) q) (sym none) (ended_ok line s r q last.1 is)
-lines_found line s r q x (y ∷ more) is reached e =
-    let l = bind_ok (map_fault (fault line) (line_after s r x))
-    (λ l. report_from (line + 1) (section_after l) (with_line r l) (y ∷ more)) q e in
-    let one = told_line line s r x l.0 l.1 in
-    let rest = lines_found (line + 1) (section_after l.0) (with_line r l.0) q y more (report_more s r l.0 is one.2 one.1 one.3)
-    (reaches_more s r l.0 reached one.2) l.2 in
-    let regrouped : lines_at s r ++ x ∷ y ∷ more ≡ lines_at (section_after l.0) (with_line r l.0) ++ y ∷ more =
-    ap (λ (t : List ℕ). lines_at s r ++ t ∷ y ∷ more) one.0
-    ∙ sym (append_assoc (lines_at s r) (line_text l.0 ∷ []) (y ∷ more))
-    ∙ ap (λ (ls : List (List ℕ)). ls ++ y ∷ more) (more_lines s r l.0 reached one.2 one.3) in
-    subst (λ (ls : List (List ℕ)). IsFound ls q) (sym regrouped) rest
+same_end : (s t : SoFar) → ends s ≡ Ok t → s ≡ t
+same_end s t is = (test_ok (is_done s.section) wrong.NotEnded s t is).1
 
 opens_empty : (v : Version) → HasOpening v []
 opens_empty One = refl
@@ -343,20 +258,28 @@ empty_report v h is = record {
   few_keys = omega arith;
 }
 
-after_header : (v : Version) (h : Header) (q : ReportValue) (parts : List (List ℕ)) → 0 < length parts → IsHeader h
-    → report_from first_line section.Opening (no_lines v h) parts ≡ Ok q → IsFound (header_lines (title v) h ++ parts) q
-after_header v h q [] some is e = absurd (omega arith)
-after_header v h q (x ∷ parts) some is e =
-    lines_found first_line section.Opening (no_lines v h) q x parts (empty_report v h is) (refl, refl, refl) e
+abbrev IsFound : List (List ℕ) → ReportValue → Type 0
+IsFound parts r = (parts ≡ report_lines r ++ [] ∷ []) × IsReport r
+
+after_header : (v : Version) (h : Header) (t : SoFar) (parts : List (List ℕ)) → 0 < length parts → IsHeader h
+    → lines_from grammar first_line (nothing_told v h) parts ≡ Ok t → IsFound (header_lines (title v) h ++ parts) t.report
+after_header v h t parts some is e =
+    let found = lines_hold grammar Holds lines_at one_line same_end first_line (nothing_told v h) t parts some
+    (empty_report v h is, (refl, refl, refl)) e in
+    let done = (test_ok (is_done t.section) wrong.NotEnded t t found.1).0 in
+    (found.0 ∙ rw done refl, found.2.0)
 
 report_ok : (parts : List (List ℕ)) (r : ReportValue) → report_of parts ≡ Ok r → IsFound parts r
 unfolding report_of
 report_ok parts r is =
     let v = version_told parts in
     let head = bind_ok (map_fault in_report (header_of (title v) parts))
-    (λ head. report_from first_line section.Opening (no_lines v head.0) head.1) r is in
+    (λ head. lines_from grammar first_line (nothing_told v head.0) head.1 >>= report_told) r is in
     let header = header_ok (title v) parts head.0 (map_fault_ok in_report (header_of (title v) parts) head.0 head.1) in
-    subst (λ (ps : List (List ℕ)). IsFound ps r) (sym header.0) (after_header v head.0.0 r head.0.1 header.2 header.1 head.2)
+    let last = bind_ok (lines_from grammar first_line (nothing_told v head.0.0) head.0.1) report_told r head.2 in
+    let found = after_header v head.0.0 last.0 head.0.1 header.2 header.1 last.1 in
+    subst (λ (ps : List (List ℕ)). IsFound ps r) (sym header.0)
+    (subst (IsFound (header_lines (title v) head.0.0 ++ head.0.1)) (ok_is last.0.report r last.2) found)
 
 pub is_found : (bytes : List ℕ) (r : ReportValue) → reading bytes ≡ Ok r → IsReport r × (bytes ≡ report_text r)
 is_found bytes r is =

@@ -2,7 +2,6 @@
 use Rattle.std.specs.Prelude.{◌≡◌, ◌≢◌, ◌⊎◌, ℕ, ◌+◌, ◌<◌, ◌≤◌, ◌^◌, ◌==◌, ◌&&◌, ◌||◌, not, nat_lt, Bool, true, false, List, []}
 use Rattle.std.specs.Prelude.{◌∷◌, ◌++◌, length, codes, Option, Some, None, Result, Ok, Err, if◌then◌else◌, slice_index_or}
 use Rattle.std.specs.List.{list_any, list_all, AllByRecursion}
-use Rattle.std.specs.Str.{bytes_eq}
 use Rattle.lset_words.specs.declared.Reply.{Reply}
 use Rattle.lset_words.specs.declared.history.CallRecord.{CallRecord}
 use Rattle.lset_words.specs.declared.history.Placed.{Placed}
@@ -16,13 +15,16 @@ use Rattle.lset_text.specs.declared.headers.HeaderCause.{HeaderCause}
 use Rattle.lset_text.specs.declared.headers.HeaderCause.TheVariants as head
 use Rattle.lset_text.specs.declared.headers.HeaderFault.{HeaderFault}
 use Rattle.lset_text.specs.Parts.{cut_at}
-use Rattle.lset_text.specs.Numbers.{number_in, max_number}
-use Rattle.lset_text.specs.Spellings.{call_word_in, reply_in, is_reply_in, with_key, HasCall, HasReply}
+use Rattle.lset_text.specs.Spellings.{with_key, HasCall, HasReply}
 use Rattle.lset_text.specs.declared.words.Version.{Version}
 use Rattle.lset_text.specs.declared.words.Version.TheVariants.{One, Two}
-use Rattle.lset_text.specs.Results.{◌>>=◌, or_fail, map_fault}
+use Rattle.lset_text.specs.Results.{◌>>=◌, map_fault}
+use Rattle.lset_text.specs.Forms.{Form}
+use Rattle.lset_text.specs.Forms as piece
+use Rattle.lset_text.specs.Kinds.{LineKind, LineCauses, made, line_in}
+use Rattle.lset_text.specs.Lines.{Grammar, lines_from, IsFaultlessTo}
 use Rattle.lset_text.specs.Headers.{header_of, version_in}
-use Rattle.lset_text.specs.Openings.{HasOpening, is_above}
+use Rattle.lset_text.specs.Openings.{opening_form, HasOpening, is_above}
 use Rattle.lset_report.specs.declared.report.TheConstants.{MOST_CALLS, MOST_PLACES, MOST_KEYS, MOST_KEYS_OPENED}
 use Rattle.lset_report.specs.declared.reading.lines.Line.{Line as ReportLine}
 use Rattle.lset_report.specs.declared.reading.lines.Line.TheVariants as told
@@ -81,112 +83,67 @@ cause_of head.NotEnded = wrong.NotEnded
 abbrev pub in_report : HeaderFault → ReportFault
 in_report e = fault e.line (cause_of e.cause)
 
--- ---- the pieces of a line
+-- ---- the lines that may come
 
--- sections come in one order; a text of the first version has nothing in the first of them
-abbrev pub takes_opening : Version → Section → Bool
-takes_opening One s = false
-takes_opening Two section.Opening = true
-takes_opening Two section.Calls = false
-takes_opening Two section.Order = false
-takes_opening Two section.Keys = false
-takes_opening Two section.Done = false
+-- what is wrong with a line that has the form of none that may come there, and with one that has a form and a wrong number
+abbrev pub causes : LineCauses ReportCause
+causes = record { form = wrong.Line; number = wrong.Number }
 
-abbrev pub takes_calls : Section → Bool
-takes_calls section.Opening = true
-takes_calls section.Calls = true
-takes_calls section.Order = false
-takes_calls section.Keys = false
-takes_calls section.Done = false
+abbrev pub opening_kind : LineKind ReportLine
+opening_kind = (opening_form, λ t. told.Opening t.1.0)
 
-abbrev pub takes_places : Section → Bool
-takes_places section.Opening = true
-takes_places section.Calls = true
-takes_places section.Order = true
-takes_places section.Keys = false
-takes_places section.Done = false
+-- a call by its number, its thread, its word, its key and its beginning
+abbrev pub call_told : {X : Type 0} → ℕ × (ℕ × (CallWord × (ℕ × (ℕ × X)))) → Option (ℕ × Reply) → ReportLine
+call_told t end = told.Call t.0
+    (record { thread = t.1.0; call = with_key t.1.1.0 (record { 0 = t.1.1.1.0 }); begun = t.1.1.1.1.0; ended = end })
 
--- keys, or the end
-abbrev pub takes_keys : Section → Bool
-takes_keys section.Opening = true
-takes_keys section.Calls = true
-takes_keys section.Order = true
-takes_keys section.Keys = true
-takes_keys section.Done = false
+-- its form, up to its end
+abbrev pub call_form : Form → Form
+call_form end = piece.word (codes "call") ∷ piece.any ∷ piece.any ∷ piece.call ∷ piece.any ∷ piece.moment ∷ end
 
-abbrev pub any_number : List ℕ → Result ℕ ReportCause
-any_number piece = or_fail wrong.Number (number_in 0 max_number piece)
+abbrev pub open_kind : LineKind ReportLine
+open_kind = (call_form (piece.word (codes "open") ∷ []), λ t. call_told t.1 None)
 
-abbrev pub moment : List ℕ → Result ℕ ReportCause
-moment piece = or_fail wrong.Number (number_in 1 max_number piece)
+abbrev pub ended_kind : LineKind ReportLine
+ended_kind = (
+  call_form (piece.moment ∷ piece.reply ∷ []),
+  λ t. call_told t.1 (Some (t.1.1.1.1.1.1.0, t.1.1.1.1.1.1.1.0)),
+)
 
-unfoldable pub begun_of : CallWord → List ℕ → List ℕ → List ℕ → List ℕ → Result (ℕ × CallRecord) ReportCause
-begun_of word id thread key begun = do
-  n ← any_number id
-  t ← any_number thread
-  k ← any_number key
-  b ← moment begun
-  Ok (n, record { thread = t; call = with_key word (record { 0 = k }); begun = b; ended = None })
+abbrev pub place_kind : LineKind ReportLine
+place_kind = (
+  piece.word (codes "place") ∷ piece.any ∷ piece.reply ∷ [],
+  λ t. told.Place (record { call = t.1.0; reply = t.1.1.0 }),
+)
 
--- The reply of a version that a piece spells. Its form is looked at in the check of the line, its number in that of the numbers.
-unfoldable pub reply_told : Version → List ℕ → Result Reply ReportCause
-reply_told version piece = if is_reply_in version piece then or_fail wrong.Number (reply_in version piece) else Err wrong.Line
+abbrev pub key_kind : LineKind ReportLine
+key_kind = (piece.word (codes "key") ∷ piece.any ∷ [], λ t. told.Key t.1.0)
 
-unfoldable pub open_of : Version → List ℕ → List ℕ → List ℕ → List ℕ → List ℕ → List ℕ → Result ReportLine ReportCause
-open_of version id thread call key begun open_word = do
-  w ← or_fail wrong.Line (call_word_in version call)
-  if bytes_eq open_word (codes "open") then (do
-    x ← begun_of w id thread key begun
-    Ok (told.Call x.0 x.1)) else Err wrong.Line
+abbrev pub end_kind : LineKind ReportLine
+end_kind = (piece.word (codes "end") ∷ [], λ t. told.End)
 
-unfoldable pub ended_of : Version → List ℕ → List ℕ → List ℕ → List ℕ → List ℕ → List ℕ → List ℕ → Result ReportLine ReportCause
-ended_of version id thread call key begun end reply = do
-  w ← or_fail wrong.Line (call_word_in version call)
-  r ← reply_told version reply
-  x ← begun_of w id thread key begun
-  e ← moment end
-  Ok (told.Call x.0 (record x.1 { ended = Some (e, r) }))
+-- sections come in one order, and each may be left out
+abbrev pub from_keys : List (LineKind ReportLine)
+from_keys = key_kind ∷ end_kind ∷ []
 
--- a call, of the pieces after its thread
-abbrev pub call_of : Version → List ℕ → List ℕ → List (List ℕ) → Result ReportLine ReportCause
-call_of version id thread [] = Err wrong.Line
-call_of version id thread (a ∷ []) = Err wrong.Line
-call_of version id thread (a ∷ b ∷ []) = Err wrong.Line
-call_of version id thread (a ∷ b ∷ c ∷ []) = Err wrong.Line
-call_of version id thread (a ∷ b ∷ c ∷ d ∷ []) = open_of version id thread a b c d
-call_of version id thread (a ∷ b ∷ c ∷ d ∷ e ∷ []) = ended_of version id thread a b c d e
-call_of version id thread (a ∷ b ∷ c ∷ d ∷ e ∷ f ∷ more) = Err wrong.Line
+abbrev pub from_order : List (LineKind ReportLine)
+from_order = place_kind ∷ from_keys
 
-unfoldable pub place_of : Version → Section → List ℕ → List ℕ → List ℕ → Result ReportLine ReportCause
-place_of version s word id reply = if takes_places s && bytes_eq word (codes "place") then (do
-  r ← reply_told version reply
-  n ← any_number id
-  Ok (told.Place (record { call = n; reply = r }))) else Err wrong.Line
+abbrev pub from_calls : List (LineKind ReportLine)
+from_calls = open_kind ∷ ended_kind ∷ from_order
 
-unfoldable pub key_of_line : Section → List ℕ → List ℕ → Result ReportLine ReportCause
-key_of_line s word key = if takes_keys s && bytes_eq word (codes "key") then (do
-  k ← any_number key
-  Ok (told.Key k)) else Err wrong.Line
+-- only a text of the second version has opening keys
+abbrev pub from_opening : Version → List (LineKind ReportLine)
+from_opening One = from_calls
+from_opening Two = opening_kind ∷ from_calls
 
-unfoldable pub opening_or_key : Version → Section → List ℕ → List ℕ → Result ReportLine ReportCause
-opening_or_key version s word key = if takes_opening version s && bytes_eq word (codes "opening") then (do
-  k ← any_number key
-  Ok (told.Opening k)) else key_of_line s word key
-
-abbrev pub end_of : Section → List ℕ → Result ReportLine ReportCause
-end_of s word = if takes_keys s && bytes_eq word (codes "end") then Ok told.End else Err wrong.Line
-
-abbrev pub line_of_pieces : Version → Section → List (List ℕ) → Result ReportLine ReportCause
-line_of_pieces version s [] = Err wrong.Line
-line_of_pieces version s (a ∷ []) = end_of s a
-line_of_pieces version s (a ∷ b ∷ []) = opening_or_key version s a b
-line_of_pieces version s (a ∷ b ∷ c ∷ []) = place_of version s a b c
-line_of_pieces version s (a ∷ b ∷ c ∷ d ∷ more) =
-    if takes_calls s && bytes_eq a (codes "call") then call_of version b c (d ∷ more) else Err wrong.Line
-
--- what a line tells in a text of a version that has come to a section
-abbrev pub line_in : Version → Section → List ℕ → Result ReportLine ReportCause
-line_in version s line = line_of_pieces version s (cut_at 32 line)
+-- THE LINES THAT MAY COME in a text of a version that has come to a section
+abbrev pub kinds : Version → Section → List (LineKind ReportLine)
+kinds version section.Opening = from_opening version
+kinds version section.Calls = from_calls
+kinds version section.Order = from_order
+kinds version section.Keys = from_keys
+kinds version section.Done = []
 
 -- ---- a line after those above it
 
@@ -250,7 +207,7 @@ judged r told.End = Ok told.End
 
 -- what a line tells after the report of the lines above
 abbrev pub line_after : Section → ReportValue → List ℕ → Result ReportLine ReportCause
-line_after s r line = line_in r.version s line >>= judged r
+line_after s r line = line_in r.version causes (kinds r.version s) line >>= judged r
 
 abbrev pub section_after : ReportLine → Section
 section_after (told.Opening k) = section.Opening
@@ -284,21 +241,31 @@ last_of_header = 4
 abbrev pub first_line : ℕ
 first_line = last_of_header + 1
 
--- a text that ends here
-abbrev pub ended_in : ℕ → Section → ReportValue → Result ReportValue ReportFault
-ended_in line section.Opening r = Err (fault line wrong.NotEnded)
-ended_in line section.Calls r = Err (fault line wrong.NotEnded)
-ended_in line section.Order r = Err (fault line wrong.NotEnded)
-ended_in line section.Keys r = Err (fault line wrong.NotEnded)
-ended_in line section.Done r = Ok r
+-- what lines tell: the section to which they came, and their report
+pub record SoFar : Type 0 where
+  pub section : Section
+  pub report : ReportValue
 
--- the lines after the header, from a number of line, a section and the report of the lines above
-unfoldable pub report_from : ℕ → Section → ReportValue → List (List ℕ) → Result ReportValue ReportFault
-report_from line s r [] = ended_in line s r
-report_from line s r (rest ∷ []) = if length rest == 0 then ended_in line s r else Err (fault line wrong.NotEnded)
-report_from line s r (x ∷ y ∷ more) = do
-  l ← map_fault (fault line) (line_after s r x)
-  report_from (line + 1) (section_after l) (with_line r l) (y ∷ more)
+abbrev pub with_told : SoFar → ReportLine → SoFar
+with_told s l = record { section = section_after l; report = with_line s.report l }
+
+abbrev pub step : SoFar → List ℕ → Result SoFar ReportCause
+step s line = made (with_told s) (line_after s.section s.report line)
+
+-- a text ends after the line `end`
+abbrev pub is_done : Section → Bool
+is_done section.Opening = false
+is_done section.Calls = false
+is_done section.Order = false
+is_done section.Keys = false
+is_done section.Done = true
+
+abbrev pub ends : SoFar → Result SoFar ReportCause
+ends s = if is_done s.section then Ok s else Err wrong.NotEnded
+
+-- THE GRAMMAR of the lines after the header
+abbrev pub grammar : Grammar SoFar ReportCause ReportFault
+grammar = record { step = step; ends = ends; not_ended = wrong.NotEnded; at = fault }
 
 abbrev pub no_lines : Version → HeaderTold → ReportValue
 no_lines version h = record {
@@ -309,6 +276,9 @@ no_lines version h = record {
   keys = [];
 }
 
+abbrev pub nothing_told : Version → HeaderTold → SoFar
+nothing_told version h = record { section = section.Opening; report = no_lines version h }
+
 -- the version that the first line alone tells
 abbrev pub version_told : List (List ℕ) → Version
 version_told parts = version_in (title Two) parts
@@ -316,7 +286,8 @@ version_told parts = version_in (title Two) parts
 unfoldable pub report_of : List (List ℕ) → Result ReportValue ReportFault
 report_of parts = do
   head ← map_fault in_report (header_of (title (version_told parts)) parts)
-  report_from first_line section.Opening (no_lines (version_told parts) head.0) head.1
+  last ← lines_from grammar first_line (nothing_told (version_told parts) head.0) head.1
+  Ok last.report
 
 abbrev pub reading : List ℕ → Result ReportValue ReportFault
 reading bytes = report_of (cut_at 10 bytes)
@@ -329,14 +300,12 @@ ReportsReadBack = (r : ReportValue) (bytes : List ℕ)
 
 -- ---- want of memory
 
--- no fault of a text stands in its lines up to that number
-abbrev pub IsGoodUpTo : ℕ → Result ReportValue ReportFault → Type 0
-IsGoodUpTo line (Ok r) = Unit {0}
-IsGoodUpTo line (Err e) = line < e.line
+abbrev pub line_number : ReportFault → ℕ
+line_number e = e.line
 
 -- Memory is answered for a line after its other checks. The parts are those of a text from the line `first` on, of which the last
 -- comes after the last newline, and reading the text gives `read` where memory is ample.
-pub record RunsOut (first : ℕ) (parts : List (List ℕ)) (read : Result ReportValue ReportFault) (e : ReportFault) : Type 0 where
+pub record RunsOut {X : Type 0} (first : ℕ) (parts : List (List ℕ)) (read : Result X ReportFault) (e : ReportFault) : Type 0 where
   pub cause : e.cause ≡ wrong.Memory
   -- the line is the last of the header, whose lines take no memory, or one after it,
   pub after_header : last_of_header ≤ e.line
@@ -347,7 +316,7 @@ pub record RunsOut (first : ℕ) (parts : List (List ℕ)) (read : Result Report
   -- but not `end`, for which nothing is asked,
   pub asks : slice_index_or parts index [] ≢ last_line
   -- and neither it nor a line above it has a fault
-  pub good : IsGoodUpTo e.line read
+  pub good : IsFaultlessTo line_number e.line read
 
 -- what a function returned, seen by `view`, is what reading the bytes gives, or want of memory
 abbrev pub Gives : {X : Type 0} → (X → ReportValue) → Result X ReportFault → List ℕ → Type 0

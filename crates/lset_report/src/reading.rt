@@ -1,6 +1,7 @@
 ghost use Rattle.std.specs.Prelude.{◌≡◌, ◌≢◌, IfOk, OnOk, OnErr, MatchResult, Ok};
 ghost use Rattle.lset_text.specs.Parts.{cut_at};
 ghost use Rattle.lset_text.specs.Headers.{IsHeader};
+ghost use Rattle.lset_text.specs.Lines.{lines_from};
 ghost use Rattle.lset_report.specs.Report.{ReportValue, view};
 ghost use Rattle.lset_report.specs.Texts.{report_text, HasWordsOfVersion};
 ghost use Rattle.lset_report.specs.ReportReading.{
@@ -15,10 +16,10 @@ ghost use Rattle.lset_report.specs.ReportReading.{
   line_after,
   with_line,
   no_lines,
-  report_from,
+  grammar,
   ReportsReadBack,
 };
-ghost use Rattle.lset_report.specs.ReportReader.{Holds, GoesOn, ReadsLine, so_far};
+ghost use Rattle.lset_report.specs.ReportReader.{Holds, GoesOn, ReadsLine, so_far, state};
 
 mod calls;
 mod lines;
@@ -157,8 +158,8 @@ impl Reader {
         requires { Holds self.old }
         ensures holds { OnOk result (Holds self.new) }
         ensures header { OnOk result (self.new.header ≡ self.old.header) }
-        ensures told { GoesOn (so_far self.new) result (cut_at 10 text.now)
-            (report_from first_line self.old.section (so_far self.old) (cut_at 10 text.now)) }
+        ensures told { GoesOn (state self.new) result (cut_at 10 text.now)
+            (lines_from grammar first_line (state self.old) (cut_at 10 text.now)) }
     {
         let mut number = FIRST_LINE;
         let mut rest = text;

@@ -7,8 +7,8 @@ use Rattle.lset_steps.specs.declared.Local.{Local}
 use Rattle.lset_steps.specs.declared.Fed.{Fed}
 use Rattle.lset_steps.specs.declared.Event.{Event}
 use Rattle.lset_steps.specs.declared.Event.TheVariants.{Begin, Go}
-use Rattle.lset_rule.specs.declared.slots.Slots.{Slots}
-use Rattle.lset_rule.specs.Slots.{slots_of, resting}
+use Rattle.lset_rule.specs.declared.slots.OwnSlots.{OwnSlots}
+use Rattle.lset_rule.specs.OwnSlots.{slots_of, resting}
 use Rattle.lset_rule.specs.declared.view.Under.{Under}
 use Rattle.lset_rule.specs.declared.view.View.{View}
 use Rattle.lset_steps.specs.Steps.{Table, event_at}
@@ -136,17 +136,17 @@ reached_first m law c low v l st idle is =
     (begun_at m law v st c low idle))
 
 -- Of what a thread held, its slots s alone have a part in the begin; r are registers with these slots.
-pub begun_from_slots : (m : Table) → Lawful m → (c : Call) (v : View) (s : Slots) (r l : Local) → s ≡ slots_of v.local →
+pub begun_from_slots : (m : Table) → Lawful m → (c : Call) (v : View) (s : OwnSlots) (r l : Local) → s ≡ slots_of v.local →
     r ≡ resting s → l ≡ m.begin c r → l ≡ m.begin c v.local
 begun_from_slots m law c v s r l same rest is = is ∙ (ap (m.begin c) (rest ∙ ap resting same) ∙ sym (law.begins c v.local).alike)
 
 -- the same of what the interpreter has computed: l is what the thread holds when it has begun, f what it was fed
-pub first_reached : (m : Table) → Lawful m → (c : Call) → target c < tail_word → (v : View) (s : Slots) (r l : Local) → Stands m v
+pub first_reached : (m : Table) → Lawful m → (c : Call) → target c < tail_word → (v : View) (s : OwnSlots) (r l : Local) → Stands m v
     → IsIdle v → s ≡ slots_of v.local → r ≡ resting s → l ≡ m.begin c r → Occurs m l
 first_reached m law c low v s r l st idle same rest is =
     reached_first m law c low v l st idle (begun_from_slots m law c v s r l same rest is)
 
-pub first_comes : (m : Table) → Lawful m → (c : Call) (v : View) (n : ℕ) (w : View) (s : Slots) (r l : Local) (f : Fed) →
+pub first_comes : (m : Table) → Lawful m → (c : Call) (v : View) (n : ℕ) (w : View) (s : OwnSlots) (r l : Local) (f : Fed) →
     Starts m c v n w → s ≡ slots_of v.local → r ≡ resting s → l ≡ m.begin c r → f ≡ m.feed l n → Comes m c v f w
 first_comes m law c v n w s r l f step same rest is fed =
     comes_first m c v n w f step (fed ∙ ap (λ z. m.feed z n) (begun_from_slots m law c v s r l same rest is))

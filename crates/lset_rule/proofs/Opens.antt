@@ -6,8 +6,8 @@ use mathlib.Core.Logic.{dite}
 use native.Mathlib.Decide.{ℕ_discrete}
 use lib.ListN.{get_elem?}
 use Rattle.atomic_table.specs.Table as T
-use Rattle.lset_rule.specs.declared.slots.Slots.{Slots}
-use Rattle.lset_rule.specs.Slots.{slots_of}
+use Rattle.lset_rule.specs.declared.slots.OwnSlots.{OwnSlots}
+use Rattle.lset_rule.specs.OwnSlots.{slots_of}
 use Rattle.lset_rule.specs.declared.view.Aside.{Aside}
 use Rattle.lset_rule.specs.declared.view.Past.{Fresh}
 use Rattle.lset_rule.specs.declared.view.View.{View}
@@ -145,7 +145,7 @@ spare_all k =
 
 -- what a new seat's fields have to be
 pub new_seat : (m : Table) (k : Opening) (t : ℕ) (me : T.Me (Unit {0}) View) → Opens k → t < k.threads → me ≡ (fresh k t, []) →
-    (slots : Slots) → slots ≡ slots_of (idle k.quota t)
+    (slots : OwnSlots) → slots ≡ slots_of (idle k.quota t)
     → IsIdle me.0 × Stands m me.0 × (slots ≡ slots_of me.0.local) × (1 ≡ length me.0.others + 1) × (me.1 ≡ [])
 new_seat m k t me lim lt is slots l = (
   (ap (λ z. z.0.spent) is, ap (λ z. z.0.under) is),

@@ -6,17 +6,17 @@ use Rattle.lset_words.specs.Words.{Opening}
 use Rattle.lset_steps.specs.declared.Fed.{Fed}
 use Rattle.lset_steps.specs.Steps.{Table}
 use Rattle.lset_steps.specs.Laws.{Lawful}
-use Rattle.lset_rule.specs.declared.slots.Slots.{Slots}
-use Rattle.lset_rule.specs.Seats.{Place, IsOf, IsSeat, MayCall}
+use Rattle.lset_rule.specs.declared.slots.OwnSlots.{OwnSlots}
+use Rattle.lset_rule.specs.Seats.{TableSeat, IsOf, IsSeat, MayCall}
 use Rattle.lset_rule.specs.RowSteps.{MayStep, HasStepped}
 use Rattle.lset_rule.proofs.Calls.{Comes, is_mid, mid_open, reached, comes_next}
 
 -- the call c of the seat s has come to f, and the seat to s'
-abbrev pub Reached : Table → Call → Place → Fed → Place → Type 0
+abbrev pub Reached : Table → Call → TableSeat → Fed → TableSeat → Type 0
 Reached m c s f s' = Comes m c s.me.0 f s'.me.0 × IsSeat s s'
 
 -- a call that has not answered may make its next step
-pub may_step : (m : Table) → Lawful m → (c : Call) (z : TableId) (k : Opening) (own : Slots) (s s' : Place) (f : Fed) →
+pub may_step : (m : Table) → Lawful m → (c : Call) (z : TableId) (k : Opening) (own : OwnSlots) (s s' : TableSeat) (f : Fed) →
     MayCall m z k own s → Reached m c s f s' → f.answer ≡ None → MayStep m z k f.local s'
 may_step m law c z k own s s' f may (come, seat) none = let mid = is_mid m c s.me.0 s'.me.0 f come none in record {
   place = (seat.0 ∙ may.place.0, mid.0.same.1 ∙ may.place.1, may.place.2);
@@ -27,7 +27,7 @@ may_step m law c z k own s s' f may (come, seat) none = let mid = is_mid m c s.m
 }
 
 -- and has come one step further after it
-pub stepped : (m : Table) (c : Call) (s s' s'' : Place) (f f' : Fed) → Reached m c s f s' → f.answer ≡ None →
+pub stepped : (m : Table) (c : Call) (s s' s'' : TableSeat) (f f' : Fed) → Reached m c s f s' → f.answer ≡ None →
     HasStepped m f.local s' f' s'' → Reached m c s f' s''
 stepped m c s s' s'' f f' (come, seat) none step = (
   comes_next m c s.me.0 s'.me.0 f step.seen s''.me.0 f' come none step.goes step.fed,

@@ -4,5 +4,5 @@ pub mod Views
 pub mod Rule
 pub mod Calls
 pub mod Seats
-pub mod Slots
+pub mod OwnSlots
 pub mod RowSteps

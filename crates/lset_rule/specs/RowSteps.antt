@@ -9,10 +9,10 @@ use Rattle.lset_steps.specs.Steps.{Table}
 use Rattle.lset_steps.specs.Laws.{Occurs}
 use Rattle.lset_rule.specs.Views.{IsOpen, Stands}
 use Rattle.lset_rule.specs.Calls.{Goes}
-use Rattle.lset_rule.specs.Seats.{Place, IsOf, IsSeat}
+use Rattle.lset_rule.specs.Seats.{TableSeat, IsOf, IsSeat}
 
 -- the seat is of this table and has a call under way, whose thread holds these registers, to which some run comes
-pub record MayStep (m : Table) (z : TableId) (k : Opening) (l : Local) (s : Place) : Type 0 where
+pub record MayStep (m : Table) (z : TableId) (k : Opening) (l : Local) (s : TableSeat) : Type 0 where
   pub place : IsOf z k s
   pub under_way : IsOpen s.me.0
   pub stands : Stands m s.me.0
@@ -20,7 +20,7 @@ pub record MayStep (m : Table) (z : TableId) (k : Opening) (l : Local) (s : Plac
   pub occurs : Occurs m l
 
 -- the call made its next step: the same seat, and what the table makes of the registers and of the value seen
-pub record HasStepped (m : Table) (l : Local) (s : Place) (f : Fed) (s' : Place) : Type 0 where
+pub record HasStepped (m : Table) (l : Local) (s : TableSeat) (f : Fed) (s' : TableSeat) : Type 0 where
   pub place : IsSeat s s'
   pub seen : ℕ
   pub goes : Goes m s.me.0 seen s'.me.0

@@ -6,26 +6,26 @@ use Rattle.lset_words.specs.declared.Call.{Call}
 use Rattle.lset_words.specs.declared.Reply.{Reply}
 use Rattle.lset_words.specs.Words.{word_count, Opening, sizes}
 use Rattle.lset_steps.specs.Steps.{Table}
-use Rattle.lset_rule.specs.declared.slots.Slots.{Slots}
+use Rattle.lset_rule.specs.declared.slots.OwnSlots.{OwnSlots}
 use Rattle.lset_rule.specs.declared.view.View.{View}
-use Rattle.lset_rule.specs.Slots.{slots_of}
+use Rattle.lset_rule.specs.OwnSlots.{slots_of}
 use Rattle.lset_rule.specs.Views.{IsIdle, Stands}
 use Rattle.lset_rule.specs.Calls.{Makes}
 
 -- a seat, as contracts of calls see it
-abbrev pub Place : Type 0
-Place = Seat (Unit {0}) View
+abbrev pub TableSeat : Type 0
+TableSeat = Seat (Unit {0}) View
 
 -- the seat is of the table z, which has the words of a set of this shape
-abbrev pub IsOf : TableId → Opening → Place → Type 0
+abbrev pub IsOf : TableId → Opening → TableSeat → Type 0
 IsOf z k s = (s.table_id ≡ z) × (s.me.0.shape ≡ k) × (z.words ≡ word_count (sizes k))
 
 -- the same seat, at another view
-abbrev pub IsSeat : Place → Place → Type 0
+abbrev pub IsSeat : TableSeat → TableSeat → Type 0
 IsSeat s s' = (s'.table_id ≡ s.table_id) × (s'.id ≡ s.id) × (s'.me.1 ≡ s.me.1)
 
 -- A WHOLE CALL MAY BE MADE from the seat: it is of this table, its thread has no call under way and has these slots.
-pub record MayCall (m : Table) (z : TableId) (k : Opening) (own : Slots) (s : Place) : Type 0 where
+pub record MayCall (m : Table) (z : TableId) (k : Opening) (own : OwnSlots) (s : TableSeat) : Type 0 where
   pub place : IsOf z k s
   pub idle : IsIdle s.me.0
   pub stands : Stands m s.me.0
@@ -33,7 +33,7 @@ pub record MayCall (m : Table) (z : TableId) (k : Opening) (own : Slots) (s : Pl
 
 -- THE CALL c WAS MADE from the seat s, which is now s': the same seat, whose record grew by just this call with its reply. The
 -- answer is the slots that the thread now has, and the reply.
-pub record HasCalled (m : Table) (c : Call) (s : Place) (answer : Slots × Reply) (s' : Place) : Type 0 where
+pub record HasCalled (m : Table) (c : Call) (s : TableSeat) (answer : OwnSlots × Reply) (s' : TableSeat) : Type 0 where
   pub place : IsSeat s s'
   pub slots : answer.0 ≡ slots_of s'.me.0.local
   pub made : Makes m c s.me.0 answer.1 s'.me.0

@@ -3,8 +3,8 @@ ghost use Rattle.lset_words.specs.declared.Call.TheVariants.{Contains};
 ghost use Rattle.lset_rule.specs.Seats.{HasCalled, MayCall};
 
 use crate::row_steps::{Stepped, has_failed, one_step};
-use crate::slots::Slots;
-use crate::word_steps::{Place, Words, start_on};
+use crate::slots::OwnSlots;
+use crate::word_steps::{TableSeat, Words, start_on};
 use crossbeam_utils::Backoff;
 use lset_steps::{Machine, OpenReads};
 use lset_words::{Call, Key, Reply};
@@ -59,14 +59,14 @@ impl Pause for Spin {
 ///
 /// Nothing is said about when a call returns: if it does, it was a call of the machine, begun after all that the place had
 /// seen, and the record of the place grew by it and its reply.
-pub fn walk<M: Machine, R: Wait, P: Pause>(
+pub fn interpret<M: Machine, R: Wait, P: Pause>(
     rt: &R,
     table: &Words<M>,
-    place: &mut Place,
-    slots: Slots,
+    place: &mut TableSeat,
+    slots: OwnSlots,
     call: Call,
     pause: &P,
-) -> (Slots, Reply)
+) -> (OwnSlots, Reply)
     requires { MayCall M.table table.now.table_id table.now.key slots place.old }
     ensures { HasCalled M.table call place.old result place.new }
 {
@@ -82,14 +82,14 @@ pub fn walk<M: Machine, R: Wait, P: Pause>(
     // wait, as one that asks a pause, it leads nowhere straight.
     for _ in rt.forever() {
         if let Some(reply) = last.fed.answer {
-            return (Slots::of(&last.fed.local), reply);
+            return (OwnSlots::of(&last.fed.local), reply);
         }
         if P::EACH_STEP || last.failed {
             pause.moved(last.fed.local.thread, last.failed);
         }
         let next = one_step::<M, 1>(table, place, &last.fed.local);
         if let Some(reply) = next.fed.answer {
-            return (Slots::of(&next.fed.local), reply);
+            return (OwnSlots::of(&next.fed.local), reply);
         }
         if P::EACH_STEP || next.failed {
             pause.moved(next.fed.local.thread, next.failed);
@@ -102,13 +102,13 @@ pub fn walk<M: Machine, R: Wait, P: Pause>(
 /// Makes a whole `contains` of `key`, step by step, that waits for nobody and returns: for the lists whose walk meets each
 /// node at most once (`OpenReads`), which are those that mark nodes before they unlink them.
 ///
-/// `place`, `slots` and the answer are as those of [`walk`].
-pub fn read<M: OpenReads>(
+/// `place`, `slots` and the answer are as those of [`interpret`].
+pub fn interpret_read<M: OpenReads>(
     table: &Words<M>,
-    place: &mut Place,
-    slots: Slots,
+    place: &mut TableSeat,
+    slots: OwnSlots,
     key: Key,
-) -> (Slots, Reply)
+) -> (OwnSlots, Reply)
     requires { MayCall M.table table.now.table_id table.now.key slots place.old }
     ensures { HasCalled M.table (Contains key) place.old result place.new }
 {
@@ -118,7 +118,7 @@ pub fn read<M: OpenReads>(
     let mut fed = M::feed(&begun, seen);
     loop {
         if let Some(reply) = fed.answer {
-            return (Slots::of(&fed.local), reply);
+            return (OwnSlots::of(&fed.local), reply);
         }
         fed = one_step::<M, 3>(table, place, &fed.local).fed;
     }

@@ -13,11 +13,11 @@ mod slots;
 mod view;
 mod word_steps;
 
-pub use interpreter::{Pause, Spin, read, walk};
+pub use interpreter::{Pause, Spin, interpret, interpret_read};
 pub use rule::{Asking, Cutting, Follows, Learning, Onward, Starting, Taking};
-pub use slots::Slots;
-pub use view::{Aside, OwnCall, Past, Shape, Under, View};
+pub use slots::OwnSlots;
+pub use view::{Aside, Opened, OwnCall, Past, Under, View};
 pub use word_steps::{
-    Place, Words, exchange_first, exchange_on, load_first, load_on, start_on, step_on, store_first,
-    store_on,
+    TableSeat, Words, exchange_first, exchange_on, load_first, load_on, start_on, step_on,
+    store_first, store_on,
 };

@@ -2,7 +2,7 @@
 ghost use Rattle.std.specs.Prelude.{◌≡◌};
 ghost use Rattle.lset_rule.specs.RowSteps.{HasStepped, MayStep};
 
-use crate::word_steps::{Place, Words, step_on};
+use crate::word_steps::{TableSeat, Words, step_on};
 use lset_steps::{Action, Fed, Local, Machine};
 
 /// What a step has told: what the thread holds after it, with the answer where it was the last of the call, and whether it
@@ -24,7 +24,11 @@ pub fn has_failed(action: Action, seen: u64) -> bool {
 
 /// Makes the next step of a call that stands at the row `PC`. The row is a number that the compiler knows, so that of the
 /// machine's `next` and `feed` this row alone is left: its access, and what follows from what it saw.
-fn row_step<M: Machine, const PC: u8>(table: &Words<M>, place: &mut Place, local: &Local) -> Stepped
+fn row_step<M: Machine, const PC: u8>(
+    table: &Words<M>,
+    place: &mut TableSeat,
+    local: &Local,
+) -> Stepped
     requires call { MayStep M.table table.now.table_id table.now.key local.now place.old }
     requires row { local.now.pc ≡ PC }
     ensures { HasStepped M.table local.now place.old result.fed place.new }
@@ -43,7 +47,7 @@ fn row_step<M: Machine, const PC: u8>(table: &Words<M>, place: &mut Place, local
 /// have to lie in memory for it, at every step of every row.
 fn other_step<M: Machine, const SITE: u8>(
     table: &Words<M>,
-    place: &mut Place,
+    place: &mut TableSeat,
     local: &Local,
 ) -> Stepped
     requires { MayStep M.table table.now.table_id table.now.key local.now place.old }
@@ -65,7 +69,7 @@ fn other_step<M: Machine, const SITE: u8>(
 #[inline(always)]
 pub fn one_step<M: Machine, const SITE: u8>(
     table: &Words<M>,
-    place: &mut Place,
+    place: &mut TableSeat,
     local: &Local,
 ) -> Stepped
     requires { MayStep M.table table.now.table_id table.now.key local.now place.old }

@@ -4,7 +4,7 @@ ghost use Rattle.lset_words.specs.declared.Call.TheVariants.{Contains};
 ghost use Rattle.lset_rule.specs.Rule.{Holds, opener, left_view, right_view, joined, nobody, learned};
 ghost use Rattle.lset_rule.specs.Calls.{onward, starting};
 
-use crate::view::{Shape, View};
+use crate::view::{Opened, View};
 use atomic_table::{Join, Play, Split, TableRule};
 use lset_steps::Machine;
 use std::marker::{Brand, PhantomData};
@@ -15,7 +15,7 @@ pub struct Follows<M> {
     machine: PhantomData<M>,
 }
 
-impl<M: Machine> TableRule<(), View, Shape> for Follows<M> {
+impl<M: Machine> TableRule<(), View, Opened> for Follows<M> {
     ghost holds = { Holds M.table };
 
     ghost first = { opener };

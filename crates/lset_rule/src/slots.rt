@@ -1,7 +1,7 @@
 //! What a thread keeps between two calls.
 ghost use Rattle.std.specs.Prelude.{◌≡◌};
 ghost use Rattle.lset_steps.specs.Steps.{idle};
-ghost use Rattle.lset_rule.specs.Slots.{slots_of, resting};
+ghost use Rattle.lset_rule.specs.OwnSlots.{slots_of, resting};
 
 use lset_steps::Local;
 use lset_words::{Call, Key, Layout};
@@ -9,18 +9,18 @@ use lset_words::{Call, Key, Layout};
 /// What a thread keeps between two calls: its number, how many slots it has, and how many of them it has used. The rest of
 /// its registers has no part in its next call.
 #[derive(Clone, Copy)]
-pub struct Slots {
+pub struct OwnSlots {
     pub thread: u32,
     pub quota: u32,
     pub used: u32,
 }
 
-impl Slots {
+impl OwnSlots {
     /// Those of the thread number `thread` before its first call.
-    pub fn unused(layout: &Layout, thread: u32) -> Slots
+    pub fn unused(layout: &Layout, thread: u32) -> OwnSlots
         ensures { result ≡ slots_of (idle layout.now.quota thread) }
     {
-        Slots {
+        OwnSlots {
             thread,
             quota: layout.quota(),
             used: 0,
@@ -28,10 +28,10 @@ impl Slots {
     }
 
     /// Those that the registers name.
-    pub(crate) fn of(local: &Local) -> Slots
+    pub(crate) fn of(local: &Local) -> OwnSlots
         ensures { result ≡ slots_of local.now }
     {
-        Slots {
+        OwnSlots {
             thread: local.thread,
             quota: local.quota,
             used: local.used,

@@ -10,24 +10,24 @@ use std::marker::Model;
 /// How a set opens: for how many threads, with how many slots for each, and with which keys. It is the key of the table,
 /// fixed when the set is opened.
 #[derive(Drop)]
-pub struct Shape {
+pub struct Opened {
     threads: u32,
     quota: u32,
     keys: Vec<u32>,
 }
 
-impl Model for Shape {
+impl Model for Opened {
     ghost Value = { Opening };
 
     ghost view = { λ s. record { threads = s.threads; quota = s.quota; keys = s.keys.items } };
 }
 
-impl Shape {
+impl Opened {
     /// A set for so many threads, with so many slots for each, that opens with these keys.
-    pub fn new(threads: u32, quota: u32, keys: Vec<u32>) -> Shape
+    pub fn new(threads: u32, quota: u32, keys: Vec<u32>) -> Opened
         ensures { result ≡ record { threads = threads; quota = quota; keys = keys.items } }
     {
-        Shape {
+        Opened {
             threads,
             quota,
             keys,
@@ -75,7 +75,7 @@ pub struct View {
     /// The seat was taken in by another one: the rule says nothing of it.
     pub spent: bool,
     /// How large its set is.
-    pub shape: Shape,
+    pub shape: Opened,
     /// Its own thread, which makes its calls.
     pub thread: u32,
     /// The registers of its own thread.

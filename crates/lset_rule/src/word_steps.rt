@@ -8,23 +8,23 @@ ghost use Rattle.lset_rule.specs.Calls.{Goes, Starts};
 ghost use Rattle.lset_rule.specs.Seats.{IsOf, IsSeat};
 
 use crate::rule::{Asking, Follows, Onward, Starting};
-use crate::view::{Shape, View};
+use crate::view::{Opened, View};
 use atomic_table::{Seat, Shared};
 use lset_steps::{Action, Machine};
 use lset_words::Call;
 
 /// The place of a seat among the shared words: a token of no bytes, with a view.
-pub type Place = Seat<(), View>;
+pub type TableSeat = Seat<(), View>;
 
 /// The shared words of a set whose list is `M`: lock words, counts, and keys and links of the nodes.
-pub type Words<M> = Shared<(), View, Shape, Follows<M>>;
+pub type Words<M> = Shared<(), View, Opened, Follows<M>>;
 
 /// Loads a word, in a call that has begun.
 ///
 /// `place` is the place of a seat of these words with a call under way, and `word` the index of the word that its row of
 /// the table loads. The answer is the value seen: what the machine is to be fed. From then on the place has seen all
 /// events up to this step.
-pub fn load_on<M: Machine>(table: &Words<M>, place: &mut Place, word: u64) -> u64
+pub fn load_on<M: Machine>(table: &Words<M>, place: &mut TableSeat, word: u64) -> u64
     requires place { IsOf table.now.table_id table.now.key place.old }
     requires open { IsOpen place.old.me.0 × Stands M.table place.old.me.0 }
     requires row { Load word ≡ M.table.next place.old.me.0.local }
@@ -36,7 +36,7 @@ pub fn load_on<M: Machine>(table: &Words<M>, place: &mut Place, word: u64) -> u6
 
 /// Stores `value` in a word, in a call that has begun. Both are those of the row at which the place stands. The machine is
 /// to be fed the value stored.
-pub fn store_on<M: Machine>(table: &Words<M>, place: &mut Place, word: u64, value: u64)
+pub fn store_on<M: Machine>(table: &Words<M>, place: &mut TableSeat, word: u64, value: u64)
     requires place { IsOf table.now.table_id table.now.key place.old }
     requires open { IsOpen place.old.me.0 × Stands M.table place.old.me.0 }
     requires row { Store word value ≡ M.table.next place.old.me.0.local }
@@ -50,7 +50,7 @@ pub fn store_on<M: Machine>(table: &Words<M>, place: &mut Place, word: u64, valu
 /// which the place stands. The answer is the value seen, which is `old` exactly where the exchange was made.
 pub fn exchange_on<M: Machine>(
     table: &Words<M>,
-    place: &mut Place,
+    place: &mut TableSeat,
     word: u64,
     old: u64,
     new: u64,
@@ -71,7 +71,7 @@ pub fn exchange_on<M: Machine>(
 /// seen.
 pub fn load_first<M: Machine, J: Asking>(
     table: &Words<M>,
-    place: &mut Place,
+    place: &mut TableSeat,
     call: Call,
     word: u64,
 ) -> u64
@@ -89,7 +89,7 @@ pub fn load_first<M: Machine, J: Asking>(
 /// Stores `value` in a word, as the first step of a call, which begins with it. Else as [`load_first`] and [`store_on`].
 pub fn store_first<M: Machine, J: Asking>(
     table: &Words<M>,
-    place: &mut Place,
+    place: &mut TableSeat,
     call: Call,
     word: u64,
     value: u64,
@@ -108,7 +108,7 @@ pub fn store_first<M: Machine, J: Asking>(
 /// Exchanges a word, as the first step of a call, which begins with it. Else as [`load_first`] and [`exchange_on`].
 pub fn exchange_first<M: Machine, J: Asking>(
     table: &Words<M>,
-    place: &mut Place,
+    place: &mut TableSeat,
     call: Call,
     word: u64,
     old: u64,
@@ -127,7 +127,7 @@ pub fn exchange_first<M: Machine, J: Asking>(
 
 /// Makes a step of any kind in a call that has begun: `action` is that of the row at which the place stands. The answer is
 /// what the machine is to be fed: the value seen, or the value stored.
-pub fn step_on<M: Machine>(table: &Words<M>, place: &mut Place, action: Action) -> u64
+pub fn step_on<M: Machine>(table: &Words<M>, place: &mut TableSeat, action: Action) -> u64
     requires place { IsOf table.now.table_id table.now.key place.old }
     requires open { IsOpen place.old.me.0 × Stands M.table place.old.me.0 }
     requires action { action ≡ M.table.next place.old.me.0.local }
@@ -148,7 +148,7 @@ pub fn step_on<M: Machine>(table: &Words<M>, place: &mut Place, action: Action) 
 /// what the machine is to be fed.
 pub fn start_on<M: Machine, J: Asking>(
     table: &Words<M>,
-    place: &mut Place,
+    place: &mut TableSeat,
     call: Call,
     action: Action,
 ) -> u64

@@ -1,9 +1,8 @@
+pub mod BodyLaws
+pub mod BodyLoops
 pub mod Drafts
 pub mod DrawLaws
-pub mod EventLaws
-pub mod FaultLaws
-pub mod LoopLaws
-pub mod OpeningLaws
+pub mod KindsAs
 pub mod RunLaws
 pub mod TextLaws
 pub mod TurnLaws

@@ -1,210 +1,72 @@
 -- The two laws: what is read is the text of the schedule, and the text of a schedule is read.
-use Rattle.std.proofs.Common.{◌≡◌, ℕ, ◌+◌, ◌<◌, ◌≤◌, Bool, true, false, cond, eqb, List, [], ◌∷◌, ◌++◌, map, length}
-use Rattle.std.proofs.Common.{Result, Ok, Err, refl, sym, ap, subst, ◌∙◌, arith, append_assoc, length-append, ◌^◌}
+use Rattle.std.proofs.Common.{◌≡◌, ℕ, ◌<◌, ◌^◌, inl, inr, cond, List, [], ◌∷◌, ◌++◌, false, Result, Ok, Err, refl, ap, subst, ◌∙◌, sym, arith}
 use Rattle.std.specs.Prelude.{IfOk, MatchResult, ◌≢◌}
-use Rattle.std.specs.List.{sum_by, AllByRecursion}
+use Rattle.std.specs.List.{AllByRecursion}
 use Rattle.std.specs.Str.{bytes_eq}
-use Rattle.std.proofs.lemmas.Bool.{eqb-true, le-ltb}
-use Rattle.std.proofs.lemmas.List.{nil_from_length}
-use Rattle.std.proofs.lemmas.List.Elements.{recursion_from_All}
-use Rattle.std.proofs.lemmas.List.Sums.{sum_by-cons}
-use Rattle.lset_words.specs.Words.{Opens}
-use Rattle.lset_schedule.specs.declared.TheConstants.{MOST_EVENTS}
-use Rattle.lset_text.specs.declared.headers.Header.{Header}
-use Rattle.lset_text.specs.Parts.{cut_at, Lacks}
-use Rattle.lset_text.specs.Results.{◌>>=◌, map_fault}
-use Rattle.lset_text.specs.Headers.{header_lines, header_of, told_by_line, IsHeader}
-use Rattle.lset_text.proofs.PartLaws.{Lacks-from_test, text_from_lines, cut_lines}
-use Rattle.lset_text.proofs.ReadingLaws.{bind_ok, map_fault_ok, ok_is}
-use Rattle.lset_text.specs.Openings.{opening_lines, HasOpening}
-use Rattle.lset_text.proofs.HeaderLaws.{header_ok, header_again, header_lacks}
-use Rattle.lset_text.proofs.OpeningLaws.{openings_lack}
+use Rattle.lset_words.specs.declared.Call.TheVariants as call
+use Rattle.lset_text.specs.declared.words.CallWord.{CallWord}
+use Rattle.lset_text.specs.declared.words.CallWord.TheVariants.{Add, Remove, Contains, Ceiling}
 use Rattle.lset_text.specs.declared.words.Version.{Version}
 use Rattle.lset_text.specs.declared.words.Version.TheVariants.{One, Two}
+use Rattle.lset_text.specs.Parts.{cut_at, Lacks}
+use Rattle.lset_text.specs.Forms.{spell, have_form}
+use Rattle.lset_text.specs.Spellings.{with_key, HasWord}
+use Rattle.lset_text.specs.Headers.{header_of, told_by_line}
+use Rattle.lset_text.specs.Openings.{opening_form}
+use Rattle.lset_text.proofs.PartLaws.{Lacks-from_test}
+use Rattle.lset_text.proofs.ReadingLaws.{bind_ok, ok_is}
+use Rattle.lset_text.proofs.KindLaws.{Knows, IsMade}
 use Rattle.lset_schedule.specs.declared.value.Line.{Line}
+use Rattle.lset_schedule.specs.declared.value.Line.TheVariants.{Begin, Go}
 use Rattle.lset_schedule.specs.declared.value.Schedule.{Schedule}
 use Rattle.lset_schedule.specs.declared.fault.Cause.{Cause}
 use Rattle.lset_schedule.specs.declared.fault.Cause.TheVariants.{Header as OfHeader, Kind, Threads, Quota, Event, Number}
 use Rattle.lset_schedule.specs.declared.fault.Cause.TheVariants.{TooMany, Opening, NotEnded, Memory}
 use Rattle.lset_schedule.specs.declared.fault.ScheduleFault.{ScheduleFault}
-use Rattle.lset_schedule.specs.Plan.{Plan, view, planned, header_in, line_text, title, schedule_lines, schedule_text, event_count}
-use Rattle.lset_schedule.specs.Plan.{first_line, IsLine, IsSchedule}
-use Rattle.lset_schedule.specs.ScheduleReading.{fault, in_schedule, event_of, within, event_after, events_at, plan_in}
-use Rattle.lset_schedule.specs.ScheduleReading.{version_told, plan_of, reading, Gives}
-use Rattle.lset_schedule.specs.ScheduleReading.{is_due, openings_of, body_of}
-use Rattle.lset_schedule.proofs.EventLaws.{event_ok, event_again, event_lacks, no_opening}
-use Rattle.lset_schedule.proofs.OpeningLaws.{AreKeys, openings_ok, openings_again}
-use Rattle.lset_schedule.proofs.LoopLaws.{within_ok}
+use Rattle.lset_schedule.specs.Plan.{Plan, view, header_in, pieces_of, title, schedule_lines, schedule_text, IsLine, IsSchedule}
+use Rattle.lset_schedule.specs.ScheduleReading.{fault, BodyValue, begin_kind, events, plan_told, plan_in, version_told, plan_of, text_in}
+use Rattle.lset_schedule.specs.ScheduleReading.{reading, Gives}
+use Rattle.lset_schedule.proofs.BodyLaws.{HasText, text_found, text_cut, text_again}
 
--- ---- the lines of events
+-- ---- the kinds of lines of events
 
-abbrev counted : Version → ℕ → ℕ → List ℕ → Result Line ScheduleFault
-counted v line total x = map_fault (fault line) (event_after v total x)
+begun : (v : Version) (n : ℕ) (w : CallWord) (k : ℕ) → n < 2 ^ 32 → k < 2 ^ 32 → HasWord v w
+    → (spell begin_kind.0 (tt, (n, (w, (k, tt)))) ≡ pieces_of (Begin n (with_key w (record { 0 = k }))))
+    × IsLine v (Begin n (with_key w (record { 0 = k })))
+begun v n Add k nl kl has = (refl, (nl, kl, has))
+begun v n Remove k nl kl has = (refl, (nl, kl, has))
+begun v n Contains k nl kl has = (refl, (nl, kl, has))
+begun v n Ceiling k nl kl has = (refl, (nl, kl, has))
 
--- a line of an event that the total has room for
-abbrev IsCounted : Version → ℕ → List ℕ → Line → Type 0
-IsCounted v total x e = (x ≡ line_text e) × IsLine v e × (total + event_count e ≤ MOST_EVENTS)
+pub events_known : (v : Version) → AllByRecursion (Knows v pieces_of (IsLine v)) events.kinds
+events_known v = (
+  (
+    (refl, (omega arith, (tt, (omega arith, tt)))),
+    λ t fit. begun v t.1.0 t.1.1.0 t.1.1.1.0 (omega (arith, fit.1.0.1))
+        (omega (arith, fit.1.1.1.0.1)) fit.1.1.0,
+  ),
+  (((refl, (omega arith, (omega arith, tt))), λ t fit. (refl, (omega (arith, fit.1.0.1), fit.1.1.0.0, fit.1.1.0.1))), tt),
+)
 
-counted_ok : (v : Version) (line total : ℕ) (x : List ℕ) (e : Line) → counted v line total x ≡ Ok e → IsCounted v total x e
-counted_ok v line total x e is =
-    let event = bind_ok (event_of v x) (within total) e (map_fault_ok (fault line) (event_after v total x) e is) in
-    let few = within_ok total event.0 e event.2 in
-    let text = event_ok v x event.0 event.1 in
-    subst (IsCounted v total x) few.0 (text.0, text.1, few.1)
+begins : (v : Version) (n : ℕ) (w : CallWord) (k : ℕ) → IsLine v (Begin n (with_key w (record { 0 = k }))) → HasWord v w → k < 2 ^ 32
+    → IsMade v pieces_of events.kinds (Begin n (with_key w (record { 0 = k })))
+begins v n w k is has low =
+    inl ((tt, (n, (w, (k, tt)))), refl, (tt, ((omega arith, omega (arith, is.0)), (has, ((omega arith, omega (arith, low)), tt)))))
 
-abbrev AreRead : Version → ℕ → List (List ℕ) → List Line → Type 0
-AreRead v total parts es =
-    (parts ≡ map line_text es ++ [] ∷ []) × AllByRecursion (IsLine v) es × (total + sum_by event_count es ≤ MOST_EVENTS)
+pub event_made : (v : Version) (l : Line) → IsLine v l → IsMade v pieces_of events.kinds l
+event_made v (Go t n) is =
+    inr (refl, inl ((tt, (t, (n, tt))), refl, (tt, ((omega arith, omega (arith, is.0)), ((is.1, is.2), tt)))))
+event_made v (Begin t (call.Add k)) is = begins v t Add k.0 is is.2 is.1
+event_made v (Begin t (call.Remove k)) is = begins v t Remove k.0 is is.2 is.1
+event_made v (Begin t (call.Contains k)) is = begins v t Contains k.0 is is.2 is.1
+event_made v (Begin t (call.Ceiling k)) is = begins v t Ceiling k.0 is is.2 is.1
 
-last_ok : (b : Bool) (line : ℕ) (es : List Line) → cond b (Ok []) (Err (fault line NotEnded)) ≡ Ok es → (b ≡ true) × ([] ≡ es)
-last_ok true line es is = (refl, cc)
-last_ok false line es is = absurd cc
-
--- what is left to read after an event
-abbrev events_from : Version → ℕ → ℕ → List (List ℕ) → Line → Result (List Line) ScheduleFault
-events_from v line total parts e = events_at v (line + 1) (total + event_count e) parts >>= λ es. Ok (e ∷ es)
-
-events_ok : (v : Version) (line total : ℕ) (x : List ℕ) (parts : List (List ℕ)) (es : List Line) → total ≤ MOST_EVENTS
-    → events_at v line total (x ∷ parts) ≡ Ok es → AreRead v total (x ∷ parts) es
-unfolding events_at
-events_ok v line total x [] es few is =
-    let last = last_ok (eqb (length x) 0) line es is in
-    let none : x ≡ [] = nil_from_length x (eqb-true _ _ last.0) in
-    subst (AreRead v total (x ∷ [])) last.1 (ap (λ (t : List ℕ). t ∷ []) none, tt, omega (arith, few))
-events_ok v line total x (y ∷ more) es few is =
-    let e = bind_ok (counted v line total x) (events_from v line total (y ∷ more)) es is in
-    let rest = bind_ok (events_at v (line + 1) (total + event_count e.0) (y ∷ more)) (λ rest. Ok (e.0 ∷ rest)) es e.2 in
-    let one = counted_ok v line total x e.0 e.1 in
-    let others = events_ok v (line + 1) (total + event_count e.0) y more rest.0 one.2 rest.1 in
-    let parts : x ∷ y ∷ more ≡ map line_text (e.0 ∷ rest.0) ++ [] ∷ [] =
-    cons_same x (line_text e.0) (y ∷ more) (map line_text rest.0 ++ [] ∷ []) one.0 others.0 in
-    subst (AreRead v total (x ∷ y ∷ more)) (ok_is (e.0 ∷ rest.0) es rest.2)
-    (parts, (one.1, others.1), omega (arith, others.2, sum_by-cons event_count e.0 rest.0))
-  where
-    cons_same : (a b : List ℕ) (xs ys : List (List ℕ)) → a ≡ b → xs ≡ ys → a ∷ xs ≡ b ∷ ys
-    cons_same a b xs ys e f = cc
-
-some_more : (ls : List (List ℕ)) → (y : List ℕ) × (more : List (List ℕ)) × (ls ++ [] ∷ [] ≡ y ∷ more)
-some_more [] = ([], [], refl)
-some_more (l ∷ ls) = (l, ls ++ [] ∷ [], refl)
-
-counted_again : (v : Version) (line total : ℕ) (e : Line) → IsLine v e → total + event_count e ≤ MOST_EVENTS
-    → counted v line total (line_text e) ≡ Ok e
-counted_again v line total e is few = rw (event_again v e is, le-ltb MOST_EVENTS (total + event_count e) few) refl
-
-events_go : (v : Version) (line total : ℕ) (x : List ℕ) (parts : List (List ℕ)) (e : Line)
-    → ((y : List ℕ) × (more : List (List ℕ)) × (parts ≡ y ∷ more))
-    → counted v line total x ≡ Ok e → events_at v line total (x ∷ parts) ≡ events_from v line total parts e
-unfolding events_at
-events_go v line total x parts e some is = rw some.2 (rw is refl)
-
-events_again : (v : Version) (line total : ℕ) (es : List Line) → AllByRecursion (IsLine v) es →
-    total + sum_by event_count es ≤ MOST_EVENTS
-    → events_at v line total (map line_text es ++ [] ∷ []) ≡ Ok es
-unfolding events_at
-events_again v line total [] are few = refl
-events_again v line total (e ∷ es) are few =
-    let sum = sum_by-cons event_count e es in
-    let one = counted_again v line total e are.0 (omega (arith, sum, few)) in
-    let go = events_go v line total (line_text e) (map line_text es ++ [] ∷ []) e (some_more (map line_text es)) one in
-    go ∙ rw (events_again v (line + 1) (total + event_count e) es are.1 (omega (arith, sum, few))) refl
+-- it has three pieces or four
+pub no_opening : (v : Version) (l : Line) → IsLine v l → have_form v opening_form (pieces_of l) ≡ false
+no_opening v (Begin t c) is = refl
+no_opening v (Go t n) is = refl
 
 -- ---- the whole
-
-abbrev IsFound : List (List ℕ) → Plan → Type 0
-IsFound parts p = (parts ≡ schedule_lines p ++ [] ∷ []) × IsSchedule p
-
-events_found : (v : Version) (line : ℕ) (parts : List (List ℕ)) (es : List Line) → 0 < length parts →
-    events_at v line 0 parts ≡ Ok es
-    → AreRead v 0 parts es
-events_found v line [] es some is = absurd (omega arith)
-events_found v line (x ∷ parts) es some is = events_ok v line 0 x parts es (omega arith) is
-
--- what is left to read after the lines of the opening keys, and after the header
-abbrev body_from : Version → List ℕ × List (List ℕ) → Result (List ℕ × List Line) ScheduleFault
-body_from v opens = events_at v (first_line + length opens.0) 0 opens.1 >>= λ lines. Ok (opens.0, lines)
-
-abbrev plan_from : Version → Header × List (List ℕ) → Result Plan ScheduleFault
-plan_from v head = body_of v head.1 >>= λ body. Ok (planned v head.0 body.0 body.1)
-
--- the parts after a header
-abbrev AreBody : Version → List (List ℕ) → List ℕ × List Line → Type 0
-AreBody v parts body =
-    (parts ≡ opening_lines body.0 ++ (map line_text body.1 ++ [] ∷ [])) × AreKeys body.0 × HasOpening v body.0
-    × AllByRecursion (IsLine v) body.1 × (sum_by event_count body.1 ≤ MOST_EVENTS)
-
-body_ok : (v : Version) (parts : List (List ℕ)) (body : List ℕ × List Line) → 0 < length parts → body_of v parts ≡ Ok body
-    → AreBody v parts body
-unfolding body_of
-body_ok v parts body some is =
-    let opens = bind_ok (openings_of v parts) (body_from v) body is in
-    let first = first_line + length opens.0.0 in
-    let lines = bind_ok (events_at v first 0 opens.0.1) (λ lines. Ok (opens.0.0, lines)) body opens.2 in
-    let keys = openings_ok v parts opens.0 some opens.1 in
-    let events = events_found v first opens.0.1 lines.0 keys.3 lines.1 in
-    let all = keys.0 ∙ ap (λ (ps : List (List ℕ)). opening_lines opens.0.0 ++ ps) events.0 in
-    subst (AreBody v parts) (ok_is (opens.0.0, lines.0) body lines.2) (all, keys.1, keys.2, events.1, omega (arith, events.2))
-
-plan_ok : (v : Version) (parts : List (List ℕ)) (p : Plan) → plan_in v parts ≡ Ok p → IsFound parts p
-unfolding plan_in
-plan_ok v parts p is =
-    let head = bind_ok (map_fault in_schedule (header_of (title v) parts)) (plan_from v) p is in
-    let body = bind_ok (body_of v head.0.1) (λ body. Ok (planned v head.0.0 body.0 body.1)) p head.2 in
-    let header = header_ok (title v) parts head.0 (map_fault_ok in_schedule (header_of (title v) parts) head.0 head.1) in
-    let after = body_ok v head.0.1 body.0 header.2 body.1 in
-    let keys = body.0.0 in
-    let regrouped : opening_lines keys ++ (map line_text body.0.1 ++ [] ∷ []) ≡ opening_lines keys ++ map line_text body.0.1 ++ []
-    ∷ [] =
-    sym (append_assoc (opening_lines keys) (map line_text body.0.1) ([] ∷ [])) in
-    let all : parts ≡ schedule_lines (planned v head.0.0 keys body.0.1) ++ [] ∷ [] =
-    header.0 ∙ ap (λ (ps : List (List ℕ)). header_lines (title v) head.0.0 ++ ps) (after.0 ∙ regrouped) in
-    let opens : Opens (record { threads = head.0.0.threads; quota = head.0.0.quota; keys = keys }) = record {
-      within = record { some = header.1.some; few = header.1.few; small = header.1.small; opens = after.1.2 };
-      rising = after.1.0;
-      low = after.1.1;
-    } in
-    subst (IsFound parts) (ok_is (planned v head.0.0 keys body.0.1) p body.2)
-    (all, record { opens = opens; opening = after.2; lines = after.3; few = after.4 })
-
--- a schedule that can be read has a header and opening keys
-header_fits : (p : Plan) → IsSchedule p → IsHeader (header_in p)
-header_fits p is = record {
-  some = is.opens.within.some;
-  few = is.opens.within.few;
-  small = is.opens.within.small;
-  opens = omega arith;
-}
-
-keys_fit : (p : Plan) → IsSchedule p → AreKeys p.opening
-keys_fit p is = (is.opens.rising, is.opens.low, is.opens.within.opens)
-
--- no line of an event is one of an opening key
-events_not_due : (v : Version) (es : List Line) → AllByRecursion (IsLine v) es → is_due (map line_text es ++ [] ∷ []) ≡ false
-events_not_due v [] are = refl
-events_not_due v (e ∷ es) are = rw ((some_more (map line_text es)).2) (no_opening v e are.0)
-
-body_again : (p : Plan) → IsSchedule p
-    → body_of p.version (opening_lines p.opening ++ (map line_text p.lines ++ [] ∷ [])) ≡ Ok (p.opening, p.lines)
-unfolding body_of
-body_again p is =
-    let rest : List (List ℕ) = map line_text p.lines ++ [] ∷ [] in
-    let opens = openings_again p.version p.opening rest (keys_fit p is) is.opening (events_not_due p.version p.lines is.lines)
-    (omega (arith, length-append (map line_text p.lines) ([] ∷ []))) in
-    rw (opens, events_again p.version (first_line + length p.opening) 0 p.lines is.lines (omega (arith, is.few))) refl
-
-plan_again : (p : Plan) → IsSchedule p → plan_in p.version (schedule_lines p ++ [] ∷ []) ≡ Ok p
-unfolding plan_in
-plan_again p is =
-    let keys = opening_lines p.opening in
-    let ls = map line_text p.lines in
-    let rest : List (List ℕ) = keys ++ (ls ++ [] ∷ []) in
-    let grouped : schedule_lines p ++ [] ∷ [] ≡ header_lines (title p.version) (header_in p) ++ rest =
-    ap (λ (ps : List (List ℕ)). header_lines (title p.version) (header_in p) ++ ps) (append_assoc keys ls ([] ∷ [])) in
-    let some = some_more (keys ++ ls) in
-    let first : rest ≡ some.0 ∷ some.1 = sym (append_assoc keys ls ([] ∷ [])) ∙ some.2 in
-    let head : header_of (title p.version) (header_lines (title p.version) (header_in p) ++ rest) ≡ Ok (header_in p, rest) =
-    rw first (header_again (title p.version) (header_in p) some.0 some.1 (header_fits p is)) in
-    rw (grouped, head, body_again p is) refl
 
 -- the first line tells the version
 version_again : (v : Version) → cond (bytes_eq (title v) (title Two)) Two One ≡ v
@@ -213,7 +75,7 @@ version_again Two = refl
 
 -- a first line without its newline is not ended, in either version
 pub title_not_ended : (v : Version) → reading (title v) ≡ Err (fault 1 NotEnded)
-unfolding plan_in header_of told_by_line
+unfolding text_in header_of told_by_line
 title_not_ended One = refl
 title_not_ended Two = refl
 
@@ -221,40 +83,28 @@ title_lacks : (v : Version) → Lacks 10 (title v)
 title_lacks One = Lacks-from_test 10 (title One) refl
 title_lacks Two = Lacks-from_test 10 (title Two) refl
 
-lines_lack : (v : Version) (es : List Line) → AllByRecursion (IsLine v) es → AllByRecursion (Lacks 10) (map line_text es)
-lines_lack v [] are = tt
-lines_lack v (e ∷ es) are = (event_lacks v e are.0, lines_lack v es are.1)
-
-both_lack : (xs ys : List (List ℕ)) → AllByRecursion (Lacks 10) xs → AllByRecursion (Lacks 10) ys →
-    AllByRecursion (Lacks 10) (xs ++ ys)
-both_lack [] ys xl yl = yl
-both_lack (x ∷ xs) ys xl yl = (xl.0, both_lack xs ys xl.1 yl)
-
-schedule_lacks : (p : Plan) → IsSchedule p → AllByRecursion (Lacks 10) (schedule_lines p)
-schedule_lacks p is =
-    let h = header_lacks (title p.version) (header_in p) (title_lacks p.version) (header_fits p is) in
-    let keys = openings_lack p.opening (recursion_from_All (λ (k : ℕ). k < 2 ^ 32) p.opening is.opens.low) in
-    let lines = lines_lack p.version p.lines is.lines in
-    (h.0, (h.1.0, (h.1.1.0, (h.1.1.1.0, both_lack (opening_lines p.opening) (map line_text p.lines) keys lines))))
-
 pub is_found : (bytes : List ℕ) (p : Plan) → reading bytes ≡ Ok p → IsSchedule p × (bytes ≡ schedule_text p)
 is_found bytes p is =
-    let found = plan_ok (version_told (cut_at 10 bytes)) (cut_at 10 bytes) p is in
-    (found.1, text_from_lines bytes (schedule_lines p) found.0)
+    let v = version_told (cut_at 10 bytes) in
+    let told = bind_ok (text_in events v (title v) (cut_at 10 bytes)) (λ told. Ok (plan_told v told)) p is in
+    let found = text_found events v pieces_of (IsLine v) (events_known v) (event_made v) (no_opening v) (title v) bytes told.0 told.1 in
+    subst (λ q. IsSchedule q × (bytes ≡ schedule_text q)) (ok_is (plan_told v told.0) p told.2)
+    (record { opens = found.0.opens; opening = found.0.opening; lines = found.0.lines; few = found.0.few }, found.1)
 
 pub reads_text : (p : Plan) → IsSchedule p → reading (schedule_text p) ≡ Ok p
 reads_text p is =
+    let v = p.version in
     let parts : List (List ℕ) = schedule_lines p ++ [] ∷ [] in
-    ap plan_of (cut_lines (schedule_lines p) (schedule_lacks p is))
-    ∙ ap (λ v. plan_in v parts) (version_again p.version)
-    ∙ plan_again p is
+    let body : BodyValue Line = record { keys = p.opening; lines = p.lines } in
+    let has : HasText events v (IsLine v) (header_in p) body =
+    record { opens = is.opens; opening = is.opening; lines = is.lines; few = is.few } in
+    let cut = text_cut events v pieces_of (IsLine v) (events_known v) (event_made v) (no_opening v) (title v) (header_in p) body
+    (title_lacks v) has in
+    let again = text_again events v pieces_of (IsLine v) (events_known v) (event_made v) (no_opening v) (title v) (header_in p) body has
+    in
+    ap plan_of cut ∙ ap (λ w. plan_in w parts) (version_again v) ∙ rw again refl
 
 -- ---- as a reader's clauses
-
-pub found_in : (bytes : List ℕ) (r : Result Schedule ScheduleFault) → Gives view r (reading bytes)
-    → IfOk r (λ s. IsSchedule (view s) × (bytes ≡ schedule_text (view s)))
-found_in bytes (Ok s) gives = is_found bytes (view s) gives
-found_in bytes (Err e) gives = tt
 
 -- a cause that cannot be another one is want of memory
 is_memory : (c : Cause) → (c ≢ Memory → ⊥) → c ≡ Memory
@@ -269,13 +119,19 @@ is_memory TooMany h = absurd (h (λ e. cc))
 is_memory Opening h = absurd (h (λ e. cc))
 is_memory NotEnded h = absurd (h (λ e. cc))
 
-gives_ok : (r : Result Schedule ScheduleFault) (p : Plan) → Gives view r (Ok p)
-    → MatchResult r (λ s. view s ≡ p) (λ e. e.cause ≡ Memory)
-gives_ok (Ok s) p gives = sym (ok_is p (view s) gives)
-gives_ok (Err e) p gives = is_memory e.cause (λ other. let bad = gives other in cc)
+-- where a value is read, it is given, unless memory ran out
+pub gives_ok : {X Y : Type 0} (view : X → Y) (r : Result X ScheduleFault) (y : Y) → Gives view r (Ok y)
+    → MatchResult r (λ x. view x ≡ y) (λ e. e.cause ≡ Memory)
+gives_ok view (Ok x) y gives = sym (ok_is y (view x) gives)
+gives_ok view (Err e) y gives = is_memory e.cause (λ other. let bad = gives other in cc)
+
+pub found_in : (bytes : List ℕ) (r : Result Schedule ScheduleFault) → Gives view r (reading bytes)
+    → IfOk r (λ s. IsSchedule (view s) × (bytes ≡ schedule_text (view s)))
+found_in bytes (Ok s) gives = is_found bytes (view s) gives
+found_in bytes (Err e) gives = tt
 
 pub only_in : (bytes : List ℕ) (r : Result Schedule ScheduleFault) → Gives view r (reading bytes) → (p : Plan) → IsSchedule p
     → bytes ≡ schedule_text p → MatchResult r (λ s. view s ≡ p) (λ e. e.cause ≡ Memory)
 only_in bytes r gives p is text =
     let read : reading bytes ≡ Ok p = ap reading text ∙ reads_text p is in
-    gives_ok r p (subst (Gives view r) read gives)
+    gives_ok view r p (subst (Gives view r) read gives)

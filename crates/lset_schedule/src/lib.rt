@@ -2,6 +2,7 @@
 //! text, read, written and drawn at random. (This project's own format.)
 #![tactic(auto)]
 
+mod body;
 mod draws;
 mod fault;
 mod generator;
@@ -9,11 +10,12 @@ mod reading;
 mod value;
 mod writing;
 
+pub use body::{Body, EventLine, read_text};
 pub use draws::programs;
 pub use fault::{Cause, GenFault, ScheduleFault};
 pub use generator::generate;
 pub use lset_text::Version;
-pub use reading::{read_event, read_openings, read_schedule, schedules_read_back};
+pub use reading::{read_schedule, schedules_read_back};
 pub use value::{Line, Schedule};
 pub use writing::write_schedule;
 

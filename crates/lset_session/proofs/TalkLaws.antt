@@ -24,7 +24,7 @@ use Rattle.lset_session.specs.declared.requests.Request.TheVariants as request
 use Rattle.lset_session.specs.Devices.{CutShort, Writes}
 use Rattle.lset_session.specs.SessionText.{Turn, line, long, limit, turns_after, turns_at, turns_of, request_of, end_after}
 use Rattle.lset_session.specs.SessionText.{end_of}
-use Rattle.lset_session.specs.SessionText.{Exchange, made, bad, bye, too_long, at_limit, turn_of, answer_of, call_of, turns_in}
+use Rattle.lset_session.specs.SessionText.{Exchange, made, too_long, at_limit, turn_of, answer_of, call_of, turns_in}
 use Rattle.lset_session.specs.SessionText.{answers_in, calls_in}
 use Rattle.lset_session.specs.Sessions.{Wrote, text_end, IsSession}
 use Rattle.lset_session.specs.Talks.{WroteSoFar, IsLast, Told, Heard, counted, failed_by, ending}
@@ -79,47 +79,31 @@ turns_rest left p lacks short =
 pub turns_quit : (left : ℕ) (e : Exchange) (q : Request) (later : List Turn) → turn_of e ≡ line q → q ≡ request.Quit
     → turns_after left q later ≡ turn_of e ∷ []
 turns_quit left e request.Quit later h is = ap (λ (t : Turn). t ∷ []) (sym h)
-turns_quit left e request.Bad later h is = absurd cc
-turns_quit left e (request.Call c) later h is = absurd cc
+turns_quit left e q later h is = absurd cc
 
 pub turns_other : (left : ℕ) (e : Exchange) (q : Request) (later : List Turn) → turn_of e ≡ line q → q ≢ request.Quit
     → turns_after left q later ≡ turn_of e ∷ (if eqb left 1 then limit ∷ [] else later)
 turns_other left e request.Quit later h other = absurd (other refl)
-turns_other left e request.Bad later h other = ap (λ (t : Turn). t ∷ (if eqb left 1 then limit ∷ [] else later)) (sym h)
-turns_other left e (request.Call c) later h other = ap (λ (t : Turn). t ∷ (if eqb left 1 then limit ∷ [] else later)) (sym h)
+turns_other left e q later h other = ap (λ (t : Turn). t ∷ (if eqb left 1 then limit ∷ [] else later)) (sym h)
 
 first_turn : (left : ℕ) (e : Exchange) (q : Request) (later : List Turn) → turn_of e ≡ line q
     → (others : List Turn) × (turns_after left q later ≡ turn_of e ∷ others)
 first_turn left e request.Quit later h = ([], turns_quit left e request.Quit later h refl)
-first_turn left e request.Bad later h = (_, turns_other left e request.Bad later h (λ bad. absurd cc))
-first_turn left e (request.Call c) later h = (_, turns_other left e (request.Call c) later h (λ bad. absurd cc))
+first_turn left e q later h = (_, turns_other left e q later h (λ bad. absurd cc))
 
 end_quit : (e : Exchange) (q : Request) → turn_of e ≡ line q → q ≡ request.Quit → end_of (turn_of e ∷ []) ≡ why.Quit
 end_quit e request.Quit h is = ap (λ t. end_after t why.End) h
-end_quit e request.Bad h is = absurd cc
-end_quit e (request.Call c) h is = absurd cc
+end_quit e q h is = absurd cc
 
 end_other : (e : Exchange) (q : Request) (w : Why) → turn_of e ≡ line q → q ≢ request.Quit → end_after (turn_of e) w ≡ w
 end_other e request.Quit w h other = absurd (other refl)
-end_other e request.Bad w h other = ap (λ t. end_after t w) h
-end_other e (request.Call c) w h other = ap (λ t. end_after t w) h
+end_other e q w h other = ap (λ t. end_after t w) h
 
 pub counted_is : (e : Exchange) (q : Request) → turn_of e ≡ line q → length (call_of e) ≡ counted q
-counted_is (made c) request.Quit h = absurd cc
-counted_is (made c) request.Bad h = absurd cc
 counted_is (made c) (request.Call d) h = refl
-counted_is bad request.Quit h = refl
-counted_is bad request.Bad h = refl
-counted_is bad (request.Call d) h = absurd cc
-counted_is bye request.Quit h = refl
-counted_is bye request.Bad h = refl
-counted_is bye (request.Call d) h = absurd cc
-counted_is too_long request.Quit h = refl
-counted_is too_long request.Bad h = refl
-counted_is too_long (request.Call d) h = absurd cc
-counted_is at_limit request.Quit h = refl
-counted_is at_limit request.Bad h = refl
-counted_is at_limit (request.Call d) h = absurd cc
+counted_is (made c) q h = absurd cc
+counted_is e (request.Call d) h = absurd cc
+counted_is e q h = refl
 
 -- ---- what was heard
 
@@ -262,8 +246,7 @@ module _ (left left' : ℕ) (p p' : List ℕ) (r r' : Record) (w w' : Option (Li
 end_append : (ts us : List Turn) → end_of ts ≡ why.End → end_of (ts ++ us) ≡ end_of us
 end_append [] us h = refl
 end_append (line request.Quit ∷ ts) us h = absurd cc
-end_append (line request.Bad ∷ ts) us h = end_append ts us h
-end_append (line (request.Call c) ∷ ts) us h = end_append ts us h
+end_append (line q ∷ ts) us h = end_append ts us h
 end_append (long ∷ ts) us h = absurd cc
 end_append (limit ∷ ts) us h = absurd cc
 
@@ -315,11 +298,7 @@ wrote_then (Some why.WriteFault) w w' w'' s t h (said, last, front, b, cut, all,
       (sym (append_assoc (answers_in s) (answers_in said) front) ∙ ap (λ l. l ++ front) (sym (flat_map-append answer_of s said)))
       (Appends-trans w w' w'' (answers_in s) (answers_in said ++ front) h k),
 )
-wrote_then (Some why.Quit) w w' w'' s t h k = wrote_whole w w' w'' s t h k
-wrote_then (Some why.End) w w' w'' s t h k = wrote_whole w w' w'' s t h k
-wrote_then (Some why.Long) w w' w'' s t h k = wrote_whole w w' w'' s t h k
-wrote_then (Some why.Limit) w w' w'' s t h k = wrote_whole w w' w'' s t h k
-wrote_then (Some why.ReadFault) w w' w'' s t h k = wrote_whole w w' w'' s t h k
+wrote_then (Some o) w w' w'' s t h k = wrote_whole w w' w'' s t h k
 
 pub heard_then : (l l' l'' : ℕ) (p p' p'' cs : List ℕ) (o : Option Why) (r r' r'' : Record) (w w' w'' : Option (List ℕ))
     (n n' n'' : ℕ)
@@ -439,20 +418,13 @@ spoken_last end bytes left p r r' s s' w w' n read h =
     not_end end l is = subst IsLast is l
 
     itself : (end : Why) → IsLast end → end ≡ text_end end
-    itself why.Quit l = refl
-    itself why.Long l = refl
-    itself why.Limit l = refl
-    itself why.WriteFault l = refl
     itself why.End l = absurd l
     itself why.ReadFault l = absurd l
+    itself end l = refl
 
 pub not_reading : (end : Why) → IsLast end → end ≡ why.ReadFault → ⊥
 not_reading end l is = subst IsLast is l
 
 pub failed_is : (end : Why) (b : Bool) → b ≡ failed_by (Some end) → IsTrue b ↔ (end ≡ why.WriteFault)
-failed_is why.Quit b h = (λ t. absurd (false≢true (sym h ∙ t)), λ e. absurd cc)
-failed_is why.End b h = (λ t. absurd (false≢true (sym h ∙ t)), λ e. absurd cc)
-failed_is why.Long b h = (λ t. absurd (false≢true (sym h ∙ t)), λ e. absurd cc)
-failed_is why.Limit b h = (λ t. absurd (false≢true (sym h ∙ t)), λ e. absurd cc)
-failed_is why.ReadFault b h = (λ t. absurd (false≢true (sym h ∙ t)), λ e. absurd cc)
 failed_is why.WriteFault b h = (λ t. refl, λ e. h)
+failed_is end b h = (λ t. absurd (false≢true (sym h ∙ t)), λ e. absurd cc)

@@ -1,15 +1,18 @@
 -- [Session text]: what the lines of a session ask for, and what is answered. It speaks of all bytes of the input at once, cut at
 -- newlines.
-use Rattle.std.specs.Prelude.{ℕ, ◌-◌, ◌==◌, nat_lt, List, [], ◌∷◌, ◌++◌, map, length, codes, Option, Some, None, if◌then◌else◌}
+use Rattle.std.specs.Prelude.{ℕ, ◌-◌, ◌==◌, nat_lt, List, [], ◌∷◌, ◌++◌, map, length, codes, if◌then◌else◌}
 use Rattle.std.specs.Fmt.{decimal}
 use Rattle.std.specs.List.{flat_map}
-use Rattle.std.specs.Str.{bytes_eq}
+use Rattle.std.specs.Result.{result_unwrap_or}
 use Rattle.lset_words.specs.declared.Key.{Key}
+use Rattle.lset_words.specs.declared.Call.{Call}
 use Rattle.lset_words.specs.declared.Call.TheVariants.{Add, Remove, Contains, Ceiling}
 use Rattle.lset_words.specs.declared.Reply.{Reply}
 use Rattle.lset_words.specs.declared.Reply.TheVariants as reply
 use Rattle.lset_text.specs.Parts.{cut_at, ended}
-use Rattle.lset_text.specs.Numbers.{number_in, max_number}
+use Rattle.lset_text.specs.declared.words.Version.TheVariants.{Two}
+use Rattle.lset_text.specs.Forms.{word, any}
+use Rattle.lset_text.specs.Kinds.{LineKind, first_of}
 use Rattle.lset_words.specs.Records.{CallMade}
 use Rattle.lset_session.specs.declared.TheConstants.{LONGEST_LINE, MOST_LINES}
 use Rattle.lset_session.specs.declared.requests.Request.{Request}
@@ -19,23 +22,19 @@ use Rattle.lset_session.specs.declared.sessions.Why.TheVariants as why
 
 -- ---- what a line asks for
 
-abbrev pub call_in : List ℕ → Key → Request
-call_in word key =
-    if bytes_eq word (codes "ADD") then request.Call (Add key)
-    else (if bytes_eq word (codes "REMOVE") then request.Call (Remove key)
-    else (if bytes_eq word (codes "CONTAINS") then request.Call (Contains key)
-    else (if bytes_eq word (codes "CEILING") then request.Call (Ceiling key)
-    else request.Bad)))
+-- the line of a call: its word and a key
+abbrev pub call_line : List ℕ → (Key → Call) → LineKind Request
+call_line name call = (word name ∷ any ∷ [], λ t. request.Call (call (record { 0 = t.1.0 })))
 
-abbrev pub call_with : List ℕ → Option ℕ → Request
-call_with word None = request.Bad
-call_with word (Some k) = call_in word (record { 0 = k })
+abbrev pub request_lines : List (LineKind Request)
+request_lines =
+    call_line (codes "ADD") (λ k. Add k) ∷ call_line (codes "REMOVE") (λ k. Remove k)
+    ∷ call_line (codes "CONTAINS") (λ k. Contains k) ∷ call_line (codes "CEILING") (λ k. Ceiling k)
+    ∷ (word (codes "QUIT") ∷ [], λ t. request.Quit) ∷ []
 
 abbrev pub request_of_pieces : List (List ℕ) → Request
-request_of_pieces [] = request.Bad
-request_of_pieces (a ∷ []) = if bytes_eq a (codes "QUIT") then request.Quit else request.Bad
-request_of_pieces (a ∷ b ∷ []) = call_with a (number_in 0 max_number b)
-request_of_pieces (a ∷ b ∷ c ∷ more) = request.Bad
+request_of_pieces pieces =
+    result_unwrap_or (first_of Two (record { form = request.Bad; number = request.Bad }) request_lines pieces) request.Bad
 
 -- the request of a line, without its newline
 unfoldable pub request_of : List ℕ → Request
@@ -52,8 +51,7 @@ pub data Turn : Type 0 where
 -- the turn of a line, and those after it: none after QUIT, and the limit where no further line may be answered
 abbrev pub turns_after : ℕ → Request → List Turn → List Turn
 turns_after left request.Quit later = line request.Quit ∷ []
-turns_after left request.Bad later = line request.Bad ∷ (if left == 1 then limit ∷ [] else later)
-turns_after left (request.Call c) later = line (request.Call c) ∷ (if left == 1 then limit ∷ [] else later)
+turns_after left other later = line other ∷ (if left == 1 then limit ∷ [] else later)
 
 -- the turns of the parts between newlines, where `left` more lines may be answered; the last part has no newline
 abbrev pub turns_at : ℕ → List (List ℕ) → List Turn
@@ -69,8 +67,7 @@ turns_of bytes = turns_at MOST_LINES (cut_at 10 bytes)
 -- how a session with these turns ends
 abbrev pub end_after : Turn → Why → Why
 end_after (line request.Quit) otherwise = why.Quit
-end_after (line request.Bad) otherwise = otherwise
-end_after (line (request.Call c)) otherwise = otherwise
+end_after (line other) otherwise = otherwise
 end_after long otherwise = why.Long
 end_after limit otherwise = why.Limit
 
@@ -112,10 +109,7 @@ answer_of at_limit = ended (codes "LIMIT")
 
 abbrev pub call_of : Exchange → List CallMade
 call_of (made c) = c ∷ []
-call_of bad = []
-call_of bye = []
-call_of too_long = []
-call_of at_limit = []
+call_of other = []
 
 abbrev pub turns_in : List Exchange → List Turn
 turns_in talk = map turn_of talk

@@ -15,20 +15,12 @@ CutAnswers w w' talk =
 -- what was written of the answers, where the session has ended so
 abbrev pub Wrote : Why → Option (List ℕ) → Option (List ℕ) → List Exchange → Type 0
 Wrote why.WriteFault w w' talk = CutAnswers w w' talk
-Wrote why.Quit w w' talk = Appends w w' (answers_in talk)
-Wrote why.End w w' talk = Appends w w' (answers_in talk)
-Wrote why.Long w w' talk = Appends w w' (answers_in talk)
-Wrote why.Limit w w' talk = Appends w w' (answers_in talk)
-Wrote why.ReadFault w w' talk = Appends w w' (answers_in talk)
+Wrote end w w' talk = Appends w w' (answers_in talk)
 
 -- how the text that was read ends, where the session has ended so: a reader that has failed has ended no text
 abbrev pub text_end : Why → Why
-text_end why.Quit = why.Quit
-text_end why.End = why.End
-text_end why.Long = why.Long
-text_end why.Limit = why.Limit
 text_end why.ReadFault = why.End
-text_end why.WriteFault = why.WriteFault
+text_end end = end
 
 -- A SESSION that has ended so and made so many calls: the bytes that were left to read before and after it (s, s'), the record
 -- of its

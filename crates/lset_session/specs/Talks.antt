@@ -20,12 +20,9 @@ WroteSoFar (Some end) w w' talk = Wrote end w w' talk
 
 -- a turn ends a session so, or a write that has failed
 abbrev pub IsLast : Why → Type 0
-IsLast why.Quit = Unit {0}
-IsLast why.Long = Unit {0}
-IsLast why.Limit = Unit {0}
-IsLast why.WriteFault = Unit {0}
 IsLast why.End = ⊥
 IsLast why.ReadFault = ⊥
+IsLast end = Unit {0}
 
 -- the turns of the talk are the first ones; where the session has not ended, those that follow are the turns of the bytes
 -- that are pending and of what comes after them
@@ -70,18 +67,12 @@ Hears bytes o t u r r' w w' = Heard t.left (pending_of t ++ bytes) o u.left (pen
 -- the calls of a request
 abbrev pub counted : Request → ℕ
 counted (request.Call c) = 1
-counted request.Quit = 0
-counted request.Bad = 0
+counted other = 0
 
 -- whether the writer has failed
 abbrev pub failed_by : Option Why → Bool
-failed_by None = false
 failed_by (Some why.WriteFault) = true
-failed_by (Some why.Quit) = false
-failed_by (Some why.End) = false
-failed_by (Some why.Long) = false
-failed_by (Some why.Limit) = false
-failed_by (Some why.ReadFault) = false
+failed_by other = false
 
 -- the last line was written, or not
 abbrev pub ending : Bool → Why → Option Why

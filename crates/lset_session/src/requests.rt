@@ -23,10 +23,10 @@ pub fn read_request(line: &[u8]) -> Request
     ensures { result ≡ request_of line.now }
 {
     let Some((word, key)) = cut(line, b' ') else {
-        if line == b"QUIT".as_slice() {
-            return Request::Quit;
-        }
-        return Request::Bad;
+        return match line {
+            b"QUIT" => Request::Quit,
+            _ => Request::Bad,
+        };
     };
     if let Some((_, _more)) = cut(key, b' ') {
         return Request::Bad;
@@ -34,15 +34,12 @@ pub fn read_request(line: &[u8]) -> Request
     let Some(key) = number(key, 0, u32::MAX) else {
         return Request::Bad;
     };
-    if word == b"ADD".as_slice() {
-        Request::Call(Call::Add(Key(key)))
-    } else if word == b"REMOVE".as_slice() {
-        Request::Call(Call::Remove(Key(key)))
-    } else if word == b"CONTAINS".as_slice() {
-        Request::Call(Call::Contains(Key(key)))
-    } else if word == b"CEILING".as_slice() {
-        Request::Call(Call::Ceiling(Key(key)))
-    } else {
-        Request::Bad
+    let key = Key(key);
+    match word {
+        b"ADD" => Request::Call(Call::Add(key)),
+        b"REMOVE" => Request::Call(Call::Remove(key)),
+        b"CONTAINS" => Request::Call(Call::Contains(key)),
+        b"CEILING" => Request::Call(Call::Ceiling(key)),
+        _ => Request::Bad,
     }
 }

@@ -8,14 +8,10 @@ ghost use Rattle.lset_steps.specs.Laws.{Occurs, Sees, StateLaws, word_named, vie
 ghost use Rattle.lset_steps.specs.Worlds.{WorldState, IsRun, StepResult, IsContent, AreChainKeys, unmarked_keys, IsPickedFromChain};
 
 use crate::{Action, Event, Local, Machine, Told};
-use lset_words::{Call, Layout, MOST_NODES, key_index, link_index, unpack};
+use lset_words::{Call, HEAD, Layout, MOST_NODES, TAIL, key_index, link_index, unpack};
 use std::alloc::{AllocError, Global};
 use std::marker::{Model, PhantomData};
 use thiserror::Error;
-
-const HEAD: u64 = 0;
-
-const TAIL: u64 = 1;
 
 /// Why an event is not enabled in a world.
 #[derive(Clone, Copy, Debug, PartialEq, Eq, Error)]

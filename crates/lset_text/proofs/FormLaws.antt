@@ -1,5 +1,5 @@
 -- A line of a form is read from its text, and from nothing else: once for every form.
-use Rattle.std.proofs.Common.{◌≡◌, ℕ, ◌<◌, ◌&&◌, Bool, true, false, cond, List, [], ◌∷◌, Option, Some, None, refl, ap, ◌∙◌, arith}
+use Rattle.std.proofs.Common.{◌≡◌, ℕ, ◌<◌, true, false, List, [], ◌∷◌, Option, Some, None, refl, ap, ◌∙◌, arith}
 use Rattle.std.proofs.Common.{codes, length}
 use Rattle.std.proofs.lemmas.Bool.{and_parts, and_left}
 use Rattle.std.specs.List.{AllByRecursion}
@@ -8,7 +8,7 @@ use Rattle.std.proofs.lemmas.Slice.Eq.{bytes_eq-Decides}
 use Rattle.lset_text.specs.declared.words.CallWord.{CallWord}
 use Rattle.lset_text.specs.declared.words.CallWord.TheVariants.{Add, Remove, Contains, Ceiling}
 use Rattle.lset_text.specs.declared.words.Version.{Version}
-use Rattle.lset_text.specs.Parts.{cut_at, line_of, Lacks}
+use Rattle.lset_text.specs.Parts.{cut_at, Lacks}
 use Rattle.lset_text.specs.Spellings.{call_word_text}
 use Rattle.lset_text.specs.Forms.{Piece, word, number, kind, call, reply, Tells, spelled, Fits, has_form, told, Form, Told, spell}
 use Rattle.lset_text.specs.Forms.{line_with, AllFit, have_form, both, all_told, told_in, IsPiece, ArePieces, IsForm}

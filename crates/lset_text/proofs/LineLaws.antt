@@ -8,7 +8,7 @@ use Rattle.lset_text.specs.Parts.{cut_at}
 use Rattle.lset_text.specs.Results.{◌>>=◌, map_fault}
 use Rattle.lset_text.specs.Lines.{Grammar, lines_from, Leads, IsFaultlessTo, IsGoodLine, Stands}
 use Rattle.lset_text.proofs.PartLaws.{some_part}
-use Rattle.lset_text.proofs.ReadingLaws.{bind_ok, map_fault_ok, ok_is}
+use Rattle.lset_text.proofs.ReadingLaws.{bind_ok, map_fault_ok}
 
 -- ---- one whole line
 
@@ -51,6 +51,15 @@ faults_below {S} g number is line s (x ∷ y ∷ more) e bad =
       | inl here ↦ omega (arith, fault_line g number is line (g.step s x) e here)
       | inr later ↦ omega (arith, faults_below g number is (line + 1) later.0 (y ∷ more) e later.2)
     ]
+
+pub faultless_from : {S C E : Type 0} (g : Grammar S C E) (number : E → ℕ) → IsNumber g number
+    → (above line : ℕ) (s : S) (parts : List (List ℕ)) → above < line → IsFaultlessTo number above (lines_from g line s parts)
+faultless_from {S} {C} {E} g number is above line s parts below =
+    faultless (lines_from g line s parts) (λ e bad. omega (arith, below, faults_below g number is line s parts e bad))
+  where
+    faultless : (r : Result S E) → ((e : E) → r ≡ Err e → above < number e) → IsFaultlessTo number above r
+    faultless (Ok x) all = tt
+    faultless (Err e) all = all e refl
 
 -- ---- A LOOP'S TURNS
 
@@ -108,12 +117,8 @@ is_good {S} {C} {E} g number is_number first text read line s t rest x after par
       stands.low,
       omega (arith, stands.place, counted, some_part 10 after),
       subst (IsFaultlessTo number line) more
-          (faultless next (λ e bad. omega (arith, faults_below g number is_number (line + 1) t (cut_at 10 after) e bad))),
+          (faultless_from g number is_number line (line + 1) t (cut_at 10 after) (omega arith)),
     )
-  where
-    faultless : (r : Result S E) → ((e : E) → r ≡ Err e → line < number e) → IsFaultlessTo number line r
-    faultless (Ok x) below = tt
-    faultless (Err e) below = below e refl
 
 -- ---- BOTH WAYS
 

@@ -1,12 +1,16 @@
 -- The kinds of lines that may come in a text: each has its form, and what is made of what it tells.
-use Rattle.std.specs.Prelude.{◌≡◌, ℕ, List, [], ◌∷◌, Option, Result, Ok, Err, if◌then◌else◌}
+use Rattle.std.specs.Prelude.{ℕ, List, [], ◌∷◌, Result, Ok, Err, if◌then◌else◌}
 use Rattle.lset_text.specs.declared.words.Version.{Version}
-use Rattle.lset_text.specs.Parts.{cut_at, line_of}
+use Rattle.lset_text.specs.Parts.{cut_at}
 use Rattle.lset_text.specs.Forms.{Form, Told, have_form, all_told}
 use Rattle.lset_text.specs.Results.{or_fail}
 
 abbrev pub LineKind : Type 0 → Type 0
 LineKind X = (f : Form) × (Told f → X)
+
+-- a kind whose value is seen as another
+abbrev pub kind_as : {X Y : Type 0} → (X → Y) → LineKind X → LineKind Y
+kind_as f k = (k.0, λ t. f (k.1 t))
 
 -- what is wrong with a line that has the form of no kind, and with one of which a piece has its form and tells nothing
 pub record LineCauses (C : Type 0) : Type 0 where

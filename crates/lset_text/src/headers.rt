@@ -3,11 +3,8 @@ ghost use Rattle.lset_text.specs.Parts.{cut_at, text_of};
 ghost use Rattle.lset_text.specs.Headers.{
   kind_in,
   number_after,
+  fault,
   line_due,
-  title_told,
-  kind_told,
-  threads_told,
-  quota_told,
   header_of,
   version_in,
   header_lines,
@@ -54,6 +51,14 @@ pub struct HeaderFault {
     pub cause: HeaderCause,
 }
 
+impl HeaderFault {
+    fn at(line: u64, cause: HeaderCause) -> HeaderFault
+        ensures { result ≡ fault line cause }
+    {
+        HeaderFault { line, cause }
+    }
+}
+
 fn kind_of_line(line: &[u8]) -> Option<Kind>
     ensures { result ≡ kind_in line.now }
 {
@@ -96,75 +101,7 @@ fn due(text: &[u8], line: u64, cause: HeaderCause) -> Result<(&[u8], &[u8]), Hea
     } else {
         HeaderCause::NotEnded
     };
-    Err(HeaderFault { line, cause })
-}
-
-#[tactic(auto, unfolding(crate::specs::Headers::told_by_line))]
-fn title_due<'a>(text: &'a [u8], title: &[u8]) -> Result<&'a [u8], HeaderFault>
-    ensures value { MatchResult result
-        (λ rest. title_told title.now (cut_at 10 text.now) ≡ Ok (title.now, cut_at 10 rest.now))
-        (λ e. title_told title.now (cut_at 10 text.now) ≡ Err e) }
-    ensures shorter { IfOk result (λ rest. length rest.now < length text.now) }
-{
-    let (first, rest) = due(text, 1, HeaderCause::Header)?;
-    if first != title {
-        return Err(HeaderFault {
-            line: 1,
-            cause: HeaderCause::Header,
-        });
-    }
-    Ok(rest)
-}
-
-#[tactic(auto, unfolding(crate::specs::Headers::told_by_line))]
-fn kind_due(text: &[u8]) -> Result<(Kind, &[u8]), HeaderFault>
-    ensures value { MatchResult result
-        (λ p. kind_told (cut_at 10 text.now) ≡ Ok (p.0, cut_at 10 p.1.now))
-        (λ e. kind_told (cut_at 10 text.now) ≡ Err e) }
-    ensures shorter { IfOk result (λ p. length p.1.now < length text.now) }
-{
-    let (first, rest) = due(text, 2, HeaderCause::Kind)?;
-    let Some(kind) = kind_of_line(first) else {
-        return Err(HeaderFault {
-            line: 2,
-            cause: HeaderCause::Kind,
-        });
-    };
-    Ok((kind, rest))
-}
-
-#[tactic(auto, unfolding(crate::specs::Headers::told_by_line))]
-fn threads_due(text: &[u8]) -> Result<(u32, &[u8]), HeaderFault>
-    ensures value { MatchResult result
-        (λ p. threads_told (cut_at 10 text.now) ≡ Ok (p.0, cut_at 10 p.1.now))
-        (λ e. threads_told (cut_at 10 text.now) ≡ Err e) }
-    ensures shorter { IfOk result (λ p. length p.1.now < length text.now) }
-{
-    let (first, rest) = due(text, 3, HeaderCause::Threads)?;
-    let Some(threads) = number_of_line(first, b"threads", 1, MOST_THREADS) else {
-        return Err(HeaderFault {
-            line: 3,
-            cause: HeaderCause::Threads,
-        });
-    };
-    Ok((threads, rest))
-}
-
-#[tactic(auto, unfolding(crate::specs::Headers::told_by_line))]
-fn quota_due(text: &[u8]) -> Result<(u32, &[u8]), HeaderFault>
-    ensures value { MatchResult result
-        (λ p. quota_told (cut_at 10 text.now) ≡ Ok (p.0, cut_at 10 p.1.now))
-        (λ e. quota_told (cut_at 10 text.now) ≡ Err e) }
-    ensures shorter { IfOk result (λ p. length p.1.now < length text.now) }
-{
-    let (first, rest) = due(text, 4, HeaderCause::Quota)?;
-    let Some(quota) = number_of_line(first, b"quota", 0, MOST_QUOTA) else {
-        return Err(HeaderFault {
-            line: 4,
-            cause: HeaderCause::Quota,
-        });
-    };
-    Ok((quota, rest))
+    Err(HeaderFault::at(line, cause))
 }
 
 /// The version of a text whose second version has this title: the second where the text begins with a line that is
@@ -203,17 +140,29 @@ pub fn headers_read_back()
     ensures { HeadersReadBack }
 {}
 
-#[tactic(auto, unfolding(crate::specs::Headers::header_of))]
+#[tactic(auto, unfolding(crate::specs::Headers::header_of, crate::specs::Headers::told_by_line))]
 fn header_due<'a>(title: &[u8], text: &'a [u8]) -> Result<(Header, &'a [u8]), HeaderFault>
     ensures value { MatchResult result
         (λ p. header_of title.now (cut_at 10 text.now) ≡ Ok (p.0, cut_at 10 p.1.now))
         (λ e. header_of title.now (cut_at 10 text.now) ≡ Err e) }
     ensures shorter { IfOk result (λ p. length p.1.now < length text.now) }
 {
-    let rest = title_due(text, title)?;
-    let (kind, rest) = kind_due(rest)?;
-    let (threads, rest) = threads_due(rest)?;
-    let (quota, rest) = quota_due(rest)?;
+    let (first, rest) = due(text, 1, HeaderCause::Header)?;
+    if first != title {
+        return Err(HeaderFault::at(1, HeaderCause::Header));
+    }
+    let (line, rest) = due(rest, 2, HeaderCause::Kind)?;
+    let kind = kind_of_line(line).ok_or(HeaderFault::at(2, HeaderCause::Kind))?;
+    let (line, rest) = due(rest, 3, HeaderCause::Threads)?;
+    let threads = number_of_line(line, b"threads", 1, MOST_THREADS).ok_or(HeaderFault::at(
+        3,
+        HeaderCause::Threads,
+    ))?;
+    let (line, rest) = due(rest, 4, HeaderCause::Quota)?;
+    let quota = number_of_line(line, b"quota", 0, MOST_QUOTA).ok_or(HeaderFault::at(
+        4,
+        HeaderCause::Quota,
+    ))?;
     let header = Header {
         kind,
         threads,

@@ -11,7 +11,7 @@ pub const FAULTS: &str = "\
 What a line about a fault says. The page docs/FORMATS.md has each with an example.
 
 listset: line L: CAUSE, of a schedule, status 1
-  Header    Line 1 is neither 'listset-schedule 1' nor 'listset-schedule 2'.
+  Header    Line 1 is neither 'listset-schedule 1' nor 'listset-schedule 2'. The word draft makes a schedule of a draft.
   Kind      Line 2 is not 'list' and one of coarse, fine, optimistic, lazy and lock-free.
   Threads   Line 3 is not 'threads' and a number from 1 to 64.
   Quota     Line 4 is not 'quota' and a number from 0 to 16384.
@@ -30,7 +30,7 @@ listset: line L: CAUSE, of a draft, status 1
   (others)  As in a schedule.
 
 listset: line L: CAUSE, of a report, status 1
-  Header    Line 1 is neither 'listset-report 1' nor 'listset-report 2'.
+  Header    Line 1 is neither 'listset-report 1' nor 'listset-report 2'. The word replay makes a report of a schedule.
   Kind      As in a schedule.
   Threads   As in a schedule.
   Quota     As in a schedule.

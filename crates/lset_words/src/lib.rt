@@ -34,6 +34,15 @@ pub const MOST_NODES: u64 = 2 + MOST_THREADS as u64 * MOST_QUOTA as u64 + MOST_O
 /// The most words of a table.
 pub const MOST_WORDS: u64 = 3 + 3 * MOST_NODES;
 
+/// The node that is the head of each list's chain.
+pub const HEAD: u64 = 0;
+
+/// The node that is its tail.
+pub const TAIL: u64 = 1;
+
+/// The index of CoarseList's lock.
+pub const LOCK: u64 = 0;
+
 /// A key of the set: every `u32` is one.
 #[derive(Clone, Copy, Debug, PartialEq, Eq, PartialOrd, Ord, Hash)]
 pub struct Key(pub u32);

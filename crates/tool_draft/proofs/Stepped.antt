@@ -5,7 +5,7 @@ use Rattle.lset_steps.specs.declared.Event.TheVariants.{Go}
 use Rattle.lset_steps.specs.declared.world.StepFault.{StepFault}
 use Rattle.lset_steps.specs.Steps.{Table, State, Enabled, after, local_of, seen_next}
 use Rattle.lset_steps.specs.Worlds.{WorldState, Refused}
-use Rattle.tool_draft.specs.Counts.{steps_on, world_on, row_on, AreEnabled, IsNotYet, IsLeastCount, IsRefusedAt, HasCome}
+use Rattle.tool_draft.specs.Counts.{steps_on, world_on, row_on, AreEnabled, IsNotYet, IsRefusedAt, HasCome}
 
 locals_on : (T : Table) (s : State) (t n : ℕ) → length (steps_on T s t n).locals ≡ length s.locals
 locals_on T s t zero = refl

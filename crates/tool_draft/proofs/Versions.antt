@@ -1,5 +1,5 @@
 -- Facts of the elements of a list, one after another.
-use Rattle.std.proofs.Common.{◌≡◌, ℕ, zero, suc, ◌+◌, ◌<◌, ◌≤◌, List, [], ◌∷◌, length, take, get_or, refl, sym, ap, subst}
+use Rattle.std.proofs.Common.{ℕ, zero, suc, ◌+◌, ◌<◌, ◌≤◌, List, [], ◌∷◌, length, take, get_or, sym, subst}
 use Rattle.std.proofs.Common.{add-one, arith}
 use Rattle.std.specs.List.{AllByRecursion}
 

@@ -7,7 +7,7 @@ use Rattle.lset_text.specs.Openings.{HasOpening}
 use Rattle.lset_steps.specs.Steps.{Table}
 use Rattle.lset_schedule.specs.declared.value.Line.{Line}
 use Rattle.lset_schedule.specs.declared.value.Line.TheVariants.{Begin, Go}
-use Rattle.lset_schedule.specs.Plan.{Plan, planned, IsLine, HasCallOfLine}
+use Rattle.lset_schedule.specs.Plan.{planned, IsLine, HasCallOfLine}
 use Rattle.tool_draft.specs.Drafts.{DraftValue, IsDraft, header_in}
 use Rattle.tool_draft.specs.Expanding.{AreLinesOfDraft, Expands}
 

@@ -4,7 +4,6 @@ use Rattle.std.specs.List.{sum_by, AllByRecursion}
 use Rattle.lset_words.specs.Words.{Opening, sizes}
 use Rattle.lset_text.specs.declared.words.Version.TheVariants.{One, Two}
 use Rattle.lset_steps.specs.declared.Event.TheVariants as event
-use Rattle.lset_steps.specs.declared.world.StepFault.{StepFault}
 use Rattle.lset_steps.specs.Steps.{Table, State, Run, Enabled, after, event_at, opening}
 use Rattle.lset_steps.specs.Worlds.{WorldState, Refused}
 use Rattle.lset_schedule.specs.declared.TheConstants.{MOST_EVENTS, MOST_STEPS}

@@ -1,26 +1,21 @@
-ghost use Rattle.std.specs.Prelude.{◌≡◌};
-ghost use Rattle.lset_report.specs.ReportReading.{
-  takes_opening,
-  takes_calls,
-  takes_places,
-  takes_keys,
-  section_after,
-  begun_of,
-  open_of,
-  ended_of,
-  call_of,
-  place_of,
-  key_of_line,
-  opening_or_key,
-  end_of,
-  reply_told,
-  line_in,
-};
+ghost use Rattle.std.specs.Prelude.{◌≡◌, ◌∷◌, [], codes};
 ghost use Rattle.lset_text.specs.Parts.{cut_at};
+ghost use Rattle.lset_text.specs.Kinds.{first_of, line_in};
+ghost use Rattle.lset_report.specs.ReportReading.{
+  causes,
+  open_kind,
+  ended_kind,
+  from_calls,
+  from_order,
+  from_keys,
+  kinds,
+  section_after,
+};
+ghost use Rattle.lset_report.specs.ReportReader.{may_come};
 
 use crate::report_fault::ReportCause;
-use lset_text::{CallWord, Version, cut, is_reply, number, read_call, read_reply};
-use lset_words::{CallRecord, Key, Placed, Reply};
+use lset_text::{Version, cut, is_reply, number, read_call, read_reply};
+use lset_words::{CallRecord, Key, Placed};
 
 /// Which part of a report a text has come to.
 #[derive(Clone, Copy)]
@@ -44,25 +39,25 @@ pub enum Line {
 
 impl Section {
     fn takes_opening(self, version: Version) -> bool
-        ensures { result ≡ takes_opening version self }
+        ensures { result ≡ may_come (kinds Version.Two Section.Opening) version self }
     {
         matches!((version, self), (Version::Two, Section::Opening))
     }
 
     fn takes_calls(self) -> bool
-        ensures { result ≡ takes_calls self }
+        ensures { result ≡ may_come from_calls Version.One self }
     {
         matches!(self, Section::Opening | Section::Calls)
     }
 
     fn takes_places(self) -> bool
-        ensures { result ≡ takes_places self }
+        ensures { result ≡ may_come from_order Version.One self }
     {
         matches!(self, Section::Opening | Section::Calls | Section::Order)
     }
 
     fn takes_keys(self) -> bool
-        ensures { result ≡ takes_keys self }
+        ensures { result ≡ may_come from_keys Version.One self }
     {
         !matches!(self, Section::Done)
     }
@@ -83,89 +78,69 @@ impl Line {
     }
 }
 
-/// The number and the beginning of a call.
-#[tactic(auto, unfolding(crate::specs::ReportReading::begun_of))]
-fn begun_call(
-    word: CallWord,
-    id: &[u8],
-    thread: &[u8],
-    key: &[u8],
-    begun: &[u8],
-) -> Result<(u32, CallRecord), ReportCause>
-    ensures { result ≡ begun_of word id.now thread.now key.now begun.now }
+/// The pieces of a call's line after its word, up to its beginning.
+#[derive(Clone, Copy)]
+struct Begun<'a> {
+    id: &'a [u8],
+    thread: &'a [u8],
+    call: &'a [u8],
+    key: &'a [u8],
+    begun: &'a [u8],
+}
+
+fn open_call(version: Version, pieces: Begun<'_>, end: &[u8]) -> Result<Line, ReportCause>
+    ensures { result ≡ first_of version causes (open_kind ∷ []) (codes "call" ∷ pieces.entry.id.now ∷ pieces.entry.thread.now
+        ∷ pieces.entry.call.now ∷ pieces.entry.key.now ∷ pieces.entry.begun.now ∷ end.now ∷ []) }
 {
-    let id = number(id, 0, u32::MAX).ok_or(ReportCause::Number)?;
-    let thread = number(thread, 0, u32::MAX).ok_or(ReportCause::Number)?;
-    let key = number(key, 0, u32::MAX).ok_or(ReportCause::Number)?;
-    let begun = number(begun, 1, u32::MAX).ok_or(ReportCause::Number)?;
+    if end != b"open".as_slice() {
+        return Err(ReportCause::Line);
+    }
+    let word = read_call(version, pieces.call).ok_or(ReportCause::Line)?;
+    let id = number(pieces.id, 0, u32::MAX).ok_or(ReportCause::Number)?;
+    let thread = number(pieces.thread, 0, u32::MAX).ok_or(ReportCause::Number)?;
+    let key = number(pieces.key, 0, u32::MAX).ok_or(ReportCause::Number)?;
+    let begun = number(pieces.begun, 1, u32::MAX).ok_or(ReportCause::Number)?;
     let made = CallRecord {
         thread,
         call: word.with_key(Key(key)),
         begun,
         ended: None,
     };
-    Ok((id, made))
-}
-
-/// The reply that a piece spells: `Line` where it has not the form of one, and else `Number` where it has not the number of
-/// one.
-#[tactic(auto, unfolding(crate::specs::ReportReading::reply_told))]
-fn reply_of(version: Version, piece: &[u8]) -> Result<Reply, ReportCause>
-    ensures { result ≡ reply_told version piece.now }
-{
-    if !is_reply(version, piece) {
-        return Err(ReportCause::Line);
-    }
-    read_reply(version, piece).ok_or(ReportCause::Number)
-}
-
-#[tactic(auto, unfolding(crate::specs::ReportReading::open_of))]
-fn open_call(
-    version: Version,
-    id: &[u8],
-    thread: &[u8],
-    call: &[u8],
-    key: &[u8],
-    begun: &[u8],
-    word: &[u8],
-) -> Result<Line, ReportCause>
-    ensures { result ≡ open_of version id.now thread.now call.now key.now begun.now word.now }
-{
-    let call = read_call(version, call).ok_or(ReportCause::Line)?;
-    if word != b"open".as_slice() {
-        return Err(ReportCause::Line);
-    }
-    let (id, made) = begun_call(call, id, thread, key, begun)?;
     Ok(Line::Call(id, made))
 }
 
-#[tactic(auto, unfolding(crate::specs::ReportReading::ended_of))]
 fn ended_call(
     version: Version,
-    id: &[u8],
-    thread: &[u8],
-    call: &[u8],
-    key: &[u8],
-    begun: &[u8],
+    pieces: Begun<'_>,
     end: &[u8],
     reply: &[u8],
 ) -> Result<Line, ReportCause>
-    ensures { result ≡ ended_of version id.now thread.now call.now key.now begun.now end.now reply.now }
+    ensures { result ≡ first_of version causes (ended_kind ∷ []) (codes "call" ∷ pieces.entry.id.now ∷ pieces.entry.thread.now
+        ∷ pieces.entry.call.now ∷ pieces.entry.key.now ∷ pieces.entry.begun.now ∷ end.now ∷ reply.now ∷ []) }
 {
-    let call = read_call(version, call).ok_or(ReportCause::Line)?;
-    let reply = reply_of(version, reply)?;
-    let (id, made) = begun_call(call, id, thread, key, begun)?;
+    if !is_reply(version, reply) {
+        return Err(ReportCause::Line);
+    }
+    let word = read_call(version, pieces.call).ok_or(ReportCause::Line)?;
+    let id = number(pieces.id, 0, u32::MAX).ok_or(ReportCause::Number)?;
+    let thread = number(pieces.thread, 0, u32::MAX).ok_or(ReportCause::Number)?;
+    let key = number(pieces.key, 0, u32::MAX).ok_or(ReportCause::Number)?;
+    let begun = number(pieces.begun, 1, u32::MAX).ok_or(ReportCause::Number)?;
     let end = number(end, 1, u32::MAX).ok_or(ReportCause::Number)?;
-    let ended = CallRecord {
+    let reply = read_reply(version, reply).ok_or(ReportCause::Number)?;
+    let made = CallRecord {
+        thread,
+        call: word.with_key(Key(key)),
+        begun,
         ended: Some((end, reply)),
-        ..made
     };
-    Ok(Line::Call(id, ended))
+    Ok(Line::Call(id, made))
 }
 
 /// A call, of what comes after its thread.
 fn call(version: Version, id: &[u8], thread: &[u8], rest: &[u8]) -> Result<Line, ReportCause>
-    ensures { result ≡ call_of version id.now thread.now (cut_at 32 rest.now) }
+    ensures { result ≡ first_of version causes (open_kind ∷ ended_kind ∷ []) (codes "call" ∷ id.now ∷ thread.now
+        ∷ cut_at 32 rest.now) }
 {
     let Some((call, rest)) = cut(rest, b' ') else {
         return Err(ReportCause::Line);
@@ -176,16 +151,22 @@ fn call(version: Version, id: &[u8], thread: &[u8], rest: &[u8]) -> Result<Line,
     let Some((begun, rest)) = cut(rest, b' ') else {
         return Err(ReportCause::Line);
     };
+    let pieces = Begun {
+        id,
+        thread,
+        call,
+        key,
+        begun,
+    };
     let Some((end, reply)) = cut(rest, b' ') else {
-        return open_call(version, id, thread, call, key, begun, rest);
+        return open_call(version, pieces, rest);
     };
     if let Some((_, _more)) = cut(reply, b' ') {
         return Err(ReportCause::Line);
     }
-    ended_call(version, id, thread, call, key, begun, end, reply)
+    ended_call(version, pieces, end, reply)
 }
 
-#[tactic(auto, unfolding(crate::specs::ReportReading::place_of))]
 fn place(
     version: Version,
     section: Section,
@@ -193,20 +174,28 @@ fn place(
     id: &[u8],
     reply: &[u8],
 ) -> Result<Line, ReportCause>
-    ensures { result ≡ place_of version section word.now id.now reply.now }
+    ensures { result ≡ first_of version causes (kinds version section) (word.now ∷ id.now ∷ reply.now ∷ []) }
 {
-    if !section.takes_places() || word != b"place".as_slice() {
+    if !section.takes_places() || word != b"place".as_slice() || !is_reply(version, reply) {
         return Err(ReportCause::Line);
     }
-    let reply = reply_of(version, reply)?;
     let call = number(id, 0, u32::MAX).ok_or(ReportCause::Number)?;
+    let reply = read_reply(version, reply).ok_or(ReportCause::Number)?;
     Ok(Line::Place(Placed { call, reply }))
 }
 
-#[tactic(auto, unfolding(crate::specs::ReportReading::key_of_line))]
-fn key(section: Section, word: &[u8], key: &[u8]) -> Result<Line, ReportCause>
-    ensures { result ≡ key_of_line section word.now key.now }
+fn opening_or_key(
+    version: Version,
+    section: Section,
+    word: &[u8],
+    key: &[u8],
+) -> Result<Line, ReportCause>
+    ensures { result ≡ first_of version causes (kinds version section) (word.now ∷ key.now ∷ []) }
 {
+    if section.takes_opening(version) && word == b"opening".as_slice() {
+        let key = number(key, 0, u32::MAX).ok_or(ReportCause::Number)?;
+        return Ok(Line::Opening(key));
+    }
     if !section.takes_keys() || word != b"key".as_slice() {
         return Err(ReportCause::Line);
     }
@@ -214,24 +203,8 @@ fn key(section: Section, word: &[u8], key: &[u8]) -> Result<Line, ReportCause>
     Ok(Line::Key(key))
 }
 
-#[tactic(auto, unfolding(crate::specs::ReportReading::opening_or_key))]
-fn opening_or_key(
-    version: Version,
-    section: Section,
-    word: &[u8],
-    digits: &[u8],
-) -> Result<Line, ReportCause>
-    ensures { result ≡ opening_or_key version section word.now digits.now }
-{
-    if !section.takes_opening(version) || word != b"opening".as_slice() {
-        return key(section, word, digits);
-    }
-    let key = number(digits, 0, u32::MAX).ok_or(ReportCause::Number)?;
-    Ok(Line::Opening(key))
-}
-
 fn end(section: Section, word: &[u8]) -> Result<Line, ReportCause>
-    ensures { result ≡ end_of section word.now }
+    ensures { (v : Version) → result ≡ first_of v causes (kinds v section) (word.now ∷ []) }
 {
     if !section.takes_keys() || word != b"end".as_slice() {
         return Err(ReportCause::Line);
@@ -241,7 +214,7 @@ fn end(section: Section, word: &[u8]) -> Result<Line, ReportCause>
 
 /// What a line tells in a text of a version that has come to a section.
 pub fn line_of_report(version: Version, section: Section, line: &[u8]) -> Result<Line, ReportCause>
-    ensures { result ≡ line_in version section line.now }
+    ensures { result ≡ line_in version causes (kinds version section) line.now }
 {
     let Some((word, rest)) = cut(line, b' ') else {
         return end(section, line);

@@ -8,7 +8,7 @@ use Rattle.lset_rule.specs.declared.view.View.{View}
 use Rattle.lset_rule.specs.declared.view.Past.{Fresh}
 use Rattle.atomic_table.specs.Table as T
 use Rattle.lset_rule.specs.Rule.{Holds, opener, left_view, right_view}
-use Rattle.lset_rule.specs.Slots.{slots_of}
+use Rattle.lset_rule.specs.OwnSlots.{slots_of}
 use Rattle.lset_rule.proofs.Opens.{spare, IsNew}
 use Rattle.lset_rule.proofs.Opens.{opens, opening_length, spare_all, cut_left, cut_right, spare_some, spare_none, new_seat}
 use Rattle.std.specs.List.{range_with_len}

@@ -1,4 +1,4 @@
-use Rattle.lset_locked_loops.proofs.Calling.{may_begin, is_call, called}
+use Rattle.lset_caller.proofs.Calling.{may_begin, is_call, called}
 use Rattle.lset_locked_loops.proofs.coarse.coarse_on.Goals as goal
 
 pub make-requires-clause-begins : goal.make-requires-clause-begins

@@ -2,7 +2,7 @@ use Rattle.std.proofs.Common.{refl}
 use Rattle.lset_locked_loops.proofs.coarse.make.Goals as goal
 
 pub returns : goal.returns
-returns g c = let left = c.act-answer.ensures in (_, c.release_last.ensures _ _ c.act-answer.result.1 left.3 refl, refl)
+returns g c = let left = c.act-answer.ensures in (_, c.release_last.ensures _ left.3 _ refl, refl)
 
 pub walk-found-requires : goal.walk-found-requires
 walk-found-requires g c = (_, c.begin_locked.ensures)

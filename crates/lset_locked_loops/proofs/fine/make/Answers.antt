@@ -2,7 +2,7 @@ use Rattle.std.proofs.Common.{refl}
 use Rattle.lset_locked_loops.proofs.fine.make.Goals as goal
 
 pub returns : goal.returns
-returns g c = (_, c.unlock_last.ensures _ _ c.act-answer.result.1 (c.unlock.ensures _ c.act-answer.ensures.1) refl, refl)
+returns g c = (_, c.unlock_last.ensures _ (c.unlock.ensures _ c.act-answer.ensures.1) _ refl, refl)
 
 pub unlock_last-requires : goal.unlock_last-requires
 unlock_last-requires g c = record { held = _; holds = c.unlock.ensures _ c.act-answer.ensures.1; acts = refl }

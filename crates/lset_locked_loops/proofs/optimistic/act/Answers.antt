@@ -3,8 +3,8 @@ use Rattle.lset_words.specs.declared.Reply.TheVariants.{True}
 use Rattle.lset_words.specs.Words.{key_index, link_index}
 use Rattle.lset_steps.specs.declared.Action.TheVariants.{Store}
 use Rattle.lset_optimistic.specs.Optimistic.{targets}
-use Rattle.lset_locked_loops.specs.Calling.{slot, row}
-use Rattle.lset_locked_loops.proofs.Calling.{moved, to_slots}
+use Rattle.lset_caller.specs.Calling.{slot, row}
+use Rattle.lset_caller.proofs.Calling.{moved, to_slots}
 use Rattle.lset_locked_loops.proofs.optimistic.act.Goals as goal
 
 pub put_in-requires : goal.put_in-requires
@@ -12,12 +12,11 @@ put_in-requires g c = let at = moved c.requires.1 (c.in-PutIn.ensures.deed targe
     record {
       held = _;
       holds = at;
-      key = ap (Store (key_index (slot c.args.caller.now.slots))) c.args.caller.now.is_key;
-      key_on = λ n. refl;
-      link = refl;
-      link_on = λ n. refl;
-      put = refl;
-      put_on = λ n. refl;
+      stores = (
+        ap (Store (key_index (slot c.args.caller.now.slots))) c.args.caller.now.is_key,
+        λ n. refl,
+        (refl, λ n. refl, (refl, λ n. refl, tt)),
+      );
     }
 
 pub returns-in-PutIn : goal.returns-in-PutIn

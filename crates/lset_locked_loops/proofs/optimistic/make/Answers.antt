@@ -1,7 +1,7 @@
 use Rattle.std.proofs.Common.{refl, ap}
 use Rattle.lset_words.specs.Words.{link_index}
 use Rattle.lset_steps.specs.declared.Action.TheVariants.{Load}
-use Rattle.lset_locked_loops.proofs.Calling.{no_rest}
+use Rattle.lset_caller.proofs.Calling.{no_rest}
 use Rattle.lset_locked_loops.proofs.optimistic.make.Goals as goal
 
 pub loop-init : goal.loop-init
@@ -13,7 +13,7 @@ unlock_last-requires g c = record { held = _; holds = c.unlock.ensures _ c.act-a
 pub returns-then-validate : goal.returns-then-validate
 returns-then-validate g c = (
   _,
-  c.unlock_last.ensures _ _ c.act-answer.result.1 (c.unlock.ensures _ c.act-answer.ensures.1) refl,
+  c.unlock_last.ensures _ (c.unlock.ensures _ c.act-answer.ensures.1) _ refl,
   refl,
 )
 

@@ -1,4 +1,4 @@
-use Rattle.lset_locked_loops.specs.Begun.{begun_at}
+use Rattle.lset_caller.specs.Begun.{begun_at}
 use Rattle.lset_locked_loops.proofs.optimistic.optimistic_on.Given as goal
 
 abbrev pub ghosts-make : goal.ghosts-make

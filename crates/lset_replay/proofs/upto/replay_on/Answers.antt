@@ -8,7 +8,7 @@ use Rattle.lset_report.specs.Report.{ReportValue}
 use Rattle.lset_schedule.specs.declared.TheConstants.{MOST_EVENTS}
 use Rattle.lset_schedule.specs.declared.value.Line.{Line}
 use Rattle.lset_schedule.specs.Plan.{view, event_count}
-use Rattle.lset_replay.specs.declared.places.Place.{Place}
+use Rattle.lset_replay.specs.declared.places.Linearized.{Linearized}
 use Rattle.lset_replay.specs.Blocks.{ArePointsAt, StandUpTo, blocks_upto}
 use Rattle.lset_replay.specs.Events.{events_from}
 use Rattle.lset_replay.specs.Fronts.{first_events}
@@ -39,7 +39,7 @@ in_order-requires-clause-few g c =
     few_events c.first_event_line.result c.deref.result.now c.args.schedule.now.lines.items c.deref.ensures.value c.requires.few
     in
     let same : length c.deref-2.result.now ≡ length c.follow_upto.new.recorder.places.items =
-    ap (λ (xs : List (Option Place)). length xs) c.deref-2.ensures.value in
+    ap (λ (xs : List (Option Linearized)). length xs) c.deref-2.ensures.value in
     omega arith
 
 pub in_order-requires-clause-inside : goal.in_order-requires-clause-inside

@@ -1,7 +1,10 @@
-use Rattle.std.proofs.Common.{sym, ap, ◌∙◌, inl, inr, Ok}
+use Rattle.std.proofs.Common.{sym, ap, ◌∙◌, inl, inr, Result, Ok}
 use Rattle.std.proofs.lemmas.Result.{err_from_is_err_and}
+use Rattle.lset_text.specs.Results.{◌>>=◌}
+use Rattle.lset_report.specs.declared.report_fault.ReportFault.{ReportFault}
 use Rattle.lset_report.specs.Report.{ReportValue}
-use Rattle.lset_report.proofs.ReportLoops.{header_fault, report_is, whole_text, runs_out_after_header}
+use Rattle.lset_report.specs.ReportReading.{SoFar}
+use Rattle.lset_report.proofs.ReportLoops.{header_fault, report_is, whole_text, runs_out_after_header, report_told}
 use Rattle.lset_report.proofs.reading.report.Goals as goal
 
 pub returns-in_default : goal.returns-in_default
@@ -38,5 +41,5 @@ returns c =
     c.in-Ok.ensures.section
     c.in-Ok.ensures.nothing in
     whole.0
-    ∙ c.in_ok-read_lines.ensures.told
+    ∙ ap (λ (r : Result SoFar ReportFault). r >>= report_told) c.in_ok-read_lines.ensures.told
     ∙ ap (λ (r : ReportValue). Ok r) (sym c.into_report.ensures)

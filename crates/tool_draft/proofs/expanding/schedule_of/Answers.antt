@@ -1,10 +1,7 @@
-use Rattle.std.proofs.Common.{◌≡◌, List, ℕ, sym, ◌∙◌, subst}
-use Rattle.std.proofs.lemmas.Grind.{common_steps}
-use Rattle.lset_text.specs.declared.words.Version.TheVariants.{One}
-use Rattle.lset_schedule.specs.declared.value.Line.{Line}
+use Rattle.std.proofs.Common.{◌≡◌, ◌∙◌}
 use Rattle.lset_lists.specs.Tables.{table_of}
 use Rattle.tool_draft.specs.Drafts.{view}
-use Rattle.tool_draft.proofs.Whole.{HasWordsOfFirst, expands_along}
+use Rattle.tool_draft.proofs.Whole.{expands_along}
 use Rattle.tool_draft.proofs.expanding.schedule_of.Goals as goal
 
 pub returns : goal.returns

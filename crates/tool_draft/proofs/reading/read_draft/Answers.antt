@@ -1,5 +1,4 @@
-use Rattle.tool_draft.proofs.Again.{only_in}
-use Rattle.tool_draft.proofs.Found.{found_in}
+use Rattle.tool_draft.proofs.TextLaws.{found_in, only_in}
 use Rattle.tool_draft.proofs.reading.read_draft.Goals as goal
 
 pub returns-clause-found : goal.returns-clause-found

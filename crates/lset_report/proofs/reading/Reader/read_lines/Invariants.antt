@@ -1,13 +1,14 @@
 use Rattle.std.proofs.Common.{◌≡◌, ℕ, ◌≤◌, ◌+◌, List, ◌++◌, length}
 use Rattle.lset_text.specs.Parts.{cut_at}
-use Rattle.lset_report.specs.ReportReading.{first_line, report_from}
-use Rattle.lset_report.specs.ReportReader.{Holds, so_far}
+use Rattle.lset_text.specs.Lines.{Stands}
+use Rattle.lset_report.specs.ReportReading.{first_line, grammar}
+use Rattle.lset_report.specs.ReportReader.{Holds, state}
+use Rattle.lset_report.proofs.ReportLoops.{AllOf}
 use Rattle.lset_report.proofs.reading.Reader.read_lines.Given as goal
 
 abbrev pub invariant-loop-rest : goal.invariant-loop-rest
 invariant-loop-rest l = record {
-  so_far : report_from l.number l.self.section (so_far l.self) (cut_at 10 l.rest)
-      ≡ report_from first_line l.initial.self.section (so_far l.initial.self) (cut_at 10 l.text);
+  stands : Stands grammar first_line l.text (AllOf l.text (state l.initial.self)) l.number (state l.self) l.rest;
   holds : Holds l.self;
   header : l.self.header ≡ l.initial.self.header;
   lines_left : l.number + length l.rest ≤ first_line + length l.text;

@@ -1,5 +1,5 @@
 use Rattle.lset_text.proofs.PartLaws.{some_part}
-use Rattle.lset_report.proofs.ReportLines.{call_many}
+use Rattle.lset_report.proofs.ReportPieces.{call_many}
 use Rattle.lset_report.proofs.reading.lines.call.Goals as goal
 
 pub returns-in-Some-cut-4 : goal.returns-in-Some-cut-4

@@ -1,6 +1,6 @@
 use Rattle.std.proofs.Common.{rules}
 use Rattle.lset_text.proofs.PartLaws.{some_part}
-use Rattle.lset_report.proofs.ReportLines.{call_pieces}
+use Rattle.lset_report.proofs.ReportPieces.{call_pieces}
 use Rattle.lset_report.proofs.reading.lines.line_of_report.Goals as goal
 
 pub returns-then-not-takes_calls : goal.returns-then-not-takes_calls

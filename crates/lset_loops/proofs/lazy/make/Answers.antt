@@ -1,0 +1,69 @@
+use Rattle.std.proofs.Common.{◌≡◌, ◌/◌, None, refl, ap}
+use Rattle.lset_words.specs.Words.{link_index}
+use Rattle.lset_words.proofs.Numbers.{if_other}
+use Rattle.lset_steps.specs.declared.Action.TheVariants.{Load}
+use Rattle.lset_steps.specs.ReadRows.{continued}
+use Rattle.lset_lazy.specs.Lazy.{lazy}
+use Rattle.lset_caller.specs.Calling.{row}
+use Rattle.lset_caller.proofs.Calling.{moved, to_curr, no_rest}
+use Rattle.lset_loops.proofs.lazy.make.Goals as goal
+
+pub loop-init : goal.loop-init
+loop-init g c = (
+  no_rest,
+  moved c.begin_at_head-link.ensures
+      (ap (λ pc. (lazy.feed (row c.args.slots g.O.Origin.begun.call pc None 0 0 no_rest) c.begin_at_head-link.result).local)
+      c.requires.walks),
+)
+
+pub lock-requires-in-loop : goal.lock-requires-in-loop
+lock-requires-in-loop g c =
+    record {
+      held = _;
+      holds = c.lock.ensures _ c.walk-found.ensures.1;
+      acts = refl;
+      again = λ n ne. ap continued (if_other n 0 ne _ _);
+      goes_on = refl;
+    }
+
+pub validate-requires : goal.validate-requires
+validate-requires g c = (c.walk-found.ensures.0, c.lock-in-loop.ensures _ (c.lock.ensures _ c.walk-found.ensures.1))
+
+pub unlock_last-requires : goal.unlock_last-requires
+unlock_last-requires g c = record { held = _; holds = c.unlock.ensures _ c.act-answer.ensures.1; acts = refl }
+
+pub returns-in-Some-validate : goal.returns-in-Some-validate
+returns-in-Some-validate g c = (
+  _,
+  c.unlock_last.ensures _ (c.unlock.ensures _ c.act-answer.ensures.1) _ refl,
+  refl,
+)
+
+pub unlock-requires-in-None-validate : goal.unlock-requires-in-None-validate
+unlock-requires-in-None-validate g c = record { held = _; holds = c.in-None-validate.ensures.1; acts = refl; goes_on = λ n. refl }
+
+pub unlock-requires-in-None-validate-2 : goal.unlock-requires-in-None-validate-2
+unlock-requires-in-None-validate-2 g c =
+    record {
+      held = _;
+      holds = c.unlock-in-None-validate.ensures _ c.in-None-validate.ensures.1;
+      acts = refl;
+      goes_on = λ n. refl;
+    }
+
+pub load_link-link-requires : goal.load_link-link-requires
+load_link-link-requires g c =
+    record {
+      held = _;
+      holds = c.unlock-in-None-validate-2.ensures _
+          (c.unlock-in-None-validate.ensures _ c.in-None-validate.ensures.1);
+      acts = ap (λ n. Load (link_index n)) c.head.ensures;
+      goes_on = λ n. refl;
+    }
+
+pub loop-preserved : goal.loop-preserved
+loop-preserved g c = (
+  _,
+  c.load_link-link.ensures _
+      (c.unlock-in-None-validate-2.ensures _ (c.unlock-in-None-validate.ensures _ c.in-None-validate.ensures.1)),
+)

@@ -1,0 +1,11 @@
+use Rattle.lset_caller.proofs.Calling.{may_begin, is_call, called}
+use Rattle.lset_loops.proofs.lock_free.lock_free_add_on.Goals as goal
+
+pub make-requires-clause-begins : goal.make-requires-clause-begins
+make-requires-clause-begins g c = may_begin _ c.requires
+
+pub make-requires-clause-call : goal.make-requires-clause-call
+make-requires-clause-call g c = is_call _ c.requires
+
+pub returns : goal.returns
+returns g c = called c.make.ensures

@@ -1,0 +1,41 @@
+-- Where an add or a remove of LazyList stands.
+use Rattle.std.specs.Prelude.{ℕ, Option, Some, None}
+use Rattle.lset_words.specs.declared.Reply.{Reply}
+use Rattle.lset_steps.specs.Rows.{decided_on}
+use Rattle.lset_lazy.specs.Lazy.{lazy, targets}
+use Rattle.lset_rule.specs.declared.slots.OwnSlots.{OwnSlots}
+use Rattle.lset_rule.specs.Seats.{TableSeat}
+use Rattle.lset_caller.specs.declared.caller.Node.{Node}
+use Rattle.lset_caller.specs.declared.decision.Found.{Found}
+use Rattle.lset_caller.specs.Begun.{Begun}
+use Rattle.lset_caller.specs.Calling.{Holds, Rest, row}
+
+-- It is about to load the key of the node x, to which the link of p led.
+abbrev pub AtKey : Begun → OwnSlots → ℕ → ℕ → TableSeat → Type 0
+AtKey b own p x s = (j : Rest) × Holds lazy b (row own b.call 2 None p x j) s
+
+-- Its walk has stopped there, and it is about to lock the first node.
+abbrev pub StopsAt : Begun → OwnSlots → Found → TableSeat → Type 0
+StopsAt b own f s = (j : Rest) × Holds lazy b (row own b.call 4 None f.pred.number f.curr.number (record j { ckey = f.word })) s
+
+-- It has locked both nodes, and is about to load the link of the first.
+abbrev pub HasLocked : Begun → OwnSlots → Found → TableSeat → Type 0
+HasLocked b own f s = (j : Rest) × Holds lazy b (row own b.call 6 None f.pred.number f.curr.number (record j { ckey = f.word })) s
+
+-- The two nodes are neighbours, and the second leads to n.
+abbrev pub AreNeighbours : Begun → OwnSlots → Found → Node → TableSeat → Type 0
+AreNeighbours b own f n s = (j : Rest)
+    × Holds lazy b (decided_on targets f.word
+    (row own b.call 7 None f.pred.number f.curr.number (record j { ckey = f.word; succ = n.number }))) s
+
+-- It is about to give both locks back: with this reply, or with none, to start over.
+abbrev pub GivesBack : Begun → Found → OwnSlots → Option Reply → TableSeat → Type 0
+GivesBack b f own r s = (j : Rest) × Holds lazy b (row own b.call 13 r f.pred.number f.curr.number j) s
+
+abbrev pub Leaves : Begun → Found → OwnSlots × Reply → TableSeat → Type 0
+Leaves b f answer s = GivesBack b f answer.0 (Some answer.1) s
+
+-- by whether they are neighbours
+abbrev pub HasValidated : Begun → OwnSlots → Found → Option Node → TableSeat → Type 0
+HasValidated b own f (Some n) s = AreNeighbours b own f n s
+HasValidated b own f None s = GivesBack b f own None s

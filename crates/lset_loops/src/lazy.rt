@@ -1,0 +1,162 @@
+//! LazyList: a node is marked before it is taken out, so a walk takes no lock, and a call looks at its two nodes once it has
+//! locked them.
+ghost use Rattle.lset_words.specs.declared.Call.TheVariants.{Add, Remove};
+ghost use Rattle.lset_steps.specs.ReadRows.{first_row};
+ghost use Rattle.std.specs.Prelude.{◌≡◌};
+ghost use Rattle.lset_lazy.specs.Lazy.{lazy};
+ghost use Rattle.lset_rule.specs.Seats.{HasCalled, MayCall};
+ghost use Rattle.lset_caller.specs.Begun.{IsCall};
+ghost use Rattle.lset_caller.specs.Calling.{HasAnswered, MayBegin};
+ghost use Rattle.lset_loops.specs.Lazy.{AreNeighbours, AtKey, HasLocked, HasValidated, Leaves, StopsAt};
+
+use lset_caller::{Caller, Decision, Found, Node, Origin, decide, one_more};
+use lset_lazy::LazyList;
+use lset_rule::{OwnSlots, Pause, TableSeat, Words};
+use lset_words::{Call, Key, Reply};
+use std::marker::{Brand, PhantomData};
+use std::sync::Wait;
+
+/// Walks from the head, whose link led to `first`, to the first key that is not below that of the call.
+#[inline(always)]
+fn walk<O: Origin, R: Wait, P: Pause>(
+    rt: &R,
+    caller: &Caller<LazyList, O, P>,
+    place: &mut TableSeat,
+    first: Node,
+) -> Found
+    requires { AtKey O.begun caller.now.slots 0 first.number place.old }
+    ensures { StopsAt O.begun caller.now.slots result place.new }
+{
+    let key = caller.key;
+    let mut pred = Node::head();
+    let mut curr = first;
+    for _ in rt.forever() {
+        let word = caller.load_key(place, curr); // row 2
+        if word >= key {
+            return Found { pred, curr, word };
+        }
+        let link = caller.load_link(place, curr); // row 3
+        pred = curr;
+        curr = Node::behind(link);
+    }
+    unreachable!()
+}
+
+/// Whether `pred` leads to `curr`, and neither has a mark: then the answer is the node behind `curr`.
+fn validate<O: Origin, P: Pause>(
+    caller: &Caller<LazyList, O, P>,
+    place: &mut TableSeat,
+    found: Found,
+) -> Option<Node>
+    requires { HasLocked O.begun caller.now.slots found place.old }
+    ensures { HasValidated O.begun caller.now.slots found result place.new }
+{
+    let before = caller.load_link(place, found.pred); // row 6
+    if before != 2 * found.curr.number {
+        return None;
+    }
+    let after = caller.load_link(place, found.curr); // row 7
+    if after % 2 != 0 {
+        return None;
+    }
+    Some(Node::behind(after))
+}
+
+/// Does what the call does at the key that was found, between two nodes that it has locked.
+fn act<O: Origin, P: Pause>(
+    caller: &Caller<LazyList, O, P>,
+    place: &mut TableSeat,
+    found: Found,
+    succ: Node,
+) -> (OwnSlots, Reply)
+    requires { AreNeighbours O.begun caller.now.slots found succ place.old }
+    ensures { Leaves O.begun found result place.new }
+{
+    match decide(caller.call, found.word, caller.slots) {
+        Decision::PutIn => {
+            caller.put_in(place, found); // rows 8, 9, 10
+            (one_more(caller.slots), Reply::True)
+        }
+        Decision::TakeOut => {
+            caller.store_mark(place, found.curr, succ); // row 11
+            caller.store_link(place, found.pred, succ); // row 12
+            (caller.slots, Reply::True)
+        }
+        Decision::Answer(reply) => (caller.slots, reply),
+    }
+}
+
+fn make<O: Origin, R: Wait, P: Pause>(
+    rt: &R,
+    table: &Words<LazyList>,
+    place: &mut TableSeat,
+    slots: OwnSlots,
+    call: Call,
+    pause: &P,
+) -> (OwnSlots, Reply)
+    requires begins { MayBegin lazy O.begun slots place.old }
+    requires call { IsCall O.begun call table.now.table_id table.now.key }
+    requires walks { first_row O.begun.call ≡ 1 }
+    ensures { HasAnswered lazy O.begun result place.new }
+{
+    let caller = Caller::<'_, LazyList, O, P> {
+        table,
+        pause,
+        slots,
+        call,
+        key: call.key().word(),
+        origin: PhantomData,
+    };
+    let mut link = caller.begin_at_head(place); // row 1
+    for _ in rt.forever() {
+        let found = walk(rt, &caller, place, Node::behind(link));
+        caller.lock(rt, place, found.pred); // row 4
+        caller.lock(rt, place, found.curr); // row 5
+        match validate(&caller, place, found) {
+            Some(succ) => {
+                let answer = act(&caller, place, found, succ);
+                caller.unlock(place, found.curr); // row 13
+                caller.unlock_last(place, found.pred); // row 14
+                return answer;
+            }
+            None => {
+                caller.unlock(place, found.curr); // row 13
+                caller.unlock(place, found.pred); // row 14
+                link = caller.load_link(place, Node::head()); // row 1
+            }
+        }
+    }
+    unreachable!()
+}
+
+/// Makes a whole `add` of `key` to a LazyList: it walks to its place without a lock, locks the two nodes there, looks
+/// whether they are still neighbours in the list, and acts, or gives them back and starts over. (Herlihy and Shavit's lazy
+/// list, after Heller and others.)
+pub fn lazy_add_on<R: Wait, P: Pause>(
+    rt: &R,
+    table: &Words<LazyList>,
+    place: &mut TableSeat,
+    slots: OwnSlots,
+    key: Key,
+    pause: &P,
+) -> (OwnSlots, Reply)
+    requires { MayCall lazy table.now.table_id table.now.key slots place.old }
+    ensures { HasCalled lazy (Add key) place.old result place.new }
+{
+    make::<Brand, R, P>(rt, table, place, slots, Call::Add(key), pause)
+}
+
+/// Makes a whole `remove` of `key`, as [`lazy_add_on`] an `add`.
+pub fn lazy_remove_on<R: Wait, P: Pause>(
+    rt: &R,
+    table: &Words<LazyList>,
+    place: &mut TableSeat,
+    slots: OwnSlots,
+    key: Key,
+    pause: &P,
+) -> (OwnSlots, Reply)
+    requires { MayCall lazy table.now.table_id table.now.key slots place.old }
+    ensures { HasCalled lazy (Remove key) place.old result place.new }
+{
+    make::<Brand, R, P>(rt, table, place, slots, Call::Remove(key), pause)
+}

@@ -1,0 +1,150 @@
+//! LockFreeList: no locks. A node is marked by an exchange of its link, and walks take marked nodes out.
+ghost use Rattle.std.specs.Prelude.{◌≡◌};
+ghost use Rattle.lset_words.specs.declared.Call.TheVariants.{Add, Remove};
+ghost use Rattle.lset_steps.specs.ReadRows.{first_row};
+ghost use Rattle.lset_lock_free.specs.LockFree.{lock_free};
+ghost use Rattle.lset_rule.specs.Seats.{HasCalled, MayCall};
+ghost use Rattle.lset_caller.specs.Begun.{IsCall};
+ghost use Rattle.lset_caller.specs.Calling.{HasAnswered, MayBegin};
+ghost use Rattle.lset_loops.specs.LockFree.{AtLink, HasTried, StopsAt};
+
+use lset_caller::{Caller, Decision, Found, Node, Origin, decide, one_more};
+use lset_lock_free::LockFreeList;
+use lset_rule::{OwnSlots, Pause, TableSeat, Words};
+use lset_words::{Call, Key, Reply};
+use std::marker::{Brand, PhantomData};
+use std::sync::Wait;
+
+/// Walks from the head, whose link led to `first`, to the first key that is not below that of the call, and takes marked
+/// nodes out on its way (Herlihy and Shavit's `find`).
+fn find<O: Origin, R: Wait, P: Pause>(
+    rt: &R,
+    caller: &Caller<LockFreeList, O, P>,
+    place: &mut TableSeat,
+    first: Node,
+) -> Found
+    requires { AtLink O.begun caller.now.slots 0 first.number place.old }
+    ensures { StopsAt O.begun caller.now.slots result place.new }
+{
+    let key = caller.key;
+    let mut pred = Node::head();
+    let mut curr = first;
+    for _ in rt.forever() {
+        let link = caller.load_link(place, curr); // row 2
+        let succ = Node::behind(link);
+        if link % 2 != 0 {
+            if caller.exchange_link(place, pred, curr, succ) { // row 3
+                caller.goes_on();
+                curr = succ;
+                continue;
+            }
+            pred = Node::head();
+            curr = Node::behind(caller.load_link(place, pred)); // row 1
+            continue;
+        }
+        let word = caller.look_at_key(place, curr); // row 4
+        if word >= key {
+            return Found { pred, curr, word };
+        }
+        caller.goes_on();
+        pred = curr;
+        curr = succ;
+    }
+    unreachable!()
+}
+
+/// Does what the call does at the key that was found. `None` where a link was another by then.
+fn attempt<O: Origin, P: Pause>(
+    caller: &Caller<LockFreeList, O, P>,
+    place: &mut TableSeat,
+    found: Found,
+) -> Option<(OwnSlots, Reply)>
+    requires { StopsAt O.begun caller.now.slots found place.old }
+    ensures { HasTried O.begun caller.now.slots result place.new }
+{
+    match decide(caller.call, found.word, caller.slots) {
+        Decision::PutIn => {
+            caller.goes_on();
+            let node = caller.fill_slot(place, found.curr); // rows 5, 6
+            if !caller.exchange_link(place, found.pred, found.curr, node) { // row 7
+                return None;
+            }
+            Some((one_more(caller.slots), Reply::True))
+        }
+        Decision::TakeOut => {
+            caller.goes_on();
+            let succ = Node::behind(caller.load_link(place, found.curr)); // row 8
+            if !caller.exchange_mark(place, found.curr, succ) { // row 9
+                return None;
+            }
+            caller.goes_on();
+            caller.exchange_link_last(place, found.pred, found.curr, succ); // row 10
+            Some((caller.slots, Reply::True))
+        }
+        Decision::Answer(reply) => Some((caller.slots, reply)),
+    }
+}
+
+fn make<O: Origin, R: Wait, P: Pause>(
+    rt: &R,
+    table: &Words<LockFreeList>,
+    place: &mut TableSeat,
+    slots: OwnSlots,
+    call: Call,
+    pause: &P,
+) -> (OwnSlots, Reply)
+    requires begins { MayBegin lock_free O.begun slots place.old }
+    requires call { IsCall O.begun call table.now.table_id table.now.key }
+    requires walks { first_row O.begun.call ≡ 1 }
+    ensures { HasAnswered lock_free O.begun result place.new }
+{
+    let caller = Caller::<'_, LockFreeList, O, P> {
+        table,
+        pause,
+        slots,
+        call,
+        key: call.key().word(),
+        origin: PhantomData,
+    };
+    let mut link = caller.begin_at_head(place); // row 1
+    for _ in rt.forever() {
+        let found = find(rt, &caller, place, Node::behind(link));
+        match attempt(&caller, place, found) {
+            Some(answer) => return answer,
+            None => link = caller.load_link(place, Node::head()), // row 1
+        }
+    }
+    unreachable!()
+}
+
+/// Makes a whole `add` of `key` to a LockFreeList: it walks to its place and puts its next slot in there, or starts over
+/// where the link has changed. (Herlihy and Shavit's lock-free list.)
+pub fn lock_free_add_on<R: Wait, P: Pause>(
+    rt: &R,
+    table: &Words<LockFreeList>,
+    place: &mut TableSeat,
+    slots: OwnSlots,
+    key: Key,
+    pause: &P,
+) -> (OwnSlots, Reply)
+    requires { MayCall lock_free table.now.table_id table.now.key slots place.old }
+    ensures { HasCalled lock_free (Add key) place.old result place.new }
+{
+    make::<Brand, R, P>(rt, table, place, slots, Call::Add(key), pause)
+}
+
+/// Makes a whole `remove` of `key`: it marks the node, or starts over where its link has changed, and tries once to take it
+/// out.
+pub fn lock_free_remove_on<R: Wait, P: Pause>(
+    rt: &R,
+    table: &Words<LockFreeList>,
+    place: &mut TableSeat,
+    slots: OwnSlots,
+    key: Key,
+    pause: &P,
+) -> (OwnSlots, Reply)
+    requires { MayCall lock_free table.now.table_id table.now.key slots place.old }
+    ensures { HasCalled lock_free (Remove key) place.old result place.new }
+{
+    make::<Brand, R, P>(rt, table, place, slots, Call::Remove(key), pause)
+}

@@ -1,0 +1,332 @@
+-- What comes after a header is read from its lines, and from nothing else: once for every text with lines of events.
+use Rattle.std.proofs.Common.{◌≡◌, ℕ, ◌+◌, ◌<◌, ◌≤◌, ◌^◌, inl, inr, Bool, true, false, cond, ltb, List, [], ◌∷◌, ◌++◌, map, length}
+use Rattle.std.proofs.Common.{Result, Ok, Err, refl, sym, ap, subst, ◌∙◌, arith, append_assoc, length-append, codes}
+use Rattle.std.specs.Fmt.{decimal}
+use Rattle.std.specs.List.{sum_by, AllByRecursion}
+use Rattle.std.specs.List.Sorted.{IsStrictlyIncreasing}
+use Rattle.std.proofs.lemmas.Bool.{lt-ltb, le-ltb, ltb-true, ltb-false}
+use Rattle.std.proofs.lemmas.List.{append-nil, map_push}
+use Rattle.std.proofs.lemmas.List.Elements.{All-append, All-cons, All-nil, recursion_from_All}
+use Rattle.std.proofs.lemmas.List.Sums.{sum_by-cons, sum_by-append}
+use Rattle.lset_words.specs.declared.TheConstants.{MOST_OPENING}
+use Rattle.lset_words.specs.Words.{Opens}
+use Rattle.lset_text.specs.declared.headers.Header.{Header}
+use Rattle.lset_text.specs.declared.words.Version.{Version}
+use Rattle.lset_text.specs.declared.words.Version.TheVariants.{One, Two}
+use Rattle.lset_text.specs.Parts.{cut_at, line_of, text_of, Lacks}
+use Rattle.lset_text.specs.Forms.{have_form}
+use Rattle.lset_text.specs.Kinds.{LineKind, made, first_of, line_in}
+use Rattle.lset_text.specs.Lines.{lines_from, Leads}
+use Rattle.lset_text.specs.Results.{◌>>=◌, map_fault}
+use Rattle.lset_text.specs.Headers.{header_lines, header_of, IsHeader}
+use Rattle.lset_text.specs.Openings.{opening_form, opening_line, opening_lines, is_above, HasOpening}
+use Rattle.lset_text.proofs.PartLaws.{text_from_lines, cut_lines}
+use Rattle.lset_text.proofs.ReadingLaws.{bind_ok, map_fault_ok, ok_is}
+use Rattle.lset_text.proofs.HeaderLaws.{header_ok, header_again, header_lacks}
+use Rattle.lset_text.proofs.OpeningLaws.{rises_more, above_before, openings_lack}
+use Rattle.lset_text.proofs.KindLaws.{Knows, IsMade, line_found, line_made, line_made_lacks}
+use Rattle.lset_text.proofs.LineLaws.{lines_found, lines_again, lines_keep, leads_on}
+use Rattle.lset_schedule.specs.declared.TheConstants.{MOST_EVENTS}
+use Rattle.lset_schedule.specs.declared.fault.Cause.{Cause}
+use Rattle.lset_schedule.specs.declared.fault.Cause.TheVariants.{TooMany, Opening}
+use Rattle.lset_schedule.specs.declared.fault.ScheduleFault.{ScheduleFault}
+use Rattle.lset_schedule.specs.Plan.{first_line}
+use Rattle.lset_schedule.specs.ScheduleReading.{in_schedule, causes, EventLines, BodyValue, nothing, Item, opens, event, kind_as}
+use Rattle.lset_schedule.specs.ScheduleReading.{opening_kind, kinds_after, with_item, with_line, grammar, text_in}
+use Rattle.lset_schedule.proofs.KindsAs.{first_as, knows_as, made_as}
+
+all_push : {X : Type 0} (P : X → Type 0) (xs : List X) (x : X) → AllByRecursion P xs → P x → AllByRecursion P (xs ++ x ∷ [])
+all_push P [] x all one = (one, tt)
+all_push P (y ∷ ys) x all one = (all.0, all_push P ys x all.1 one)
+
+both_lack : (xs ys : List (List ℕ)) → AllByRecursion (Lacks 10) xs → AllByRecursion (Lacks 10) ys →
+    AllByRecursion (Lacks 10) (xs ++ ys)
+both_lack [] ys xl yl = yl
+both_lack (x ∷ xs) ys xl yl = (xl.0, both_lack xs ys xl.1 yl)
+
+-- ---- what one line adds
+
+room_for_key : {L : Type 0} (b c : Bool) (s t : BodyValue L)
+    → cond b (cond c (Ok s) (Err Opening)) (Err TooMany) ≡ Ok t → (b ≡ true) × (c ≡ true) × (s ≡ t)
+room_for_key true true s t is = (refl, refl, ok_is s t is)
+room_for_key true false s t is = absurd cc
+room_for_key false c s t is = absurd cc
+
+room_for_events : {L : Type 0} (b : Bool) (s t : BodyValue L) → cond b (Err TooMany) (Ok s) ≡ Ok t → (b ≡ false) × (s ≡ t)
+room_for_events true s t is = absurd cc
+room_for_events false s t is = (refl, ok_is s t is)
+
+-- WHAT HAS A TEXT of a version, behind a header
+pub record HasText {L : Type 0} (text : EventLines L) (v : Version) (Good : L → Type 0) (h : Header) (s : BodyValue L) : Type 0 where
+  pub opens : Opens (record { threads = h.threads; quota = h.quota; keys = s.keys })
+  pub opening : HasOpening v s.keys
+  pub lines : AllByRecursion Good s.lines
+  pub few : sum_by text.count s.lines ≤ MOST_EVENTS
+
+pub header_fits : (h : Header) (keys : List ℕ) → Opens (record { threads = h.threads; quota = h.quota; keys = keys }) → IsHeader h
+header_fits h keys is = record {
+  some = is.within.some;
+  few = is.within.few;
+  small = is.within.small;
+  opens = omega arith;
+}
+
+-- Of the kinds of lines of events it is known what they make, and that they make each good one; and no good one has the form of an
+-- opening key.
+module _ {L : Type 0} (text : EventLines L) (v : Version) (pieces : L → List (List ℕ)) (Good : L → Type 0)
+    (known : AllByRecursion (Knows v pieces Good) text.kinds) (makes : (l : L) → Good l → IsMade v pieces text.kinds l)
+    (apart : (l : L) → Good l → have_form v opening_form (pieces l) ≡ false) where
+  abbrev item_pieces : Item L → List (List ℕ)
+  item_pieces (opens k) = codes "opening" ∷ decimal k ∷ []
+  item_pieces (event l) = pieces l
+
+  abbrev IsItem : Item L → Type 0
+  IsItem (opens k) = (k < 2 ^ 32) × (v ≡ Two)
+  IsItem (event l) = Good l
+
+  abbrev line_text : L → List ℕ
+  line_text l = line_of (pieces l)
+
+  abbrev body_lines : BodyValue L → List (List ℕ)
+  body_lines s = opening_lines s.keys ++ map line_text s.lines
+
+  -- ---- the kinds that may come
+
+  events_known : AllByRecursion (Knows v item_pieces IsItem) (map (kind_as event) text.kinds)
+  events_known = knows_as event v pieces item_pieces (λ l. refl) Good IsItem (λ l good. good) text.kinds known
+
+  opening_known : v ≡ Two → Knows v item_pieces IsItem opening_kind
+  opening_known two = ((refl, (omega arith, tt)), λ t fit. (refl, (omega (arith, fit.1.0.1), two)))
+
+  known_after : (w : Version) (ls : List L) → w ≡ v → AllByRecursion (Knows v item_pieces IsItem) (kinds_after text w ls)
+  known_after One ls is = events_known
+  known_after Two [] is = (opening_known (sym is), events_known)
+  known_after Two (l ∷ ls) is = events_known
+
+  event_made : (l : L) → Good l → IsMade v item_pieces (map (kind_as event) text.kinds) (event l)
+  event_made l good = made_as event v pieces item_pieces (λ x. refl) text.kinds l (makes l good)
+
+  made_after : (w : Version) (ls : List L) (l : L) → Good l → IsMade v item_pieces (kinds_after text w ls) (event l)
+  made_after One ls l good = event_made l good
+  made_after Two [] l good = inr (apart l good, event_made l good)
+  made_after Two (x ∷ ls) l good = event_made l good
+
+  no_key : (r : Result L Cause) (k : ℕ) → made event r ≡ Ok (opens k) → ⊥
+  no_key (Ok l) k is = cc
+  no_key (Err c) k is = cc
+
+  -- an opening key comes where no line of an event stands
+  none_above : (w : Version) (ls : List L) (ps : List (List ℕ)) (k : ℕ) → first_of v causes (kinds_after text w ls) ps ≡ Ok (opens k)
+      → ls ≡ []
+  none_above One ls ps k is = absurd (no_key (first_of v causes text.kinds ps) k (sym (first_as event v causes text.kinds ps) ∙ is))
+  none_above Two [] ps k is = refl
+  none_above Two (l ∷ ls) ps k is =
+      absurd (no_key (first_of v causes text.kinds ps) k (sym (first_as event v causes text.kinds ps) ∙ is))
+
+  -- ---- one line
+
+  -- what it adds to a body with a text
+  abbrev Adds : Header → BodyValue L → BodyValue L → Item L → Type 0
+  Adds h s t i = (body_lines t ≡ body_lines s ++ line_of (item_pieces i) ∷ []) × (HasText text v Good h s → HasText text v Good h t)
+
+  key_adds : (h : Header) (s t : BodyValue L) (k : ℕ) → IsItem (opens k) → s.lines ≡ [] → with_item text s (opens k) ≡ Ok t
+      → Adds h s t (opens k)
+  key_adds h s t k is none e =
+      let more : BodyValue L = record s { keys = s.keys ++ k ∷ [] } in
+      let room = room_for_key (ltb (length s.keys) MOST_OPENING) (is_above s.keys k) more t e in
+      let empty : map line_text s.lines ≡ [] = ap (λ (ls : List L). map line_text ls) none in
+      let keys = opening_lines s.keys in
+      let lines : body_lines more ≡ body_lines s ++ opening_line k ∷ [] =
+      ap (λ (ls : List (List ℕ)). opening_lines (s.keys ++ k ∷ []) ++ ls) empty ∙ append-nil (opening_lines (s.keys ++ k ∷ []))
+      ∙ map_push opening_line s.keys k
+      ∙ ap (λ (ls : List (List ℕ)). ls ++ opening_line k ∷ []) (sym (append-nil keys) ∙ ap (λ (ls : List (List ℕ)). keys ++ ls) (sym empty))
+      in
+      subst (λ u. Adds h s u (opens k)) room.2 (
+        lines,
+        λ has. record {
+          opens = record {
+            within = record {
+              some = has.opens.within.some;
+              few = has.opens.within.few;
+              small = has.opens.within.small;
+              opens = omega (arith, ltb-true _ _ room.0, length-append s.keys (k ∷ []));
+            };
+            rising = rises_more s.keys k has.opens.rising room.1;
+            low = All-append (λ (n : ℕ). n < 2 ^ 32) s.keys (k ∷ []) has.opens.low
+                (All-cons (λ (n : ℕ). n < 2 ^ 32) k [] is.0 (All-nil (λ (n : ℕ). n < 2 ^ 32)));
+          };
+          opening = subst (λ w. HasOpening w (s.keys ++ k ∷ [])) (sym is.1) tt;
+          lines = has.lines;
+          few = has.few;
+        },
+      )
+
+  event_adds : (h : Header) (s t : BodyValue L) (l : L) → Good l → with_item text s (event l) ≡ Ok t → Adds h s t (event l)
+  event_adds h s t l good e =
+      let more : BodyValue L = record s { lines = s.lines ++ l ∷ [] } in
+      let room = room_for_events (ltb MOST_EVENTS (sum_by text.count s.lines + text.count l)) more t e in
+      let keys = opening_lines s.keys in
+      let lines : body_lines more ≡ body_lines s ++ line_text l ∷ [] =
+      ap (λ (ls : List (List ℕ)). keys ++ ls) (map_push line_text s.lines l)
+      ∙ sym (append_assoc keys (map line_text s.lines) (line_text l ∷ [])) in
+      let sum = sum_by-append text.count s.lines (l ∷ []) in
+      let last = sum_by-cons text.count l [] in
+      subst (λ u. Adds h s u (event l)) room.1 (
+        lines,
+        λ has. record {
+          opens = has.opens;
+          opening = has.opening;
+          lines = all_push Good s.lines l has.lines good;
+          few = omega (arith, sum, last, ltb-false _ _ room.0);
+        },
+      )
+
+  item_adds : (h : Header) (s t : BodyValue L) (ps : List (List ℕ)) (i : Item L) → IsItem i
+      → first_of v causes (kinds_after text v s.lines) ps ≡ Ok i → with_item text s i ≡ Ok t → Adds h s t i
+  item_adds h s t ps (opens k) is told e = key_adds h s t k is (none_above v s.lines ps k told) e
+  item_adds h s t ps (event l) is told e = event_adds h s t l is e
+
+  line_adds : (h : Header) (s t : BodyValue L) (x : List ℕ) → with_line text v s x ≡ Ok t
+      → (body_lines t ≡ body_lines s ++ x ∷ []) × (HasText text v Good h s → HasText text v Good h t)
+  line_adds h s t x is =
+      let kinds = kinds_after text v s.lines in
+      let i = bind_ok (line_in v causes kinds x) (with_item text s) t is in
+      let found = line_found v causes item_pieces IsItem kinds x i.0 (known_after v s.lines refl) i.1 in
+      let added = item_adds h s t (cut_at 32 x) i.0 found.1 i.1 i.2 in
+      (added.0 ∙ ap (λ (y : List ℕ). body_lines s ++ y ∷ []) (sym found.0), added.1)
+
+  -- ---- what stands there is read
+
+  event_step : (s : BodyValue L) (l : L) → Good l → sum_by text.count s.lines + text.count l ≤ MOST_EVENTS
+      → with_line text v s (line_text l) ≡ Ok (record s { lines = s.lines ++ l ∷ [] })
+  event_step s l good few =
+      let kinds = kinds_after text v s.lines in
+      rw (
+        line_made v causes item_pieces IsItem kinds (event l) (known_after v s.lines refl) (made_after v s.lines l good),
+        le-ltb MOST_EVENTS (sum_by text.count s.lines + text.count l) few,
+      ) refl
+
+  events_lead : (s : BodyValue L) (ls : List L) → AllByRecursion Good ls → sum_by text.count s.lines + sum_by text.count ls ≤ MOST_EVENTS
+      → Leads (grammar text v) s (map line_text ls) (record s { lines = s.lines ++ ls })
+  events_lead s [] are few = ap (λ (xs : List L). record s { lines = xs }) (sym (append-nil s.lines))
+  events_lead s (l ∷ ls) are few =
+      let next : BodyValue L = record s { lines = s.lines ++ l ∷ [] } in
+      let one = sum_by-cons text.count l ls in
+      let more = sum_by-append text.count s.lines (l ∷ []) in
+      let last = sum_by-cons text.count l [] in
+      let rest = events_lead next ls are.1 (omega (arith, few, one, more, last)) in (
+        next,
+        event_step s l are.0 (omega (arith, few, one)),
+        subst (λ (xs : List L). Leads (grammar text v) next (map line_text ls) (record s { lines = xs }))
+            (append_assoc s.lines (l ∷ []) ls) rest,
+      )
+
+  abbrev of_keys : List ℕ → BodyValue L
+  of_keys ks = record { keys = ks; lines = [] }
+
+  key_step : (ks : List ℕ) (k : ℕ) → v ≡ Two → k < 2 ^ 32 → length ks < MOST_OPENING → is_above ks k ≡ true
+      → with_line text v (of_keys ks) (opening_line k) ≡ Ok (of_keys (ks ++ k ∷ []))
+  key_step ks k two low few above =
+      let kinds : List (LineKind (Item L)) = opening_kind ∷ map (kind_as event) text.kinds in
+      let told : line_in v causes kinds (opening_line k) ≡ Ok (opens k) =
+      line_made v causes item_pieces IsItem kinds (opens k) (opening_known two, events_known)
+      (inl ((tt, (k, tt)), refl, (tt, ((omega arith, omega (arith, low)), tt)))) in
+      let first : kinds_after text v [] ≡ kinds = ap (λ w. kinds_after text w []) two in
+      rw (first, told, lt-ltb (length ks) MOST_OPENING few, above) refl
+
+  keys_lead : (ks more : List ℕ) → v ≡ Two → IsStrictlyIncreasing (ks ++ more) → length (ks ++ more) ≤ MOST_OPENING
+      → AllByRecursion (λ (k : ℕ). k < 2 ^ 32) more → Leads (grammar text v) (of_keys ks) (opening_lines more) (of_keys (ks ++ more))
+  keys_lead ks [] two rising few low = ap of_keys (sym (append-nil ks))
+  keys_lead ks (k ∷ more) two rising few low =
+      let grouped : (ks ++ k ∷ []) ++ more ≡ ks ++ k ∷ more = append_assoc ks (k ∷ []) more in
+      let one : length ks < MOST_OPENING = omega (arith, few, length-append ks (k ∷ more)) in
+      let rest = keys_lead (ks ++ k ∷ []) more two (subst IsStrictlyIncreasing (sym grouped) rising)
+      (subst (λ (xs : List ℕ). length xs ≤ MOST_OPENING) (sym grouped) few) low.1 in (
+        of_keys (ks ++ k ∷ []),
+        key_step ks k two low.0 one (above_before ks k more rising),
+        subst (λ (xs : List ℕ). Leads (grammar text v) (of_keys (ks ++ k ∷ [])) (opening_lines more) (of_keys xs)) grouped rest,
+      )
+
+  all_keys_lead : (w : Version) (h : Header) (t : BodyValue L) → w ≡ v → HasOpening w t.keys → HasText text v Good h t
+      → Leads (grammar text v) nothing (opening_lines t.keys) (of_keys t.keys)
+  all_keys_lead One h t is none has =
+      subst (λ (ks : List ℕ). Leads (grammar text v) nothing (opening_lines ks) (of_keys ks)) (sym none) refl
+  all_keys_lead Two h t is some has =
+      keys_lead [] t.keys (sym is) has.opens.rising has.opens.within.opens
+      (recursion_from_All (λ (k : ℕ). k < 2 ^ 32) t.keys has.opens.low)
+
+  body_again : (h : Header) (t : BodyValue L) → HasText text v Good h t
+      → lines_from (grammar text v) first_line nothing (body_lines t ++ [] ∷ []) ≡ Ok t
+  body_again h t has =
+      lines_again (grammar text v) first_line nothing t (body_lines t)
+      (leads_on (grammar text v) nothing (of_keys t.keys) t (opening_lines t.keys) (map line_text t.lines)
+      (all_keys_lead v h t refl has.opening has) (events_lead (of_keys t.keys) t.lines has.lines (omega (arith, has.few)))) refl
+
+  -- ---- the whole
+
+  abbrev text_lines : List ℕ → Header → BodyValue L → List (List ℕ)
+  text_lines title h s = header_lines title h ++ body_lines s
+
+  no_events : (h : Header) → IsHeader h → HasText text v Good h nothing
+  no_events h is = record {
+    opens = record {
+      within = record { some = is.some; few = is.few; small = is.small; opens = omega arith };
+      rising = λ k l. absurd (omega arith);
+      low = All-nil (λ (k : ℕ). k < 2 ^ 32);
+    };
+    opening = none v;
+    lines = tt;
+    few = omega arith;
+  }
+    where
+      none : (w : Version) → HasOpening w []
+      none One = refl
+      none Two = tt
+
+  -- WHAT IS READ is a text
+  pub text_found : (title bytes : List ℕ) (told : Header × BodyValue L) → text_in text v title (cut_at 10 bytes) ≡ Ok told
+      → HasText text v Good told.0 told.1 × (bytes ≡ text_of (text_lines title told.0 told.1))
+  unfolding text_in
+  text_found title bytes told is =
+      let body_after : Header × List (List ℕ) → Result (Header × BodyValue L) ScheduleFault =
+      λ head. lines_from (grammar text v) first_line nothing head.1 >>= λ body. Ok (head.0, body) in
+      let head = bind_ok (map_fault in_schedule (header_of title (cut_at 10 bytes))) body_after told is in
+      let body = bind_ok (lines_from (grammar text v) first_line nothing head.0.1) (λ body. Ok (head.0.0, body)) told head.2 in
+      let header = header_ok title (cut_at 10 bytes) head.0 (map_fault_ok in_schedule (header_of title (cut_at 10 bytes)) head.0 head.1)
+      in
+      let after = lines_found (grammar text v) body_lines (λ s t x e. (line_adds head.0.0 s t x e).0) (λ s t e. ok_is s t e) first_line
+      nothing body.0 head.0.1 header.2 body.1 in
+      let has = lines_keep (grammar text v) (HasText text v Good head.0.0) (λ s t x p e. (line_adds head.0.0 s t x e).1 p)
+      (λ s t e. ok_is s t e) first_line nothing body.0 head.0.1 (no_events head.0.0 header.1) body.1 in
+      let lines = header_lines title head.0.0 in
+      let parts : cut_at 10 bytes ≡ text_lines title head.0.0 body.0 ++ [] ∷ [] =
+      header.0 ∙ ap (λ (ps : List (List ℕ)). lines ++ ps) after.0 ∙ sym (append_assoc lines (body_lines body.0) ([] ∷ [])) in
+      subst (λ (t : Header × BodyValue L). HasText text v Good t.0 t.1 × (bytes ≡ text_of (text_lines title t.0 t.1)))
+      (ok_is (head.0.0, body.0) told body.2) (has, text_from_lines bytes (text_lines title head.0.0 body.0) parts)
+
+  lines_lack : (ls : List L) → AllByRecursion Good ls → AllByRecursion (Lacks 10) (map line_text ls)
+  lines_lack [] are = tt
+  lines_lack (l ∷ ls) are = (line_made_lacks v pieces Good text.kinds l known (makes l are.0), lines_lack ls are.1)
+
+  some_more : (ls : List (List ℕ)) → (y : List ℕ) × (more : List (List ℕ)) × (ls ++ [] ∷ [] ≡ y ∷ more)
+  some_more [] = ([], [], refl)
+  some_more (l ∷ ls) = (l, ls ++ [] ∷ [], refl)
+
+  pub text_cut : (title : List ℕ) (h : Header) (s : BodyValue L) → Lacks 10 title → HasText text v Good h s
+      → cut_at 10 (text_of (text_lines title h s)) ≡ text_lines title h s ++ [] ∷ []
+  text_cut title h s free has =
+      let head = header_lacks title h free (header_fits h s.keys has.opens) in
+      let keys = openings_lack s.keys (recursion_from_All (λ (k : ℕ). k < 2 ^ 32) s.keys has.opens.low) in
+      let after = both_lack (opening_lines s.keys) (map line_text s.lines) keys (lines_lack s.lines has.lines) in
+      cut_lines (text_lines title h s) (both_lack (header_lines title h) (body_lines s) head after)
+
+  -- WHAT IS A TEXT is read
+  pub text_again : (title : List ℕ) (h : Header) (s : BodyValue L) → HasText text v Good h s
+      → text_in text v title (text_lines title h s ++ [] ∷ []) ≡ Ok (h, s)
+  unfolding text_in
+  text_again title h s has =
+      let lines = header_lines title h in
+      let some = some_more (body_lines s) in
+      let first : header_of title (lines ++ (body_lines s ++ [] ∷ [])) ≡ Ok (h, body_lines s ++ [] ∷ []) =
+      rw some.2 (header_again title h some.0 some.1 (header_fits h s.keys has.opens)) in
+      rw (append_assoc lines (body_lines s) ([] ∷ []), first, body_again h s has) refl

@@ -1,0 +1,129 @@
+-- Reading what comes after a header line by line, as the loop does: which line a fault stands in, and that want of memory is none.
+use Rattle.std.proofs.Common.{◌≡◌, ℕ, ◌+◌, inl, inr, Bool, true, false, cond, ltb, List, [], ◌∷◌, ◌++◌, length}
+use Rattle.std.proofs.Common.{Option, Some, None, Result, Ok, Err, refl, sym, ap, subst, ◌∙◌, arith, codes}
+use Rattle.std.specs.Prelude.{◌≢◌, IfErr, MatchOption}
+use Rattle.std.specs.Result.{IsErrAnd}
+use Rattle.std.specs.List.{sum_by}
+use Rattle.lset_words.specs.declared.TheConstants.{MOST_OPENING}
+use Rattle.lset_text.specs.declared.headers.Header.{Header}
+use Rattle.lset_text.specs.declared.words.Version.{Version}
+use Rattle.lset_text.specs.declared.words.Version.TheVariants.{One, Two}
+use Rattle.lset_text.specs.Parts.{cut_at}
+use Rattle.lset_text.specs.Numbers.{number_in, max_number}
+use Rattle.lset_text.specs.Forms.{have_form, both}
+use Rattle.lset_text.specs.Kinds.{made, line_in}
+use Rattle.lset_text.specs.Lines.{lines_from, IsFaultlessTo, IsGoodLine, Stands}
+use Rattle.lset_text.specs.Results.{◌>>=◌, or_fail}
+use Rattle.lset_text.specs.Headers.{header_of}
+use Rattle.lset_text.specs.Openings.{opening_form, is_above}
+use Rattle.lset_text.proofs.HeaderLaws.{header_ok}
+use Rattle.lset_text.proofs.KindLaws.{IsOneOf, first_fails}
+use Rattle.lset_text.proofs.LineLaws.{bind_err, stops, is_good}
+use Rattle.lset_schedule.specs.declared.TheConstants.{MOST_EVENTS}
+use Rattle.lset_schedule.specs.declared.fault.Cause.{Cause}
+use Rattle.lset_schedule.specs.declared.fault.Cause.TheVariants.{Number, TooMany, Opening, Memory}
+use Rattle.lset_schedule.specs.declared.fault.ScheduleFault.{ScheduleFault}
+use Rattle.lset_schedule.specs.Plan.{first_line}
+use Rattle.lset_schedule.specs.ScheduleReading.{fault, causes, EventLines, BodyValue, nothing, Item, opens, event}
+use Rattle.lset_schedule.specs.ScheduleReading.{kinds_after, with_item, with_line, grammar, text_in, IsGoodAfterHeader, Takes}
+use Rattle.lset_schedule.proofs.KindsAs.{first_as}
+
+-- ---- a line that may be one of an opening key
+
+number_told : {L : Type 0} (o : Option ℕ) → (let word : Option (Unit {0}) = Some tt in
+    made {Y = Item L} (λ t. opens t.1.0) (or_fail Number (both word (both o word)))) ≡ made opens (or_fail Number o)
+number_told None = refl
+number_told (Some n) = refl
+
+-- where no line of an event stands, in a text of the second version
+pub key_told : {L K : Type 0} (text : EventLines L) (ls : List L) (line : List ℕ) (now : K → List ℕ) (o : Option K) → ls ≡ []
+    → MatchOption o (have_form Two opening_form (cut_at 32 line) ≡ false) (λ key. cut_at 32 line ≡ codes "opening" ∷ now key ∷ [])
+    → MatchOption o (line_in Two causes (kinds_after text Two ls) line ≡ made event (line_in Two causes text.kinds line))
+    (λ key. line_in Two causes (kinds_after text Two ls) line ≡ made opens (or_fail Number (number_in 0 max_number (now key))))
+key_told text ls line now None none other = rw (none, other) (first_as event Two causes text.kinds (cut_at 32 line))
+key_told text ls line now (Some key) none is = rw (none, is) (number_told (number_in 0 max_number (now key)))
+
+-- and where one may not come
+pub not_due : {L : Type 0} (text : EventLines L) (v : Version) (ls : List L) (line : List ℕ) → (v ≡ Two → ls ≡ [] → ⊥)
+    → line_in v causes (kinds_after text v ls) line ≡ made event (line_in v causes text.kinds line)
+not_due text One ls line not = first_as event One causes text.kinds (cut_at 32 line)
+not_due text Two [] line not = absurd (not refl refl)
+not_due text Two (l ∷ ls) line not = first_as event Two causes text.kinds (cut_at 32 line)
+
+-- ---- no check fails by want of memory
+
+key_fails : {L : Type 0} (b c : Bool) (s : BodyValue L) → cond b (cond c (Ok s) (Err Opening)) (Err TooMany) ≡ Err Memory → ⊥
+key_fails true true s is = cc
+key_fails true false s is = cc
+key_fails false c s is = cc
+
+event_fails : {L : Type 0} (b : Bool) (s : BodyValue L) → cond b (Err TooMany) (Ok s) ≡ Err Memory → ⊥
+event_fails true s is = cc
+event_fails false s is = cc
+
+item_fails : {L : Type 0} (text : EventLines L) (s : BodyValue L) (i : Item L) → with_item text s i ≡ Err Memory → ⊥
+item_fails text s (opens k) is =
+    key_fails (ltb (length s.keys) MOST_OPENING) (is_above s.keys k) (record s { keys = s.keys ++ k ∷ [] }) is
+item_fails text s (event l) is =
+    event_fails (ltb MOST_EVENTS (sum_by text.count s.lines + text.count l)) (record s { lines = s.lines ++ l ∷ [] }) is
+
+no_cause : IsOneOf causes Memory → ⊥
+no_cause (inl is) = cc
+no_cause (inr is) = cc
+
+never_memory : {L : Type 0} (text : EventLines L) (v : Version) (s : BodyValue L) (x : List ℕ) → with_line text v s x ≡ Err Memory → ⊥
+never_memory text v s x is =
+    elim (bind_err (line_in v causes (kinds_after text v s.lines) x) (with_item text s) Memory is) [
+      | inl bad ↦ no_cause (first_fails v causes (kinds_after text v s.lines) (cut_at 32 x) Memory bad)
+      | inr bad ↦ item_fails text s bad.0 bad.2
+    ]
+
+-- ---- a line that is not taken
+
+module _ {L : Type 0} (text : EventLines L) (v : Version) (whole : List ℕ) (read : Result (BodyValue L) ScheduleFault) (number : ℕ)
+    (s t : BodyValue L) (rest x after : List ℕ) (parts : cut_at 10 rest ≡ x ∷ cut_at 10 after)
+    (stands : Stands (grammar text v) first_line whole read number s rest) where
+  pub refused : (cause : Cause) → Takes {X = Unit {0}} (with_line text v s x) t (Err cause) → cause ≢ Memory → read ≡ Err (fault number cause)
+  refused cause (inl is) other = stops (grammar text v) first_line whole read number s cause rest x after parts is stands
+  refused cause (inr none) other = absurd (other none.0)
+
+  pub out_of_memory : (cause : Cause) → Takes {X = Unit {0}} (with_line text v s x) t (Err cause) → cause ≡ Memory
+      → IsGoodLine (λ e. e.line) first_line (cut_at 10 whole) read number
+  out_of_memory cause (inl is) memory =
+      absurd (never_memory text v s x (is ∙ ap (λ (c : Cause). Err c) memory))
+  out_of_memory cause (inr none) memory =
+      is_good (grammar text v) (λ e. e.line) (λ line c. refl) first_line whole read number s none.1 rest x after parts none.2 stands
+
+-- ---- a fault that is passed on
+
+pub passed_on : {X : Type 0} (IsGood : ℕ → Type 0) (e : ScheduleFault) (answer : Result X ScheduleFault) →
+    IsErrAnd answer (λ f. f ≡ e)
+    → (e.cause ≡ Memory → IsGood e.line) → IfErr answer (λ f. f.cause ≡ Memory → IsGood f.line)
+passed_on IsGood e (Ok x) is good = tt
+passed_on IsGood e (Err f) is good = λ memory.
+    subst (λ (x : ScheduleFault). IsGood x.line) (sym is) (good (ap (λ (x : ScheduleFault). x.cause) (sym is) ∙ memory))
+
+still_faultless : {X Y : Type 0} (line : ℕ) (read : Result Y ScheduleFault) (f : Y → X) → IsFaultlessTo (λ e. e.line) line read
+    → IsFaultlessTo (λ e. e.line) line (read >>= λ y. Ok (f y))
+still_faultless line (Ok y) f good = tt
+still_faultless line (Err e) f good = good
+
+four_more : (parts more : List (List ℕ)) (a b c d : List ℕ) → parts ≡ a ∷ b ∷ c ∷ d ∷ more → length parts ≡ 4 + length more
+four_more parts more a b c d is = rw is (omega arith)
+
+-- a good line of what comes after the header is one of the text
+pub good_in_text : {L : Type 0} (text : EventLines L) (v : Version) (title bytes rest : List ℕ) (h : Header) (line : ℕ)
+    → header_of title (cut_at 10 bytes) ≡ Ok (h, cut_at 10 rest)
+    → IsGoodLine (λ e. e.line) first_line (cut_at 10 rest) (lines_from (grammar text v) first_line nothing (cut_at 10 rest)) line
+    → IsGoodAfterHeader bytes (text_in text v title (cut_at 10 bytes)) line
+unfolding text_in
+good_in_text text v title bytes rest h line is good =
+    let parts = (header_ok title (cut_at 10 bytes) (h, cut_at 10 rest) is).0 in
+    let counted = four_more (cut_at 10 bytes) (cut_at 10 rest) _ _ _ _ parts in (
+      omega (arith, good.0),
+      (
+        omega (arith, good.0),
+        omega (arith, good.1, counted),
+        rw is (still_faultless line (lines_from (grammar text v) first_line nothing (cut_at 10 rest)) (λ body. (h, body)) good.2),
+      ),
+    )

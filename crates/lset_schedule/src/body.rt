@@ -1,0 +1,187 @@
+ghost use Rattle.std.specs.Prelude.{◌≡◌, ◌∷◌, [], ◌<◌, ◌≤◌, codes, length, false, IfErr, MatchOption, OnOk};
+ghost use Rattle.lset_text.specs.Parts.{cut_at};
+ghost use Rattle.lset_text.specs.Forms.{have_form};
+ghost use Rattle.lset_text.specs.Lines.{lines_from, IsGoodLine};
+ghost use Rattle.lset_text.specs.Kinds.{line_in, made};
+ghost use Rattle.lset_text.specs.Openings.{opening_form};
+ghost use Rattle.lset_text.specs.Numbers.{number_in, max_number};
+ghost use Rattle.lset_text.specs.Results.{or_fail};
+ghost use Rattle.lset_schedule.specs.Plan.{first_line};
+ghost use Rattle.lset_schedule.specs.ScheduleReading.{
+  EventLines,
+  causes,
+  opens,
+  event,
+  kinds_after,
+  with_item,
+  with_line,
+  grammar,
+  nothing,
+  told,
+  text_in,
+  Counts,
+  Takes,
+  Gives,
+  IsGoodAfterHeader,
+};
+
+use crate::fault::{Cause, ScheduleFault};
+use crate::{FIRST_LINE, MOST_EVENTS};
+use lset_text::{Header, Version, cut, is_above, number, read_header};
+use lset_words::MOST_OPENING;
+use std::alloc::Global;
+
+/// A line of events, as the texts of one title have it.
+pub trait EventLine: Copy {
+    /// Its kinds, and for how many events a line of each counts.
+    ghost lines: { EventLines Self };
+
+    /// What a line of a text of this version tells, without its newline. `Event` where the line has not the pieces and
+    /// words of one, `Number` where a number is none, or outside its limits.
+    fn read(version: Version, line: &[u8]) -> Result<Self, Cause>
+        ensures { result ≡ line_in version causes lines.kinds line.now };
+
+    /// For how many events the line counts.
+    fn count(self) -> u32
+        ensures { result ≡ lines.count self };
+}
+
+/// What the lines after a header tell: opening keys, and then events.
+#[derive(Drop)]
+pub struct Body<L> {
+    pub opening: Vec<u32>,
+    pub lines: Vec<L>,
+    total: u32,
+}
+
+/// The piece of the key in a line that has the form of one of an opening key.
+fn opening_piece(line: &[u8]) -> Option<&[u8]>
+    ensures { MatchOption result (have_form Version.Two opening_form (cut_at 32 line.now) ≡ false)
+        (λ key. cut_at 32 line.now ≡ codes "opening" ∷ key.now ∷ []) }
+{
+    let (word, key) = cut(line, b' ')?;
+    if word != b"opening".as_slice() {
+        return None;
+    }
+    if let Some((_, _more)) = cut(key, b' ') {
+        return None;
+    }
+    Some(key)
+}
+
+impl<L: EventLine> Body<L> {
+    fn new(alloc: Global) -> Body<L>
+        ensures told { told result ≡ nothing }
+        ensures counts { Counts L.lines result }
+    {
+        Body {
+            opening: Vec::new(alloc),
+            lines: Vec::new(alloc),
+            total: 0,
+        }
+    }
+
+    /// The piece of the key in a line, where the line may be one of an opening key and has its form.
+    fn key_due<'a>(&self, version: Version, line: &'a [u8]) -> Option<&'a [u8]>
+        ensures { MatchOption result
+            (line_in version causes (kinds_after L.lines version self.now.lines.items) line.now
+            ≡ made event (line_in version causes L.lines.kinds line.now))
+            (λ key. line_in version causes (kinds_after L.lines version self.now.lines.items) line.now
+            ≡ made opens (or_fail Cause.Number (number_in 0 max_number key.now))) }
+    {
+        match version {
+            Version::Two if self.lines.is_empty() => opening_piece(line),
+            _ => None,
+        }
+    }
+
+    fn add_key(&mut self, key: u32) -> Result<(), Cause>
+        requires counts { Counts L.lines self.old }
+        ensures takes { Takes (with_item L.lines (told self.old) (opens key)) (told self.new) result }
+        ensures counts { OnOk result (Counts L.lines self.new) }
+    {
+        if self.opening.len() >= MOST_OPENING as usize {
+            return Err(Cause::TooMany);
+        }
+        if !is_above(&self.opening, key) {
+            return Err(Cause::Opening);
+        }
+        if self.opening.push(key).is_err() {
+            return Err(Cause::Memory);
+        }
+        Ok(())
+    }
+
+    fn add_event(&mut self, line: L) -> Result<(), Cause>
+        requires counts { Counts L.lines self.old }
+        ensures takes { Takes (with_item L.lines (told self.old) (event line)) (told self.new) result }
+        ensures counts { OnOk result (Counts L.lines self.new) }
+    {
+        let count = line.count();
+        if count > MOST_EVENTS - self.total {
+            return Err(Cause::TooMany);
+        }
+        if self.lines.push(line).is_err() {
+            return Err(Cause::Memory);
+        }
+        self.total += count;
+        Ok(())
+    }
+
+    fn read_line(&mut self, version: Version, line: &[u8]) -> Result<(), Cause>
+        requires counts { Counts L.lines self.old }
+        ensures takes { Takes (with_line L.lines version (told self.old) line.now) (told self.new) result }
+        ensures counts { OnOk result (Counts L.lines self.new) }
+    {
+        match self.key_due(version, line) {
+            Some(key) => {
+                let key = number(key, 0, u32::MAX).ok_or(Cause::Number)?;
+                self.add_key(key)
+            }
+            None => self.add_event(L::read(version, line)?),
+        }
+    }
+}
+
+/// What the lines after the header of a text of this version tell.
+fn read_body<L: EventLine>(
+    alloc: Global,
+    version: Version,
+    text: &[u8],
+) -> Result<Body<L>, ScheduleFault>
+    ensures exact { Gives told result (lines_from (grammar L.lines version) first_line nothing (cut_at 10 text.now)) }
+    ensures memory { IfErr result (λ e. e.cause ≡ Cause.Memory → IsGoodLine (λ e. e.line) first_line (cut_at 10 text.now)
+        (lines_from (grammar L.lines version) first_line nothing (cut_at 10 text.now)) e.line) }
+{
+    let mut body = Body::new(alloc);
+    let mut number = FIRST_LINE;
+    let mut rest = text;
+    while !rest.is_empty() {
+        let Some((line, after)) = cut(rest, b'\n') else {
+            return Err(ScheduleFault::at(number, Cause::NotEnded));
+        };
+        if let Err(cause) = body.read_line(version, line) {
+            return Err(ScheduleFault::at(number, cause));
+        }
+        number += 1;
+        rest = after;
+    }
+    Ok(body)
+}
+
+/// The header of a text of this version with this title, and what the lines after it tell, or the first fault of the text.
+#[tactic(auto, unfolding(crate::specs::ScheduleReading::text_in))]
+pub fn read_text<L: EventLine>(
+    alloc: Global,
+    version: Version,
+    title: &[u8],
+    text: &[u8],
+) -> Result<(Header, Body<L>), ScheduleFault>
+    ensures exact { Gives (λ t. (t.0, told t.1)) result (text_in L.lines version title.now (cut_at 10 text.now)) }
+    ensures memory { IfErr result (λ e. e.cause ≡ Cause.Memory
+        → IsGoodAfterHeader text.now (text_in L.lines version title.now (cut_at 10 text.now)) e.line) }
+{
+    let (header, rest) = read_header(title, text)?;
+    let body = read_body(alloc, version, rest)?;
+    Ok((header, body))
+}

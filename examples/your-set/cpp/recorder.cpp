@@ -1,0 +1,54 @@
+// Records a run of your set: fill in the three calls, and
+//     g++ -O2 -std=c++17 -pthread recorder.cpp -o recorder && ./recorder THREADS CALLS KEYS SEED > run.calls
+#include <atomic>
+#include <cstdio>
+#include <cstdlib>
+#include <mutex>
+#include <random>
+#include <thread>
+#include <vector>
+#include "lazy_list.hpp"
+
+LazyList set;
+bool add(unsigned key) { return set.add(key); }
+bool remove(unsigned key) { return set.remove(key); }
+bool contains(unsigned key) { return set.contains(key); }
+
+enum Call { ADD, REMOVE, CONTAINS };
+struct Row { unsigned thread; Call call; unsigned key, begin, point, end; bool reply; };
+std::atomic<unsigned> tickets{0}, numbers{0};
+std::mutex locks[1024];  // of the keys; those that are 1024 apart share one
+
+void run(std::vector<Row> &rows, unsigned calls, unsigned keys, unsigned seed) {
+    std::mt19937 draw(seed);
+    for (unsigned thread = numbers++, added = 0; rows.size() < calls && thread < 64;) {
+        Call call = Call(draw() % 3);
+        unsigned key = draw() % keys, begin = ++tickets, point = 0;
+        std::unique_lock<std::mutex> lock(locks[key % 1024], std::defer_lock);
+        if (call != CONTAINS) lock.lock();
+        bool reply = call == ADD ? add(key) : call == REMOVE ? remove(key) : contains(key);
+        if (call == CONTAINS) lock.lock();
+        else if (reply) point = ++tickets;
+        lock.unlock();
+        rows.push_back({thread, call, key, begin, point, ++tickets, reply});
+        if (call == ADD && reply && ++added == 16384) thread = numbers++, added = 0;  // its quota is used
+    }
+}
+
+int main(int, char **words) {
+    unsigned threads = atoi(words[1]), calls = atoi(words[2]), keys = atoi(words[3]), seed = atoi(words[4]);
+    std::vector<std::vector<Row>> rows(threads);
+    std::vector<std::thread> started;
+    for (unsigned i = 0; i < threads; i++) started.emplace_back(run, std::ref(rows[i]), calls, keys, 64 * seed + i);
+    for (auto &thread : started) thread.join();
+    printf("listset-calls 2\nlist lazy\nthreads 64\nquota 16384\n");
+    for (auto &of_thread : rows)
+        for (auto &it : of_thread) {
+            printf("call %u %s %u %u ", it.thread, it.call == ADD ? "add" : it.call == REMOVE ? "remove" : "contains", it.key, it.begin);
+            it.point ? printf("%u", it.point) : printf("-");
+            printf(" %u %s\n", it.end, it.reply ? "true" : "false");
+        }
+    for (unsigned key = 0; key < keys; key++)
+        if (contains(key)) printf("key %u\n", key);
+    puts("end");
+}

@@ -1,0 +1,53 @@
+import java.util.ArrayList;
+import java.util.List;
+import java.util.SplittableRandom;
+import java.util.concurrent.atomic.AtomicInteger;
+import java.util.stream.IntStream;
+import java.util.stream.Stream;
+
+/** Records a run of your set: fill in the three calls, and: javac *.java; java Recorder THREADS CALLS KEYS SEED > run.calls */
+final class Recorder {
+    static final LazyList set = new LazyList();
+    static boolean add(int key) { return set.add(key); }
+    static boolean remove(int key) { return set.remove(key); }
+    static boolean contains(int key) { return set.contains(key); }
+
+    enum Call { add, remove, contains }
+    record Row(int thread, Call call, int key, int begin, int point, int end, boolean reply) { }
+    static final AtomicInteger tickets = new AtomicInteger(), numbers = new AtomicInteger();
+    static final Object[] locks = Stream.generate(Object::new).limit(1024).toArray(); // keys that are 1024 apart share one
+
+    static void run(List<Row> rows, int calls, int keys, SplittableRandom draw) {
+        int thread = numbers.getAndIncrement(), added = 0;
+        while (rows.size() < calls && thread < 64) {
+            Call call = Call.values()[draw.nextInt(3)];
+            int key = draw.nextInt(keys), begin = tickets.incrementAndGet(), point = 0;
+            boolean reply = call == Call.contains && contains(key);
+            synchronized (locks[key % 1024]) {
+                if (call != Call.contains) {
+                    reply = call == Call.add ? add(key) : remove(key);
+                    point = reply ? tickets.incrementAndGet() : 0;
+                }
+            }
+            rows.add(new Row(thread, call, key, begin, point, tickets.incrementAndGet(), reply));
+            if (call == Call.add && reply && ++added == 16384) { // its quota is used
+                thread = numbers.getAndIncrement();
+                added = 0;
+            }
+        }
+    }
+
+    public static void main(String[] words) throws InterruptedException {
+        int[] given = Stream.of(words).mapToInt(Integer::parseInt).toArray();
+        List<List<Row>> rows = Stream.generate(() -> (List<Row>) new ArrayList<Row>()).limit(given[0]).toList();
+        List<Thread> started = IntStream.range(0, given[0]).mapToObj(i -> new Thread(() ->
+            run(rows.get(i), given[1], given[2], new SplittableRandom(64L * given[3] + i)))).toList();
+        started.forEach(Thread::start);
+        for (Thread thread : started) thread.join();
+        StringBuilder text = new StringBuilder("listset-calls 2\nlist lazy\nthreads 64\nquota 16384\n");
+        rows.stream().flatMap(List::stream).forEach(it -> text.append("call " + it.thread + " " + it.call + " " + it.key + " "
+            + it.begin + " " + (it.point == 0 ? "-" : it.point) + " " + it.end + " " + it.reply + "\n"));
+        IntStream.range(0, given[2]).filter(Recorder::contains).forEach(key -> text.append("key " + key + "\n"));
+        System.out.print(text.append("end\n"));
+    }
+}

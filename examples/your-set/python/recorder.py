@@ -1,0 +1,51 @@
+"""Records a run of your set: fill in the three calls, and
+    python3 recorder.py THREADS CALLS KEYS SEED > run.calls"""
+import itertools
+import random
+import sys
+import threading
+
+from lazy_list import LazyList
+
+SET = LazyList()
+ADD, REMOVE, CONTAINS = "add", "remove", "contains"
+CALLS = {ADD: SET.add, REMOVE: SET.remove, CONTAINS: SET.contains}
+
+tickets, numbers = itertools.count(1), itertools.count()  # of each, `next` is one step
+locks = [threading.Lock() for _ in range(1024)]  # of the keys; those that are 1024 apart share one
+
+
+def run(rows, calls, keys, draw):
+    thread, added = next(numbers), 0
+    while len(rows) < calls and thread < 64:
+        call, key = draw.choice([*CALLS]), draw.randrange(keys)
+        begin, point, lock = next(tickets), "-", locks[key % 1024]
+        if call == CONTAINS:
+            reply = CALLS[call](key)
+            with lock:
+                pass
+        else:
+            with lock:
+                reply = CALLS[call](key)
+                point = next(tickets) if reply else "-"
+        rows.append((thread, call, key, begin, point, next(tickets), str(reply).lower()))
+        added += call == ADD and reply
+        if added == 16384:  # its quota is used
+            thread, added = next(numbers), 0
+
+
+def main(threads, calls, keys, seed):
+    sys.setswitchinterval(1e-6)
+    rows = [[] for _ in range(threads)]
+    started = [threading.Thread(target=run, args=(it, calls, keys, random.Random(64 * seed + i))) for i, it in enumerate(rows)]
+    for thread in started:
+        thread.start()
+    for thread in started:
+        thread.join()
+    print("listset-calls 2\nlist lazy\nthreads 64\nquota 16384")
+    for row in itertools.chain(*rows):
+        print("call", *row)
+    print(*(f"key {key}" for key in range(keys) if CALLS[CONTAINS](key)), "end", sep="\n")
+
+
+main(*map(int, sys.argv[1:]))

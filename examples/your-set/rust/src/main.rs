@@ -1,0 +1,57 @@
+//! Records a run of your set: fill in the three calls, and
+//!     cargo run --release --offline -- THREADS CALLS KEYS SEED > run.calls
+mod draws;
+mod lazy_list;
+
+use std::sync::atomic::{AtomicU32, Ordering::SeqCst};
+use std::sync::Mutex;
+
+struct Set(lazy_list::LazyList);
+
+impl Set {
+    fn add(&self, key: u32) -> bool { self.0.add(key) }
+    fn remove(&self, key: u32) -> bool { self.0.remove(key) }
+    fn contains(&self, key: u32) -> bool { self.0.contains(key) }
+}
+
+struct Row { thread: u32, call: &'static str, key: u32, begin: u32, point: Option<u32>, end: u32, reply: bool }
+static TICKETS: AtomicU32 = AtomicU32::new(1);
+static NUMBERS: AtomicU32 = AtomicU32::new(0);
+
+fn next(of: &AtomicU32) -> u32 { of.fetch_add(1, SeqCst) }
+
+fn run(set: &Set, locks: &[Mutex<()>], calls: u32, keys: u32, mut draws: draws::Draws) -> Vec<Row> {
+    let (mut thread, mut added, mut rows) = (next(&NUMBERS), 0, Vec::new());
+    while rows.len() < calls as usize && thread < 64 {
+        let (call, key) = (["add", "remove", "contains"][draws.below(3) as usize], draws.below(keys));
+        let (begin, lock) = (next(&TICKETS), &locks[key as usize % 1024]);
+        let looked = call == "contains" && set.contains(key);
+        let held = lock.lock();
+        let changed = match call { "add" => set.add(key), "remove" => set.remove(key), _ => false };
+        let point = changed.then(|| next(&TICKETS));
+        drop(held);
+        rows.push(Row { thread, call, key, begin, point, end: next(&TICKETS), reply: looked || changed });
+        added += u32::from(call == "add" && changed);
+        if added == 16384 { (thread, added) = (next(&NUMBERS), 0) } // its quota is used
+    }
+    rows
+}
+
+fn main() {
+    let given: Vec<u32> = std::env::args().skip(1).map(|it| it.parse().expect("a number")).collect();
+    let (threads, calls, keys, seed) = (given[0], given[1], given[2], given[3]);
+    let locks: &Vec<Mutex<()>> = &(0..1024).map(|_| Mutex::new(())).collect(); // of the keys; those that are 1024 apart share one
+    let set = &Set(lazy_list::LazyList::new(threads * calls));
+    let draws = (0..threads).map(|i| draws::Draws(64 * u64::from(seed) + u64::from(i)));
+    let rows: Vec<Row> = std::thread::scope(|scope| {
+        let started: Vec<_> = draws.map(|it| scope.spawn(move || run(set, locks, calls, keys, it))).collect();
+        started.into_iter().flat_map(|it| it.join().expect("a thread has ended")).collect()
+    });
+    let mut text = String::from("listset-calls 2\nlist lazy\nthreads 64\nquota 16384\n");
+    for Row { thread, call, key, begin, point, end, reply } in rows {
+        let point = point.map_or("-".to_string(), |it| it.to_string());
+        text += &format!("call {thread} {call} {key} {begin} {point} {end} {reply}\n");
+    }
+    (0..keys).filter(|&key| set.contains(key)).for_each(|key| text += &format!("key {key}\n"));
+    print!("{text}end\n");
+}
