@@ -1,5 +1,5 @@
 -- What is read is the text of calls.
-use Rattle.std.proofs.Common.{◌≡◌, ◌×◌, ℕ, ◌+◌, ◌<◌, ◌^◌, inl, inr, Bool, true, false, cond, ltb, List, [], ◌∷◌, ◌++◌, map, length}
+use Rattle.std.proofs.Common.{◌≡◌, ℕ, ◌+◌, ◌<◌, ◌^◌, inl, inr, Bool, true, false, cond, ltb, List, [], ◌∷◌, ◌++◌, map, length}
 use Rattle.std.proofs.Common.{Result, Ok, Err, refl, sym, ap, subst, ◌∙◌, arith, append_assoc, length-append}
 use Rattle.std.specs.Prelude.{IfOk}
 use Rattle.std.specs.List.{AllByRecursion}
@@ -152,13 +152,25 @@ is_call threads x is history points = record {
 }
 
 calls_more : (c : CallsValue) (l : Line) → AreCalls c → IsLine l → IsGood c l → AreCalls (with_line c l)
-calls_more c (told.Opening k) is line good = record is { opens = opens_more c.opening k is.opens line good.0 good.1 }
-calls_more c (told.Call x) is line good = record is {
-  calls = all_join (IsCall c.opening.threads) c.calls (x ∷ []) is.calls (is_call c.opening.threads x line good.1 good.2, tt);
-  few_calls = let long = length-one c.calls x in omega (arith, long, good.0);
+calls_more c (told.Opening k) is line good = record {
+  opens = opens_more c.opening k is.opens line good.0 good.1;
+  calls = is.calls;
+  keys = is.keys;
+  few_calls = is.few_calls;
+  few_keys = is.few_keys;
 }
-calls_more c (told.Key k) is line good = record is {
+calls_more c (told.Call x) is line good = record {
+  opens = is.opens;
+  calls = all_join (IsCall c.opening.threads) c.calls (x ∷ []) is.calls (is_call c.opening.threads x line good.1 good.2, tt);
+  keys = is.keys;
+  few_calls = let long = length-one c.calls x in omega (arith, long, good.0);
+  few_keys = is.few_keys;
+}
+calls_more c (told.Key k) is line good = record {
+  opens = is.opens;
+  calls = is.calls;
   keys = all_join (λ j. j < 2 ^ 32) c.keys (k ∷ []) is.keys (line, tt);
+  few_calls = is.few_calls;
   few_keys = let long = length-one c.keys k in omega (arith, long, good);
 }
 calls_more c told.End is line good = is

@@ -1,5 +1,5 @@
 -- What the kinds of lines make, and that they make each line.
-use Rattle.std.proofs.Common.{◌≡◌, ℕ, ◌<◌, ◌^◌, ◌×◌, inl, inr, eqb, Bool, true, false, List, [], ◌∷◌, Option, Some, None, refl, sym, ap, subst, arith, codes}
+use Rattle.std.proofs.Common.{◌≡◌, ℕ, ◌<◌, ◌^◌, inl, inr, eqb, Bool, true, false, List, [], ◌∷◌, Option, Some, None, refl, sym, ap, subst, arith, codes}
 use Rattle.std.specs.Fmt.{decimal}
 use Rattle.std.specs.List.{AllByRecursion}
 use Rattle.std.specs.Str.{bytes_eq}

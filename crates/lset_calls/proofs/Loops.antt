@@ -25,7 +25,9 @@ use Rattle.lset_calls.specs.declared.reading.lines.Line.TheVariants as told
 use Rattle.lset_calls.specs.Calls.{CallsValue, is_of_history, has_point}
 use Rattle.lset_calls.specs.Texts.{title}
 use Rattle.lset_calls.specs.Reading.{fault, causes, kinds, judged, line_after, SoFar, with_told, step, grammar, first_line, nothing_told}
-use Rattle.lset_calls.specs.Reading.{calls_of, line_number, IsGoodAfterHeader, Takes}
+use Rattle.lset_calls.specs.declared.reading.lines.Section.{Section}
+use Rattle.lset_calls.specs.declared.reading.lines.Section.TheVariants as section
+use Rattle.lset_calls.specs.Reading.{is_done, calls_of, line_number, IsGoodAfterHeader, Takes}
 
 -- ---- no check fails by want of memory
 
@@ -118,3 +120,14 @@ good_in_text bytes rest h line is good =
         rw is (still_faultless line (lines_from grammar first_line (nothing_told h) (cut_at 10 rest)) (λ last. last.calls) good.2),
       ),
     )
+
+-- ---- a text that ends
+
+pub not_done : (s : Section) → (s ≡ section.Done → ⊥) → is_done s ≡ false
+not_done section.Opening other = refl
+not_done section.Calls other = refl
+not_done section.Keys other = refl
+not_done section.Done other = absurd (other refl)
+
+pub no_memory : (e : CallsFault) (line : ℕ) → e ≡ fault line wrong.NotEnded → e.cause ≡ wrong.Memory → ⊥
+no_memory e line is memory = let same : wrong.NotEnded ≡ wrong.Memory = sym (ap (λ (x : CallsFault). x.cause) is) ∙ memory in cc
