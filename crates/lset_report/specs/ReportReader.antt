@@ -1,18 +1,15 @@
 -- What a reader of reports holds after some lines.
-use Rattle.std.specs.Prelude.{◌≡◌, ◌≢◌, ◌⊎◌, ◌≤◌, ℕ, List, Bool, nat_le, length, Result, Ok, Err}
+use Rattle.std.specs.Prelude.{◌≡◌, ◌≢◌, ◌⊎◌, ◌≤◌, ℕ, List, length, Result, Ok, Err}
 use Rattle.std.specs.List.Sorted.{IsStrictlyIncreasing}
 use Rattle.lset_words.specs.declared.TheConstants.{MOST_OPENING}
-use Rattle.lset_text.specs.declared.words.Version.{Version}
-use Rattle.lset_text.specs.Kinds.{LineKind}
 use Rattle.lset_report.specs.declared.reading.Reader.{Reader}
-use Rattle.lset_report.specs.declared.reading.lines.Section.{Section}
 use Rattle.lset_report.specs.declared.report_fault.ReportCause.{ReportCause}
 use Rattle.lset_report.specs.declared.report_fault.ReportCause.TheVariants.{Memory}
 use Rattle.lset_report.specs.declared.report_fault.ReportFault.{ReportFault}
 use Rattle.lset_report.specs.Report.{ReportValue}
 use Rattle.lset_report.specs.declared.reading.lines.Line.{Line}
 use Rattle.lset_report.specs.declared.reading.lines.Line.TheVariants.{End}
-use Rattle.lset_report.specs.ReportReading.{kinds, first_line, fault, line_after, SoFar, step, RunsOut}
+use Rattle.lset_report.specs.ReportReading.{first_line, fault, line_after, SoFar, step, RunsOut}
 use Rattle.lset_report.specs.ReportCalls.{Tracks, threads_of}
 
 -- the report of the lines that were read
@@ -48,8 +45,3 @@ abbrev pub ReadsLine : {X : Type 0} → Reader → Reader → ℕ → List ℕ �
 ReadsLine s t number line (Ok x) = step (state s) line ≡ Ok (state t)
 ReadsLine s t number line (Err e) = ((cause : ReportCause) × (step (state s) line ≡ Err cause) × (e ≡ fault number cause))
     ⊎ ((l : Line) × (line_after s.section (so_far s) line ≡ Ok l) × (l ≢ End) × (e ≡ fault number Memory))
-
--- which pieces tell a line, for its readers: where these are the last of the kinds that may come, they are tried, and the pieces
--- have the number that none of the kinds before has
-abbrev pub may_come : List (LineKind Line) → Version → Section → Bool
-may_come ks version section = nat_le (length ks) (length (kinds version section))

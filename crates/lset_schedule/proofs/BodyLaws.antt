@@ -15,7 +15,7 @@ use Rattle.lset_text.specs.declared.words.Version.{Version}
 use Rattle.lset_text.specs.declared.words.Version.TheVariants.{One, Two}
 use Rattle.lset_text.specs.Parts.{cut_at, line_of, text_of, Lacks}
 use Rattle.lset_text.specs.Forms.{have_form}
-use Rattle.lset_text.specs.Kinds.{LineKind, made, first_of, line_in}
+use Rattle.lset_text.specs.Kinds.{LineKind, kind_as, made, first_of, line_in}
 use Rattle.lset_text.specs.Lines.{lines_from, Leads}
 use Rattle.lset_text.specs.Results.{◌>>=◌, map_fault}
 use Rattle.lset_text.specs.Headers.{header_lines, header_of, IsHeader}
@@ -23,21 +23,24 @@ use Rattle.lset_text.specs.Openings.{opening_form, opening_line, opening_lines, 
 use Rattle.lset_text.proofs.PartLaws.{text_from_lines, cut_lines}
 use Rattle.lset_text.proofs.ReadingLaws.{bind_ok, map_fault_ok, ok_is}
 use Rattle.lset_text.proofs.HeaderLaws.{header_ok, header_again, header_lacks}
-use Rattle.lset_text.proofs.OpeningLaws.{rises_more, above_before, openings_lack}
-use Rattle.lset_text.proofs.KindLaws.{Knows, IsMade, line_found, line_made, line_made_lacks}
-use Rattle.lset_text.proofs.LineLaws.{lines_found, lines_again, lines_keep, leads_on}
+use Rattle.lset_text.proofs.OpeningLaws.{rises_more, above_before}
+use Rattle.lset_text.proofs.KindLaws.{Knows, IsMade, line_found, line_found_lacks, line_made, first_as, knows_as, made_as}
+use Rattle.lset_text.proofs.LineLaws.{lines_hold, lines_again, leads_on, leads_all, items_lead}
 use Rattle.lset_schedule.specs.declared.TheConstants.{MOST_EVENTS}
 use Rattle.lset_schedule.specs.declared.fault.Cause.{Cause}
 use Rattle.lset_schedule.specs.declared.fault.Cause.TheVariants.{TooMany, Opening}
 use Rattle.lset_schedule.specs.declared.fault.ScheduleFault.{ScheduleFault}
 use Rattle.lset_schedule.specs.Plan.{first_line}
-use Rattle.lset_schedule.specs.ScheduleReading.{in_schedule, causes, EventLines, BodyValue, nothing, Item, opens, event, kind_as}
+use Rattle.lset_schedule.specs.ScheduleReading.{in_schedule, causes, EventLines, BodyValue, nothing, Item, opens, event}
 use Rattle.lset_schedule.specs.ScheduleReading.{opening_kind, kinds_after, with_item, with_line, grammar, text_in}
-use Rattle.lset_schedule.proofs.KindsAs.{first_as, knows_as, made_as}
 
 all_push : {X : Type 0} (P : X → Type 0) (xs : List X) (x : X) → AllByRecursion P xs → P x → AllByRecursion P (xs ++ x ∷ [])
 all_push P [] x all one = (one, tt)
 all_push P (y ∷ ys) x all one = (all.0, all_push P ys x all.1 one)
+
+all_there : {X : Type 0} (P : X → Type 0) (xs more : List X) (x : X) → AllByRecursion P (xs ++ x ∷ more) → P x
+all_there P [] more x all = all.0
+all_there P (y ∷ ys) more x all = all_there P ys more x all.1
 
 both_lack : (xs ys : List (List ℕ)) → AllByRecursion (Lacks 10) xs → AllByRecursion (Lacks 10) ys →
     AllByRecursion (Lacks 10) (xs ++ ys)
@@ -125,25 +128,20 @@ module _ {L : Type 0} (text : EventLines L) (v : Version) (pieces : L → List (
 
   -- ---- one line
 
-  -- what it adds to a body with a text
-  abbrev Adds : Header → BodyValue L → BodyValue L → Item L → Type 0
-  Adds h s t i = (body_lines t ≡ body_lines s ++ line_of (item_pieces i) ∷ []) × (HasText text v Good h s → HasText text v Good h t)
+  -- it stands behind those of the body, which has a text still
+  abbrev Adds : Header → BodyValue L → List ℕ → BodyValue L → Type 0
+  Adds h s x t = HasText text v Good h t × (body_lines t ≡ body_lines s ++ x ∷ [])
 
-  key_adds : (h : Header) (s t : BodyValue L) (k : ℕ) → IsItem (opens k) → s.lines ≡ [] → with_item text s (opens k) ≡ Ok t
-      → Adds h s t (opens k)
-  key_adds h s t k is none e =
+  key_adds : (h : Header) (s t : BodyValue L) (k : ℕ) → HasText text v Good h s → IsItem (opens k) → s.lines ≡ []
+      → with_item text s (opens k) ≡ Ok t → Adds h s (opening_line k) t
+  key_adds h s t k has is none e =
       let more : BodyValue L = record s { keys = s.keys ++ k ∷ [] } in
       let room = room_for_key (ltb (length s.keys) MOST_OPENING) (is_above s.keys k) more t e in
-      let empty : map line_text s.lines ≡ [] = ap (λ (ls : List L). map line_text ls) none in
-      let keys = opening_lines s.keys in
       let lines : body_lines more ≡ body_lines s ++ opening_line k ∷ [] =
-      ap (λ (ls : List (List ℕ)). opening_lines (s.keys ++ k ∷ []) ++ ls) empty ∙ append-nil (opening_lines (s.keys ++ k ∷ []))
-      ∙ map_push opening_line s.keys k
-      ∙ ap (λ (ls : List (List ℕ)). ls ++ opening_line k ∷ []) (sym (append-nil keys) ∙ ap (λ (ls : List (List ℕ)). keys ++ ls) (sym empty))
-      in
-      subst (λ u. Adds h s u (opens k)) room.2 (
-        lines,
-        λ has. record {
+      rw none (append-nil (opening_lines (s.keys ++ k ∷ [])) ∙ map_push opening_line s.keys k
+      ∙ ap (λ (ls : List (List ℕ)). ls ++ opening_line k ∷ []) (sym (append-nil (opening_lines s.keys)))) in
+      subst (Adds h s (opening_line k)) room.2 (
+        record {
           opens = record {
             within = record {
               some = has.opens.within.some;
@@ -159,10 +157,12 @@ module _ {L : Type 0} (text : EventLines L) (v : Version) (pieces : L → List (
           lines = has.lines;
           few = has.few;
         },
+        lines,
       )
 
-  event_adds : (h : Header) (s t : BodyValue L) (l : L) → Good l → with_item text s (event l) ≡ Ok t → Adds h s t (event l)
-  event_adds h s t l good e =
+  event_adds : (h : Header) (s t : BodyValue L) (l : L) → HasText text v Good h s → Good l → with_item text s (event l) ≡ Ok t
+      → Adds h s (line_text l) t
+  event_adds h s t l has good e =
       let more : BodyValue L = record s { lines = s.lines ++ l ∷ [] } in
       let room = room_for_events (ltb MOST_EVENTS (sum_by text.count s.lines + text.count l)) more t e in
       let keys = opening_lines s.keys in
@@ -171,29 +171,32 @@ module _ {L : Type 0} (text : EventLines L) (v : Version) (pieces : L → List (
       ∙ sym (append_assoc keys (map line_text s.lines) (line_text l ∷ [])) in
       let sum = sum_by-append text.count s.lines (l ∷ []) in
       let last = sum_by-cons text.count l [] in
-      subst (λ u. Adds h s u (event l)) room.1 (
-        lines,
-        λ has. record {
+      subst (Adds h s (line_text l)) room.1 (
+        record {
           opens = has.opens;
           opening = has.opening;
           lines = all_push Good s.lines l has.lines good;
           few = omega (arith, sum, last, ltb-false _ _ room.0);
         },
+        lines,
       )
 
-  item_adds : (h : Header) (s t : BodyValue L) (ps : List (List ℕ)) (i : Item L) → IsItem i
-      → first_of v causes (kinds_after text v s.lines) ps ≡ Ok i → with_item text s i ≡ Ok t → Adds h s t i
-  item_adds h s t ps (opens k) is told e = key_adds h s t k is (none_above v s.lines ps k told) e
-  item_adds h s t ps (event l) is told e = event_adds h s t l is e
+  item_adds : (h : Header) (s t : BodyValue L) (ps : List (List ℕ)) (i : Item L) → HasText text v Good h s → IsItem i
+      → first_of v causes (kinds_after text v s.lines) ps ≡ Ok i → with_item text s i ≡ Ok t → Adds h s (line_of (item_pieces i)) t
+  item_adds h s t ps (opens k) has is told e = key_adds h s t k has is (none_above v s.lines ps k told) e
+  item_adds h s t ps (event l) has is told e = event_adds h s t l has is e
 
-  line_adds : (h : Header) (s t : BodyValue L) (x : List ℕ) → with_line text v s x ≡ Ok t
-      → (body_lines t ≡ body_lines s ++ x ∷ []) × (HasText text v Good h s → HasText text v Good h t)
-  line_adds h s t x is =
+  line_adds : (h : Header) (s t : BodyValue L) (x : List ℕ) → HasText text v Good h s → with_line text v s x ≡ Ok t
+      → Adds h s x t × Lacks 10 x
+  line_adds h s t x has is =
       let kinds = kinds_after text v s.lines in
+      let known = known_after v s.lines refl in
       let i = bind_ok (line_in v causes kinds x) (with_item text s) t is in
-      let found = line_found v causes item_pieces IsItem kinds x i.0 (known_after v s.lines refl) i.1 in
-      let added = item_adds h s t (cut_at 32 x) i.0 found.1 i.1 i.2 in
-      (added.0 ∙ ap (λ (y : List ℕ). body_lines s ++ y ∷ []) (sym found.0), added.1)
+      let found = line_found v causes item_pieces IsItem kinds x i.0 known i.1 in
+      let added = item_adds h s t (cut_at 32 x) i.0 has found.1 i.1 i.2 in (
+        (added.0, added.1 ∙ ap (λ (y : List ℕ). body_lines s ++ y ∷ []) (sym found.0)),
+        line_found_lacks v causes item_pieces IsItem kinds x i.0 known i.1,
+      )
 
   -- ---- what stands there is read
 
@@ -206,20 +209,13 @@ module _ {L : Type 0} (text : EventLines L) (v : Version) (pieces : L → List (
         le-ltb MOST_EVENTS (sum_by text.count s.lines + text.count l) few,
       ) refl
 
-  events_lead : (s : BodyValue L) (ls : List L) → AllByRecursion Good ls → sum_by text.count s.lines + sum_by text.count ls ≤ MOST_EVENTS
-      → Leads (grammar text v) s (map line_text ls) (record s { lines = s.lines ++ ls })
-  events_lead s [] are few = ap (λ (xs : List L). record s { lines = xs }) (sym (append-nil s.lines))
-  events_lead s (l ∷ ls) are few =
-      let next : BodyValue L = record s { lines = s.lines ++ l ∷ [] } in
-      let one = sum_by-cons text.count l ls in
-      let more = sum_by-append text.count s.lines (l ∷ []) in
-      let last = sum_by-cons text.count l [] in
-      let rest = events_lead next ls are.1 (omega (arith, few, one, more, last)) in (
-        next,
-        event_step s l are.0 (omega (arith, few, one)),
-        subst (λ (xs : List L). Leads (grammar text v) next (map line_text ls) (record s { lines = xs }))
-            (append_assoc s.lines (l ∷ []) ls) rest,
-      )
+  events_lead : (keys : List ℕ) (ls : List L) → AllByRecursion Good ls → sum_by text.count ls ≤ MOST_EVENTS
+      → Leads (grammar text v) (record { keys = keys; lines = [] }) (map line_text ls) (record { keys = keys; lines = ls })
+  events_lead keys ls are few =
+      items_lead (grammar text v) (λ xs. record { keys = keys; lines = xs }) (λ n. map line_text) (λ n. line_text) (λ n. refl)
+      (λ n x xs. refl) [] ls
+      (λ front more l is. event_step (record { keys = keys; lines = front }) l (all_there Good front more l (subst (AllByRecursion Good) (sym is) are))
+      (omega (arith, few, ap (sum_by text.count) is, sum_by-append text.count front (l ∷ more), sum_by-cons text.count l more)))
 
   abbrev of_keys : List ℕ → BodyValue L
   of_keys ks = record { keys = ks; lines = [] }
@@ -234,33 +230,22 @@ module _ {L : Type 0} (text : EventLines L) (v : Version) (pieces : L → List (
       let first : kinds_after text v [] ≡ kinds = ap (λ w. kinds_after text w []) two in
       rw (first, told, lt-ltb (length ks) MOST_OPENING few, above) refl
 
-  keys_lead : (ks more : List ℕ) → v ≡ Two → IsStrictlyIncreasing (ks ++ more) → length (ks ++ more) ≤ MOST_OPENING
-      → AllByRecursion (λ (k : ℕ). k < 2 ^ 32) more → Leads (grammar text v) (of_keys ks) (opening_lines more) (of_keys (ks ++ more))
-  keys_lead ks [] two rising few low = ap of_keys (sym (append-nil ks))
-  keys_lead ks (k ∷ more) two rising few low =
-      let grouped : (ks ++ k ∷ []) ++ more ≡ ks ++ k ∷ more = append_assoc ks (k ∷ []) more in
-      let one : length ks < MOST_OPENING = omega (arith, few, length-append ks (k ∷ more)) in
-      let rest = keys_lead (ks ++ k ∷ []) more two (subst IsStrictlyIncreasing (sym grouped) rising)
-      (subst (λ (xs : List ℕ). length xs ≤ MOST_OPENING) (sym grouped) few) low.1 in (
-        of_keys (ks ++ k ∷ []),
-        key_step ks k two low.0 one (above_before ks k more rising),
-        subst (λ (xs : List ℕ). Leads (grammar text v) (of_keys (ks ++ k ∷ [])) (opening_lines more) (of_keys xs)) grouped rest,
-      )
-
-  all_keys_lead : (w : Version) (h : Header) (t : BodyValue L) → w ≡ v → HasOpening w t.keys → HasText text v Good h t
+  keys_lead : (w : Version) (h : Header) (t : BodyValue L) → w ≡ v → HasOpening w t.keys → HasText text v Good h t
       → Leads (grammar text v) nothing (opening_lines t.keys) (of_keys t.keys)
-  all_keys_lead One h t is none has =
+  keys_lead One h t is none has =
       subst (λ (ks : List ℕ). Leads (grammar text v) nothing (opening_lines ks) (of_keys ks)) (sym none) refl
-  all_keys_lead Two h t is some has =
-      keys_lead [] t.keys (sym is) has.opens.rising has.opens.within.opens
-      (recursion_from_All (λ (k : ℕ). k < 2 ^ 32) t.keys has.opens.low)
+  keys_lead Two h t is some has =
+      let low = recursion_from_All (λ (k : ℕ). k < 2 ^ 32) t.keys has.opens.low in
+      items_lead (grammar text v) of_keys (λ n. opening_lines) (λ n. opening_line) (λ n. refl) (λ n k ks. refl) [] t.keys
+      (λ front more k same. key_step front k (sym is)
+      (all_there (λ (n : ℕ). n < 2 ^ 32) front more k (subst (AllByRecursion (λ (n : ℕ). n < 2 ^ 32)) (sym same) low))
+      (omega (arith, has.opens.within.opens, ap (λ (ks : List ℕ). length ks) same, length-append front (k ∷ more)))
+      (above_before front k more (subst IsStrictlyIncreasing (sym same) has.opens.rising)))
 
-  body_again : (h : Header) (t : BodyValue L) → HasText text v Good h t
-      → lines_from (grammar text v) first_line nothing (body_lines t ++ [] ∷ []) ≡ Ok t
-  body_again h t has =
-      lines_again (grammar text v) first_line nothing t (body_lines t)
-      (leads_on (grammar text v) nothing (of_keys t.keys) t (opening_lines t.keys) (map line_text t.lines)
-      (all_keys_lead v h t refl has.opening has) (events_lead (of_keys t.keys) t.lines has.lines (omega (arith, has.few)))) refl
+  body_leads : (h : Header) (t : BodyValue L) → HasText text v Good h t → Leads (grammar text v) nothing (body_lines t) t
+  body_leads h t has =
+      leads_on (grammar text v) nothing (of_keys t.keys) t (opening_lines t.keys) (map line_text t.lines)
+      (keys_lead v h t refl has.opening has) (events_lead t.keys t.lines has.lines has.few)
 
   -- ---- the whole
 
@@ -294,31 +279,26 @@ module _ {L : Type 0} (text : EventLines L) (v : Version) (pieces : L → List (
       let body = bind_ok (lines_from (grammar text v) first_line nothing head.0.1) (λ body. Ok (head.0.0, body)) told head.2 in
       let header = header_ok title (cut_at 10 bytes) head.0 (map_fault_ok in_schedule (header_of title (cut_at 10 bytes)) head.0 head.1)
       in
-      let after = lines_found (grammar text v) body_lines (λ s t x e. (line_adds head.0.0 s t x e).0) (λ s t e. ok_is s t e) first_line
-      nothing body.0 head.0.1 header.2 body.1 in
-      let has = lines_keep (grammar text v) (HasText text v Good head.0.0) (λ s t x p e. (line_adds head.0.0 s t x e).1 p)
-      (λ s t e. ok_is s t e) first_line nothing body.0 head.0.1 (no_events head.0.0 header.1) body.1 in
+      let after = lines_hold (grammar text v) (HasText text v Good head.0.0) body_lines (λ s t x has e. (line_adds head.0.0 s t x has e).0)
+      (λ s t e. ok_is s t e) first_line nothing body.0 head.0.1 header.2 (no_events head.0.0 header.1) body.1 in
       let lines = header_lines title head.0.0 in
       let parts : cut_at 10 bytes ≡ text_lines title head.0.0 body.0 ++ [] ∷ [] =
       header.0 ∙ ap (λ (ps : List (List ℕ)). lines ++ ps) after.0 ∙ sym (append_assoc lines (body_lines body.0) ([] ∷ [])) in
       subst (λ (t : Header × BodyValue L). HasText text v Good t.0 t.1 × (bytes ≡ text_of (text_lines title t.0 t.1)))
-      (ok_is (head.0.0, body.0) told body.2) (has, text_from_lines bytes (text_lines title head.0.0 body.0) parts)
-
-  lines_lack : (ls : List L) → AllByRecursion Good ls → AllByRecursion (Lacks 10) (map line_text ls)
-  lines_lack [] are = tt
-  lines_lack (l ∷ ls) are = (line_made_lacks v pieces Good text.kinds l known (makes l are.0), lines_lack ls are.1)
-
-  some_more : (ls : List (List ℕ)) → (y : List ℕ) × (more : List (List ℕ)) × (ls ++ [] ∷ [] ≡ y ∷ more)
-  some_more [] = ([], [], refl)
-  some_more (l ∷ ls) = (l, ls ++ [] ∷ [], refl)
+      (ok_is (head.0.0, body.0) told body.2) (after.2, text_from_lines bytes (text_lines title head.0.0 body.0) parts)
 
   pub text_cut : (title : List ℕ) (h : Header) (s : BodyValue L) → Lacks 10 title → HasText text v Good h s
       → cut_at 10 (text_of (text_lines title h s)) ≡ text_lines title h s ++ [] ∷ []
   text_cut title h s free has =
-      let head = header_lacks title h free (header_fits h s.keys has.opens) in
-      let keys = openings_lack s.keys (recursion_from_All (λ (k : ℕ). k < 2 ^ 32) s.keys has.opens.low) in
-      let after = both_lack (opening_lines s.keys) (map line_text s.lines) keys (lines_lack s.lines has.lines) in
-      cut_lines (text_lines title h s) (both_lack (header_lines title h) (body_lines s) head after)
+      let fits = header_fits h s.keys has.opens in
+      let after = leads_all (grammar text v) (HasText text v Good h) (Lacks 10)
+      (λ u t x p e. let added = line_adds h u t x p e in (added.0.0, added.1)) nothing s (body_lines s) (no_events h fits)
+      (body_leads h s has) in
+      cut_lines (text_lines title h s) (both_lack (header_lines title h) (body_lines s) (header_lacks title h free fits) after)
+
+  some_more : (ls : List (List ℕ)) → (y : List ℕ) × (more : List (List ℕ)) × (ls ++ [] ∷ [] ≡ y ∷ more)
+  some_more [] = ([], [], refl)
+  some_more (l ∷ ls) = (l, ls ++ [] ∷ [], refl)
 
   -- WHAT IS A TEXT is read
   pub text_again : (title : List ℕ) (h : Header) (s : BodyValue L) → HasText text v Good h s
@@ -329,4 +309,8 @@ module _ {L : Type 0} (text : EventLines L) (v : Version) (pieces : L → List (
       let some = some_more (body_lines s) in
       let first : header_of title (lines ++ (body_lines s ++ [] ∷ [])) ≡ Ok (h, body_lines s ++ [] ∷ []) =
       rw some.2 (header_again title h some.0 some.1 (header_fits h s.keys has.opens)) in
-      rw (append_assoc lines (body_lines s) ([] ∷ []), first, body_again h s has) refl
+      rw (
+        append_assoc lines (body_lines s) ([] ∷ []),
+        first,
+        lines_again (grammar text v) first_line nothing s (body_lines s) (body_leads h s has) refl,
+      ) refl

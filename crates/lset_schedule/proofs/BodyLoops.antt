@@ -1,8 +1,7 @@
 -- Reading what comes after a header line by line, as the loop does: which line a fault stands in, and that want of memory is none.
-use Rattle.std.proofs.Common.{◌≡◌, ℕ, ◌+◌, inl, inr, Bool, true, false, cond, ltb, List, [], ◌∷◌, ◌++◌, length}
-use Rattle.std.proofs.Common.{Option, Some, None, Result, Ok, Err, refl, sym, ap, subst, ◌∙◌, arith, codes}
-use Rattle.std.specs.Prelude.{◌≢◌, IfErr, MatchOption}
-use Rattle.std.specs.Result.{IsErrAnd}
+use Rattle.std.proofs.Common.{◌≡◌, ℕ, ◌+◌, inl, inr, Bool, true, false, cond, ltb, List, [], ◌∷◌, length}
+use Rattle.std.proofs.Common.{Option, Some, None, Result, Ok, Err, refl, ap, ◌∙◌, arith, codes}
+use Rattle.std.specs.Prelude.{◌≢◌, MatchOption}
 use Rattle.std.specs.List.{sum_by}
 use Rattle.lset_words.specs.declared.TheConstants.{MOST_OPENING}
 use Rattle.lset_text.specs.declared.headers.Header.{Header}
@@ -17,16 +16,15 @@ use Rattle.lset_text.specs.Results.{◌>>=◌, or_fail}
 use Rattle.lset_text.specs.Headers.{header_of}
 use Rattle.lset_text.specs.Openings.{opening_form, is_above}
 use Rattle.lset_text.proofs.HeaderLaws.{header_ok}
-use Rattle.lset_text.proofs.KindLaws.{IsOneOf, first_fails}
+use Rattle.lset_text.proofs.KindLaws.{IsOneOf, first_fails, first_as}
 use Rattle.lset_text.proofs.LineLaws.{bind_err, stops, is_good}
 use Rattle.lset_schedule.specs.declared.TheConstants.{MOST_EVENTS}
 use Rattle.lset_schedule.specs.declared.fault.Cause.{Cause}
-use Rattle.lset_schedule.specs.declared.fault.Cause.TheVariants.{Number, TooMany, Opening, Memory}
+use Rattle.lset_schedule.specs.declared.fault.Cause.TheVariants.{Number, Memory}
 use Rattle.lset_schedule.specs.declared.fault.ScheduleFault.{ScheduleFault}
 use Rattle.lset_schedule.specs.Plan.{first_line}
 use Rattle.lset_schedule.specs.ScheduleReading.{fault, causes, EventLines, BodyValue, nothing, Item, opens, event}
 use Rattle.lset_schedule.specs.ScheduleReading.{kinds_after, with_item, with_line, grammar, text_in, IsGoodAfterHeader, Takes}
-use Rattle.lset_schedule.proofs.KindsAs.{first_as}
 
 -- ---- a line that may be one of an opening key
 
@@ -52,20 +50,16 @@ not_due text Two (l ∷ ls) line not = first_as event Two causes text.kinds (cut
 
 -- ---- no check fails by want of memory
 
-key_fails : {L : Type 0} (b c : Bool) (s : BodyValue L) → cond b (cond c (Ok s) (Err Opening)) (Err TooMany) ≡ Err Memory → ⊥
-key_fails true true s is = cc
-key_fails true false s is = cc
-key_fails false c s is = cc
-
-event_fails : {L : Type 0} (b : Bool) (s : BodyValue L) → cond b (Err TooMany) (Ok s) ≡ Err Memory → ⊥
-event_fails true s is = cc
-event_fails false s is = cc
+either_fails : {A : Type 0} (b : Bool) (r s : Result A Cause) → (r ≡ Err Memory → ⊥) → (s ≡ Err Memory → ⊥)
+    → cond b r s ≡ Err Memory → ⊥
+either_fails true r s f g is = f is
+either_fails false r s f g is = g is
 
 item_fails : {L : Type 0} (text : EventLines L) (s : BodyValue L) (i : Item L) → with_item text s i ≡ Err Memory → ⊥
 item_fails text s (opens k) is =
-    key_fails (ltb (length s.keys) MOST_OPENING) (is_above s.keys k) (record s { keys = s.keys ++ k ∷ [] }) is
+    either_fails (ltb (length s.keys) MOST_OPENING) _ _ (either_fails (is_above s.keys k) _ _ (λ e. cc) (λ e. cc)) (λ e. cc) is
 item_fails text s (event l) is =
-    event_fails (ltb MOST_EVENTS (sum_by text.count s.lines + text.count l)) (record s { lines = s.lines ++ l ∷ [] }) is
+    either_fails (ltb MOST_EVENTS (sum_by text.count s.lines + text.count l)) _ _ (λ e. cc) (λ e. cc) is
 
 no_cause : IsOneOf causes Memory → ⊥
 no_cause (inl is) = cc
@@ -94,14 +88,7 @@ module _ {L : Type 0} (text : EventLines L) (v : Version) (whole : List ℕ) (re
   out_of_memory cause (inr none) memory =
       is_good (grammar text v) (λ e. e.line) (λ line c. refl) first_line whole read number s none.1 rest x after parts none.2 stands
 
--- ---- a fault that is passed on
-
-pub passed_on : {X : Type 0} (IsGood : ℕ → Type 0) (e : ScheduleFault) (answer : Result X ScheduleFault) →
-    IsErrAnd answer (λ f. f ≡ e)
-    → (e.cause ≡ Memory → IsGood e.line) → IfErr answer (λ f. f.cause ≡ Memory → IsGood f.line)
-passed_on IsGood e (Ok x) is good = tt
-passed_on IsGood e (Err f) is good = λ memory.
-    subst (λ (x : ScheduleFault). IsGood x.line) (sym is) (good (ap (λ (x : ScheduleFault). x.cause) (sym is) ∙ memory))
+-- ---- a line of what comes after the header
 
 still_faultless : {X Y : Type 0} (line : ℕ) (read : Result Y ScheduleFault) (f : Y → X) → IsFaultlessTo (λ e. e.line) line read
     → IsFaultlessTo (λ e. e.line) line (read >>= λ y. Ok (f y))

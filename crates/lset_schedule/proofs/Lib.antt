@@ -2,7 +2,6 @@ pub mod BodyLaws
 pub mod BodyLoops
 pub mod Drafts
 pub mod DrawLaws
-pub mod KindsAs
 pub mod RunLaws
 pub mod TextLaws
 pub mod TurnLaws

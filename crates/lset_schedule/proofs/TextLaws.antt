@@ -3,25 +3,25 @@ use Rattle.std.proofs.Common.{◌≡◌, ℕ, ◌<◌, ◌^◌, inl, inr, cond, 
 use Rattle.std.specs.Prelude.{IfOk, MatchResult, ◌≢◌}
 use Rattle.std.specs.List.{AllByRecursion}
 use Rattle.std.specs.Str.{bytes_eq}
-use Rattle.lset_words.specs.declared.Call.TheVariants as call
+use Rattle.lset_words.specs.declared.Key.{Key}
+use Rattle.lset_words.specs.Words.{key_of}
 use Rattle.lset_text.specs.declared.words.CallWord.{CallWord}
-use Rattle.lset_text.specs.declared.words.CallWord.TheVariants.{Add, Remove, Contains, Ceiling}
 use Rattle.lset_text.specs.declared.words.Version.{Version}
 use Rattle.lset_text.specs.declared.words.Version.TheVariants.{One, Two}
 use Rattle.lset_text.specs.Parts.{cut_at, Lacks}
 use Rattle.lset_text.specs.Forms.{spell, have_form}
-use Rattle.lset_text.specs.Spellings.{with_key, HasWord}
+use Rattle.lset_text.specs.Spellings.{word_of, with_key, HasWord}
 use Rattle.lset_text.specs.Headers.{header_of, told_by_line}
 use Rattle.lset_text.specs.Openings.{opening_form}
 use Rattle.lset_text.proofs.PartLaws.{Lacks-from_test}
+use Rattle.lset_text.proofs.WordLaws.{with_key-word_of, word_of-with_key, key_of-with_key}
 use Rattle.lset_text.proofs.ReadingLaws.{bind_ok, ok_is}
 use Rattle.lset_text.proofs.KindLaws.{Knows, IsMade}
 use Rattle.lset_schedule.specs.declared.value.Line.{Line}
 use Rattle.lset_schedule.specs.declared.value.Line.TheVariants.{Begin, Go}
 use Rattle.lset_schedule.specs.declared.value.Schedule.{Schedule}
 use Rattle.lset_schedule.specs.declared.fault.Cause.{Cause}
-use Rattle.lset_schedule.specs.declared.fault.Cause.TheVariants.{Header as OfHeader, Kind, Threads, Quota, Event, Number}
-use Rattle.lset_schedule.specs.declared.fault.Cause.TheVariants.{TooMany, Opening, NotEnded, Memory}
+use Rattle.lset_schedule.specs.declared.fault.Cause.TheVariants.{NotEnded, Memory}
 use Rattle.lset_schedule.specs.declared.fault.ScheduleFault.{ScheduleFault}
 use Rattle.lset_schedule.specs.Plan.{Plan, view, header_in, pieces_of, title, schedule_lines, schedule_text, IsLine, IsSchedule}
 use Rattle.lset_schedule.specs.ScheduleReading.{fault, BodyValue, begin_kind, events, plan_told, plan_in, version_told, plan_of, text_in}
@@ -30,36 +30,29 @@ use Rattle.lset_schedule.proofs.BodyLaws.{HasText, text_found, text_cut, text_ag
 
 -- ---- the kinds of lines of events
 
-begun : (v : Version) (n : ℕ) (w : CallWord) (k : ℕ) → n < 2 ^ 32 → k < 2 ^ 32 → HasWord v w
-    → (spell begin_kind.0 (tt, (n, (w, (k, tt)))) ≡ pieces_of (Begin n (with_key w (record { 0 = k }))))
-    × IsLine v (Begin n (with_key w (record { 0 = k })))
-begun v n Add k nl kl has = (refl, (nl, kl, has))
-begun v n Remove k nl kl has = (refl, (nl, kl, has))
-begun v n Contains k nl kl has = (refl, (nl, kl, has))
-begun v n Ceiling k nl kl has = (refl, (nl, kl, has))
+begun : (v : Version) (n : ℕ) (w : CallWord) (k : Key) → n < 2 ^ 32 → k.0 < 2 ^ 32 → HasWord v w
+    → (spell begin_kind.0 (tt, (n, (w, (k.0, tt)))) ≡ pieces_of (Begin n (with_key w k))) × IsLine v (Begin n (with_key w k))
+begun v n w k nl kl has = rw (word_of-with_key w k, key_of-with_key w k) (refl, (nl, kl, has))
 
 pub events_known : (v : Version) → AllByRecursion (Knows v pieces_of (IsLine v)) events.kinds
 events_known v = (
   (
     (refl, (omega arith, (tt, (omega arith, tt)))),
-    λ t fit. begun v t.1.0 t.1.1.0 t.1.1.1.0 (omega (arith, fit.1.0.1))
-        (omega (arith, fit.1.1.1.0.1)) fit.1.1.0,
+    λ t fit. begun v t.1.0 t.1.1.0 (record { 0 = t.1.1.1.0 })
+        (omega (arith, fit.1.0.1)) (omega (arith, fit.1.1.1.0.1)) fit.1.1.0,
   ),
   (((refl, (omega arith, (omega arith, tt))), λ t fit. (refl, (omega (arith, fit.1.0.1), fit.1.1.0.0, fit.1.1.0.1))), tt),
 )
 
-begins : (v : Version) (n : ℕ) (w : CallWord) (k : ℕ) → IsLine v (Begin n (with_key w (record { 0 = k }))) → HasWord v w → k < 2 ^ 32
-    → IsMade v pieces_of events.kinds (Begin n (with_key w (record { 0 = k })))
-begins v n w k is has low =
-    inl ((tt, (n, (w, (k, tt)))), refl, (tt, ((omega arith, omega (arith, is.0)), (has, ((omega arith, omega (arith, low)), tt)))))
-
 pub event_made : (v : Version) (l : Line) → IsLine v l → IsMade v pieces_of events.kinds l
+event_made v (Begin t c) is =
+    inl (
+      (tt, (t, (word_of c, ((key_of c).0, tt)))),
+      ap (Begin t) (with_key-word_of c),
+      (tt, ((omega arith, omega (arith, is.0)), (is.2, ((omega arith, omega (arith, is.1)), tt)))),
+    )
 event_made v (Go t n) is =
     inr (refl, inl ((tt, (t, (n, tt))), refl, (tt, ((omega arith, omega (arith, is.0)), ((is.1, is.2), tt)))))
-event_made v (Begin t (call.Add k)) is = begins v t Add k.0 is is.2 is.1
-event_made v (Begin t (call.Remove k)) is = begins v t Remove k.0 is is.2 is.1
-event_made v (Begin t (call.Contains k)) is = begins v t Contains k.0 is is.2 is.1
-event_made v (Begin t (call.Ceiling k)) is = begins v t Ceiling k.0 is is.2 is.1
 
 -- it has three pieces or four
 pub no_opening : (v : Version) (l : Line) → IsLine v l → have_form v opening_form (pieces_of l) ≡ false
@@ -109,15 +102,7 @@ reads_text p is =
 -- a cause that cannot be another one is want of memory
 is_memory : (c : Cause) → (c ≢ Memory → ⊥) → c ≡ Memory
 is_memory Memory h = refl
-is_memory OfHeader h = absurd (h (λ e. cc))
-is_memory Kind h = absurd (h (λ e. cc))
-is_memory Threads h = absurd (h (λ e. cc))
-is_memory Quota h = absurd (h (λ e. cc))
-is_memory Event h = absurd (h (λ e. cc))
-is_memory Number h = absurd (h (λ e. cc))
-is_memory TooMany h = absurd (h (λ e. cc))
-is_memory Opening h = absurd (h (λ e. cc))
-is_memory NotEnded h = absurd (h (λ e. cc))
+is_memory c h = absurd (h (λ e. cc))
 
 -- where a value is read, it is given, unless memory ran out
 pub gives_ok : {X Y : Type 0} (view : X → Y) (r : Result X ScheduleFault) (y : Y) → Gives view r (Ok y)

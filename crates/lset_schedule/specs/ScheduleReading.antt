@@ -12,7 +12,7 @@ use Rattle.lset_text.specs.declared.words.Version.{Version}
 use Rattle.lset_text.specs.declared.words.Version.TheVariants.{One, Two}
 use Rattle.lset_text.specs.Parts.{cut_at}
 use Rattle.lset_text.specs.Forms.{word, number, call, any}
-use Rattle.lset_text.specs.Kinds.{LineKind, LineCauses, line_in}
+use Rattle.lset_text.specs.Kinds.{LineKind, kind_as, LineCauses, line_in}
 use Rattle.lset_text.specs.Lines.{Grammar, lines_from}
 use Rattle.lset_text.specs.Lines as lines
 use Rattle.lset_text.specs.Spellings.{with_key}
@@ -65,10 +65,6 @@ nothing = record { keys = []; lines = [] }
 pub data Item (L : Type 0) : Type 0 where
   opens : ℕ → Item L
   event : L → Item L
-
--- a kind of lines whose value is seen as another
-abbrev pub kind_as : {X Y : Type 0} → (X → Y) → LineKind X → LineKind Y
-kind_as f k = (k.0, λ t. f (k.1 t))
 
 abbrev pub opening_kind : {L : Type 0} → LineKind (Item L)
 opening_kind = (opening_form, λ t. opens t.1.0)

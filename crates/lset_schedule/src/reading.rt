@@ -94,12 +94,14 @@ fn schedule(alloc: Global, bytes: &[u8]) -> Result<Schedule, ScheduleFault>
     let (header, body) = read_text(alloc, version, title(version).as_bytes(), bytes)?;
     Ok(Schedule::of_header(version, header, body.opening, body.lines))
 }
+
 /// The schedule that the bytes are the text of, or the first fault of the bytes: its line, and the first
 /// check of that line that fails, in the order of `Cause` but for `NotEnded`, which comes before all others
 /// where a line has bytes and no newline. `Memory` comes last. A header line that is due where no byte is
 /// left has the fault of that header line. The first line alone decides the version: a text of the first
 /// version has no `ceiling` and no opening keys, and their lines are refused with `Event`, as is the line of an opening key
 /// after one of an event.
+#[tactic(auto, using(crate::proofs::TextLaws::found_in, crate::proofs::TextLaws::only_in))]
 pub fn read_schedule(alloc: Global, bytes: &[u8]) -> Result<Schedule, ScheduleFault>
     // What is read is a schedule, and the bytes are its text.
     ensures found { IfOk result (λ s. IsSchedule (view s) × (bytes.now ≡ schedule_text (view s))) }

@@ -7,3 +7,4 @@ pub mod KindLaws
 pub mod LineLaws
 pub mod HeaderLaws
 pub mod OpeningLaws
+pub mod TextLaws

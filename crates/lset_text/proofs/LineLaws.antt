@@ -1,7 +1,8 @@
 -- Lines that are read one after another, as a loop does: once for every text.
-use Rattle.std.proofs.Common.{◌≡◌, ℕ, ◌+◌, ◌<◌, ◌≤◌, ◌⊎◌, inl, inr, Bool, true, false, cond, eqb, List, [], ◌∷◌, ◌++◌, length}
+use Rattle.std.proofs.Common.{◌≡◌, ℕ, ◌+◌, ◌<◌, ◌≤◌, ◌⊎◌, inl, inr, Bool, true, false, cond, eqb, List, [], ◌∷◌, ◌++◌, length, get_or}
 use Rattle.std.proofs.Common.{Result, Ok, Err, refl, sym, ap, subst, ◌∙◌, append_assoc, length-append, arith}
 use Rattle.std.specs.List.{AllByRecursion}
+use Rattle.std.proofs.Math.Seq.{get_or-append_seam}
 use Rattle.std.proofs.lemmas.Bool.{eqb-true, ne_eqb}
 use Rattle.std.proofs.lemmas.List.{append-nil, nil_from_length}
 use Rattle.lset_text.specs.Parts.{cut_at}
@@ -65,10 +66,7 @@ faultless_from {S} {C} {E} g number is above line s parts below =
 
 pub starts : {S C E : Type 0} (g : Grammar S C E) (first : ℕ) (text : List ℕ) (s : S)
     → Stands g first text (lines_from g first s (cut_at 10 text)) first s text
-starts g first text s = record { so_far = refl; place = refl; left = omega arith; low = omega arith }
-
-one_more : (parts more : List (List ℕ)) (x : List ℕ) → parts ≡ x ∷ more → length parts ≡ 1 + length more
-one_more parts more x is = rw is (omega arith)
+starts g first text s = record { so_far = refl; above = []; parts = refl; number = omega arith; left = omega arith }
 
 -- a line that is taken
 pub goes_on : {S C E : Type 0} (g : Grammar S C E) (first : ℕ) (text : List ℕ) (read : Result S E) (line : ℕ) (s t : S)
@@ -77,9 +75,11 @@ pub goes_on : {S C E : Type 0} (g : Grammar S C E) (first : ℕ) (text : List �
 goes_on g first text read line s t rest x after parts shorter is stands = record {
   so_far = sym (lines_go g line s t x (cut_at 10 after) (some_part 10 after) is) ∙ ap (lines_from g line s) (sym parts)
       ∙ stands.so_far;
-  place = omega (arith, stands.place, one_more (cut_at 10 rest) (cut_at 10 after) x parts);
+  above = stands.above ++ x ∷ [];
+  parts = stands.parts ∙ ap (λ (ps : List (List ℕ)). stands.above ++ ps) parts
+      ∙ sym (append_assoc stands.above (x ∷ []) (cut_at 10 after));
+  number = omega (arith, stands.number, length-append stands.above (x ∷ []));
   left = omega (arith, stands.left, shorter);
-  low = omega (arith, stands.low);
 }
 
 -- a line that is refused
@@ -113,12 +113,23 @@ is_good {S} {C} {E} g number is_number first text read line s t rest x after par
     let next = lines_from g (line + 1) t (cut_at 10 after) in
     let more : next ≡ read = sym (lines_go g line s t x (cut_at 10 after) (some_part 10 after) is)
     ∙ ap (lines_from g line s) (sym parts) ∙ stands.so_far in
-    let counted = one_more (cut_at 10 rest) (cut_at 10 after) x parts in (
-      stands.low,
-      omega (arith, stands.place, counted, some_part 10 after),
+    let split : cut_at 10 text ≡ stands.above ++ x ∷ cut_at 10 after =
+    stands.parts ∙ ap (λ (ps : List (List ℕ)). stands.above ++ ps) parts in
+    let counted = ap length split ∙ length-append stands.above (x ∷ cut_at 10 after) in (
+      omega (arith, stands.number),
+      omega (arith, stands.number, counted, some_part 10 after),
       subst (IsFaultlessTo number line) more
           (faultless_from g number is_number line (line + 1) t (cut_at 10 after) (omega arith)),
     )
+
+-- the part of the text that it is
+pub line_at : {S C E : Type 0} (g : Grammar S C E) (first : ℕ) (text : List ℕ) (read : Result S E) (line : ℕ) (s : S)
+    (rest x after : List ℕ) → cut_at 10 rest ≡ x ∷ cut_at 10 after → (stands : Stands g first text read line s rest)
+    → get_or (cut_at 10 text) (length stands.above) [] ≡ x
+line_at g first text read line s rest x after parts stands =
+    ap (λ (ps : List (List ℕ)). get_or ps (length stands.above) []) (stands.parts
+    ∙ ap (λ (ps : List (List ℕ)). stands.above ++ ps) parts)
+    ∙ get_or-append_seam stands.above x (cut_at 10 after) []
 
 -- ---- BOTH WAYS
 

@@ -7,3 +7,4 @@ pub mod Kinds
 pub mod Lines
 pub mod Headers
 pub mod Openings
+pub mod Texts

@@ -1,5 +1,5 @@
 -- The lines of a text, one after another: what is read of them is a state, and the line that is refused is named by its number.
-use Rattle.std.specs.Prelude.{◌≡◌, ℕ, ◌+◌, ◌<◌, ◌≤◌, ◌==◌, List, [], ◌∷◌, length, Result, Ok, Err, if◌then◌else◌}
+use Rattle.std.specs.Prelude.{◌≡◌, ℕ, ◌+◌, ◌<◌, ◌≤◌, ◌==◌, List, [], ◌∷◌, ◌++◌, length, Result, Ok, Err, if◌then◌else◌}
 use Rattle.lset_text.specs.Parts.{cut_at}
 use Rattle.lset_text.specs.Results.{◌>>=◌, map_fault}
 
@@ -39,6 +39,8 @@ IsGoodLine number first parts read line =
 pub record Stands {S C E : Type 0} (g : Grammar S C E) (first : ℕ) (text : List ℕ) (read : Result S E) (line : ℕ) (s : S)
     (rest : List ℕ) : Type 0 where
   pub so_far : lines_from g line s (cut_at 10 rest) ≡ read
-  pub place : line + length (cut_at 10 rest) ≡ first + length (cut_at 10 text)
+  -- the parts above
+  pub above : List (List ℕ)
+  pub parts : cut_at 10 text ≡ above ++ cut_at 10 rest
+  pub number : line ≡ first + length above
   pub left : line + length rest ≤ first + length text
-  pub low : first ≤ line

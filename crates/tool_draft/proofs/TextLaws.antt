@@ -26,7 +26,7 @@ use Rattle.lset_schedule.specs.Plan as plan
 use Rattle.lset_schedule.specs.ScheduleReading.{BodyValue, text_in, Gives}
 use Rattle.lset_schedule.specs.ScheduleReading as schedule
 use Rattle.lset_schedule.proofs.BodyLaws.{HasText, text_found, text_cut, text_again}
-use Rattle.lset_schedule.proofs.KindsAs.{knows_as, made_as}
+use Rattle.lset_text.proofs.KindLaws.{knows_as, made_as}
 use Rattle.lset_schedule.proofs.TextLaws.{events_known, event_made, gives_ok}
 use Rattle.tool_draft.specs.declared.value.Draft.{Draft}
 use Rattle.tool_draft.specs.declared.value.DraftLine.{DraftLine}

@@ -3,11 +3,11 @@ use Rattle.std.specs.Prelude.{ℕ, List, [], ◌∷◌, map, codes, Result, Ok}
 use Rattle.lset_text.specs.declared.headers.Header.{Header}
 use Rattle.lset_text.specs.declared.words.Version.TheVariants.{Two}
 use Rattle.lset_text.specs.Forms.{word, number, any}
-use Rattle.lset_text.specs.Kinds.{LineKind}
+use Rattle.lset_text.specs.Kinds.{LineKind, kind_as}
 use Rattle.lset_text.specs.Parts.{cut_at}
 use Rattle.lset_text.specs.Results.{◌>>=◌}
 use Rattle.lset_schedule.specs.declared.fault.ScheduleFault.{ScheduleFault}
-use Rattle.lset_schedule.specs.ScheduleReading.{EventLines, BodyValue, kind_as, text_in}
+use Rattle.lset_schedule.specs.ScheduleReading.{EventLines, BodyValue, text_in}
 use Rattle.lset_schedule.specs.ScheduleReading as schedule
 use Rattle.tool_draft.specs.declared.TheConstants.{MOST_ROW}
 use Rattle.tool_draft.specs.declared.value.DraftLine.{DraftLine}

@@ -103,6 +103,7 @@ fn draft(alloc: Global, bytes: &[u8]) -> Result<Draft, ScheduleFault>
 /// The draft that the bytes are the text of, or the first fault of the bytes: its line, and the first check of that line that
 /// fails, as `read_schedule` tells it of a text of the second version. A line without a count is taken for one event. A thread or
 /// a row that is no number has the fault `Number`, and so has a row outside 1 to 255.
+#[tactic(auto, using(crate::proofs::TextLaws::found_in, crate::proofs::TextLaws::only_in))]
 pub fn read_draft(alloc: Global, bytes: &[u8]) -> Result<Draft, ScheduleFault>
     // What is read is a draft, and the bytes are its text.
     ensures found { IfOk result (λ d. IsDraft (view d) × (bytes.now ≡ draft_text (view d))) }

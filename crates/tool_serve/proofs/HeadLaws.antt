@@ -1,11 +1,6 @@
--- Lines of two pieces, and the lines before the keys.
-use Rattle.std.proofs.Common.{◌≡◌, ℕ, ◌+◌, ◌<◌, true, false, List, [], ◌∷◌, length, None, refl, arith}
-use Rattle.tool_serve.specs.Keys.{Lines, is_word_and_piece, two_in_pieces, without_at}
-
--- three pieces are too many
-pub two_many : (a b : List ℕ) (parts : List (List ℕ)) → 0 < length parts → None ≡ two_in_pieces (a ∷ b ∷ parts)
-two_many a b [] some = absurd (omega arith)
-two_many a b (c ∷ more) some = refl
+-- The lines before the keys.
+use Rattle.std.proofs.Common.{◌≡◌, ℕ, ◌+◌, ◌<◌, true, List, [], ◌∷◌, length, refl, arith}
+use Rattle.tool_serve.specs.Keys.{Lines, is_word_and_piece, without_at}
 
 abbrev pub lines : ℕ → List (List ℕ) → Lines
 lines line parts = record { line = line; parts = parts }
@@ -15,8 +10,3 @@ pub without_goes : (word : List ℕ) (line : ℕ) (x : List ℕ) (parts : List (
     → lines (line + 1) parts ≡ without_at word line (x ∷ parts)
 without_goes word line x [] some is = absurd (omega arith)
 without_goes word line x (y ∷ more) some is = rw is refl
-
-pub without_stays : (word : List ℕ) (line : ℕ) (x : List ℕ) (parts : List (List ℕ)) → is_word_and_piece word x ≡ false
-    → lines line (x ∷ parts) ≡ without_at word line (x ∷ parts)
-without_stays word line x [] is = refl
-without_stays word line x (y ∷ more) is = rw is refl

@@ -1,6 +1,5 @@
 mod Endings
 mod HeadLaws
-mod KeyLaws
 mod NewSets
 mod PrintedKeys
 mod RisingKeys

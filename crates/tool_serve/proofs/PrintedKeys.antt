@@ -1,39 +1,36 @@
 -- What a server prints is read: its head is passed over, and each line of a key tells its key.
 use Rattle.std.proofs.Common.{◌≡◌, ℕ, ◌+◌, ◌<◌, ◌≤◌, ◌^◌, true, false, List, [], ◌∷◌, ◌++◌, length, map, codes}
-use Rattle.std.proofs.Common.{Some, Ok, refl, sym, ap, ◌∙◌, arith, length-append}
-use Rattle.std.specs.Prelude.{All}
+use Rattle.std.proofs.Common.{Ok, refl, sym, ap, subst, ◌∙◌, arith, append_assoc, length-append}
+use Rattle.std.specs.Prelude.{All, if◌then◌else◌}
 use Rattle.std.specs.Fmt.{decimal}
 use Rattle.std.specs.List.{AllByRecursion}
 use Rattle.std.specs.Str.{bytes_eq}
-use Rattle.std.proofs.lemmas.Bool.{le-ltb, lt-leb}
+use Rattle.std.proofs.lemmas.Bool.{lt-leb}
+use Rattle.std.proofs.lemmas.List.{append-nil}
 use Rattle.std.proofs.lemmas.List.Elements.{All-head, All-tail}
 use Rattle.lset_words.specs.declared.TheConstants.{MOST_OPENING}
-use Rattle.lset_words.proofs.RisingLists.{RisesFrom, rises_from_increasing}
-use Rattle.lset_text.specs.Parts.{Lacks, line_of, text_of}
+use Rattle.lset_text.specs.declared.words.Version.TheVariants.{Two}
+use Rattle.lset_text.specs.Parts.{cut_at, Lacks, all_from, line_of, text_of}
 use Rattle.lset_text.specs.Numbers.{max_number}
-use Rattle.lset_text.proofs.PartLaws.{Lacks-append, Lacks-below, all_from, cut_line, cut_lines, line_lacks}
+use Rattle.lset_text.specs.Headers.{number_form, number_line}
+use Rattle.lset_text.specs.Kinds.{first_of}
+use Rattle.lset_text.specs.Lines.{Leads, lines_from}
+use Rattle.lset_text.proofs.PartLaws.{Lacks-append, Lacks-below, cut_line, cut_lines, line_lacks}
 use Rattle.lset_text.proofs.NumberLaws.{decimal_lacks, number_again}
-use Rattle.tool_serve.specs.Keys.{AreKeys, Lines, is_word_and_piece, key_after, key_in, keys_at, keys_in, two_pieces, without}
-use Rattle.tool_serve.specs.Keys.{without_at}
+use Rattle.lset_text.proofs.HeaderLaws.{number_line_lacks}
+use Rattle.lset_text.proofs.OpeningLaws.{above_before}
+use Rattle.lset_text.proofs.FormLaws.{cut_form}
+use Rattle.lset_text.proofs.LineLaws.{lines_again}
+use Rattle.tool_serve.specs.Keys.{AreKeys, Lines, key_causes, key_lines, key_in, key_grammar, keys_in}
+use Rattle.tool_serve.specs.Keys.{without, without_at}
 use Rattle.tool_serve.specs.Printed.{PrintedKeysAreRead}
-use Rattle.tool_serve.specs.Serving.{first_line, number_line, served_text}
-use Rattle.tool_serve.proofs.HeadLaws.{lines, without_goes, without_stays}
-use Rattle.tool_serve.proofs.KeyLaws.{keys_goes}
+use Rattle.tool_serve.specs.Serving.{first_line, served_text}
+use Rattle.tool_serve.proofs.HeadLaws.{lines}
 
 -- ---- a line of a word and a piece
 
 abbrev pair_line : List ℕ → List ℕ → List ℕ
 pair_line word piece = line_of (word ∷ piece ∷ [])
-
-two_told : (word piece : List ℕ) → Lacks 32 word → Lacks 32 piece → two_pieces (pair_line word piece) ≡ Some (word, piece)
-two_told word piece lacks plain = rw (cut_line word (piece ∷ []) lacks (plain, tt)) refl
-
-told_by : (word other piece : List ℕ) → Lacks 32 word → Lacks 32 piece → is_word_and_piece other (pair_line word piece) ≡ bytes_eq
-    word other
-told_by word other piece lacks plain = rw (two_told word piece lacks plain) refl
-
-letters_lack : (byte : ℕ) (word : List ℕ) → byte < 97 → all_from 97 word ≡ true → Lacks byte word
-letters_lack byte word low is = Lacks-below 97 byte word low is
 
 plain_number : (n : ℕ) → n < 2 ^ 64 → Lacks 32 (decimal n)
 plain_number n small = decimal_lacks 32 n (omega arith) small
@@ -49,60 +46,57 @@ key_parts keys = map key_line keys ++ [] ∷ []
 
 key_told : (k : ℕ) → k ≤ max_number → key_in (key_line k) ≡ Ok k
 key_told k low =
-    let two = two_told (codes "key") (decimal k) (letters_lack 32 (codes "key") (omega arith) refl)
-    (plain_number k (omega (arith, low))) in
-    rw (two, number_again 0 max_number k (omega arith) (omega arith) low) refl
-
-key_follows : (many least k : ℕ) → k ≤ max_number → many < MOST_OPENING → least ≤ k → key_after many least (key_line k) ≡ Ok k
-key_follows many least k low room above = rw (key_told k low, lt-leb MOST_OPENING many room, le-ltb k least above) refl
+    let cut : cut_at 32 (key_line k) ≡ codes "key" ∷ decimal k ∷ [] =
+    cut_form Two (number_form (codes "key") 0 max_number) (tt, (k, tt)) (refl, (omega arith, tt)) (tt, ((omega arith, low), tt)) in
+    ap (first_of Two key_causes key_lines) cut ∙ rw (number_again 0 max_number k (omega arith) (omega arith) low) refl
 
 some_parts : (keys : List ℕ) → 0 < length (key_parts keys)
 some_parts keys = omega (arith, length-append (map key_line keys) ([] ∷ []))
 
-keys_told : (line many least : ℕ) (keys : List ℕ) → RisesFrom least keys → All (λ k. k ≤ max_number) keys →
-    many + length keys ≤ MOST_OPENING
-    → keys_at line many least (key_parts keys) ≡ Ok keys
-unfolding keys_at
-keys_told line many least [] rises low few = refl
-keys_told line many least (k ∷ ks) rises low few =
-    let one = key_follows many least k (All-head (λ k. k ≤ max_number) k ks low) (omega (arith, few)) rises.0 in
-    let step = keys_goes line many least (key_line k) (key_parts ks) k (some_parts ks) one in
-    let others = keys_told (line + 1) (many + 1) (k + 1) ks rises.1 (All-tail (λ k. k ≤ max_number) k ks low) (omega (arith, few))
-    in
-    rw (step, others) refl
+-- the lines of keys that rise lead from those before them to all of them
+keys_lead : (front keys : List ℕ) → AreKeys (front ++ keys) → All (λ k. k ≤ max_number) keys
+    → Leads key_grammar front (map key_line keys) (front ++ keys)
+keys_lead front [] are low = sym (append-nil front)
+keys_lead front (k ∷ ks) are low =
+    let all : (front ++ k ∷ []) ++ ks ≡ front ++ k ∷ ks = append_assoc front (k ∷ []) ks in
+    let room = lt-leb MOST_OPENING (length front) (omega (arith, are.1, length-append front (k ∷ ks))) in (
+      front ++ k ∷ [],
+      rw (key_told k (All-head (λ k. k ≤ max_number) k ks low), room, above_before front k ks are.0) refl,
+      subst (Leads key_grammar (front ++ k ∷ []) (map key_line ks)) all
+          (keys_lead (front ++ k ∷ []) ks (subst AreKeys (sym all) are) (All-tail (λ k. k ≤ max_number) k ks low)),
+    )
 
 key_lines_lack : (keys : List ℕ) → All (λ k. k ≤ max_number) keys → AllByRecursion (Lacks 10) (map key_line keys)
 key_lines_lack [] low = tt
-key_lines_lack (k ∷ ks) low =
-    let small = All-head (λ k. k ≤ max_number) k ks low in
-    let number = decimal_lacks 10 k (omega arith) (omega (arith, small)) in
-    let word = letters_lack 10 (codes "key") (omega arith) refl in
-    (line_lacks (codes "key" ∷ decimal k ∷ []) (word, (number, tt)), key_lines_lack ks (All-tail (λ k. k ≤ max_number) k ks low))
+key_lines_lack (k ∷ ks) low = (
+  number_line_lacks (codes "key") k refl (omega (arith, All-head (λ k. k ≤ max_number) k ks low)),
+  key_lines_lack ks (All-tail (λ k. k ≤ max_number) k ks low),
+)
 
 -- ---- the head
 
--- a line of the head is passed over where it is the one that is due
-passes : (word piece : List ℕ) (line : ℕ) (parts : List (List ℕ)) → Lacks 32 word → Lacks 32 piece → bytes_eq word word ≡ true →
-    0 < length parts
-    → without_at word line (pair_line word piece ∷ parts) ≡ lines (line + 1) parts
-passes word piece line parts lacks plain same some =
-    sym (without_goes word line (pair_line word piece) parts some (told_by word word piece lacks plain ∙ same))
+-- a line of a word and a piece is passed over where its word is the one that is due, and stays where it is another
+pair_head : (word other piece : List ℕ) (line : ℕ) (parts : List (List ℕ)) → all_from 97 word ≡ true → Lacks 32 piece
+    → 0 < length parts
+    → without_at other line (pair_line word piece ∷ parts)
+    ≡ (if bytes_eq word other then lines (line + 1) parts else lines line (pair_line word piece ∷ parts))
+pair_head word other piece line [] letters plain some = absurd (omega arith)
+pair_head word other piece line (y ∷ more) letters plain some =
+    rw (cut_line word (piece ∷ []) (Lacks-below 97 32 word (omega arith) letters) (plain, tt)) refl
 
--- and stays where it is another
-stays : (word other piece : List ℕ) (line : ℕ) (parts : List (List ℕ)) → Lacks 32 word → Lacks 32 piece →
-    bytes_eq word other ≡ false
-    → without_at other line (pair_line word piece ∷ parts) ≡ lines line (pair_line word piece ∷ parts)
-stays word other piece line parts lacks plain differs =
-    sym (without_stays other line (pair_line word piece) parts (told_by word other piece lacks plain ∙ differs))
+number_head : (word other : List ℕ) (n line : ℕ) (parts : List (List ℕ)) → all_from 97 word ≡ true → n < 2 ^ 64
+    → 0 < length parts
+    → without_at other line (number_line word n ∷ parts)
+    ≡ (if bytes_eq word other then lines (line + 1) parts else lines line (number_line word n ∷ parts))
+number_head word other n line parts letters small some = pair_head word other (decimal n) line parts letters (plain_number n small) some
 
 -- the lines of keys stay
 keys_stay : (other : List ℕ) (line : ℕ) (keys : List ℕ) → bytes_eq (codes "key") other ≡ false → All (λ k. k ≤ max_number) keys
     → without_at other line (key_parts keys) ≡ lines line (key_parts keys)
 keys_stay other line [] differs low = refl
 keys_stay other line (k ∷ ks) differs low =
-    let small = All-head (λ k. k ≤ max_number) k ks low in
-    stays (codes "key") other (decimal k) line (key_parts ks) (letters_lack 32 (codes "key") (omega arith) refl)
-    (plain_number k (omega (arith, small))) differs
+    number_head (codes "key") other k line (key_parts ks) refl (omega (arith, All-head (λ k. k ≤ max_number) k ks low)) (some_parts ks)
+    ∙ rw differs refl
 
 abbrev head_of : List (List ℕ) → Lines
 head_of parts = without (codes "calls") (without (codes "sessions") (without (codes "listening") (lines 1 parts)))
@@ -129,28 +123,23 @@ module _ (port sessions calls : ℕ) (keys : List ℕ) (port_fits : port < 2 ^ 1
       (decimal_lacks byte port (omega (arith, small)) (omega (arith, port_fits)))
 
   -- from any line on
-  rest_told : (line : ℕ) → keys_at line 0 0 (key_parts keys) ≡ Ok keys
-  rest_told line = keys_told line 0 0 keys (rises_from_increasing keys are.0) low (omega (arith, are.1))
+  rest_told : (line : ℕ) → lines_from key_grammar line [] (key_parts keys) ≡ Ok keys
+  rest_told line = lines_again key_grammar line [] keys (map key_line keys) (keys_lead [] keys are low) refl
 
   after_calls : (line : ℕ) → without (codes "calls") (lines line (calls_line ∷ key_parts keys)) ≡ lines (line + 1)
       (key_parts keys)
-  after_calls line =
-      passes (codes "calls") (decimal calls) line (key_parts keys) (letters_lack 32 (codes "calls") (omega arith) refl)
-      (plain_number calls calls_fit) refl (some_parts keys)
+  after_calls line = number_head (codes "calls") (codes "calls") calls line (key_parts keys) refl calls_fit (some_parts keys)
 
   after_sessions : (line : ℕ) → without (codes "sessions") (lines line (sessions_line ∷ calls_line ∷ key_parts keys)) ≡ lines
       (line + 1) (calls_line ∷ key_parts keys)
   after_sessions line =
-      passes (codes "sessions") (decimal sessions) line (calls_line ∷ key_parts keys)
-      (letters_lack 32 (codes "sessions") (omega arith) refl)
-      (plain_number sessions sessions_fit) refl (omega arith)
+      number_head (codes "sessions") (codes "sessions") sessions line (calls_line ∷ key_parts keys) refl sessions_fit (omega arith)
 
   after_listening : without (codes "listening") (lines 1 (listening_line ∷ sessions_line ∷ calls_line ∷ key_parts keys)) ≡ lines 2
       (sessions_line ∷ calls_line ∷ key_parts keys)
   after_listening =
-      passes (codes "listening") place 1 (sessions_line ∷ calls_line ∷ key_parts keys)
-      (letters_lack 32 (codes "listening") (omega arith) refl)
-      (place_lacks 32 (omega arith)) refl (omega arith)
+      pair_head (codes "listening") (codes "listening") place 1 (sessions_line ∷ calls_line ∷ key_parts keys) refl
+      (place_lacks 32 (omega arith)) (omega arith)
 
   -- the head of each of the three texts
   whole_head : head_of (listening_line ∷ sessions_line ∷ calls_line ∷ key_parts keys) ≡ lines 4 (key_parts keys)
@@ -160,9 +149,8 @@ module _ (port sessions calls : ℕ) (keys : List ℕ) (port_fits : port < 2 ^ 1
 
   served_head : head_of (sessions_line ∷ calls_line ∷ key_parts keys) ≡ lines 3 (key_parts keys)
   served_head =
-      let first = stays (codes "sessions") (codes "listening") (decimal sessions) 1 (calls_line ∷ key_parts keys)
-      (letters_lack 32 (codes "sessions") (omega arith) refl)
-      (plain_number sessions sessions_fit) refl in
+      let first = number_head (codes "sessions") (codes "listening") sessions 1 (calls_line ∷ key_parts keys) refl sessions_fit
+      (omega arith) in
       ap (λ l. without (codes "calls") (without (codes "sessions") l)) first ∙ ap (without (codes "calls")) (after_sessions 1)
       ∙ after_calls 2
 
@@ -177,25 +165,19 @@ module _ (port sessions calls : ℕ) (keys : List ℕ) (port_fits : port < 2 ^ 1
       → keys_in (text_of text_lines) ≡ Ok keys
   read_after text_lines line lack head =
       let parts = cut_lines text_lines lack in
-      ap (λ ps. keys_at (head_of ps).line 0 0 (head_of ps).parts) parts ∙ ap (λ (l : Lines). keys_at l.line 0 0 l.parts) head
-      ∙ rest_told line
-
-  number_line_lacks : (word : List ℕ) (n : ℕ) → Lacks 10 word → n < 2 ^ 64 → Lacks 10 (number_line word n)
-  number_line_lacks word n lacks small = line_lacks (word ∷ decimal n ∷ []) (lacks, (decimal_lacks 10 n (omega arith) small, tt))
+      ap (λ ps. lines_from key_grammar (head_of ps).line [] (head_of ps).parts) parts
+      ∙ ap (λ (l : Lines). lines_from key_grammar l.line [] l.parts) head ∙ rest_told line
 
   served_lack : AllByRecursion (Lacks 10) (sessions_line ∷ calls_line ∷ map key_line keys)
   served_lack = (
-    number_line_lacks (codes "sessions") sessions (letters_lack 10 (codes "sessions") (omega arith) refl) sessions_fit,
-    (
-      number_line_lacks (codes "calls") calls (letters_lack 10 (codes "calls") (omega arith) refl) calls_fit,
-      key_lines_lack keys low,
-    ),
+    number_line_lacks (codes "sessions") sessions refl sessions_fit,
+    (number_line_lacks (codes "calls") calls refl calls_fit, key_lines_lack keys low),
   )
 
   whole_lack : AllByRecursion (Lacks 10) (listening_line ∷ sessions_line ∷ calls_line ∷ map key_line keys)
   whole_lack = (
     line_lacks (codes "listening" ∷ place ∷ []) (
-      letters_lack 10 (codes "listening") (omega arith) refl,
+      Lacks-below 97 10 (codes "listening") (omega arith) refl,
       (place_lacks 10 (omega arith), tt),
     ),
     served_lack,

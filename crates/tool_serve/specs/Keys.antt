@@ -1,14 +1,17 @@
 -- The keys of a text, or its first fault: line by line, and in each line in the order of the checks.
-use Rattle.std.specs.Prelude.{◌≡◌, ℕ, ◌+◌, ◌≤◌, ◌==◌, nat_lt, nat_le, Bool, false, List, [], ◌∷◌, length, codes, Option, Some}
-use Rattle.std.specs.Prelude.{None, Result, Ok, Err}
+use Rattle.std.specs.Prelude.{◌≡◌, ℕ, ◌+◌, ◌≤◌, nat_le, Bool, List, [], ◌∷◌, ◌++◌, length, codes, Result, Ok, Err}
 use Rattle.std.specs.Prelude.{if◌then◌else◌}
-use Rattle.std.specs.Option.{option_map_or}
 use Rattle.std.specs.List.Sorted.{IsStrictlyIncreasing}
-use Rattle.std.specs.Str.{bytes_eq}
 use Rattle.lset_words.specs.declared.TheConstants.{MOST_OPENING}
+use Rattle.lset_text.specs.declared.words.Version.TheVariants.{Two}
 use Rattle.lset_text.specs.Parts.{cut_at}
-use Rattle.lset_text.specs.Numbers.{number_in, max_number}
-use Rattle.lset_text.specs.Results.{◌>>=◌, or_fail, map_fault}
+use Rattle.lset_text.specs.Numbers.{max_number}
+use Rattle.lset_text.specs.Headers.{number_form}
+use Rattle.lset_text.specs.Openings.{is_above}
+use Rattle.lset_text.specs.Forms.{have_form}
+use Rattle.lset_text.specs.Kinds.{LineKind, LineCauses, line_in}
+use Rattle.lset_text.specs.Lines.{Grammar, lines_from}
+use Rattle.lset_text.specs.Results.{◌>>=◌}
 use Rattle.lset_tools.specs.declared.trouble.KeyCause.{KeyCause}
 use Rattle.lset_tools.specs.declared.trouble.KeyCause.TheVariants as cause
 use Rattle.lset_tools.specs.declared.trouble.LineCause.TheVariants.{Keys}
@@ -18,23 +21,11 @@ use Rattle.tool_serve.specs.declared.keys.KeysFault.{KeysFault}
 use Rattle.tool_serve.specs.declared.keys.KeysFault.TheVariants.{Line, Memory}
 use Rattle.tool_serve.specs.declared.keys.Left.{Left}
 
--- ---- a line of two pieces
-
-abbrev pub two_in_pieces : List (List ℕ) → Option (List ℕ × List ℕ)
-two_in_pieces [] = None
-two_in_pieces (a ∷ []) = None
-two_in_pieces (a ∷ b ∷ []) = Some (a, b)
-two_in_pieces (a ∷ b ∷ c ∷ more) = None
-
--- the pieces of a line that has just two
-abbrev pub two_pieces : List ℕ → Option (List ℕ × List ℕ)
-two_pieces line = two_in_pieces (cut_at 32 line)
-
 -- ---- the head: what a server prints before its keys
 
 -- whether a line is the word and one further piece
 abbrev pub is_word_and_piece : List ℕ → List ℕ → Bool
-is_word_and_piece word line = option_map_or (λ p. bytes_eq p.0 word) (two_pieces line) false
+is_word_and_piece word line = have_form Two (number_form word 0 max_number) (cut_at 32 line)
 
 -- the parts of a text between newlines, of which the first has this number of line: whole lines, and what comes after the last
 -- newline
@@ -64,34 +55,33 @@ after_head text =
 
 -- ---- the lines of keys
 
-abbrev pub key_in_two : Option (List ℕ × List ℕ) → Result ℕ KeyCause
-key_in_two None = Err cause.Line
-key_in_two (Some p) = if bytes_eq p.0 (codes "key") then or_fail cause.Number (number_in 0 max_number p.1) else Err cause.Line
+abbrev pub key_causes : LineCauses KeyCause
+key_causes = record { form = cause.Line; number = cause.Number }
+
+abbrev pub key_lines : List (LineKind ℕ)
+key_lines = (number_form (codes "key") 0 max_number, λ t. t.1.0) ∷ []
 
 -- the key that a line tells
 abbrev pub key_in : List ℕ → Result ℕ KeyCause
-key_in line = key_in_two (two_pieces line)
+key_in line = line_in Two key_causes key_lines line
 
-abbrev pub allowed : ℕ → ℕ → ℕ → Result ℕ KeyCause
-allowed many least k = if nat_le MOST_OPENING many then Err cause.TooMany
-    else (if nat_lt k least then Err cause.Opening else Ok k)
+-- one key more: not too many, and above the one before
+abbrev pub with_key : List ℕ → ℕ → Result (List ℕ) KeyCause
+with_key keys k =
+    if nat_le MOST_OPENING (length keys) then Err cause.TooMany
+    else (if is_above keys k then Ok (keys ++ k ∷ []) else Err cause.Opening)
 
--- the key of a line that comes after so many keys, and may tell this key or a greater one
-abbrev pub key_after : ℕ → ℕ → List ℕ → Result ℕ KeyCause
-key_after many least line = key_in line >>= allowed many least
-
--- the keys from a number of line on; each key is above the one before it
-unfoldable pub keys_at : ℕ → ℕ → ℕ → List (List ℕ) → Result (List ℕ) KeysFault
-keys_at line many least [] = Ok []
-keys_at line many least (rest ∷ []) = if length rest == 0 then Ok [] else Err (Line line cause.NotEnded)
-keys_at line many least (x ∷ y ∷ more) = do
-  k ← map_fault (Line line) (key_after many least x)
-  ks ← keys_at (line + 1) (many + 1) (k + 1) (y ∷ more)
-  Ok (k ∷ ks)
+abbrev pub key_grammar : Grammar (List ℕ) KeyCause KeysFault
+key_grammar = record {
+  step = λ keys line. key_in line >>= with_key keys;
+  ends = λ keys. Ok keys;
+  not_ended = cause.NotEnded;
+  at = λ line because. Line line because;
+}
 
 -- THE KEYS OF A TEXT: those of its lines after the head
 abbrev pub keys_in : List ℕ → Result (List ℕ) KeysFault
-keys_in text = keys_at (after_head text).line 0 0 (after_head text).parts
+keys_in text = lines_from key_grammar (after_head text).line [] (after_head text).parts
 
 -- ---- what the functions on the way say
 

@@ -2,8 +2,9 @@
 use Rattle.std.specs.Prelude.{◌≡◌, ℕ, ◌≤◌, ◌<◌, ◌^◌, All, List, ◌++◌, codes, map, Ok}
 use Rattle.lset_text.specs.Numbers.{max_number}
 use Rattle.lset_text.specs.Parts.{text_of}
+use Rattle.lset_text.specs.Headers.{number_line}
 use Rattle.tool_serve.specs.Keys.{AreKeys, keys_in}
-use Rattle.tool_serve.specs.Serving.{first_line, number_line, served_text}
+use Rattle.tool_serve.specs.Serving.{first_line, served_text}
 
 -- The next server reads the keys from all that one printed, from what it printed at its end, and from the lines of the keys
 -- alone.

@@ -5,7 +5,8 @@ use Rattle.std.specs.Io.KnownBytes.{Appends, Keeps}
 use Rattle.std.specs.List.{range_with_len}
 use Rattle.lset_words.specs.declared.TheConstants.{MOST_QUOTA, MOST_THREADS}
 use Rattle.lset_words.specs.Words.{Opening}
-use Rattle.lset_text.specs.Parts.{line_of, text_of}
+use Rattle.lset_text.specs.Parts.{text_of}
+use Rattle.lset_text.specs.Headers.{number_line}
 use Rattle.lset_words.specs.Records.{fresh}
 use Rattle.lset_server.specs.Serving.{IsServed}
 use Rattle.lset_server.specs.declared.serving.ServeCause.{ServeCause}
@@ -44,10 +45,6 @@ IsWithinLimits request =
 -- the line that names the port on which the server listens
 abbrev pub first_line : ℕ → List ℕ
 first_line port = codes "listening 127.0.0.1:" ++ decimal port ++ codes "\n"
-
--- a name, and a number
-abbrev pub number_line : List ℕ → ℕ → List ℕ
-number_line name n = line_of (name ∷ decimal n ∷ [])
 
 abbrev pub served_text : ℕ → ℕ → List ℕ → List ℕ
 served_text sessions calls keys =

@@ -1,10 +1,11 @@
 //! The keys with which a set opens, as the lines of a text.
-ghost use Rattle.std.specs.Prelude.{◌≡◌, ◌<◌, ◌≤◌, ◌+◌, ◌^◌, IfOk, option_map};
-ghost use Rattle.lset_words.specs.declared.TheConstants.{MOST_OPENING};
-ghost use Rattle.tool_serve.specs.Keys.{AreKeys, Gives, after_head, is_word_and_piece, key_after, key_in, keys_at, keys_in, lines_of, of_keys, two_pieces, without};
+ghost use Rattle.std.specs.Prelude.{◌≡◌, ◌<◌, ◌≤◌, ◌+◌, ◌^◌, ◌++◌, ◌∷◌, [], is_some, Ok, Err, IfOk, IfSome, MatchResult};
+ghost use Rattle.lset_text.specs.Parts.{cut_at};
+ghost use Rattle.lset_text.specs.Lines.{lines_from};
+ghost use Rattle.tool_serve.specs.Keys.{AreKeys, Gives, after_head, is_word_and_piece, key_grammar, key_in, keys_in, lines_of, of_keys, without};
 ghost use Rattle.tool_serve.specs.Printed.{PrintedKeysAreRead};
 
-use lset_text::{cut, number};
+use lset_text::{cut, is_above, number};
 use lset_tools::{KeyCause, LineCause, Trouble};
 use lset_words::MOST_OPENING;
 use std::alloc::Global;
@@ -36,24 +37,18 @@ struct Left<'a> {
     text: &'a [u8],
 }
 
-/// The pieces of a line that has just two.
-fn two_pieces(line: &[u8]) -> Option<(&[u8], &[u8])>
-    ensures { option_map (λ p. (p.0.now, p.1.now)) result ≡ two_pieces line.now }
+/// What stands in a line after the word, if that is one further piece.
+fn piece_after<'a>(line: &'a [u8], word: &[u8]) -> Option<&'a [u8]>
+    ensures form { is_some result ≡ is_word_and_piece word.now line.now }
+    ensures pieces { IfSome result (λ p. cut_at 32 line.now ≡ word.now ∷ p.now ∷ []) }
 {
-    let (first, second) = cut(line, b' ')?;
-    match cut(second, b' ') {
-        Some((_, _more)) => None,
-        None => Some((first, second)),
+    let (first, piece) = cut(line, b' ')?;
+    if first != word {
+        return None;
     }
-}
-
-/// Whether the line is the word and one further piece.
-fn is_word_and_piece(line: &[u8], word: &[u8]) -> bool
-    ensures { result ≡ is_word_and_piece word.now line.now }
-{
-    match two_pieces(line) {
-        Some((first, _)) => first == word,
-        None => false,
+    match cut(piece, b' ') {
+        Some((_, _more)) => None,
+        None => Some(piece),
     }
 }
 
@@ -65,7 +60,7 @@ impl<'a> Left<'a> {
         ensures next { result.line ≤ self.entry.line + 1 }
     {
         match cut(self.text, b'\n') {
-            Some((first, rest)) if is_word_and_piece(first, word) => Left {
+            Some((first, rest)) if piece_after(first, word).is_some() => Left {
                 line: self.line + 1,
                 text: rest,
             },
@@ -90,22 +85,20 @@ fn after_head(text: &[u8]) -> Left<'_>
 fn key_of_line(line: &[u8]) -> Result<u32, KeyCause>
     ensures { result ≡ key_in line.now }
 {
-    let (word, key) = two_pieces(line).ok_or(KeyCause::Line)?;
-    if word != b"key".as_slice() {
-        return Err(KeyCause::Line);
-    }
-    number(key, 0, u32::MAX).ok_or(KeyCause::Number)
+    let piece = piece_after(line, b"key").ok_or(KeyCause::Line)?;
+    number(piece, 0, u32::MAX).ok_or(KeyCause::Number)
 }
 
-/// The key of a line that comes after `many` keys, and may tell `least` or a greater one.
-fn next_key(line: &[u8], many: usize, least: u64) -> Result<u32, KeyCause>
-    ensures { result ≡ key_after many least line.now }
+/// The key of a line that comes after these keys.
+fn next_key(line: &[u8], keys: &[u32]) -> Result<u32, KeyCause>
+    ensures { MatchResult result (λ k. key_grammar.step keys.now line.now ≡ Ok (keys.now ++ k ∷ []))
+        (λ because. key_grammar.step keys.now line.now ≡ Err because) }
 {
     let key = key_of_line(line)?;
-    if many >= MOST_OPENING as usize {
+    if keys.len() >= MOST_OPENING as usize {
         return Err(KeyCause::TooMany);
     }
-    if u64::from(key) < least {
+    if !is_above(keys, key) {
         return Err(KeyCause::Opening);
     }
     Ok(key)
@@ -114,24 +107,22 @@ fn next_key(line: &[u8], many: usize, least: u64) -> Result<u32, KeyCause>
 /// The keys of the lines that are left, all of them lines of keys.
 fn keys_of_lines(alloc: Global, left: Left<'_>) -> Result<Vec<u32>, KeysFault>
     requires { left.line < 2 ^ 32 }
-    ensures { Gives (λ v. v.items) result (keys_at (lines_of left.entry).line 0 0 (lines_of left.entry).parts) }
+    ensures { Gives (λ v. v.items) result (lines_from key_grammar left.entry.line [] (cut_at 10 left.entry.text.now)) }
 {
     let mut keys = Vec::new(alloc);
-    let mut least: u64 = 0;
     let mut line = left.line;
     let mut rest = left.text;
     while !rest.is_empty() {
         let Some((first, after)) = cut(rest, b'\n') else {
             return Err(KeysFault::Line(line, KeyCause::NotEnded));
         };
-        let key = match next_key(first, keys.len(), least) {
+        let key = match next_key(first, &keys) {
             Ok(key) => key,
             Err(cause) => return Err(KeysFault::Line(line, cause)),
         };
         if keys.push(key).is_err() {
             return Err(KeysFault::Memory);
         }
-        least = u64::from(key) + 1;
         line += 1;
         rest = after;
     }

@@ -1,7 +1,8 @@
 //! The texts of a server.
 ghost use Rattle.std.specs.Prelude.{◌≡◌, ◌++◌, map, codes, IfOk, OnOk, string_bytes};
 ghost use Rattle.lset_text.specs.Parts.{ended, text_of};
-ghost use Rattle.tool_serve.specs.Serving.{first_line, number_line, served_text};
+ghost use Rattle.lset_text.specs.Headers.{number_line};
+ghost use Rattle.tool_serve.specs.Serving.{first_line, served_text};
 
 use lset_server::Served;
 use std::alloc::{AllocError, Global};

@@ -1,17 +1,15 @@
-ghost use Rattle.std.specs.Prelude.{◌≡◌, ◌∷◌, [], codes};
+ghost use Rattle.std.specs.Prelude.{◌≡◌, ◌∷◌, []};
 ghost use Rattle.lset_text.specs.Parts.{cut_at};
 ghost use Rattle.lset_text.specs.Kinds.{first_of, line_in};
 ghost use Rattle.lset_report.specs.ReportReading.{
   causes,
   open_kind,
   ended_kind,
-  from_calls,
   from_order,
   from_keys,
   kinds,
   section_after,
 };
-ghost use Rattle.lset_report.specs.ReportReader.{may_come};
 
 use crate::report_fault::ReportCause;
 use lset_text::{Version, cut, is_reply, number, read_call, read_reply};
@@ -37,32 +35,6 @@ pub enum Line {
     End,
 }
 
-impl Section {
-    fn takes_opening(self, version: Version) -> bool
-        ensures { result ≡ may_come (kinds Version.Two Section.Opening) version self }
-    {
-        matches!((version, self), (Version::Two, Section::Opening))
-    }
-
-    fn takes_calls(self) -> bool
-        ensures { result ≡ may_come from_calls Version.One self }
-    {
-        matches!(self, Section::Opening | Section::Calls)
-    }
-
-    fn takes_places(self) -> bool
-        ensures { result ≡ may_come from_order Version.One self }
-    {
-        matches!(self, Section::Opening | Section::Calls | Section::Order)
-    }
-
-    fn takes_keys(self) -> bool
-        ensures { result ≡ may_come from_keys Version.One self }
-    {
-        !matches!(self, Section::Done)
-    }
-}
-
 impl Line {
     /// The section of the line.
     pub fn section(self) -> Section
@@ -78,9 +50,10 @@ impl Line {
     }
 }
 
-/// The pieces of a call's line after its word, up to its beginning.
+/// The pieces of a call's line up to its beginning.
 #[derive(Clone, Copy)]
 struct Begun<'a> {
+    word: &'a [u8],
     id: &'a [u8],
     thread: &'a [u8],
     call: &'a [u8],
@@ -89,10 +62,10 @@ struct Begun<'a> {
 }
 
 fn open_call(version: Version, pieces: Begun<'_>, end: &[u8]) -> Result<Line, ReportCause>
-    ensures { result ≡ first_of version causes (open_kind ∷ []) (codes "call" ∷ pieces.entry.id.now ∷ pieces.entry.thread.now
+    ensures { result ≡ first_of version causes (open_kind ∷ []) (pieces.entry.word.now ∷ pieces.entry.id.now ∷ pieces.entry.thread.now
         ∷ pieces.entry.call.now ∷ pieces.entry.key.now ∷ pieces.entry.begun.now ∷ end.now ∷ []) }
 {
-    if end != b"open".as_slice() {
+    if pieces.word != b"call".as_slice() || end != b"open".as_slice() {
         return Err(ReportCause::Line);
     }
     let word = read_call(version, pieces.call).ok_or(ReportCause::Line)?;
@@ -115,10 +88,10 @@ fn ended_call(
     end: &[u8],
     reply: &[u8],
 ) -> Result<Line, ReportCause>
-    ensures { result ≡ first_of version causes (ended_kind ∷ []) (codes "call" ∷ pieces.entry.id.now ∷ pieces.entry.thread.now
+    ensures { result ≡ first_of version causes (ended_kind ∷ []) (pieces.entry.word.now ∷ pieces.entry.id.now ∷ pieces.entry.thread.now
         ∷ pieces.entry.call.now ∷ pieces.entry.key.now ∷ pieces.entry.begun.now ∷ end.now ∷ reply.now ∷ []) }
 {
-    if !is_reply(version, reply) {
+    if pieces.word != b"call".as_slice() || !is_reply(version, reply) {
         return Err(ReportCause::Line);
     }
     let word = read_call(version, pieces.call).ok_or(ReportCause::Line)?;
@@ -137,9 +110,15 @@ fn ended_call(
     Ok(Line::Call(id, made))
 }
 
-/// A call, of what comes after its thread.
-fn call(version: Version, id: &[u8], thread: &[u8], rest: &[u8]) -> Result<Line, ReportCause>
-    ensures { result ≡ first_of version causes (open_kind ∷ ended_kind ∷ []) (codes "call" ∷ id.now ∷ thread.now
+/// A call, of its first pieces and of what comes after them.
+fn call(
+    version: Version,
+    word: &[u8],
+    id: &[u8],
+    thread: &[u8],
+    rest: &[u8],
+) -> Result<Line, ReportCause>
+    ensures { result ≡ first_of version causes (open_kind ∷ ended_kind ∷ []) (word.now ∷ id.now ∷ thread.now
         ∷ cut_at 32 rest.now) }
 {
     let Some((call, rest)) = cut(rest, b' ') else {
@@ -152,6 +131,7 @@ fn call(version: Version, id: &[u8], thread: &[u8], rest: &[u8]) -> Result<Line,
         return Err(ReportCause::Line);
     };
     let pieces = Begun {
+        word,
         id,
         thread,
         call,
@@ -167,16 +147,10 @@ fn call(version: Version, id: &[u8], thread: &[u8], rest: &[u8]) -> Result<Line,
     ended_call(version, pieces, end, reply)
 }
 
-fn place(
-    version: Version,
-    section: Section,
-    word: &[u8],
-    id: &[u8],
-    reply: &[u8],
-) -> Result<Line, ReportCause>
-    ensures { result ≡ first_of version causes (kinds version section) (word.now ∷ id.now ∷ reply.now ∷ []) }
+fn place(version: Version, word: &[u8], id: &[u8], reply: &[u8]) -> Result<Line, ReportCause>
+    ensures { result ≡ first_of version causes from_order (word.now ∷ id.now ∷ reply.now ∷ []) }
 {
-    if !section.takes_places() || word != b"place".as_slice() || !is_reply(version, reply) {
+    if word != b"place".as_slice() || !is_reply(version, reply) {
         return Err(ReportCause::Line);
     }
     let call = number(id, 0, u32::MAX).ok_or(ReportCause::Number)?;
@@ -184,29 +158,30 @@ fn place(
     Ok(Line::Place(Placed { call, reply }))
 }
 
-fn opening_or_key(
-    version: Version,
-    section: Section,
-    word: &[u8],
-    key: &[u8],
-) -> Result<Line, ReportCause>
-    ensures { result ≡ first_of version causes (kinds version section) (word.now ∷ key.now ∷ []) }
+fn key(word: &[u8], key: &[u8]) -> Result<Line, ReportCause>
+    ensures { result ≡ first_of Version.Two causes from_keys (word.now ∷ key.now ∷ []) }
 {
-    if section.takes_opening(version) && word == b"opening".as_slice() {
-        let key = number(key, 0, u32::MAX).ok_or(ReportCause::Number)?;
-        return Ok(Line::Opening(key));
-    }
-    if !section.takes_keys() || word != b"key".as_slice() {
+    if word != b"key".as_slice() {
         return Err(ReportCause::Line);
     }
     let key = number(key, 0, u32::MAX).ok_or(ReportCause::Number)?;
     Ok(Line::Key(key))
 }
 
-fn end(section: Section, word: &[u8]) -> Result<Line, ReportCause>
-    ensures { (v : Version) → result ≡ first_of v causes (kinds v section) (word.now ∷ []) }
+fn opening_or_key(word: &[u8], digits: &[u8]) -> Result<Line, ReportCause>
+    ensures { result ≡ first_of Version.Two causes (kinds Version.Two Section.Opening) (word.now ∷ digits.now ∷ []) }
 {
-    if !section.takes_keys() || word != b"end".as_slice() {
+    if word != b"opening".as_slice() {
+        return key(word, digits);
+    }
+    let key = number(digits, 0, u32::MAX).ok_or(ReportCause::Number)?;
+    Ok(Line::Opening(key))
+}
+
+fn end(word: &[u8]) -> Result<Line, ReportCause>
+    ensures { result ≡ first_of Version.Two causes from_keys (word.now ∷ []) }
+{
+    if word != b"end".as_slice() {
         return Err(ReportCause::Line);
     }
     Ok(Line::End)
@@ -217,16 +192,26 @@ pub fn line_of_report(version: Version, section: Section, line: &[u8]) -> Result
     ensures { result ≡ line_in version causes (kinds version section) line.now }
 {
     let Some((word, rest)) = cut(line, b' ') else {
-        return end(section, line);
+        return match section {
+            Section::Done => Err(ReportCause::Line),
+            _ => end(line),
+        };
     };
     let Some((second, rest)) = cut(rest, b' ') else {
-        return opening_or_key(version, section, word, rest);
+        return match (version, section) {
+            (Version::Two, Section::Opening) => opening_or_key(word, rest),
+            (_, Section::Done) => Err(ReportCause::Line),
+            _ => key(word, rest),
+        };
     };
     let Some((third, rest)) = cut(rest, b' ') else {
-        return place(version, section, word, second, rest);
+        return match section {
+            Section::Keys | Section::Done => Err(ReportCause::Line),
+            _ => place(version, word, second, rest),
+        };
     };
-    if !section.takes_calls() || word != b"call".as_slice() {
-        return Err(ReportCause::Line);
+    match section {
+        Section::Opening | Section::Calls => call(version, word, second, third, rest),
+        _ => Err(ReportCause::Line),
     }
-    call(version, second, third, rest)
 }

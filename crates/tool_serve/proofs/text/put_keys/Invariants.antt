@@ -1,7 +1,7 @@
 use Rattle.std.proofs.Common.{◌≡◌, ◌++◌, codes, drop, map}
 use Rattle.std.specs.Prelude.{string_bytes}
 use Rattle.lset_text.specs.Parts.{text_of}
-use Rattle.tool_serve.specs.Serving.{number_line}
+use Rattle.lset_text.specs.Headers.{number_line}
 use Rattle.tool_serve.proofs.text.put_keys.Given as goal
 
 abbrev pub invariant-loop-key : goal.invariant-loop-key

@@ -1,3 +1,4 @@
+use Rattle.lset_text.specs.Parts.{cut_at}
 use Rattle.lset_text.proofs.PartLaws.{some_part}
 use Rattle.lset_report.proofs.ReportPieces.{call_many}
 use Rattle.lset_report.proofs.reading.lines.call.Goals as goal
@@ -11,4 +12,6 @@ returns-in-Some-cut-4 c =
       c.in-Some-cut-3.ensures.parts,
       c.in-Some-cut-4.ensures.parts,
     )
-    (call_many _ _ _ _ _ _ _ _ _ (some_part 32 c.in-Some-cut-4._more.now))
+    (call_many c.args.version c.args.word.now c.args.id.now c.args.thread.now c.in-Some.call.now c.in-Some-cut.key.now
+    c.in-Some-cut-2.begun.now c.in-Some-cut-3.end.now c.in-Some-cut-4.field-0-0.now (cut_at 32 c.in-Some-cut-4._more.now)
+    (some_part 32 c.in-Some-cut-4._more.now))

@@ -4,7 +4,7 @@ use Rattle.lset_text.specs.Kinds.{made}
 use Rattle.lset_text.specs.Parts.{cut_at}
 use Rattle.lset_schedule.specs.ScheduleReading.{causes}
 use Rattle.lset_schedule.specs.ScheduleReading as schedule
-use Rattle.lset_schedule.proofs.KindsAs.{first_as}
+use Rattle.lset_text.proofs.KindLaws.{first_as}
 use Rattle.tool_draft.specs.declared.value.DraftLine.TheVariants.{Plain}
 use Rattle.tool_draft.proofs.reading.DraftLineEventLine.read.Goals as goal
 

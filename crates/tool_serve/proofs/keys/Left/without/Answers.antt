@@ -7,4 +7,4 @@ pub returns-in-Some-clause-lines : goal.returns-in-Some-clause-lines
 returns-in-Some-clause-lines c =
     rw c.in-Some.ensures.parts
     (without_goes c.args.word.now c.args.self.line c.in-Some.first.now _ (some_part 10 c.in-Some.rest.now)
-    (sym c.is_word_and_piece.ensures ∙ c.if-is_word_and_piece.true))
+    (sym c.piece_after.ensures.form ∙ sym c.is_some.ensures ∙ c.if-is_some.true))

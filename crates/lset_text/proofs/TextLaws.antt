@@ -1,0 +1,109 @@
+-- Whole texts: what is read stands there, and what stands there is read; once for every text.
+use Rattle.std.proofs.Common.{◌≡◌, ℕ, ◌+◌, ◌<◌, Bool, false, cond, List, [], ◌∷◌, ◌++◌, length, Result, Ok, Err, refl, sym, ap, ◌∙◌}
+use Rattle.std.proofs.Common.{subst, append_assoc, length-append, arith}
+use Rattle.std.specs.List.{AllByRecursion}
+use Rattle.std.specs.Str.{bytes_eq}
+use Rattle.std.proofs.lemmas.Slice.Eq.{bytes_eq-Decides}
+use Rattle.lset_text.specs.declared.words.Version.{Version}
+use Rattle.lset_text.specs.declared.words.Version.TheVariants.{One, Two}
+use Rattle.lset_text.specs.declared.headers.Header.{Header}
+use Rattle.lset_text.specs.declared.headers.HeaderFault.{HeaderFault}
+use Rattle.lset_text.specs.Parts.{cut_at, text_of, Lacks}
+use Rattle.lset_text.specs.Headers.{header_of, header_lines, version_in, IsHeader}
+use Rattle.lset_text.specs.Lines.{Grammar, lines_from, Leads, IsFaultlessTo, IsGoodLine}
+use Rattle.lset_text.specs.Results.{◌>>=◌, map_fault}
+use Rattle.lset_text.specs.Texts.{TextGrammar, last_of_header, first_line, text_from}
+use Rattle.lset_text.proofs.PartLaws.{some_part, text_from_lines, cut_lines}
+use Rattle.lset_text.proofs.ReadingLaws.{bind_ok, map_fault_ok}
+use Rattle.lset_text.proofs.HeaderLaws.{header_ok, header_again, header_lacks}
+use Rattle.lset_text.proofs.LineLaws.{IsNumber, faultless_from, lines_hold, lines_again, leads_all}
+
+-- ---- a header, and what comes after it
+
+-- a text whose header has a fault
+pub text_refused : {S C E : Type 0} (g : TextGrammar S C E) (parts : List (List ℕ)) (e : HeaderFault)
+    → header_of g.title parts ≡ Err e → text_from g parts ≡ Err (g.of_header e)
+unfolding text_from
+text_refused g parts e is = rw is refl
+
+pub text_after : {S C E : Type 0} (g : TextGrammar S C E) (parts rest : List (List ℕ)) (h : Header)
+    → header_of g.title parts ≡ Ok (h, rest) → text_from g parts ≡ lines_from g.lines first_line (g.start h) rest
+unfolding text_from
+text_after g parts rest h is = rw is refl
+
+-- the last line of a header that was read has no fault, and no line above it has
+pub header_good : {S C E : Type 0} (g : TextGrammar S C E) (number : E → ℕ) → IsNumber g.lines number
+    → (bytes rest : List ℕ) (h : Header) → header_of g.title (cut_at 10 bytes) ≡ Ok (h, cut_at 10 rest)
+    → IsGoodLine number 1 (cut_at 10 bytes) (text_from g (cut_at 10 bytes)) last_of_header
+header_good g number is_number bytes rest h is =
+    let long = ap length (header_ok g.title (cut_at 10 bytes) (h, cut_at 10 rest) is).0 in (
+      omega arith,
+      omega (arith, long, some_part 10 rest),
+      subst (IsFaultlessTo number last_of_header) (sym (text_after g (cut_at 10 bytes) (cut_at 10 rest) h is))
+          (faultless_from g.lines number is_number last_of_header first_line (g.start h) (cut_at 10 rest) (omega arith)),
+    )
+
+-- a good line of what comes after the header is one of the text
+pub good_in_text : {S C E : Type 0} (g : TextGrammar S C E) (number : E → ℕ) (bytes rest : List ℕ) (h : Header) (line : ℕ)
+    → header_of g.title (cut_at 10 bytes) ≡ Ok (h, cut_at 10 rest)
+    → IsGoodLine number first_line (cut_at 10 rest) (lines_from g.lines first_line (g.start h) (cut_at 10 rest)) line
+    → IsGoodLine number 1 (cut_at 10 bytes) (text_from g (cut_at 10 bytes)) line
+good_in_text g number bytes rest h line is good =
+    let long = ap length (header_ok g.title (cut_at 10 bytes) (h, cut_at 10 rest) is).0 in (
+      omega (arith, good.0),
+      omega (arith, long, good.1),
+      subst (IsFaultlessTo number line) (sym (text_after g (cut_at 10 bytes) (cut_at 10 rest) h is)) good.2,
+    )
+
+-- ---- BOTH WAYS
+
+-- WHAT IS READ STANDS THERE, and is as its header starts it and each line keeps it
+pub text_found : {S C E : Type 0} (g : TextGrammar S C E) (P : S → Type 0) (text : S → List (List ℕ))
+    → ((h : Header) → IsHeader h → P (g.start h) × (text (g.start h) ≡ header_lines g.title h))
+    → ((s t : S) (x : List ℕ) → P s → g.lines.step s x ≡ Ok t → P t × (text t ≡ text s ++ x ∷ []))
+    → ((s t : S) → g.lines.ends s ≡ Ok t → s ≡ t)
+    → (bytes : List ℕ) (t : S) → text_from g (cut_at 10 bytes) ≡ Ok t
+    → (bytes ≡ text_of (text t)) × (g.lines.ends t ≡ Ok t) × P t
+unfolding text_from
+text_found g P text begins one same bytes t is =
+    let parts = cut_at 10 bytes in
+    let head = bind_ok (map_fault g.of_header (header_of g.title parts))
+    (λ head. lines_from g.lines first_line (g.start head.0) head.1) t is in
+    let header = header_ok g.title parts head.0 (map_fault_ok g.of_header (header_of g.title parts) head.0 head.1) in
+    let start = begins head.0.0 header.1 in
+    let found = lines_hold g.lines P text one same first_line (g.start head.0.0) t head.0.1 header.2 start.0 head.2 in
+    let all = header.0 ∙ ap (λ (ls : List (List ℕ)). ls ++ head.0.1) (sym start.1) ∙ found.0 in
+    (text_from_lines bytes (text t) all, found.1, found.2)
+
+all_both : {X : Type 0} (P : X → Type 0) (xs ys : List X) → AllByRecursion P xs → AllByRecursion P ys → AllByRecursion P (xs ++ ys)
+all_both P [] ys front back = back
+all_both P (x ∷ xs) ys front back = (front.0, all_both P xs ys front.1 back)
+
+some_first : (ls : List (List ℕ)) → (y : List ℕ) × (more : List (List ℕ)) × (ls ++ [] ∷ [] ≡ y ∷ more)
+some_first [] = ([], [], refl)
+some_first (l ∷ ls) = (l, ls ++ [] ∷ [], refl)
+
+-- WHAT STANDS THERE IS READ: a header, and lines that lead from its start to where a text may end
+pub text_again : {S C E : Type 0} (g : TextGrammar S C E) (P : S → Type 0)
+    → ((s t : S) (x : List ℕ) → P s → g.lines.step s x ≡ Ok t → P t × Lacks 10 x)
+    → (h : Header) (xs : List (List ℕ)) (t : S) → Lacks 10 g.title → IsHeader h → P (g.start h)
+    → Leads g.lines (g.start h) xs t → g.lines.ends t ≡ Ok t
+    → (cut_at 10 (text_of (header_lines g.title h ++ xs)) ≡ header_lines g.title h ++ (xs ++ [] ∷ []))
+    × (text_from g (header_lines g.title h ++ (xs ++ [] ∷ [])) ≡ Ok t)
+text_again g P free h xs t title_free is start leads at_end =
+    let lines = header_lines g.title h in
+    let all_free = all_both (Lacks 10) lines xs (header_lacks g.title h title_free is)
+    (leads_all g.lines P (Lacks 10) free (g.start h) t xs start leads) in
+    let some = some_first xs in
+    let head : header_of g.title (lines ++ (xs ++ [] ∷ [])) ≡ Ok (h, xs ++ [] ∷ []) =
+    rw some.2 (header_again g.title h some.0 some.1 is) in (
+      cut_lines (lines ++ xs) all_free ∙ append_assoc lines xs ([] ∷ []),
+      text_after g (lines ++ (xs ++ [] ∷ [])) (xs ++ [] ∷ []) h head
+          ∙ lines_again g.lines first_line (g.start h) t xs leads at_end,
+    )
+
+-- the version of a text is the one whose title stands first
+pub version_again : {S C E : Type 0} (g : Version → TextGrammar S C E) → bytes_eq (g One).title (g Two).title ≡ false
+    → (v : Version) (more : List (List ℕ)) → version_in (g Two).title ((g v).title ∷ more) ≡ v
+version_again g other One more = rw other refl
+version_again g other Two more = let same = (bytes_eq-Decides (g Two).title (g Two).title).1 refl in rw same refl
