@@ -1,5 +1,5 @@
 -- The text of calls is read.
-use Rattle.std.proofs.Common.{◌≡◌, ℕ, ◌+◌, ◌<◌, ◌≤◌, ◌^◌, inl, inr, Bool, true, false, cond, ltb, List, [], ◌∷◌, ◌++◌, map, length}
+use Rattle.std.proofs.Common.{◌≡◌, ℕ, ◌<◌, ◌≤◌, ◌^◌, ltb, List, [], ◌∷◌, ◌++◌, map, length}
 use Rattle.std.proofs.Common.{Result, Ok, Err, refl, sym, ap, subst, ◌∙◌, arith, append_assoc, length-append}
 use Rattle.std.specs.Prelude.{MatchResult, ◌≢◌}
 use Rattle.std.specs.List.{AllByRecursion}
@@ -8,20 +8,19 @@ use Rattle.std.proofs.lemmas.Bool.{lt-ltb, ltb-true, and_parts}
 use Rattle.std.proofs.lemmas.List.{append-nil}
 use Rattle.std.proofs.lemmas.List.Elements.{recursion_from_All}
 use Rattle.lset_words.specs.declared.TheConstants.{MOST_OPENING}
-use Rattle.lset_words.specs.Words.{Opens}
-use Rattle.lset_text.specs.declared.headers.Header.{Header}
 use Rattle.lset_text.specs.declared.words.Version.TheVariants.{Two}
 use Rattle.lset_text.specs.Parts.{cut_at, text_of, Lacks}
-use Rattle.lset_text.specs.Results.{◌>>=◌, map_fault}
-use Rattle.lset_text.specs.Headers.{IsHeader, header_lines, header_of}
-use Rattle.lset_text.specs.Lines.{lines_from, Leads}
-use Rattle.lset_text.specs.Openings.{opening_lines, is_above}
-use Rattle.lset_text.proofs.PartLaws.{cut_lines, Lacks-from_test}
-use Rattle.lset_text.proofs.ReadingLaws.{ok_is}
-use Rattle.lset_text.proofs.HeaderLaws.{header_again, header_lacks}
-use Rattle.lset_text.proofs.OpeningLaws.{above_before, openings_lack}
-use Rattle.lset_text.proofs.KindLaws.{line_made, line_made_lacks}
-use Rattle.lset_text.proofs.LineLaws.{lines_again, leads_on}
+use Rattle.lset_text.specs.Results.{◌>>=◌}
+use Rattle.lset_text.specs.Headers.{IsHeader, header_lines}
+use Rattle.lset_text.specs.Kinds.{line_in}
+use Rattle.lset_text.specs.Lines.{Leads}
+use Rattle.lset_text.specs.Openings.{opening_lines}
+use Rattle.lset_text.proofs.PartLaws.{Lacks-from_test}
+use Rattle.lset_text.proofs.ReadingLaws.{bind_ok, ok_is}
+use Rattle.lset_text.proofs.TextLaws.{text_again}
+use Rattle.lset_text.proofs.OpeningLaws.{above_before}
+use Rattle.lset_text.proofs.KindLaws.{made_ok, line_made, line_found_lacks}
+use Rattle.lset_text.proofs.LineLaws.{leads_on}
 use Rattle.lset_report.specs.declared.report.TheConstants.{MOST_CALLS, MOST_KEYS_OPENED}
 use Rattle.lset_report.specs.Texts.{key_line, last_line}
 use Rattle.lset_calls.specs.declared.value.Calls.{Calls}
@@ -35,10 +34,11 @@ use Rattle.lset_calls.specs.declared.fault.CallsCause.TheVariants as wrong
 use Rattle.lset_calls.specs.declared.fault.CallsFault.{CallsFault}
 use Rattle.lset_calls.specs.Calls.{CallsValue, view, AreCalls, IsCall, ends_after}
 use Rattle.lset_calls.specs.Texts.{title, header_in, call_line, calls_lines, calls_text}
-use Rattle.lset_calls.specs.Reading.{causes, kinds, judged, section_after, with_line, SoFar, step, grammar, first_line, in_calls}
-use Rattle.lset_calls.specs.Reading.{nothing_told, no_lines, calls_of, reading, Gives}
+use Rattle.lset_calls.specs.Reading.{causes, kinds, judged, line_after, section_after, with_line, SoFar, with_told, step, grammar}
+use Rattle.lset_calls.specs.Reading.{nothing_told, no_lines, text, calls_told, reading, Gives}
+use Rattle.lset_text.specs.Texts.{text_from}
 use Rattle.lset_calls.proofs.LineKinds.{line_pieces, line_text, IsNumbered, IsLine, IsLineIn, Comes, kinds_known, line_is_made}
-use Rattle.lset_calls.proofs.CallsFound.{IsGood}
+use Rattle.lset_calls.proofs.CallsFound.{IsGood, Holds, one_line, no_calls}
 
 -- ---- one line
 
@@ -214,62 +214,34 @@ body_leads c is =
     grouped : (o c k e : List (List ℕ)) → o ++ (c ++ (k ++ e)) ≡ o ++ c ++ k ++ e
     grouped o c k e = simp append_assoc refl
 
-both_lack : (xs ys : List (List ℕ)) → AllByRecursion (Lacks 10) xs → AllByRecursion (Lacks 10) ys →
-    AllByRecursion (Lacks 10) (xs ++ ys)
-both_lack [] ys xl yl = yl
-both_lack (x ∷ xs) ys xl yl = (xl.0, both_lack xs ys xl.1 yl)
-
-line_lacks : (s : Section) (l : Line) → Comes s l → IsLine l → Lacks 10 (line_text l)
-line_lacks s l comes is =
-    line_made_lacks Two line_pieces (IsLineIn s) (kinds s) l (kinds_known s) (line_is_made s l comes is)
-
-calls_lack : (threads : ℕ) (xs : List TimedCall) → threads ≤ 64 → AllByRecursion (IsCall threads) xs
-    → AllByRecursion (Lacks 10) (map call_line xs)
-calls_lack threads [] low are = tt
-calls_lack threads (x ∷ xs) low are =
-    (line_lacks section.Calls (told.Call x) tt (numbers threads x (thread_low threads x low are.0) are.0),
-    calls_lack threads xs low are.1)
-
-keys_lack : (ks : List ℕ) → AllByRecursion (λ (k : ℕ). k < 2 ^ 32) ks → AllByRecursion (Lacks 10) (map key_line ks)
-keys_lack [] low = tt
-keys_lack (k ∷ ks) low = (line_lacks section.Keys (told.Key k) tt low.0, keys_lack ks low.1)
-
 title_lacks : Lacks 10 title
 title_lacks = Lacks-from_test 10 title refl
 
-lines_lack : (c : CallsValue) → AreCalls c → AllByRecursion (Lacks 10) (calls_lines c)
-lines_lack c is =
-    let head = header_lines title (header_in c) in
-    let keys = opening_lines c.opening.keys in
-    let calls = map call_line c.calls in
-    let left = map key_line c.keys in
-    both_lack (head ++ keys ++ calls ++ left) (last_line ∷ [])
-    (both_lack (head ++ keys ++ calls) left (both_lack (head ++ keys) calls (both_lack head keys
-    (header_lacks title (header_in c) title_lacks (header_fits c is))
-    (openings_lack c.opening.keys (recursion_from_All (λ (k : ℕ). k < 2 ^ 32) c.opening.keys is.opens.low)))
-    (calls_lack c.opening.threads c.calls is.opens.within.few is.calls)) (keys_lack c.keys is.keys))
-    (line_lacks section.Keys told.End tt tt, tt)
+abbrev Good : SoFar → Type 0
+Good s = Holds s
 
-some_more : (ls : List (List ℕ)) → (y : List ℕ) × (more : List (List ℕ)) × (ls ++ [] ∷ [] ≡ y ∷ more)
-some_more [] = ([], [], refl)
-some_more (l ∷ ls) = (l, ls ++ [] ∷ [], refl)
-
-parts_read : (c : CallsValue) → AreCalls c → calls_of (calls_lines c ++ [] ∷ []) ≡ Ok c
-unfolding calls_of
-parts_read c is =
-    let h = header_in c in
-    let body = lines_again grammar first_line (nothing_told h) (at_line section.Done c) (body_lines c) (body_leads c is) refl in
-    let some = some_more (body_lines c) in
-    let first : header_of title (header_lines title h ++ (body_lines c ++ [] ∷ [])) ≡ Ok (h, body_lines c ++ [] ∷ []) =
-    rw some.2 (header_again title h some.0 some.1 (header_fits c is)) in
-    rw (grouped (header_lines title h) (opening_lines c.opening.keys) (map call_line c.calls) (map key_line c.keys)
-    (last_line ∷ []) ([] ∷ []), first, body) refl
-  where
-    grouped : (f o c k e z : List (List ℕ)) → (f ++ o ++ c ++ k ++ e) ++ z ≡ f ++ ((o ++ c ++ k ++ e) ++ z)
-    grouped f o c k e z = simp append_assoc refl
+free_line : (s t : SoFar) (x : List ℕ) → Good s → step s x ≡ Ok t → Good t × Lacks 10 x
+free_line s t x good is =
+    let m = made_ok (with_told s) (line_after s.section s.calls x) t is in
+    let read = bind_ok (line_in Two causes (kinds s.section) x) (judged s.calls) m.0 m.1 in (
+      (one_line s t x good is).0,
+      line_found_lacks Two causes line_pieces (IsLineIn s.section) (kinds s.section) x read.0 (kinds_known s.section) read.1,
+    )
 
 pub reads_text : (c : CallsValue) → AreCalls c → reading (calls_text c) ≡ Ok c
-reads_text c is = ap calls_of (cut_lines (calls_lines c) (lines_lack c is)) ∙ parts_read c is
+reads_text c is =
+    let h = header_in c in
+    let fits = header_fits c is in
+    let again = text_again text Good free_line h (body_lines c) (at_line section.Done c) title_lacks fits
+    (no_calls h fits, (refl, refl)) (body_leads c is) refl in
+    let lines : calls_lines c ≡ header_lines title h ++ body_lines c =
+    grouped (header_lines title h) (opening_lines c.opening.keys) (map call_line c.calls) (map key_line c.keys) (last_line ∷ []) in
+    ap (λ (ls : List (List ℕ)). text_from text (cut_at 10 (text_of ls)) >>= calls_told) lines
+    ∙ ap (λ (ps : List (List ℕ)). text_from text ps >>= calls_told) again.0
+    ∙ ap (λ (r : Result SoFar CallsFault). r >>= calls_told) again.1
+  where
+    grouped : (f o c k e : List (List ℕ)) → f ++ o ++ c ++ k ++ e ≡ f ++ (o ++ c ++ k ++ e)
+    grouped f o c k e = simp append_assoc refl
 
 -- ---- as a reader's clause
 

@@ -1,5 +1,5 @@
 -- What is read is the text of calls.
-use Rattle.std.proofs.Common.{◌≡◌, ℕ, ◌+◌, ◌<◌, ◌^◌, inl, inr, Bool, true, false, cond, ltb, List, [], ◌∷◌, ◌++◌, map, length}
+use Rattle.std.proofs.Common.{◌≡◌, ℕ, ◌+◌, ◌<◌, ◌^◌, Bool, true, false, cond, ltb, List, [], ◌∷◌, ◌++◌, map, length}
 use Rattle.std.proofs.Common.{Result, Ok, Err, refl, sym, ap, subst, ◌∙◌, arith, append_assoc, length-append}
 use Rattle.std.specs.Prelude.{IfOk}
 use Rattle.std.specs.List.{AllByRecursion}
@@ -11,17 +11,14 @@ use Rattle.lset_words.specs.Words.{Opening, Opens}
 use Rattle.lset_text.specs.declared.headers.Header.{Header}
 use Rattle.lset_text.specs.declared.words.Version.TheVariants.{Two}
 use Rattle.lset_text.specs.Parts.{cut_at, text_of}
-use Rattle.lset_text.specs.Results.{◌>>=◌, map_fault}
-use Rattle.lset_text.specs.Headers.{IsHeader, header_lines, header_of}
-use Rattle.lset_text.specs.Kinds.{line_in, made}
-use Rattle.lset_text.specs.Lines.{lines_from}
+use Rattle.lset_text.specs.Headers.{IsHeader, header_lines}
+use Rattle.lset_text.specs.Texts.{text_from}
+use Rattle.lset_text.specs.Kinds.{line_in}
 use Rattle.lset_text.specs.Openings.{opening_line, opening_lines, is_above}
-use Rattle.lset_text.proofs.PartLaws.{text_from_lines}
-use Rattle.lset_text.proofs.ReadingLaws.{bind_ok, map_fault_ok, ok_is}
-use Rattle.lset_text.proofs.HeaderLaws.{header_ok}
+use Rattle.lset_text.proofs.ReadingLaws.{bind_ok, ok_is}
 use Rattle.lset_text.proofs.OpeningLaws.{rises_more}
 use Rattle.lset_text.proofs.KindLaws.{made_ok, line_found}
-use Rattle.lset_text.proofs.LineLaws.{lines_hold}
+use Rattle.lset_text.proofs.TextLaws.{text_found}
 use Rattle.lset_report.specs.declared.report.TheConstants.{MOST_CALLS, MOST_KEYS_OPENED}
 use Rattle.lset_report.specs.Texts.{key_line, last_line}
 use Rattle.lset_calls.specs.declared.value.Calls.{Calls}
@@ -30,14 +27,13 @@ use Rattle.lset_calls.specs.declared.reading.lines.Line.{Line}
 use Rattle.lset_calls.specs.declared.reading.lines.Line.TheVariants as told
 use Rattle.lset_calls.specs.declared.reading.lines.Section.{Section}
 use Rattle.lset_calls.specs.declared.reading.lines.Section.TheVariants as section
-use Rattle.lset_calls.specs.declared.fault.CallsCause.{CallsCause}
 use Rattle.lset_calls.specs.declared.fault.CallsCause.TheVariants as wrong
 use Rattle.lset_calls.specs.declared.fault.CallsFault.{CallsFault}
 use Rattle.lset_calls.specs.Calls.{CallsValue, view, AreCalls, IsCall, is_of_history, has_point}
-use Rattle.lset_calls.specs.Texts.{title, header_in, call_line, calls_lines, calls_text}
+use Rattle.lset_calls.specs.Texts.{title, header_in, call_line, calls_text}
 use Rattle.lset_calls.specs.Reading.{causes, kinds, counted, rising, timed, judged, line_after, section_after, with_opening, with_line}
-use Rattle.lset_calls.specs.Reading.{SoFar, with_told, step, is_done, ends, grammar, first_line, in_calls, no_lines, nothing_told}
-use Rattle.lset_calls.specs.Reading.{calls_of, reading, Gives}
+use Rattle.lset_calls.specs.Reading.{SoFar, with_told, step, is_done, ends, no_lines, nothing_told}
+use Rattle.lset_calls.specs.Reading.{text, calls_told, reading, Gives}
 use Rattle.lset_calls.proofs.LineKinds.{line_pieces, line_text, IsNumbered, IsLine, Comes, kinds_known}
 
 -- ---- a line that was judged good
@@ -204,10 +200,10 @@ still_open section.Calls l comes = refl
 still_open section.Keys l comes = refl
 still_open section.Done l comes = absurd comes
 
-abbrev Holds : SoFar → Type 0
+abbrev pub Holds : SoFar → Type 0
 Holds s = AreCalls s.calls × Reaches s.section s.calls
 
-one_line : (s t : SoFar) (x : List ℕ) → Holds s → step s x ≡ Ok t → Holds t × (lines_at t ≡ lines_at s ++ x ∷ [])
+pub one_line : (s t : SoFar) (x : List ℕ) → Holds s → step s x ≡ Ok t → Holds t × (lines_at t ≡ lines_at s ++ x ∷ [])
 one_line s t x holds is =
     let c = s.calls in
     let m = made_ok (with_told s) (line_after s.section c x) t is in
@@ -226,7 +222,7 @@ one_line s t x holds is =
 same_end : (s t : SoFar) → ends s ≡ Ok t → s ≡ t
 same_end s t is = (test_ok (is_done s.section) wrong.NotEnded s t is).1
 
-no_calls : (h : Header) → IsHeader h → AreCalls (no_lines h)
+pub no_calls : (h : Header) → IsHeader h → AreCalls (no_lines h)
 no_calls h is = record {
   opens = record { within = is; rising = λ k below. absurd (omega (arith, below)); low = All-nil (λ (k : ℕ). k < 2 ^ 32) };
   calls = tt;
@@ -237,35 +233,20 @@ no_calls h is = record {
 
 -- ---- the whole
 
-abbrev IsFound : List (List ℕ) → CallsValue → Type 0
-IsFound parts c = (parts ≡ calls_lines c ++ [] ∷ []) × AreCalls c
+begins : (h : Header) → IsHeader h → Holds (nothing_told h) × (lines_at (nothing_told h) ≡ header_lines title h)
+begins h is = ((no_calls h is, (refl, refl)), refl)
 
-regroup : (f o c k : List (List ℕ)) (y z : List ℕ) → ((f ++ o ++ c ++ k) ++ y ∷ []) ++ z ∷ [] ≡ (f ++ o ++ c ++ k ++ y ∷ []) ++ z ∷ []
-regroup f o c k y z = refl
-
-after_header : (h : Header) (t : SoFar) (parts : List (List ℕ)) → 0 < length parts → IsHeader h
-    → lines_from grammar first_line (nothing_told h) parts ≡ Ok t → IsFound (header_lines title h ++ parts) t.calls
-after_header h t parts some is e =
-    let found = lines_hold grammar Holds lines_at one_line same_end first_line (nothing_told h) t parts some
-    (no_calls h is, (refl, refl)) e in
-    let done = (test_ok (is_done t.section) wrong.NotEnded t t found.1).0 in
-    (found.0 ∙ rw done refl, found.2.0)
-
-calls_ok : (parts : List (List ℕ)) (c : CallsValue) → calls_of parts ≡ Ok c → IsFound parts c
-unfolding calls_of
-calls_ok parts c is =
-    let told_calls : SoFar → Result CallsValue CallsFault = λ last. Ok last.calls in
-    let head = bind_ok (map_fault in_calls (header_of title parts))
-    (λ head. lines_from grammar first_line (nothing_told head.0) head.1 >>= told_calls) c is in
-    let header = header_ok title parts head.0 (map_fault_ok in_calls (header_of title parts) head.0 head.1) in
-    let last = bind_ok (lines_from grammar first_line (nothing_told head.0.0) head.0.1) told_calls c head.2 in
-    let found = after_header head.0.0 last.0 head.0.1 header.2 header.1 last.1 in
-    subst (λ (ps : List (List ℕ)). IsFound ps c) (sym header.0)
-    (subst (IsFound (header_lines title head.0.0 ++ head.0.1)) (ok_is last.0.calls c last.2) found)
+-- where a text ends
+done_lines : (s : SoFar) → is_done s.section ≡ true → text_of (lines_at s) ≡ calls_text s.calls
+done_lines s done = rw done refl
 
 pub is_found : (bytes : List ℕ) (c : CallsValue) → reading bytes ≡ Ok c → AreCalls c × (bytes ≡ calls_text c)
 is_found bytes c is =
-    let found = calls_ok (cut_at 10 bytes) c is in (found.1, text_from_lines bytes (calls_lines c) found.0)
+    let last = bind_ok (text_from text (cut_at 10 bytes)) calls_told c is in
+    let found = text_found text Holds lines_at begins one_line same_end bytes last.0 last.1 in
+    let done = (test_ok (is_done last.0.section) wrong.NotEnded last.0 last.0 found.1).0 in
+    subst (λ (d : CallsValue). AreCalls d × (bytes ≡ calls_text d)) (ok_is last.0.calls c last.2)
+    (found.2.0, found.0 ∙ done_lines last.0 done)
 
 -- as a reader's clause
 pub found_in : (bytes : List ℕ) (r : Result Calls CallsFault) → Gives view r (reading bytes)

@@ -3,8 +3,3 @@ pub mod LineKinds
 pub mod Loops
 pub mod CallsFound
 pub mod CallsAgain
-pub mod Permuted
-pub mod Entries
-pub mod Timelines
-pub mod CallHistories
-pub mod StandingRanks

@@ -1,5 +1,5 @@
 -- What the kinds of lines make, and that they make each line.
-use Rattle.std.proofs.Common.{◌≡◌, ℕ, ◌<◌, ◌^◌, inl, inr, eqb, Bool, true, false, List, [], ◌∷◌, Option, Some, None, refl, sym, ap, subst, arith, codes}
+use Rattle.std.proofs.Common.{◌≡◌, ℕ, ◌<◌, ◌^◌, inl, inr, eqb, false, List, [], ◌∷◌, Option, Some, None, refl, ap, subst, arith, codes}
 use Rattle.std.specs.Fmt.{decimal}
 use Rattle.std.specs.List.{AllByRecursion}
 use Rattle.std.specs.Str.{bytes_eq}
@@ -179,27 +179,102 @@ told_again n c b p e = ap (λ (d : Call). told.Call (call_of n d b p e)) (with_k
 made_by : (n : ℕ) (c : Call) (b : ℕ) (p : Option ℕ) (e : Option (ℕ × Reply)) → IsNumbered (call_of n c b p e)
     → IsMade Two line_pieces from_calls (told.Call (call_of n c b p e))
 made_by n c b None None is =
-    inl ((tt, (n, (word_of c, ((key_of c).0, (b, (tt, (tt, (tt, tt)))))))), told_again n c b None None,
-    (tt, ((omega arith, omega (arith, is.thread)), (has_word (word_of c), ((omega arith, omega (arith, is.key)),
-    ((omega (arith, is.begun.0), omega (arith, is.begun.1)), (tt, (tt, (tt, tt)))))))))
+    inl (
+      (tt, (n, (word_of c, ((key_of c).0, (b, (tt, (tt, (tt, tt)))))))),
+      told_again n c b None None,
+      (
+        tt,
+        (
+          (omega arith, omega (arith, is.thread)),
+          (
+            has_word (word_of c),
+            (
+              (omega arith, omega (arith, is.key)),
+              ((omega (arith, is.begun.0), omega (arith, is.begun.1)), (tt, (tt, (tt, tt)))),
+            ),
+          ),
+        ),
+      ),
+    )
 made_by n c b (Some p) None is =
-    inr (rw (no_dash p is.point.1) refl, inl ((tt, (n, (word_of c, ((key_of c).0, (b, (p, (tt, (tt, tt)))))))),
-    told_again n c b (Some p) None,
-    (tt, ((omega arith, omega (arith, is.thread)), (has_word (word_of c), ((omega arith, omega (arith, is.key)),
-    ((omega (arith, is.begun.0), omega (arith, is.begun.1)), ((omega (arith, is.point.0), omega (arith, is.point.1)), (tt, (tt, tt))))))))))
+    inr (
+      rw (no_dash p is.point.1) refl,
+      inl (
+        (tt, (n, (word_of c, ((key_of c).0, (b, (p, (tt, (tt, tt)))))))),
+        told_again n c b (Some p) None,
+        (
+          tt,
+          (
+            (omega arith, omega (arith, is.thread)),
+            (
+              has_word (word_of c),
+              (
+                (omega arith, omega (arith, is.key)),
+                ((omega (arith, is.begun.0), omega (arith, is.begun.1)), ((omega (arith, is.point.0), omega (arith, is.point.1)), (tt, (tt, tt)))),
+              ),
+            ),
+          ),
+        ),
+      ),
+    )
 made_by n c b None (Some e) is =
-    inr (rw (reply_no_dash e.1) refl, inr (rw (reply_no_dash e.1) refl,
-    inl ((tt, (n, (word_of c, ((key_of c).0, (b, (tt, (e.0, (e.1, tt)))))))), told_again n c b None (Some e),
-    (tt, ((omega arith, omega (arith, is.thread)), (has_word (word_of c), ((omega arith, omega (arith, is.key)),
-    ((omega (arith, is.begun.0), omega (arith, is.begun.1)), (tt, ((omega (arith, is.end.0.0), omega (arith, is.end.0.1)), (is.end.1, tt)))))))))))
+    inr (
+      rw (reply_no_dash e.1) refl,
+      inr (
+        rw (reply_no_dash e.1) refl,
+        inl (
+          (tt, (n, (word_of c, ((key_of c).0, (b, (tt, (e.0, (e.1, tt)))))))),
+          told_again n c b None (Some e),
+          (
+            tt,
+            (
+              (omega arith, omega (arith, is.thread)),
+              (
+                has_word (word_of c),
+                (
+                  (omega arith, omega (arith, is.key)),
+                  ((omega (arith, is.begun.0), omega (arith, is.begun.1)), (tt, ((omega (arith, is.end.0.0), omega (arith, is.end.0.1)), (is.end.1, tt)))),
+                ),
+              ),
+            ),
+          ),
+        ),
+      ),
+    )
 made_by n c b (Some p) (Some e) is =
     let tail = have_form Two (piece.moment ∷ piece.reply ∷ []) (decimal e.0 ∷ reply_text e.1 ∷ []) in
-    inr (rw (reply_no_dash e.1) refl, inr (rw (reply_no_dash e.1) refl,
-    inr (rw (and_right tail (bytes_eq (decimal p) dash) (no_dash p is.point.1)) refl,
-    inl ((tt, (n, (word_of c, ((key_of c).0, (b, (p, (e.0, (e.1, tt)))))))), told_again n c b (Some p) (Some e),
-    (tt, ((omega arith, omega (arith, is.thread)), (has_word (word_of c), ((omega arith, omega (arith, is.key)),
-    ((omega (arith, is.begun.0), omega (arith, is.begun.1)), ((omega (arith, is.point.0), omega (arith, is.point.1)),
-    ((omega (arith, is.end.0.0), omega (arith, is.end.0.1)), (is.end.1, tt))))))))))))
+    inr (
+      rw (reply_no_dash e.1) refl,
+      inr (
+        rw (reply_no_dash e.1) refl,
+        inr (
+          rw (and_right tail (bytes_eq (decimal p) dash) (no_dash p is.point.1)) refl,
+          inl (
+            (tt, (n, (word_of c, ((key_of c).0, (b, (p, (e.0, (e.1, tt)))))))),
+            told_again n c b (Some p) (Some e),
+            (
+              tt,
+              (
+                (omega arith, omega (arith, is.thread)),
+                (
+                  has_word (word_of c),
+                  (
+                    (omega arith, omega (arith, is.key)),
+                    (
+                      (omega (arith, is.begun.0), omega (arith, is.begun.1)),
+                      (
+                        (omega (arith, is.point.0), omega (arith, is.point.1)),
+                        ((omega (arith, is.end.0.0), omega (arith, is.end.0.1)), (is.end.1, tt)),
+                      ),
+                    ),
+                  ),
+                ),
+              ),
+            ),
+          ),
+        ),
+      ),
+    )
 
 key_made : (k : ℕ) → k < 2 ^ 32 → IsMade Two line_pieces from_keys (told.Key k)
 key_made k low = inl ((tt, (k, tt)), refl, (tt, ((omega arith, omega (arith, low)), tt)))

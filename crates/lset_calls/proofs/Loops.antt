@@ -1,9 +1,8 @@
 -- Reading the lines after a header one after another, as the loop does: which line a fault stands in, and that want of memory is
 -- none.
-use Rattle.std.proofs.Common.{◌≡◌, ℕ, ◌+◌, inl, inr, Bool, true, false, cond, ltb, List, [], ◌∷◌, length}
+use Rattle.std.proofs.Common.{◌≡◌, ℕ, inl, inr, Bool, true, false, cond, ltb, List, ◌∷◌, length}
 use Rattle.std.proofs.Common.{Result, Ok, Err, refl, sym, ap, subst, ◌∙◌, arith}
 use Rattle.std.specs.Prelude.{◌≢◌, IfErr}
-use Rattle.std.specs.Result.{IsErrAnd}
 use Rattle.lset_words.specs.declared.TheConstants.{MOST_OPENING}
 use Rattle.lset_text.specs.declared.headers.Header.{Header}
 use Rattle.lset_text.specs.declared.words.Version.TheVariants.{Two}
@@ -13,7 +12,12 @@ use Rattle.lset_text.specs.Lines.{lines_from, IsFaultlessTo, IsGoodLine, Stands}
 use Rattle.lset_text.specs.Results.{◌>>=◌}
 use Rattle.lset_text.specs.Headers.{header_of}
 use Rattle.lset_text.specs.Openings.{is_above}
-use Rattle.lset_text.proofs.HeaderLaws.{header_ok}
+use Rattle.lset_text.specs.Texts.{first_line, text_from}
+use Rattle.lset_text.specs.declared.headers.HeaderCause.{HeaderCause}
+use Rattle.lset_text.specs.declared.headers.HeaderCause.TheVariants as head
+use Rattle.lset_text.specs.declared.headers.HeaderFault.{HeaderFault}
+use Rattle.lset_text.proofs.TextLaws.{text_refused, text_after, good_in_text}
+use Rattle.lset_calls.specs.declared.reading.Reader.{Reader}
 use Rattle.lset_text.proofs.KindLaws.{IsOneOf, first_fails}
 use Rattle.lset_text.proofs.LineLaws.{bind_err, stops, is_good}
 use Rattle.lset_report.specs.declared.report.TheConstants.{MOST_CALLS, MOST_KEYS_OPENED}
@@ -24,10 +28,10 @@ use Rattle.lset_calls.specs.declared.reading.lines.Line.{Line}
 use Rattle.lset_calls.specs.declared.reading.lines.Line.TheVariants as told
 use Rattle.lset_calls.specs.Calls.{CallsValue, is_of_history, has_point}
 use Rattle.lset_calls.specs.Texts.{title}
-use Rattle.lset_calls.specs.Reading.{fault, causes, kinds, judged, line_after, SoFar, with_told, step, grammar, first_line, nothing_told}
+use Rattle.lset_calls.specs.Reading.{fault, causes, kinds, judged, line_after, SoFar, with_told, step, grammar, nothing_told}
 use Rattle.lset_calls.specs.declared.reading.lines.Section.{Section}
 use Rattle.lset_calls.specs.declared.reading.lines.Section.TheVariants as section
-use Rattle.lset_calls.specs.Reading.{is_done, calls_of, line_number, IsGoodAfterHeader, Takes}
+use Rattle.lset_calls.specs.Reading.{is_done, cause_of, in_calls, text, calls_told, reading, line_number, IsGoodAfterHeader, Gives, state, Takes}
 
 -- ---- no check fails by want of memory
 
@@ -87,39 +91,52 @@ module _ (whole : List ℕ) (read : Result SoFar CallsFault) (number : ℕ) (s t
   out_of_memory cause (inr none) memory =
       is_good grammar line_number (λ line c. refl) first_line whole read number s none.1 rest x after parts none.2 stands
 
--- ---- a fault that is passed on
+-- ---- the whole text
 
-pub passed_on : {X : Type 0} (IsGood : ℕ → Type 0) (e : CallsFault) (answer : Result X CallsFault) →
-    IsErrAnd answer (λ f. f ≡ e)
-    → (e.cause ≡ wrong.Memory → IsGood e.line) → IfErr answer (λ f. f.cause ≡ wrong.Memory → IsGood f.line)
-passed_on IsGood e (Ok x) is good = tt
-passed_on IsGood e (Err f) is good = λ memory.
-    subst (λ (x : CallsFault). IsGood x.line) (sym is) (good (ap (λ (x : CallsFault). x.cause) (sym is) ∙ memory))
+not_in_header : (e : HeaderFault) → (in_calls e).cause ≡ wrong.Memory → ⊥
+not_in_header e memory = no_header_memory e.cause memory
+  where
+    no_header_memory : (c : HeaderCause) → cause_of c ≡ wrong.Memory → ⊥
+    no_header_memory head.Header is = cc
+    no_header_memory head.Kind is = cc
+    no_header_memory head.Threads is = cc
+    no_header_memory head.Quota is = cc
+    no_header_memory head.NotEnded is = cc
 
-still_faultless : {X Y : Type 0} (line : ℕ) (read : Result Y CallsFault) (f : Y → X) → IsFaultlessTo line_number line read
-    → IsFaultlessTo line_number line (read >>= λ y. Ok (f y))
-still_faultless line (Ok y) f good = tt
-still_faultless line (Err e) f good = good
+-- a header's fault is the text's
+pub header_refused : (bytes : List ℕ) (e : HeaderFault) → header_of title (cut_at 10 bytes) ≡ Err e
+    → (text_from text (cut_at 10 bytes) ≡ Err (in_calls e)) × ((in_calls e).cause ≡ wrong.Memory → ⊥)
+header_refused bytes e is = (text_refused text (cut_at 10 bytes) e is, not_in_header e)
 
-four_more : (parts more : List (List ℕ)) (a b c d : List ℕ) → parts ≡ a ∷ b ∷ c ∷ d ∷ more → length parts ≡ 4 + length more
-four_more parts more a b c d is = rw is (omega arith)
+module _ (bytes rest : List ℕ) (h : Header) (is : header_of title (cut_at 10 bytes) ≡ Ok (h, cut_at 10 rest)) where
+  -- what the lines after a header give, the text gives
+  pub given_on : (r : Result Reader CallsFault) → Gives state r (lines_from grammar first_line (nothing_told h) (cut_at 10 rest))
+      → Gives state r (text_from text (cut_at 10 bytes))
+  given_on r gives = subst (Gives state r) (sym (text_after text (cut_at 10 bytes) (cut_at 10 rest) h is)) gives
 
--- a good line of what comes after the header is one of the text
-pub good_in_text : (bytes rest : List ℕ) (h : Header) (line : ℕ)
-    → header_of title (cut_at 10 bytes) ≡ Ok (h, cut_at 10 rest)
-    → IsGoodLine line_number first_line (cut_at 10 rest) (lines_from grammar first_line (nothing_told h) (cut_at 10 rest)) line
-    → IsGoodAfterHeader bytes (calls_of (cut_at 10 bytes)) line
-unfolding calls_of
-good_in_text bytes rest h line is good =
-    let parts = (header_ok title (cut_at 10 bytes) (h, cut_at 10 rest) is).0 in
-    let counted = four_more (cut_at 10 bytes) (cut_at 10 rest) _ _ _ _ parts in (
-      omega (arith, good.0),
-      (
-        omega (arith, good.0),
-        omega (arith, good.1, counted),
-        rw is (still_faultless line (lines_from grammar first_line (nothing_told h) (cut_at 10 rest)) (λ last. last.calls) good.2),
-      ),
-    )
+  abbrev Good : ℕ → Type 0
+  Good line = IsGoodLine line_number first_line (cut_at 10 rest) (lines_from grammar first_line (nothing_told h) (cut_at 10 rest)) line
+
+  pub good_on : (r : Result Reader CallsFault) → IfErr r (λ e. e.cause ≡ wrong.Memory → Good e.line)
+      → IfErr r (λ e. e.cause ≡ wrong.Memory → IsGoodAfterHeader bytes (text_from text (cut_at 10 bytes)) e.line)
+  good_on (Ok x) good = tt
+  good_on (Err e) good = λ memory.
+      let line = good memory in (omega (arith, line.0), good_in_text text line_number bytes rest h e.line is line)
+
+-- ---- the calls of what was told
+
+pub given_calls : (e : CallsFault) (read : Result SoFar CallsFault) → (e.cause ≢ wrong.Memory → read ≡ Err e)
+    → e.cause ≢ wrong.Memory → (read >>= calls_told) ≡ Err e
+given_calls e read gives other = rw (gives other) refl
+
+still_faultless : (line : ℕ) (read : Result SoFar CallsFault) → IsFaultlessTo line_number line read
+    → IsFaultlessTo line_number line (read >>= calls_told)
+still_faultless line (Ok y) good = tt
+still_faultless line (Err e) good = good
+
+pub good_calls : (bytes : List ℕ) (line : ℕ) → IsGoodAfterHeader bytes (text_from text (cut_at 10 bytes)) line
+    → IsGoodAfterHeader bytes (reading bytes) line
+good_calls bytes line good = (good.0, (good.1.0, good.1.1, still_faultless line (text_from text (cut_at 10 bytes)) good.1.2))
 
 -- ---- a text that ends
 

@@ -8,7 +8,7 @@ use Rattle.lset_calls.specs.declared.value.TimedCall.{TimedCall}
 use Rattle.lset_calls.specs.declared.fault.ClashFault.{ClashFault}
 use Rattle.lset_calls.specs.declared.fault.ClashFault.TheVariants as clash
 use Rattle.lset_calls.specs.Calls.{CallsValue, traced}
-use Rattle.lset_calls.specs.Reading.{first_line}
+use Rattle.lset_text.specs.Texts.{first_line}
 
 -- the call with that number, by the lines of the text
 abbrev pub no_call : TimedCall

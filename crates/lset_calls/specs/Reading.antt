@@ -1,6 +1,6 @@
 -- The calls of a text, or its first fault: line by line, and in each line in the order of the checks.
-use Rattle.std.specs.Prelude.{◌≡◌, ◌≢◌, ◌⊎◌, ℕ, ◌+◌, ◌<◌, ◌≤◌, nat_lt, Bool, true, false, List, [], ◌∷◌, ◌++◌, length, codes}
-use Rattle.std.specs.Prelude.{Option, Some, None, Result, Ok, Err, if◌then◌else◌, slice_index_or}
+use Rattle.std.specs.Prelude.{◌≡◌, ◌≢◌, ◌⊎◌, ℕ, ◌<◌, nat_lt, Bool, true, false, List, [], ◌∷◌, ◌++◌, length, codes}
+use Rattle.std.specs.Prelude.{Option, Some, None, Result, Ok, Err, if◌then◌else◌}
 use Rattle.lset_words.specs.declared.Reply.{Reply}
 use Rattle.lset_words.specs.declared.TheConstants.{MOST_OPENING}
 use Rattle.lset_words.specs.Words.{Opening, empty}
@@ -12,12 +12,12 @@ use Rattle.lset_text.specs.declared.headers.HeaderCause.TheVariants as head
 use Rattle.lset_text.specs.declared.headers.HeaderFault.{HeaderFault}
 use Rattle.lset_text.specs.Parts.{cut_at}
 use Rattle.lset_text.specs.Spellings.{with_key}
-use Rattle.lset_text.specs.Results.{◌>>=◌, map_fault}
+use Rattle.lset_text.specs.Results.{◌>>=◌}
 use Rattle.lset_text.specs.Forms.{Form, Piece}
 use Rattle.lset_text.specs.Forms as piece
 use Rattle.lset_text.specs.Kinds.{LineKind, LineCauses, made, line_in}
-use Rattle.lset_text.specs.Lines.{Grammar, lines_from, IsGoodLine}
-use Rattle.lset_text.specs.Headers.{header_of}
+use Rattle.lset_text.specs.Lines.{Grammar, IsGoodLine}
+use Rattle.lset_text.specs.Texts.{TextGrammar, last_of_header, text_from}
 use Rattle.lset_text.specs.Openings.{opening_form, is_above}
 use Rattle.lset_report.specs.declared.report.TheConstants.{MOST_CALLS, MOST_KEYS_OPENED}
 use Rattle.lset_report.specs.Texts.{last_line}
@@ -156,14 +156,7 @@ with_line c (told.Call x) = record c { calls = c.calls ++ x ∷ [] }
 with_line c (told.Key k) = record c { keys = c.keys ++ k ∷ [] }
 with_line c told.End = c
 
--- ---- texts, as their parts between newlines: whole lines, and what comes after the last newline
-
--- the last line of the header, and the first one after it
-abbrev pub last_of_header : ℕ
-last_of_header = 4
-
-abbrev pub first_line : ℕ
-first_line = last_of_header + 1
+-- ---- texts
 
 -- what lines tell: the section to which they came, and their calls
 pub record SoFar : Type 0 where
@@ -196,14 +189,15 @@ no_lines h = record { kind = h.kind; opening = empty h.threads h.quota; calls = 
 abbrev pub nothing_told : HeaderTold → SoFar
 nothing_told h = record { section = section.Opening; calls = no_lines h }
 
-unfoldable pub calls_of : List (List ℕ) → Result CallsValue CallsFault
-calls_of parts = do
-  head ← map_fault in_calls (header_of title parts)
-  last ← lines_from grammar first_line (nothing_told head.0) head.1
-  Ok last.calls
+-- THE GRAMMAR of the text
+abbrev pub text : TextGrammar SoFar CallsCause CallsFault
+text = record { title = title; start = nothing_told; lines = grammar; of_header = in_calls }
+
+abbrev pub calls_told : SoFar → Result CallsValue CallsFault
+calls_told s = Ok s.calls
 
 abbrev pub reading : List ℕ → Result CallsValue CallsFault
-reading bytes = calls_of (cut_at 10 bytes)
+reading bytes = text_from text (cut_at 10 bytes) >>= calls_told
 
 -- what is read is the text of calls, and the text of calls is read
 abbrev pub CallsReadBack : Type 0

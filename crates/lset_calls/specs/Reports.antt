@@ -1,5 +1,5 @@
 -- The report of calls with their points: its order is [Placement], with the changes at the given points.
-use Rattle.std.specs.Prelude.{◌≡◌, ℕ, zero, suc, ◌<◌, ◌≤◌, ◌==◌, ◌⊎◌, Bool, true, false, List, [], ◌∷◌, map, length, Option, Some, None}
+use Rattle.std.specs.Prelude.{◌≡◌, ℕ, zero, suc, ◌<◌, ◌≤◌, ◌==◌, ◌⊎◌, Bool, true, false, List, map, length, Option, Some, None}
 use Rattle.std.specs.Prelude.{if◌then◌else◌, IfSome, AllPairs, All}
 use Rattle.std.specs.List.{find}
 use Rattle.std.specs.List.Sorted.{IsPermutation}
@@ -14,7 +14,6 @@ use Rattle.lset_words.specs.Placement.{StandsAt, standing, by_moments, placed_of
 use Rattle.lset_text.specs.declared.words.Version.TheVariants.{One}
 use Rattle.lset_report.specs.Report.{ReportValue}
 use Rattle.lset_report.specs.Texts.{HasWordsOfVersion}
-use Rattle.lset_calls.specs.declared.value.TimedCall.{TimedCall}
 use Rattle.lset_calls.specs.Calls.{CallsValue, traced}
 use Rattle.lset_calls.specs.Clashes.{IsRefusedAt}
 

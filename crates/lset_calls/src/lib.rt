@@ -3,10 +3,7 @@
 #![tactic(auto)]
 
 mod fault;
-mod ordering;
-mod placing;
 mod reading;
-mod timeline;
 mod value;
 
 pub use fault::{CallsCause, CallsFault, ClashFault};

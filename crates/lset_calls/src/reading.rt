@@ -1,11 +1,11 @@
 ghost use Rattle.std.specs.Prelude.{◌≡◌, ◌≢◌, ◌≤◌, ◌^◌, IfOk, IfErr, OnOk, OnErr, MatchResult, Ok};
 ghost use Rattle.lset_text.specs.Parts.{cut_at};
 ghost use Rattle.lset_text.specs.Lines.{lines_from, IsGoodLine};
+ghost use Rattle.lset_text.specs.Texts.{first_line, text_from};
 ghost use Rattle.lset_calls.specs.Calls.{CallsValue, AreCalls, view, ends_after, is_of_history, has_point};
 ghost use Rattle.lset_calls.specs.Texts.{calls_text, title};
 ghost use Rattle.lset_calls.specs.Reading.{
   grammar,
-  first_line,
   nothing_told,
   judged,
   line_after,
@@ -17,7 +17,7 @@ ghost use Rattle.lset_calls.specs.Reading.{
   Gives,
   line_number,
   IsGoodAfterHeader,
-  calls_of,
+  text,
   reading,
   CallsReadBack,
 };
@@ -172,13 +172,20 @@ fn read_lines(alloc: Global, header: Header, text: &[u8]) -> Result<Reader, Call
     }
 }
 
-#[tactic(auto, unfolding(crate::specs::Reading::calls_of))]
+fn read_text(alloc: Global, bytes: &[u8]) -> Result<Reader, CallsFault>
+    ensures exact { Gives state result (text_from text (cut_at 10 bytes.now)) }
+    ensures memory { IfErr result (λ e. e.cause ≡ CallsCause.Memory
+        → IsGoodAfterHeader bytes.now (text_from text (cut_at 10 bytes.now)) e.line) }
+{
+    let (header, rest) = read_header(title().as_bytes(), bytes)?;
+    read_lines(alloc, header, rest)
+}
+
 fn calls(alloc: Global, bytes: &[u8]) -> Result<Calls, CallsFault>
     ensures exact { Gives view result (reading bytes.now) }
     ensures memory { IfErr result (λ e. e.cause ≡ CallsCause.Memory → IsGoodAfterHeader bytes.now (reading bytes.now) e.line) }
 {
-    let (header, rest) = read_header(title().as_bytes(), bytes)?;
-    let reader = read_lines(alloc, header, rest)?;
+    let reader = read_text(alloc, bytes)?;
     Ok(reader.calls)
 }
 

@@ -91,6 +91,12 @@ fn is_dash(piece: &[u8]) -> bool
     piece == b"-".as_slice()
 }
 
+fn is_call(piece: &[u8]) -> bool
+    ensures { result ≡ bytes_eq piece.now (codes "call") }
+{
+    piece == b"call".as_slice()
+}
+
 fn open_call(pieces: CallPieces<'_>) -> Result<Line, CallsCause>
     ensures { result ≡ first_of Two causes (open_kind ∷ open_pointed_kind ∷ []) (codes "call" ∷ pieces.entry.thread.now
         ∷ pieces.entry.call.now ∷ pieces.entry.key.now ∷ pieces.entry.begun.now ∷ pieces.entry.point.now ∷ dash ∷ dash ∷ []) }
@@ -160,12 +166,7 @@ fn pointed_call(pieces: CallPieces<'_>, end: &[u8], reply: &[u8]) -> Result<Line
 }
 
 /// A call, of what comes after its key.
-fn begun_call(
-    thread: &[u8],
-    call: &[u8],
-    key: &[u8],
-    rest: &[u8],
-) -> Result<Line, CallsCause>
+fn begun_call(thread: &[u8], call: &[u8], key: &[u8], rest: &[u8]) -> Result<Line, CallsCause>
     ensures { result ≡ first_of Two causes call_kinds (codes "call" ∷ thread.now ∷ call.now ∷ key.now ∷ cut_at 32 rest.now) }
 {
     let Some((begun, rest)) = cut(rest, b' ') else {
@@ -236,7 +237,7 @@ pub fn line_of_calls(section: Section, line: &[u8]) -> Result<Line, CallsCause>
     let Some((second, rest)) = cut(rest, b' ') else {
         return opening_or_key(section, word, rest);
     };
-    if !section.takes_calls() || word != b"call".as_slice() {
+    if !section.takes_calls() || !is_call(word) {
         return Err(CallsCause::Line);
     }
     call(second, rest)

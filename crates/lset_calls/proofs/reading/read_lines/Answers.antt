@@ -1,7 +1,8 @@
 use Rattle.std.proofs.Common.{sym, refl, ◌∙◌}
 use Rattle.std.proofs.lemmas.Bool.{eqb-true, eqb-false}
 use Rattle.lset_text.proofs.LineLaws.{goes_on, not_ended, is_done}
-use Rattle.lset_calls.specs.Reading.{grammar, first_line, state}
+use Rattle.lset_text.specs.Texts.{first_line}
+use Rattle.lset_calls.specs.Reading.{grammar, state}
 use Rattle.lset_calls.proofs.Loops.{refused, out_of_memory, not_done, no_memory}
 use Rattle.lset_calls.proofs.reading.read_lines.Goals as goal
 

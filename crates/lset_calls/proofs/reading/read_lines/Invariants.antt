@@ -1,7 +1,8 @@
 use Rattle.std.proofs.Common.{length}
 use Rattle.lset_text.specs.Parts.{cut_at}
 use Rattle.lset_text.specs.Lines.{lines_from, Stands}
-use Rattle.lset_calls.specs.Reading.{grammar, first_line, nothing_told, state}
+use Rattle.lset_text.specs.Texts.{first_line}
+use Rattle.lset_calls.specs.Reading.{grammar, nothing_told, state}
 use Rattle.lset_calls.proofs.reading.read_lines.Given as goal
 
 abbrev pub invariant-loop-rest : goal.invariant-loop-rest
