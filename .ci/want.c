@@ -7,9 +7,6 @@ extern long strtol(const char *text, char **end, int base);
 extern int open(const char *name, int flags, ...);
 extern int dprintf(int file, const char *form, ...);
 
-#ifndef SIZES
-#define SIZES 20, 1000
-#endif
 enum { FUNCTIONS = 4096, APPEND = 02001, COUNT = 2 };
 
 static const unsigned long sizes[COUNT] = {SIZES};

@@ -11,9 +11,7 @@ use Rattle.lset_steps.specs.Worlds.{WorldState, Refused}
 use Rattle.lset_replay.specs.declared.events.LineEvent.{LineEvent}
 use Rattle.lset_replay.specs.declared.recorder.Recorder.{Recorder}
 use Rattle.lset_replay.specs.Events.{only_events, line_at}
-use Rattle.lset_steps.specs.declared.world.StepFault.TheVariants.{NoThread, Busy, Idle}
-use Rattle.lset_replay.specs.declared.fault.ReplayFault.{ReplayFault}
-use Rattle.lset_replay.specs.Reports.{IsFirstRefused, IsRefusal, fault_at}
+use Rattle.lset_replay.specs.Reports.{IsFirstRefused}
 use Rattle.lset_replay.specs.Trace.{trace_of, trace_after, entry_told, MayFollow, MayChange, no_trace}
 use Rattle.lset_replay.specs.Follows.{HasFollowed}
 use Rattle.lset_history.specs.Changes.{moments_of}
@@ -121,9 +119,3 @@ at_first T op events w r opens world trace opening_is = record {
   trace = trace;
   opening_is = opening_is;
 }
-
-pub refusal_is : (T : Table) (op : Opening) (events : List LineEvent) (line : ℕ) (cause : StepFault) (f : ReplayFault)
-    → f ≡ fault_at line cause → IsFirstRefused T op events line cause → IsRefusal T op events f
-refusal_is T op events line NoThread f e h = subst (λ z. IsRefusal T op events z) (sym e) h
-refusal_is T op events line Busy f e h = subst (λ z. IsRefusal T op events z) (sym e) h
-refusal_is T op events line Idle f e h = subst (λ z. IsRefusal T op events z) (sym e) h

@@ -3,4 +3,3 @@ pub mod ReportPieces
 pub mod ReportLoops
 pub mod ReportLines
 pub mod ReportTexts
-pub mod ReportAgain

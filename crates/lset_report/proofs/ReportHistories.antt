@@ -8,9 +8,11 @@ use Rattle.std.specs.List.{All, list_any, list_all}
 use Rattle.std.specs.Option.{IfSome, IsSomeAnd}
 use Rattle.std.specs.Ordering.{nat_cmp}
 use Rattle.std.specs.BTreeSet.{contains}
+use Rattle.std.proofs.lemmas.Option.{IfSome_then}
 use Rattle.std.proofs.lemmas.List.{get_or-set_other, get_or-set_same, append-nil, length-set}
-use Rattle.std.proofs.lemmas.List.Elements.{All-cons, All-nil, All-head, All-tail}
-use Rattle.std.proofs.lemmas.List.Folds.{list_any-append, list_all-append}
+use Rattle.std.proofs.lemmas.List.Elements.{All-cons, All-nil}
+use Rattle.std.proofs.lemmas.List.Folds.{list_any-append, list_all-append, list_any_none}
+use Rattle.std.proofs.lemmas.List.Sums.{AllPass-from_list_all, list_all-from_AllPass}
 use Rattle.std.proofs.lemmas.Bool.{cases_eq, cases_Bool, and_parts, and_from, and_right, or_parts, or_from}
 use Rattle.std.proofs.lemmas.Bool.{or_cases, or_left, or_right, not-true, not_from_false, ltb-true, lt-ltb}
 use Rattle.std.proofs.lemmas.Bool.{eqb-false, eq-eqb, ne_eqb, true≢false}
@@ -26,16 +28,11 @@ use Rattle.lset_report.specs.ReportCalls.{threads_of, is_before, end_moment, Tra
 
 all_tests : {X : Type 0} (p : X → Bool) (P : X → Type 0) → ((x : X) → p x ≡ true → P x) → (xs : List X) → list_all p xs ≡ true
     → All P xs
-all_tests p P each [] h = All-nil P
-all_tests p P each (x ∷ xs) h =
-    let parts = and_parts (p x) (list_all p xs) h in
-    All-cons P x xs (each x parts.0) (all_tests p P each xs parts.1)
+all_tests p P each xs h k d b = each (get_or xs k d) (AllPass-from_list_all p xs h k d b)
 
 tests_all : {X : Type 0} (p : X → Bool) (P : X → Type 0) → ((x : X) → P x → p x ≡ true) → (xs : List X) → All P xs
     → list_all p xs ≡ true
-tests_all p P each [] h = refl
-tests_all p P each (x ∷ xs) h =
-    and_from (p x) (list_all p xs) (each x (All-head P x xs h)) (tests_all p P each xs (All-tail P x xs h))
+tests_all p P each xs h = list_all-from_AllPass p xs (λ k d b. each (get_or xs k d) (h k d b))
 
 none_tests : {X : Type 0} (p : X → Bool) (P : X → Type 0) → ((x : X) → p x ≡ false → P x) → (xs : List X)
     → list_any p xs ≡ false → All P xs
@@ -46,9 +43,7 @@ none_tests p P each (x ∷ xs) h =
 
 tests_none : {X : Type 0} (p : X → Bool) (P : X → Type 0) → ((x : X) → P x → p x ≡ false) → (xs : List X) → All P xs
     → list_any p xs ≡ false
-tests_none p P each [] h = refl
-tests_none p P each (x ∷ xs) h =
-    or_from (p x) (list_any p xs) (each x (All-head P x xs h)) (tests_none p P each xs (All-tail P x xs h))
+tests_none p P each xs h = list_any_none p xs (λ k d b. each (get_or xs k d) (h k d b))
 
 -- ---- one end, and a moment
 
@@ -59,14 +54,6 @@ not_at m (Some e) h = eqb-false e.0 m h
 at_none : (m : ℕ) (o : Option (ℕ × Reply)) → IfSome o (λ (e : ℕ × Reply). e.0 ≢ m) → ends_at m o ≡ false
 at_none m None h = refl
 at_none m (Some e) h = ne_eqb e.0 m h
-
-turned : (m : ℕ) (o : Option (ℕ × Reply)) → IfSome o (λ (e : ℕ × Reply). e.0 ≢ m) → IfSome o (λ (e : ℕ × Reply). m ≢ e.0)
-turned m None h = tt
-turned m (Some e) h = λ same. h (sym same)
-
-turned_back : (m : ℕ) (o : Option (ℕ × Reply)) → IfSome o (λ (e : ℕ × Reply). m ≢ e.0) → IfSome o (λ (e : ℕ × Reply). e.0 ≢ m)
-turned_back m None h = tt
-turned_back m (Some e) h = λ same. h (sym same)
 
 has_ended : (m : ℕ) (o : Option (ℕ × Reply)) → ended_before m o ≡ true → IsSomeAnd o (λ (e : ℕ × Reply). e.0 < m)
 has_ended m None h = absurd cc
@@ -100,10 +87,10 @@ Apart m y = (m ≢ y.begun) × IfSome y.ended (λ (d : ℕ × Reply). m ≢ d.0)
 apart_of : (m : ℕ) (y : CallRecord) → is_entry m y ≡ false → Apart m y
 apart_of m y h =
     let parts = or_parts (eqb y.begun m) (ends_at m y.ended) h in
-    (λ same. eqb-false y.begun m parts.0 (sym same), turned m y.ended (not_at m y.ended parts.1))
+    (λ same. eqb-false y.begun m parts.0 (sym same), IfSome_then y.ended (not_at m y.ended parts.1) (λ e other same. other (sym same)))
 
 apart_test : (m : ℕ) (y : CallRecord) → Apart m y → is_entry m y ≡ false
-apart_test m y h = or_from _ _ (ne_eqb y.begun m (λ same. h.0 (sym same))) (at_none m y.ended (turned_back m y.ended h.1))
+apart_test m y h = or_from _ _ (ne_eqb y.begun m (λ same. h.0 (sym same))) (at_none m y.ended (IfSome_then y.ended h.1 (λ e other same. other (sym same))))
 
 later_of : (calls : List CallRecord) (b : ℕ) (o : Option (ℕ × Reply)) → ends_later calls b o ≡ true
     → IfSome o (λ (e : ℕ × Reply). b < e.0)

@@ -1,8 +1,9 @@
 -- A line of a report is read from its text, and from nothing else.
-use Rattle.std.proofs.Common.{◌≡◌, ℕ, ◌<◌, ◌≤◌, ◌^◌, inl, inr, Bool, false, List, [], ◌∷◌, Option, Some, None, Ok, refl, ap, arith}
+use Rattle.std.proofs.Common.{◌≡◌, ℕ, ◌<◌, ◌≤◌, ◌^◌, inl, inr, Bool, false, List, [], ◌∷◌, Option, Some, None, refl, ap, arith}
 use Rattle.std.proofs.Common.{codes}
 use Rattle.std.specs.Fmt.{decimal}
 use Rattle.std.specs.List.{AllByRecursion}
+use Rattle.std.specs.Option.{IfSome}
 use Rattle.lset_words.specs.declared.Call.{Call as CallMade}
 use Rattle.lset_words.specs.declared.Reply.{Reply}
 use Rattle.lset_words.specs.declared.history.CallRecord.{CallRecord}
@@ -12,20 +13,20 @@ use Rattle.lset_text.specs.declared.words.CallWord.{CallWord}
 use Rattle.lset_text.specs.declared.words.CallWord.TheVariants.{Add, Remove, Contains, Ceiling}
 use Rattle.lset_text.specs.declared.words.Version.{Version}
 use Rattle.lset_text.specs.declared.words.Version.TheVariants.{One, Two}
-use Rattle.lset_text.specs.Parts.{line_of, Lacks}
+use Rattle.lset_text.specs.Parts.{line_of}
 use Rattle.lset_text.specs.Numbers.{max_number}
-use Rattle.lset_text.specs.Spellings.{call_text, call_word_text, word_of, with_key, reply_text, HasWord, HasCall, HasReply}
-use Rattle.lset_text.specs.Forms.{have_form}
-use Rattle.lset_text.specs.Kinds.{LineKind, line_in}
+use Rattle.lset_text.specs.Spellings.{call_text, call_word_text, word_of, with_key, reply_text, HasWord}
+use Rattle.lset_text.specs.Forms.{word, moment, reply, Form, Told, spell, AllFit, have_form, ArePieces}
+use Rattle.lset_text.specs.Kinds.{LineKind}
 use Rattle.lset_text.proofs.WordLaws.{with_key-word_of}
-use Rattle.lset_text.proofs.KindLaws.{Knows, IsMade, line_found, line_found_lacks, line_made}
+use Rattle.lset_text.proofs.KindLaws.{Knows, IsMade}
 use Rattle.lset_report.specs.declared.reading.lines.Line.{Line}
 use Rattle.lset_report.specs.declared.reading.lines.Line.TheVariants as told
 use Rattle.lset_report.specs.declared.reading.lines.Section.{Section}
 use Rattle.lset_report.specs.declared.reading.lines.Section.TheVariants as section
 use Rattle.lset_report.specs.Report.{ReportValue}
 use Rattle.lset_report.specs.Texts.{end_pieces}
-use Rattle.lset_report.specs.ReportReading.{IsPlace, causes, opening_kind, open_kind, ended_kind, place_kind}
+use Rattle.lset_report.specs.ReportReading.{call_told, call_form, IsEnd, IsCall, IsPlace, opening_kind, open_kind, ended_kind, place_kind}
 use Rattle.lset_report.specs.ReportReading.{from_calls, from_order, from_keys, kinds, section_after}
 
 -- ---- lines and their texts
@@ -42,16 +43,11 @@ pieces_of told.End = codes "end" ∷ []
 abbrev pub line_text : Line → List ℕ
 line_text l = line_of (pieces_of l)
 
-abbrev pub IsEndLine : Version → Option (ℕ × Reply) → Type 0
-IsEndLine v None = Unit {0}
-IsEndLine v (Some end) = (0 < end.0) × (end.0 < 2 ^ 32) × HasReply v end.1
-
 -- the numbers of a line are in range, and its words are those of a version
 abbrev pub IsLine : Version → Line → Type 0
 IsLine v (told.Opening k) = (k < 2 ^ 32) × (v ≡ Two)
 IsLine v (told.Call n x) =
-    (n < 2 ^ 32) × (x.thread < 2 ^ 32) × ((key_of x.call).0 < 2 ^ 32) × (0 < x.begun) × (x.begun < 2 ^ 32)
-    × IsEndLine v x.ended × HasCall v x.call
+    (n < 2 ^ 32) × (x.thread < 2 ^ 32) × (0 < x.begun) × IfSome x.ended (λ (end : ℕ × Reply). 0 < end.0) × IsCall v x
 IsLine v (told.Place p) = IsPlace v p
 IsLine v (told.Key k) = k < 2 ^ 32
 IsLine v told.End = Unit {0}
@@ -73,76 +69,66 @@ IsNext v r l = IsLine v l × Reaches (section_after l) r
 abbrev Known : Version → ReportValue → LineKind Line → Type 0
 Known v r = Knows v pieces_of (IsNext v r)
 
-abbrev AreKnown : Version → ReportValue → List (LineKind Line) → Type 0
-AreKnown v r ks = AllByRecursion (Known v r) ks
-
 -- a call that was told, whatever its end
-called : (v : Version) (w : CallWord) (n t k b : ℕ) (o : Option (ℕ × Reply)) → n ≤ max_number → t ≤ max_number → k ≤ max_number
-    → (1 ≤ b) × (b ≤ max_number) → IsEndLine v o → HasWord v w
+abbrev call_with : CallWord → ℕ → ℕ → ℕ → ℕ → Option (ℕ × Reply) → Line
+call_with w n t k b o = told.Call n (record { thread = t; call = with_key w (record { 0 = k }); begun = b; ended = o })
+
+called : (v : Version) (w : CallWord) (n t k b : ℕ) (o : Option (ℕ × Reply)) → n < 2 ^ 32 → t < 2 ^ 32 → k < 2 ^ 32
+    → 0 < b → b < 2 ^ 32 → IfSome o (λ (end : ℕ × Reply). 0 < end.0) → IsEnd v o → HasWord v w
     → (codes "call" ∷ decimal n ∷ decimal t ∷ call_word_text w ∷ decimal k ∷ decimal b ∷ end_pieces o
-    ≡ pieces_of (told.Call n (record { thread = t; call = with_key w (record { 0 = k }); begun = b; ended = o })))
-    × IsLine v (told.Call n (record { thread = t; call = with_key w (record { 0 = k }); begun = b; ended = o }))
-called v Add n t k b o nl tl kl bl ends has =
-    (refl, (omega (arith, nl), omega (arith, tl), omega (arith, kl), omega (arith, bl.0), omega (arith, bl.1), ends, has))
-called v Remove n t k b o nl tl kl bl ends has =
-    (refl, (omega (arith, nl), omega (arith, tl), omega (arith, kl), omega (arith, bl.0), omega (arith, bl.1), ends, has))
-called v Contains n t k b o nl tl kl bl ends has =
-    (refl, (omega (arith, nl), omega (arith, tl), omega (arith, kl), omega (arith, bl.0), omega (arith, bl.1), ends, has))
-called v Ceiling n t k b o nl tl kl bl ends has =
-    (refl, (omega (arith, nl), omega (arith, tl), omega (arith, kl), omega (arith, bl.0), omega (arith, bl.1), ends, has))
+    ≡ pieces_of (call_with w n t k b o)) × IsLine v (call_with w n t k b o)
+called v Add n t k b o nl tl kl bs bl some ends has = (refl, (nl, tl, bs, some, (bl, kl, ends, has)))
+called v Remove n t k b o nl tl kl bs bl some ends has = (refl, (nl, tl, bs, some, (bl, kl, ends, has)))
+called v Contains n t k b o nl tl kl bs bl some ends has = (refl, (nl, tl, bs, some, (bl, kl, ends, has)))
+called v Ceiling n t k b o nl tl kl bs bl some ends has = (refl, (nl, tl, bs, some, (bl, kl, ends, has)))
+
+-- whatever pieces tell its end
+call_known : (v : Version) (r : ReportValue) (f : Form) (end : Told f → Option (ℕ × Reply)) → Reaches section.Calls r → ArePieces f
+    → ((e : Told f) → AllFit v f e → (spell f e ≡ end_pieces (end e)) × IfSome (end e) (λ (x : ℕ × Reply). 0 < x.0) × IsEnd v (end e))
+    → Known v r (call_form f, λ t. call_told t.1 (end t.1.1.1.1.1.1))
+call_known v r f end reached are ends = (
+  (refl, (omega arith, (omega arith, (tt, (omega arith, (omega arith, are)))))),
+  λ t fit. let c = fit.1 in
+      let e = ends t.1.1.1.1.1.1 c.1.1.1.1.1 in
+      let is = called v t.1.1.1.0 t.1.0 t.1.1.0 t.1.1.1.1.0 t.1.1.1.1.1.0 (end t.1.1.1.1.1.1) (omega (arith, c.0.1))
+      (omega (arith, c.1.0.1)) (omega (arith, c.1.1.1.0.1)) (omega (arith, c.1.1.1.1.0.0)) (omega (arith, c.1.1.1.1.0.1)) e.1 e.2
+      c.1.1.0 in
+      (rw e.0 is.0, (is.1, reached)),
+)
 
 open_known : (v : Version) (r : ReportValue) → Reaches section.Calls r → Known v r open_kind
-open_known v r reached = (
-  (refl, (omega arith, (omega arith, (tt, (omega arith, (omega arith, (refl, tt))))))),
-  λ t fit. let f = fit.1 in
-      let is = called v t.1.1.1.0 t.1.0 t.1.1.0 t.1.1.1.1.0 t.1.1.1.1.1.0 None f.0.1 f.1.0.1 f.1.1.1.0.1 f.1.1.1.1.0 tt f.1.1.0 in
-      (is.0, (is.1, reached)),
-)
+open_known v r reached = call_known v r (word (codes "open") ∷ []) (λ e. None) reached (refl, tt) (λ e fit. (refl, tt, tt))
 
 ended_known : (v : Version) (r : ReportValue) → Reaches section.Calls r → Known v r ended_kind
-ended_known v r reached = (
-  (refl, (omega arith, (omega arith, (tt, (omega arith, (omega arith, (omega arith, (tt, tt)))))))),
-  λ t fit. let f = fit.1 in
-      let e = f.1.1.1.1.1 in
-      let ends : IsEndLine v (Some (t.1.1.1.1.1.1.0, t.1.1.1.1.1.1.1.0)) = (omega (arith, e.0.0), omega (arith, e.0.1), e.1.0) in
-      let is = called v t.1.1.1.0 t.1.0 t.1.1.0 t.1.1.1.1.0 t.1.1.1.1.1.0 (Some (t.1.1.1.1.1.1.0, t.1.1.1.1.1.1.1.0))
-      f.0.1 f.1.0.1 f.1.1.1.0.1 f.1.1.1.1.0 ends f.1.1.0 in
-      (is.0, (is.1, reached)),
-)
+ended_known v r reached =
+    call_known v r (moment ∷ reply ∷ []) (λ e. Some (e.0, e.1.0)) reached (omega arith, (tt, tt))
+    (λ e fit. (refl, omega (arith, fit.0.0), (omega (arith, fit.0.1), fit.1.0)))
 
-keys_known : (v : Version) (r : ReportValue) → AreKnown v r from_keys
+keys_known : (v : Version) (r : ReportValue) → AllByRecursion (Known v r) from_keys
 keys_known v r = (
   ((refl, (omega arith, tt)), λ t fit. (refl, (omega (arith, fit.1.0.1), tt))),
   (((refl, tt), λ t fit. (refl, (tt, tt))), tt),
 )
 
-order_known : (v : Version) (r : ReportValue) → Reaches section.Order r → AreKnown v r from_order
+order_known : (v : Version) (r : ReportValue) → Reaches section.Order r → AllByRecursion (Known v r) from_order
 order_known v r reached = (
   ((refl, (omega arith, (tt, tt))), λ t fit. (refl, ((omega (arith, fit.1.0.1), fit.1.1.0), reached))),
   keys_known v r,
 )
 
-calls_known : (v : Version) (r : ReportValue) → Reaches section.Calls r → AreKnown v r from_calls
+calls_known : (v : Version) (r : ReportValue) → Reaches section.Calls r → AllByRecursion (Known v r) from_calls
 calls_known v r reached = (open_known v r reached, (ended_known v r reached, order_known v r reached.1))
 
 opening_known : (r : ReportValue) → Reaches section.Opening r → Known Two r opening_kind
 opening_known r reached = ((refl, (omega arith, tt)), λ t fit. (refl, ((omega (arith, fit.1.0.1), refl), reached)))
 
-kinds_known : (v : Version) (s : Section) (r : ReportValue) → Reaches s r → AreKnown v r (kinds v s)
+pub kinds_known : (v : Version) (s : Section) (r : ReportValue) → Reaches s r → AllByRecursion (Known v r) (kinds v s)
 kinds_known One section.Opening r reached = calls_known One r (reached.1, reached.2)
 kinds_known Two section.Opening r reached = (opening_known r reached, calls_known Two r (reached.1, reached.2))
 kinds_known v section.Calls r reached = calls_known v r reached
 kinds_known v section.Order r reached = order_known v r reached
 kinds_known v section.Keys r reached = keys_known v r
 kinds_known v section.Done r reached = tt
-
-pub line_ok : (v : Version) (s : Section) (r : ReportValue) (x : List ℕ) (l : Line) → Reaches s r
-    → line_in v causes (kinds v s) x ≡ Ok l → (x ≡ line_text l) × IsNext v r l
-line_ok v s r x l reached is = line_found v causes pieces_of (IsNext v r) (kinds v s) x l (kinds_known v s r reached) is
-
-pub line_free : (v : Version) (s : Section) (r : ReportValue) (x : List ℕ) (l : Line) → Reaches s r
-    → line_in v causes (kinds v s) x ≡ Ok l → Lacks 10 x
-line_free v s r x l reached is = line_found_lacks v causes pieces_of (IsNext v r) (kinds v s) x l (kinds_known v s r reached) is
 
 -- ---- what stands there is read
 
@@ -164,40 +150,23 @@ call_again : (n t b : ℕ) (c : CallMade) (o : Option (ℕ × Reply))
 call_again n t b c o =
     ap (λ (d : CallMade). told.Call n (record { thread = t; call = d; begun = b; ended = o })) (with_key-word_of c)
 
+call_fits : (v : Version) (f : Form) (w : CallWord) (n t k b : ℕ) (end : Told f) → n < 2 ^ 32 → t < 2 ^ 32 → k < 2 ^ 32
+    → 0 < b → b < 2 ^ 32 → HasWord v w → AllFit v f end → AllFit v (call_form f) (tt, (n, (t, (w, (k, (b, end))))))
+call_fits v f w n t k b end nl tl kl bs bl has fit =
+    (tt, (any_fits n nl, (any_fits t tl, (has, (any_fits k kl, (moment_fits b bs bl, fit))))))
+
 pub call_told_so : (v : Version) (n t b : ℕ) (c : CallMade) (o : Option (ℕ × Reply))
     → IsLine v (told.Call n (record { thread = t; call = c; begun = b; ended = o }))
     → IsTold v from_calls (told.Call n (record { thread = t; call = c; begun = b; ended = o }))
-call_told_so v n t b c None is = inl (
-  (tt, (n, (t, (word_of c, ((key_of c).0, (b, (tt, tt))))))),
-  call_again n t b c None,
-  (tt, (any_fits n is.0, (any_fits t is.1, (is.6, (any_fits ((key_of c).0) is.2, (moment_fits b is.3 is.4, (tt, tt))))))),
-)
-call_told_so v n t b c (Some e) is = inr (
-  refl,
-  inl (
-    (tt, (n, (t, (word_of c, ((key_of c).0, (b, (e.0, (e.1, tt)))))))),
-    call_again n t b c (Some e),
-    (
-      tt,
-      (
-        any_fits n is.0,
-        (
-          any_fits t is.1,
-          (
-            is.6,
-            (
-              any_fits ((key_of c).0) is.2,
-              (
-                moment_fits b is.3 is.4,
-                (moment_fits e.0 is.5.0 is.5.1, (is.5.2, tt)),
-              ),
-            ),
-          ),
-        ),
-      ),
-    ),
-  ),
-)
+call_told_so v n t b c None is =
+    let form = word (codes "open") ∷ [] in
+    let fits = call_fits v form (word_of c) n t ((key_of c).0) b (tt, tt) is.0 is.1 is.4.1 is.2 is.4.0 is.4.3 (tt, tt) in
+    inl ((tt, (n, (t, (word_of c, ((key_of c).0, (b, (tt, tt))))))), call_again n t b c None, fits)
+call_told_so v n t b c (Some e) is =
+    let form = moment ∷ reply ∷ [] in
+    let fits = call_fits v form (word_of c) n t ((key_of c).0) b (e.0, (e.1, tt)) is.0 is.1 is.4.1 is.2 is.4.0 is.4.3
+    (moment_fits e.0 is.3 is.4.2.0, (is.4.2.1, tt)) in
+    inr (refl, inl ((tt, (n, (t, (word_of c, ((key_of c).0, (b, (e.0, (e.1, tt)))))))), call_again n t b c (Some e), fits))
 
 pub place_told : (v : Version) (p : Placed) → IsPlace v p → IsTold v from_order (told.Place p)
 place_told v p is = inl ((tt, (p.call, (p.reply, tt))), refl, (tt, (any_fits p.call is.0, (is.1, tt))))
@@ -240,7 +209,3 @@ pub key_comes : (v : Version) (cs : List CallRecord) (ps : List Placed) (ks : Li
     → Has v place_kind l ≡ false → IsTold v from_keys l → IsTold v (kinds v (reached cs ps ks)) l
 key_comes v cs ps [] l other no_place is = place_comes v cs ps l other (inr (no_place, is))
 key_comes v cs ps (k ∷ ks) l other no_place is = is
-
-pub line_again : (v : Version) (s : Section) (r : ReportValue) (l : Line) → Reaches s r → IsTold v (kinds v s) l
-    → line_in v causes (kinds v s) (line_text l) ≡ Ok l
-line_again v s r l reached is = line_made v causes pieces_of (IsNext v r) (kinds v s) l (kinds_known v s r reached) is

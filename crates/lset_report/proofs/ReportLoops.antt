@@ -1,9 +1,8 @@
 -- Reading the lines of a report one after the other, as a loop does.
-use Rattle.std.proofs.Common.{◌≡◌, ℕ, ◌+◌, ◌⊎◌, inl, inr, Bool, true, false, cond, ltb, eqb, List, [], ◌∷◌, ◌++◌}
-use Rattle.std.proofs.Common.{◌<◌, length, get_or, codes, Result, Ok, Err, refl, sym, ap, subst, ◌∙◌, ◌≢◌, append_assoc, arith}
+use Rattle.std.proofs.Common.{◌≡◌, ℕ, ◌+◌, ◌<◌, ◌≤◌, ◌⊎◌, inl, inr, Bool, true, false, cond, ltb, eqb, List, [], ◌∷◌, ◌++◌}
+use Rattle.std.proofs.Common.{length, get_or, codes, Result, Ok, Err, refl, sym, ap, subst, ◌∙◌, ◌≢◌, arith}
 use Rattle.std.proofs.lemmas.Bool.{ltb-true, lt-ltb, eqb-true, eq-eqb, and_parts}
-use Rattle.std.proofs.Math.Seq.{get_or-append_seam}
-use Rattle.std.proofs.lemmas.List.{length-append, get_or-append-add}
+use Rattle.std.proofs.lemmas.List.{get_or-append-add}
 use Rattle.lset_words.specs.declared.TheConstants.{MOST_OPENING}
 use Rattle.lset_text.specs.declared.words.Version.{Version}
 use Rattle.lset_text.specs.declared.words.Version.TheVariants.{One, Two}
@@ -11,14 +10,15 @@ use Rattle.lset_text.specs.declared.headers.Header.{Header}
 use Rattle.lset_text.specs.declared.headers.HeaderFault.{HeaderFault}
 use Rattle.lset_text.specs.Parts.{cut_at}
 use Rattle.lset_text.specs.Headers.{header_of, header_lines, number_line}
-use Rattle.lset_text.specs.Kinds.{line_in}
-use Rattle.lset_text.specs.Lines.{lines_from, IsFaultlessTo, Stands}
+use Rattle.lset_text.specs.Kinds.{line_in, made}
+use Rattle.lset_text.specs.Lines.{lines_from, IsFaultlessTo, IsGoodLine, Stands}
 use Rattle.lset_text.specs.Openings.{is_above}
 use Rattle.lset_text.specs.Results.{◌>>=◌}
-use Rattle.lset_text.proofs.PartLaws.{some_part}
+use Rattle.lset_text.specs.Texts.{last_of_header, first_line, text_from}
 use Rattle.lset_text.proofs.ReadingLaws.{bind_ok, ok_is}
 use Rattle.lset_text.proofs.HeaderLaws.{header_ok}
-use Rattle.lset_text.proofs.LineLaws.{stops, is_good, faultless_from}
+use Rattle.lset_text.proofs.LineLaws.{stops, is_good, line_at}
+use Rattle.lset_text.proofs.TextLaws.{text_refused, text_after, header_good, good_in_text}
 use Rattle.lset_report.specs.declared.report.TheConstants.{MOST_CALLS, MOST_PLACES}
 use Rattle.lset_report.specs.declared.reading.Reader.{Reader}
 use Rattle.lset_report.specs.declared.reading.lines.Line.{Line}
@@ -30,21 +30,22 @@ use Rattle.lset_report.specs.declared.report_fault.ReportCause.TheVariants as wr
 use Rattle.lset_report.specs.declared.report_fault.ReportFault.{ReportFault}
 use Rattle.lset_report.specs.Report.{ReportValue}
 use Rattle.lset_report.specs.Texts.{title, last_line}
-use Rattle.lset_report.specs.ReportReading.{fault, in_report, causes, kinds, may_follow, most_keys, is_next, counted, rising, following}
-use Rattle.lset_report.specs.ReportReading.{judged, line_after, last_of_header, first_line, SoFar, with_told, step, ends, is_done, grammar}
-use Rattle.lset_report.specs.ReportReading.{no_lines, nothing_told, version_told, report_of, reading, line_number, RunsOut}
-use Rattle.lset_report.specs.ReportReader.{so_far, state}
+use Rattle.lset_report.specs.ReportReading.{fault, in_report, causes, kinds, may_follow, most_keys, is_next}
+use Rattle.lset_report.specs.ReportReading.{judged, line_after, SoFar, with_told, step, grammar, text}
+use Rattle.lset_report.specs.ReportReading.{no_lines, nothing_told, version_told, reading, line_number, RunsOut}
+use Rattle.lset_report.specs.ReportReader.{so_far, state, IsFull}
 
 -- ---- the judgement of a line
 
-kept_if : (b : Bool) (d : ReportCause) (l k : Line) → cond b (Ok l) (Err d) ≡ Ok k → (b ≡ true) × (l ≡ k)
-kept_if true d l k e = (refl, cc)
-kept_if false d l k e = absurd cc
+pub kept_if : {A E : Type 0} (b : Bool) (d : E) (x y : A) → cond b (Ok x) (Err d) ≡ Ok y → (b ≡ true) × (x ≡ y)
+kept_if true d x y e = (refl, ok_is x y e)
+kept_if false d x y e = absurd cc
 
-counted_ok : (most count : ℕ) (l k : Line) → counted most count l ≡ Ok k → (count < most) × (l ≡ k)
-counted_ok most count l k e =
-    let kept = kept_if (ltb count most) wrong.TooMany l k e in
-    (ltb-true count most kept.0, kept.1)
+kept_twice : (a b : Bool) (c d : ReportCause) (l k : Line) → (cond a (Ok l) (Err c) >>= λ m. cond b (Ok m) (Err d)) ≡ Ok k
+    → (l ≡ k) × (a ≡ true) × (b ≡ true)
+kept_twice true true c d l k e = (ok_is l k e, refl, refl)
+kept_twice true false c d l k e = absurd cc
+kept_twice false b c d l k e = absurd cc
 
 -- a good line: there is room for it, and an opening key rises, and a call follows
 abbrev pub IsGood : ReportValue → Line → Type 0
@@ -58,18 +59,18 @@ IsGood r End = Unit {0}
 
 pub judged_ok : (r : ReportValue) (l k : Line) → judged r l ≡ Ok k → (l ≡ k) × IsGood r l
 judged_ok r (Opening n) k e =
-    let one = bind_ok (counted MOST_OPENING (length r.history.opening.keys) (Opening n)) (rising r n) k e in
-    let room = counted_ok MOST_OPENING (length r.history.opening.keys) (Opening n) one.0 one.1 in
-    let test = kept_if (is_above r.history.opening.keys n) wrong.Opening one.0 k one.2 in
-    (room.1 ∙ test.1, (room.0, test.0))
+    let keys = r.history.opening.keys in
+    let kept = kept_twice (ltb (length keys) MOST_OPENING) (is_above keys n) wrong.TooMany wrong.Opening (Opening n) k e in
+    (kept.0, (ltb-true _ _ kept.1, kept.2))
 judged_ok r (Call number x) k e =
-    let one = bind_ok (counted MOST_CALLS (length r.history.calls) (Call number x)) (following r number x) k e in
-    let room = counted_ok MOST_CALLS (length r.history.calls) (Call number x) one.0 one.1 in
-    let test = kept_if (is_next r number x) wrong.History one.0 k one.2 in
-    let parts = and_parts (eqb number (length r.history.calls)) _ test.0 in
-    (room.1 ∙ test.1, (room.0, eqb-true _ _ parts.0, parts.1))
-judged_ok r (Place p) k e = let room = counted_ok MOST_PLACES (length r.order) (Place p) k e in (room.1, room.0)
-judged_ok r (Key n) k e = let room = counted_ok (most_keys r.version) (length r.keys) (Key n) k e in (room.1, room.0)
+    let calls = r.history.calls in
+    let kept = kept_twice (ltb (length calls) MOST_CALLS) (is_next r number x) wrong.TooMany wrong.History (Call number x) k e in
+    let parts = and_parts (eqb number (length calls)) _ kept.2 in
+    (kept.0, (ltb-true _ _ kept.1, eqb-true _ _ parts.0, parts.1))
+judged_ok r (Place p) k e =
+    let kept = kept_if (ltb (length r.order) MOST_PLACES) wrong.TooMany (Place p) k e in (kept.1, ltb-true _ _ kept.0)
+judged_ok r (Key n) k e =
+    let kept = kept_if (ltb (length r.keys) (most_keys r.version)) wrong.TooMany (Key n) k e in (kept.1, ltb-true _ _ kept.0)
 judged_ok r End k e = (cc, tt)
 
 pub judged_good : (r : ReportValue) (l : Line) → IsGood r l → judged r l ≡ Ok l
@@ -99,158 +100,103 @@ end_is v section.Order l e = ok_is End l e
 end_is v section.Keys l e = ok_is End l e
 end_is v section.Done l e = absurd cc
 
--- the parts before those that are left, after one more
-pub one_more : (line : ℕ) (before : List (List ℕ)) (text rest first after : List ℕ) → cut_at 10 rest ≡ first ∷ cut_at 10 after
-    → cut_at 10 text ≡ before ++ cut_at 10 rest → line ≡ first_line + length before
-    → (more : List (List ℕ)) × (cut_at 10 text ≡ more ++ cut_at 10 after) × (line + 1 ≡ first_line + length more)
-one_more line before text rest first after parts all lines =
-    let split : cut_at 10 text ≡ before ++ first ∷ cut_at 10 after = all ∙ ap (λ (ps : List (List ℕ)). before ++ ps) parts in
-    let long : length (before ++ first ∷ []) ≡ length before + 1 = length-append before (first ∷ []) in
-    (before ++ first ∷ [], split ∙ sym (append_assoc before (first ∷ []) (cut_at 10 after)), omega (arith, lines, long))
-
 -- what a loop over the lines of a text gives in the end
 abbrev pub AllOf : List ℕ → SoFar → Result SoFar ReportFault
-AllOf text s = lines_from grammar first_line s (cut_at 10 text)
+AllOf rest s = lines_from grammar first_line s (cut_at 10 rest)
 
 -- a line with a fault, or for which memory ran out
-pub stops_at : (text : List ℕ) (start s : SoFar) (line : ℕ) (rest first after : List ℕ) (before : List (List ℕ)) (e : ReportFault)
-    → cut_at 10 rest ≡ first ∷ cut_at 10 after
-    → ((cause : ReportCause) × (step s first ≡ Err cause) × (e ≡ fault line cause))
-    ⊎ ((l : Line) × (line_after s.section s.report first ≡ Ok l) × (l ≢ End) × (e ≡ fault line wrong.Memory))
-    → Stands grammar first_line text (AllOf text start) line s rest
-    → cut_at 10 text ≡ before ++ cut_at 10 rest → line ≡ first_line + length before
-    → (AllOf text start ≡ Err e) ⊎ RunsOut first_line (cut_at 10 text) (AllOf text start) e
-stops_at text start s line rest first after before e parts (inl bad) stands all lines =
-    inl (stops grammar first_line text (AllOf text start) line s bad.0 rest first after parts bad.1 stands
+pub stops_at : (all : List ℕ) (start s : SoFar) (line : ℕ) (rest x after : List ℕ) (e : ReportFault)
+    → cut_at 10 rest ≡ x ∷ cut_at 10 after
+    → ((cause : ReportCause) × (step s x ≡ Err cause) × (e ≡ fault line cause))
+    ⊎ ((l : Line) × (line_after s.section s.report x ≡ Ok l) × (l ≢ End) × (e ≡ fault line wrong.Memory))
+    → Stands grammar first_line all (AllOf all start) line s rest
+    → (AllOf all start ≡ Err e) ⊎ IsFull (cut_at 10 all) (AllOf all start) e
+stops_at all start s line rest x after e parts (inl bad) stands =
+    inl (stops grammar first_line all (AllOf all start) line s bad.0 rest x after parts bad.1 stands
     ∙ ap (λ (f : ReportFault). Err f) (sym bad.2))
-stops_at text start s line rest first after before e parts (inr full) stands all lines =
-    let told : step s first ≡ Ok (with_told s full.0) = rw full.1 refl in
-    let good = is_good grammar line_number (λ n c. refl) first_line text (AllOf text start) line s (with_told s full.0) rest first
-    after parts told stands in
-    let split : cut_at 10 text ≡ before ++ first ∷ cut_at 10 after = all ∙ ap (λ (ps : List (List ℕ)). before ++ ps) parts in
-    let here : get_or (cut_at 10 text) (length before) [] ≡ first =
-    ap (λ (ps : List (List ℕ)). get_or ps (length before) []) split ∙ get_or-append_seam before first (cut_at 10 after) [] in
-    let read = (line_read s.section s.report first full.0 full.1).0 in
-    let out : RunsOut first_line (cut_at 10 text) (AllOf text start) (fault line wrong.Memory) = record {
-      cause = refl;
-      after_header = omega (arith, lines);
-      index = length before;
-      line_is = lines;
-      whole = omega (arith, good.1, lines);
-      asks = λ is_end. full.2 (sym (end_is s.report.version s.section full.0
-          (subst (λ (x : List ℕ). line_in s.report.version causes (kinds s.report.version s.section) x ≡ Ok full.0)
-          (sym here ∙ is_end) read)));
-      good = good.2;
-    } in
-    inr (subst (RunsOut first_line (cut_at 10 text) (AllOf text start)) (sym full.3) out)
-
--- ---- where a text ends
-
-pub ended_at : (s : SoFar) → s.section ≡ section.Done → ends s ≡ Ok s
-ended_at s is = let done : is_done s.section ≡ true = ap is_done is in rw done refl
-
-unfinished : (s : Section) → (s ≡ section.Done → ⊥) → is_done s ≡ false
-unfinished section.Opening h = refl
-unfinished section.Calls h = refl
-unfinished section.Order h = refl
-unfinished section.Keys h = refl
-unfinished section.Done h = absurd (h refl)
-
-pub not_ended_at : (s : SoFar) → (s.section ≡ section.Done → ⊥) → ends s ≡ Err wrong.NotEnded
-not_ended_at s is = rw (unfinished s.section is) refl
+stops_at all start s line rest x after e parts (inr full) stands =
+    let read = (line_read s.section s.report x full.0 full.1).0 in
+    let here = line_at grammar first_line all (AllOf all start) line s rest x after parts stands in
+    let good = is_good grammar line_number (λ n c. refl) first_line all (AllOf all start) line s (with_told s full.0) rest x after
+    parts (ap (made (with_told s)) full.1) stands in
+    inr (
+      length stands.above,
+      full.3 ∙ ap (λ n. fault n wrong.Memory) stands.number,
+      subst (IsGoodLine line_number first_line (cut_at 10 all) (AllOf all start)) stands.number good,
+      λ is_end. full.2 (sym (end_is s.report.version s.section full.0
+          (subst (λ (y : List ℕ). line_in s.report.version causes (kinds s.report.version s.section) y ≡ Ok full.0)
+          (sym here ∙ is_end) read))),
+    )
 
 -- ---- texts with their headers
-
--- a text whose header has a fault
-pub header_fault : (bytes word : List ℕ) (v : Version) (e : HeaderFault) → v ≡ version_told (cut_at 10 bytes) → word ≡ title v
-    → header_of word (cut_at 10 bytes) ≡ Err e → reading bytes ≡ Err (in_report e)
-unfolding report_of
-header_fault bytes word v e version_is word_is header_is =
-    let head : header_of (title (version_told (cut_at 10 bytes))) (cut_at 10 bytes) ≡ Err e =
-    ap (λ (w : List ℕ). header_of w (cut_at 10 bytes)) (ap title (sym version_is) ∙ sym word_is) ∙ header_is in
-    rw head refl
 
 -- the report of a state
 abbrev pub report_told : SoFar → Result ReportValue ReportFault
 report_told s = Ok s.report
 
--- the parts of a text of a version whose header was read
-in_version : (parts rest : List (List ℕ)) (v : Version) (h : Header) → v ≡ version_told parts
-    → header_of (title v) parts ≡ Ok (h, rest)
-    → report_of parts ≡ (lines_from grammar first_line (nothing_told v h) rest >>= report_told)
-unfolding report_of
-in_version parts rest v h is head =
-    let told : header_of (title (version_told parts)) parts ≡ Ok (h, rest) =
-    ap (λ (u : Version). header_of (title u) parts) (sym is) ∙ head in
-    rw told (ap (λ (u : Version). lines_from grammar first_line (nothing_told u h) rest >>= report_told) (sym is))
+abbrev told_by : Result SoFar ReportFault → Result ReportValue ReportFault
+told_by read = read >>= report_told
 
--- a text of a version whose header was read, and the parts of the text
-pub after_header : (bytes rest word : List ℕ) (v : Version) (h : Header) → v ≡ version_told (cut_at 10 bytes) → word ≡ title v
-    → header_of word (cut_at 10 bytes) ≡ Ok (h, cut_at 10 rest)
-    → (reading bytes ≡ (AllOf rest (nothing_told v h) >>= report_told))
-    × (cut_at 10 bytes ≡ header_lines (title v) h ++ cut_at 10 rest)
-after_header bytes rest word v h version_is word_is header_is =
-    let head : header_of (title v) (cut_at 10 bytes) ≡ Ok (h, cut_at 10 rest) =
-    ap (λ (w : List ℕ). header_of w (cut_at 10 bytes)) (sym word_is) ∙ header_is in
-    let begins = header_ok (title v) (cut_at 10 bytes) (h, cut_at 10 rest) head in
-    (in_version (cut_at 10 bytes) (cut_at 10 rest) v h version_is head, begins.0)
+module _ (bytes : List ℕ) (v : Version) (version_is : v ≡ version_told (cut_at 10 bytes)) where
+  in_version : reading bytes ≡ told_by (text_from (text v) (cut_at 10 bytes))
+  in_version = ap (λ (u : Version). told_by (text_from (text u) (cut_at 10 bytes))) (sym version_is)
 
-still_good : (line : ℕ) (read : Result SoFar ReportFault) → IsFaultlessTo line_number line read
-    → IsFaultlessTo line_number line (read >>= report_told)
-still_good line (Ok s) good = tt
-still_good line (Err e) good = good
+  -- a text whose header has a fault
+  pub header_fault : (e : HeaderFault) → header_of (title v) (cut_at 10 bytes) ≡ Err e → reading bytes ≡ Err (in_report e)
+  header_fault e is = in_version ∙ ap told_by (text_refused (text v) (cut_at 10 bytes) e is)
 
--- where memory ran out after the header
-pub runs_out_after_header : (bytes rest word : List ℕ) (v : Version) (h : Header) → v ≡ version_told (cut_at 10 bytes)
-    → word ≡ title v → header_of word (cut_at 10 bytes) ≡ Ok (h, cut_at 10 rest)
-    → RunsOut 1 (cut_at 10 bytes) (reading bytes) (fault last_of_header wrong.Memory)
-runs_out_after_header bytes rest word v h version_is word_is header_is =
-    let after = after_header bytes rest word v h version_is word_is header_is in
-    let good = faultless_from grammar line_number (λ n c. refl) last_of_header first_line (nothing_told v h) (cut_at 10 rest)
-    (omega arith) in
-    let long : length (cut_at 10 bytes) ≡ length (header_lines (title v) h ++ cut_at 10 rest) = ap length after.1 in
-    let here : get_or (cut_at 10 bytes) 3 [] ≡ number_line (codes "quota") h.quota =
-    ap (λ (ps : List (List ℕ)). get_or ps 3 []) after.1 in
-    record {
-      cause = refl;
-      after_header = omega arith;
-      index = 3;
-      line_is = refl;
-      whole = omega (arith, long, some_part 10 rest);
-      asks = λ is_end. (let same = sym here ∙ is_end in cc);
-      good = subst (IsFaultlessTo line_number last_of_header) (sym after.0)
-          (still_good last_of_header (AllOf rest (nothing_told v h)) good);
-    }
+  still_good : (line : ℕ) (read : Result SoFar ReportFault) → IsFaultlessTo line_number line read
+      → IsFaultlessTo line_number line (told_by read)
+  still_good line (Ok s) good = tt
+  still_good line (Err e) good = good
 
--- the lines after a header that was read
-pub report_is : (bytes rest word : List ℕ) (v : Version) (h : Header) (s : Reader) → v ≡ version_told (cut_at 10 bytes)
-    → word ≡ title v → header_of word (cut_at 10 bytes) ≡ Ok (h, cut_at 10 rest)
-    → s.section ≡ section.Opening → so_far s ≡ no_lines v h
-    → (reading bytes ≡ (AllOf rest (state s) >>= report_told)) × (cut_at 10 bytes ≡ header_lines (title v) h ++ cut_at 10 rest)
-report_is bytes rest word v h s version_is word_is header_is section_is so_far_is =
-    let after = after_header bytes rest word v h version_is word_is header_is in
-    let start : state s ≡ nothing_told v h = rw (section_is, so_far_is) refl in
-    (after.0 ∙ ap (λ (t : SoFar). AllOf rest t >>= report_told) (sym start), after.1)
+  -- where memory ran out
+  runs_out : (index : ℕ) → last_of_header ≤ 1 + index
+      → IsGoodLine line_number 1 (cut_at 10 bytes) (text_from (text v) (cut_at 10 bytes)) (1 + index)
+      → get_or (cut_at 10 bytes) index [] ≢ last_line → RunsOut 1 (cut_at 10 bytes) (reading bytes) (fault (1 + index) wrong.Memory)
+  runs_out index low good asks = record {
+    cause = refl;
+    after_header = low;
+    index = index;
+    line_is = refl;
+    whole = omega (arith, good.1);
+    asks = asks;
+    good = subst (IsFaultlessTo line_number (1 + index)) (sym in_version)
+        (still_good (1 + index) (text_from (text v) (cut_at 10 bytes)) good.2);
+  }
 
--- what reading the lines after the header gives, as what reading the whole text gives
-pub whole_text : (bytes rest : List ℕ) (v : Version) (h : Header) (e : ReportFault) (read : Result SoFar ReportFault)
-    → reading bytes ≡ (read >>= report_told) → cut_at 10 bytes ≡ header_lines (title v) h ++ cut_at 10 rest
-    → (read ≡ Err e) ⊎ RunsOut first_line (cut_at 10 rest) read e
-    → (reading bytes ≡ Err e) ⊎ RunsOut 1 (cut_at 10 bytes) (reading bytes) e
-whole_text bytes rest v h e read read_is parts_are (inl bad) =
-    inl (read_is ∙ ap (λ (r : Result SoFar ReportFault). r >>= report_told) bad)
-whole_text bytes rest v h e read read_is parts_are (inr out) =
-    let long : length (cut_at 10 bytes) ≡ length (header_lines (title v) h ++ cut_at 10 rest) = ap length parts_are in
-    let here : get_or (cut_at 10 bytes) (last_of_header + out.index) [] ≡ get_or (cut_at 10 rest) out.index [] =
-    ap (λ (ps : List (List ℕ)). get_or ps (last_of_header + out.index) []) parts_are
-    ∙ get_or-append-add (header_lines (title v) h) (cut_at 10 rest) out.index [] in
-    inr
-    (record {
-      cause = out.cause;
-      after_header = out.after_header;
-      index = last_of_header + out.index;
-      line_is = omega (arith, out.line_is);
-      whole = omega (arith, long, out.whole);
-      asks = λ is_end. out.asks (sym here ∙ is_end);
-      good = subst (IsFaultlessTo line_number e.line) (sym read_is) (still_good e.line read out.good);
-    })
+  module _ (rest : List ℕ) (h : Header) (head : header_of (title v) (cut_at 10 bytes) ≡ Ok (h, cut_at 10 rest)) where
+    parts_are : cut_at 10 bytes ≡ header_lines (title v) h ++ cut_at 10 rest
+    parts_are = (header_ok (title v) (cut_at 10 bytes) (h, cut_at 10 rest) head).0
+
+    pub runs_out_after_header : RunsOut 1 (cut_at 10 bytes) (reading bytes) (fault last_of_header wrong.Memory)
+    runs_out_after_header =
+        let here : get_or (cut_at 10 bytes) 3 [] ≡ number_line (codes "quota") h.quota =
+        ap (λ (ps : List (List ℕ)). get_or ps 3 []) parts_are in
+        runs_out 3 (omega arith) (header_good (text v) line_number (λ n c. refl) bytes rest h head)
+        (λ is_end. (let same = sym here ∙ is_end in cc))
+
+    -- the lines after a header that was read
+    pub report_is : (s : Reader) → s.section ≡ section.Opening → so_far s ≡ no_lines v h
+        → reading bytes ≡ told_by (AllOf rest (state s))
+    report_is s section_is so_far_is =
+        let start : state s ≡ nothing_told v h = rw (section_is, so_far_is) refl in
+        in_version ∙ ap told_by (text_after (text v) (cut_at 10 bytes) (cut_at 10 rest) h head)
+        ∙ ap (λ (t : SoFar). told_by (AllOf rest t)) (sym start)
+
+    pub whole_text : (s : Reader) (e : ReportFault) → s.section ≡ section.Opening → so_far s ≡ no_lines v h
+        → (AllOf rest (state s) ≡ Err e) ⊎ IsFull (cut_at 10 rest) (AllOf rest (state s)) e
+        → (reading bytes ≡ Err e) ⊎ RunsOut 1 (cut_at 10 bytes) (reading bytes) e
+    whole_text s e section_is so_far_is (inl bad) = inl (report_is s section_is so_far_is ∙ ap told_by bad)
+    whole_text s e section_is so_far_is (inr full) =
+        let start : state s ≡ nothing_told v h = rw (section_is, so_far_is) refl in
+        let here : get_or (cut_at 10 bytes) (last_of_header + full.0) [] ≡ get_or (cut_at 10 rest) full.0 [] =
+        ap (λ (ps : List (List ℕ)). get_or ps (last_of_header + full.0) []) parts_are
+        ∙ get_or-append-add (header_lines (title v) h) (cut_at 10 rest) full.0 [] in
+        let good = good_in_text (text v) line_number bytes rest h (first_line + full.0) head
+        (subst (λ (t : SoFar). IsGoodLine line_number first_line (cut_at 10 rest) (AllOf rest t) (first_line + full.0)) start full.2) in
+        let number : first_line + full.0 ≡ 1 + (last_of_header + full.0) = omega arith in
+        let out = runs_out (last_of_header + full.0) (omega arith)
+        (subst (IsGoodLine line_number 1 (cut_at 10 bytes) (text_from (text v) (cut_at 10 bytes))) number good)
+        (λ is_end. full.3 (sym here ∙ is_end)) in
+        inr (subst (RunsOut 1 (cut_at 10 bytes) (reading bytes)) (ap (λ n. fault n wrong.Memory) (sym number) ∙ sym full.1) out)

@@ -1,58 +1,56 @@
--- What is read is the text of a report.
-use Rattle.std.proofs.Common.{◌≡◌, ℕ, ◌+◌, ◌<◌, ◌≤◌, ◌^◌, Bool, true, false, cond, List, [], ◌∷◌}
-use Rattle.std.proofs.Common.{◌++◌, map, length, Option, Some, None, Result, Ok, Err, refl, sym, ap, subst, ◌∙◌, arith}
-use Rattle.std.proofs.Common.{append_assoc, length-append}
-use Rattle.std.specs.Prelude.{IfOk}
+-- The two laws: what is read is the text of the report, and the text of a report is read.
+use Rattle.std.proofs.Common.{◌≡◌, ℕ, ◌+◌, ◌<◌, ◌≤◌, ◌^◌, inl, inr, true, false, cond, List, [], ◌∷◌, ◌++◌, map, length}
+use Rattle.std.proofs.Common.{Option, Some, None, Result, Ok, Err, refl, sym, ap, subst, ◌∙◌, arith, append_assoc, length-append}
+use Rattle.std.specs.Prelude.{IfOk, MatchResult}
 use Rattle.std.specs.List.{AllByRecursion}
+use Rattle.std.specs.List.Sorted.{IsStrictlyIncreasing}
+use Rattle.std.proofs.lemmas.Option.{IfSome_then}
 use Rattle.std.proofs.lemmas.Grind.{flat_map-append}
 use Rattle.std.proofs.lemmas.List.{append-nil, map_push}
-use Rattle.std.proofs.lemmas.List.Elements.{All-append, All-cons, All-nil}
+use Rattle.std.proofs.lemmas.List.Elements.{All-append, All-cons, All-nil, recursion_from_All}
 use Rattle.lset_words.specs.declared.Reply.{Reply}
 use Rattle.lset_words.specs.declared.history.CallRecord.{CallRecord}
 use Rattle.lset_words.specs.declared.history.Placed.{Placed}
 use Rattle.lset_words.specs.declared.TheConstants.{MOST_OPENING}
-use Rattle.lset_words.specs.History.{IsHistory}
+use Rattle.lset_words.specs.History.{MayFollow, ContinuesHistory, IsHistory}
 use Rattle.lset_words.specs.Words.{Opening, Opens}
 use Rattle.lset_text.specs.declared.headers.Header.{Header}
 use Rattle.lset_text.specs.declared.words.Version.{Version}
 use Rattle.lset_text.specs.declared.words.Version.TheVariants.{One, Two}
 use Rattle.lset_text.specs.Parts.{cut_at, ended, text_of, Lacks}
-use Rattle.lset_text.specs.Results.{◌>>=◌, map_fault}
-use Rattle.lset_text.specs.Headers.{IsHeader, header_lines, header_of}
-use Rattle.lset_text.specs.Kinds.{line_in}
-use Rattle.lset_text.specs.Lines.{lines_from}
+use Rattle.lset_text.specs.Headers.{IsHeader, header_lines}
+use Rattle.lset_text.specs.Kinds.{line_in, made}
+use Rattle.lset_text.specs.Lines.{Leads}
 use Rattle.lset_text.specs.Openings.{opening_line, opening_lines, HasOpening, is_above}
+use Rattle.lset_text.specs.Results.{◌>>=◌}
 use Rattle.lset_text.specs.Spellings.{HasCall, HasReply}
-use Rattle.lset_text.proofs.PartLaws.{text_from_lines}
-use Rattle.lset_text.proofs.ReadingLaws.{bind_ok, map_fault_ok, ok_is}
-use Rattle.lset_text.proofs.HeaderLaws.{header_ok}
-use Rattle.lset_text.proofs.OpeningLaws.{rises_more}
-use Rattle.lset_text.proofs.KindLaws.{made_ok}
-use Rattle.lset_text.proofs.LineLaws.{lines_hold}
+use Rattle.lset_text.specs.Texts.{text_from}
+use Rattle.lset_text.proofs.PartLaws.{Lacks-from_test}
+use Rattle.lset_text.proofs.ReadingLaws.{bind_ok, ok_is}
+use Rattle.lset_text.proofs.OpeningLaws.{rises_more, above_before}
+use Rattle.lset_text.proofs.KindLaws.{made_ok, line_found, line_found_lacks, line_made}
+use Rattle.lset_text.proofs.LineLaws.{leads_on, items_lead}
+use Rattle.lset_text.proofs.TextLaws.{all_both, text_found, text_again, version_again}
 use Rattle.lset_report.specs.declared.reading.lines.Line.{Line}
 use Rattle.lset_report.specs.declared.reading.lines.Line.TheVariants as told
 use Rattle.lset_report.specs.declared.reading.lines.Section.{Section}
 use Rattle.lset_report.specs.declared.reading.lines.Section.TheVariants as section
 use Rattle.lset_report.specs.declared.report.Report.{Report}
 use Rattle.lset_report.specs.declared.report.TheConstants.{MOST_CALLS, MOST_PLACES}
+use Rattle.lset_report.specs.declared.report_fault.ReportCause.{ReportCause}
 use Rattle.lset_report.specs.declared.report_fault.ReportCause.TheVariants as wrong
 use Rattle.lset_report.specs.declared.report_fault.ReportFault.{ReportFault}
 use Rattle.lset_report.specs.Report.{ReportValue, view}
 use Rattle.lset_report.specs.Texts.{title, header_in, call_line, call_lines, place_line, key_line, last_line}
 use Rattle.lset_report.specs.Texts.{report_lines, report_text, HasEnd, HasWordsIn, HasWordsOfVersion}
-use Rattle.lset_report.specs.ReportReading.{IsEnd, IsCall, IsPlace, IsReport, most_keys, causes, kinds, in_report, line_after, section_after}
-use Rattle.lset_report.specs.ReportReading.{with_key_opened, with_line, SoFar, with_told, step, ends, is_done, grammar, first_line}
-use Rattle.lset_report.specs.ReportReading.{no_lines, nothing_told, version_told, report_of, reading, Gives}
-use Rattle.lset_report.proofs.ReportHistories.{history_more}
-use Rattle.lset_report.proofs.ReportLines.{line_text, IsEndLine, IsLine, Reaches, IsNext, line_ok, line_free}
-use Rattle.lset_report.proofs.ReportLoops.{IsGood, line_read, report_told}
-
--- ---- lists
-
-pub all_join : {X : Type 0} (P : X → Type 0) (xs ys : List X) → AllByRecursion P xs → AllByRecursion P ys
-    → AllByRecursion P (xs ++ ys)
-all_join P [] ys h k = k
-all_join P (x ∷ xs) ys h k = (h.0, all_join P xs ys h.1 k)
+use Rattle.lset_report.specs.ReportReading.{IsEnd, IsCall, IsPlace, IsReport, most_keys, causes, kinds, judged, line_after}
+use Rattle.lset_report.specs.ReportReading.{section_after, with_key_opened, with_line, SoFar, with_told, step, ends, is_done, grammar}
+use Rattle.lset_report.specs.ReportReading.{no_lines, nothing_told, text, version_told, report_of, reading, Gives}
+use Rattle.lset_report.proofs.ReportHistories.{history_more, may_again}
+use Rattle.lset_report.proofs.ReportLines.{pieces_of, line_text, IsLine, Reaches, IsNext, kinds_known, IsTold, later, reached}
+use Rattle.lset_report.proofs.ReportLines.{opening_told, call_told_so, place_told, key_told, end_told_so, call_comes, place_comes}
+use Rattle.lset_report.proofs.ReportLines.{key_comes}
+use Rattle.lset_report.proofs.ReportLoops.{kept_if, IsGood, judged_good, line_read, report_told}
 
 calls_pushed : (n : ℕ) (xs : List CallRecord) (x : CallRecord)
     → call_lines n (xs ++ x ∷ []) ≡ call_lines n xs ++ call_line (n + length xs) x ∷ []
@@ -64,66 +62,55 @@ calls_pushed n (y ∷ ys) x =
 
 -- ---- the lines of the report so far
 
-abbrev so_far : ReportValue → List (List ℕ)
-so_far r = header_lines (title r.version) (header_in r) ++ opening_lines r.history.opening.keys
-    ++ call_lines 0 r.history.calls ++ map place_line r.order ++ map key_line r.keys
+abbrev header : ReportValue → List (List ℕ)
+header r = header_lines (title r.version) (header_in r)
+
+abbrev to_calls : ReportValue → List (List ℕ)
+to_calls r = header r ++ opening_lines r.history.opening.keys
+
+abbrev to_order : ReportValue → List (List ℕ)
+to_order r = to_calls r ++ call_lines 0 r.history.calls
+
+abbrev to_keys : ReportValue → List (List ℕ)
+to_keys r = to_order r ++ map place_line r.order
+
+abbrev to_end : ReportValue → List (List ℕ)
+to_end r = to_keys r ++ map key_line r.keys
 
 abbrev lines_at : SoFar → List (List ℕ)
-lines_at s = cond (is_done s.section) (so_far s.report ++ last_line ∷ []) (so_far s.report)
+lines_at s = cond (is_done s.section) (to_end s.report ++ last_line ∷ []) (to_end s.report)
 
--- where nothing stands behind some lines, one more stands behind them
-behind_one : (f o k : List (List ℕ)) (y : List ℕ) → k ≡ [] → f ++ (o ++ y ∷ []) ++ k ≡ f ++ o ++ k ++ y ∷ []
-behind_one f o k y no_k = rw no_k (simp (append-nil, append_assoc))
+-- where nothing stands behind the lines of a section, one more stands behind them
+one_opening : (f : List (List ℕ)) (os ks : List ℕ) (cs : List CallRecord) (ps : List Placed) (k : ℕ) → cs ≡ [] → ps ≡ [] → ks ≡ []
+    → f ++ opening_lines (os ++ k ∷ []) ++ call_lines 0 cs ++ map place_line ps ++ map key_line ks
+    ≡ f ++ opening_lines os ++ call_lines 0 cs ++ map place_line ps ++ map key_line ks ++ opening_line k ∷ []
+one_opening f os ks cs ps k c p n = rw (c, p, n, map_push opening_line os k) (simp (append-nil, append_assoc))
 
-behind_two : (f o p k : List (List ℕ)) (y : List ℕ) → p ≡ [] → k ≡ [] → f ++ (o ++ y ∷ []) ++ p ++ k ≡ f ++ o ++ p ++ k ++ y ∷ []
-behind_two f o p k y no_p no_k = rw (no_p, no_k) (simp (append-nil, append_assoc))
+one_call : (f : List (List ℕ)) (cs : List CallRecord) (ps : List Placed) (ks : List ℕ) (x : CallRecord) → ps ≡ [] → ks ≡ []
+    → f ++ call_lines 0 (cs ++ x ∷ []) ++ map place_line ps ++ map key_line ks
+    ≡ f ++ call_lines 0 cs ++ map place_line ps ++ map key_line ks ++ call_line (0 + length cs) x ∷ []
+one_call f cs ps ks x p n = rw (p, n, calls_pushed 0 cs x) (simp (append-nil, append_assoc))
 
-behind_three : (f o c p k : List (List ℕ)) (y : List ℕ) → c ≡ [] → p ≡ [] → k ≡ []
-    → f ++ (o ++ y ∷ []) ++ c ++ p ++ k ≡ f ++ o ++ c ++ p ++ k ++ y ∷ []
-behind_three f o c p k y no_c no_p no_k = rw (no_c, no_p, no_k) (simp (append-nil, append_assoc))
+one_place : (f : List (List ℕ)) (ps : List Placed) (ks : List ℕ) (p : Placed) → ks ≡ []
+    → f ++ map place_line (ps ++ p ∷ []) ++ map key_line ks ≡ f ++ map place_line ps ++ map key_line ks ++ place_line p ∷ []
+one_place f ps ks p n = rw (n, map_push place_line ps p) (simp (append-nil, append_assoc))
+
+one_key : (f : List (List ℕ)) (ks : List ℕ) (k : ℕ) → f ++ map key_line (ks ++ k ∷ []) ≡ f ++ map key_line ks ++ key_line k ∷ []
+one_key f ks k = rw (map_push key_line ks k) (simp append_assoc)
 
 -- ONE MORE LINE stands after those so far
 more_lines : (r : ReportValue) (l : Line) → Reaches (section_after l) r → IsGood r l
-    → lines_at (record { section = section_after l; report = with_line r l }) ≡ so_far r ++ line_text l ∷ []
+    → lines_at (record { section = section_after l; report = with_line r l }) ≡ to_end r ++ line_text l ∷ []
 more_lines r (told.Opening k) next good =
-    let front = header_lines (title r.version) (header_in r) in
-    let keys = r.history.opening.keys in
-    let calls = call_lines 0 r.history.calls in
-    let order = map place_line r.order in
-    let left = map key_line r.keys in
-    ap (λ (ls : List (List ℕ)). front ++ ls ++ calls ++ order ++ left) (map_push opening_line keys k)
-    ∙ behind_three front (opening_lines keys) calls order left (opening_line k) (ap (call_lines 0) next.0)
-    (ap (map place_line) next.1) (ap (map key_line) next.2)
+    one_opening (header r) r.history.opening.keys r.keys r.history.calls r.order k next.0 next.1 next.2
 more_lines r (told.Call n x) next good =
-    let front = header_lines (title r.version) (header_in r) ++ opening_lines r.history.opening.keys in
-    let calls = r.history.calls in
-    let order = map place_line r.order in
-    let left = map key_line r.keys in
-    let number : 0 + length calls ≡ n = omega (arith, good.1) in
-    ap (λ (ls : List (List ℕ)). front ++ ls ++ order ++ left) (calls_pushed 0 calls x
-    ∙ ap (λ m. call_lines 0 calls ++ call_line m x ∷ []) number)
-    ∙ behind_two front (call_lines 0 calls) order left (call_line n x) (ap (map place_line) next.0) (ap (map key_line) next.1)
-more_lines r (told.Place p) next good =
-    let front = header_lines (title r.version) (header_in r) ++ opening_lines r.history.opening.keys
-    ++ call_lines 0 r.history.calls in
-    let left = map key_line r.keys in
-    ap (λ (ls : List (List ℕ)). front ++ ls ++ left) (map_push place_line r.order p)
-    ∙ behind_one front (map place_line r.order) left (place_line p) (ap (map key_line) next)
-more_lines r (told.Key k) next good =
-    let front = header_lines (title r.version) (header_in r) ++ opening_lines r.history.opening.keys
-    ++ call_lines 0 r.history.calls ++ map place_line r.order in
-    ap (λ (ls : List (List ℕ)). front ++ ls) (map_push key_line r.keys k)
-    ∙ sym (append_assoc front (map key_line r.keys) (key_line k ∷ []))
+    let number : 0 + length r.history.calls ≡ n = omega (arith, good.1) in
+    one_call (to_calls r) r.history.calls r.order r.keys x next.0 next.1 ∙ ap (λ m. to_end r ++ call_line m x ∷ []) number
+more_lines r (told.Place p) next good = one_place (to_order r) r.order r.keys p next
+more_lines r (told.Key k) next good = one_key (to_keys r) r.keys k
 more_lines r told.End next good = refl
 
 -- ---- and the report keeps its limits
-
-is_end : (v : Version) (o : Option (ℕ × Reply)) → IsEndLine v o → IsEnd v o
-is_end v None h = tt
-is_end v (Some e) h = (h.1, h.2)
-
-length-one : {X : Type 0} (xs : List X) (x : X) → length (xs ++ x ∷ []) ≡ length xs + 1
-length-one xs x = length-append xs (x ∷ [])
 
 opens_more : (o : Opening) (k : ℕ) → Opens o → k < 2 ^ 32 → length o.keys < MOST_OPENING → is_above o.keys k ≡ true
     → Opens (with_key_opened o k)
@@ -132,7 +119,7 @@ opens_more o k is low room above = record {
     some = is.within.some;
     few = is.within.few;
     small = is.within.small;
-    opens = let long = length-one o.keys k in omega (arith, long, room);
+    opens = omega (arith, length-append o.keys (k ∷ []), room);
   };
   rising = rises_more o.keys k is.rising above;
   low = let P : ℕ → Type 0 = λ j. j < 2 ^ 32 in All-append P o.keys (k ∷ []) is.low (All-cons P k [] low (All-nil P));
@@ -161,22 +148,21 @@ report_more r (told.Opening k) is line good =
     is_report (with_line r (told.Opening k)) (opens_more r.history.opening k is.opens line.0 good.0 good.1) has is.history
     (is.calls, is.few_calls) (is.places, is.few_places) (is.keys, is.few_keys)
 report_more r (told.Call n x) is line good =
-    let calls = all_join (IsCall r.version) r.history.calls (x ∷ []) is.calls
-    ((line.4, line.2, is_end r.version x.ended line.5, line.6), tt) in
+    let calls = all_both (IsCall r.version) r.history.calls (x ∷ []) is.calls (line.4, tt) in
     is_report (with_line r (told.Call n x)) is.opens is.opening
     (history_more r.history.opening.threads r.history.calls x is.history good.2)
-    (calls, omega (arith, length-one r.history.calls x, good.0)) (is.places, is.few_places) (is.keys, is.few_keys)
+    (calls, omega (arith, length-append r.history.calls (x ∷ []), good.0)) (is.places, is.few_places) (is.keys, is.few_keys)
 report_more r (told.Place p) is line good =
-    let places = all_join (IsPlace r.version) r.order (p ∷ []) is.places (line, tt) in
+    let places = all_both (IsPlace r.version) r.order (p ∷ []) is.places (line, tt) in
     is_report (with_line r (told.Place p)) is.opens is.opening is.history (is.calls, is.few_calls)
-    (places, omega (arith, length-one r.order p, good)) (is.keys, is.few_keys)
+    (places, omega (arith, length-append r.order (p ∷ []), good)) (is.keys, is.few_keys)
 report_more r (told.Key k) is line good =
-    let keys = all_join (λ j. j < 2 ^ 32) r.keys (k ∷ []) is.keys (line, tt) in
+    let keys = all_both (λ j. j < 2 ^ 32) r.keys (k ∷ []) is.keys (line, tt) in
     is_report (with_line r (told.Key k)) is.opens is.opening is.history (is.calls, is.few_calls) (is.places, is.few_places)
-    (keys, omega (arith, length-one r.keys k, good))
+    (keys, omega (arith, length-append r.keys (k ∷ []), good))
 report_more r told.End is line good = is
 
-pub reaches_more : (r : ReportValue) (l : Line) → Reaches (section_after l) r → Reaches (section_after l) (with_line r l)
+reaches_more : (r : ReportValue) (l : Line) → Reaches (section_after l) r → Reaches (section_after l) (with_line r l)
 reaches_more r (told.Opening k) next = next
 reaches_more r (told.Call n x) next = next
 reaches_more r (told.Place p) next = next
@@ -185,17 +171,6 @@ reaches_more r told.End next = tt
 
 -- ---- one line
 
--- what a line that is taken tells
-pub record IsTaken (s t : SoFar) (x : List ℕ) : Type 0 where
-  pub line : Line
-  pub text : x ≡ line_text line
-  pub next : IsNext s.report.version s.report line
-  pub good : IsGood s.report line
-  pub after : with_told s line ≡ t
-  pub free : Lacks 10 x
-  -- no line comes after the line `end`
-  pub undone : is_done s.section ≡ false
-
 may_come : (v : Version) (s : Section) (x : List ℕ) (l : Line) → line_in v causes (kinds v s) x ≡ Ok l → is_done s ≡ false
 may_come v section.Opening x l is = refl
 may_come v section.Calls x l is = refl
@@ -203,43 +178,29 @@ may_come v section.Order x l is = refl
 may_come v section.Keys x l is = refl
 may_come v section.Done x l is = absurd cc
 
-pub taken : (s t : SoFar) (x : List ℕ) → Reaches s.section s.report → step s x ≡ Ok t → IsTaken s t x
-taken s t x reached is =
-    let v = s.report.version in
-    let l = made_ok (with_told s) (line_after s.section s.report x) t is in
-    let read = line_read s.section s.report x l.0 l.1 in
-    let found = line_ok v s.section s.report x l.0 reached read.0 in
-    record {
-      line = l.0;
-      text = found.0;
-      next = found.1;
-      good = read.1;
-      after = l.2;
-      free = line_free v s.section s.report x l.0 reached read.0;
-      undone = may_come v s.section x l.0 read.0;
-    }
+abbrev IsSoFar : SoFar → Type 0
+IsSoFar s = IsReport s.report × Reaches s.section s.report
 
--- ---- what is read is the text of a report
-
-abbrev Holds : SoFar → Type 0
-Holds s = IsReport s.report × Reaches s.section s.report
-
-one_line : (s t : SoFar) (x : List ℕ) → Holds s → step s x ≡ Ok t → Holds t × (lines_at t ≡ lines_at s ++ x ∷ [])
+-- a line that is taken stands after those above
+one_line : (s t : SoFar) (x : List ℕ) → IsSoFar s → step s x ≡ Ok t
+    → IsSoFar t × (lines_at t ≡ lines_at s ++ x ∷ []) × Lacks 10 x
 one_line s t x holds is =
-    let told = taken s t x holds.1 is in
-    let so_far_is : so_far s.report ≡ lines_at s = rw told.undone refl in
-    let lines = more_lines s.report told.line told.next.1 told.good
-    ∙ ap (λ (ls : List (List ℕ)). ls ++ line_text told.line ∷ []) so_far_is
-    ∙ ap (λ (y : List ℕ). lines_at s ++ y ∷ []) (sym told.text) in
-    subst (λ (u : SoFar). Holds u × (lines_at u ≡ lines_at s ++ x ∷ [])) told.after
-    ((report_more s.report told.line holds.0 told.next.0 told.good, reaches_more s.report told.line told.next.1), lines)
-
-test_ok : {A E : Type 0} (b : Bool) (d : E) (x y : A) → cond b (Ok x) (Err d) ≡ Ok y → (b ≡ true) × (x ≡ y)
-test_ok true d x y e = (refl, ok_is x y e)
-test_ok false d x y e = absurd cc
+    let r = s.report in
+    let l = made_ok (with_told s) (line_after s.section r x) t is in
+    let read = line_read s.section r x l.0 l.1 in
+    let known = kinds_known r.version s.section r holds.1 in
+    let found = line_found r.version causes pieces_of (IsNext r.version r) (kinds r.version s.section) x l.0 known read.0 in
+    let before : to_end r ≡ lines_at s = rw (may_come r.version s.section x l.0 read.0) refl in
+    let lines = more_lines r l.0 found.1.1 read.1 ∙ ap (λ (ls : List (List ℕ)). ls ++ line_text l.0 ∷ []) before
+    ∙ ap (λ (y : List ℕ). lines_at s ++ y ∷ []) (sym found.0) in
+    subst (λ (u : SoFar). IsSoFar u × (lines_at u ≡ lines_at s ++ x ∷ []) × Lacks 10 x) l.2 (
+      (report_more r l.0 holds.0 found.1.0 read.1, reaches_more r l.0 found.1.1),
+      lines,
+      line_found_lacks r.version causes pieces_of (IsNext r.version r) (kinds r.version s.section) x l.0 known read.0,
+    )
 
 same_end : (s t : SoFar) → ends s ≡ Ok t → s ≡ t
-same_end s t is = (test_ok (is_done s.section) wrong.NotEnded s t is).1
+same_end s t is = (kept_if (is_done s.section) wrong.NotEnded s t is).1
 
 opens_empty : (v : Version) → HasOpening v []
 opens_empty One = refl
@@ -258,33 +219,182 @@ empty_report v h is = record {
   few_keys = omega arith;
 }
 
-abbrev IsFound : List (List ℕ) → ReportValue → Type 0
-IsFound parts r = (parts ≡ report_lines r ++ [] ∷ []) × IsReport r
+starts : (v : Version) (h : Header) → IsHeader h
+    → IsSoFar (nothing_told v h) × (lines_at (nothing_told v h) ≡ header_lines (title v) h)
+starts v h is = ((empty_report v h is, (refl, refl, refl)), refl)
 
-after_header : (v : Version) (h : Header) (t : SoFar) (parts : List (List ℕ)) → 0 < length parts → IsHeader h
-    → lines_from grammar first_line (nothing_told v h) parts ≡ Ok t → IsFound (header_lines (title v) h ++ parts) t.report
-after_header v h t parts some is e =
-    let found = lines_hold grammar Holds lines_at one_line same_end first_line (nothing_told v h) t parts some
-    (empty_report v h is, (refl, refl, refl)) e in
-    let done = (test_ok (is_done t.section) wrong.NotEnded t t found.1).0 in
-    (found.0 ∙ rw done refl, found.2.0)
-
-report_ok : (parts : List (List ℕ)) (r : ReportValue) → report_of parts ≡ Ok r → IsFound parts r
-unfolding report_of
-report_ok parts r is =
-    let v = version_told parts in
-    let head = bind_ok (map_fault in_report (header_of (title v) parts))
-    (λ head. lines_from grammar first_line (nothing_told v head.0) head.1 >>= report_told) r is in
-    let header = header_ok (title v) parts head.0 (map_fault_ok in_report (header_of (title v) parts) head.0 head.1) in
-    let last = bind_ok (lines_from grammar first_line (nothing_told v head.0.0) head.0.1) report_told r head.2 in
-    let found = after_header v head.0.0 last.0 head.0.1 header.2 header.1 last.1 in
-    subst (λ (ps : List (List ℕ)). IsFound ps r) (sym header.0)
-    (subst (IsFound (header_lines (title v) head.0.0 ++ head.0.1)) (ok_is last.0.report r last.2) found)
-
+-- WHAT IS READ is the text of a report
 pub is_found : (bytes : List ℕ) (r : ReportValue) → reading bytes ≡ Ok r → IsReport r × (bytes ≡ report_text r)
 is_found bytes r is =
-    let found = report_ok (cut_at 10 bytes) r is in
-    (found.1, text_from_lines bytes (report_lines r) found.0)
+    let v = version_told (cut_at 10 bytes) in
+    let last = bind_ok (text_from (text v) (cut_at 10 bytes)) report_told r is in
+    let found = text_found (text v) IsSoFar lines_at (starts v) (λ s t x h e. let m = one_line s t x h e in (m.0, m.1)) same_end
+    bytes last.0 last.1 in
+    let done = (kept_if (is_done last.0.section) wrong.NotEnded last.0 last.0 found.1).0 in
+    subst (λ (q : ReportValue). IsReport q × (bytes ≡ report_text q)) (ok_is last.0.report r last.2)
+    (found.2.0, found.0 ∙ rw done refl)
+
+-- ---- a line is read again
+
+none_reached : (s : Section) (v : Version) (h : Header) → Reaches s (no_lines v h)
+none_reached section.Opening v h = (refl, refl, refl)
+none_reached section.Calls v h = (refl, refl)
+none_reached section.Order v h = refl
+none_reached section.Keys v h = tt
+none_reached section.Done v h = tt
+
+-- a good line of a kind that may come
+step_again : (s : SoFar) (l : Line) → IsTold s.report.version (kinds s.report.version s.section) l → IsGood s.report l
+    → step s (line_text l) ≡ Ok (with_told s l)
+step_again s l is good =
+    let v = s.report.version in
+    let r = no_lines v (header_in s.report) in
+    let known = kinds_known v s.section r (none_reached s.section v (header_in s.report)) in
+    let read = line_made v causes pieces_of (IsNext v r) (kinds v s.section) l known is in
+    ap (λ (x : Result Line ReportCause). made (with_told s) (x >>= judged s.report)) read
+    ∙ ap (made (with_told s)) (judged_good s.report l good)
+
+-- ---- an item of a list
+
+at_seam : {X : Type 0} (P : X → Type 0) (front more : List X) (x : X) → AllByRecursion P (front ++ x ∷ more) → P x
+at_seam P [] more x all = all.0
+at_seam P (y ∷ ys) more x all = at_seam P ys more x all.1
+
+middle : {X : Type 0} (P : X → Type 0) (front more xs : List X) (x : X) → front ++ x ∷ more ≡ xs → AllByRecursion P xs → P x
+middle P front more xs x is all = at_seam P front more x (subst (AllByRecursion P) (sym is) all)
+
+shorter : {X : Type 0} (front more xs : List X) (x : X) → front ++ x ∷ more ≡ xs → length front < length xs
+shorter front more xs x is = let long = ap length is in omega (arith, long, length-append front (x ∷ more))
+
+follows : (threads : ℕ) (earlier front more : List CallRecord) (x : CallRecord)
+    → ContinuesHistory threads earlier (front ++ x ∷ more) → MayFollow threads (earlier ++ front) x
+follows threads earlier [] more x history =
+    subst (λ (ys : List CallRecord). MayFollow threads ys x) (sym (append-nil earlier)) history.0
+follows threads earlier (y ∷ ys) more x history =
+    subst (λ (zs : List CallRecord). MayFollow threads zs x) (append_assoc earlier (y ∷ []) ys)
+    (follows threads (earlier ++ y ∷ []) ys more x history.1)
+
+-- ---- the lines of each section lead on
+
+later_pushed : {X : Type 0} (xs : List X) (x : X) (s t : Section) → t ≡ later (xs ++ x ∷ []) s t
+later_pushed [] x s t = refl
+later_pushed (y ∷ ys) x s t = refl
+
+abbrev at : Version → Header → List ℕ → List CallRecord → List Placed → List ℕ → SoFar
+at v h os cs ps ks = record {
+  section = reached cs ps ks;
+  report = record {
+    version = v;
+    kind = h.kind;
+    history = record { opening = record { threads = h.threads; quota = h.quota; keys = os }; calls = cs };
+    order = ps;
+    keys = ks;
+  };
+}
+
+openings_lead : (v : Version) (h : Header) (os : List ℕ) → HasOpening v os → IsStrictlyIncreasing os → length os ≤ MOST_OPENING
+    → AllByRecursion (λ k. k < 2 ^ 32) os → Leads grammar (at v h [] [] [] []) (opening_lines os) (at v h os [] [] [])
+openings_lead One h os has rising long low =
+    subst (λ (ks : List ℕ). Leads grammar (at One h [] [] [] []) (opening_lines ks) (at One h ks [] [] [])) (sym has) refl
+openings_lead Two h os has rising long low =
+    items_lead grammar (λ (ks : List ℕ). at Two h ks [] [] []) (λ n ks. opening_lines ks) (λ n k. opening_line k) (λ n. refl)
+    (λ n k ks. refl) [] os (λ front more k is.
+    step_again (at Two h front [] [] []) (told.Opening k) (opening_told k (middle (λ n. n < 2 ^ 32) front more os k is low))
+    (omega (arith, shorter front more os k is, long), above_before front k more (subst IsStrictlyIncreasing (sym is) rising)))
+
+calls_lead : (v : Version) (h : Header) (os : List ℕ) (cs : List CallRecord) → h.threads ≤ 64 → length cs ≤ MOST_CALLS
+    → IsHistory h.threads cs → AllByRecursion (IsCall v) cs
+    → Leads grammar (at v h os [] [] []) (call_lines 0 cs) (at v h os cs [] [])
+calls_lead v h os cs few long history are =
+    items_lead grammar (λ (xs : List CallRecord). at v h os xs [] []) call_lines call_line (λ n. refl) (λ n x xs. refl) [] cs
+    (λ front more x is.
+    let low : length front < MOST_CALLS = omega (arith, shorter front more cs x is, long) in
+    let call = middle (IsCall v) front more cs x is are in
+    let may = follows h.threads [] front more x (subst (IsHistory h.threads) (sym is) history) in
+    let line : IsLine v (told.Call (length front) x) =
+    (omega (arith, low), omega (arith, may.of_a_thread, few), may.counted, IfSome_then x.ended may.ends_later (λ e after. omega (arith, after)), call) in
+    step_again (at v h os front [] []) (told.Call (length front) x) (call_comes v front (told.Call (length front) x) refl
+    (call_told_so v (length front) x.thread x.begun x.call x.ended line))
+    (low, refl, may_again h.threads front x may)
+    ∙ ap (λ (s : Section). Ok (record { section = s; report = (at v h os (front ++ x ∷ []) [] []).report }))
+    (later_pushed front x section.Opening section.Calls))
+
+places_lead : (v : Version) (h : Header) (os : List ℕ) (cs : List CallRecord) (ps : List Placed) → length ps ≤ MOST_PLACES
+    → AllByRecursion (IsPlace v) ps → Leads grammar (at v h os cs [] []) (map place_line ps) (at v h os cs ps [])
+places_lead v h os cs ps long are =
+    items_lead grammar (λ (xs : List Placed). at v h os cs xs []) (λ n xs. map place_line xs) (λ n p. place_line p) (λ n. refl)
+    (λ n p xs. refl) [] ps (λ front more p is.
+    step_again (at v h os cs front []) (told.Place p) (place_comes v cs front (told.Place p) (refl, refl, refl)
+    (place_told v p (middle (IsPlace v) front more ps p is are)))
+    (omega (arith, shorter front more ps p is, long))
+    ∙ ap (λ (s : Section). Ok (record { section = s; report = (at v h os cs (front ++ p ∷ []) []).report }))
+    (later_pushed front p (reached cs [] []) section.Order))
+
+keys_lead : (v : Version) (h : Header) (os : List ℕ) (cs : List CallRecord) (ps : List Placed) (ks : List ℕ)
+    → length ks ≤ most_keys v → AllByRecursion (λ k. k < 2 ^ 32) ks
+    → Leads grammar (at v h os cs ps []) (map key_line ks) (at v h os cs ps ks)
+keys_lead v h os cs ps ks long are =
+    items_lead grammar (λ (xs : List ℕ). at v h os cs ps xs) (λ n xs. map key_line xs) (λ n k. key_line k) (λ n. refl)
+    (λ n k xs. refl) [] ks (λ front more k is.
+    step_again (at v h os cs ps front) (told.Key k) (key_comes v cs ps front (told.Key k) (refl, refl, refl) refl
+    (key_told v k (middle (λ n. n < 2 ^ 32) front more ks k is are)))
+    (omega (arith, shorter front more ks k is, long))
+    ∙ ap (λ (s : Section). Ok (record { section = s; report = (at v h os cs ps (front ++ k ∷ [])).report }))
+    (later_pushed front k (reached cs ps []) section.Keys))
+
+-- ---- the whole
+
+header_is : (r : ReportValue) → Opens r.history.opening → IsHeader (header_in r)
+header_is r is = record { some = is.within.some; few = is.within.few; small = is.within.small; opens = omega arith }
+
+opening_keys : (r : ReportValue) → Opens r.history.opening → AllByRecursion (λ k. k < 2 ^ 32) r.history.opening.keys
+opening_keys r is = recursion_from_All (λ k. k < 2 ^ 32) r.history.opening.keys is.low
+
+-- the lines after the header
+abbrev body : ReportValue → List (List ℕ)
+body r = opening_lines r.history.opening.keys
+    ++ (call_lines 0 r.history.calls ++ (map place_line r.order ++ (map key_line r.keys ++ last_line ∷ [])))
+
+abbrev all_told : ReportValue → SoFar
+all_told r = record { section = section.Done; report = r }
+
+body_leads : (r : ReportValue) → IsReport r → Leads grammar (nothing_told r.version (header_in r)) (body r) (all_told r)
+body_leads r is =
+    let v = r.version in
+    let h = header_in r in
+    let os = r.history.opening.keys in
+    let cs = r.history.calls in
+    let ps = r.order in
+    let ks = r.keys in
+    let end = step_again (at v h os cs ps ks) told.End (key_comes v cs ps ks told.End (refl, refl, refl) refl (end_told_so v)) tt in
+    let keys = leads_on grammar (at v h os cs ps []) (at v h os cs ps ks) (all_told r) (map key_line ks) (last_line ∷ [])
+    (keys_lead v h os cs ps ks is.few_keys is.keys) (all_told r, end, refl) in
+    let places = leads_on grammar (at v h os cs [] []) (at v h os cs ps []) (all_told r) (map place_line ps)
+    (map key_line ks ++ last_line ∷ []) (places_lead v h os cs ps is.few_places is.places) keys in
+    let calls = leads_on grammar (at v h os [] [] []) (at v h os cs [] []) (all_told r) (call_lines 0 cs)
+    (map place_line ps ++ (map key_line ks ++ last_line ∷ []))
+    (calls_lead v h os cs is.opens.within.few is.few_calls is.history is.calls) places in
+    leads_on grammar (at v h [] [] [] []) (at v h os [] [] []) (all_told r) (opening_lines os)
+    (call_lines 0 cs ++ (map place_line ps ++ (map key_line ks ++ last_line ∷ [])))
+    (openings_lead v h os is.opening is.opens.rising is.opens.within.opens (opening_keys r is.opens)) calls
+
+title_lacks : (v : Version) → Lacks 10 (title v)
+title_lacks One = Lacks-from_test 10 (title One) refl
+title_lacks Two = Lacks-from_test 10 (title Two) refl
+
+-- THE TEXT OF A REPORT is read
+pub reads_text : (r : ReportValue) → IsReport r → reading (report_text r) ≡ Ok r
+reads_text r is =
+    let v = r.version in
+    let h = header_in r in
+    let head = header_is r is.opens in
+    let again = text_again (text v) IsSoFar (λ s t x holds e. let m = one_line s t x holds e in (m.0, m.2)) h (body r) (all_told r)
+    (title_lacks v) head (starts v h head).0 (body_leads r is) refl in
+    let parts : List (List ℕ) = header_lines (title v) h ++ (body r ++ [] ∷ []) in
+    let regrouped : report_lines r ≡ header_lines (title v) h ++ body r = simp append_assoc in
+    ap (λ (ls : List (List ℕ)). report_of (cut_at 10 (text_of ls))) regrouped ∙ ap report_of again.0
+    ∙ ap (λ (u : Version). text_from (text u) parts >>= report_told) (version_again text refl v h (body r ++ [] ∷ []))
+    ∙ ap (λ (x : Result SoFar ReportFault). x >>= report_told) again.1
 
 -- ---- as a reader's clauses
 
@@ -292,6 +402,12 @@ pub found_in : (bytes : List ℕ) (r : Result Report ReportFault) → Gives view
     → IfOk r (λ s. IsReport (view s) × (bytes ≡ report_text (view s)))
 found_in bytes (Ok s) gives = is_found bytes (view s) gives
 found_in bytes (Err e) gives = tt
+
+pub only_in : (bytes : List ℕ) (r : Result Report ReportFault) → Gives view r bytes → (q : ReportValue) → IsReport q
+    → bytes ≡ report_text q → MatchResult r (λ s. view s ≡ q) (λ e. e.cause ≡ wrong.Memory)
+only_in bytes (Ok s) gives q is text = ok_is (view s) q (sym gives ∙ ap reading text ∙ reads_text q is)
+only_in bytes (Err e) (inl bad) q is text = absurd (let read : reading bytes ≡ Ok q = ap reading text ∙ reads_text q is in cc)
+only_in bytes (Err e) (inr out) q is text = out.cause
 
 -- ---- as what a writer asks
 
@@ -316,28 +432,8 @@ words_in Two calls order are places = tt
 pub has_words : (r : ReportValue) → IsReport r → HasWordsOfVersion r
 has_words r is = record { opening = is.opening; words = words_in r.version r.history.calls r.order is.calls is.places }
 
-pub words_found : (bytes : List ℕ) (r : Result Report ReportFault) → Gives view r bytes → IfOk r (λ s. HasWordsOfVersion (view s))
-words_found bytes (Ok s) gives = has_words (view s) (is_found bytes (view s) gives).0
-words_found bytes (Err e) gives = tt
-
 -- ---- as what a writer writes
 
-pub text_parts : (r : ReportValue)
-    → report_text r ≡ text_of (header_lines (title r.version) (header_in r)) ++ text_of (opening_lines r.history.opening.keys)
-    ++ text_of (call_lines 0 r.history.calls) ++ text_of (map place_line r.order) ++ text_of (map key_line r.keys)
-    ++ ended last_line
-text_parts r =
-    let header = header_lines (title r.version) (header_in r) in
-    let openings = opening_lines r.history.opening.keys in
-    let calls = call_lines 0 r.history.calls in
-    let places = map place_line r.order in
-    let keys = map key_line r.keys in
-    let last : text_of (last_line ∷ []) ≡ ended last_line = append-nil (ended last_line) in
-    flat_map-append ended (header ++ openings ++ calls ++ places ++ keys) (last_line ∷ [])
-    ∙ rw (
-      flat_map-append ended (header ++ openings ++ calls ++ places) keys,
-      flat_map-append ended (header ++ openings ++ calls) places,
-      flat_map-append ended (header ++ openings) calls,
-      flat_map-append ended header openings,
-      last,
-    ) refl
+pub texts_of : (a b c d e : List (List ℕ)) (z : List ℕ)
+    → text_of (a ++ b ++ c ++ d ++ e ++ z ∷ []) ≡ text_of a ++ text_of b ++ text_of c ++ text_of d ++ text_of e ++ ended z
+texts_of a b c d e z = simp (flat_map-append, append-nil)

@@ -18,12 +18,13 @@ use Rattle.lset_text.specs.Parts.{cut_at}
 use Rattle.lset_text.specs.Spellings.{with_key, HasCall, HasReply}
 use Rattle.lset_text.specs.declared.words.Version.{Version}
 use Rattle.lset_text.specs.declared.words.Version.TheVariants.{One, Two}
-use Rattle.lset_text.specs.Results.{◌>>=◌, map_fault}
+use Rattle.lset_text.specs.Results.{◌>>=◌}
 use Rattle.lset_text.specs.Forms.{Form}
 use Rattle.lset_text.specs.Forms as piece
 use Rattle.lset_text.specs.Kinds.{LineKind, LineCauses, made, line_in}
-use Rattle.lset_text.specs.Lines.{Grammar, lines_from, IsFaultlessTo}
-use Rattle.lset_text.specs.Headers.{header_of, version_in}
+use Rattle.lset_text.specs.Lines.{Grammar, IsFaultlessTo}
+use Rattle.lset_text.specs.Texts.{TextGrammar, last_of_header, versioned_from}
+use Rattle.lset_text.specs.Headers.{version_in}
 use Rattle.lset_text.specs.Openings.{opening_form, HasOpening, is_above}
 use Rattle.lset_report.specs.declared.report.TheConstants.{MOST_CALLS, MOST_PLACES, MOST_KEYS, MOST_KEYS_OPENED}
 use Rattle.lset_report.specs.declared.reading.lines.Line.{Line as ReportLine}
@@ -234,13 +235,6 @@ with_line r told.End = r
 
 -- ---- texts, as their parts between newlines: whole lines, and what comes after the last newline
 
--- the last line of the header, and the first one after it
-abbrev pub last_of_header : ℕ
-last_of_header = 4
-
-abbrev pub first_line : ℕ
-first_line = last_of_header + 1
-
 -- what lines tell: the section to which they came, and their report
 pub record SoFar : Type 0 where
   pub section : Section
@@ -283,11 +277,12 @@ nothing_told version h = record { section = section.Opening; report = no_lines v
 abbrev pub version_told : List (List ℕ) → Version
 version_told parts = version_in (title Two) parts
 
-unfoldable pub report_of : List (List ℕ) → Result ReportValue ReportFault
-report_of parts = do
-  head ← map_fault in_report (header_of (title (version_told parts)) parts)
-  last ← lines_from grammar first_line (nothing_told (version_told parts) head.0) head.1
-  Ok last.report
+-- THE GRAMMAR of a text of a version
+abbrev pub text : Version → TextGrammar SoFar ReportCause ReportFault
+text version = record { title = title version; start = nothing_told version; lines = grammar; of_header = in_report }
+
+abbrev pub report_of : List (List ℕ) → Result ReportValue ReportFault
+report_of parts = versioned_from text parts >>= λ last. Ok last.report
 
 abbrev pub reading : List ℕ → Result ReportValue ReportFault
 reading bytes = report_of (cut_at 10 bytes)
@@ -305,7 +300,7 @@ line_number e = e.line
 
 -- Memory is answered for a line after its other checks. The parts are those of a text from the line `first` on, of which the last
 -- comes after the last newline, and reading the text gives `read` where memory is ample.
-pub record RunsOut {X : Type 0} (first : ℕ) (parts : List (List ℕ)) (read : Result X ReportFault) (e : ReportFault) : Type 0 where
+pub record RunsOut (first : ℕ) (parts : List (List ℕ)) (read : Result ReportValue ReportFault) (e : ReportFault) : Type 0 where
   pub cause : e.cause ≡ wrong.Memory
   -- the line is the last of the header, whose lines take no memory, or one after it,
   pub after_header : last_of_header ≤ e.line

@@ -2,6 +2,7 @@ ghost use Rattle.std.specs.Prelude.{◌≡◌, ◌≢◌, IfOk, OnOk, OnErr, Mat
 ghost use Rattle.lset_text.specs.Parts.{cut_at};
 ghost use Rattle.lset_text.specs.Headers.{IsHeader};
 ghost use Rattle.lset_text.specs.Lines.{lines_from};
+ghost use Rattle.lset_text.specs.Texts.{first_line};
 ghost use Rattle.lset_report.specs.Report.{ReportValue, view};
 ghost use Rattle.lset_report.specs.Texts.{report_text, HasWordsOfVersion};
 ghost use Rattle.lset_report.specs.ReportReading.{
@@ -9,7 +10,6 @@ ghost use Rattle.lset_report.specs.ReportReading.{
   Gives,
   most_keys,
   is_next,
-  first_line,
   version_told,
   section_after,
   judged,
@@ -205,7 +205,6 @@ fn version_told(bytes: &[u8]) -> Version
     version_of(bytes, title(Version::Two).as_bytes())
 }
 
-#[tactic(auto, unfolding(crate::specs::ReportReading::report_of))]
 fn report(alloc: Global, bytes: &[u8]) -> Result<Report, ReportFault>
     ensures { Gives view result bytes.now }
 {

@@ -16,23 +16,20 @@ use Rattle.lset_text.specs.declared.words.Version.TheVariants.{One, Two}
 use Rattle.lset_text.specs.Parts.{cut_at, line_of, text_of, Lacks}
 use Rattle.lset_text.specs.Forms.{have_form}
 use Rattle.lset_text.specs.Kinds.{LineKind, kind_as, made, first_of, line_in}
-use Rattle.lset_text.specs.Lines.{lines_from, Leads}
-use Rattle.lset_text.specs.Results.{◌>>=◌, map_fault}
-use Rattle.lset_text.specs.Headers.{header_lines, header_of, IsHeader}
+use Rattle.lset_text.specs.Lines.{Leads}
+use Rattle.lset_text.specs.Headers.{header_lines, IsHeader}
 use Rattle.lset_text.specs.Openings.{opening_form, opening_line, opening_lines, is_above, HasOpening}
-use Rattle.lset_text.proofs.PartLaws.{text_from_lines, cut_lines}
-use Rattle.lset_text.proofs.ReadingLaws.{bind_ok, map_fault_ok, ok_is}
-use Rattle.lset_text.proofs.HeaderLaws.{header_ok, header_again, header_lacks}
+use Rattle.lset_text.proofs.ReadingLaws.{bind_ok, ok_is}
 use Rattle.lset_text.proofs.OpeningLaws.{rises_more, above_before}
 use Rattle.lset_text.proofs.KindLaws.{Knows, IsMade, line_found, line_found_lacks, line_made, first_as, knows_as, made_as}
-use Rattle.lset_text.proofs.LineLaws.{lines_hold, lines_again, leads_on, leads_all, items_lead}
+use Rattle.lset_text.proofs.LineLaws.{leads_on, items_lead}
+use Rattle.lset_text.proofs.TextLaws.{text_found, text_again}
 use Rattle.lset_schedule.specs.declared.TheConstants.{MOST_EVENTS}
 use Rattle.lset_schedule.specs.declared.fault.Cause.{Cause}
 use Rattle.lset_schedule.specs.declared.fault.Cause.TheVariants.{TooMany, Opening}
-use Rattle.lset_schedule.specs.declared.fault.ScheduleFault.{ScheduleFault}
-use Rattle.lset_schedule.specs.Plan.{first_line}
-use Rattle.lset_schedule.specs.ScheduleReading.{in_schedule, causes, EventLines, BodyValue, nothing, Item, opens, event}
-use Rattle.lset_schedule.specs.ScheduleReading.{opening_kind, kinds_after, with_item, with_line, grammar, text_in}
+use Rattle.lset_text.specs.Texts.{text_from}
+use Rattle.lset_schedule.specs.ScheduleReading.{causes, EventLines, BodyValue, no_lines, Item, opens, event}
+use Rattle.lset_schedule.specs.ScheduleReading.{opening_kind, kinds_after, with_item, with_line, grammar, texts}
 
 all_push : {X : Type 0} (P : X → Type 0) (xs : List X) (x : X) → AllByRecursion P xs → P x → AllByRecursion P (xs ++ x ∷ [])
 all_push P [] x all one = (one, tt)
@@ -41,11 +38,6 @@ all_push P (y ∷ ys) x all one = (all.0, all_push P ys x all.1 one)
 all_there : {X : Type 0} (P : X → Type 0) (xs more : List X) (x : X) → AllByRecursion P (xs ++ x ∷ more) → P x
 all_there P [] more x all = all.0
 all_there P (y ∷ ys) more x all = all_there P ys more x all.1
-
-both_lack : (xs ys : List (List ℕ)) → AllByRecursion (Lacks 10) xs → AllByRecursion (Lacks 10) ys →
-    AllByRecursion (Lacks 10) (xs ++ ys)
-both_lack [] ys xl yl = yl
-both_lack (x ∷ xs) ys xl yl = (xl.0, both_lack xs ys xl.1 yl)
 
 -- ---- what one line adds
 
@@ -59,24 +51,16 @@ room_for_events : {L : Type 0} (b : Bool) (s t : BodyValue L) → cond b (Err To
 room_for_events true s t is = absurd cc
 room_for_events false s t is = (refl, ok_is s t is)
 
--- WHAT HAS A TEXT of a version, behind a header
-pub record HasText {L : Type 0} (text : EventLines L) (v : Version) (Good : L → Type 0) (h : Header) (s : BodyValue L) : Type 0 where
-  pub opens : Opens (record { threads = h.threads; quota = h.quota; keys = s.keys })
+-- WHAT HAS A TEXT of a version
+pub record HasText {L : Type 0} (text : EventLines L) (v : Version) (Good : L → Type 0) (s : BodyValue L) : Type 0 where
+  pub opens : Opens (record { threads = s.header.threads; quota = s.header.quota; keys = s.keys })
   pub opening : HasOpening v s.keys
   pub lines : AllByRecursion Good s.lines
   pub few : sum_by text.count s.lines ≤ MOST_EVENTS
 
-pub header_fits : (h : Header) (keys : List ℕ) → Opens (record { threads = h.threads; quota = h.quota; keys = keys }) → IsHeader h
-header_fits h keys is = record {
-  some = is.within.some;
-  few = is.within.few;
-  small = is.within.small;
-  opens = omega arith;
-}
-
 -- Of the kinds of lines of events it is known what they make, and that they make each good one; and no good one has the form of an
 -- opening key.
-module _ {L : Type 0} (text : EventLines L) (v : Version) (pieces : L → List (List ℕ)) (Good : L → Type 0)
+module _ {L : Type 0} (text : EventLines L) (v : Version) (title : List ℕ) (pieces : L → List (List ℕ)) (Good : L → Type 0)
     (known : AllByRecursion (Knows v pieces Good) text.kinds) (makes : (l : L) → Good l → IsMade v pieces text.kinds l)
     (apart : (l : L) → Good l → have_form v opening_form (pieces l) ≡ false) where
   abbrev item_pieces : Item L → List (List ℕ)
@@ -92,6 +76,9 @@ module _ {L : Type 0} (text : EventLines L) (v : Version) (pieces : L → List (
 
   abbrev body_lines : BodyValue L → List (List ℕ)
   body_lines s = opening_lines s.keys ++ map line_text s.lines
+
+  abbrev text_lines : BodyValue L → List (List ℕ)
+  text_lines s = header_lines title s.header ++ body_lines s
 
   -- ---- the kinds that may come
 
@@ -128,19 +115,21 @@ module _ {L : Type 0} (text : EventLines L) (v : Version) (pieces : L → List (
 
   -- ---- one line
 
-  -- it stands behind those of the body, which has a text still
-  abbrev Adds : Header → BodyValue L → List ℕ → BodyValue L → Type 0
-  Adds h s x t = HasText text v Good h t × (body_lines t ≡ body_lines s ++ x ∷ [])
+  -- it stands behind those of the text, which is one still
+  abbrev Adds : BodyValue L → List ℕ → BodyValue L → Type 0
+  Adds s x t = HasText text v Good t × (text_lines t ≡ text_lines s ++ x ∷ [])
 
-  key_adds : (h : Header) (s t : BodyValue L) (k : ℕ) → HasText text v Good h s → IsItem (opens k) → s.lines ≡ []
-      → with_item text s (opens k) ≡ Ok t → Adds h s (opening_line k) t
-  key_adds h s t k has is none e =
+  key_adds : (s t : BodyValue L) (k : ℕ) → HasText text v Good s → IsItem (opens k) → s.lines ≡ []
+      → with_item text s (opens k) ≡ Ok t → Adds s (opening_line k) t
+  key_adds s t k has is none e =
       let more : BodyValue L = record s { keys = s.keys ++ k ∷ [] } in
       let room = room_for_key (ltb (length s.keys) MOST_OPENING) (is_above s.keys k) more t e in
-      let lines : body_lines more ≡ body_lines s ++ opening_line k ∷ [] =
+      let head = header_lines title s.header in
+      let after : body_lines more ≡ body_lines s ++ opening_line k ∷ [] =
       rw none (append-nil (opening_lines (s.keys ++ k ∷ [])) ∙ map_push opening_line s.keys k
       ∙ ap (λ (ls : List (List ℕ)). ls ++ opening_line k ∷ []) (sym (append-nil (opening_lines s.keys)))) in
-      subst (Adds h s (opening_line k)) room.2 (
+      let lines = ap (λ (ls : List (List ℕ)). head ++ ls) after ∙ sym (append_assoc head (body_lines s) (opening_line k ∷ [])) in
+      subst (Adds s (opening_line k)) room.2 (
         record {
           opens = record {
             within = record {
@@ -160,18 +149,20 @@ module _ {L : Type 0} (text : EventLines L) (v : Version) (pieces : L → List (
         lines,
       )
 
-  event_adds : (h : Header) (s t : BodyValue L) (l : L) → HasText text v Good h s → Good l → with_item text s (event l) ≡ Ok t
-      → Adds h s (line_text l) t
-  event_adds h s t l has good e =
+  event_adds : (s t : BodyValue L) (l : L) → HasText text v Good s → Good l → with_item text s (event l) ≡ Ok t
+      → Adds s (line_text l) t
+  event_adds s t l has good e =
       let more : BodyValue L = record s { lines = s.lines ++ l ∷ [] } in
       let room = room_for_events (ltb MOST_EVENTS (sum_by text.count s.lines + text.count l)) more t e in
       let keys = opening_lines s.keys in
-      let lines : body_lines more ≡ body_lines s ++ line_text l ∷ [] =
+      let head = header_lines title s.header in
+      let after : body_lines more ≡ body_lines s ++ line_text l ∷ [] =
       ap (λ (ls : List (List ℕ)). keys ++ ls) (map_push line_text s.lines l)
       ∙ sym (append_assoc keys (map line_text s.lines) (line_text l ∷ [])) in
+      let lines = ap (λ (ls : List (List ℕ)). head ++ ls) after ∙ sym (append_assoc head (body_lines s) (line_text l ∷ [])) in
       let sum = sum_by-append text.count s.lines (l ∷ []) in
       let last = sum_by-cons text.count l [] in
-      subst (Adds h s (line_text l)) room.1 (
+      subst (Adds s (line_text l)) room.1 (
         record {
           opens = has.opens;
           opening = has.opening;
@@ -181,20 +172,20 @@ module _ {L : Type 0} (text : EventLines L) (v : Version) (pieces : L → List (
         lines,
       )
 
-  item_adds : (h : Header) (s t : BodyValue L) (ps : List (List ℕ)) (i : Item L) → HasText text v Good h s → IsItem i
-      → first_of v causes (kinds_after text v s.lines) ps ≡ Ok i → with_item text s i ≡ Ok t → Adds h s (line_of (item_pieces i)) t
-  item_adds h s t ps (opens k) has is told e = key_adds h s t k has is (none_above v s.lines ps k told) e
-  item_adds h s t ps (event l) has is told e = event_adds h s t l has is e
+  item_adds : (s t : BodyValue L) (ps : List (List ℕ)) (i : Item L) → HasText text v Good s → IsItem i
+      → first_of v causes (kinds_after text v s.lines) ps ≡ Ok i → with_item text s i ≡ Ok t → Adds s (line_of (item_pieces i)) t
+  item_adds s t ps (opens k) has is told e = key_adds s t k has is (none_above v s.lines ps k told) e
+  item_adds s t ps (event l) has is told e = event_adds s t l has is e
 
-  line_adds : (h : Header) (s t : BodyValue L) (x : List ℕ) → HasText text v Good h s → with_line text v s x ≡ Ok t
-      → Adds h s x t × Lacks 10 x
-  line_adds h s t x has is =
+  line_adds : (s t : BodyValue L) (x : List ℕ) → HasText text v Good s → with_line text v s x ≡ Ok t
+      → Adds s x t × Lacks 10 x
+  line_adds s t x has is =
       let kinds = kinds_after text v s.lines in
       let known = known_after v s.lines refl in
       let i = bind_ok (line_in v causes kinds x) (with_item text s) t is in
       let found = line_found v causes item_pieces IsItem kinds x i.0 known i.1 in
-      let added = item_adds h s t (cut_at 32 x) i.0 has found.1 i.1 i.2 in (
-        (added.0, added.1 ∙ ap (λ (y : List ℕ). body_lines s ++ y ∷ []) (sym found.0)),
+      let added = item_adds s t (cut_at 32 x) i.0 has found.1 i.1 i.2 in (
+        (added.0, added.1 ∙ ap (λ (y : List ℕ). text_lines s ++ y ∷ []) (sym found.0)),
         line_found_lacks v causes item_pieces IsItem kinds x i.0 known i.1,
       )
 
@@ -209,20 +200,20 @@ module _ {L : Type 0} (text : EventLines L) (v : Version) (pieces : L → List (
         le-ltb MOST_EVENTS (sum_by text.count s.lines + text.count l) few,
       ) refl
 
-  events_lead : (keys : List ℕ) (ls : List L) → AllByRecursion Good ls → sum_by text.count ls ≤ MOST_EVENTS
-      → Leads (grammar text v) (record { keys = keys; lines = [] }) (map line_text ls) (record { keys = keys; lines = ls })
-  events_lead keys ls are few =
-      items_lead (grammar text v) (λ xs. record { keys = keys; lines = xs }) (λ n. map line_text) (λ n. line_text) (λ n. refl)
+  events_lead : (s : BodyValue L) (ls : List L) → AllByRecursion Good ls → sum_by text.count ls ≤ MOST_EVENTS
+      → Leads (grammar text v) (record s { lines = [] }) (map line_text ls) (record s { lines = ls })
+  events_lead s ls are few =
+      items_lead (grammar text v) (λ xs. record s { lines = xs }) (λ n. map line_text) (λ n. line_text) (λ n. refl)
       (λ n x xs. refl) [] ls
-      (λ front more l is. event_step (record { keys = keys; lines = front }) l (all_there Good front more l (subst (AllByRecursion Good) (sym is) are))
+      (λ front more l is. event_step (record s { lines = front }) l (all_there Good front more l (subst (AllByRecursion Good) (sym is) are))
       (omega (arith, few, ap (sum_by text.count) is, sum_by-append text.count front (l ∷ more), sum_by-cons text.count l more)))
 
-  abbrev of_keys : List ℕ → BodyValue L
-  of_keys ks = record { keys = ks; lines = [] }
+  abbrev of_keys : Header → List ℕ → BodyValue L
+  of_keys h ks = record { header = h; keys = ks; lines = [] }
 
-  key_step : (ks : List ℕ) (k : ℕ) → v ≡ Two → k < 2 ^ 32 → length ks < MOST_OPENING → is_above ks k ≡ true
-      → with_line text v (of_keys ks) (opening_line k) ≡ Ok (of_keys (ks ++ k ∷ []))
-  key_step ks k two low few above =
+  key_step : (h : Header) (ks : List ℕ) (k : ℕ) → v ≡ Two → k < 2 ^ 32 → length ks < MOST_OPENING → is_above ks k ≡ true
+      → with_line text v (of_keys h ks) (opening_line k) ≡ Ok (of_keys h (ks ++ k ∷ []))
+  key_step h ks k two low few above =
       let kinds : List (LineKind (Item L)) = opening_kind ∷ map (kind_as event) text.kinds in
       let told : line_in v causes kinds (opening_line k) ≡ Ok (opens k) =
       line_made v causes item_pieces IsItem kinds (opens k) (opening_known two, events_known)
@@ -230,30 +221,27 @@ module _ {L : Type 0} (text : EventLines L) (v : Version) (pieces : L → List (
       let first : kinds_after text v [] ≡ kinds = ap (λ w. kinds_after text w []) two in
       rw (first, told, lt-ltb (length ks) MOST_OPENING few, above) refl
 
-  keys_lead : (w : Version) (h : Header) (t : BodyValue L) → w ≡ v → HasOpening w t.keys → HasText text v Good h t
-      → Leads (grammar text v) nothing (opening_lines t.keys) (of_keys t.keys)
-  keys_lead One h t is none has =
-      subst (λ (ks : List ℕ). Leads (grammar text v) nothing (opening_lines ks) (of_keys ks)) (sym none) refl
-  keys_lead Two h t is some has =
+  keys_lead : (w : Version) (t : BodyValue L) → w ≡ v → HasOpening w t.keys → HasText text v Good t
+      → Leads (grammar text v) (no_lines t.header) (opening_lines t.keys) (of_keys t.header t.keys)
+  keys_lead One t is none has =
+      subst (λ (ks : List ℕ). Leads (grammar text v) (no_lines t.header) (opening_lines ks) (of_keys t.header ks)) (sym none) refl
+  keys_lead Two t is some has =
       let low = recursion_from_All (λ (k : ℕ). k < 2 ^ 32) t.keys has.opens.low in
-      items_lead (grammar text v) of_keys (λ n. opening_lines) (λ n. opening_line) (λ n. refl) (λ n k ks. refl) [] t.keys
-      (λ front more k same. key_step front k (sym is)
+      items_lead (grammar text v) (of_keys t.header) (λ n. opening_lines) (λ n. opening_line) (λ n. refl) (λ n k ks. refl) [] t.keys
+      (λ front more k same. key_step t.header front k (sym is)
       (all_there (λ (n : ℕ). n < 2 ^ 32) front more k (subst (AllByRecursion (λ (n : ℕ). n < 2 ^ 32)) (sym same) low))
       (omega (arith, has.opens.within.opens, ap (λ (ks : List ℕ). length ks) same, length-append front (k ∷ more)))
       (above_before front k more (subst IsStrictlyIncreasing (sym same) has.opens.rising)))
 
-  body_leads : (h : Header) (t : BodyValue L) → HasText text v Good h t → Leads (grammar text v) nothing (body_lines t) t
-  body_leads h t has =
-      leads_on (grammar text v) nothing (of_keys t.keys) t (opening_lines t.keys) (map line_text t.lines)
-      (keys_lead v h t refl has.opening has) (events_lead t.keys t.lines has.lines has.few)
+  body_leads : (t : BodyValue L) → HasText text v Good t → Leads (grammar text v) (no_lines t.header) (body_lines t) t
+  body_leads t has =
+      leads_on (grammar text v) (no_lines t.header) (of_keys t.header t.keys) t (opening_lines t.keys) (map line_text t.lines)
+      (keys_lead v t refl has.opening has) (events_lead t t.lines has.lines has.few)
 
   -- ---- the whole
 
-  abbrev text_lines : List ℕ → Header → BodyValue L → List (List ℕ)
-  text_lines title h s = header_lines title h ++ body_lines s
-
-  no_events : (h : Header) → IsHeader h → HasText text v Good h nothing
-  no_events h is = record {
+  starts : (h : Header) → IsHeader h → HasText text v Good (no_lines h)
+  starts h is = record {
     opens = record {
       within = record { some = is.some; few = is.few; small = is.small; opens = omega arith };
       rising = λ k l. absurd (omega arith);
@@ -269,48 +257,20 @@ module _ {L : Type 0} (text : EventLines L) (v : Version) (pieces : L → List (
       none Two = tt
 
   -- WHAT IS READ is a text
-  pub text_found : (title bytes : List ℕ) (told : Header × BodyValue L) → text_in text v title (cut_at 10 bytes) ≡ Ok told
-      → HasText text v Good told.0 told.1 × (bytes ≡ text_of (text_lines title told.0 told.1))
-  unfolding text_in
-  text_found title bytes told is =
-      let body_after : Header × List (List ℕ) → Result (Header × BodyValue L) ScheduleFault =
-      λ head. lines_from (grammar text v) first_line nothing head.1 >>= λ body. Ok (head.0, body) in
-      let head = bind_ok (map_fault in_schedule (header_of title (cut_at 10 bytes))) body_after told is in
-      let body = bind_ok (lines_from (grammar text v) first_line nothing head.0.1) (λ body. Ok (head.0.0, body)) told head.2 in
-      let header = header_ok title (cut_at 10 bytes) head.0 (map_fault_ok in_schedule (header_of title (cut_at 10 bytes)) head.0 head.1)
-      in
-      let after = lines_hold (grammar text v) (HasText text v Good head.0.0) body_lines (λ s t x has e. (line_adds head.0.0 s t x has e).0)
-      (λ s t e. ok_is s t e) first_line nothing body.0 head.0.1 header.2 (no_events head.0.0 header.1) body.1 in
-      let lines = header_lines title head.0.0 in
-      let parts : cut_at 10 bytes ≡ text_lines title head.0.0 body.0 ++ [] ∷ [] =
-      header.0 ∙ ap (λ (ps : List (List ℕ)). lines ++ ps) after.0 ∙ sym (append_assoc lines (body_lines body.0) ([] ∷ [])) in
-      subst (λ (t : Header × BodyValue L). HasText text v Good t.0 t.1 × (bytes ≡ text_of (text_lines title t.0 t.1)))
-      (ok_is (head.0.0, body.0) told body.2) (after.2, text_from_lines bytes (text_lines title head.0.0 body.0) parts)
-
-  pub text_cut : (title : List ℕ) (h : Header) (s : BodyValue L) → Lacks 10 title → HasText text v Good h s
-      → cut_at 10 (text_of (text_lines title h s)) ≡ text_lines title h s ++ [] ∷ []
-  text_cut title h s free has =
-      let fits = header_fits h s.keys has.opens in
-      let after = leads_all (grammar text v) (HasText text v Good h) (Lacks 10)
-      (λ u t x p e. let added = line_adds h u t x p e in (added.0.0, added.1)) nothing s (body_lines s) (no_events h fits)
-      (body_leads h s has) in
-      cut_lines (text_lines title h s) (both_lack (header_lines title h) (body_lines s) (header_lacks title h free fits) after)
-
-  some_more : (ls : List (List ℕ)) → (y : List ℕ) × (more : List (List ℕ)) × (ls ++ [] ∷ [] ≡ y ∷ more)
-  some_more [] = ([], [], refl)
-  some_more (l ∷ ls) = (l, ls ++ [] ∷ [], refl)
+  pub body_found : (bytes : List ℕ) (t : BodyValue L) → text_from (texts text v title) (cut_at 10 bytes) ≡ Ok t
+      → HasText text v Good t × (bytes ≡ text_of (text_lines t))
+  body_found bytes t is =
+      let found = text_found (texts text v title) (HasText text v Good) text_lines (λ h fits. (starts h fits, refl))
+      (λ s u x has e. (line_adds s u x has e).0) (λ s u e. ok_is s u e) bytes t is in
+      (found.2, found.0)
 
   -- WHAT IS A TEXT is read
-  pub text_again : (title : List ℕ) (h : Header) (s : BodyValue L) → HasText text v Good h s
-      → text_in text v title (text_lines title h s ++ [] ∷ []) ≡ Ok (h, s)
-  unfolding text_in
-  text_again title h s has =
-      let lines = header_lines title h in
-      let some = some_more (body_lines s) in
-      let first : header_of title (lines ++ (body_lines s ++ [] ∷ [])) ≡ Ok (h, body_lines s ++ [] ∷ []) =
-      rw some.2 (header_again title h some.0 some.1 (header_fits h s.keys has.opens)) in
-      rw (
-        append_assoc lines (body_lines s) ([] ∷ []),
-        first,
-        lines_again (grammar text v) first_line nothing s (body_lines s) (body_leads h s has) refl,
-      ) refl
+  pub body_again : (t : BodyValue L) → Lacks 10 title → HasText text v Good t
+      → (cut_at 10 (text_of (text_lines t)) ≡ header_lines title t.header ++ (body_lines t ++ [] ∷ []))
+      × (text_from (texts text v title) (header_lines title t.header ++ (body_lines t ++ [] ∷ [])) ≡ Ok t)
+  body_again t free has =
+      let opens = has.opens.within in
+      let fits : IsHeader t.header = record { some = opens.some; few = opens.few; small = opens.small; opens = omega arith } in
+      text_again (texts text v title) (HasText text v Good)
+      (λ s u x p e. let added = line_adds s u x p e in (added.0.0, added.1)) t.header (body_lines t) t free fits
+      (starts t.header fits) (body_leads t has) refl

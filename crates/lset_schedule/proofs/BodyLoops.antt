@@ -1,7 +1,7 @@
 -- Reading what comes after a header line by line, as the loop does: which line a fault stands in, and that want of memory is none.
 use Rattle.std.proofs.Common.{◌≡◌, ℕ, ◌+◌, inl, inr, Bool, true, false, cond, ltb, List, [], ◌∷◌, length}
 use Rattle.std.proofs.Common.{Option, Some, None, Result, Ok, Err, refl, ap, ◌∙◌, arith, codes}
-use Rattle.std.specs.Prelude.{◌≢◌, MatchOption}
+use Rattle.std.specs.Prelude.{◌≢◌, IfErr, MatchOption}
 use Rattle.std.specs.List.{sum_by}
 use Rattle.lset_words.specs.declared.TheConstants.{MOST_OPENING}
 use Rattle.lset_text.specs.declared.headers.Header.{Header}
@@ -11,20 +11,20 @@ use Rattle.lset_text.specs.Parts.{cut_at}
 use Rattle.lset_text.specs.Numbers.{number_in, max_number}
 use Rattle.lset_text.specs.Forms.{have_form, both}
 use Rattle.lset_text.specs.Kinds.{made, line_in}
-use Rattle.lset_text.specs.Lines.{lines_from, IsFaultlessTo, IsGoodLine, Stands}
-use Rattle.lset_text.specs.Results.{◌>>=◌, or_fail}
+use Rattle.lset_text.specs.Lines.{lines_from, IsGoodLine, Stands}
+use Rattle.lset_text.specs.Results.{or_fail}
 use Rattle.lset_text.specs.Headers.{header_of}
 use Rattle.lset_text.specs.Openings.{opening_form, is_above}
-use Rattle.lset_text.proofs.HeaderLaws.{header_ok}
 use Rattle.lset_text.proofs.KindLaws.{IsOneOf, first_fails, first_as}
 use Rattle.lset_text.proofs.LineLaws.{bind_err, stops, is_good}
 use Rattle.lset_schedule.specs.declared.TheConstants.{MOST_EVENTS}
 use Rattle.lset_schedule.specs.declared.fault.Cause.{Cause}
 use Rattle.lset_schedule.specs.declared.fault.Cause.TheVariants.{Number, Memory}
 use Rattle.lset_schedule.specs.declared.fault.ScheduleFault.{ScheduleFault}
-use Rattle.lset_schedule.specs.Plan.{first_line}
-use Rattle.lset_schedule.specs.ScheduleReading.{fault, causes, EventLines, BodyValue, nothing, Item, opens, event}
-use Rattle.lset_schedule.specs.ScheduleReading.{kinds_after, with_item, with_line, grammar, text_in, IsGoodAfterHeader, Takes}
+use Rattle.lset_text.specs.Texts.{first_line, text_from}
+use Rattle.lset_text.proofs.TextLaws.{good_in_text}
+use Rattle.lset_schedule.specs.ScheduleReading.{fault, causes, EventLines, BodyValue, no_lines, Item, opens, event}
+use Rattle.lset_schedule.specs.ScheduleReading.{kinds_after, with_item, with_line, grammar, texts, IsGoodAfterHeader, Takes}
 
 -- ---- a line that may be one of an opening key
 
@@ -88,29 +88,13 @@ module _ {L : Type 0} (text : EventLines L) (v : Version) (whole : List ℕ) (re
   out_of_memory cause (inr none) memory =
       is_good (grammar text v) (λ e. e.line) (λ line c. refl) first_line whole read number s none.1 rest x after parts none.2 stands
 
--- ---- a line of what comes after the header
-
-still_faultless : {X Y : Type 0} (line : ℕ) (read : Result Y ScheduleFault) (f : Y → X) → IsFaultlessTo (λ e. e.line) line read
-    → IsFaultlessTo (λ e. e.line) line (read >>= λ y. Ok (f y))
-still_faultless line (Ok y) f good = tt
-still_faultless line (Err e) f good = good
-
-four_more : (parts more : List (List ℕ)) (a b c d : List ℕ) → parts ≡ a ∷ b ∷ c ∷ d ∷ more → length parts ≡ 4 + length more
-four_more parts more a b c d is = rw is (omega arith)
-
 -- a good line of what comes after the header is one of the text
-pub good_in_text : {L : Type 0} (text : EventLines L) (v : Version) (title bytes rest : List ℕ) (h : Header) (line : ℕ)
-    → header_of title (cut_at 10 bytes) ≡ Ok (h, cut_at 10 rest)
-    → IsGoodLine (λ e. e.line) first_line (cut_at 10 rest) (lines_from (grammar text v) first_line nothing (cut_at 10 rest)) line
-    → IsGoodAfterHeader bytes (text_in text v title (cut_at 10 bytes)) line
-unfolding text_in
-good_in_text text v title bytes rest h line is good =
-    let parts = (header_ok title (cut_at 10 bytes) (h, cut_at 10 rest) is).0 in
-    let counted = four_more (cut_at 10 bytes) (cut_at 10 rest) _ _ _ _ parts in (
-      omega (arith, good.0),
-      (
-        omega (arith, good.0),
-        omega (arith, good.1, counted),
-        rw is (still_faultless line (lines_from (grammar text v) first_line nothing (cut_at 10 rest)) (λ body. (h, body)) good.2),
-      ),
-    )
+pub good_after_header : {L X : Type 0} (text : EventLines L) (v : Version) (title bytes rest : List ℕ) (h : Header)
+    (r : Result X ScheduleFault) → header_of title (cut_at 10 bytes) ≡ Ok (h, cut_at 10 rest)
+    → IfErr r (λ e. e.cause ≡ Memory → IsGoodLine (λ f. f.line) first_line (cut_at 10 rest)
+    (lines_from (grammar text v) first_line (no_lines h) (cut_at 10 rest)) e.line)
+    → IfErr r (λ e. e.cause ≡ Memory → IsGoodAfterHeader bytes (text_from (texts text v title) (cut_at 10 bytes)) e.line)
+good_after_header text v title bytes rest h (Ok x) is good = tt
+good_after_header text v title bytes rest h (Err e) is good = λ memory.
+    let m = good memory in
+    (omega (arith, m.0), good_in_text (texts text v title) (λ f. f.line) bytes rest h e.line is m)

@@ -18,7 +18,7 @@ use Rattle.lset_schedule.specs.declared.value.Line.{Line}
 use Rattle.lset_schedule.specs.declared.value.Line.TheVariants as line
 use Rattle.lset_schedule.specs.Plan.{IsLine, IsSchedule, event_count}
 use Rattle.lset_schedule.specs.Generating.{events_of_line, events_of_lines, is_begin, IsGeneratedLine, StartsWithBegin}
-use Rattle.lset_schedule.specs.Generating.{NoneOpenAfter, IsGenerated}
+use Rattle.lset_schedule.specs.Generating.{IsGenerated}
 use Rattle.lset_steps.proofs.MoreEvents.{RunsTo, runs_to_opening, runs_to_more}
 use Rattle.lset_schedule.proofs.RunLaws.{opening_rests}
 use Rattle.lset_schedule.specs.Drawing.{line_of_event, left_after, IsOver}
@@ -181,59 +181,6 @@ draft_along T n q calls keys turns left left' lines lines' w w' e f h d =
     subst (λ l. IsDraft T n q calls keys turns l lines' w') (sym e)
     (subst (λ ls. IsDraft T n q calls keys turns left ls w') (sym f)
     (subst (λ v. IsDraft T n q calls keys turns left lines v) (sym h) d))
-
--- the lines of a draft, whatever is known of its first line and of a thread alone
-generated : (T : Table) (n q calls keys turns left : ℕ) (lines : List Line) (w : WorldState)
-    → IsDraft T n q calls keys turns left lines w
-    → (0 < calls → StartsWithBegin lines)
-    → (n ≡ 1 → (length lines ≡ MOST_GENERATED) ⊎ ((left ≡ 0) × ((local_of w.state 0).pc ≡ 0)))
-    → IsGenerated T n q calls keys lines
-generated T n q calls keys turns left lines w d first alone = record {
-  each = d.each;
-  run = d.run.run;
-  first = first;
-  few = omega (arith, d.begun);
-  alone = λ one. elim (alone one) [
-    | inl full ↦ inl full
-    | inr rest ↦ inr (omega (arith, d.begun, rest.0), at_rest rest.1)
-  ];
-}
-  where
-    at_rest : (local_of w.state 0).pc ≡ 0 → NoneOpenAfter T n q (events_of_lines lines) 0
-    at_rest h = subst (λ s. (local_of s 0).pc ≡ 0) d.run.is h
-
-pub draft_over : (T : Table) (n q calls keys turns left : ℕ) (lines : List Line) (w : WorldState)
-    → IsDraft T n q calls keys turns left lines w → IsOver w.state (length lines) left
-    → IsGenerated T n q calls keys lines
-draft_over T n q calls keys turns left lines w d over =
-    generated T n q calls keys turns left lines w d (λ some. first some d.start over) (λ one. alone one over)
-  where
-    some_thread : n ≡ 1 → 0 < length w.state.locals
-    some_thread one = let len : length w.state.locals ≡ n = d.run.locals in omega arith
-
-    first : 0 < calls → IsUnbegun turns n calls left lines w.state ⊎ StartsWithBegin lines
-        → IsOver w.state (length lines) left → StartsWithBegin lines
-    first some (inl u) (inl full) = absurd (omega (arith, full, ap (λ (ls : List Line). length ls) u.none))
-    first some (inl u) (inr rest) = absurd (omega (arith, rest.0, u.all_left))
-    first some (inr b) over = b
-
-    alone : n ≡ 1 → IsOver w.state (length lines) left
-        → (length lines ≡ MOST_GENERATED) ⊎ ((left ≡ 0) × ((local_of w.state 0).pc ≡ 0))
-    alone one (inl full) = inl full
-    alone one (inr rest) = inr (rest.0, rest.1 0 (some_thread one))
-
--- With one thread each turn makes an event, so there are fewer than 10,000 turns.
-pub draft_end : (T : Table) (n q calls keys turns left : ℕ) (lines : List Line) (w : WorldState)
-    → IsDraft T n q calls keys turns left lines w → MOST_GENERATED < turns → IsGenerated T n q calls keys lines
-draft_end T n q calls keys turns left lines w d late =
-    generated T n q calls keys turns left lines w d (λ _. first d.start) (λ one. absurd (too_many one))
-  where
-    first : IsUnbegun turns n calls left lines w.state ⊎ StartsWithBegin lines → StartsWithBegin lines
-    first (inl u) = absurd (omega (arith, u.turn))
-    first (inr b) = b
-
-    too_many : n ≡ 1 → ⊥
-    too_many one = omega (arith, d.alone one, d.few)
 
 -- ---- generated lines are lines of a schedule
 

@@ -1,8 +1,7 @@
 -- The two laws: what is read is the text of the schedule, and the text of a schedule is read.
-use Rattle.std.proofs.Common.{◌≡◌, ℕ, ◌<◌, ◌^◌, inl, inr, cond, List, [], ◌∷◌, ◌++◌, false, Result, Ok, Err, refl, ap, subst, ◌∙◌, sym, arith}
+use Rattle.std.proofs.Common.{◌≡◌, ℕ, ◌<◌, ◌^◌, inl, inr, List, [], ◌∷◌, ◌++◌, map, false, Result, Ok, Err, refl, ap, subst, ◌∙◌, sym, arith}
 use Rattle.std.specs.Prelude.{IfOk, MatchResult, ◌≢◌}
 use Rattle.std.specs.List.{AllByRecursion}
-use Rattle.std.specs.Str.{bytes_eq}
 use Rattle.lset_words.specs.declared.Key.{Key}
 use Rattle.lset_words.specs.Words.{key_of}
 use Rattle.lset_text.specs.declared.words.CallWord.{CallWord}
@@ -11,8 +10,9 @@ use Rattle.lset_text.specs.declared.words.Version.TheVariants.{One, Two}
 use Rattle.lset_text.specs.Parts.{cut_at, Lacks}
 use Rattle.lset_text.specs.Forms.{spell, have_form}
 use Rattle.lset_text.specs.Spellings.{word_of, with_key, HasWord}
-use Rattle.lset_text.specs.Headers.{header_of, told_by_line}
-use Rattle.lset_text.specs.Openings.{opening_form}
+use Rattle.lset_text.specs.Headers.{header_lines}
+use Rattle.lset_text.specs.Openings.{opening_form, opening_lines}
+use Rattle.lset_text.specs.Texts.{text_from}
 use Rattle.lset_text.proofs.PartLaws.{Lacks-from_test}
 use Rattle.lset_text.proofs.WordLaws.{with_key-word_of, word_of-with_key, key_of-with_key}
 use Rattle.lset_text.proofs.ReadingLaws.{bind_ok, ok_is}
@@ -21,12 +21,13 @@ use Rattle.lset_schedule.specs.declared.value.Line.{Line}
 use Rattle.lset_schedule.specs.declared.value.Line.TheVariants.{Begin, Go}
 use Rattle.lset_schedule.specs.declared.value.Schedule.{Schedule}
 use Rattle.lset_schedule.specs.declared.fault.Cause.{Cause}
-use Rattle.lset_schedule.specs.declared.fault.Cause.TheVariants.{NotEnded, Memory}
+use Rattle.lset_schedule.specs.declared.fault.Cause.TheVariants.{Memory}
 use Rattle.lset_schedule.specs.declared.fault.ScheduleFault.{ScheduleFault}
-use Rattle.lset_schedule.specs.Plan.{Plan, view, header_in, pieces_of, title, schedule_lines, schedule_text, IsLine, IsSchedule}
-use Rattle.lset_schedule.specs.ScheduleReading.{fault, BodyValue, begin_kind, events, plan_told, plan_in, version_told, plan_of, text_in}
+use Rattle.lset_schedule.specs.Plan.{Plan, view, planned, header_in, pieces_of, line_text, title, schedule_text, IsLine, IsSchedule}
+use Rattle.lset_schedule.specs.ScheduleReading.{begin_kind, events, schedules, plan_in, version_told, plan_of}
 use Rattle.lset_schedule.specs.ScheduleReading.{reading, Gives}
-use Rattle.lset_schedule.proofs.BodyLaws.{HasText, text_found, text_cut, text_again}
+use Rattle.lset_text.proofs.TextLaws.{version_again}
+use Rattle.lset_schedule.proofs.BodyLaws.{body_found, body_again}
 
 -- ---- the kinds of lines of events
 
@@ -61,17 +62,6 @@ no_opening v (Go t n) is = refl
 
 -- ---- the whole
 
--- the first line tells the version
-version_again : (v : Version) → cond (bytes_eq (title v) (title Two)) Two One ≡ v
-version_again One = refl
-version_again Two = refl
-
--- a first line without its newline is not ended, in either version
-pub title_not_ended : (v : Version) → reading (title v) ≡ Err (fault 1 NotEnded)
-unfolding text_in header_of told_by_line
-title_not_ended One = refl
-title_not_ended Two = refl
-
 title_lacks : (v : Version) → Lacks 10 (title v)
 title_lacks One = Lacks-from_test 10 (title One) refl
 title_lacks Two = Lacks-from_test 10 (title Two) refl
@@ -79,23 +69,20 @@ title_lacks Two = Lacks-from_test 10 (title Two) refl
 pub is_found : (bytes : List ℕ) (p : Plan) → reading bytes ≡ Ok p → IsSchedule p × (bytes ≡ schedule_text p)
 is_found bytes p is =
     let v = version_told (cut_at 10 bytes) in
-    let told = bind_ok (text_in events v (title v) (cut_at 10 bytes)) (λ told. Ok (plan_told v told)) p is in
-    let found = text_found events v pieces_of (IsLine v) (events_known v) (event_made v) (no_opening v) (title v) bytes told.0 told.1 in
-    subst (λ q. IsSchedule q × (bytes ≡ schedule_text q)) (ok_is (plan_told v told.0) p told.2)
+    let body = bind_ok (text_from (schedules v) (cut_at 10 bytes)) (λ b. Ok (planned v b.header b.keys b.lines)) p is in
+    let found = body_found events v (title v) pieces_of (IsLine v) (events_known v) (event_made v) (no_opening v) bytes body.0 body.1 in
+    subst (λ q. IsSchedule q × (bytes ≡ schedule_text q)) (ok_is (planned v body.0.header body.0.keys body.0.lines) p body.2)
     (record { opens = found.0.opens; opening = found.0.opening; lines = found.0.lines; few = found.0.few }, found.1)
 
 pub reads_text : (p : Plan) → IsSchedule p → reading (schedule_text p) ≡ Ok p
 reads_text p is =
     let v = p.version in
-    let parts : List (List ℕ) = schedule_lines p ++ [] ∷ [] in
-    let body : BodyValue Line = record { keys = p.opening; lines = p.lines } in
-    let has : HasText events v (IsLine v) (header_in p) body =
-    record { opens = is.opens; opening = is.opening; lines = is.lines; few = is.few } in
-    let cut = text_cut events v pieces_of (IsLine v) (events_known v) (event_made v) (no_opening v) (title v) (header_in p) body
-    (title_lacks v) has in
-    let again = text_again events v pieces_of (IsLine v) (events_known v) (event_made v) (no_opening v) (title v) (header_in p) body has
-    in
-    ap plan_of cut ∙ ap (λ w. plan_in w parts) (version_again v) ∙ rw again refl
+    let again = body_again events v (title v) pieces_of (IsLine v) (events_known v) (event_made v) (no_opening v)
+    (record { header = header_in p; keys = p.opening; lines = p.lines }) (title_lacks v)
+    (record { opens = is.opens; opening = is.opening; lines = is.lines; few = is.few }) in
+    let rest : List (List ℕ) = (opening_lines p.opening ++ map line_text p.lines) ++ [] ∷ [] in
+    let parts : List (List ℕ) = header_lines (title v) (header_in p) ++ rest in
+    ap plan_of again.0 ∙ ap (λ w. plan_in w parts) (version_again schedules refl v (header_in p) rest) ∙ rw again.1 refl
 
 -- ---- as a reader's clauses
 

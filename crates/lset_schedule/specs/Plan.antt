@@ -11,6 +11,7 @@ use Rattle.lset_text.specs.Spellings.{call_text, HasCall}
 use Rattle.lset_text.specs.declared.words.Version.{Version}
 use Rattle.lset_text.specs.declared.words.Version.TheVariants.{One, Two}
 use Rattle.lset_text.specs.Headers.{header_lines}
+use Rattle.lset_text.specs.Texts.{first_line}
 use Rattle.lset_text.specs.Openings.{HasOpening, opening_lines}
 use Rattle.lset_schedule.specs.declared.value.Line.{Line}
 use Rattle.lset_schedule.specs.declared.value.Line.TheVariants.{Begin, Go}
@@ -64,13 +65,6 @@ schedule_lines p = header_lines (title p.version) (header_in p) ++ (opening_line
 
 abbrev pub schedule_text : Plan → List ℕ
 schedule_text p = text_of (schedule_lines p)
-
--- how many lines a header has, and the number of the line after it, counted from 1
-abbrev pub header_size : ℕ
-header_size = 4
-
-abbrev pub first_line : ℕ
-first_line = header_size + 1
 
 -- the number of the line of the first event, counted from 1: the lines of the header and of the opening keys come before it
 abbrev pub first_event_line : Plan → ℕ

@@ -13,11 +13,12 @@ use Rattle.lset_text.specs.declared.words.Version.TheVariants.{One, Two}
 use Rattle.lset_text.specs.Parts.{cut_at}
 use Rattle.lset_text.specs.Forms.{word, number, call, any}
 use Rattle.lset_text.specs.Kinds.{LineKind, kind_as, LineCauses, line_in}
-use Rattle.lset_text.specs.Lines.{Grammar, lines_from}
+use Rattle.lset_text.specs.Lines.{Grammar}
 use Rattle.lset_text.specs.Lines as lines
 use Rattle.lset_text.specs.Spellings.{with_key}
-use Rattle.lset_text.specs.Results.{◌>>=◌, map_fault}
-use Rattle.lset_text.specs.Headers.{header_of, version_in}
+use Rattle.lset_text.specs.Results.{◌>>=◌}
+use Rattle.lset_text.specs.Headers.{version_in}
+use Rattle.lset_text.specs.Texts.{TextGrammar, last_of_header, text_from}
 use Rattle.lset_text.specs.Openings.{opening_form, is_above}
 use Rattle.lset_schedule.specs.declared.value.Line.{Line}
 use Rattle.lset_schedule.specs.declared.value.Line.TheVariants.{Begin, Go}
@@ -26,7 +27,7 @@ use Rattle.lset_schedule.specs.declared.fault.Cause.{Cause}
 use Rattle.lset_schedule.specs.declared.fault.Cause.TheVariants.{Header as OfHeader, Kind, Threads, Quota, Event, Number, TooMany}
 use Rattle.lset_schedule.specs.declared.fault.Cause.TheVariants.{Opening, NotEnded, Memory}
 use Rattle.lset_schedule.specs.declared.fault.ScheduleFault.{ScheduleFault}
-use Rattle.lset_schedule.specs.Plan.{Plan, planned, IsSchedule, title, schedule_text, header_size, first_line, event_count}
+use Rattle.lset_schedule.specs.Plan.{Plan, planned, IsSchedule, title, schedule_text, event_count}
 
 -- ---- faults
 
@@ -54,12 +55,14 @@ pub record EventLines (L : Type 0) : Type 0 where
   pub kinds : List (LineKind L)
   pub count : L → ℕ
 
+-- what a text tells
 pub record BodyValue (L : Type 0) : Type 0 where
+  pub header : Header
   pub keys : List ℕ
   pub lines : List L
 
-abbrev pub nothing : {L : Type 0} → BodyValue L
-nothing = record { keys = []; lines = [] }
+abbrev pub no_lines : {L : Type 0} → Header → BodyValue L
+no_lines h = record { header = h; keys = []; lines = [] }
 
 -- what one line tells
 pub data Item (L : Type 0) : Type 0 where
@@ -90,12 +93,9 @@ with_line text version s line = line_in version causes (kinds_after text version
 abbrev pub grammar : {L : Type 0} → EventLines L → Version → Grammar (BodyValue L) Cause ScheduleFault
 grammar text version = record { step = with_line text version; ends = Ok; not_ended = NotEnded; at = fault }
 
--- A TEXT with this title: its header, and what comes after it
-unfoldable pub text_in : {L : Type 0} → EventLines L → Version → List ℕ → List (List ℕ) → Result (Header × BodyValue L) ScheduleFault
-text_in text version title parts = do
-  head ← map_fault in_schedule (header_of title parts)
-  body ← lines_from (grammar text version) first_line nothing head.1
-  Ok (head.0, body)
+-- THE TEXTS of a version with this title
+abbrev pub texts : {L : Type 0} → EventLines L → Version → List ℕ → TextGrammar (BodyValue L) Cause ScheduleFault
+texts text version title = record { title = title; start = no_lines; lines = grammar text version; of_header = in_schedule }
 
 -- ---- a schedule
 
@@ -108,12 +108,12 @@ go_kind = (word (codes "go") ∷ any ∷ number 1 MOST_STEPS ∷ [], λ t. Go t.
 abbrev pub events : EventLines Line
 events = record { kinds = begin_kind ∷ go_kind ∷ []; count = event_count }
 
-abbrev pub plan_told : Version → Header × BodyValue Line → Plan
-plan_told version told = planned version told.0 told.1.keys told.1.lines
+abbrev pub schedules : Version → TextGrammar (BodyValue Line) Cause ScheduleFault
+schedules version = texts events version (title version)
 
 -- the schedule of a text's parts, read as a text of this version
 abbrev pub plan_in : Version → List (List ℕ) → Result Plan ScheduleFault
-plan_in version parts = text_in events version (title version) parts >>= λ told. Ok (plan_told version told)
+plan_in version parts = text_from (schedules version) parts >>= λ told. Ok (planned version told.header told.keys told.lines)
 
 -- The first line alone decides the version: it is the second where that line is the title of the second, and else the first.
 -- A text that is that title without a newline is of the second, and is refused as NotEnded as it would be by either.
@@ -139,7 +139,7 @@ Gives view (Err e) read = e.cause ≢ Memory → read ≡ Err e
 
 -- a whole line after the header with no fault in it or above it, of a text that is read so
 abbrev pub IsGoodAfterHeader : {X : Type 0} → List ℕ → Result X ScheduleFault → ℕ → Type 0
-IsGoodAfterHeader bytes read line = (header_size < line) × lines.IsGoodLine (λ e. e.line) 1 (cut_at 10 bytes) read line
+IsGoodAfterHeader bytes read line = (last_of_header < line) × lines.IsGoodLine (λ e. e.line) 1 (cut_at 10 bytes) read line
 
 abbrev pub IsGoodLine : List ℕ → ℕ → Type 0
 IsGoodLine bytes line = IsGoodAfterHeader bytes (reading bytes) line
@@ -147,7 +147,7 @@ IsGoodLine bytes line = IsGoodAfterHeader bytes (reading bytes) line
 -- ---- what a reader holds
 
 abbrev pub told : {L : Type 0} → TextBody L → BodyValue L
-told t = record { keys = t.opening.items; lines = t.lines.items }
+told t = record { header = t.header; keys = t.opening.items; lines = t.lines.items }
 
 -- it knows how many events its lines count for
 abbrev pub Counts : {L : Type 0} → EventLines L → TextBody L → Type 0

@@ -6,7 +6,7 @@ ghost use Rattle.lset_text.specs.Kinds.{line_in, made};
 ghost use Rattle.lset_text.specs.Openings.{opening_form};
 ghost use Rattle.lset_text.specs.Numbers.{number_in, max_number};
 ghost use Rattle.lset_text.specs.Results.{or_fail};
-ghost use Rattle.lset_schedule.specs.Plan.{first_line};
+ghost use Rattle.lset_text.specs.Texts.{first_line, text_from};
 ghost use Rattle.lset_schedule.specs.ScheduleReading.{
   EventLines,
   causes,
@@ -16,9 +16,9 @@ ghost use Rattle.lset_schedule.specs.ScheduleReading.{
   with_item,
   with_line,
   grammar,
-  nothing,
+  no_lines,
   told,
-  text_in,
+  texts,
   Counts,
   Takes,
   Gives,
@@ -46,9 +46,10 @@ pub trait EventLine: Copy {
         ensures { result ≡ lines.count self };
 }
 
-/// What the lines after a header tell: opening keys, and then events.
+/// What a text tells: its header, opening keys, and then events.
 #[derive(Drop)]
 pub struct Body<L> {
+    pub header: Header,
     pub opening: Vec<u32>,
     pub lines: Vec<L>,
     total: u32,
@@ -70,11 +71,12 @@ fn opening_piece(line: &[u8]) -> Option<&[u8]>
 }
 
 impl<L: EventLine> Body<L> {
-    fn new(alloc: Global) -> Body<L>
-        ensures told { told result ≡ nothing }
+    fn new(alloc: Global, header: Header) -> Body<L>
+        ensures told { told result ≡ no_lines header }
         ensures counts { Counts L.lines result }
     {
         Body {
+            header,
             opening: Vec::new(alloc),
             lines: Vec::new(alloc),
             total: 0,
@@ -143,17 +145,18 @@ impl<L: EventLine> Body<L> {
     }
 }
 
-/// What the lines after the header of a text of this version tell.
+/// What a text of this version tells with the lines after this header.
 fn read_body<L: EventLine>(
     alloc: Global,
     version: Version,
+    header: Header,
     text: &[u8],
 ) -> Result<Body<L>, ScheduleFault>
-    ensures exact { Gives told result (lines_from (grammar L.lines version) first_line nothing (cut_at 10 text.now)) }
+    ensures exact { Gives told result (lines_from (grammar L.lines version) first_line (no_lines header) (cut_at 10 text.now)) }
     ensures memory { IfErr result (λ e. e.cause ≡ Cause.Memory → IsGoodLine (λ e. e.line) first_line (cut_at 10 text.now)
-        (lines_from (grammar L.lines version) first_line nothing (cut_at 10 text.now)) e.line) }
+        (lines_from (grammar L.lines version) first_line (no_lines header) (cut_at 10 text.now)) e.line) }
 {
-    let mut body = Body::new(alloc);
+    let mut body = Body::new(alloc, header);
     let mut number = FIRST_LINE;
     let mut rest = text;
     while !rest.is_empty() {
@@ -169,19 +172,18 @@ fn read_body<L: EventLine>(
     Ok(body)
 }
 
-/// The header of a text of this version with this title, and what the lines after it tell, or the first fault of the text.
-#[tactic(auto, unfolding(crate::specs::ScheduleReading::text_in))]
+/// What a text of this version with this title tells, or its first fault.
+#[tactic(auto, unfolding(lset_text::specs::Texts::text_from))]
 pub fn read_text<L: EventLine>(
     alloc: Global,
     version: Version,
     title: &[u8],
     text: &[u8],
-) -> Result<(Header, Body<L>), ScheduleFault>
-    ensures exact { Gives (λ t. (t.0, told t.1)) result (text_in L.lines version title.now (cut_at 10 text.now)) }
+) -> Result<Body<L>, ScheduleFault>
+    ensures exact { Gives told result (text_from (texts L.lines version title.now) (cut_at 10 text.now)) }
     ensures memory { IfErr result (λ e. e.cause ≡ Cause.Memory
-        → IsGoodAfterHeader text.now (text_in L.lines version title.now (cut_at 10 text.now)) e.line) }
+        → IsGoodAfterHeader text.now (text_from (texts L.lines version title.now) (cut_at 10 text.now)) e.line) }
 {
     let (header, rest) = read_header(title, text)?;
-    let body = read_body(alloc, version, rest)?;
-    Ok((header, body))
+    read_body(alloc, version, header, rest)
 }

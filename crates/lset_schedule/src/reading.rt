@@ -91,8 +91,8 @@ fn schedule(alloc: Global, bytes: &[u8]) -> Result<Schedule, ScheduleFault>
     ensures memory { IfErr result (λ e. e.cause ≡ Cause.Memory → IsGoodLine bytes.now e.line) }
 {
     let version = told_version(bytes);
-    let (header, body) = read_text(alloc, version, title(version).as_bytes(), bytes)?;
-    Ok(Schedule::of_header(version, header, body.opening, body.lines))
+    let body = read_text(alloc, version, title(version).as_bytes(), bytes)?;
+    Ok(Schedule::of_header(version, body.header, body.opening, body.lines))
 }
 
 /// The schedule that the bytes are the text of, or the first fault of the bytes: its line, and the first

@@ -22,9 +22,6 @@ use Rattle.lset_server.proofs.Moves.{weigh-append}
 
 -- ---- one worker
 
-pub worked_none : (s : SeatValue) (v : Tally) → v ≡ tally 1 [] [] → HasWorked s s v 0 0
-worked_none s v e = record { received = []; view = e; number = refl; added = []; recorded = refl; count = refl; held = refl }
-
 -- one session more
 pub worked_more : (s s1 s2 : SeatValue) (v v' : Tally) (n m k number : ℕ) → HasWorked s s1 v n m
     → v' ≡ tally v.parts v.sent (v.received ++ number ∷ []) → s2.held ≡ s1.held
@@ -47,19 +44,6 @@ numbers-more n = ap numbers_below (add-one n)
 length-numbers : (n : ℕ) → length (numbers_below n) ≡ n
 length-numbers zero = refl
 length-numbers (suc n) = omega (arith, length-append (numbers_below n) (n ∷ []), length-numbers n)
-
--- one connection more was sent
-pub sent_more : (v u u' : Tally) (n : ℕ) → u ≡ tally v.parts (v.sent ++ numbers_below n) v.received →
-    u' ≡ tally u.parts (u.sent ++ n ∷ []) u.received
-    → u' ≡ tally v.parts (v.sent ++ numbers_below (n + 1)) v.received
-sent_more v u u' n e f =
-    f ∙ ap (λ (x : Tally). tally x.parts (x.sent ++ n ∷ []) x.received) e
-    ∙ ap (λ l. tally v.parts l v.received) (append_assoc v.sent (numbers_below n) (n ∷ [])
-    ∙ ap (λ l. v.sent ++ l) (sym (numbers-more n)))
-
--- the word that no more come changes nothing
-pub sent_none : (v u u' : Tally) → u ≡ v → u' ≡ tally u.parts (u.sent ++ []) u.received → u' ≡ v
-sent_none v u u' e f = f ∙ ap (λ l. tally u.parts l u.received) (append-nil u.sent) ∙ e
 
 -- one part more was cut off
 pub part_more : (v u u' : Tally) (n m : ℕ) → u ≡ tally (v.parts - n) v.sent v.received →
@@ -153,16 +137,6 @@ bound_next' s d most n n' total h e small =
     omega (arith, full, small)
 
 -- ---- the whole
-
-pub held_map : {H T : Type 0} (seat_of : H → T) (held : T → ℕ) (hs : List H) (ss : List T) → map seat_of hs ≡ ss
-    → sum_by (λ h. held (seat_of h)) hs ≡ sum_by held ss
-held_map {H = H} {T = T} seat_of held hs ss e = one hs ∙ ap (sum_by held) e
-  where
-    one : (xs : List H) → sum_by (λ h. held (seat_of h)) xs ≡ sum_by held (map seat_of xs)
-    one [] = refl
-    one (x ∷ xs) =
-        sum_by-cons (λ h. held (seat_of h)) x xs ∙ ap (λ n. held (seat_of x) + n) (one xs)
-        ∙ sym (sum_by-cons held (seat_of x) (map seat_of xs))
 
 pub as_many : {H T : Type 0} (seat_of : H → T) (hs : List H) (ss : List T) → map seat_of hs ≡ ss → length hs ≡ length ss
 as_many seat_of hs ss e = sym (length-map hs seat_of) ∙ ap (λ l. length l) e

@@ -1,11 +1,11 @@
 -- How a session goes on from line to line.
 use Rattle.std.proofs.Common.{◌≡◌, ◌≢◌, ℕ, ◌+◌, ◌-◌, ◌<◌, ◌≤◌, Bool, true, false, eqb, List, [], ◌∷◌, ◌++◌, length, Option, Some}
 use Rattle.std.proofs.Common.{None, if◌then◌else◌}
-use Rattle.std.proofs.Common.{refl, sym, ap, ◌∙◌, subst, append_assoc, append-nil, arith, length-append, take, drop, get_or}
-use Rattle.std.proofs.Common.{take-append-drop, IsTrue, ◌↔◌}
-use Rattle.std.proofs.lemmas.Bool.{ne_eqb, lt-ltb, le-ltb, false≢true}
+use Rattle.std.proofs.Common.{refl, sym, ap, ◌∙◌, subst, append_assoc, append-nil, arith, length-append, length-take, take, drop, get_or}
+use Rattle.std.proofs.Common.{take-append-drop}
+use Rattle.std.proofs.lemmas.Bool.{ne_eqb, lt-ltb, le-ltb}
 use Rattle.std.proofs.Math.Seq.{take-suc}
-use Rattle.std.proofs.Common.{◌⊎◌, inl, inr, add-one}
+use Rattle.std.proofs.Common.{add-one}
 use Rattle.std.proofs.lemmas.List.{map-append}
 use Rattle.std.proofs.lemmas.Grind.{flat_map-append}
 use Rattle.std.proofs.lemmas.List.Elements.{All-head, All-tail}
@@ -27,7 +27,8 @@ use Rattle.lset_session.specs.SessionText.{end_of}
 use Rattle.lset_session.specs.SessionText.{Exchange, made, too_long, at_limit, turn_of, answer_of, call_of, turns_in}
 use Rattle.lset_session.specs.SessionText.{answers_in, calls_in}
 use Rattle.lset_session.specs.Sessions.{Wrote, text_end, IsSession}
-use Rattle.lset_session.specs.Talks.{WroteSoFar, IsLast, Told, Heard, counted, failed_by, ending}
+use Rattle.lset_session.specs.Talks.{WroteSoFar, IsLast, Told, Heard, IsTalk, pending_of, counted, ending}
+use Rattle.lset_session.specs.declared.sessions.Talk.{Talk}
 
 -- ---- the parts of a text that goes on
 
@@ -39,19 +40,18 @@ cut_more (b ∷ bs) x xs more e lacks =
     let not_it = All-head (λ b. eqb b 10 ≡ false) b bs lacks in
     rw (not_it, cut_more bs x xs more e (All-tail (λ b. eqb b 10 ≡ false) b bs lacks)) refl
 
-pub turns_long : (left : ℕ) (q more : List ℕ) → Lacks 10 q → LONGEST_LINE < length q →
-    turns_at left (cut_at 10 (q ++ more)) ≡ long ∷ []
+long_first : (left : ℕ) (x : List ℕ) (xs : List (List ℕ)) → LONGEST_LINE < length x → turns_at left (x ∷ xs) ≡ long ∷ []
+long_first left x [] many = rw (lt-ltb LONGEST_LINE (length x) many) refl
+long_first left x (y ∷ ys) many = rw (lt-ltb LONGEST_LINE (length x) many) refl
+
+turns_long : (left : ℕ) (q more : List ℕ) → Lacks 10 q → LONGEST_LINE < length q → turns_at left (cut_at 10 (q ++ more)) ≡ long ∷ []
 turns_long left q more lacks many = by_parts (cut_at 10 more) refl (some_part 10 more)
   where
     by_parts : (parts : List (List ℕ)) → cut_at 10 more ≡ parts → 0 < length parts → turns_at left (cut_at 10 (q ++ more)) ≡ long
         ∷ []
     by_parts [] e some = absurd (omega arith)
-    by_parts (x ∷ []) e some =
-        let much = lt-ltb LONGEST_LINE (length (q ++ x)) (omega (arith, many, length-append q x)) in
-        rw (cut_more q x [] more e lacks, much) refl
-    by_parts (x ∷ y ∷ ys) e some =
-        let much = lt-ltb LONGEST_LINE (length (q ++ x)) (omega (arith, many, length-append q x)) in
-        rw (cut_more q x (y ∷ ys) more e lacks, much) refl
+    by_parts (x ∷ xs) e some =
+        ap (turns_at left) (cut_more q x xs more e lacks) ∙ long_first left (q ++ x) xs (omega (arith, many, length-append q x))
 
 pub turns_line : (left : ℕ) (p more : List ℕ) → Lacks 10 p → length p ≤ LONGEST_LINE
     → turns_at left (cut_at 10 (p ++ 10 ∷ more)) ≡ turns_after left (request_of p) (turns_at (left - 1) (cut_at 10 more))
@@ -107,57 +107,68 @@ counted_is e q h = refl
 
 -- ---- what was heard
 
-pub heard_nothing : (left : ℕ) (p : List ℕ) (r : Record) (w : Option (List ℕ)) (n : ℕ) → Heard left p None left p r r w w n n
-heard_nothing left p r w n = record {
-  talk = [];
-  told = (refl, λ more. refl);
-  recorded = refl;
-  wrote = Appends-nil w;
-  count = omega arith;
-}
+-- the last line of a session was written, or its write has failed
+told_last : (left left' : ℕ) (bytes p' : List ℕ) (talk : List Exchange) (why : Why) (whole : Bool) → IsLast why
+    → ((more : List ℕ) → turns_at left (cut_at 10 (bytes ++ more)) ≡ turns_in talk ++ []) → end_of (turns_in talk) ≡ why
+    → Told left bytes (ending whole why) left' p' talk
+told_last left left' bytes p' talk why true last all end = (last, λ more. ([], all more, λ _. (refl, end)))
+told_last left left' bytes p' talk why false last all end = (tt, λ more. ([], all more, λ bad. absurd (bad refl)))
+
+wrote_whole : (w w' w'' : Option (List ℕ)) (s t : List Exchange) → Appends w w' (answers_in s) → Appends w' w'' (answers_in t)
+    → Appends w w'' (answers_in (s ++ t))
+wrote_whole w w' w'' s t h k =
+    subst (Appends w w'') (sym (flat_map-append answer_of s t)) (Appends-trans w w' w'' (answers_in s) (answers_in t) h k)
+
+wrote_one : (w w' : Option (List ℕ)) (e : Exchange) → Appends w w' (answer_of e) → Appends w w' (answers_in (e ∷ []))
+wrote_one w w' e wrote = subst (Appends w w') (sym (append-nil (answer_of e))) wrote
+
+wrote_last : (w w' w'' : Option (List ℕ)) (said : List Exchange) (e : Exchange) (why : Why) (whole : Bool)
+    → (Appends w w'' (answers_in (said ++ e ∷ [])) → Wrote why w w'' (said ++ e ∷ []))
+    → Appends w w' (answers_in said) → Writes whole w' w'' (answer_of e) → WroteSoFar (ending whole why) w w'' (said ++ e ∷ [])
+wrote_last w w' w'' said e why true is h k = is (wrote_whole w w' w'' said (e ∷ []) h (wrote_one w' w'' e k))
+wrote_last w w' w'' said e why false is h (front, b, cut, all, k) =
+    (said, e, front, b, cut, refl, all, Appends-trans w w' w'' (answers_in said) front h k)
 
 pub heard_long : (left left' : ℕ) (q p' : List ℕ) (r : Record) (w w' : Option (List ℕ)) (n : ℕ) (whole : Bool) → Lacks 10 q →
     LONGEST_LINE < length q
     → Writes whole w w' (answer_of too_long) → Heard left q (ending whole why.Long) left' p' r r w w' n n
-heard_long left left' q p' r w w' n true lacks many wrote = record {
+heard_long left left' q p' r w w' n whole lacks many wrote = record {
   talk = too_long ∷ [];
-  told = (tt, λ more. ([], turns_long left q more lacks many, λ _. (refl, refl)));
+  told = told_last left left' q p' (too_long ∷ []) why.Long whole tt (λ more. turns_long left q more lacks many) refl;
   recorded = refl;
-  wrote = wrote;
-  count = omega arith;
-}
-heard_long left left' q p' r w w' n false lacks many (front, b, cut, is, wrote) = record {
-  talk = too_long ∷ [];
-  told = (tt, λ more. ([], turns_long left q more lacks many, λ bad. absurd (bad refl)));
-  recorded = refl;
-  wrote = ([], too_long, front, b, cut, refl, is, wrote);
+  wrote = wrote_last w w w' [] too_long why.Long whole (λ a. a) (Appends-nil w) wrote;
   count = omega arith;
 }
 
 -- a line that ended, with what was said
-module _ (left left' : ℕ) (p p' : List ℕ) (r r' : Record) (w w' : Option (List ℕ)) (n n' : ℕ) (e : Exchange)
-    (lacks : Lacks 10 p) (short : length p ≤ LONGEST_LINE) (is : turn_of e ≡ line (request_of p))
-    (recorded : r' ≡ with_calls r (call_of e)) (count : n' ≡ n + counted (request_of p)) where
-  abbrev said : List ℕ → List ℕ
-  said more = (p ++ 10 ∷ []) ++ more
+module _ (t : Talk) (talk : IsTalk t) (left' : ℕ) (p' : List ℕ) (r r' : Record) (w w' : Option (List ℕ)) (n' : ℕ)
+    (e : Exchange) (q : Request) (asked : q ≡ request_of (pending_of t)) (is : turn_of e ≡ line q)
+    (recorded : r' ≡ with_calls r (call_of e)) (count : n' ≡ t.calls + counted q) where
+  abbrev said : List ℕ
+  said = pending_of t ++ 10 ∷ []
 
-  pub line_turns : (more : List ℕ) → turns_at left (cut_at 10 ((p ++ 10 ∷ []) ++ more)) ≡ turns_after left (request_of p)
-      (turns_at (left - 1) (cut_at 10 more))
-  line_turns more = ap (λ t. turns_at left (cut_at 10 t)) (append_assoc p (10 ∷ []) more) ∙ turns_line left p more lacks short
+  abbrev later : List ℕ → List Turn
+  later more = turns_at (t.left - 1) (cut_at 10 more)
+
+  line_turns : (more : List ℕ) → turns_at t.left (cut_at 10 (said ++ more)) ≡ turns_after t.left q (later more)
+  line_turns more =
+      let short : length (pending_of t) ≤ LONGEST_LINE = omega (arith, length-take t.len t.line, talk.short) in
+      ap (λ b. turns_at t.left (cut_at 10 b)) (append_assoc (pending_of t) (10 ∷ []) more)
+      ∙ turns_line t.left (pending_of t) more talk.line short ∙ ap (λ a. turns_after t.left a (later more)) (sym asked)
 
   one_recorded : r' ≡ with_calls r (call_of e ++ [])
   one_recorded = recorded ∙ ap (with_calls r) (sym (append-nil (call_of e)))
 
-  one_count : n' ≡ n + length (call_of e ++ [])
-  one_count = omega (arith, count, counted_is e (request_of p) is, ap (λ (l : List CallMade). length l) (append-nil (call_of e)))
+  one_count : n' ≡ t.calls + length (call_of e ++ [])
+  one_count = omega (arith, count, counted_is e q is, ap (λ (l : List CallMade). length l) (append-nil (call_of e)))
 
-  pub heard_cut : CutShort w w' (answer_of e) → Heard left (p ++ 10 ∷ []) (Some why.WriteFault) left' p' r r' w w' n n'
+  pub heard_cut : CutShort w w' (answer_of e) → Heard t.left said (Some why.WriteFault) left' p' r r' w w' t.calls n'
   heard_cut (front, b, cut, all, wrote) = record {
     talk = e ∷ [];
     told = (
       tt,
       λ more.
-          let others = first_turn left e (request_of p) (turns_at (left - 1) (cut_at 10 more)) is in
+          let others = first_turn t.left e q (later more) is in
           (others.0, line_turns more ∙ others.1, λ bad. absurd (bad refl)),
     );
     recorded = one_recorded;
@@ -165,79 +176,42 @@ module _ (left left' : ℕ) (p p' : List ℕ) (r r' : Record) (w w' : Option (Li
     count = one_count;
   }
 
-  one_wrote : Appends w w' (answer_of e) → Appends w w' (answers_in (e ∷ []))
-  one_wrote wrote = subst (Appends w w') (sym (append-nil (answer_of e))) wrote
-
-  pub heard_quit : request_of p ≡ request.Quit → Appends w w' (answer_of e) →
-      Heard left (p ++ 10 ∷ []) (Some why.Quit) left' p' r r' w w' n n'
+  pub heard_quit : q ≡ request.Quit → Appends w w' (answer_of e) → Heard t.left said (Some why.Quit) left' p' r r' w w' t.calls n'
   heard_quit quit wrote = record {
     talk = e ∷ [];
-    told = (
-      tt,
-      λ more.
-          ([], line_turns more ∙ turns_quit left e (request_of p) _ is quit, λ _. (refl, end_quit e (request_of p) is quit)),
-    );
+    told = told_last t.left left' said p' (e ∷ []) why.Quit true tt (λ more. line_turns more ∙ turns_quit t.left e q _ is quit)
+        (end_quit e q is quit);
     recorded = one_recorded;
-    wrote = one_wrote wrote;
+    wrote = wrote_one w w' e wrote;
     count = one_count;
   }
 
-  pub heard_line : request_of p ≢ request.Quit → 1 < left → Appends w w' (answer_of e) →
-      Heard left (p ++ 10 ∷ []) None (left - 1) [] r r' w w' n n'
+  pub heard_line : q ≢ request.Quit → 1 < t.left → Appends w w' (answer_of e) →
+      Heard t.left said None (t.left - 1) [] r r' w w' t.calls n'
   heard_line other more_lines wrote = record {
     talk = e ∷ [];
     told = (
-      end_other e (request_of p) why.End is other,
+      end_other e q why.End is other,
       λ more.
-          let not_last : eqb left 1 ≡ false = ne_eqb left 1 (λ one. absurd (omega (arith, one, more_lines))) in
-          let later = turns_at (left - 1) (cut_at 10 more) in
-          line_turns more ∙ turns_other left e (request_of p) later is other
-          ∙ ap (λ b. turn_of e ∷ (if b then limit ∷ [] else later)) not_last,
+          let not_last : eqb t.left 1 ≡ false = ne_eqb t.left 1 (λ one. absurd (omega (arith, one, more_lines))) in
+          line_turns more ∙ turns_other t.left e q (later more) is other
+          ∙ ap (λ b. turn_of e ∷ (if b then limit ∷ [] else later more)) not_last,
     );
     recorded = one_recorded;
-    wrote = one_wrote wrote;
+    wrote = wrote_one w w' e wrote;
     count = one_count;
   }
 
-  pub heard_limit : (w'' : Option (List ℕ)) (whole : Bool) → request_of p ≢ request.Quit → left ≡ 1 → Appends w w' (answer_of e)
-      → Writes whole w' w'' (answer_of at_limit) → Heard left (p ++ 10 ∷ []) (ending whole why.Limit) left' p' r r' w w'' n n'
-  heard_limit w'' true other last wrote end = record {
+  pub heard_limit : (w'' : Option (List ℕ)) (whole : Bool) → q ≢ request.Quit → t.left ≡ 1 → Appends w w' (answer_of e)
+      → Writes whole w' w'' (answer_of at_limit) → Heard t.left said (ending whole why.Limit) left' p' r r' w w'' t.calls n'
+  heard_limit w'' whole other last wrote end = record {
     talk = e ∷ at_limit ∷ [];
-    told = (
-      tt,
-      λ more.
-          ([], last_turns more, λ _. (refl, end_other e (request_of p) why.Limit is other)),
-    );
+    told = told_last t.left left' said p' (e ∷ at_limit ∷ []) why.Limit whole tt
+        (λ more. line_turns more ∙ turns_other t.left e q _ is other
+        ∙ ap (λ b. turn_of e ∷ (if eqb b 1 then limit ∷ [] else later more)) last)
+        (end_other e q why.Limit is other);
     recorded = one_recorded;
-    wrote = Appends-trans w w' w'' (answer_of e) (answer_of at_limit) wrote end;
-    count = one_count;
-  }
-    where
-      last_turns : (more : List ℕ) → turns_at left (cut_at 10 ((p ++ 10 ∷ []) ++ more)) ≡ turn_of e ∷ limit ∷ []
-      last_turns more = line_turns more ∙ turns_other left e (request_of p) _ is other
-          ∙ ap (λ b. turn_of e ∷ (if eqb b 1 then limit ∷ [] else turns_at (left - 1) (cut_at 10 more))) last
-  heard_limit w'' false other last wrote (front, b, cut, all, end) = record {
-    talk = e ∷ at_limit ∷ [];
-    told = (
-      tt,
-      λ more. (
-        [],
-        line_turns more ∙ turns_other left e (request_of p) _ is other
-            ∙ ap (λ b. turn_of e ∷ (if eqb b 1 then limit ∷ [] else turns_at (left - 1) (cut_at 10 more))) last,
-        λ bad. absurd (bad refl),
-      ),
-    );
-    recorded = one_recorded;
-    wrote = (
-      e ∷ [],
-      at_limit,
-      front,
-      b,
-      cut,
-      refl,
-      all,
-      Appends-trans w w' w'' (answers_in (e ∷ [])) front (one_wrote wrote) end,
-    );
+    wrote = wrote_last w w' w'' (e ∷ []) at_limit why.Limit whole (λ a. a) (wrote_one w w' e wrote) end;
     count = one_count;
   }
 
@@ -278,26 +252,15 @@ told_then l l' l'' p p' p'' cs (Some w) s t h k = (
       ),
 )
 
-wrote_whole : (w w' w'' : Option (List ℕ)) (s t : List Exchange) → Appends w w' (answers_in s) → Appends w' w'' (answers_in t)
-    → Appends w w'' (answers_in (s ++ t))
-wrote_whole w w' w'' s t h k =
-    subst (Appends w w'') (sym (flat_map-append answer_of s t)) (Appends-trans w w' w'' (answers_in s) (answers_in t) h k)
-
 wrote_then : (o : Option Why) (w w' w'' : Option (List ℕ)) (s t : List Exchange) → Appends w w' (answers_in s) →
     WroteSoFar o w' w'' t → WroteSoFar o w w'' (s ++ t)
 wrote_then None w w' w'' s t h k = wrote_whole w w' w'' s t h k
-wrote_then (Some why.WriteFault) w w' w'' s t h (said, last, front, b, cut, all, is, k) = (
-  s ++ said,
-  last,
-  front,
-  b,
-  cut,
-  ap (λ l. s ++ l) all ∙ sym (append_assoc s said (last ∷ [])),
-  is,
-  subst (Appends w w'')
-      (sym (append_assoc (answers_in s) (answers_in said) front) ∙ ap (λ l. l ++ front) (sym (flat_map-append answer_of s said)))
-      (Appends-trans w w' w'' (answers_in s) (answers_in said ++ front) h k),
-)
+wrote_then (Some why.WriteFault) w w' w'' s t h (said, last, front, b, cut, all, is, k) =
+    let others = ap (λ l. s ++ l) all ∙ sym (append_assoc s said (last ∷ [])) in
+    let answers = sym (append_assoc (answers_in s) (answers_in said) front)
+    ∙ ap (λ l. l ++ front) (sym (flat_map-append answer_of s said)) in
+    let whole = Appends-trans w w' w'' (answers_in s) (answers_in said ++ front) h k in
+    (s ++ said, last, front, b, cut, others, is, subst (Appends w w'') answers whole)
 wrote_then (Some o) w w' w'' s t h k = wrote_whole w w' w'' s t h k
 
 pub heard_then : (l l' l'' : ℕ) (p p' p'' cs : List ℕ) (o : Option Why) (r r' r'' : Record) (w w' w'' : Option (List ℕ))
@@ -311,30 +274,12 @@ heard_then l l' l'' p p' p'' cs o r r' r'' w w' w'' n n' n'' h k = record {
       ∙ sym (with_calls-append r (calls_in h.talk) (calls_in k.talk))
       ∙ ap (with_calls r) (sym (flat_map-append call_of h.talk k.talk));
   wrote = wrote_then o w w' w'' h.talk k.talk h.wrote k.wrote;
-  count = omega (
-    arith,
-    h.count,
-    k.count,
-    ap (λ (l : List CallMade). length l) (flat_map-append call_of h.talk k.talk),
-    length-append (calls_in h.talk) (calls_in k.talk),
-  );
+  count = omega (arith, h.count, k.count, calls);
 }
-
--- what comes after the end is not heard
-pub heard_more : (l l' : ℕ) (p p' cs : List ℕ) (end : Why) (r r' : Record) (w w' : Option (List ℕ)) (n n' : ℕ)
-    → Heard l p (Some end) l' p' r r' w w' n n' → Heard l (p ++ cs) (Some end) l' p' r r' w w' n n'
-heard_more l l' p p' cs end r r' w w' n n' h = record {
-  talk = h.talk;
-  told = (
-    h.told.0,
-    λ more.
-        let last = h.told.1 (cs ++ more) in
-        (last.0, ap (λ b. turns_at l (cut_at 10 b)) (append_assoc p cs more) ∙ last.1, last.2),
-  );
-  recorded = h.recorded;
-  wrote = h.wrote;
-  count = h.count;
-}
+  where
+    calls : length (calls_in (h.talk ++ k.talk)) ≡ length (calls_in h.talk) + length (calls_in k.talk)
+    calls = ap (λ (l : List CallMade). length l) (flat_map-append call_of h.talk k.talk)
+        ∙ length-append (calls_in h.talk) (calls_in k.talk)
 
 -- ---- the bytes of one read
 
@@ -354,24 +299,37 @@ heard_byte l l' l'' p p' p'' xs i o r r' r'' w w' w'' n n' n'' lt h k =
 -- the bytes after the end are not heard
 pub heard_rest : (l l' : ℕ) (p p' xs : List ℕ) (i : ℕ) (end : Why) (r r' : Record) (w w' : Option (List ℕ)) (n n' : ℕ)
     → Heard l (p ++ take i xs) (Some end) l' p' r r' w w' n n' → Heard l (p ++ xs) (Some end) l' p' r r' w w' n n'
-heard_rest l l' p p' xs i end r r' w w' n n' h =
-    subst (λ t. Heard l t (Some end) l' p' r r' w w' n n') (append_assoc p (take i xs) (drop i xs)
-    ∙ ap (λ t. p ++ t) (take-append-drop i xs))
-    (heard_more l l' (p ++ take i xs) p' (drop i xs) end r r' w w' n n' h)
+heard_rest l l' p p' xs i end r r' w w' n n' h = record {
+  talk = h.talk;
+  told = (
+    h.told.0,
+    λ more.
+        let last = h.told.1 (drop i xs ++ more) in
+        (last.0, ap (λ b. turns_at l (cut_at 10 b)) (regrouped more) ∙ last.1, last.2),
+  );
+  recorded = h.recorded;
+  wrote = h.wrote;
+  count = h.count;
+}
+  where
+    regrouped : (more : List ℕ) → (p ++ xs) ++ more ≡ (p ++ take i xs) ++ (drop i xs ++ more)
+    regrouped more = ap (λ t. (p ++ t) ++ more) (sym (take-append-drop i xs))
+        ∙ ap (λ t. t ++ more) (sym (append_assoc p (take i xs) (drop i xs))) ∙ append_assoc (p ++ take i xs) (drop i xs) more
 
 -- ---- the end
 
 -- no whole line is left, and no line has ended the session
-pub spoken_rest : (end : Why) (bytes : List ℕ) (left : ℕ) (p : List ℕ) (r r' : Record) (s s' w w' : Option (List ℕ)) (n : ℕ) →
-    Lacks 10 p → length p ≤ LONGEST_LINE
-    → (end ≡ why.End) ⊎ (end ≡ why.ReadFault) → (end ≡ why.End → IsAtEnd s') → Consumes s s' bytes →
-    Heard MOST_LINES bytes None left p r r' w w' 0 n
-    → IsSession end n s s' r r' w w'
+pub spoken_rest : (end : Why) (bytes : List ℕ) (t : Talk) (r r' : Record) (s s' w w' : Option (List ℕ)) → IsTalk t
+    → ((talk : List Exchange) → Appends w w' (answers_in talk) → Wrote end w w' talk) → why.End ≡ text_end end
+    → (end ≡ why.End → IsAtEnd s') → Consumes s s' bytes →
+    Heard MOST_LINES bytes None t.left (pending_of t) r r' w w' 0 t.calls
+    → IsSession end t.calls s s' r r' w w'
 unfolding turns_of
-spoken_rest end bytes left p r r' s s' w w' n lacks short which drained read h =
+spoken_rest end bytes t r r' s s' w w' is wrote at_end drained read h =
+    let short : length (pending_of t) ≤ LONGEST_LINE = omega (arith, length-take t.len t.line, is.short) in
     let all : turns_of bytes ≡ turns_in h.talk =
     ap (λ b. turns_at MOST_LINES (cut_at 10 b)) (sym (append-nil bytes)) ∙ h.told.1 []
-    ∙ ap (λ t. turns_in h.talk ++ t) (turns_rest left p lacks short)
+    ∙ ap (λ t. turns_in h.talk ++ t) (turns_rest t.left (pending_of t) is.line short)
     ∙ append-nil (turns_in h.talk) in
     record {
       bytes = bytes;
@@ -379,20 +337,11 @@ spoken_rest end bytes left p r r' s s' w w' n lacks short which drained read h =
       read = read;
       recorded = h.recorded;
       count = omega (arith, h.count);
-      wrote = wrote_so end which h.talk h.wrote;
+      wrote = wrote h.talk h.wrote;
       turns = ([], all ∙ sym (append-nil (turns_in h.talk)), λ _. refl);
-      ends = λ _. ap end_of all ∙ h.told.0 ∙ at_end end which;
+      ends = λ _. ap end_of all ∙ h.told.0 ∙ at_end;
       drained = drained;
     }
-  where
-    wrote_so : (end : Why) → (end ≡ why.End) ⊎ (end ≡ why.ReadFault) → (talk : List Exchange) → Appends w w' (answers_in talk) →
-        Wrote end w w' talk
-    wrote_so end (inl is) talk h = rw is h
-    wrote_so end (inr is) talk h = rw is h
-
-    at_end : (end : Why) → (end ≡ why.End) ⊎ (end ≡ why.ReadFault) → why.End ≡ text_end end
-    at_end end (inl is) = rw is refl
-    at_end end (inr is) = rw is refl
 
 pub spoken_last : (end : Why) (bytes : List ℕ) (left : ℕ) (p : List ℕ) (r r' : Record) (s s' w w' : Option (List ℕ)) (n : ℕ)
     → Consumes s s' bytes → Heard MOST_LINES bytes (Some end) left p r r' w w' 0 n → IsSession end n s s' r r' w w'
@@ -421,10 +370,3 @@ spoken_last end bytes left p r r' s s' w w' n read h =
     itself why.End l = absurd l
     itself why.ReadFault l = absurd l
     itself end l = refl
-
-pub not_reading : (end : Why) → IsLast end → end ≡ why.ReadFault → ⊥
-not_reading end l is = subst IsLast is l
-
-pub failed_is : (end : Why) (b : Bool) → b ≡ failed_by (Some end) → IsTrue b ↔ (end ≡ why.WriteFault)
-failed_is why.WriteFault b h = (λ t. refl, λ e. h)
-failed_is end b h = (λ t. absurd (false≢true (sym h ∙ t)), λ e. absurd cc)

@@ -1,6 +1,5 @@
 pub mod Buffered
 pub mod Devices
-pub mod Failing
 pub mod SessionText
 pub mod Sessions
 pub mod Talks

@@ -4,7 +4,6 @@
 
 mod buffered;
 mod devices;
-pub mod failing;
 mod requests;
 mod sessions;
 

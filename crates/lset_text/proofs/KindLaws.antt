@@ -99,12 +99,6 @@ line_made v causes pieces Good ks x known is =
     (made_spells v pieces Good (λ ps. cut_at 32 (line_of ps) ≡ ps) (λ k form t fit. cut_form v k.0 t form fit) ks x known is)
     ∙ first_made v causes pieces Good ks x known is
 
--- and has no newline in it
-pub line_made_lacks : {X : Type 0} (v : Version) (pieces : X → List (List ℕ)) (Good : X → Type 0) (ks : List (LineKind X)) (x : X)
-    → AllByRecursion (Knows v pieces Good) ks → IsMade v pieces ks x → Lacks 10 (line_of (pieces x))
-line_made_lacks v pieces Good ks x known is =
-    made_spells v pieces Good (λ ps. Lacks 10 (line_of ps)) (λ k form t fit. form_line_lacks v k.0 t form fit) ks x known is
-
 -- ---- faults
 
 -- a line that is refused has one of the two causes

@@ -164,15 +164,6 @@ lines_hold {S} g P text one same line s t (x ∷ y ∷ more) some holds is =
       others.2,
     )
 
-pub lines_found : {S C E : Type 0} (g : Grammar S C E) (text : S → List (List ℕ))
-    → ((s t : S) (x : List ℕ) → g.step s x ≡ Ok t → text t ≡ text s ++ x ∷ [])
-    → ((s t : S) → g.ends s ≡ Ok t → s ≡ t)
-    → (line : ℕ) (s t : S) (parts : List (List ℕ)) → 0 < length parts → lines_from g line s parts ≡ Ok t
-    → (text s ++ parts ≡ text t ++ [] ∷ []) × (g.ends t ≡ Ok t)
-lines_found {S} g text one same line s t parts some is =
-    let none : S → Type 0 = λ u. Unit {0} in
-    let found = lines_hold g none text (λ u w x h e. (tt, one u w x e)) same line s t parts some tt is in (found.0, found.1)
-
 some_more : (ls : List (List ℕ)) → 0 < length (ls ++ [] ∷ [])
 some_more [] = omega arith
 some_more (l ∷ ls) = omega arith

@@ -60,11 +60,6 @@ too_high low high p i lt =
     let outside = and_right (leb low (digits_value 10 p)) _ (lt-leb (digits_value 10 p) high above) in
     no_number low high p (and_right (is_number p) _ outside)
 
-pub too_low : (low high : ℕ) (p : List ℕ) → digits_value 10 p < low → None ≡ number_in low high p
-too_low low high p lt =
-    let outside = and_left (leb low (digits_value 10 p)) _ (lt-leb low (digits_value 10 p) lt) in
-    no_number low high p (and_right (is_number p) _ outside)
-
 pub is_spelled : (low high : ℕ) (p : List ℕ) (v : ℕ) → v ≡ digits_value 10 p → 0 < length p → AllDigits 10 p
     → ((length p ≡ 1 → ⊥) → get_or p 0 0 ≡ 48 → ⊥) → low ≤ v → v ≤ high → Some v ≡ number_in low high p
 unfolding number_in

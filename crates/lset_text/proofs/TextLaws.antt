@@ -1,6 +1,6 @@
 -- Whole texts: what is read stands there, and what stands there is read; once for every text.
-use Rattle.std.proofs.Common.{◌≡◌, ℕ, ◌+◌, ◌<◌, Bool, false, cond, List, [], ◌∷◌, ◌++◌, length, Result, Ok, Err, refl, sym, ap, ◌∙◌}
-use Rattle.std.proofs.Common.{subst, append_assoc, length-append, arith}
+use Rattle.std.proofs.Common.{◌≡◌, ℕ, false, List, [], ◌∷◌, ◌++◌, length, Ok, Err, refl, sym, ap, ◌∙◌}
+use Rattle.std.proofs.Common.{subst, append_assoc, arith}
 use Rattle.std.specs.List.{AllByRecursion}
 use Rattle.std.specs.Str.{bytes_eq}
 use Rattle.std.proofs.lemmas.Slice.Eq.{bytes_eq-Decides}
@@ -10,8 +10,8 @@ use Rattle.lset_text.specs.declared.headers.Header.{Header}
 use Rattle.lset_text.specs.declared.headers.HeaderFault.{HeaderFault}
 use Rattle.lset_text.specs.Parts.{cut_at, text_of, Lacks}
 use Rattle.lset_text.specs.Headers.{header_of, header_lines, version_in, IsHeader}
-use Rattle.lset_text.specs.Lines.{Grammar, lines_from, Leads, IsFaultlessTo, IsGoodLine}
-use Rattle.lset_text.specs.Results.{◌>>=◌, map_fault}
+use Rattle.lset_text.specs.Lines.{lines_from, Leads, IsFaultlessTo, IsGoodLine}
+use Rattle.lset_text.specs.Results.{map_fault}
 use Rattle.lset_text.specs.Texts.{TextGrammar, last_of_header, first_line, text_from}
 use Rattle.lset_text.proofs.PartLaws.{some_part, text_from_lines, cut_lines}
 use Rattle.lset_text.proofs.ReadingLaws.{bind_ok, map_fault_ok}
@@ -75,7 +75,7 @@ text_found g P text begins one same bytes t is =
     let all = header.0 ∙ ap (λ (ls : List (List ℕ)). ls ++ head.0.1) (sym start.1) ∙ found.0 in
     (text_from_lines bytes (text t) all, found.1, found.2)
 
-all_both : {X : Type 0} (P : X → Type 0) (xs ys : List X) → AllByRecursion P xs → AllByRecursion P ys → AllByRecursion P (xs ++ ys)
+pub all_both : {X : Type 0} (P : X → Type 0) (xs ys : List X) → AllByRecursion P xs → AllByRecursion P ys → AllByRecursion P (xs ++ ys)
 all_both P [] ys front back = back
 all_both P (x ∷ xs) ys front back = (front.0, all_both P xs ys front.1 back)
 
@@ -104,6 +104,6 @@ text_again g P free h xs t title_free is start leads at_end =
 
 -- the version of a text is the one whose title stands first
 pub version_again : {S C E : Type 0} (g : Version → TextGrammar S C E) → bytes_eq (g One).title (g Two).title ≡ false
-    → (v : Version) (more : List (List ℕ)) → version_in (g Two).title ((g v).title ∷ more) ≡ v
-version_again g other One more = rw other refl
-version_again g other Two more = let same = (bytes_eq-Decides (g Two).title (g Two).title).1 refl in rw same refl
+    → (v : Version) (h : Header) (rest : List (List ℕ)) → version_in (g Two).title (header_lines (g v).title h ++ rest) ≡ v
+version_again g other One h rest = rw other refl
+version_again g other Two h rest = let same = (bytes_eq-Decides (g Two).title (g Two).title).1 refl in rw same refl

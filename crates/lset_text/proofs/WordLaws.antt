@@ -21,7 +21,7 @@ use Rattle.lset_text.specs.declared.words.Version.{Version}
 use Rattle.lset_text.specs.declared.words.Version.TheVariants.{One, Two}
 use Rattle.lset_text.specs.Parts.{Lacks}
 use Rattle.lset_text.specs.Numbers.{number_in, max_number}
-use Rattle.lset_text.specs.Spellings.{value_of, kind_text, all_kinds, kind_of, call_word_text, call_text, words_in, call_word_of, call_word_in}
+use Rattle.lset_text.specs.Spellings.{value_of, kind_text, all_kinds, kind_of, call_word_text, words_in, call_word_of, call_word_in}
 use Rattle.lset_text.specs.Spellings.{word_of, with_key, HasWord, reply_text, plain_in, reply_of, begins_at, at_key, at_number}
 use Rattle.lset_text.specs.Spellings.{reply_in, is_reply_in, HasReply}
 use Rattle.lset_text.proofs.NumberLaws.{number_ok, number_again, decimal_lacks}
@@ -83,9 +83,6 @@ call_in_again Two w h = refl
 pub call_word_lacks : (byte : ℕ) (w : CallWord) → byte < 45 → Lacks byte (call_word_text w)
 call_word_lacks byte word.Add low = Lacks-below 45 byte (codes "add") low refl
 call_word_lacks byte w low = Lacks-below 45 byte (call_word_text w) low refl
-
-pub call_lacks : (byte : ℕ) (c : Call) → byte < 45 → Lacks byte (call_text c)
-call_lacks byte c low = call_word_lacks byte (word_of c) low
 
 -- a call is its word with its key
 pub with_key-word_of : (c : Call) → with_key (word_of c) (key_of c) ≡ c

@@ -1,8 +1,8 @@
 //! Sessions whose answers wait.
+use crate::failing::{FailingReader, FailingWriter};
 use crate::opened::{
     ANSWERS, CEILINGS, LINES, held, held_buffered, one_seat, stopped_at, was_held,
 };
-use lset_server::failing::{FailingReader, FailingWriter};
 use lset_server::{Device, Ended, Sink, Source, Why, buffered_session};
 use std::alloc::Global;
 use std::cell::Cell;

@@ -6,6 +6,8 @@ mod buffered;
 #[cfg(test)]
 mod clients;
 #[cfg(test)]
+mod failing;
+#[cfg(test)]
 mod faults;
 #[cfg(test)]
 mod limits;

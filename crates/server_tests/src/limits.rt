@@ -1,5 +1,5 @@
+use crate::failing::FailingReader;
 use crate::opened::{held, held_buffered, was_held};
-use lset_server::failing::FailingReader;
 use lset_server::{Device, Ended, Source, Why};
 use std::alloc::Global;
 use std::process::Abort;

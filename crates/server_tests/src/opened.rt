@@ -1,8 +1,8 @@
 ghost use Rattle.std.specs.Prelude.{◌≡◌, All, false};
 
+use crate::failing::FailingWriter;
 use lset_lazy::LazyList;
 use lset_live::{LiveSet, Seat, open};
-use lset_server::failing::FailingWriter;
 use lset_server::{Device, Ended, Source, buffered_session, session};
 use std::alloc::Global;
 use std::process::Abort;

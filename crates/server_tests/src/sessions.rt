@@ -1,5 +1,5 @@
+use crate::failing::FailingReader;
 use crate::opened::{ANSWERS, CEILINGS, FOUND, LINES, held, last_seat, opened, was_held};
-use lset_server::failing::FailingReader;
 use lset_server::{Device, Ended, Request, Why, read_request, session};
 use lset_words::{Call, Key, Reply};
 use std::alloc::Global;

@@ -154,17 +154,3 @@ module _ (T : Table) (d : DraftValue) (i left : ℕ) (lines : List Line) (w : Wo
       same_world : (a b : Sizes) (s r : State) → a ≡ b → s ≡ r
           → (let x : WorldState = record { sizes = a; state = s } in x) ≡ record { sizes = b; state = r }
       same_world a b s r e f = cc
-
-  pub all_made : length d.lines ≤ i → AreLinesOfDraft T d lines
-  all_made past = record {
-    lines_are = subst (λ ds. AreLinesOf T (opening (opening_in d)) ds lines) (take_all d.lines i past) h.lines_are;
-    enabled = h.run.run;
-    few = omega (arith, h.total);
-    fit = h.fit;
-  }
-    where
-      take_all : (ds : List DraftLine) (i : ℕ) → length ds ≤ i → take i ds ≡ ds
-      take_all [] zero past = refl
-      take_all [] (suc i) past = refl
-      take_all (d ∷ ds) zero past = absurd (omega arith)
-      take_all (d ∷ ds) (suc i) past = ap (λ (es : List DraftLine). d ∷ es) (take_all ds i (omega arith))

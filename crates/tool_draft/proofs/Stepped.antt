@@ -18,9 +18,6 @@ pub record HasStepped (T : Table) (w : WorldState) (t n : ℕ) (w' : WorldState)
   pub enabled : AreEnabled T w.state t n
   pub world : w' ≡ world_on T w t n
 
-pub stepped_none : (T : Table) (w : WorldState) (t : ℕ) → HasStepped T w t 0 w
-stepped_none T w t = record { enabled = λ m l. absurd (omega arith); world = refl }
-
 last_or_before : (m n : ℕ) → m < suc n → (m ≡ n) ⊎ (m < n)
 last_or_before m n l = grind arith
 
@@ -40,9 +37,6 @@ module _ (T : Table) (w : WorldState) (t n : ℕ) (w' : WorldState) (h : HasStep
         world = is ∙ ap (λ (z : WorldState). record z { state = after T z.state (Go t) }) h.world;
       } in
       subst (λ k. HasStepped T w t k w'') (sym (add-one n)) one_more
-
-  pub refused_at : (why : StepFault) → Refused w' (Go t) why → IsRefusedAt T w t n why
-  refused_at why refused = record { enabled = h.enabled; refused = subst (λ z. Refused z (Go t) why) h.world refused }
 
   pub come : (row before most : ℕ) → n ≡ before + 1 → n ≤ most → IsNotYet T w.state t row before → (local_of w'.state t).pc ≡ row
       → HasCome T w t row most n w'

@@ -1,6 +1,6 @@
 -- The two laws: what is read is the text of the draft, and the text of a draft is read.
 use Rattle.std.proofs.Common.{◌≡◌, ℕ, ◌≤◌, inl, inr, Bool, true, false, List, codes, Option, Some, None, Result, Ok, Err}
-use Rattle.std.proofs.Common.{refl, ap, subst, ◌∙◌, arith}
+use Rattle.std.proofs.Common.{refl, sym, ap, subst, ◌∙◌, arith}
 use Rattle.std.specs.Prelude.{IfOk, MatchOption, MatchResult}
 use Rattle.std.specs.Fmt.{decimal}
 use Rattle.std.specs.List.{AllByRecursion}
@@ -9,9 +9,12 @@ use Rattle.lset_words.specs.declared.Call.{Call}
 use Rattle.lset_words.specs.declared.Call.TheVariants as call
 use Rattle.lset_text.specs.declared.words.Version.TheVariants.{Two}
 use Rattle.lset_text.specs.Forms.{have_form}
+use Rattle.lset_text.specs.Lines.{IsFaultlessTo}
 use Rattle.lset_text.specs.Numbers.{number_in}
 use Rattle.lset_text.specs.Openings.{opening_form}
 use Rattle.lset_text.specs.Parts.{cut_at}
+use Rattle.lset_text.specs.Results.{◌>>=◌}
+use Rattle.lset_text.specs.Texts.{text_from}
 use Rattle.lset_text.proofs.PartLaws.{Lacks-from_test}
 use Rattle.lset_text.proofs.NumberLaws.{number_again}
 use Rattle.lset_text.proofs.WordLaws.{same_bytes}
@@ -23,16 +26,16 @@ use Rattle.lset_schedule.specs.declared.fault.Cause.TheVariants.{Memory}
 use Rattle.lset_schedule.specs.declared.fault.ScheduleFault.{ScheduleFault}
 use Rattle.lset_schedule.specs.Plan.{IsLine}
 use Rattle.lset_schedule.specs.Plan as plan
-use Rattle.lset_schedule.specs.ScheduleReading.{BodyValue, text_in, Gives}
+use Rattle.lset_schedule.specs.ScheduleReading.{BodyValue, texts, Gives, IsGoodAfterHeader}
 use Rattle.lset_schedule.specs.ScheduleReading as schedule
-use Rattle.lset_schedule.proofs.BodyLaws.{HasText, text_found, text_cut, text_again}
+use Rattle.lset_schedule.proofs.BodyLaws.{body_found, body_again}
 use Rattle.lset_text.proofs.KindLaws.{knows_as, made_as}
 use Rattle.lset_schedule.proofs.TextLaws.{events_known, event_made, gives_ok}
 use Rattle.tool_draft.specs.declared.value.Draft.{Draft}
 use Rattle.tool_draft.specs.declared.value.DraftLine.{DraftLine}
 use Rattle.tool_draft.specs.declared.value.DraftLine.TheVariants.{Plain, Out, To}
-use Rattle.tool_draft.specs.Drafts.{DraftValue, view, title, header_in, pieces_of, draft_text, IsDraftLine, IsDraft}
-use Rattle.tool_draft.specs.DraftReading.{to_kind, events, draft_told, reading}
+use Rattle.tool_draft.specs.Drafts.{DraftValue, view, drafted, title, header_in, pieces_of, draft_text, IsDraftLine, IsDraft}
+use Rattle.tool_draft.specs.DraftReading.{to_kind, events, reading}
 
 -- where nothing is told, a second thing is known too
 pub also_none : {A B R : Type 0} (P : R → Type 0) (o : Option R) → (A → B) → MatchOption o A P → MatchOption o B P
@@ -106,22 +109,36 @@ no_opening (To t row) is = refl
 
 pub is_found : (bytes : List ℕ) (d : DraftValue) → reading bytes ≡ Ok d → IsDraft d × (bytes ≡ draft_text d)
 is_found bytes d is =
-    let told = bind_ok (text_in events Two title (cut_at 10 bytes)) (λ told. Ok (draft_told told)) d is in
-    let found = text_found events Two pieces_of IsDraftLine draft_known draft_made no_opening title bytes told.0 told.1 in
-    subst (λ x. IsDraft x × (bytes ≡ draft_text x)) (ok_is (draft_told told.0) d told.2)
+    let body = bind_ok (text_from (texts events Two title) (cut_at 10 bytes)) (λ b. Ok (drafted b.header b.keys b.lines)) d is in
+    let found = body_found events Two title pieces_of IsDraftLine draft_known draft_made no_opening bytes body.0 body.1 in
+    subst (λ x. IsDraft x × (bytes ≡ draft_text x)) (ok_is (drafted body.0.header body.0.keys body.0.lines) d body.2)
     (record { opens = found.0.opens; lines = found.0.lines; few = found.0.few }, found.1)
 
 pub reads_text : (d : DraftValue) → IsDraft d → reading (draft_text d) ≡ Ok d
 reads_text d is =
-    let body : BodyValue DraftLine = record { keys = d.opening; lines = d.lines } in
-    let has : HasText events Two IsDraftLine (header_in d) body =
-    record { opens = is.opens; opening = tt; lines = is.lines; few = is.few } in
-    let cut = text_cut events Two pieces_of IsDraftLine draft_known draft_made no_opening title (header_in d) body
-    (Lacks-from_test 10 title refl) has in
-    let again = text_again events Two pieces_of IsDraftLine draft_known draft_made no_opening title (header_in d) body has in
-    rw (cut, again) refl
+    let again = body_again events Two title pieces_of IsDraftLine draft_known draft_made no_opening
+    (record { header = header_in d; keys = d.opening; lines = d.lines }) (Lacks-from_test 10 title refl)
+    (record { opens = is.opens; opening = tt; lines = is.lines; few = is.few }) in
+    rw (again.0, again.1) refl
 
 -- ---- as a reader's clauses
+
+-- what is read with this title is made a draft, and its good lines are good
+module _ (t bytes : List ℕ) (same : t ≡ title) where
+  abbrev told : Result (BodyValue DraftLine) ScheduleFault
+  told = text_from (texts events Two t) (cut_at 10 bytes)
+
+  pub reading_is : reading bytes ≡ (told >>= λ b. Ok (drafted b.header b.keys b.lines))
+  reading_is = rw same refl
+
+  pub still_good : (line : ℕ) → IsGoodAfterHeader bytes told line → IsGoodAfterHeader bytes (reading bytes) line
+  still_good line good =
+      subst (λ r. IsGoodAfterHeader bytes r line) (sym reading_is) (good.0, (good.1.0, good.1.1, seen told good.1.2))
+    where
+      seen : (r : Result (BodyValue DraftLine) ScheduleFault) → IsFaultlessTo (λ e. e.line) line r
+          → IsFaultlessTo {X = DraftValue} (λ e. e.line) line (r >>= λ b. Ok (drafted b.header b.keys b.lines))
+      seen (Ok b) faultless = tt
+      seen (Err e) faultless = faultless
 
 pub found_in : (bytes : List ℕ) (r : Result Draft ScheduleFault) → Gives view r (reading bytes)
     → IfOk r (λ d. IsDraft (view d) × (bytes ≡ draft_text (view d)))

@@ -1,13 +1,13 @@
 -- The draft of a text, or its first fault: a schedule of the second version, with two kinds of lines more.
 use Rattle.std.specs.Prelude.{ℕ, List, [], ◌∷◌, map, codes, Result, Ok}
-use Rattle.lset_text.specs.declared.headers.Header.{Header}
 use Rattle.lset_text.specs.declared.words.Version.TheVariants.{Two}
 use Rattle.lset_text.specs.Forms.{word, number, any}
 use Rattle.lset_text.specs.Kinds.{LineKind, kind_as}
 use Rattle.lset_text.specs.Parts.{cut_at}
 use Rattle.lset_text.specs.Results.{◌>>=◌}
+use Rattle.lset_text.specs.Texts.{text_from}
 use Rattle.lset_schedule.specs.declared.fault.ScheduleFault.{ScheduleFault}
-use Rattle.lset_schedule.specs.ScheduleReading.{EventLines, BodyValue, text_in}
+use Rattle.lset_schedule.specs.ScheduleReading.{EventLines, texts}
 use Rattle.lset_schedule.specs.ScheduleReading as schedule
 use Rattle.tool_draft.specs.declared.TheConstants.{MOST_ROW}
 use Rattle.tool_draft.specs.declared.value.DraftLine.{DraftLine}
@@ -24,8 +24,5 @@ to_kind = (word (codes "go") ∷ any ∷ word (codes "to") ∷ number 1 MOST_ROW
 abbrev pub events : EventLines DraftLine
 events = record { kinds = out_kind ∷ to_kind ∷ map (kind_as Plain) schedule.events.kinds; count = least_count }
 
-abbrev pub draft_told : Header × BodyValue DraftLine → DraftValue
-draft_told told = drafted told.0 told.1.keys told.1.lines
-
 abbrev pub reading : List ℕ → Result DraftValue ScheduleFault
-reading bytes = text_in events Two title (cut_at 10 bytes) >>= λ told. Ok (draft_told told)
+reading bytes = text_from (texts events Two title) (cut_at 10 bytes) >>= λ told. Ok (drafted told.header told.keys told.lines)

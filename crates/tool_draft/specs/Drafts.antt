@@ -8,9 +8,10 @@ use Rattle.lset_text.specs.declared.headers.Header.{Header}
 use Rattle.lset_text.specs.declared.words.Version.TheVariants.{Two}
 use Rattle.lset_text.specs.Parts.{line_of, text_of}
 use Rattle.lset_text.specs.Headers.{header_lines}
+use Rattle.lset_text.specs.Texts.{first_line}
 use Rattle.lset_text.specs.Openings.{opening_lines}
 use Rattle.lset_schedule.specs.declared.TheConstants.{MOST_EVENTS}
-use Rattle.lset_schedule.specs.Plan.{event_count, first_line, IsLine}
+use Rattle.lset_schedule.specs.Plan.{event_count, IsLine}
 use Rattle.lset_schedule.specs.Plan as plan
 use Rattle.tool_draft.specs.declared.TheConstants.{MOST_ROW}
 use Rattle.tool_draft.specs.declared.value.Draft.{Draft}

@@ -90,11 +90,11 @@ fn draft(alloc: Global, bytes: &[u8]) -> Result<Draft, ScheduleFault>
     ensures exact { Gives view result (reading bytes.now) }
     ensures memory { IfErr result (λ e. e.cause ≡ Cause.Memory → IsGoodAfterHeader bytes.now (reading bytes.now) e.line) }
 {
-    let (header, body) = read_text(alloc, Version::Two, TITLE.as_bytes(), bytes)?;
+    let body = read_text(alloc, Version::Two, TITLE.as_bytes(), bytes)?;
     Ok(Draft {
-        kind: header.kind,
-        threads: header.threads,
-        quota: header.quota,
+        kind: body.header.kind,
+        threads: body.header.threads,
+        quota: body.header.quota,
         opening: body.opening,
         lines: body.lines,
     })
@@ -103,7 +103,6 @@ fn draft(alloc: Global, bytes: &[u8]) -> Result<Draft, ScheduleFault>
 /// The draft that the bytes are the text of, or the first fault of the bytes: its line, and the first check of that line that
 /// fails, as `read_schedule` tells it of a text of the second version. A line without a count is taken for one event. A thread or
 /// a row that is no number has the fault `Number`, and so has a row outside 1 to 255.
-#[tactic(auto, using(crate::proofs::TextLaws::found_in, crate::proofs::TextLaws::only_in))]
 pub fn read_draft(alloc: Global, bytes: &[u8]) -> Result<Draft, ScheduleFault>
     // What is read is a draft, and the bytes are its text.
     ensures found { IfOk result (λ d. IsDraft (view d) × (bytes.now ≡ draft_text (view d))) }

@@ -11,13 +11,14 @@ use Rattle.lset_words.specs.declared.history.Placed.{Placed}
 use Rattle.lset_words.specs.Words.{empty}
 use Rattle.lset_text.specs.Headers.{header_of, told_by_line}
 use Rattle.lset_text.specs.Lines.{lines_from}
+use Rattle.lset_text.specs.Texts.{text_from}
 use Rattle.lset_text.specs.Numbers.{number_in}
 use Rattle.lset_text.specs.Spellings.{call_word_of, reply_of}
 use Rattle.lset_text.specs.declared.words.Version.{Version}
 use Rattle.lset_text.specs.declared.words.Version.TheVariants.{One, Two}
 use Rattle.lset_text.specs.Spellings.{kind_of as kind_of_word}
 use Rattle.lset_report.specs.Report.{ReportValue}
-use Rattle.lset_report.specs.ReportReading.{reading, report_of}
+use Rattle.lset_report.specs.ReportReading.{reading}
 use Rattle.tool_examples.specs.declared.texts.TheConstants as texts
 use Rattle.tool_examples.proofs.Orders.{place}
 
@@ -74,25 +75,25 @@ ceiling_left_in_chain = report Two LockFree (made 0 (add 5) 1 7 ∷ made 0 (add 
 -- ---- the texts
 
 pub reads_same_gap : reading texts.SAME_GAP_BROKEN.now ≡ Ok same_gap
-unfolding report_of lines_from header_of told_by_line number_in kind_of_word call_word_of reply_of
+unfolding text_from lines_from header_of told_by_line number_in kind_of_word call_word_of reply_of
 reads_same_gap = refl
 
 pub reads_stale_pred : reading texts.STALE_PRED_BROKEN.now ≡ Ok stale_pred
-unfolding report_of lines_from header_of told_by_line number_in kind_of_word call_word_of reply_of
+unfolding text_from lines_from header_of told_by_line number_in kind_of_word call_word_of reply_of
 reads_stale_pred = refl
 
 pub reads_two_removers : reading texts.TWO_REMOVERS_BROKEN.now ≡ Ok two_removers
-unfolding report_of lines_from header_of told_by_line number_in kind_of_word call_word_of reply_of
+unfolding text_from lines_from header_of told_by_line number_in kind_of_word call_word_of reply_of
 reads_two_removers = refl
 
 pub reads_snip : reading texts.SNIP_BROKEN.now ≡ Ok snip
-unfolding report_of lines_from header_of told_by_line number_in kind_of_word call_word_of reply_of
+unfolding text_from lines_from header_of told_by_line number_in kind_of_word call_word_of reply_of
 reads_snip = refl
 
 pub reads_left_in_chain : reading texts.LEFT_IN_CHAIN_BROKEN.now ≡ Ok left_in_chain
-unfolding report_of lines_from header_of told_by_line number_in kind_of_word call_word_of reply_of
+unfolding text_from lines_from header_of told_by_line number_in kind_of_word call_word_of reply_of
 reads_left_in_chain = refl
 
 pub reads_ceiling_left_in_chain : reading texts.CEILING_LEFT_IN_CHAIN_BROKEN.now ≡ Ok ceiling_left_in_chain
-unfolding report_of lines_from header_of told_by_line number_in kind_of_word call_word_of reply_of
+unfolding text_from lines_from header_of told_by_line number_in kind_of_word call_word_of reply_of
 reads_ceiling_left_in_chain = refl

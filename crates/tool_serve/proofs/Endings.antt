@@ -14,12 +14,8 @@ use Rattle.tool_serve.specs.Serving.{Announces, EndsServer, first_line, of_serve
 -- where the whole first line was written, a server may end by each of its causes
 ends_after : (e : ServeCause) (line : List ℕ) (old new : Option (List ℕ)) → Appends old new line →
     EndsServer (of_server e) line old new
-ends_after cause.Seats line old new whole = whole
-ends_after cause.Accept line old new whole = whole
-ends_after cause.Spawn line old new whole = whole
-ends_after cause.Send line old new whole = whole
 ends_after cause.Memory line old new whole = (line, [], sym (append-nil line), whole)
-ends_after cause.Left line old new whole = whole
+ends_after e line old new whole = whole
 
 pub server_ended : (port : ℕ) (old new : Option (List ℕ)) (e : ServeCause) (t : Trouble) → t ≡ of_server e
     → Appends old new (first_line port) → (p : ℕ) × EndsServer t (first_line p) old new

@@ -183,15 +183,11 @@ module _ (port sessions calls : ℕ) (keys : List ℕ) (port_fits : port < 2 ^ 1
     served_lack,
   )
 
-  whole_text : first_line port ++ served_text sessions calls keys ≡ text_of (listening_line ∷ sessions_line ∷ calls_line
-      ∷ map key_line keys)
-  whole_text = refl
-
   pub printed : (keys_in (first_line port ++ served_text sessions calls keys) ≡ Ok keys)
       × (keys_in (served_text sessions calls keys) ≡ Ok keys)
       × (keys_in (text_of (map key_line keys)) ≡ Ok keys)
   printed = (
-    ap keys_in whole_text ∙ read_after (listening_line ∷ sessions_line ∷ calls_line ∷ map key_line keys) 4 whole_lack whole_head,
+    read_after (listening_line ∷ sessions_line ∷ calls_line ∷ map key_line keys) 4 whole_lack whole_head,
     read_after (sessions_line ∷ calls_line ∷ map key_line keys) 3 served_lack served_head,
     read_after (map key_line keys) 1 (key_lines_lack keys low) no_head,
   )

@@ -54,15 +54,11 @@ served_text sessions calls keys =
 
 -- how much of the first line was written before this trouble; the others do not end a server
 abbrev pub EndsServer : Trouble → List ℕ → Option (List ℕ) → Option (List ℕ) → Type 0
-EndsServer CannotRead line old new = ⊥
-EndsServer TooLong line old new = ⊥
 EndsServer CannotWrite line old new = AppendsFront old new line
 EndsServer Memory line old new = AppendsFront old new line
-EndsServer (Line number cause) line old new = ⊥
-EndsServer (Bad wrong) line old new = ⊥
 EndsServer CannotListen line old new = Keeps old new
-EndsServer (Work name) line old new = ⊥
 EndsServer (Serve name) line old new = Appends old new line
+EndsServer other line old new = ⊥
 
 -- the first line was written whole before there is an answer
 abbrev pub Announces : Made → Option (List ℕ) → Option (List ℕ) → Type 0

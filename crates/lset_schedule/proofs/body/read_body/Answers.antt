@@ -1,7 +1,7 @@
 use Rattle.std.proofs.Common.{sym, ◌∙◌}
 use Rattle.std.proofs.lemmas.Bool.{eqb-true, eqb-false}
 use Rattle.lset_text.proofs.LineLaws.{goes_on, not_ended, is_done}
-use Rattle.lset_schedule.specs.Plan.{first_line}
+use Rattle.lset_text.specs.Texts.{first_line}
 use Rattle.lset_schedule.specs.ScheduleReading.{grammar, told}
 use Rattle.lset_schedule.proofs.BodyLoops.{refused, out_of_memory}
 use Rattle.lset_schedule.proofs.body.read_body.Goals as goal

@@ -16,12 +16,8 @@ returns-then-talk-eq-LONGEST_LINE-clause-heard g c =
     let t = c.args.talk.now in
     let b = c.args.byte in
     let (whole, end, written, failed) = c.last_line.ensures in
-    let len : length (pending_of t) ≡ LONGEST_LINE = omega (
-      arith,
-      length-take t.len t.line,
-      c.requires.talk.room,
-      c.if-talk-eq-LONGEST_LINE.true,
-    ) in
+    let full = c.if-talk-eq-LONGEST_LINE.true in
+    let len : length (pending_of t) ≡ LONGEST_LINE = omega (arith, length-take t.len t.line, c.requires.talk.room, full) in
     let long : LONGEST_LINE < length (pending_of t ++ b ∷ []) = omega (arith, length-append (pending_of t) (b ∷ []), len) in
     let lacks = Lacks-append 10 (pending_of t) (b ∷ []) c.requires.talk.line (Lacks-one 10 b c.if-byte-eq10.false) in
     rw end (heard_long _ _ (pending_of t ++ b ∷ []) _ _ _ _ _ whole lacks long written)

@@ -1,6 +1,5 @@
-use Rattle.std.proofs.Common.{◌≡◌, ◌++◌, ◌<◌, ◌≤◌, None, Some, take, length, refl, ◌∙◌, arith, rules, inl, inr, length-take, []}
+use Rattle.std.proofs.Common.{◌≡◌, ◌++◌, ◌<◌, None, Some, take, length, refl, ◌∙◌, rules, []}
 use Rattle.std.proofs.Common.{ap, subst, append-nil}
-use Rattle.lset_session.specs.declared.TheConstants.{LONGEST_LINE}
 use Rattle.std.specs.Io.KnownBytes.{Consumes}
 use Rattle.std.proofs.KnownBytes.{Consumes-trans, Consumes-kept}
 use Rattle.lset_session.specs.declared.sessions.Why.TheVariants.{End, ReadFault}
@@ -10,23 +9,17 @@ use Rattle.lset_session.proofs.sessions.session.Goals as goal
 
 pub returns-in_default-clause-session : goal.returns-in_default-clause-session
 returns-in_default-clause-session g c =
-    let t = c.loop-count.talk in
-    let is = c.loop-count.invariant.talk in
     let (bytes, read, heard) = c.loop-count.invariant.heard in
-    let short : length (pending_of t) ≤ LONGEST_LINE = omega (arith, length-take t.len t.line, is.short) in
-    spoken_rest ReadFault bytes _ (pending_of t) _ _ _ _ _ _ _ is.line short (inr refl) (λ bad. absurd cc)
+    spoken_rest ReadFault bytes _ _ _ _ _ _ _ c.loop-count.invariant.talk (λ _ a. a) refl (λ bad. absurd cc)
     (Consumes-kept _ _ _ bytes read c.in_default.ensures.bytes) heard
 
 pub returns-then-count-eq0-clause-session : goal.returns-then-count-eq0-clause-session
 returns-then-count-eq0-clause-session g c =
-    let t = c.loop-count.talk in
-    let is = c.loop-count.invariant.talk in
     let (bytes, read, heard) = c.loop-count.invariant.heard in
-    let short : length (pending_of t) ≤ LONGEST_LINE = omega (arith, length-take t.len t.line, is.short) in
     let room : 0 < length c.read.new.buffer = search rules in
     let none : take c.in-Some.count c.read.new.buffer ≡ [] = rw c.if-count-eq0.true refl in
     let all = Consumes-trans _ _ _ bytes _ read c.in-Some.ensures.bytes.0 in
-    spoken_rest End bytes _ (pending_of t) _ _ _ _ _ _ _ is.line short (inl refl)
+    spoken_rest End bytes _ _ _ _ _ _ _ c.loop-count.invariant.talk (λ _ a. a) refl
     (λ _. c.in-Some.ensures.bytes.1 c.if-count-eq0.true room)
     (subst (Consumes _ _) (ap (λ b. bytes ++ b) none ∙ append-nil bytes) all) heard
 
@@ -47,13 +40,9 @@ loop-count-preserved g c =
     let all = Consumes-trans _ _ _ bytes _ read c.in-Some.ensures.bytes.0 in
     let more = take c.in-Some.count c.read.new.buffer in
     let end = c.in_default-bytes_in.ensures in
+    let on = heard_then _ _ _ bytes (pending_of c.loop-count.talk) _ more None _ _ _ _ _ _ _ _ _ heard end.heard in
     record {
-      heard = (
-        bytes ++ more,
-        all,
-        heard_then _ _ _ bytes (pending_of c.loop-count.talk) _ more None _ _ _ _ _ _ _ _ _ heard
-            end.heard,
-      );
+      heard = (bytes ++ more, all, on);
       talk = (end.on refl).0;
       reads = c.in-Some.ensures.failed;
       writes = end.failed;

@@ -1,5 +1,5 @@
 use Rattle.std.proofs.Common.{◌∙◌, ap, slice_index}
-use Rattle.std.specs.Mem.OwnSlots.{slots_items}
+use Rattle.std.specs.Mem.Slots.{slots_items}
 use Rattle.lset_live.specs.Closes.{LastWords}
 use Rattle.lset_live.proofs.Closing.{at_word}
 use Rattle.lset_live.proofs.closed.Closed.word.Goals as goal

@@ -1,11 +1,13 @@
-use Rattle.std.proofs.Common.{[], refl, sym, ap, ◌∙◌, inl, arith}
+use Rattle.std.proofs.Common.{◌≡◌, Ok, Err, rules, refl, sym, ap, ◌∙◌, inl, arith}
 use Rattle.std.proofs.lemmas.Bool.{eqb-true, eqb-false}
 use Rattle.std.proofs.lemmas.Result.{err_from_is_err_and}
 use Rattle.lset_text.specs.Results.{map_fault}
+use Rattle.lset_text.specs.Texts.{first_line}
 use Rattle.lset_text.proofs.LineLaws.{starts, goes_on, not_ended, is_done}
-use Rattle.lset_report.specs.ReportReading.{fault, first_line, grammar}
+use Rattle.lset_report.specs.declared.report_fault.ReportCause.TheVariants.{NotEnded}
+use Rattle.lset_report.specs.ReportReading.{fault, ends, grammar}
 use Rattle.lset_report.specs.ReportReader.{state}
-use Rattle.lset_report.proofs.ReportLoops.{AllOf, one_more, stops_at, ended_at, not_ended_at}
+use Rattle.lset_report.proofs.ReportLoops.{AllOf, stops_at}
 use Rattle.lset_report.proofs.reading.Reader.read_lines.Goals as goal
 
 pub loop-rest-init : goal.loop-rest-init
@@ -14,7 +16,6 @@ loop-rest-init c = record {
   holds = c.requires;
   header = refl;
   lines_left = omega arith;
-  read = ([], refl, refl);
 }
 
 pub returns-in_default-clause-told : goal.returns-in_default-clause-told
@@ -29,8 +30,8 @@ returns-in_err-read_line-clause-told c =
     let p = err_from_is_err_and c.from_residual.result c.from_residual.ensures.1 in
     rw (p.1, p.2)
     (stops_at c.args.text.now (state c.args.self.now) (state c.loop-rest.self) c.loop-rest.number c.loop-rest.rest.now
-    c.in-Some.first.now c.in-Some.after.now c.loop-rest.invariant.read.0 c.in_err-read_line.field-0.0 c.in-Some.ensures.parts
-    c.in_err-read_line.ensures.told c.loop-rest.invariant.stands c.loop-rest.invariant.read.1 c.loop-rest.invariant.read.2)
+    c.in-Some.first.now c.in-Some.after.now c.in_err-read_line.field-0.0 c.in-Some.ensures.parts
+    c.in_err-read_line.ensures.told c.loop-rest.invariant.stands)
 
 pub loop-rest-preserved : goal.loop-rest-preserved
 loop-rest-preserved c =
@@ -41,21 +42,21 @@ loop-rest-preserved c =
       holds = c.in_ok-read_line.ensures.holds;
       header = c.in_ok-read_line.ensures.header ∙ c.loop-rest.invariant.header;
       lines_left = omega (arith, c.loop-rest.invariant.lines_left, c.in-Some.ensures.shorter);
-      read = one_more c.loop-rest.number c.loop-rest.invariant.read.0 c.args.text.now c.loop-rest.rest.now c.in-Some.first.now
-          c.in-Some.after.now c.in-Some.ensures.parts c.loop-rest.invariant.read.1 c.loop-rest.invariant.read.2;
     }
 
 pub returns-in-Done-clause-told : goal.returns-in-Done-clause-told
 returns-in-Done-clause-told c =
     let none = eqb-true _ _ (sym c.is_empty.ensures ∙ c.loop-rest-test.false) in
+    let ended : ends (state c.loop-rest.self) ≡ Ok (state c.loop-rest.self) = rw c.in-Done.is refl in
     is_done grammar first_line c.args.text.now (AllOf c.args.text.now (state c.args.self.now)) c.loop-rest.number
     (state c.loop-rest.self) c.loop-rest.rest.now none c.loop-rest.invariant.stands
-    ∙ ap (map_fault (fault c.loop-rest.number)) (ended_at (state c.loop-rest.self) c.in-Done.is)
+    ∙ ap (map_fault (fault c.loop-rest.number)) ended
 
 pub returns-in_default-section-clause-told : goal.returns-in_default-section-clause-told
 returns-in_default-section-clause-told c =
+    let unended : ends (state c.loop-rest.self) ≡ Err NotEnded = search rules in
     let none = eqb-true _ _ (sym c.is_empty.ensures ∙ c.loop-rest-test.false) in
     inl (rw c.at-in_default-section.ensures
     (is_done grammar first_line c.args.text.now (AllOf c.args.text.now (state c.args.self.now)) c.loop-rest.number
     (state c.loop-rest.self) c.loop-rest.rest.now none c.loop-rest.invariant.stands
-    ∙ ap (map_fault (fault c.loop-rest.number)) (not_ended_at (state c.loop-rest.self) c.in_default-section.not-Done)))
+    ∙ ap (map_fault (fault c.loop-rest.number)) unended))

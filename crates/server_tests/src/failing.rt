@@ -1,6 +1,4 @@
-//! A reader and a writer of the standard library that fail once and then go on, for tests of sessions.
-ghost use Rattle.std.specs.Prelude.{◌≡◌, [], Some};
-ghost use Rattle.lset_session.specs.Failing.{text_left, reads_of, failing_read, text_taken, writes_of, failing_write};
+//! A reader and a writer of the standard library that fail once and then go on.
 
 use std::alloc::Global;
 use std::io;
@@ -18,10 +16,7 @@ pub struct FailingReader<'a> {
 impl<'a> FailingReader<'a> {
     /// A reader of `text`, of which no byte was read. `fails_at` is the number of the read that fails, counted from 1; none
     /// fails where it is 0.
-    pub fn new(text: &'a [u8], fails_at: u64) -> FailingReader<'a>
-        ensures text { text_left result ≡ text.now }
-        ensures reads { (reads_of result ≡ 0) × (failing_read result ≡ fails_at) }
-    {
+    pub fn new(text: &'a [u8], fails_at: u64) -> FailingReader<'a> {
         FailingReader {
             text,
             reads: 0,
@@ -30,16 +25,12 @@ impl<'a> FailingReader<'a> {
     }
 
     /// How many reads were asked for, the failing one included.
-    pub fn reads(&self) -> u64
-        ensures { result ≡ reads_of self.now }
-    {
+    pub fn reads(&self) -> u64 {
         self.reads
     }
 }
 
 impl Read for FailingReader<'_> {
-    ghost remaining = { λ r. Some (text_left r) };
-
     fn read(&mut self, buffer: &mut [u8]) -> io::Result<usize> {
         self.reads = self.reads.saturating_add(1);
         if self.reads == self.fails_at {
@@ -66,10 +57,7 @@ pub struct FailingWriter {
 impl FailingWriter {
     /// A writer that has taken no byte. `fails_at` is the number of the write that fails, counted from 1; none fails where it
     /// is 0. A write also fails where memory for its byte is refused.
-    pub fn new(alloc: Global, fails_at: u64) -> FailingWriter
-        ensures text { text_taken result ≡ [] }
-        ensures writes { (writes_of result ≡ 0) × (failing_write result ≡ fails_at) }
-    {
+    pub fn new(alloc: Global, fails_at: u64) -> FailingWriter {
         FailingWriter {
             text: Vec::new(alloc),
             writes: 0,
@@ -78,23 +66,17 @@ impl FailingWriter {
     }
 
     /// The bytes that were taken.
-    pub fn text(&self) -> &[u8]
-        ensures { result.now ≡ text_taken self.now }
-    {
+    pub fn text(&self) -> &[u8] {
         &self.text
     }
 
     /// How many writes were asked for, the failing one included.
-    pub fn writes(&self) -> u64
-        ensures { result ≡ writes_of self.now }
-    {
+    pub fn writes(&self) -> u64 {
         self.writes
     }
 }
 
 impl Write for FailingWriter {
-    ghost contents = { λ w. Some (text_taken w) };
-
     fn write(&mut self, text: &[u8]) -> io::Result<usize> {
         self.writes = self.writes.saturating_add(1);
         if self.writes == self.fails_at {
