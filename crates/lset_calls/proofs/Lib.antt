@@ -1,0 +1,5 @@
+pub mod Pieces
+pub mod LineKinds
+pub mod Loops
+pub mod CallsFound
+pub mod CallsAgain

@@ -1,0 +1,5 @@
+pub mod Calls
+pub mod Texts
+pub mod Reading
+pub mod Clashes
+pub mod Reports

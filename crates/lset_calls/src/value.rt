@@ -1,0 +1,57 @@
+ghost use Rattle.std.specs.Prelude.{◌≡◌};
+ghost use Rattle.lset_calls.specs.Calls.{may_change, needs_point, changed_by};
+
+use lset_words::{Call, Kind, Reply};
+
+/// A call of a set that was recorded: its thread, the moments of its beginning and its end, and the point that was given
+/// for it. A call without an end is open. Moments are numbers from 1.
+#[derive(Clone, Copy, Debug, PartialEq, Eq)]
+pub struct TimedCall {
+    pub thread: u32,
+    pub call: Call,
+    pub begun: u32,
+    pub point: Option<u32>,
+    pub ended: Option<(u32, Reply)>,
+}
+
+/// What was recorded of a set: the kind of list that it is compared with, its threads, 1 to 64, the quota of each, 0 to
+/// 16,384, the keys with which it opened, rising, its calls in any order, and the keys that were left.
+#[derive(Drop)]
+pub struct Calls {
+    pub kind: Kind,
+    pub threads: u32,
+    pub quota: u32,
+    pub opening: Vec<u32>,
+    pub calls: Vec<TimedCall>,
+    pub keys: Vec<u32>,
+}
+
+fn may_change(call: Call) -> bool
+    ensures { result ≡ may_change call }
+{
+    matches!(call, Call::Add(_) | Call::Remove(_))
+}
+
+impl TimedCall {
+    /// Whether the call is an `add` or a `remove` that has answered `true`.
+    pub(crate) fn has_changed(self) -> bool
+        ensures { result ≡ needs_point self.call self.ended }
+    {
+        match self.ended {
+            Some((_, reply)) => may_change(self.call) && reply == Reply::True,
+            None => false,
+        }
+    }
+
+    /// The moment at which the call changes the set, if it does: the point of an `add` or a `remove` that has answered
+    /// `true`, or that is open.
+    pub fn changed(self) -> Option<u32>
+        ensures { result ≡ changed_by self.call self.point self.ended }
+    {
+        match self.ended {
+            Some((_, reply)) if !(may_change(self.call) && reply == Reply::True) => None,
+            None if !may_change(self.call) => None,
+            _ => self.point,
+        }
+    }
+}
