@@ -1,0 +1,47 @@
+//! The examples of the repository, judged by four threads at once.
+
+use std::fs::{read_dir, read_to_string};
+use std::path::PathBuf;
+use std::thread::scope;
+
+use listset::{check, replay, show, trace, Window, Wrong};
+
+const THREADS: usize = 4;
+
+/// The schedules that have a report, with both texts.
+fn examples() -> Vec<(String, String)> {
+    let folder = std::env::var_os("LISTSET_EXAMPLES").map(PathBuf::from);
+    let folder = folder.unwrap_or_else(|| PathBuf::from(env!("CARGO_MANIFEST_DIR")).join("../../examples"));
+    let names = read_dir(folder).unwrap().map(|it| it.unwrap().path());
+    let pairs = names.filter(|it| it.extension().is_some_and(|end| end == "schedule"));
+    let pairs = pairs.filter_map(|it| Some((read_to_string(&it).ok()?, read_to_string(it.with_extension("report")).ok()?)));
+    pairs.collect()
+}
+
+#[test]
+fn each_example_is_judged_in_each_thread() {
+    let pairs = examples();
+    assert!(pairs.len() > 20, "{} examples", pairs.len());
+    scope(|threads| {
+        for _ in 0..THREADS {
+            threads.spawn(|| {
+                for (schedule, report) in &pairs {
+                    assert_eq!(replay(schedule).as_ref(), Ok(report));
+                    assert_eq!(check(report), Ok(()));
+                    assert!(trace(schedule).unwrap().starts_with("listset-trace "));
+                    assert!(show(report, Window { width: Some(60), ..Window::default() }).is_ok());
+                }
+            });
+        }
+    });
+}
+
+#[test]
+fn what_is_wrong_comes_with_its_status() {
+    let broken = listset::broken_example("snip").unwrap();
+    let Err(Wrong { text, status }) = check(&broken) else { panic!("a broken report is taken") };
+    assert!(text.starts_with("refused ") && status == 1, "{text}");
+    assert_eq!(listset::example("none").unwrap_err().status, 2);
+    assert_eq!(replay("").unwrap_err().status, 1);
+    assert!(listset::faults().unwrap().len() > 4096);
+}
