@@ -35,6 +35,6 @@ int main() {
   expect(listset::example("none").status == LISTSET_WRONG_VALUE, "there is no such example");
   expect(listset::check({}).status == LISTSET_WRONG_TEXT, "no text is a report");
   expect(listset::show(broken.text, {"x", "", ""}).status == LISTSET_WRONG_VALUE, "a moment is a number");
-  expect(listset::faults().text.size() > 4096, "a text that wants more room");
+  expect(listset::gen("lazy", 4, 200, 1000, 50, 1).text.size() > 4096, "a text that wants more room");
   return wrong != 0;
 }

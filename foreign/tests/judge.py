@@ -13,9 +13,10 @@ THREADS = 4
 
 
 def pairs(folder):
-    """The schedules that have a report, with both texts."""
-    for it in sorted(pathlib.Path(folder).glob("*.schedule")):
-        if (report := it.with_suffix(".report")).exists():
+    """The schedules that have a report, but for those that are there to be refused, with both texts."""
+    refused = {line.split(":")[0] for line in (folder / "refused").read_text().splitlines()}
+    for it in sorted(folder.glob("*.schedule")):
+        if (report := it.with_suffix(".report")).exists() and it.name not in refused:
             yield it.read_bytes(), report.read_text()
 
 
@@ -40,7 +41,7 @@ def wrong(call, *values):
 
 
 def main():
-    examples, faults = list(pairs(sys.argv[1])), []
+    examples, faults = list(pairs(pathlib.Path(sys.argv[1]))), []
     threads = [threading.Thread(target=judge, args=(examples, faults)) for _ in range(THREADS)]
     for it in threads:
         it.start()
@@ -52,7 +53,7 @@ def main():
     assert wrong(listset.gen, "lazy", 0, 4, 10, 5, 1) == (2, "listset:")
     assert wrong(listset.replay, b"\xff\0") == (1, "listset:")
     listset.check(listset.replay(listset.gen("lock-free", 2, 4, 10, 5, 1)))
-    assert len(listset.gen("lazy", 4, 2000, 20000, 50, 1)) > listset.FIRST_ROOM
+    assert len(listset.gen("lazy", 4, 2000, 10000, 50, 1)) > listset.FIRST_ROOM
 
 
 main()

@@ -8,14 +8,16 @@ use listset::{check, replay, show, trace, Window, Wrong};
 
 const THREADS: usize = 4;
 
-/// The schedules that have a report, with both texts.
+/// The schedules that have a report, but for those that are there to be refused, with both texts.
 fn examples() -> Vec<(String, String)> {
     let folder = std::env::var_os("LISTSET_EXAMPLES").map(PathBuf::from);
     let folder = folder.unwrap_or_else(|| PathBuf::from(env!("CARGO_MANIFEST_DIR")).join("../../examples"));
-    let names = read_dir(folder).unwrap().map(|it| it.unwrap().path());
-    let pairs = names.filter(|it| it.extension().is_some_and(|end| end == "schedule"));
-    let pairs = pairs.filter_map(|it| Some((read_to_string(&it).ok()?, read_to_string(it.with_extension("report")).ok()?)));
-    pairs.collect()
+    let refused = read_to_string(folder.join("refused")).unwrap();
+    let is_right =
+        |name: &str| name.ends_with(".schedule") && !refused.lines().any(|line| line.split(':').next() == Some(name));
+    let files = read_dir(folder).unwrap().map(|it| it.unwrap());
+    let right = files.filter(|it| it.file_name().to_str().is_some_and(is_right)).map(|it| it.path());
+    right.filter_map(|it| Some((read_to_string(&it).ok()?, read_to_string(it.with_extension("report")).ok()?))).collect()
 }
 
 #[test]
@@ -43,5 +45,5 @@ fn what_is_wrong_comes_with_its_status() {
     assert!(text.starts_with("refused ") && status == 1, "{text}");
     assert_eq!(listset::example("none").unwrap_err().status, 2);
     assert_eq!(replay("").unwrap_err().status, 1);
-    assert!(listset::faults().unwrap().len() > 4096);
+    assert!(listset::generated("lazy", 4, 200, 1000, 50, 1).unwrap().len() > 4096);
 }
