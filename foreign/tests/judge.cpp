@@ -21,7 +21,22 @@ static bool is_right(const std::string &kind, uint64_t seed) {
          && listset::trace(schedule.text).is_ok() && listset::show(report.text, {"1", "", "60"}).is_ok();
 }
 
+static bool has(const listset::said &said, std::string_view part) { return said.text.find(part) != std::string::npos; }
+
+static void expect_own() {
+  std::string schedule = listset::example("snip").text, report = listset::replay(schedule).text, draft = schedule;
+  draft.replace(0, draft.find('\n'), "listset-draft 2");
+  expect(!has(listset::trace(schedule), "\nchain") && has(listset::trace(schedule, true), "\nchain"), "trace");
+  expect(begins(listset::show(report).text, "lock-free list") && begins(listset::show(report, {}, true).text, "<svg "), "show");
+  expect(listset::draft(draft).text == schedule, "draft");
+  expect(has(listset::show(report, {"0", "", ""}), "bad FROM"), "from");
+  expect(has(listset::show(report, {"", "0", ""}), "bad TO"), "to");
+  expect(has(listset::show(report, {"", "", "0"}), "bad WIDTH"), "width");
+  expect(has(listset::examples(), "snip") && has(listset::faults(), "listset: line L:"), "examples, faults");
+}
+
 int main() {
+  expect_own();
   const std::vector<std::string> kinds{"coarse", "fine", "optimistic", "lazy", "lock-free"};
   std::vector<int> right(kinds.size());
   std::vector<std::thread> threads;

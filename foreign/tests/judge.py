@@ -32,12 +32,24 @@ def judge(examples, faults):
 
 
 def wrong(call, *values):
-    """What a call raises: its status, and the first word of its text."""
+    """What a call raises: its status, and the last word of its text."""
     try:
         call(*values)
     except listset.Wrong as fault:
-        return fault.status, fault.text.split()[0]
+        return fault.status, fault.text.split()[-1]
     return None
+
+
+def each_says_its_own():
+    schedule = listset.example("snip")
+    report = listset.replay(schedule)
+    assert "\nchain" not in listset.trace(schedule) and "\nchain" in listset.trace(schedule, with_chains=True)
+    assert listset.show(report).startswith("lock-free list") and listset.show(report, as_svg=True).startswith("<svg ")
+    assert listset.draft(schedule.replace("listset-schedule 1", "listset-draft 2")) == schedule
+    assert wrong(lambda: listset.show(report, first=0)) == (2, "FROM")
+    assert wrong(lambda: listset.show(report, last=0)) == (2, "TO")
+    assert wrong(lambda: listset.show(report, width=0)) == (2, "WIDTH")
+    assert "snip" in listset.examples() and "listset: line L:" in listset.faults()
 
 
 def main():
@@ -48,10 +60,11 @@ def main():
     for it in threads:
         it.join()
     assert len(examples) > 20 and not faults, faults
-    assert wrong(listset.check, listset.example("snip", is_broken=True)) == (1, "refused")
-    assert wrong(listset.example, "none") == (2, "listset:")
-    assert wrong(listset.gen, "lazy", 0, 4, 10, 5, 1) == (2, "listset:")
-    assert wrong(listset.replay, b"\xff\0") == (1, "listset:")
+    each_says_its_own()
+    assert wrong(listset.check, listset.example("snip", is_broken=True)) == (1, "WrongSet")
+    assert wrong(listset.example, "none") == (2, "NAME")
+    assert wrong(listset.gen, "lazy", 0, 4, 10, 5, 1) == (2, "THREADS")
+    assert wrong(listset.replay, b"\xff\0") == (1, "NotEnded")
     listset.check(listset.replay(listset.gen("lock-free", 2, 4, 10, 5, 1)))
     assert len(listset.gen("lazy", 4, 2000, 10000, 50, 1)) > listset.FIRST_ROOM
 
