@@ -3,7 +3,7 @@ use Rattle.lset_words.specs.Words.{target, tail_word}
 use Rattle.lset_rule.specs.OwnSlots.{slots_of}
 use Rattle.lset_rule.proofs.Calls.{first_comes, first_reached, made}
 use Rattle.lset_rule.proofs.RowSteps.{Reached, may_step, stepped}
-use Rattle.lset_rule.proofs.interpreter.interpret.Goals as goal
+use Rattle.lset_rule.proofs.interpreter.interpret_within.Goals as goal
 
 pub next-action-requires : goal.next-action-requires
 next-action-requires g c = let low : target c.args.call < tail_word = search rules in

@@ -1,5 +1,5 @@
 use Rattle.lset_caller.proofs.Calling.{may_begin, is_call, called}
-use Rattle.lset_loops.proofs.lock_free.lock_free_remove_on.Goals as goal
+use Rattle.lset_locked_loops.proofs.fine.fine_within.Goals as goal
 
 pub make-requires-clause-begins : goal.make-requires-clause-begins
 make-requires-clause-begins g c = may_begin _ c.requires
