@@ -7,7 +7,9 @@ ghost use Rattle.lset_rule.specs.Calls.{Goes};
 ghost use Rattle.lset_caller.specs.Calling.{HasExchanged, HasStepped, HasTold, Holds, MayAnswer, MayBegin, MayLock, MayStep, first};
 
 use crate::caller::{Caller, Node, Origin};
-use lset_rule::{Pause, TableSeat, exchange_first, exchange_on, load_first, load_on, store_on};
+use lset_rule::{
+    Pause, Rounds, TableSeat, exchange_first, exchange_on, load_first, load_on, store_on,
+};
 use lset_steps::Machine;
 use lset_steps::rows::{key_index, link_index, lock_index};
 use std::marker::Brand;
@@ -151,14 +153,14 @@ impl<'a, M: Machine, O: Origin, P: Pause> Caller<'a, M, O, P> {
         self.exchange(place, link_index(node.number), unmarked, unmarked + 1)
     }
 
-    /// Tries the lock in this word again, until the thread has it or `ROUNDS` tries have failed: then the answer is `None`.
+    /// Tries the lock in this word again, until the thread has it or `N::MOST` tries have failed: then the answer is `None`.
     #[inline(never)]
-    fn wait_for<const ROUNDS: u64>(&self, place: &mut TableSeat, word: u64) -> Option<()>
+    fn wait_for<N: Rounds>(&self, place: &mut TableSeat, word: u64) -> Option<()>
         requires { MayLock M.table O.begun word self.now.slots.thread place.old }
         ensures { IfSome result (λ _. HasStepped M.table O.begun place.old 0 place.new) }
     {
         let own = u64::from(self.slots.thread) + 1;
-        for _ in 0..ROUNDS {
+        for _ in 0..N::MOST {
             let seen = exchange_on::<M>(self.table, place, word, 0, own);
             self.pause.moved(self.slots.thread, seen != 0);
             if seen == 0 {
@@ -168,31 +170,31 @@ impl<'a, M: Machine, O: Origin, P: Pause> Caller<'a, M, O, P> {
         None
     }
 
-    /// Takes the lock in this word. `None` where one try and `ROUNDS` more have failed.
+    /// Takes the lock in this word. `None` where one try and `N::MOST` more have failed.
     #[inline(always)]
-    fn take<const ROUNDS: u64>(&self, place: &mut TableSeat, word: u64) -> Option<()>
+    fn take<N: Rounds>(&self, place: &mut TableSeat, word: u64) -> Option<()>
         requires { MayLock M.table O.begun word self.now.slots.thread place.old }
         ensures { IfSome result (λ _. HasStepped M.table O.begun place.old 0 place.new) }
     {
         let seen = exchange_on::<M>(self.table, place, word, 0, u64::from(self.slots.thread) + 1);
         self.pause.moved(self.slots.thread, seen != 0);
         if seen != 0 {
-            self.wait_for::<ROUNDS>(place, word)?;
+            self.wait_for::<N>(place, word)?;
         }
         Some(())
     }
 
-    /// Takes the lock of a node. `None` where one try and `ROUNDS` more have failed.
+    /// Takes the lock of a node. `None` where one try and `N::MOST` more have failed.
     #[inline(always)]
-    pub fn lock<const ROUNDS: u64>(&self, place: &mut TableSeat, node: Node) -> Option<()>
+    pub fn lock<N: Rounds>(&self, place: &mut TableSeat, node: Node) -> Option<()>
         requires { MayLock M.table O.begun (lock_index node.number) self.now.slots.thread place.old }
         ensures { IfSome result (λ _. HasStepped M.table O.begun place.old 0 place.new) }
     {
-        self.take::<ROUNDS>(place, lock_index(node.number))
+        self.take::<N>(place, lock_index(node.number))
     }
 
-    /// Begins the call with the taking of the lock in this word. `None` where one try and `ROUNDS` more have failed.
-    pub fn begin_locked<const ROUNDS: u64>(&self, place: &mut TableSeat, word: u64) -> Option<()>
+    /// Begins the call with the taking of the lock in this word. `None` where one try and `N::MOST` more have failed.
+    pub fn begin_locked<N: Rounds>(&self, place: &mut TableSeat, word: u64) -> Option<()>
         requires begins { MayBegin M.table O.begun self.now.slots place.old }
         requires acts { Exchange word 0 (self.now.slots.thread + 1) ≡ M.table.next (first M.table O.begun self.now.slots) }
         requires again { (n : ℕ) → n ≢ 0 → M.table.feed (first M.table O.begun self.now.slots) n ≡ continued (first M.table O.begun self.now.slots) }
@@ -203,7 +205,7 @@ impl<'a, M: Machine, O: Origin, P: Pause> Caller<'a, M, O, P> {
         let seen = exchange_first::<M, Brand>(self.table, place, self.call, word, 0, own);
         self.pause.moved(self.slots.thread, seen != 0);
         if seen != 0 {
-            self.wait_for::<ROUNDS>(place, word)?;
+            self.wait_for::<N>(place, word)?;
         }
         Some(())
     }

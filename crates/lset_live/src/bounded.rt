@@ -7,7 +7,7 @@ use lset_fine::FineList;
 use lset_lazy::LazyList;
 use lset_lock_free::LockFreeList;
 use lset_optimistic::OptimisticList;
-use lset_rule::{OwnSlots, Pause, TableSeat, Words, interpret_within};
+use lset_rule::{OwnSlots, Pause, Rounds, TableSeat, Words, interpret_within};
 use lset_steps::Machine;
 use lset_words::{Call, Reply};
 
@@ -16,10 +16,10 @@ use lset_words::{Call, Reply};
 /// A list that has its rows (`Machine`) meets this trait with no body: `impl Bounded for MyList {}`, by the interpreter. The
 /// five lists have their loops here, the same that `Running` makes with as many rounds as it takes.
 pub trait Bounded: Machine {
-    /// Makes a call of any kind, in at most `ROUNDS` rounds of each of its loops, or answers `None`. Its arguments, and what
+    /// Makes a call of any kind, in at most `N::MOST` rounds of each of its loops, or answers `None`. Its arguments, and what
     /// it asks and owes, are those of `Running::make_on`, without the handle. After `None` the call is still under way, with
     /// the locks that it has, and the place makes no other.
-    fn make_within<P: Pause, const ROUNDS: u64>(
+    fn make_within<P: Pause, N: Rounds>(
         table: &Words<Self>,
         place: &mut TableSeat,
         slots: OwnSlots,
@@ -29,48 +29,48 @@ pub trait Bounded: Machine {
         requires { MayCall Self.table table.now.table_id table.now.key slots place.old }
         ensures { IfSome result (λ r. HasCalled Self.table call place.old r place.new) }
     {
-        interpret_within::<Self, P, ROUNDS>(table, place, slots, call, pause)
+        interpret_within::<Self, P, N>(table, place, slots, call, pause)
     }
 }
 
 impl Bounded for CoarseList {
-    fn make_within<P: Pause, const ROUNDS: u64>(
+    fn make_within<P: Pause, N: Rounds>(
         table: &Words<Self>,
         place: &mut TableSeat,
         slots: OwnSlots,
         call: Call,
         pause: &P,
     ) -> Option<(OwnSlots, Reply)> {
-        lset_locked_loops::coarse_within::<P, ROUNDS>(table, place, slots, call, pause)
+        lset_locked_loops::coarse_within::<P, N>(table, place, slots, call, pause)
     }
 }
 
 impl Bounded for FineList {
-    fn make_within<P: Pause, const ROUNDS: u64>(
+    fn make_within<P: Pause, N: Rounds>(
         table: &Words<Self>,
         place: &mut TableSeat,
         slots: OwnSlots,
         call: Call,
         pause: &P,
     ) -> Option<(OwnSlots, Reply)> {
-        lset_locked_loops::fine_within::<P, ROUNDS>(table, place, slots, call, pause)
+        lset_locked_loops::fine_within::<P, N>(table, place, slots, call, pause)
     }
 }
 
 impl Bounded for OptimisticList {
-    fn make_within<P: Pause, const ROUNDS: u64>(
+    fn make_within<P: Pause, N: Rounds>(
         table: &Words<Self>,
         place: &mut TableSeat,
         slots: OwnSlots,
         call: Call,
         pause: &P,
     ) -> Option<(OwnSlots, Reply)> {
-        lset_locked_loops::optimistic_within::<P, ROUNDS>(table, place, slots, call, pause)
+        lset_locked_loops::optimistic_within::<P, N>(table, place, slots, call, pause)
     }
 }
 
 impl Bounded for LazyList {
-    fn make_within<P: Pause, const ROUNDS: u64>(
+    fn make_within<P: Pause, N: Rounds>(
         table: &Words<Self>,
         place: &mut TableSeat,
         slots: OwnSlots,
@@ -79,21 +79,21 @@ impl Bounded for LazyList {
     ) -> Option<(OwnSlots, Reply)> {
         match call {
             Call::Add(key) => {
-                lset_loops::lazy_add_within::<P, ROUNDS>(table, place, slots, key, pause)
+                lset_loops::lazy_add_within::<P, N>(table, place, slots, key, pause)
             }
             Call::Remove(key) => {
-                lset_loops::lazy_remove_within::<P, ROUNDS>(table, place, slots, key, pause)
+                lset_loops::lazy_remove_within::<P, N>(table, place, slots, key, pause)
             }
             Call::Contains(key) => Some(lset_loops::contains_on::<Self, P>(
                 table, place, slots, key, pause,
             )),
-            Call::Ceiling(_) => interpret_within::<Self, P, ROUNDS>(table, place, slots, call, pause),
+            Call::Ceiling(_) => interpret_within::<Self, P, N>(table, place, slots, call, pause),
         }
     }
 }
 
 impl Bounded for LockFreeList {
-    fn make_within<P: Pause, const ROUNDS: u64>(
+    fn make_within<P: Pause, N: Rounds>(
         table: &Words<Self>,
         place: &mut TableSeat,
         slots: OwnSlots,
@@ -102,15 +102,15 @@ impl Bounded for LockFreeList {
     ) -> Option<(OwnSlots, Reply)> {
         match call {
             Call::Add(key) => {
-                lset_loops::lock_free_add_within::<P, ROUNDS>(table, place, slots, key, pause)
+                lset_loops::lock_free_add_within::<P, N>(table, place, slots, key, pause)
             }
             Call::Remove(key) => {
-                lset_loops::lock_free_remove_within::<P, ROUNDS>(table, place, slots, key, pause)
+                lset_loops::lock_free_remove_within::<P, N>(table, place, slots, key, pause)
             }
             Call::Contains(key) => Some(lset_loops::contains_on::<Self, P>(
                 table, place, slots, key, pause,
             )),
-            Call::Ceiling(_) => interpret_within::<Self, P, ROUNDS>(table, place, slots, call, pause),
+            Call::Ceiling(_) => interpret_within::<Self, P, N>(table, place, slots, call, pause),
         }
     }
 }

@@ -14,7 +14,7 @@ mod set_calls;
 pub use bounded::Bounded;
 pub use closed::Closed;
 pub use fault::OpenFault;
-pub use lset_rule::{FOREVER, Pause, Spin};
+pub use lset_rule::{Countless, Pause, Rounds, Spin};
 pub use lset_words::SetCalls;
 pub use opening::{open, open_with};
 pub use running::{Running, RunningReads};

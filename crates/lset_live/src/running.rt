@@ -10,7 +10,7 @@ use lset_lazy::LazyList;
 use lset_lock_free::LockFreeList;
 use lset_optimistic::OptimisticList;
 use lset_rule::{
-    FOREVER, OwnSlots, Pause, TableSeat, Words, interpret, interpret_read, or_wait_forever,
+    Countless, OwnSlots, Pause, TableSeat, Words, interpret, interpret_read, or_wait_forever,
 };
 use lset_steps::{Machine, OpenReads};
 use lset_words::{Call, Key, Reply};
@@ -134,7 +134,7 @@ impl Running for CoarseList {
         call: Call,
         pause: &P,
     ) -> (OwnSlots, Reply) {
-        let answer = Self::make_within::<P, FOREVER>(table, place, slots, call, pause);
+        let answer = Self::make_within::<P, Countless>(table, place, slots, call, pause);
         or_wait_forever(rt, answer)
     }
 }
@@ -148,7 +148,7 @@ impl Running for FineList {
         call: Call,
         pause: &P,
     ) -> (OwnSlots, Reply) {
-        let answer = Self::make_within::<P, FOREVER>(table, place, slots, call, pause);
+        let answer = Self::make_within::<P, Countless>(table, place, slots, call, pause);
         or_wait_forever(rt, answer)
     }
 }
@@ -162,7 +162,7 @@ impl Running for OptimisticList {
         call: Call,
         pause: &P,
     ) -> (OwnSlots, Reply) {
-        let answer = Self::make_within::<P, FOREVER>(table, place, slots, call, pause);
+        let answer = Self::make_within::<P, Countless>(table, place, slots, call, pause);
         or_wait_forever(rt, answer)
     }
 }
@@ -176,7 +176,7 @@ impl Running for LazyList {
         key: Key,
         pause: &P,
     ) -> (OwnSlots, Reply) {
-        let answer = lset_loops::lazy_add_within::<P, FOREVER>(table, place, slots, key, pause);
+        let answer = lset_loops::lazy_add_within::<P, Countless>(table, place, slots, key, pause);
         or_wait_forever(rt, answer)
     }
 
@@ -188,7 +188,9 @@ impl Running for LazyList {
         key: Key,
         pause: &P,
     ) -> (OwnSlots, Reply) {
-        let answer = lset_loops::lazy_remove_within::<P, FOREVER>(table, place, slots, key, pause);
+        let answer = lset_loops::lazy_remove_within::<P, Countless>(
+            table, place, slots, key, pause,
+        );
         or_wait_forever(rt, answer)
     }
 
@@ -213,7 +215,9 @@ impl Running for LockFreeList {
         key: Key,
         pause: &P,
     ) -> (OwnSlots, Reply) {
-        let answer = lset_loops::lock_free_add_within::<P, FOREVER>(table, place, slots, key, pause);
+        let answer = lset_loops::lock_free_add_within::<P, Countless>(
+            table, place, slots, key, pause,
+        );
         or_wait_forever(rt, answer)
     }
 
@@ -225,7 +229,9 @@ impl Running for LockFreeList {
         key: Key,
         pause: &P,
     ) -> (OwnSlots, Reply) {
-        let answer = lset_loops::lock_free_remove_within::<P, FOREVER>(table, place, slots, key, pause);
+        let answer = lset_loops::lock_free_remove_within::<P, Countless>(
+            table, place, slots, key, pause,
+        );
         or_wait_forever(rt, answer)
     }
 

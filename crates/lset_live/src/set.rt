@@ -19,7 +19,7 @@ use crate::running::{Running, RunningReads, call_on};
 use crate::seat::Seat;
 use atomic_table::Table;
 use lset_headline::runs_are_linearizable;
-use lset_rule::{Cutting, Follows, Learning, Opened, Pause, Spin, TableSeat, Taking, View};
+use lset_rule::{Cutting, Follows, Learning, Opened, Pause, Rounds, Spin, TableSeat, Taking, View};
 use lset_steps::Machine;
 use lset_words::{Call, Key, Reply};
 use std::alloc::{AllocError, Global};
@@ -138,12 +138,12 @@ impl<M: Running> LiveSet<M> {
 
 impl<M: Bounded> LiveSet<M> {
     /// Makes the call from the seat, which is one of this set, with no handle to wait by: each of its loops makes at most
-    /// `ROUNDS` rounds. The answer is the seat and the reply, and of both is so what `call` says.
+    /// `N::MOST` rounds. The answer is the seat and the reply, and of both is so what `call` says.
     ///
     /// `None` where a loop has made all its rounds, as at a lock that is held. The call is still under way then, with the
-    /// locks that it has. Its seat could make no other and is gone, so the set is not closed any more. With [`FOREVER`]
+    /// locks that it has. Its seat could make no other and is gone, so the set is not closed any more. With [`Countless`]
     /// rounds no run comes to it.
-    pub fn call_within<P: Pause, const ROUNDS: u64>(
+    pub fn call_within<P: Pause, N: Rounds>(
         &self,
         seat: Seat<M>,
         call: Call,
@@ -159,7 +159,7 @@ impl<M: Bounded> LiveSet<M> {
             held,
             of: _,
         } = seat;
-        let (slots, reply) = M::make_within::<P, ROUNDS>(
+        let (slots, reply) = M::make_within::<P, N>(
             &self.table.shared,
             &mut place,
             slots,

@@ -8,12 +8,12 @@ ghost use Rattle.lset_locked_loops.specs.Coarse.{AtHead, Leaves, StopsAt};
 
 use lset_caller::{Caller, Decision, Found, Node, Origin, decide, one_more};
 use lset_coarse::CoarseList;
-use lset_rule::{OwnSlots, Pause, TableSeat, Words};
+use lset_rule::{OwnSlots, Pause, Rounds, TableSeat, Words};
 use lset_words::{Call, LOCK, Reply};
 use std::marker::{Brand, PhantomData};
 
 /// Walks from the head to the first key that is not below that of the call.
-fn walk<O: Origin, P: Pause, const ROUNDS: u64>(
+fn walk<O: Origin, P: Pause, N: Rounds>(
     caller: &Caller<CoarseList, O, P>,
     place: &mut TableSeat,
 ) -> Option<Found>
@@ -23,7 +23,7 @@ fn walk<O: Origin, P: Pause, const ROUNDS: u64>(
     let key = caller.key;
     let mut pred = Node::head();
     let mut curr = Node::behind(caller.load_link(place, pred)); // row 2
-    for _ in 0..ROUNDS {
+    for _ in 0..N::MOST {
         let word = caller.load_key(place, curr); // row 3
         if word >= key {
             return Some(Found { pred, curr, word });
@@ -58,7 +58,7 @@ fn act<O: Origin, P: Pause>(
     }
 }
 
-fn make<O: Origin, P: Pause, const ROUNDS: u64>(
+fn make<O: Origin, P: Pause, N: Rounds>(
     table: &Words<CoarseList>,
     place: &mut TableSeat,
     slots: OwnSlots,
@@ -77,16 +77,16 @@ fn make<O: Origin, P: Pause, const ROUNDS: u64>(
         key: call.key().word(),
         origin: PhantomData,
     };
-    caller.begin_locked::<ROUNDS>(place, LOCK)?; // row 1
-    let found = walk::<O, P, ROUNDS>(&caller, place)?;
+    caller.begin_locked::<N>(place, LOCK)?; // row 1
+    let found = walk::<O, P, N>(&caller, place)?;
     let answer = act(&caller, place, found);
     caller.release_last(place, LOCK); // row 10
     Some(answer)
 }
 
 /// Makes a whole call: it takes the lock, walks to its key, acts there, and gives the lock back. (Herlihy and Shavit's
-/// coarse-grained list.) `None` where a loop of it has made `ROUNDS` rounds.
-pub fn coarse_within<P: Pause, const ROUNDS: u64>(
+/// coarse-grained list.) `None` where a loop of it has made `N::MOST` rounds.
+pub fn coarse_within<P: Pause, N: Rounds>(
     table: &Words<CoarseList>,
     place: &mut TableSeat,
     slots: OwnSlots,
@@ -96,5 +96,5 @@ pub fn coarse_within<P: Pause, const ROUNDS: u64>(
     requires { MayCall coarse table.now.table_id table.now.key slots place.old }
     ensures { IfSome result (λ r. HasCalled coarse call place.old r place.new) }
 {
-    make::<Brand, P, ROUNDS>(table, place, slots, call, pause)
+    make::<Brand, P, N>(table, place, slots, call, pause)
 }

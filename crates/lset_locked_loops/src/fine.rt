@@ -8,13 +8,13 @@ ghost use Rattle.lset_locked_loops.specs.Fine.{AtHead, Leaves, StopsAt};
 
 use lset_caller::{Caller, Decision, Found, Node, Origin, decide, one_more};
 use lset_fine::FineList;
-use lset_rule::{OwnSlots, Pause, TableSeat, Words};
+use lset_rule::{OwnSlots, Pause, Rounds, TableSeat, Words};
 use lset_steps::rows::lock_index;
 use lset_words::{Call, HEAD, Reply};
 use std::marker::{Brand, PhantomData};
 
 /// Walks hand over hand from the head, which is locked, to the first key that is not below that of the call.
-fn walk<O: Origin, P: Pause, const ROUNDS: u64>(
+fn walk<O: Origin, P: Pause, N: Rounds>(
     caller: &Caller<FineList, O, P>,
     place: &mut TableSeat,
 ) -> Option<Found>
@@ -24,8 +24,8 @@ fn walk<O: Origin, P: Pause, const ROUNDS: u64>(
     let key = caller.key;
     let mut pred = Node::head();
     let mut curr = Node::behind(caller.load_link(place, pred)); // row 2
-    for _ in 0..ROUNDS {
-        caller.lock::<ROUNDS>(place, curr)?; // row 3
+    for _ in 0..N::MOST {
+        caller.lock::<N>(place, curr)?; // row 3
         let word = caller.load_key(place, curr); // row 4
         if word >= key {
             return Some(Found { pred, curr, word });
@@ -61,7 +61,7 @@ fn act<O: Origin, P: Pause>(
     }
 }
 
-fn make<O: Origin, P: Pause, const ROUNDS: u64>(
+fn make<O: Origin, P: Pause, N: Rounds>(
     table: &Words<FineList>,
     place: &mut TableSeat,
     slots: OwnSlots,
@@ -80,8 +80,8 @@ fn make<O: Origin, P: Pause, const ROUNDS: u64>(
         key: call.key().word(),
         origin: PhantomData,
     };
-    caller.begin_locked::<ROUNDS>(place, lock_index(HEAD))?; // row 1
-    let found = walk::<O, P, ROUNDS>(&caller, place)?;
+    caller.begin_locked::<N>(place, lock_index(HEAD))?; // row 1
+    let found = walk::<O, P, N>(&caller, place)?;
     let answer = act(&caller, place, found);
     caller.unlock(place, found.curr); // row 12
     caller.unlock_last(place, found.pred); // row 13
@@ -89,8 +89,8 @@ fn make<O: Origin, P: Pause, const ROUNDS: u64>(
 }
 
 /// Makes a whole call: it walks to its key, locking each node before it gives up the one behind it, acts there, and gives
-/// both locks back. (Herlihy and Shavit's fine-grained list.) `None` where a loop of it has made `ROUNDS` rounds.
-pub fn fine_within<P: Pause, const ROUNDS: u64>(
+/// both locks back. (Herlihy and Shavit's fine-grained list.) `None` where a loop of it has made `N::MOST` rounds.
+pub fn fine_within<P: Pause, N: Rounds>(
     table: &Words<FineList>,
     place: &mut TableSeat,
     slots: OwnSlots,
@@ -100,5 +100,5 @@ pub fn fine_within<P: Pause, const ROUNDS: u64>(
     requires { MayCall fine table.now.table_id table.now.key slots place.old }
     ensures { IfSome result (λ r. HasCalled fine call place.old r place.new) }
 {
-    make::<Brand, P, ROUNDS>(table, place, slots, call, pause)
+    make::<Brand, P, N>(table, place, slots, call, pause)
 }

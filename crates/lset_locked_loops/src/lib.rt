@@ -2,7 +2,7 @@
 //! Herlihy and Shavit write them.
 //!
 //! Each step is that of the row of the list's table at which the seat's view stands (`lset_caller`), and each loop makes at
-//! most `ROUNDS` rounds. The contracts are those of the interpreter (`lset_rule::interpret_within`).
+//! most `N::MOST` rounds. The contracts are those of the interpreter (`lset_rule::interpret_within`).
 #![tactic(auto)]
 
 mod coarse;

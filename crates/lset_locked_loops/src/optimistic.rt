@@ -8,7 +8,7 @@ ghost use Rattle.lset_locked_loops.specs.Optimistic.{AreNeighbours, AtKey, HasLo
 
 use lset_caller::{Caller, Decision, Found, Node, Origin, decide, one_more};
 use lset_optimistic::OptimisticList;
-use lset_rule::{OwnSlots, Pause, TableSeat, Words};
+use lset_rule::{OwnSlots, Pause, Rounds, TableSeat, Words};
 use lset_words::{Call, HEAD, Reply};
 use std::marker::{Brand, PhantomData};
 
@@ -21,7 +21,7 @@ pub(crate) struct Stopped {
 
 /// Walks from the head, whose link led to `first`, to the first key that is not below that of the call.
 #[inline(always)]
-fn walk<O: Origin, P: Pause, const ROUNDS: u64>(
+fn walk<O: Origin, P: Pause, N: Rounds>(
     caller: &Caller<OptimisticList, O, P>,
     place: &mut TableSeat,
     first: Node,
@@ -33,7 +33,7 @@ fn walk<O: Origin, P: Pause, const ROUNDS: u64>(
     let mut pred = Node::head();
     let mut before = 0;
     let mut curr = first;
-    for _ in 0..ROUNDS {
+    for _ in 0..N::MOST {
         let word = caller.load_key(place, curr); // row 2
         if word >= key {
             let found = Found { pred, curr, word };
@@ -50,7 +50,7 @@ fn walk<O: Origin, P: Pause, const ROUNDS: u64>(
 /// Walks a second time from the head, as far as `pred`. Answers whether it came there: not where it saw a key above that of
 /// `pred`.
 #[inline(always)]
-fn reaches<O: Origin, P: Pause, const ROUNDS: u64>(
+fn reaches<O: Origin, P: Pause, N: Rounds>(
     caller: &Caller<OptimisticList, O, P>,
     place: &mut TableSeat,
     stopped: Stopped,
@@ -64,7 +64,7 @@ fn reaches<O: Origin, P: Pause, const ROUNDS: u64>(
         return Some(true);
     }
     let mut node = Node::head();
-    for _ in 0..ROUNDS {
+    for _ in 0..N::MOST {
         let link = caller.load_link(place, node); // row 6
         node = Node::behind(link);
         let word = caller.load_key(place, node); // row 7
@@ -79,7 +79,7 @@ fn reaches<O: Origin, P: Pause, const ROUNDS: u64>(
 }
 
 /// Whether `pred` is still in the list and leads to `curr`, both of which are locked.
-fn validate<O: Origin, P: Pause, const ROUNDS: u64>(
+fn validate<O: Origin, P: Pause, N: Rounds>(
     caller: &Caller<OptimisticList, O, P>,
     place: &mut TableSeat,
     stopped: Stopped,
@@ -88,7 +88,7 @@ fn validate<O: Origin, P: Pause, const ROUNDS: u64>(
     ensures { IfSome result (λ r. HasValidated O.begun caller.now.slots stopped.found r place.new) }
 {
     let found = stopped.found;
-    if !reaches::<O, P, ROUNDS>(caller, place, stopped)? {
+    if !reaches::<O, P, N>(caller, place, stopped)? {
         return Some(false);
     }
     let link = caller.load_link(place, found.pred); // row 8
@@ -121,7 +121,7 @@ fn act<O: Origin, P: Pause>(
     }
 }
 
-fn make<O: Origin, P: Pause, const ROUNDS: u64>(
+fn make<O: Origin, P: Pause, N: Rounds>(
     table: &Words<OptimisticList>,
     place: &mut TableSeat,
     slots: OwnSlots,
@@ -141,12 +141,12 @@ fn make<O: Origin, P: Pause, const ROUNDS: u64>(
         origin: PhantomData,
     };
     let mut link = caller.begin_at_head(place); // row 1
-    for _ in 0..ROUNDS {
-        let stopped = walk::<O, P, ROUNDS>(&caller, place, Node::behind(link))?;
+    for _ in 0..N::MOST {
+        let stopped = walk::<O, P, N>(&caller, place, Node::behind(link))?;
         let found = stopped.found;
-        caller.lock::<ROUNDS>(place, found.pred)?; // row 4
-        caller.lock::<ROUNDS>(place, found.curr)?; // row 5
-        if validate::<O, P, ROUNDS>(&caller, place, stopped)? {
+        caller.lock::<N>(place, found.pred)?; // row 4
+        caller.lock::<N>(place, found.curr)?; // row 5
+        if validate::<O, P, N>(&caller, place, stopped)? {
             let answer = act(&caller, place, found);
             caller.unlock(place, found.pred); // row 14
             caller.unlock_last(place, found.curr); // row 15
@@ -161,8 +161,8 @@ fn make<O: Origin, P: Pause, const ROUNDS: u64>(
 
 /// Makes a whole call: it walks to its key without a lock, locks the two nodes there, looks by a second walk whether they
 /// are still neighbours in the list, and acts, or gives them back and starts over. (Herlihy and Shavit's optimistic list.)
-/// `None` where a loop of it has made `ROUNDS` rounds.
-pub fn optimistic_within<P: Pause, const ROUNDS: u64>(
+/// `None` where a loop of it has made `N::MOST` rounds.
+pub fn optimistic_within<P: Pause, N: Rounds>(
     table: &Words<OptimisticList>,
     place: &mut TableSeat,
     slots: OwnSlots,
@@ -172,5 +172,5 @@ pub fn optimistic_within<P: Pause, const ROUNDS: u64>(
     requires { MayCall optimistic table.now.table_id table.now.key slots place.old }
     ensures { IfSome result (λ r. HasCalled optimistic call place.old r place.new) }
 {
-    make::<Brand, P, ROUNDS>(table, place, slots, call, pause)
+    make::<Brand, P, N>(table, place, slots, call, pause)
 }

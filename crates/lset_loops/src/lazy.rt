@@ -11,13 +11,13 @@ ghost use Rattle.lset_loops.specs.Lazy.{AreNeighbours, AtKey, HasLocked, HasVali
 
 use lset_caller::{Caller, Decision, Found, Node, Origin, decide, one_more};
 use lset_lazy::LazyList;
-use lset_rule::{OwnSlots, Pause, TableSeat, Words};
+use lset_rule::{OwnSlots, Pause, Rounds, TableSeat, Words};
 use lset_words::{Call, Key, Reply};
 use std::marker::{Brand, PhantomData};
 
 /// Walks from the head, whose link led to `first`, to the first key that is not below that of the call.
 #[inline(always)]
-fn walk<O: Origin, P: Pause, const ROUNDS: u64>(
+fn walk<O: Origin, P: Pause, N: Rounds>(
     caller: &Caller<LazyList, O, P>,
     place: &mut TableSeat,
     first: Node,
@@ -28,7 +28,7 @@ fn walk<O: Origin, P: Pause, const ROUNDS: u64>(
     let key = caller.key;
     let mut pred = Node::head();
     let mut curr = first;
-    for _ in 0..ROUNDS {
+    for _ in 0..N::MOST {
         let word = caller.load_key(place, curr); // row 2
         if word >= key {
             return Some(Found { pred, curr, word });
@@ -84,7 +84,7 @@ fn act<O: Origin, P: Pause>(
     }
 }
 
-fn make<O: Origin, P: Pause, const ROUNDS: u64>(
+fn make<O: Origin, P: Pause, N: Rounds>(
     table: &Words<LazyList>,
     place: &mut TableSeat,
     slots: OwnSlots,
@@ -105,10 +105,10 @@ fn make<O: Origin, P: Pause, const ROUNDS: u64>(
         origin: PhantomData,
     };
     let mut link = caller.begin_at_head(place); // row 1
-    for _ in 0..ROUNDS {
-        let found = walk::<O, P, ROUNDS>(&caller, place, Node::behind(link))?;
-        caller.lock::<ROUNDS>(place, found.pred)?; // row 4
-        caller.lock::<ROUNDS>(place, found.curr)?; // row 5
+    for _ in 0..N::MOST {
+        let found = walk::<O, P, N>(&caller, place, Node::behind(link))?;
+        caller.lock::<N>(place, found.pred)?; // row 4
+        caller.lock::<N>(place, found.curr)?; // row 5
         match validate(&caller, place, found) {
             Some(succ) => {
                 let answer = act(&caller, place, found, succ);
@@ -128,8 +128,8 @@ fn make<O: Origin, P: Pause, const ROUNDS: u64>(
 
 /// Makes a whole `add` of `key` to a LazyList: it walks to its place without a lock, locks the two nodes there, looks
 /// whether they are still neighbours in the list, and acts, or gives them back and starts over. (Herlihy and Shavit's lazy
-/// list, after Heller and others.) `None` where a loop of it has made `ROUNDS` rounds.
-pub fn lazy_add_within<P: Pause, const ROUNDS: u64>(
+/// list, after Heller and others.) `None` where a loop of it has made `N::MOST` rounds.
+pub fn lazy_add_within<P: Pause, N: Rounds>(
     table: &Words<LazyList>,
     place: &mut TableSeat,
     slots: OwnSlots,
@@ -139,11 +139,11 @@ pub fn lazy_add_within<P: Pause, const ROUNDS: u64>(
     requires { MayCall lazy table.now.table_id table.now.key slots place.old }
     ensures { IfSome result (λ r. HasCalled lazy (Add key) place.old r place.new) }
 {
-    make::<Brand, P, ROUNDS>(table, place, slots, Call::Add(key), pause)
+    make::<Brand, P, N>(table, place, slots, Call::Add(key), pause)
 }
 
 /// Makes a whole `remove` of `key`, as [`lazy_add_within`] an `add`.
-pub fn lazy_remove_within<P: Pause, const ROUNDS: u64>(
+pub fn lazy_remove_within<P: Pause, N: Rounds>(
     table: &Words<LazyList>,
     place: &mut TableSeat,
     slots: OwnSlots,
@@ -153,5 +153,5 @@ pub fn lazy_remove_within<P: Pause, const ROUNDS: u64>(
     requires { MayCall lazy table.now.table_id table.now.key slots place.old }
     ensures { IfSome result (λ r. HasCalled lazy (Remove key) place.old r place.new) }
 {
-    make::<Brand, P, ROUNDS>(table, place, slots, Call::Remove(key), pause)
+    make::<Brand, P, N>(table, place, slots, Call::Remove(key), pause)
 }

@@ -2,7 +2,7 @@
 //! `contains` of LazyList and of LockFreeList.
 //!
 //! Each step is that of the row of the list's table at which the seat's view stands (`lset_caller`), and each loop makes at
-//! most `ROUNDS` rounds, but for that of a `contains`, which ends. The contracts are those of the interpreter
+//! most `N::MOST` rounds, but for that of a `contains`, which ends. The contracts are those of the interpreter
 //! (`lset_rule::interpret_within`, `lset_rule::interpret_read`).
 #![tactic(auto)]
 

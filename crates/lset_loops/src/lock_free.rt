@@ -10,13 +10,13 @@ ghost use Rattle.lset_loops.specs.LockFree.{AtLink, HasTried, StopsAt};
 
 use lset_caller::{Caller, Decision, Found, Node, Origin, decide, one_more};
 use lset_lock_free::LockFreeList;
-use lset_rule::{OwnSlots, Pause, TableSeat, Words};
+use lset_rule::{OwnSlots, Pause, Rounds, TableSeat, Words};
 use lset_words::{Call, Key, Reply};
 use std::marker::{Brand, PhantomData};
 
 /// Walks from the head, whose link led to `first`, to the first key that is not below that of the call, and takes marked
 /// nodes out on its way (Herlihy and Shavit's `find`).
-fn find<O: Origin, P: Pause, const ROUNDS: u64>(
+fn find<O: Origin, P: Pause, N: Rounds>(
     caller: &Caller<LockFreeList, O, P>,
     place: &mut TableSeat,
     first: Node,
@@ -27,7 +27,7 @@ fn find<O: Origin, P: Pause, const ROUNDS: u64>(
     let key = caller.key;
     let mut pred = Node::head();
     let mut curr = first;
-    for _ in 0..ROUNDS {
+    for _ in 0..N::MOST {
         let link = caller.load_link(place, curr); // row 2
         let succ = Node::behind(link);
         if link % 2 != 0 {
@@ -83,7 +83,7 @@ fn attempt<O: Origin, P: Pause>(
     }
 }
 
-fn make<O: Origin, P: Pause, const ROUNDS: u64>(
+fn make<O: Origin, P: Pause, N: Rounds>(
     table: &Words<LockFreeList>,
     place: &mut TableSeat,
     slots: OwnSlots,
@@ -104,8 +104,8 @@ fn make<O: Origin, P: Pause, const ROUNDS: u64>(
         origin: PhantomData,
     };
     let mut link = caller.begin_at_head(place); // row 1
-    for _ in 0..ROUNDS {
-        let found = find::<O, P, ROUNDS>(&caller, place, Node::behind(link))?;
+    for _ in 0..N::MOST {
+        let found = find::<O, P, N>(&caller, place, Node::behind(link))?;
         match attempt(&caller, place, found) {
             Some(answer) => return Some(answer),
             None => link = caller.load_link(place, Node::head()), // row 1
@@ -115,8 +115,8 @@ fn make<O: Origin, P: Pause, const ROUNDS: u64>(
 }
 
 /// Makes a whole `add` of `key` to a LockFreeList: it walks to its place and puts its next slot in there, or starts over
-/// where the link has changed. (Herlihy and Shavit's lock-free list.) `None` where a loop of it has made `ROUNDS` rounds.
-pub fn lock_free_add_within<P: Pause, const ROUNDS: u64>(
+/// where the link has changed. (Herlihy and Shavit's lock-free list.) `None` where a loop of it has made `N::MOST` rounds.
+pub fn lock_free_add_within<P: Pause, N: Rounds>(
     table: &Words<LockFreeList>,
     place: &mut TableSeat,
     slots: OwnSlots,
@@ -126,12 +126,12 @@ pub fn lock_free_add_within<P: Pause, const ROUNDS: u64>(
     requires { MayCall lock_free table.now.table_id table.now.key slots place.old }
     ensures { IfSome result (λ r. HasCalled lock_free (Add key) place.old r place.new) }
 {
-    make::<Brand, P, ROUNDS>(table, place, slots, Call::Add(key), pause)
+    make::<Brand, P, N>(table, place, slots, Call::Add(key), pause)
 }
 
 /// Makes a whole `remove` of `key`: it marks the node, or starts over where its link has changed, and tries once to take it
 /// out. `None` as that of [`lock_free_add_within`].
-pub fn lock_free_remove_within<P: Pause, const ROUNDS: u64>(
+pub fn lock_free_remove_within<P: Pause, N: Rounds>(
     table: &Words<LockFreeList>,
     place: &mut TableSeat,
     slots: OwnSlots,
@@ -141,5 +141,5 @@ pub fn lock_free_remove_within<P: Pause, const ROUNDS: u64>(
     requires { MayCall lock_free table.now.table_id table.now.key slots place.old }
     ensures { IfSome result (λ r. HasCalled lock_free (Remove key) place.old r place.new) }
 {
-    make::<Brand, P, ROUNDS>(table, place, slots, Call::Remove(key), pause)
+    make::<Brand, P, N>(table, place, slots, Call::Remove(key), pause)
 }

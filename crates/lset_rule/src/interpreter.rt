@@ -3,7 +3,7 @@ ghost use Rattle.std.specs.Prelude.{IfSome};
 ghost use Rattle.lset_words.specs.declared.Call.TheVariants.{Contains};
 ghost use Rattle.lset_rule.specs.Seats.{HasCalled, MayCall};
 
-use crate::rounds::{FOREVER, or_wait_forever};
+use crate::rounds::{Countless, Rounds, or_wait_forever};
 use crate::row_steps::{Stepped, has_failed, one_step};
 use crate::slots::OwnSlots;
 use crate::word_steps::{TableSeat, Words, start_on};
@@ -53,7 +53,7 @@ impl Pause for Spin {
     }
 }
 
-/// Makes a whole call, step by step, in at most `ROUNDS` rounds of its loop, of two steps each. `None` where it has not
+/// Makes a whole call, step by step, in at most `N::MOST` rounds of its loop, of two steps each. `None` where it has not
 /// answered then.
 ///
 /// `place` is the place of an idle seat of these words, and `slots` are those of its thread, as the last call left them.
@@ -62,7 +62,7 @@ impl Pause for Spin {
 ///
 /// If it answers, it was a call of the machine, begun after all that the place had seen, and the record of the place grew by
 /// it and its reply. After `None` the call is still under way, with the locks that it has, and the place makes no other.
-pub fn interpret_within<M: Machine, P: Pause, const ROUNDS: u64>(
+pub fn interpret_within<M: Machine, P: Pause, N: Rounds>(
     table: &Words<M>,
     place: &mut TableSeat,
     slots: OwnSlots,
@@ -82,7 +82,7 @@ pub fn interpret_within<M: Machine, P: Pause, const ROUNDS: u64>(
     // Two steps in a round: within a round the compiler leads from the code of a row straight to that of the next one, and
     // at its end to a search for the row. What is between them stands here and not in a function: after a call that may
     // wait, as one that asks a pause, it leads nowhere straight.
-    for _ in 0..ROUNDS {
+    for _ in 0..N::MOST {
         if let Some(reply) = last.fed.answer {
             return Some((OwnSlots::of(&last.fed.local), reply));
         }
@@ -114,7 +114,7 @@ pub fn interpret<M: Machine, R: Wait, P: Pause>(
     requires { MayCall M.table table.now.table_id table.now.key slots place.old }
     ensures { HasCalled M.table call place.old result place.new }
 {
-    let answer = interpret_within::<M, P, FOREVER>(table, place, slots, call, pause);
+    let answer = interpret_within::<M, P, Countless>(table, place, slots, call, pause);
     or_wait_forever(rt, answer)
 }
 

@@ -15,7 +15,7 @@ mod view;
 mod word_steps;
 
 pub use interpreter::{Pause, Spin, interpret, interpret_read, interpret_within};
-pub use rounds::{FOREVER, or_wait_forever};
+pub use rounds::{Countless, Rounds, or_wait_forever};
 pub use rule::{Asking, Cutting, Follows, Learning, Onward, Starting, Taking};
 pub use slots::OwnSlots;
 pub use view::{Aside, Opened, OwnCall, Past, Under, View};

@@ -1,4 +1,5 @@
-use Rattle.lset_caller.proofs.Calling.{may_begin, is_call, called}
+use Rattle.lset_fine.specs.Fine.{fine}
+use Rattle.lset_caller.proofs.Calling.{may_begin, is_call, called_if}
 use Rattle.lset_locked_loops.proofs.fine.fine_within.Goals as goal
 
 pub make-requires-clause-begins : goal.make-requires-clause-begins
@@ -8,4 +9,4 @@ pub make-requires-clause-call : goal.make-requires-clause-call
 make-requires-clause-call g c = is_call _ c.requires
 
 pub returns : goal.returns
-returns g c = called c.make.ensures
+returns g c = called_if fine c.args.call c.args.place.now c.make.new.place c.make.result c.make.ensures
