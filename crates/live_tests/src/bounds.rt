@@ -5,12 +5,36 @@ use crate::opened::last_seat;
 use lset_coarse::CoarseList;
 use lset_fine::FineList;
 use lset_lazy::LazyList;
-use lset_live::{Bounded, FOREVER, LiveSet, Seat, Spin, open_with};
+use lset_live::{Bounded, Countless, LiveSet, Rounds, Seat, Spin, open_with};
 use lset_lock_free::LockFreeList;
 use lset_optimistic::OptimisticList;
 use lset_words::{Call, Key, Reply};
 use std::alloc::Global;
 use std::process::Abort;
+
+struct One;
+
+struct Two;
+
+struct Three;
+
+struct Hundred;
+
+impl Rounds for One {
+    const MOST: u64 = 1;
+}
+
+impl Rounds for Two {
+    const MOST: u64 = 2;
+}
+
+impl Rounds for Three {
+    const MOST: u64 = 3;
+}
+
+impl Rounds for Hundred {
+    const MOST: u64 = 100;
+}
 
 /// The keys that a set opens with. A walk to a key looks at each key below it and at the first that is not.
 const KEYS: [u32; 5] = [10, 20, 30, 40, 50];
@@ -26,26 +50,24 @@ fn opened<M: Bounded, R: Abort>(rt: &R, alloc: Global) -> (LiveSet<M>, Seat<M>, 
 }
 
 /// The reply of a call in a set that was just opened, in so many rounds.
-fn first_reply<M: Bounded, R: Abort, const ROUNDS: u64>(
+fn first_reply<M: Bounded, R: Abort, N: Rounds>(
     rt: &R,
     alloc: Global,
     call: Call,
 ) -> Option<Reply> {
     let (set, zero, _one) = opened::<M, R>(rt, alloc);
-    let (_zero, reply) = set.call_within::<Spin, ROUNDS>(zero, call, &Spin::new())?;
+    let (_zero, reply) = set.call_within::<Spin, N>(zero, call, &Spin::new())?;
     Some(reply)
 }
 
-/// The walk to 25 and that to 30 have three rounds: two are too few.
+/// The walks to 25 and to 30 have three rounds: two are too few.
 fn has_rounds<M: Bounded, R: Abort>(rt: &R, alloc: Global) {
-    let (put, taken) = (Call::Add(Key(25)), Call::Remove(Key(30)));
-    assert!(rt; first_reply::<M, R, 0>(rt, alloc, put).is_none());
-    assert!(rt; first_reply::<M, R, 1>(rt, alloc, put).is_none());
-    assert!(rt; first_reply::<M, R, 2>(rt, alloc, put).is_none());
-    assert!(rt; first_reply::<M, R, 3>(rt, alloc, put) == Some(Reply::True));
-    assert!(rt; first_reply::<M, R, 2>(rt, alloc, taken).is_none());
-    assert!(rt; first_reply::<M, R, 3>(rt, alloc, taken) == Some(Reply::True));
-    assert!(rt; first_reply::<M, R, FOREVER>(rt, alloc, taken) == Some(Reply::True));
+    for call in [Call::Add(Key(25)), Call::Remove(Key(30))] {
+        assert!(rt; first_reply::<M, R, One>(rt, alloc, call).is_none());
+        assert!(rt; first_reply::<M, R, Two>(rt, alloc, call).is_none());
+        assert!(rt; first_reply::<M, R, Three>(rt, alloc, call) == Some(Reply::True));
+        assert!(rt; first_reply::<M, R, Countless>(rt, alloc, call) == Some(Reply::True));
+    }
 }
 
 #[test]
@@ -60,9 +82,9 @@ fn a_call_has_rounds(rt: HostRuntime) {
 /// A ceiling, which the lists that mark make by the interpreter, and a contains.
 fn reads_in_rounds<M: Bounded, R: Abort>(rt: &R, alloc: Global) {
     let (sought, asked) = (Call::Ceiling(Key(25)), Call::Contains(Key(30)));
-    assert!(rt; first_reply::<M, R, 1>(rt, alloc, sought).is_none());
-    assert!(rt; first_reply::<M, R, 9>(rt, alloc, sought) == Some(Reply::At(Key(30))));
-    assert!(rt; first_reply::<M, R, 9>(rt, alloc, asked) == Some(Reply::True));
+    assert!(rt; first_reply::<M, R, One>(rt, alloc, sought).is_none());
+    assert!(rt; first_reply::<M, R, Hundred>(rt, alloc, sought) == Some(Reply::At(Key(30))));
+    assert!(rt; first_reply::<M, R, Hundred>(rt, alloc, asked) == Some(Reply::True));
 }
 
 #[test]
@@ -74,12 +96,12 @@ fn a_read_has_rounds(rt: HostRuntime) {
     reads_in_rounds::<LockFreeList, HostRuntime>(&rt, rt.alloc());
 }
 
-/// A call that had too few rounds keeps its locks: another that comes to one gives up, at whatever bound.
+/// A call that had too few rounds keeps its locks: another that comes to one gives up too.
 fn gives_up_at_a_lock<M: Bounded, R: Abort>(rt: &R, alloc: Global, call: Call) {
     let (set, zero, one) = opened::<M, R>(rt, alloc);
-    let stuck = set.call_within::<Spin, 2>(one, Call::Add(Key(25)), &Spin::new());
+    let stuck = set.call_within::<Spin, Two>(one, Call::Add(Key(25)), &Spin::new());
     assert!(rt; stuck.is_none());
-    let found = set.call_within::<Spin, 100>(zero, call, &Spin::new());
+    let found = set.call_within::<Spin, Hundred>(zero, call, &Spin::new());
     assert!(rt; found.is_none());
 }
 
