@@ -2,11 +2,11 @@
 //! to its thread. Then the seats are gathered, and the set is closed.
 #![tactic(auto)]
 
-ghost use Rattle.std.specs.Prelude.{◌≡◌, [], ◌∷◌, IfOk, map};
-ghost use Rattle.lset_words.specs.Records.{fresh, with_calls};
+ghost use Rattle.std.specs.Prelude.{◌≡◌, [], ◌∷◌, IfOk};
+ghost use Rattle.lset_words.specs.Records.{fresh};
 ghost use Rattle.lset_words.specs.Words.{empty};
 ghost use Rattle.lset_live.specs.Explained.{Explains};
-ghost use Rattle.own_threads.specs.Claims.{claimed, numbers_of};
+ghost use Rattle.own_threads.specs.Claims.{HasClaimed, claimed, numbers_of};
 
 use lset_lazy::LazyList;
 use lset_live::{LiveSet, OpenFault, Running, Seat, open};
@@ -70,6 +70,33 @@ fn claim_all<M: Running, R: Wait>(
     Ok(Clerk { seat, claims })
 }
 
+/// Hands the seats to two threads, and waits for both.
+fn hand_out<M: Running + Send + Sync, R: Threads + Wait + Sync>(
+    rt: &R,
+    alloc: Global,
+    set: &LiveSet<M>,
+    seats: (Seat<M>, Seat<M>),
+    first: &[u32],
+    second: &[u32],
+) -> (Result<Clerk<M>, AllocError>, Result<Clerk<M>, AllocError>)
+    requires { (seats.0.set ≡ set.now) × (seats.1.set ≡ set.now) }
+    ensures first { IfOk result.0 (λ c. HasClaimed set.now seats.0 first.now c.seat c.claims.items) }
+    ensures second { IfOk result.1 (λ c. HasClaimed set.now seats.1 second.now c.seat c.claims.items) }
+{
+    let (zero, one) = seats;
+    join(
+        rt,
+        || -> Result<Clerk<M>, AllocError>
+            requires { zero.set ≡ set.now }
+            ensures { IfOk result (λ c. HasClaimed set.entry.now zero first.entry.now c.seat c.claims.items) }
+        { claim_all(rt, alloc, set, zero, first) },
+        || -> Result<Clerk<M>, AllocError>
+            requires { one.set ≡ set.now }
+            ensures { IfOk result (λ c. HasClaimed set.entry.now one second.entry.now c.seat c.claims.items) }
+        { claim_all(rt, alloc, set, one, second) },
+    )
+}
+
 /// What two clerks make of an empty set, each in a thread of its own, with `quota` slots for each.
 fn two_clerks<M: Running + Send + Sync, R: Threads + Wait + Sync>(
     rt: &R,
@@ -87,34 +114,38 @@ fn two_clerks<M: Running + Send + Sync, R: Threads + Wait + Sync>(
     let (Some(one), Some(zero)) = (seats.pop(), seats.pop()) else {
         unreachable!()
     };
-    let (zero, one) = join(
-        rt,
-        || -> Result<Clerk<M>, AllocError>
-            requires { zero.set ≡ set }
-            ensures seat { IfOk result (λ c. (c.seat.set ≡ set) × (c.seat.held ≡ zero.held)) }
-            ensures asked { IfOk result (λ c. numbers_of c.claims.items ≡ first.entry.now) }
-            ensures record { IfOk result (λ c. c.seat.past ≡ claimed zero.past c.claims.items) }
-        { claim_all(rt, alloc, &set, zero, first) },
-        || -> Result<Clerk<M>, AllocError>
-            requires { one.set ≡ set }
-            ensures seat { IfOk result (λ c. (c.seat.set ≡ set) × (c.seat.held ≡ one.held)) }
-            ensures asked { IfOk result (λ c. numbers_of c.claims.items ≡ second.entry.now) }
-            ensures record { IfOk result (λ c. c.seat.past ≡ claimed one.past c.claims.items) }
-        { claim_all(rt, alloc, &set, one, second) },
-    );
-    let Clerk { seat: mut all, claims: first } = zero?;
-    let Clerk { seat, claims: second } = one?;
+    let (zero, one) = hand_out(rt, alloc, &set, (zero, one), first, second);
+    let Clerk {
+        seat: mut all,
+        claims: first,
+    } = zero?;
+    let Clerk {
+        seat,
+        claims: second,
+    } = one?;
     set.gather(&mut all, seat);
     let keys = set.keys_left(all)?;
-    Ok(Outcome { first, second, keys })
+    Ok(Outcome {
+        first,
+        second,
+        keys,
+    })
 }
 
 fn main(rt: HostRuntime) -> io::Result<()> {
     // the runtime starts threads only where `main` itself passes it on
     match two_clerks::<LazyList, HostRuntime>(&rt, rt.alloc(), 8, &[3, 5, 8], &[5, 8, 9]) {
         Ok(outcome) => {
-            let given = outcome.first.iter().chain(outcome.second.iter()).filter(|it| it.reply == Reply::True);
-            println!(rt; "{} claims were granted, of the numbers {:?}", given.count(), outcome.keys)
+            let given = outcome
+                .first
+                .iter()
+                .chain(outcome.second.iter())
+                .filter(|it| it.reply == Reply::True);
+            println!(rt;
+                "{} claims were granted, of the numbers {:?}",
+                given.count(),
+                outcome.keys
+            )
         }
         Err(refusal) => println!(rt; "no claims: {refusal}"),
     }

@@ -10,7 +10,9 @@ loop-number-preserved g c =
     record {
       of_set = told.of_set;
       held = told.held ∙ inv.held;
-      asked = numbers_more c.args.numbers.now c.loop-number.number-index c.loop-number.claims.items _ _ c.loop-number-test.true refl
+      asked = numbers_more c.args.numbers.now c.loop-number.number-index c.loop-number.claims.items c.push.new.self.items _
+          c.loop-number-test.true refl
           more inv.asked;
-      past = claimed_more c.args.seat.past c.loop-number.seat.past _ c.loop-number.claims.items _ _ more inv.past told.past;
+      past = claimed_more c.args.seat.past c.loop-number.seat.past c.add-reply.new.seat.past c.loop-number.claims.items
+          c.push.new.self.items _ more inv.past told.past;
     }

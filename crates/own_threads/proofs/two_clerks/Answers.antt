@@ -20,6 +20,6 @@ returns-clause-order g c =
     let records = claimed (fresh 0) a.claims.items ∷ claimed (fresh 1) b.claims.items ∷ [] in
     let past : c.gather.new.into.past ≡ gathered (claimed (fresh 0) a.claims.items) (claimed (fresh 1) b.claims.items) =
     both ∙ (λ i. gathered ((first ∙ ap (λ r. claimed r a.claims.items) new_zero) i)
-        ((second ∙ ap (λ r. claimed r b.claims.items) new_one) i)) in
+    ((second ∙ ap (λ r. claimed r b.claims.items) new_one) i)) in
     subst (λ k. Explains k records keys) c.in_ok-set.ensures.opened.0
     (gathered_explains c.in_ok-set.set.shape c.gather.new.into.past records keys (ap Some past) c.in_ok-keys.ensures)
