@@ -75,6 +75,11 @@ def replay(schedule):
     return _asked("replay", schedule)
 
 
+def report(calls):
+    """The report of recorded calls."""
+    return _asked("report", calls)
+
+
 def check(report):
     """Raises `Wrong` where the order of a report does not explain its calls, or where the text is none."""
     _asked("check", report)
