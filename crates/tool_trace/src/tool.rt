@@ -1,11 +1,15 @@
-ghost use Rattle.std.specs.Prelude.{◌≡◌, ◌≢◌, ◌⊎◌, IfErr, IfSome};
+ghost use Rattle.std.specs.Prelude.{◌≡◌, ◌≢◌, ◌⊎◌, IfErr, IfOk, IfSome};
+ghost use Rattle.std.specs.Io.KnownBytes.{Keeps};
+ghost use Rattle.lset_schedule.specs.Plan as plan;
 ghost use Rattle.lset_schedule.specs.ScheduleReading.{reading};
 ghost use Rattle.lset_tools.specs.Tools.{Ends, IsTaken, view};
 ghost use Rattle.lset_tools.specs.declared.trouble.Trouble.TheVariants.{Memory};
-ghost use Rattle.tool_trace.specs.Tracing.{IsFirstFault, Traces, status_of};
+ghost use Rattle.tool_trace.specs.Tracing.{IsFirstFault, IsTraced, Traces, status_of};
 
-use crate::writing::write_run;
-use lset_schedule::read_schedule;
+use crate::heard::text_of_run;
+use crate::streamed::{Known, known_by, write_run};
+use lset_replay::replay_upto;
+use lset_schedule::{Schedule, read_schedule};
 use lset_steps::StepFault;
 use lset_tools::{Answer, LONGEST, Trouble, deliver, input_of};
 use std::alloc::Global;
@@ -20,15 +24,27 @@ fn status_of(refused: Option<(u64, StepFault)>) -> u8
     }
 }
 
-/// The text of the trace of the schedule whose text the bytes are.
-fn trace_of(alloc: Global, bytes: &[u8], chains: bool) -> Result<Answer, Trouble>
-    requires { IsTaken bytes.now }
-    ensures traces { Traces chains bytes.now (view result) }
+/// The schedule whose text the bytes are, and what its replay tells.
+fn known_of(alloc: Global, bytes: &[u8]) -> Result<(Schedule, Known), Trouble>
+    ensures traced { IfOk result (λ r. IsTraced bytes.now r.1.refused) }
+    ensures schedule { IfOk result (λ r. plan.IsSchedule (plan.view r.0)) }
     ensures trouble { IfErr result (λ t. (t ≡ Memory) ⊎ IsFirstFault (reading bytes.now) t) }
 {
     let schedule = read_schedule(alloc, bytes)?;
-    let (text, refused) = write_run(alloc, &schedule, chains)?;
-    let status = status_of(refused);
+    let front = replay_upto(alloc, &schedule)?;
+    let known = known_by(alloc, &front)?;
+    Ok((schedule, known))
+}
+
+/// The text of the trace of the schedule whose text the bytes are.
+fn trace_of(alloc: Global, bytes: &[u8], chains: bool) -> Result<Answer, Trouble>
+    requires { IsTaken bytes.now }
+    ensures traces { Traces bytes.now (view result) }
+    ensures trouble { IfErr result (λ t. (t ≡ Memory) ⊎ IsFirstFault (reading bytes.now) t) }
+{
+    let (schedule, known) = known_of(alloc, bytes)?;
+    let text = text_of_run(alloc, &schedule, chains)?;
+    let status = status_of(known.refused);
     Ok(Answer { text, status })
 }
 
@@ -37,7 +53,7 @@ fn trace_of(alloc: Global, bytes: &[u8], chains: bool) -> Result<Answer, Trouble
 /// `TooLong` where the bytes are more than `LONGEST`; the first fault of bytes that are no schedule's text, as `replay` names it;
 /// `Memory` where memory was refused.
 pub fn traced(alloc: Global, bytes: &[u8], chains: bool) -> Result<Answer, Trouble>
-    ensures traces { Traces chains bytes.now (view result) }
+    ensures traces { Traces bytes.now (view result) }
     // Bytes that are here can be read.
     ensures read { IfErr result (λ t. t ≢ Trouble.CannotRead) }
 {
@@ -47,17 +63,58 @@ pub fn traced(alloc: Global, bytes: &[u8], chains: bool) -> Result<Answer, Troub
     trace_of(alloc, bytes, chains)
 }
 
-fn traced_input<R: Read>(alloc: Global, input: &mut R, chains: bool) -> Result<Answer, Trouble>
-    ensures { IfSome (R.remaining input.old) (λ bytes. Traces chains bytes (view result)) }
+fn traced_input<R: Read>(alloc: Global, input: &mut R) -> Result<Answer, Trouble>
+    ensures { IfSome (R.remaining input.old) (λ bytes. Traces bytes (view result)) }
 {
     let bytes = input_of(alloc, input)?;
-    trace_of(alloc, &bytes, chains)
+    trace_of(alloc, &bytes, true)
+}
+
+/// The schedule on the input, and what its replay tells.
+fn known_input<R: Read>(alloc: Global, input: &mut R) -> Result<(Schedule, Known), Trouble>
+    ensures traced { IfOk result (λ r. IfSome (R.remaining input.old) (λ bytes. IsTaken bytes × IsTraced bytes r.1.refused)) }
+    ensures schedule { IfOk result (λ r. plan.IsSchedule (plan.view r.0)) }
+    ensures trouble { IfErr result (λ t. IfSome (R.remaining input.old) (λ bytes. Traces bytes (Err t))) }
+{
+    let bytes = input_of(alloc, input)?;
+    known_of(alloc, &bytes)
+}
+
+/// What is left to write once a trace is written, which is nothing, and the status.
+fn nothing_more(alloc: Global, known: &Known) -> Answer
+    ensures { view (Result.Ok result) ≡ Ok (record { text = []; status = status_of known.now.refused }) }
+{
+    Answer {
+        text: Vec::new(alloc),
+        status: status_of(known.refused),
+    }
+}
+
+/// Traces the schedule on the input, without chains: writes each event as it is made.
+fn trace_through<R: Read, W: Write, F: Write>(
+    alloc: Global,
+    input: &mut R,
+    output: &mut W,
+    faults: &mut F,
+) -> u8
+    ensures { Ends (λ made. IfSome (R.remaining input.old) (λ bytes. Traces bytes made))
+        (W.contents output.old) (W.contents output.new) (F.contents faults.old) (F.contents faults.new) result }
+{
+    let (schedule, known) = match known_input(alloc, input) {
+        Ok(known) => known,
+        Err(trouble) => return deliver(alloc, Err(trouble), output, faults),
+    };
+    match write_run(alloc, &schedule, &known, output) {
+        Ok(true) => deliver(alloc, Ok(nothing_more(alloc, &known)), output, faults),
+        Ok(false) => deliver(alloc, Err(Trouble::CannotWrite), output, faults),
+        Err(_) => deliver(alloc, Err(Trouble::Memory), output, faults),
+    }
 }
 
 /// Traces the schedule on the input: writes the text of its trace on the output, with the chain after each event that
 /// changed it where `chains`, or one line about what is wrong on `faults`. It gives the exit status: 0 where the trace of
 /// all events was written, 3 where memory was refused, else 1, also where the trace ends at an event that is not enabled.
-/// A failing write on `faults` leaves the status as it is.
+/// A failing write on `faults` leaves the status as it is. Without chains the text is not held in memory.
 pub fn tool_trace<R: Read, W: Write, F: Write>(
     alloc: Global,
     chains: bool,
@@ -65,9 +122,13 @@ pub fn tool_trace<R: Read, W: Write, F: Write>(
     output: &mut W,
     faults: &mut F,
 ) -> u8
-    ensures { Ends (λ made. IfSome (R.remaining input.old) (λ bytes. Traces chains bytes made))
+    ensures { Ends (λ made. IfSome (R.remaining input.old) (λ bytes. Traces bytes made))
         (W.contents output.old) (W.contents output.new) (F.contents faults.old) (F.contents faults.new) result }
 {
-    let made = traced_input(alloc, input, chains);
-    deliver(alloc, made, output, faults)
+    if chains {
+        let made = traced_input(alloc, input);
+        deliver(alloc, made, output, faults)
+    } else {
+        trace_through(alloc, input, output, faults)
+    }
 }
