@@ -92,9 +92,15 @@ function showTable(moment) {
   if (byId("table-box").open) byId("table").innerHTML = drawTable(moment);
 }
 
-// The rows of each open call, while they are unfolded.
+// The code of the open calls, while it is unfolded, scrolled to the line of the thread that has moved.
 function showListing(moment) {
-  if (byId("listing-box").open) byId("listing").innerHTML = drawListing(moment);
+  if (!byId("listing-box").open) return;
+  const box = byId("listing");
+  box.innerHTML = drawListing(moment);
+  const line = box.querySelector(".moved") ?? box.querySelector(".here");
+  if (line === null) return;
+  const y = line.offsetTop - box.offsetTop;
+  if (y < box.scrollTop + 40 || y > box.scrollTop + box.clientHeight - 80) box.scrollTop = y - box.clientHeight / 2;
 }
 
 function showHistory(event) {

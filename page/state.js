@@ -2,7 +2,8 @@
 // what was written and what its thread holds then.
 "use strict";
 
-const BEGUN = { pred: "head", curr: "head", succ: "head", node: "head", pkey: "-inf", ckey: "-inf", reply: "none" };
+// Where a thread's call stands: the row that it made last (0: none), and its registers.
+const BEGUN = { came: 0, pred: "head", curr: "head", succ: "head", node: "head", pkey: "-inf", ckey: "-inf", reply: "none" };
 const AT_REST = { pc: 0, used: 0, call: null, ...BEGUN };
 const linkTarget = (link) => link.replace("*", "");
 const keyNumber = (key) => (key === "-inf" ? -1 : key === "+inf" ? Infinity : Number(key));
@@ -45,7 +46,7 @@ class State {
     if (event.deed === "begin") {
       for (const name in BEGUN) set(thread, name, BEGUN[name]);
       set(thread, "call", event.call);
-    }
+    } else set(thread, "came", thread.pc);
     for (const name in event.changes) set(thread, name, event.changes[name]);
     if (event.deed === "store" || (event.deed === "exchange" && event.saw === event.from)) this.write(event, set);
     if (!isKept) this.undo = [];

@@ -88,16 +88,29 @@ function driveHiding() {
   check("no name of an example tells more than it has to", !/answers|stands in/.test(names));
 }
 
+function isInSight(box, line) {
+  const [outer, inner] = [box.getBoundingClientRect(), line.getBoundingClientRect()];
+  return inner.top >= outer.top && inner.bottom <= outer.bottom;
+}
+
 async function driveListing() {
   pick("read-in-anothers-step");
   goToEvent(20);
   part("listing-box").open = true;
   await sleep(50);
-  const here = [...part("listing").querySelectorAll(".here")].map((line) => line.textContent);
+  const here = [...part("listing").querySelectorAll(".here")];
+  const told = here.map((line) => line.textContent);
   check(
-    `the line of each call: ${here}`,
-    here.length === 2 && here[0].startsWith("load link of curr") && here[1].startsWith("load link of pred"),
+    `the line of each call: ${told}`,
+    told.length === 2 && told[0].includes("// row 6t1 row 6: load link of pred") && told[1].includes("// row 22t0 row 22: load link of curr"),
   );
+  check("that of the event is in sight", isInSight(part("listing"), here[0]) && here[0].classList.contains("moved"));
+  const inside = [...part("listing").querySelectorAll(".inside")].map((line) => line.textContent);
+  check(`the line that called it: ${inside}`, inside.length === 1 && inside[0].includes("match validate("));
+  runSchedule([...header("lazy", 2).map((line) => line.replace("schedule 1", "schedule 2")), "begin 0 ceiling 5", "go 0 1"]);
+  await sleep(50);
+  const rows = [...part("listing").querySelectorAll(".rows .here")].map((line) => line.textContent);
+  check(`the row of a call that has no loop: ${rows}`, rows.length === 1 && rows[0].startsWith("row 24: "));
   part("listing-box").open = false;
   await sleep(50);
 }

@@ -9,7 +9,7 @@ const { inPage, loadScripts, startedEngine } = require("../in_node.js");
 const folder = path.dirname(__dirname);
 const DRAWING = ["svg", "draw_history", "sentences", "draw_list"];
 const TESTED = ["check_trace", "schedule_text", "address", "sides", "tests/turns", "tests/colours", "tests/arrows"];
-const PARTS = ["rows", "classics", "traces", "trace", "state", ...DRAWING, "draw_threads", "draw_listing", ...TESTED];
+const PARTS = ["rows", "code", "classics", "traces", "trace", "state", ...DRAWING, "draw_threads", "draw_listing", ...TESTED];
 loadScripts(...PARTS.map((part) => `${part}.js`));
 const result = { passed: 0, failed: [] };
 
@@ -172,6 +172,42 @@ function longerBy(engine, text, line) {
   return engine.ask("listset_trace", longer).text.includes("\nrefused ") ? text : longer;
 }
 
+// Each thread of a call stands at a line of the proved code: at one that begins a call up to its first step alone, at one that ends
+// a call just before its answer, in `find` where that walks again; and at each line that makes a row a thread stood.
+function checkListing(engine, texts) {
+  const met = new Set();
+  const wrong = texts.flatMap((text) => {
+    const trace = traceOf(engine, text);
+    const state = new (inPage("State"))(trace);
+    return trace.events().flatMap((event, index) => {
+      state.moveTo(index);
+      return event.deed === "begin" ? [] : wrongLine(trace, event, state.threads[event.thread], met);
+    });
+  });
+  check(`lines of the code that are not those of a step: ${wrong.slice(0, 5)}`, wrong.length === 0);
+  const lines = Object.entries(inPage("CODE")).flatMap(([file, functions]) =>
+    functions.flatMap((code) => code.steps.map(({ line }) => `${file}:${line}`)));
+  check(`lines at which no thread stood: ${lines.filter((line) => !met.has(line))}`, lines.every((line) => met.has(line)));
+}
+
+// What is wrong with the line of a thread that makes this event next, in a list of none or one. The ceilings of two lists have none.
+function wrongLine(trace, event, held, met) {
+  const { kind } = trace;
+  const found = inPage("codeOf")(kind, held.call);
+  if (found === null) return held.call.operation === "ceiling" && kind.startsWith("l") ? [] : [`${kind}: no code`];
+  const { code, line, rows } = inPage("stepOf")(found.functions, held);
+  const text = code.text.trimStart().split("\n")[line - code.first];
+  met.add(`${found.file}:${line}`);
+  const isAnswer = event.answer !== undefined;
+  const isGood =
+    rows.includes(held.pc) &&
+    text.endsWith(`// row${rows.length > 1 ? "s" : ""} ${rows.join(", ")}`) &&
+    (text.includes(".begin_") ? [0, held.pc].includes(held.came) : held.came !== 0) &&
+    (isAnswer ? /_last\(|\.look_at_|\.exchange_link\(/.test(text) : !text.includes("_last(")) &&
+    (held.pc !== 1 || held.came !== 3 || code.name === "find");
+  return isGood ? [] : [`${kind}, event ${event.number}: row ${held.pc} at ${found.file}:${line}`];
+}
+
 // Every colour of a text on every ground on which it stands, in light and in dark, and the edges of the controls.
 function checkColours() {
   const sheet = ["page.css", "drawings.css"].map((name) => fs.readFileSync(path.join(folder, name), "utf8")).join("");
@@ -189,7 +225,9 @@ async function main() {
   checkColours();
   const texts = names.map((name) => engine.ask("listset_example", name).text);
   checkAddresses(engine, texts);
-  checkArrows(engine, [...texts, ...crowded(engine)]);
+  const crowds = crowded(engine);
+  checkArrows(engine, [...texts, ...crowds]);
+  checkListing(engine, [...texts, ...crowds]);
   process.stdout.write(JSON.stringify(result));
 }
 

@@ -3,3 +3,13 @@ pub mod LineKinds
 pub mod Loops
 pub mod CallsFound
 pub mod CallsAgain
+pub mod Permuted
+pub mod Entries
+pub mod ClashLaws
+pub mod InTurn
+pub mod Noted
+pub mod Counted
+pub mod Standings
+pub mod Ranks
+pub mod Passes
+pub mod Reported

@@ -2,4 +2,10 @@ pub mod Calls
 pub mod Texts
 pub mod Reading
 pub mod Clashes
+pub mod Moments
+pub mod Noting
+pub mod Placing
+pub mod Order
+pub mod Versions
 pub mod Reports
+pub mod Sorted

@@ -2,10 +2,17 @@
 //! Nothing here knows how a list is run. (This project's own format.)
 #![tactic(auto)]
 
+mod clashes;
 mod fault;
+mod noting;
+mod order;
+mod places;
 mod reading;
+mod report;
 mod value;
+mod version;
 
 pub use fault::{CallsCause, CallsFault, ClashFault};
 pub use reading::{calls_read_back, read_calls};
+pub use report::report_of;
 pub use value::{Calls, TimedCall};

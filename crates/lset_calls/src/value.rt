@@ -1,5 +1,6 @@
 ghost use Rattle.std.specs.Prelude.{◌≡◌};
 ghost use Rattle.lset_calls.specs.Calls.{may_change, needs_point, changed_by};
+ghost use Rattle.lset_calls.specs.Clashes.{puts_in};
 
 use lset_words::{Call, Kind, Reply};
 
@@ -53,5 +54,12 @@ impl TimedCall {
             None if !may_change(self.call) => None,
             _ => self.point,
         }
+    }
+
+    /// Whether it is an `add` that changes the set.
+    pub(crate) fn puts_in(self) -> bool
+        ensures { result ≡ puts_in self }
+    {
+        matches!(self.call, Call::Add(_)) && self.changed().is_some()
     }
 }

@@ -4,7 +4,7 @@
 ghost use Rattle.std.specs.Prelude.{◌≡◌};
 ghost use Rattle.lset_words.specs.declared.Kind.TheVariants.{Fine};
 ghost use Rattle.lset_steps.specs.Rows.{IsSmall};
-ghost use Rattle.lset_fine.specs.Fine.{fine, next_action, at_key, local_after};
+ghost use Rattle.lset_fine.specs.Fine.{fine, next_action, at_key, local_after, fed_by, effect_of};
 ghost use Rattle.lset_fine.specs.Lawful.{fine_lawful};
 
 use lset_steps::rows::{
@@ -25,8 +25,9 @@ const TARGETS: Targets = Targets {
     leaves: 12,
 };
 
+/// The next step of a thread, by the row at which it stands. Its numbers are small, as those of each run are.
 #[inline(always)]
-fn next_action(local: &Local) -> Action
+pub fn next_action(local: &Local) -> Action
     requires { IsSmall local.now }
     ensures { result ≡ next_action local.now }
 {
@@ -111,6 +112,31 @@ fn local_after(local: &Local, seen: u64) -> Local
     }
 }
 
+/// What a thread holds after that step, of which it saw `seen`, and its answer where the step ends the call.
+#[inline(always)]
+pub fn fed_by(local: &Local, seen: u64) -> Fed
+    requires { IsSmall local.now }
+    ensures { result ≡ fed_by local.now seen }
+{
+    let answer = if local.pc == 13 { local.reply } else { None };
+    Fed {
+        local: local_after(local, seen),
+        answer,
+    }
+}
+
+/// The key that the step puts in (`true`) or takes out (`false`).
+#[inline(always)]
+pub fn effect_of(local: &Local, _seen: u64) -> Option<(Key, bool)>
+    ensures { result ≡ effect_of local.now _seen }
+{
+    match local.pc {
+        9 => Some((local.call.key(), true)),
+        11 => Some((local.call.key(), false)),
+        _ => None,
+    }
+}
+
 impl Machine for FineList {
     const KIND: Kind = Kind::Fine;
 
@@ -130,20 +156,12 @@ impl Machine for FineList {
 
     #[inline(always)]
     fn feed(local: &Local, seen: u64) -> Fed {
-        let answer = if local.pc == 13 { local.reply } else { None };
-        Fed {
-            local: local_after(local, seen),
-            answer,
-        }
+        fed_by(local, seen)
     }
 
     #[inline(always)]
-    fn effect(local: &Local, _seen: u64) -> Option<(Key, bool)> {
-        match local.pc {
-            9 => Some((local.call.key(), true)),
-            11 => Some((local.call.key(), false)),
-            _ => None,
-        }
+    fn effect(local: &Local, seen: u64) -> Option<(Key, bool)> {
+        effect_of(local, seen)
     }
 
     ghost lawful = { fine_lawful };

@@ -6,7 +6,7 @@ ghost use Rattle.std.specs.Prelude.{◌≡◌, ◌/◌, Some};
 ghost use Rattle.lset_words.specs.declared.Kind.TheVariants.{Lazy};
 ghost use Rattle.lset_words.specs.declared.Reply.TheVariants.{True};
 ghost use Rattle.lset_steps.specs.Rows.{IsSmall};
-ghost use Rattle.lset_lazy.specs.Lazy.{lazy, next_action, at_key, gives_up, at_pred, at_curr, released, fed_by};
+ghost use Rattle.lset_lazy.specs.Lazy.{lazy, next_action, at_key, gives_up, at_pred, at_curr, released, fed_by, effect_of};
 ghost use Rattle.lset_lazy.specs.Lawful.{lazy_lawful, lazy_reads, lazy_walks};
 
 pub mod laws;
@@ -28,8 +28,9 @@ const TARGETS: Targets = Targets {
     leaves: 13,
 };
 
+/// The next step of a thread, by the row at which it stands. Its numbers are small, as those of each run are.
 #[inline(always)]
-fn next_action(local: &Local) -> Action
+pub fn next_action(local: &Local) -> Action
     requires { IsSmall local.now }
     ensures { result ≡ next_action local.now }
 {
@@ -141,8 +142,9 @@ fn released(local: &Local) -> Fed
     }
 }
 
+/// What a thread holds after that step, of which it saw `seen`, and its answer where the step ends the call.
 #[inline(always)]
-fn fed_by(local: &Local, seen: u64) -> Fed
+pub fn fed_by(local: &Local, seen: u64) -> Fed
     requires { IsSmall local.now }
     ensures { result ≡ fed_by local.now seen }
 {
@@ -171,6 +173,18 @@ fn fed_by(local: &Local, seen: u64) -> Fed
     continued(next)
 }
 
+/// The key that the step puts in (`true`) or takes out (`false`).
+#[inline(always)]
+pub fn effect_of(local: &Local, _seen: u64) -> Option<(Key, bool)>
+    ensures { result ≡ effect_of local.now _seen }
+{
+    match local.pc {
+        10 => Some((local.call.key(), true)),
+        11 => Some((local.call.key(), false)),
+        _ => None,
+    }
+}
+
 impl Machine for LazyList {
     const KIND: Kind = Kind::Lazy;
 
@@ -194,12 +208,8 @@ impl Machine for LazyList {
     }
 
     #[inline(always)]
-    fn effect(local: &Local, _seen: u64) -> Option<(Key, bool)> {
-        match local.pc {
-            10 => Some((local.call.key(), true)),
-            11 => Some((local.call.key(), false)),
-            _ => None,
-        }
+    fn effect(local: &Local, seen: u64) -> Option<(Key, bool)> {
+        effect_of(local, seen)
     }
 
     ghost lawful = { lazy_lawful };

@@ -29,8 +29,9 @@ const TARGETS: Targets = Targets {
     leaves: 0,
 };
 
+/// The next step of a thread, by the row at which it stands. Its numbers are small, as those of each run are.
 #[inline(always)]
-fn next_action(local: &Local) -> Action
+pub fn next_action(local: &Local) -> Action
     requires { IsSmall local.now }
     ensures { result ≡ next_action local.now }
 {
@@ -115,8 +116,9 @@ fn again(local: &Local) -> Fed
     continued(Local { pc: 1, ..*local })
 }
 
+/// What a thread holds after that step, of which it saw `seen`, and its answer where the step ends the call.
 #[inline(always)]
-fn fed_by(local: &Local, seen: u64) -> Fed
+pub fn fed_by(local: &Local, seen: u64) -> Fed
     requires { IsSmall local.now }
     ensures { result ≡ fed_by local.now seen }
 {
@@ -140,9 +142,9 @@ fn fed_by(local: &Local, seen: u64) -> Fed
     }
 }
 
-/// What a successful exchange changes.
+/// The key that a successful exchange puts in (`true`) or takes out (`false`).
 #[inline(always)]
-fn effect_of(local: &Local, seen: u64) -> Option<(Key, bool)>
+pub fn effect_of(local: &Local, seen: u64) -> Option<(Key, bool)>
     requires { IsSmall local.now }
     ensures { result ≡ effect_of local.now seen }
 {

@@ -15,6 +15,8 @@ ghost use Rattle.lset_optimistic.specs.Optimistic.{
   at_link,
   at_end,
   local_after,
+  fed_by,
+  effect_of,
 };
 ghost use Rattle.lset_optimistic.specs.Lawful.{optimistic_lawful};
 
@@ -39,8 +41,9 @@ const TARGETS: Targets = Targets {
     leaves: 14,
 };
 
+/// The next step of a thread, by the row at which it stands. Its numbers are small, as those of each run are.
 #[inline(always)]
-fn next_action(local: &Local) -> Action
+pub fn next_action(local: &Local) -> Action
     requires { IsSmall local.now }
     ensures { result ≡ next_action local.now }
 {
@@ -194,6 +197,31 @@ fn local_after(local: &Local, seen: u64) -> Local
     }
 }
 
+/// What a thread holds after that step, of which it saw `seen`, and its answer where the step ends the call.
+#[inline(always)]
+pub fn fed_by(local: &Local, seen: u64) -> Fed
+    requires { IsSmall local.now }
+    ensures { result ≡ fed_by local.now seen }
+{
+    let answer = if local.pc == 15 { local.reply } else { None };
+    Fed {
+        local: local_after(local, seen),
+        answer,
+    }
+}
+
+/// The key that the step puts in (`true`) or takes out (`false`).
+#[inline(always)]
+pub fn effect_of(local: &Local, _seen: u64) -> Option<(Key, bool)>
+    ensures { result ≡ effect_of local.now _seen }
+{
+    match local.pc {
+        11 => Some((local.call.key(), true)),
+        13 => Some((local.call.key(), false)),
+        _ => None,
+    }
+}
+
 impl Machine for OptimisticList {
     const KIND: Kind = Kind::Optimistic;
 
@@ -213,20 +241,12 @@ impl Machine for OptimisticList {
 
     #[inline(always)]
     fn feed(local: &Local, seen: u64) -> Fed {
-        let answer = if local.pc == 15 { local.reply } else { None };
-        Fed {
-            local: local_after(local, seen),
-            answer,
-        }
+        fed_by(local, seen)
     }
 
     #[inline(always)]
-    fn effect(local: &Local, _seen: u64) -> Option<(Key, bool)> {
-        match local.pc {
-            11 => Some((local.call.key(), true)),
-            13 => Some((local.call.key(), false)),
-            _ => None,
-        }
+    fn effect(local: &Local, seen: u64) -> Option<(Key, bool)> {
+        effect_of(local, seen)
     }
 
     ghost lawful = { optimistic_lawful };

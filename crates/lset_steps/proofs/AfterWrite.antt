@@ -1,5 +1,5 @@
 -- What a write to one word of the table leaves of the others.
-use Rattle.std.specs.Prelude.{◌≡◌, ◌≢◌, ℕ, ◌<◌, List, slice_index, slice_set, length, refl}
+use Rattle.std.specs.Prelude.{◌≡◌, ◌≢◌, ℕ, ◌<◌, List, slice_index, slice_set, length}
 use Rattle.std.proofs.Common.{arith, inl, inr, get_or-set_other, get_or-set_same}
 use Rattle.lset_words.specs.Words.{key_index, link_index, lock_index}
 use Rattle.lset_steps.specs.Chain.{node_key, node_link, node_lock}

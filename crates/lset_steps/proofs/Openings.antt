@@ -1,18 +1,18 @@
 -- The opening world: its chain is the head, the nodes of the opening keys and the tail, and its content are these keys.
-use Rattle.std.specs.Prelude.{◌≡◌, ◌≢◌, ℕ, zero, suc, ◌+◌, ◌*◌, ◌-◌, ◌/◌, ◌%◌, ◌^◌, ◌<◌, ◌≤◌, ◌⊎◌, Bool, true, false, List, []}
-use Rattle.std.specs.Prelude.{◌∷◌, length, slice_index, refl, if◌then◌else◌, ◌==◌, nat_lt, Contains, All}
-use Rattle.std.specs.List.Sorted.{IsStrictlyIncreasing}
-use Rattle.std.proofs.Common.{arith, inl, inr, sym, ◌∙◌, ap, subst}
-use Rattle.std.proofs.lemmas.List.{get_or_default}
-use Rattle.std.proofs.lemmas.List.FromFn.{get_or-map-range_with_len, length-map-range_with_len}
+use Rattle.std.specs.Prelude.{◌≡◌, ℕ, zero, suc, ◌+◌, ◌*◌, ◌-◌, ◌/◌, ◌%◌, ◌^◌, ◌<◌, ◌≤◌, ◌⊎◌, Bool, true, false, List, []}
+use Rattle.std.specs.Prelude.{◌∷◌, length, slice_index, refl, Contains}
+use Rattle.std.specs.List.{range_with_len}
+use Rattle.std.proofs.Common.{arith, inl, inr, sym, ◌∙◌, ap, subst, map, replicate, ◌++◌, append_assoc, append-nil}
+use Rattle.std.proofs.lemmas.List.{get_or_default, replicate_more}
+use Rattle.std.proofs.lemmas.List.FromFn.{get_or-map-range_with_len, length-map-range_with_len, map-range_with_len_more}
 use Rattle.std.proofs.lemmas.List.Elements.{Contains-get_or}
-use Rattle.lset_words.proofs.Numbers.{same_or_not, below_or_not, equal_test, unequal_test, if_same, if_other, if_below}
+use Rattle.lset_words.proofs.Numbers.{same_or_not, below_or_not, equal_test, unequal_test, if_below}
 use Rattle.lset_words.proofs.Numbers.{if_not_below}
-use Rattle.lset_words.specs.Words.{key_index, link_index, lock_index, tail_word, word_count, node_count, slot_node, opening_node}
-use Rattle.lset_words.specs.Words.{Sizes, Opening, Opens, sizes}
+use Rattle.lset_words.specs.Words.{key_index, link_index, lock_index, tail_word, word_count, node_count, opening_node}
+use Rattle.lset_words.specs.Words.{Opening, Opens, sizes}
 use Rattle.lset_steps.specs.declared.Local.{Local}
-use Rattle.lset_steps.specs.Steps.{State, opening, opening_word, opening_key, opening_link, opening_next, idle, local_of}
-use Rattle.lset_steps.specs.Chain.{View, Published, InChain, InContent, IsOrdered, UnmarkedInChain, node_key, node_link}
+use Rattle.lset_steps.specs.Steps.{opening, opening_word, opening_key, opening_link, opening_next, idle, local_of}
+use Rattle.lset_steps.specs.Chain.{Published, InChain, InContent, IsOrdered, UnmarkedInChain, node_key, node_link}
 use Rattle.lset_steps.specs.Laws.{used_in, view_of}
 use Rattle.lset_steps.proofs.QuietMove.{chain_on, in_chain_published}
 use Rattle.lset_steps.proofs.Memory.{Memory}
@@ -103,6 +103,42 @@ module _ (op : Opening) where
 
   next_last : (i : ℕ) → length op.keys ≤ i → opening_next (sizes op) i ≡ 1
   next_last i h = if_not_below i (length op.keys) h (opening_node (sizes op) i) 1
+
+  -- the words of the slots are zeros
+  slot_key : (a : ℕ) → 1 < a → a < opening_node (sizes op) 0 → opening_key op a ≡ 0
+  slot_key a l h = rw (unequal_test a 1 (λ e. omega arith))
+      (if_below a (opening_node (sizes op) 0) h 0 (slice_index op.keys (a - opening_node (sizes op) 0) + 1))
+
+  slot_link : (a : ℕ) → 1 < a → a < opening_node (sizes op) 0 → opening_link (sizes op) a ≡ 0
+  slot_link a l h = rw (unequal_test a 0 (λ e. omega arith), unequal_test a 1 (λ e. omega arith))
+      (if_below a (opening_node (sizes op) 0) h 0 (2 * opening_next (sizes op) (a - opening_node (sizes op) 0 + 1)))
+
+  pub slot_word : (i : ℕ) → 9 ≤ i → i < 3 + 3 * opening_node (sizes op) 0 → opening_word op i ≡ 0
+  slot_word i l h = elim (same_or_not (i % 3) 0) [
+    | inl z ↦ let e : key_index (i / 3 - 1) ≡ i = omega arith in
+        subst (λ x. opening_word op x ≡ 0) e (key_word op (i / 3 - 1) ∙ slot_key (i / 3 - 1) (omega arith) (omega arith))
+    | inr n ↦ elim (same_or_not (i % 3) 1) [
+      | inl z ↦ let e : link_index (i / 3 - 1) ≡ i = omega arith in
+          subst (λ x. opening_word op x ≡ 0) e (link_word op (i / 3 - 1) ∙ slot_link (i / 3 - 1) (omega arith) (omega arith))
+      | inr m ↦ let e : lock_index (i / 3 - 1) ≡ i = omega arith in
+          subst (λ x. opening_word op x ≡ 0) e (lock_word op (i / 3 - 1))
+    ]
+  ]
+
+  zeros_more : (n : ℕ) → replicate (suc n) zero ≡ replicate n zero ++ zero ∷ []
+  zeros_more n = let e : suc n ≡ n + 1 = omega arith in ap (λ k. replicate k zero) e ∙ sym (replicate_more n zero)
+
+  pub slots_filled : (n : ℕ) → 9 + n ≤ 3 + 3 * opening_node (sizes op) 0
+      → map (opening_word op) (range_with_len 0 9) ++ replicate n 0 ≡ map (opening_word op) (range_with_len 0 (9 + n))
+  slots_filled zero h = append-nil (map (opening_word op) (range_with_len 0 9))
+  slots_filled (suc n) h =
+      let front : List ℕ = map (opening_word op) (range_with_len 0 9) in
+      let next : 9 + n + 1 ≡ 9 + suc n = omega arith in
+      let less : front ++ replicate n 0 ≡ map (opening_word op) (range_with_len 0 (9 + n)) = slots_filled n (omega arith) in
+      ap (λ l. front ++ l) (zeros_more n) ∙ sym (append_assoc front (replicate n 0) (0 ∷ [])) ∙ ap (λ l. l ++ 0 ∷ []) less
+      ∙ ap (λ x. map (opening_word op) (range_with_len 0 (9 + n)) ++ x ∷ []) (sym (slot_word (9 + n) (omega arith) (omega arith)))
+      ∙ sym (map-range_with_len_more (opening_word op) 0 (9 + n) (9 + n) (omega arith))
+      ∙ ap (λ k. map (opening_word op) (range_with_len 0 k)) next
 
   -- which nodes are published: the head, the tail, and those of the opening keys
   abbrev OneOf : ℕ → Type 0

@@ -151,8 +151,14 @@ pub fn opening_words(alloc: Global, layout: &Layout, keys: &[u32]) -> Result<Vec
     ensures low { IfOk result (λ v. All (λ k. k < 2 ^ 32) keys.now) }
 {
     keys_are_small(keys);
-    let mut words = Vec::new(alloc);
-    for i in 0..layout.words() {
+    let (words_in_all, behind_slots) = (layout.words(), 3 + 3 * first_opening_node(layout));
+    let mut words = Vec::with_capacity(alloc, words_in_all as usize)?;
+    for i in 0..9 {
+        words.push(opening_word_at(layout, keys, i))?;
+    }
+    // (the slots: all but a few of the words, in one fill)
+    words.resize(behind_slots as usize, 0)?;
+    for i in behind_slots..words_in_all {
         words.push(opening_word_at(layout, keys, i))?;
     }
     Ok(words)

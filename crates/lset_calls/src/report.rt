@@ -1,0 +1,86 @@
+ghost use Rattle.std.specs.Prelude.{◌≡◌, ℕ, length, map, All, IfOk, IfErr};
+ghost use Rattle.std.specs.List.Sorted.{IsNonDecreasingBy, IsPermutation};
+ghost use Rattle.lset_words.specs.Log.{record_of};
+ghost use Rattle.lset_report.specs.Report as report;
+ghost use Rattle.lset_calls.specs.Calls.{AreCalls, view, traced};
+ghost use Rattle.lset_calls.specs.Clashes.{IsRefusal};
+ghost use Rattle.lset_calls.specs.Reports.{IsUpTo, IsPlacedUpTo, contents, counts, IsReportOf};
+ghost use Rattle.lset_calls.specs.Sorted.{AreInTurn};
+
+use crate::clashes::{moments_in_turn, refusal};
+use crate::noting::changes_of;
+use crate::order::in_order;
+use crate::places::places_of;
+use crate::version::least_version;
+use crate::{Calls, ClashFault, TimedCall};
+use lset_history::History;
+use lset_report::Report;
+use lset_words::{CallRecord, Placed};
+use std::alloc::{AllocError, Global};
+
+fn by_beginning(alloc: Global, calls: &[TimedCall]) -> Result<Vec<TimedCall>, AllocError>
+    ensures same { IfOk result (λ v. IsPermutation calls.now v.items) }
+    ensures sorted { IfOk result (λ v. IsNonDecreasingBy (λ x. x.begun) v.items) }
+{
+    let mut sorted = Vec::from_slice(alloc, calls)?;
+    sorted.sort_by_key(|made| made.begun)?;
+    Ok(sorted)
+}
+
+fn records_of(alloc: Global, calls: &[TimedCall]) -> Result<Vec<CallRecord>, AllocError>
+    ensures { IfOk result (λ v. v.items ≡ map (λ x. record_of (traced x)) calls.now) }
+{
+    let mut records = Vec::with_capacity(alloc, calls.len())?;
+    for made in calls {
+        records.push(CallRecord {
+            thread: made.thread,
+            call: made.call,
+            begun: made.begun,
+            ended: made.ended,
+        })?;
+    }
+    Ok(records)
+}
+
+/// The order of calls, none of which is refused, and which are sorted by their beginnings.
+fn order_of(alloc: Global, calls: &Calls, sorted: &[TimedCall]) -> Result<Vec<Placed>, AllocError>
+    requires are { AreCalls (view calls.now) }
+    requires in_turn { AreInTurn (view calls.now) sorted.now }
+    ensures { IfOk result (λ v. (last : ℕ) → All (IsUpTo last) (map traced sorted.now)
+        → IsPlacedUpTo last calls.now.quota (map traced sorted.now)
+        (contents calls.now.opening.items (map traced sorted.now)) (counts (map traced sorted.now)) v.items) }
+{
+    let changes = changes_of(alloc, &calls.opening, sorted)?;
+    let places = places_of(alloc, &changes, calls.quota, sorted)?;
+    in_order(alloc, sorted, &places)
+}
+
+/// The report of calls: its calls are those of the text by their beginnings, in the least version that has words for them, and
+/// its keys are those of the text. Its order has the changes at the points that were given for them, each other call that has
+/// ended at the first moment of its own at which its reply fits the set that those changes make, and at its end where there is
+/// none; whether that order explains the calls is for `check_order` to tell. (Herlihy and Wing's linearization points.)
+///
+/// `ClashFault::History` and `ClashFault::Quota` tell the first line whose call cannot stand beside those of the lines above.
+/// With n calls it takes about `n log n` steps, as it sorts their moments and searches no order.
+pub fn report_of(alloc: Global, calls: Calls) -> Result<Report, ClashFault>
+    requires { AreCalls (view calls) }
+    // What is told is the report of the calls, none of which is refused.
+    ensures told { IfOk result (λ r. IsReportOf (view calls) (report.view r)) }
+    // Else the first line that is refused, and why, or want of memory.
+    ensures refused { IfErr result (IsRefusal (view calls)) }
+{
+    let moments = moments_in_turn(alloc, &calls)?;
+    if let Some(fault) = refusal(&calls, &moments) {
+        return Err(fault);
+    }
+    let sorted = by_beginning(alloc, &calls.calls)?;
+    let order = order_of(alloc, &calls, &sorted)?;
+    let records = records_of(alloc, &sorted)?;
+    Ok(Report {
+        version: least_version(&calls.opening, &records, &order),
+        kind: calls.kind,
+        history: History::from_calls(calls.threads, calls.quota, calls.opening, records),
+        order,
+        keys: calls.keys,
+    })
+}

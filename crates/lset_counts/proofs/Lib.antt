@@ -1,0 +1,4 @@
+pub mod Legal
+pub mod Sums
+pub mod Fronts
+pub mod Refuted

@@ -1,0 +1,2 @@
+pub mod Unexplained
+pub mod Counts

@@ -1,0 +1,72 @@
+//! The functions of C, as `listset.h` has them, and how each is asked: a second time where its text wants more room.
+
+use crate::Wrong;
+
+const FIRST_ROOM: usize = 4096; // bytes
+
+type OfRoom = unsafe extern "C" fn(*mut u8, usize, *mut u8) -> usize;
+type OfText = unsafe extern "C" fn(*const u8, usize, *mut u8, usize, *mut u8) -> usize;
+type OfTwoTexts = unsafe extern "C" fn(*const u8, usize, *const u8, usize, *mut u8, usize, *mut u8) -> usize;
+
+unsafe extern "C" {
+    pub fn listset_replay(text: *const u8, length: usize, room: *mut u8, size: usize, status: *mut u8) -> usize;
+    pub fn listset_check(text: *const u8, length: usize, room: *mut u8, size: usize, status: *mut u8) -> usize;
+    pub fn listset_trace(text: *const u8, length: usize, room: *mut u8, size: usize, status: *mut u8) -> usize;
+    pub fn listset_trace_with_chains(text: *const u8, length: usize, room: *mut u8, size: usize, status: *mut u8) -> usize;
+    pub fn listset_draft(text: *const u8, length: usize, room: *mut u8, size: usize, status: *mut u8) -> usize;
+    pub fn listset_gen(text: *const u8, length: usize, room: *mut u8, size: usize, status: *mut u8) -> usize;
+    pub fn listset_example(text: *const u8, length: usize, room: *mut u8, size: usize, status: *mut u8) -> usize;
+    pub fn listset_broken_example(text: *const u8, length: usize, room: *mut u8, size: usize, status: *mut u8) -> usize;
+    pub fn listset_show(
+        text: *const u8,
+        length: usize,
+        options: *const u8,
+        options_length: usize,
+        room: *mut u8,
+        size: usize,
+        status: *mut u8,
+    ) -> usize;
+    pub fn listset_show_svg(
+        text: *const u8,
+        length: usize,
+        options: *const u8,
+        options_length: usize,
+        room: *mut u8,
+        size: usize,
+        status: *mut u8,
+    ) -> usize;
+    pub fn listset_examples(room: *mut u8, size: usize, status: *mut u8) -> usize;
+    pub fn listset_faults(room: *mut u8, size: usize, status: *mut u8) -> usize;
+}
+
+pub fn of_room(function: OfRoom) -> Result<String, Wrong> {
+    // SAFETY: the pointers are those of `asked`, to a room of that size and to a status, which nobody else has.
+    asked(|room, size, status| unsafe { function(room, size, status) })
+}
+
+pub fn of_text(function: OfText, text: &[u8]) -> Result<String, Wrong> {
+    // SAFETY: the same, and those of a slice, which does not change meanwhile.
+    asked(|room, size, status| unsafe { function(text.as_ptr(), text.len(), room, size, status) })
+}
+
+pub fn of_two_texts(function: OfTwoTexts, text: &[u8], options: &[u8]) -> Result<String, Wrong> {
+    // SAFETY: the same, with two slices.
+    asked(|room, size, status| unsafe {
+        function(text.as_ptr(), text.len(), options.as_ptr(), options.len(), room, size, status)
+    })
+}
+
+fn asked(call: impl Fn(*mut u8, usize, *mut u8) -> usize) -> Result<String, Wrong> {
+    let mut room = vec![0; FIRST_ROOM];
+    loop {
+        let mut status = 0;
+        let length = call(room.as_mut_ptr(), room.len(), &mut status);
+        if length > room.len() {
+            room.resize(length, 0);
+            continue;
+        }
+        room.truncate(length);
+        let text = String::from_utf8_lossy(&room).into_owned();
+        return if status == 0 { Ok(text) } else { Err(Wrong { text, status }) };
+    }
+}

@@ -1,0 +1,64 @@
+//! The examples of the repository, judged by four threads at once.
+
+use std::fs::{read_dir, read_to_string};
+use std::path::PathBuf;
+use std::thread::scope;
+
+use listset::*;
+
+const THREADS: usize = 4;
+
+/// The schedules that have a report, but for those that are there to be refused, with both texts.
+fn pairs() -> Vec<(String, String)> {
+    let folder = std::env::var_os("LISTSET_EXAMPLES").map(PathBuf::from);
+    let folder = folder.unwrap_or_else(|| PathBuf::from(env!("CARGO_MANIFEST_DIR")).join("../../examples"));
+    let refused = read_to_string(folder.join("refused")).unwrap();
+    let is_right =
+        |name: &str| name.ends_with(".schedule") && !refused.lines().any(|line| line.split(':').next() == Some(name));
+    let files = read_dir(folder).unwrap().map(|it| it.unwrap());
+    let right = files.filter(|it| it.file_name().to_str().is_some_and(is_right)).map(|it| it.path());
+    right.filter_map(|it| Some((read_to_string(&it).ok()?, read_to_string(it.with_extension("report")).ok()?))).collect()
+}
+
+#[test]
+fn each_example_is_judged_in_each_thread() {
+    let pairs = pairs();
+    assert!(pairs.len() > 20, "{} examples", pairs.len());
+    scope(|threads| {
+        for _ in 0..THREADS {
+            threads.spawn(|| {
+                for (schedule, report) in &pairs {
+                    assert_eq!(replay(schedule).as_ref(), Ok(report));
+                    assert_eq!(check(report), Ok(()));
+                    assert!(trace(schedule).unwrap().starts_with("listset-trace "));
+                    assert!(show(report, Window { width: Some(60), ..Window::default() }).is_ok());
+                }
+            });
+        }
+    });
+}
+
+#[test]
+fn each_function_says_its_own() {
+    let schedule = example("snip").unwrap();
+    let report = replay(&schedule).unwrap();
+    assert!(!trace(&schedule).unwrap().contains("\nchain") && trace_with_chains(&schedule).unwrap().contains("\nchain"));
+    assert!(show(&report, Window::default()).unwrap().starts_with("lock-free list"));
+    assert!(show_svg(&report, Window::default()).unwrap().starts_with("<svg "));
+    assert_eq!(draft(schedule.replace("listset-schedule 1", "listset-draft 2")), Ok(schedule));
+    let wrong = [("FROM", Some(0), None, None), ("TO", None, Some(0), None), ("WIDTH", None, None, Some(0))];
+    for (name, from, to, width) in wrong {
+        assert_eq!(show(&report, Window { from, to, width }).unwrap_err().to_string(), format!("listset: bad {name}"));
+    }
+    assert!(examples().unwrap().contains("snip") && faults().unwrap().contains("listset: line L:"));
+}
+
+#[test]
+fn what_is_wrong_comes_with_its_status() {
+    let broken = broken_example("snip").unwrap();
+    let Err(Wrong { text, status }) = check(&broken) else { panic!("a broken report is taken") };
+    assert!(text.starts_with("refused ") && status == 1, "{text}");
+    assert_eq!(example("none").unwrap_err().status, 2);
+    assert_eq!(replay("").unwrap_err().status, 1);
+    assert!(generated("lazy", 4, 200, 1000, 50, 1).unwrap().len() > 4096);
+}

@@ -1,0 +1,55 @@
+// The judge from C++: a schedule is generated, replayed, checked, drawn; and what is wrong comes with its status.
+#include "listset.hpp"
+
+#include <cstdio>
+#include <thread>
+#include <vector>
+
+static int wrong = 0;
+
+static void expect(bool holds, const char *what) {
+  if (!holds) std::printf("wrong: %s\n", what), wrong++;
+}
+
+static bool begins(const std::string &text, std::string_view with) { return text.compare(0, with.size(), with) == 0; }
+
+// Whether a generated run of this list is replayed and explained.
+static bool is_right(const std::string &kind, uint64_t seed) {
+  listset::said schedule = listset::gen(kind, 3, 8, 40, 6, seed);
+  listset::said report = listset::replay(schedule.text);
+  return schedule.is_ok() && report.is_ok() && begins(report.text, "listset-report ") && listset::check(report.text).is_ok()
+         && listset::trace(schedule.text).is_ok() && listset::show(report.text, {"1", "", "60"}).is_ok();
+}
+
+static bool has(const listset::said &said, std::string_view part) { return said.text.find(part) != std::string::npos; }
+
+static void expect_own() {
+  std::string schedule = listset::example("snip").text, report = listset::replay(schedule).text, draft = schedule;
+  draft.replace(0, draft.find('\n'), "listset-draft 2");
+  expect(!has(listset::trace(schedule), "\nchain") && has(listset::trace(schedule, true), "\nchain"), "trace");
+  expect(begins(listset::show(report).text, "lock-free list") && begins(listset::show(report, {}, true).text, "<svg "), "show");
+  expect(listset::draft(draft).text == schedule, "draft");
+  expect(has(listset::show(report, {"0", "", ""}), "bad FROM"), "from");
+  expect(has(listset::show(report, {"", "0", ""}), "bad TO"), "to");
+  expect(has(listset::show(report, {"", "", "0"}), "bad WIDTH"), "width");
+  expect(has(listset::examples(), "snip") && has(listset::faults(), "listset: line L:"), "examples, faults");
+}
+
+int main() {
+  expect_own();
+  const std::vector<std::string> kinds{"coarse", "fine", "optimistic", "lazy", "lock-free"};
+  std::vector<int> right(kinds.size());
+  std::vector<std::thread> threads;
+  for (size_t at = 0; at < kinds.size(); at++)
+    threads.emplace_back([&, at] { for (uint64_t seed = 1; seed <= 20; seed++) right[at] += is_right(kinds[at], seed); });
+  for (std::thread &thread : threads) thread.join();
+  for (size_t at = 0; at < kinds.size(); at++) expect(right[at] == 20, kinds[at].c_str());
+
+  listset::said broken = listset::broken_example("snip"), refused = listset::check(broken.text);
+  expect(broken.is_ok() && refused.status == LISTSET_WRONG_TEXT && begins(refused.text, "refused "), "a broken report is taken");
+  expect(listset::example("none").status == LISTSET_WRONG_VALUE, "there is no such example");
+  expect(listset::check({}).status == LISTSET_WRONG_TEXT, "no text is a report");
+  expect(listset::show(broken.text, {"x", "", ""}).status == LISTSET_WRONG_VALUE, "a moment is a number");
+  expect(listset::gen("lazy", 4, 200, 1000, 50, 1).text.size() > 4096, "a text that wants more room");
+  return wrong != 0;
+}

@@ -1,0 +1,72 @@
+"""The judge from Python: each example in four threads at once, with str and bytes; and what is wrong.
+
+    judge.py EXAMPLES     their folder; that of listset.py is in PYTHONPATH
+"""
+
+import pathlib
+import sys
+import threading
+
+import listset
+
+THREADS = 4
+
+
+def pairs(folder):
+    """The schedules that have a report, but for those that are there to be refused, with both texts."""
+    refused = {line.split(":")[0] for line in (folder / "refused").read_text().splitlines()}
+    for it in sorted(folder.glob("*.schedule")):
+        if (report := it.with_suffix(".report")).exists() and it.name not in refused:
+            yield it.read_bytes(), report.read_text()
+
+
+def judge(examples, faults):
+    for schedule, report in examples:
+        try:
+            assert listset.replay(schedule) == listset.replay(schedule.decode()) == report
+            listset.check(report)
+            assert listset.trace(schedule, with_chains=True).startswith("listset-trace ")
+            assert listset.show(report, width=60)
+        except (AssertionError, listset.Wrong) as fault:
+            faults.append(fault)
+
+
+def wrong(call, *values):
+    """What a call raises: its status, and the last word of its text."""
+    try:
+        call(*values)
+    except listset.Wrong as fault:
+        return fault.status, fault.text.split()[-1]
+    return None
+
+
+def each_says_its_own():
+    schedule = listset.example("snip")
+    report = listset.replay(schedule)
+    assert "\nchain" not in listset.trace(schedule) and "\nchain" in listset.trace(schedule, with_chains=True)
+    assert listset.show(report).startswith("lock-free list") and listset.show(report, as_svg=True).startswith("<svg ")
+    assert listset.draft(schedule.replace("listset-schedule 1", "listset-draft 2")) == schedule
+    assert wrong(lambda: listset.show(report, first=0)) == (2, "FROM")
+    assert wrong(lambda: listset.show(report, last=0)) == (2, "TO")
+    assert wrong(lambda: listset.show(report, width=0)) == (2, "WIDTH")
+    assert "snip" in listset.examples() and "listset: line L:" in listset.faults()
+
+
+def main():
+    examples, faults = list(pairs(pathlib.Path(sys.argv[1]))), []
+    threads = [threading.Thread(target=judge, args=(examples, faults)) for _ in range(THREADS)]
+    for it in threads:
+        it.start()
+    for it in threads:
+        it.join()
+    assert len(examples) > 20 and not faults, faults
+    each_says_its_own()
+    assert wrong(listset.check, listset.example("snip", is_broken=True)) == (1, "WrongSet")
+    assert wrong(listset.example, "none") == (2, "NAME")
+    assert wrong(listset.gen, "lazy", 0, 4, 10, 5, 1) == (2, "THREADS")
+    assert wrong(listset.replay, b"\xff\0") == (1, "NotEnded")
+    listset.check(listset.replay(listset.gen("lock-free", 2, 4, 10, 5, 1)))
+    assert len(listset.gen("lazy", 4, 2000, 10000, 50, 1)) > listset.FIRST_ROOM
+
+
+main()

@@ -1,0 +1,84 @@
+"""The plain loops of the proved crates as code.js: the functions that make the steps of calls, as they stand in the source, with
+the rows of its list's table that each line makes (.ci/rows), so that the page shows each thread at its line."""
+import json
+import re
+import sys
+from importlib.machinery import SourceFileLoader
+from importlib.util import module_from_spec, spec_from_loader
+
+BEGINS = ("begin_at_head", "begin_locked")  # the first step of a call
+HEAD = """// The proved loops of the lists as they stand in crates/, with the rows of its list's table that each line makes, by page/build: for
+// show alone.
+"use strict";
+"""
+
+
+def module_at(place):
+    """The script at this place, which has no ending, as a module."""
+    loader = SourceFileLoader("rows", str(place))
+    module = module_from_spec(spec_from_loader(loader.name, loader))
+    sys.modules[loader.name] = module
+    loader.exec_module(module)
+    return module
+
+
+def functions_of(lines):
+    """The name of each function, and the numbers of its first and its last line, from what is said of it on."""
+    for at, line in enumerate(lines):
+        if found := re.match(r"(?:pub )?fn (\w+)", line):
+            first = at
+            while lines[first - 1].startswith(("///", "#[")):
+                first -= 1
+            yield found[1], first + 1, lines.index("}", at) + 1
+
+
+def is_last(lines, number):
+    """Whether the call answers at this line or behind it in the same block."""
+    for line in lines[number - 1:]:
+        if re.search(r"_last\(|\breturn\b", line):
+            return True
+        if line.strip() == "}":
+            return False
+    return False
+
+
+def steps_of(found, lines):
+    """The steps of a file. Where a row has several, each says whether calls begin there, and whether they answer."""
+    rows = [row for *_, made in found for row in made]
+    for number, _, step, _, made in found:
+        told = {"line": number, "rows": made}
+        if any(rows.count(row) > 1 for row in made):
+            told |= {"begins": step in BEGINS, "answers": step not in BEGINS and is_last(lines, number)}
+        yield told
+
+
+def code_of(rows, file):
+    """The functions of a file that have steps: each with its lines, its steps, and what it calls of the others at which line."""
+    lines = rows.text_of(file).splitlines()
+    steps = [*steps_of([step for step in rows.lines_of(file) if step[-1]], lines)]
+    made = {}
+    for name, first, last in functions_of(lines):
+        own = [step for step in steps if first <= step["line"] <= last]
+        if own:
+            made[name] = {"name": name, "first": first, "steps": own, "lines": lines[first - 1:last]}
+    for code in made.values():
+        calls = [re.findall(r"(?<![\w.])(\w+)\(", line.partition("//")[0]) for line in code["lines"]]
+        code["calls"] = [[code["first"] + at, name] for at, names in enumerate(calls) for name in names if name in made
+                         and name != code["name"]]
+    return made.values()
+
+
+def function_text(code):
+    """A function as JavaScript."""
+    text = "\n".join(code["lines"]).replace("\\", "\\\\").replace("`", "\\`").replace("${", "\\${")
+    told = ", ".join(f"{name}: {json.dumps(code[name])}" for name in ("name", "first", "steps", "calls"))
+    return f"    {{ {told}, text: `\n{text}` }},\n"
+
+
+def code_text(place):
+    """The text of code.js, of the sources that .ci/rows, which stands at this place, knows."""
+    rows = module_at(place)
+    files = dict.fromkeys(file for some in rows.LISTS.values() for file in some)
+    functions = [f'  "crates/{file}": [\n{"".join(map(function_text, code_of(rows, file)))}  ],\n' for file in files]
+    lists = [f'  "{name.replace("_", "-")}": {json.dumps([f"crates/{file}" for file in some])},\n' for name, some in rows.LISTS.items()]
+    return f"{HEAD}\nconst CODE = {{\n{''.join(functions)}}};\n\nconst CODE_OF = {{\n{''.join(lists)}}};\n"
