@@ -42,7 +42,7 @@ pub fn lane_y(thread: u32) -> u64 {
 
 /// How far from the top a line of text under the rows stands.
 pub fn line_y(threads: u32, number: usize) -> u64 {
-    lane_y(threads) + 36 + 16 * number.min(1_000_000) as u64
+    40 * u64::from(threads) + 126 + 16 * number.min(1_000_000) as u64
 }
 
 /// Adds a text of these classes that begins there.

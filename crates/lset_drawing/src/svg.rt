@@ -54,7 +54,7 @@ fn put_labels(
     put_plain(out, 8, 60, "moment")?;
     for thread in 0..threads {
         let label = format!(in alloc; "thread {thread}")?;
-        let y = lane_y(thread) + 4;
+        let y = lane_y(thread).saturating_add(4);
         put_text(out, thread_class(thread), "", Spot { x: 8, y }, &label)?;
     }
     if drawing.known {
@@ -140,7 +140,7 @@ fn put_end(
     let reply = reply_word(reply);
     let text = format!(in alloc; "{reply}")?;
     let x = x_of(&drawing.columns, u64::from(end)).saturating_add(10);
-    let y = lane_y(thread) + 4;
+    let y = lane_y(thread).saturating_add(4);
     put_text(out, thread_class(thread), clash, Spot { x, y }, &text)
 }
 

@@ -1,11 +1,18 @@
--- What was written piece by piece.
-use Rattle.std.proofs.Common.{◌≡◌, ℕ, List, [], ◌++◌, Option, Some, None, Ok, Err, refl, ap, ◌∙◌, subst, sym}
+-- What was read, and what was written piece by piece.
+use Rattle.std.proofs.Common.{◌≡◌, ℕ, Bool, List, [], ◌++◌, Option, Some, None, Ok, Err, sym}
 use Rattle.std.proofs.Common.{append-nil}
 use Rattle.std.specs.Io.KnownBytes.{Appends, Keeps}
 use Rattle.std.proofs.KnownBytes.{Appends-nil, Appends-trans, Appends-kept}
 use Rattle.lset_tools.specs.declared.trouble.Trouble.TheVariants.{CannotWrite}
 use Rattle.lset_tools.specs.Tools.{Made, Outcome, Ends, Delivers, AppendsFront, line_of, status_of}
-use Rattle.tool_trace.specs.Tracing.{Grows}
+use Rattle.lset_steps.specs.declared.world.StepFault.{StepFault}
+use Rattle.lset_schedule.specs.Plan.{Plan, IsSchedule, schedule_text}
+use Rattle.tool_trace.specs.Tracing.{Grows, IsHeard, IsTraced}
+
+pub is_traced : (bytes : List ℕ) (p : Plan) (chains : Bool) (refused : Option (ℕ × StepFault)) → IsSchedule p → bytes ≡ schedule_text p
+    → IsHeard p chains refused → IsTraced bytes refused
+is_traced bytes p chains refused is text heard =
+    record { plan = p; schedule = is; text = text; chains = chains; traced = heard.traced; tells = heard.tells }
 
 pub nothing : (a : Option (List ℕ)) → Grows a a
 nothing a = ([], Appends-nil a)

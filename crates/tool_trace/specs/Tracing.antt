@@ -1,27 +1,30 @@
 -- What `trace` makes of an input.
-use Rattle.std.specs.Prelude.{◌≡◌, ℕ, ◌⊎◌, List, Option, Some, None, Result, Ok, Err}
+use Rattle.std.specs.Prelude.{◌≡◌, ℕ, ◌⊎◌, ⊤, Bool, List, Option, Some, None, Result, Ok, Err}
 use Rattle.std.specs.Io.KnownBytes.{Appends}
-use Rattle.lset_words.specs.declared.history.Point.{Point}
 use Rattle.lset_lists.specs.Tables.{table_of}
 use Rattle.lset_steps.specs.declared.world.StepFault.{StepFault}
 use Rattle.lset_schedule.specs.declared.fault.ScheduleFault.{ScheduleFault}
-use Rattle.lset_schedule.specs.Plan.{Plan, IsSchedule, schedule_text}
+use Rattle.lset_schedule.specs.Plan.{Plan, IsSchedule, opening_in, schedule_text}
 use Rattle.lset_schedule.specs.ScheduleReading.{reading}
-use Rattle.lset_report.specs.Report.{ReportValue}
-use Rattle.lset_replay.specs.Fronts.{IsReplayUpto}
+use Rattle.lset_replay.specs.declared.traced.TracedEvent.{TracedEvent}
+use Rattle.lset_replay.specs.Events.{events_of}
+use Rattle.lset_replay.specs.Tracing.{HearsEvents, TellsEvents}
 use Rattle.lset_tools.specs.declared.trouble.Trouble.{Trouble}
 use Rattle.lset_tools.specs.Trouble.{of_schedule}
 use Rattle.lset_tools.specs.Tools.{Made, IsTaken, IsInputTrouble}
 
--- The bytes are the text of a schedule, and its events end so: with the last, or at the first that is not enabled.
+-- The bytes are the text of a schedule, and these are its events, each told, up to the first that is not enabled.
 pub record IsTraced (bytes : List ℕ) (refused : Option (ℕ × StepFault)) : Type 0 where
   pub plan : Plan
   pub schedule : IsSchedule plan
   pub text : bytes ≡ schedule_text plan
-  pub made : ℕ
-  pub report : ReportValue
-  pub points : List Point
-  pub upto : IsReplayUpto (table_of plan.kind) plan made refused report points
+  pub chains : Bool
+  pub traced : List TracedEvent
+  pub tells : TellsEvents (table_of plan.kind) (opening_in plan) (events_of plan) chains traced refused
+
+-- somebody has heard of the events of a schedule
+abbrev pub IsHeard : Plan → Bool → Option (ℕ × StepFault) → Type 0
+IsHeard p chains refused = HearsEvents (λ traced. ⊤) (table_of p.kind) (opening_in p) (events_of p) chains refused
 
 -- the status of a trace that ends with the last event, and of one that ends at a refused event
 abbrev pub status_of : Option (ℕ × StepFault) → ℕ

@@ -1,6 +1,7 @@
 //! The text of a trace in memory, with the chains where they are asked for.
-ghost use Rattle.std.specs.Prelude.{⊤};
+ghost use Rattle.std.specs.Prelude.{⊤, IfOk};
 ghost use Rattle.lset_schedule.specs.Plan.{IsSchedule, view};
+ghost use Rattle.tool_trace.specs.Tracing.{IsHeard};
 
 use crate::TITLE;
 use crate::chunks::{Chunk, is_full, put, put_number};
@@ -88,9 +89,14 @@ impl Listener for EventLines {
     }
 }
 
-/// The text of the trace of a schedule. The only error is want of memory.
-pub fn text_of_run(alloc: Global, schedule: &Schedule, chains: bool) -> Result<Vec<u8>, AllocError>
+/// The text of the trace of a schedule, and how it ends. The only error is want of memory.
+pub fn text_of_run(
+    alloc: Global,
+    schedule: &Schedule,
+    chains: bool,
+) -> Result<(Vec<u8>, Option<(u64, StepFault)>), AllocError>
     requires { IsSchedule (view schedule.now) }
+    ensures { IfOk result (λ r. IsHeard (view schedule.now) chains r.1) }
 {
     let text = head_of(alloc, schedule)?.into_bytes();
     let chunk = Chunk::new();
@@ -100,5 +106,5 @@ pub fn text_of_run(alloc: Global, schedule: &Schedule, chains: bool) -> Result<V
     }
     put_last(&mut lines.chunk, refused);
     lines.pour()?;
-    Ok(lines.text)
+    Ok((lines.text, refused))
 }

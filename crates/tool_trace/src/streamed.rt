@@ -1,9 +1,9 @@
 //! The text of a trace without chains, written as its events are made: all memory is taken before the first byte.
-ghost use Rattle.std.specs.Prelude.{◌≡◌, IfOk, OnErr, OnOk};
+ghost use Rattle.std.specs.Prelude.{⊤, false, IfOk, OnErr, OnOk};
 ghost use Rattle.std.specs.Io.KnownBytes.{Keeps};
 ghost use Rattle.lset_words.specs.Words.{Opens};
-ghost use Rattle.lset_schedule.specs.Plan.{opening_in, view};
-ghost use Rattle.tool_trace.specs.Tracing.{Grows};
+ghost use Rattle.lset_schedule.specs.Plan.{IsSchedule, opening_in, view};
+ghost use Rattle.tool_trace.specs.Tracing.{Grows, IsHeard};
 
 use crate::chunks::{Chunk, is_full};
 use crate::events::put_event;
@@ -13,7 +13,7 @@ use lset_fine::FineList;
 use lset_lazy::LazyList;
 use lset_lock_free::LockFreeList;
 use lset_optimistic::OptimisticList;
-use lset_replay::{CallEnd, Deed, FrontReport, TracedEvent};
+use lset_replay::{CallEnd, Deed, Listener, TracedEvent, trace_to};
 use lset_schedule::{Line, Schedule};
 use lset_steps::{Event, Machine, StepFault, World};
 use lset_tools::put as put_out;
@@ -24,27 +24,49 @@ use std::io::Write;
 /// The most threads of a list.
 const MOST_THREADS: usize = 64;
 
-/// What a first replay tells of a schedule: the moment at which each call stands, by its number, and how the events end.
+/// What a first pass over a schedule tells: the moment at which each call stands that ended, by its number, and how the events
+/// end.
 #[derive(Drop)]
 pub struct Known {
     pub moments: Vec<u32>,
     pub refused: Option<(u64, StepFault)>,
 }
 
-/// What is known by the replay of a schedule.
-pub fn known_by(alloc: Global, front: &FrontReport) -> Result<Known, AllocError>
-    ensures { IfOk result (λ known. known.refused ≡ front.now.refused) }
-{
-    let report = &front.placed.report;
-    let mut moments = vec![in alloc; 0u32; report.history.calls().len()]?;
-    for (placed, point) in report.order.iter().zip(front.placed.points.iter()) {
-        if let Some(moment) = moments.get_mut(placed.call as usize) {
-            *moment = point.moment;
+/// Keeps the moments at which calls stand.
+#[derive(Drop)]
+struct Moments {
+    of_calls: Vec<u32>,
+}
+
+impl Listener for Moments {
+    ghost has_heard = { λ _ _ _. ⊤ };
+
+    fn hear(&mut self, _number: u32, event: TracedEvent) -> Result<(), AllocError> {
+        if let Deed::Begin(_, _) = event.deed {
+            self.of_calls.push(0)?;
         }
+        let Some(end) = event.end else {
+            return Ok(());
+        };
+        if let Some(moment) = self.of_calls.get_mut(end.call as usize) {
+            *moment = end.moment;
+        }
+        Ok(())
     }
+}
+
+/// Makes the events of a schedule for the first time.
+pub fn known_of(alloc: Global, schedule: &Schedule) -> Result<Known, AllocError>
+    requires { IsSchedule (view schedule.now) }
+    ensures { IfOk result (λ known. IsHeard (view schedule.now) false known.refused) }
+{
+    let silent = Moments {
+        of_calls: Vec::new(alloc),
+    };
+    let (moments, refused) = trace_to(alloc, schedule, false, silent)?;
     Ok(Known {
-        moments,
-        refused: front.refused,
+        moments: moments.of_calls,
+        refused,
     })
 }
 

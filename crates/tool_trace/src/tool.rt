@@ -7,8 +7,7 @@ ghost use Rattle.lset_tools.specs.declared.trouble.Trouble.TheVariants.{Memory};
 ghost use Rattle.tool_trace.specs.Tracing.{IsFirstFault, IsTraced, Traces, status_of};
 
 use crate::heard::text_of_run;
-use crate::streamed::{Known, known_by, write_run};
-use lset_replay::replay_upto;
+use crate::streamed::{Known, known_of, write_run};
 use lset_schedule::{Schedule, read_schedule};
 use lset_steps::StepFault;
 use lset_tools::{Answer, LONGEST, Trouble, deliver, input_of};
@@ -24,15 +23,14 @@ fn status_of(refused: Option<(u64, StepFault)>) -> u8
     }
 }
 
-/// The schedule whose text the bytes are, and what its replay tells.
-fn known_of(alloc: Global, bytes: &[u8]) -> Result<(Schedule, Known), Trouble>
+/// The schedule whose text the bytes are, and what a first pass tells.
+fn known_in(alloc: Global, bytes: &[u8]) -> Result<(Schedule, Known), Trouble>
     ensures traced { IfOk result (λ r. IsTraced bytes.now r.1.refused) }
     ensures schedule { IfOk result (λ r. plan.IsSchedule (plan.view r.0)) }
     ensures trouble { IfErr result (λ t. (t ≡ Memory) ⊎ IsFirstFault (reading bytes.now) t) }
 {
     let schedule = read_schedule(alloc, bytes)?;
-    let front = replay_upto(alloc, &schedule)?;
-    let known = known_by(alloc, &front)?;
+    let known = known_of(alloc, &schedule)?;
     Ok((schedule, known))
 }
 
@@ -42,9 +40,9 @@ fn trace_of(alloc: Global, bytes: &[u8], chains: bool) -> Result<Answer, Trouble
     ensures traces { Traces bytes.now (view result) }
     ensures trouble { IfErr result (λ t. (t ≡ Memory) ⊎ IsFirstFault (reading bytes.now) t) }
 {
-    let (schedule, known) = known_of(alloc, bytes)?;
-    let text = text_of_run(alloc, &schedule, chains)?;
-    let status = status_of(known.refused);
+    let schedule = read_schedule(alloc, bytes)?;
+    let (text, refused) = text_of_run(alloc, &schedule, chains)?;
+    let status = status_of(refused);
     Ok(Answer { text, status })
 }
 
@@ -70,14 +68,14 @@ fn traced_input<R: Read>(alloc: Global, input: &mut R) -> Result<Answer, Trouble
     trace_of(alloc, &bytes, true)
 }
 
-/// The schedule on the input, and what its replay tells.
+/// The schedule on the input, and what a first pass tells.
 fn known_input<R: Read>(alloc: Global, input: &mut R) -> Result<(Schedule, Known), Trouble>
     ensures traced { IfOk result (λ r. IfSome (R.remaining input.old) (λ bytes. IsTaken bytes × IsTraced bytes r.1.refused)) }
     ensures schedule { IfOk result (λ r. plan.IsSchedule (plan.view r.0)) }
     ensures trouble { IfErr result (λ t. IfSome (R.remaining input.old) (λ bytes. Traces bytes (Err t))) }
 {
     let bytes = input_of(alloc, input)?;
-    known_of(alloc, &bytes)
+    known_in(alloc, &bytes)
 }
 
 /// What is left to write once a trace is written, which is nothing, and the status.
