@@ -19,9 +19,12 @@ abbrev pub stands_from : ℕ → Point → Bool
 stands_from m q = nat_le m q.moment
 
 -- something happens at all
-abbrev pub is_told : PictureValue → Bool
-is_told p = not (length p.history.calls == 0 && length (points_of p) == 0)
+abbrev pub is_told : List CallRecord → List Point → Bool
+is_told calls points = not (length calls == 0 && length points == 0)
+
+abbrev pub is_past : List CallRecord → List Point → ℕ → Bool
+is_past calls points m = is_told calls points && not (list_any (reaches m) calls || list_any (stands_from m) points)
 
 -- A MOMENT IS PAST THE LAST of a picture where calls begin, stand or end, and none does at this moment or later.
 abbrev pub is_past_the_last : PictureValue → ℕ → Bool
-is_past_the_last p m = is_told p && not (list_any (reaches m) p.history.calls || list_any (stands_from m) (points_of p))
+is_past_the_last p m = is_past p.history.calls (points_of p) m

@@ -1,7 +1,8 @@
 //! The moments at which something happens in a picture.
 ghost use Rattle.std.specs.Prelude.{◌≡◌};
 ghost use Rattle.lset_drawing.specs.Pictures.{view};
-ghost use Rattle.lset_drawing.specs.Moments.{ends_from, reaches, stands_from, is_told, is_past_the_last};
+ghost use Rattle.std.specs.List.{list_any};
+ghost use Rattle.lset_drawing.specs.Moments.{ends_from, reaches, stands_from, is_told, is_past, is_past_the_last};
 
 use crate::picture::points_of;
 use crate::{MOST_COLUMNS, Picture, Window};
@@ -29,18 +30,36 @@ fn stands_from(point: &Point, moment: u32) -> bool
     moment <= point.moment
 }
 
+fn any_reaches(calls: &[CallRecord], moment: u32) -> bool
+    ensures { result ≡ list_any (reaches moment) calls.now }
+{
+    calls.iter().any(|made| reaches(made, moment))
+}
+
+fn any_stands(points: &[Point], moment: u32) -> bool
+    ensures { result ≡ list_any (stands_from moment) points.now }
+{
+    points.iter().any(|point| stands_from(point, moment))
+}
+
+fn is_told(calls: &[CallRecord], points: &[Point]) -> bool
+    ensures { result ≡ is_told calls.now points.now }
+{
+    !(calls.is_empty() && points.is_empty())
+}
+
+fn is_past(calls: &[CallRecord], points: &[Point], from: u32) -> bool
+    ensures { result ≡ is_past calls.now points.now from }
+{
+    is_told(calls, points) && !(any_reaches(calls, from) || any_stands(points, from))
+}
+
 /// Whether a moment, counted from 1, comes after the last one at which a call of the picture begins, stands or ends, so that a
 /// window from there has no column. Of a picture without calls no moment does.
 pub fn is_past_the_last(picture: &Picture, from: u32) -> bool
     ensures { result ≡ is_past_the_last (view picture.now) from }
 {
-    let calls = picture.history.calls();
-    let points = points_of(picture);
-    if calls.is_empty() && points.is_empty() {
-        return false;
-    }
-    !(calls.iter().any(|made| reaches(made, from))
-        || points.iter().any(|point| stands_from(point, from)))
+    is_past(picture.history.calls(), points_of(picture), from)
 }
 
 /// The earlier of two moments, where the second counts if it is not before `from`.

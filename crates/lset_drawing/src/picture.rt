@@ -56,12 +56,16 @@ pub struct Standing {
     pub point: Option<Point>,
 }
 
-/// The place of the order with this index, from 0.
-pub fn standing_at(picture: &Picture, index: usize) -> Option<Standing> {
-    let placed = *picture.order.get(index)?;
-    Some(Standing {
+fn standing_of(picture: &Picture, index: usize, placed: Placed) -> Standing {
+    Standing {
         placed,
         made: picture.history.calls().get(placed.call as usize).copied(),
         point: points_of(picture).get(index).copied(),
-    })
+    }
+}
+
+/// The place of the order with this index, from 0.
+pub fn standing_at(picture: &Picture, index: usize) -> Option<Standing> {
+    let placed = picture.order.get(index)?;
+    Some(standing_of(picture, index, *placed))
 }
