@@ -1,5 +1,5 @@
 -- Each broken text is that of a report that no order explains.
-use Rattle.std.proofs.Common.{◌≡◌, ℕ, List, [], Bor, Option, Some, None, IfSome, unwrap_or, refl, sym, ap, subst}
+use Rattle.std.proofs.Common.{◌≡◌, ℕ, List, [], Bor, Option, Some, None, IfSome, unwrap_or, sym, ap, subst}
 use Rattle.std.specs.Prelude.{Ok}
 use Rattle.std.specs.Option.{option_copied}
 use Rattle.lset_report.specs.Report.{ReportValue}

@@ -1,7 +1,6 @@
 -- What was read, and what was written piece by piece.
-use Rattle.std.proofs.Common.{◌≡◌, ℕ, Bool, List, [], ◌++◌, Option, Some, None, Ok, Err, sym}
+use Rattle.std.proofs.Common.{◌≡◌, ℕ, Bool, List, [], ◌++◌, Option, Ok, Err, sym}
 use Rattle.std.proofs.Common.{append-nil}
-use Rattle.std.specs.Io.KnownBytes.{Appends, Keeps}
 use Rattle.std.proofs.KnownBytes.{Appends-nil, Appends-trans, Appends-kept}
 use Rattle.lset_tools.specs.declared.trouble.Trouble.TheVariants.{CannotWrite}
 use Rattle.lset_tools.specs.Tools.{Made, Outcome, Ends, Delivers, AppendsFront, line_of, status_of}
