@@ -1,5 +1,5 @@
 -- What `trace` makes of an input.
-use Rattle.std.specs.Prelude.{◌≡◌, ℕ, ◌⊎◌, ⊤, Bool, List, Option, Some, None, Result, Ok, Err}
+use Rattle.std.specs.Prelude.{◌≡◌, ℕ, ◌⊎◌, ⊤, Bool, true, false, List, [], Option, Some, None, Result, Ok, Err}
 use Rattle.std.specs.Io.KnownBytes.{Appends}
 use Rattle.lset_lists.specs.Tables.{table_of}
 use Rattle.lset_steps.specs.declared.world.StepFault.{StepFault}
@@ -11,7 +11,10 @@ use Rattle.lset_replay.specs.Events.{events_of}
 use Rattle.lset_replay.specs.Tracing.{HearsEvents, TellsEvents}
 use Rattle.lset_tools.specs.declared.trouble.Trouble.{Trouble}
 use Rattle.lset_tools.specs.Trouble.{of_schedule}
-use Rattle.lset_tools.specs.Tools.{Made, IsTaken, IsInputTrouble}
+use Rattle.lset_tools.specs.Tools.{Made, Outcome, Delivers, AppendsFront, IsTaken, IsInputTrouble, line_of}
+use Rattle.lset_tools.specs.Tools as tools
+use Rattle.lset_tools.specs.declared.trouble.Trouble.TheVariants.{CannotWrite, Memory}
+use Rattle.std.specs.declared.alloc.AllocError.{AllocError}
 
 -- The bytes are the text of a schedule, and these are its events, each told, up to the first that is not enabled.
 pub record IsTraced (bytes : List ℕ) (refused : Option (ℕ × StepFault)) : Type 0 where
@@ -45,3 +48,15 @@ Traces bytes (Err t) = IsInputTrouble bytes t ⊎ (IsTaken bytes × IsFirstFault
 -- known bytes grow by some
 abbrev pub Grows : Option (List ℕ) → Option (List ℕ) → Type 0
 Grows old new = (text : List ℕ) × Appends old new text
+
+-- what is left to tell once a text was written, whole or not, or memory was refused before
+abbrev pub made_for : Result Bool AllocError → ℕ → Made
+made_for (Ok true) status = Ok (record { text = []; status = status })
+made_for (Ok false) status = Err CannotWrite
+made_for (Err refused) status = Err Memory
+
+-- and how it reaches the output
+abbrev pub HowItEnds : Made → Option (List ℕ) → Option (List ℕ) → Option (List ℕ) → Option (List ℕ) → ℕ → Type 0
+HowItEnds made old new faults_old faults_new status =
+    (outcome : Outcome) × Delivers made old new outcome × AppendsFront faults_old faults_new (line_of outcome)
+    × (status ≡ tools.status_of outcome)

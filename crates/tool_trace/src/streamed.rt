@@ -130,6 +130,12 @@ fn tell<M: Machine>(
     })
 }
 
+fn write_out<W: Write>(output: &mut W, text: &[u8]) -> bool
+    ensures { Grows (W.contents output.old) (W.contents output.new) }
+{
+    put_out(output, text)
+}
+
 /// Writes a chunk where it is full, and tells whether that was done whole, if it was.
 fn pour_full<W: Write>(chunk: &mut Chunk, output: &mut W) -> bool
     ensures { Grows (W.contents output.old) (W.contents output.new) }
@@ -215,7 +221,7 @@ fn write_rest<W: Write>(
         return false;
     }
     put_last(chunk, refused);
-    put_out(output, chunk.as_str().as_bytes())
+    write_out(output, chunk.as_str().as_bytes())
 }
 
 /// The same on the list of the machine `M`, with what stands before the events.
@@ -235,7 +241,7 @@ fn write_on<M: Machine, W: Write>(
     };
     let mut world = World::<M>::opened(alloc, layout, keys)?;
     let head = head_of(alloc, schedule)?;
-    if !put_out(output, head.as_bytes()) {
+    if !write_out(output, head.as_bytes()) {
         return Ok(false);
     }
     Ok(write_events(&mut world, schedule, known, output))

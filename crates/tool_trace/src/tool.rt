@@ -1,16 +1,16 @@
-ghost use Rattle.std.specs.Prelude.{◌≡◌, ◌≢◌, ◌⊎◌, IfErr, IfOk, IfSome};
+ghost use Rattle.std.specs.Prelude.{◌≡◌, ◌≢◌, ◌⊎◌, Err, IfErr, IfOk, IfSome};
 ghost use Rattle.lset_schedule.specs.Plan as plan;
 ghost use Rattle.lset_schedule.specs.ScheduleReading.{reading};
 ghost use Rattle.lset_tools.specs.Tools.{Ends, IsTaken, view};
 ghost use Rattle.lset_tools.specs.declared.trouble.Trouble.TheVariants.{Memory};
-ghost use Rattle.tool_trace.specs.Tracing.{IsFirstFault, IsTraced, Traces, status_of};
+ghost use Rattle.tool_trace.specs.Tracing.{HowItEnds, IsFirstFault, IsTraced, Traces, made_for, status_of};
 
 use crate::heard::text_of_run;
 use crate::streamed::{Known, known_of, write_run};
 use lset_schedule::{Schedule, read_schedule};
 use lset_steps::StepFault;
 use lset_tools::{Answer, LONGEST, Trouble, deliver, input_of};
-use std::alloc::Global;
+use std::alloc::{AllocError, Global};
 use std::io::{Read, Write};
 
 fn status_of(refused: Option<(u64, StepFault)>) -> u8
@@ -77,14 +77,29 @@ fn known_input<R: Read>(alloc: Global, input: &mut R) -> Result<(Schedule, Known
     known_in(alloc, &bytes)
 }
 
-/// What is left to write once a trace is written, which is nothing, and the status.
-fn nothing_more(alloc: Global, known: &Known) -> Answer
-    ensures { view (Result.Ok result) ≡ Ok (record { text = []; status = status_of known.now.refused }) }
+/// What is left to tell once a trace was written, whole or not, or memory was refused before.
+fn made_of(
+    alloc: Global,
+    written: Result<bool, AllocError>,
+    refused: Option<(u64, StepFault)>,
+) -> Result<Answer, Trouble>
+    ensures { view result ≡ made_for written (status_of refused) }
 {
-    Answer {
-        text: Vec::new(alloc),
-        status: status_of(known.refused),
+    match written {
+        Ok(true) => Ok(Answer {
+            text: Vec::new(alloc),
+            status: status_of(refused),
+        }),
+        Ok(false) => Err(Trouble::CannotWrite),
+        Err(_) => Err(Trouble::Memory),
     }
+}
+
+/// Ends without a trace.
+fn refuse<W: Write, F: Write>(alloc: Global, trouble: Trouble, output: &mut W, faults: &mut F) -> u8
+    ensures { HowItEnds (Err trouble) (W.contents output.old) (W.contents output.new) (F.contents faults.old) (F.contents faults.new) result }
+{
+    deliver(alloc, Err(trouble), output, faults)
 }
 
 /// Traces the schedule on the input, without chains: writes each event as it is made.
@@ -99,13 +114,11 @@ fn trace_through<R: Read, W: Write, F: Write>(
 {
     let (schedule, known) = match known_input(alloc, input) {
         Ok(known) => known,
-        Err(trouble) => return deliver(alloc, Err(trouble), output, faults),
+        Err(trouble) => return refuse(alloc, trouble, output, faults),
     };
-    match write_run(alloc, &schedule, &known, output) {
-        Ok(true) => deliver(alloc, Ok(nothing_more(alloc, &known)), output, faults),
-        Ok(false) => deliver(alloc, Err(Trouble::CannotWrite), output, faults),
-        Err(_) => deliver(alloc, Err(Trouble::Memory), output, faults),
-    }
+    let written = write_run(alloc, &schedule, &known, output);
+    let made = made_of(alloc, written, known.refused);
+    deliver(alloc, made, output, faults)
 }
 
 /// Traces the schedule on the input: writes the text of its trace on the output, with the chain after each event that
