@@ -2,8 +2,8 @@
 
     import listset
 
-    listset.check(report)                 # nothing where the order of the report explains its calls
-    report = listset.replay(schedule)
+    report = listset.report(calls)        # of recorded calls
+    listset.check(report)                 # nothing where its order explains them
     print(listset.show(report, width=60))
 
 A text is str or bytes. Where the exit status of the program `listset` would not be 0, `Wrong` is raised with it, and with what the

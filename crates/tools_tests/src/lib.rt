@@ -23,4 +23,3 @@ mod rows;
 #[cfg(test)]
 mod servers;
 #[cfg(test)]
-mod tracing;
