@@ -27,7 +27,8 @@ TAKEN = """
     example Snip | example --broken no-such-name | show no-such-file | show -- --svg | show . | show -- --from
     show --from 3 | show --from=3 --to 9 --width 40 | show - --to 9 --svg | show --from= --to x | show --to=x --from=1
     show --from - . | show --from 0 no-such-file | show --from=9 --to=8 . | show --width 0 | show --width=00 | show --from=-5
-    show --from 4294967295 | show --from==3 | report | report no-such-file | report -- - | draft | draft no-such-file | draft . | draft -- - | faults | faults --
+    show --from 4294967295 | show --from==3 | draft | draft no-such-file | draft . | draft -- - | faults | faults --
+    report | report no-such-file | report . | report -- -
     gen | gen lazy | gen lazy 2 4 | gen lazy 2 4 9 8 1 | gen -- fine -1 | gen coarse 2 4 9 8 1 more - -- | gen skip 2 4 9 8 1
     gen lazy 2 4 9 8 18446744073709551616 | gen lazy 65 4 9 8 1 | gen - 2"""
 
