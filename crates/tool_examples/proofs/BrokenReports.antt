@@ -1,9 +1,10 @@
 -- Each broken text is that of a report that no order explains.
-use Rattle.std.proofs.Common.{◌≡◌, ℕ, List, [], Bor, Option, Some, None, IfSome, unwrap_or, sym, ap, subst}
+use Rattle.std.proofs.Common.{◌≡◌, ℕ, List, [], Bor, Option, Some, None, IfSome, unwrap_or, refl, sym, ap, subst}
 use Rattle.std.specs.Prelude.{Ok}
 use Rattle.std.specs.Option.{option_copied}
 use Rattle.lset_report.specs.Report.{ReportValue}
 use Rattle.lset_report.specs.ReportReading.{reading, ReportsReadBack}
+use Rattle.lset_counts.specs.Unexplained.{IsUnexplained}
 use Rattle.tool_examples.specs.declared.example.Example.{Example}
 use Rattle.tool_examples.specs.declared.example.Example.TheVariants.{FailedTries, Full, HandOverHand, SameGap}
 use Rattle.tool_examples.specs.declared.example.Example.TheVariants.{StalePred, MarkedInChain, MarkedPred, ReadInAnothersStep}
@@ -11,13 +12,13 @@ use Rattle.tool_examples.specs.declared.example.Example.TheVariants.{OpensWithKe
 use Rattle.tool_examples.specs.declared.example.Example.TheVariants.{TwoRemovers, Snip, TriesAgain, LeftInChain}
 use Rattle.tool_examples.specs.declared.example.Example.TheVariants.{CeilingMeetsMark, CeilingLeftInChain, BehindTheWalk}
 use Rattle.tool_examples.specs.declared.example.Example.TheVariants.{CeilingInAnothersStep, NothingInAnothersStep}
-use Rattle.tool_examples.specs.Examples.{broken_of, IsUnexplained, IsBrokenReport}
+use Rattle.tool_examples.specs.Examples.{broken_of, IsBrokenReport}
 use Rattle.tool_examples.specs.declared.texts.TheConstants as texts
 use Rattle.tool_examples.proofs.ReadReports as read
 use Rattle.tool_examples.proofs.Unexplained as unexplained
 
 -- a text that is read as a report which no order explains
-read_as : ReportsReadBack → (r : ReportValue) (own text : List ℕ) → reading own ≡ Ok r → IsUnexplained r
+read_as : ReportsReadBack → (r : ReportValue) (own text : List ℕ) → reading own ≡ Ok r → IsUnexplained r.history r.keys
     → Some own ≡ Some text → IsBrokenReport text
 read_as back r own text reads none is =
     let found = (back r own).1 reads in

@@ -20,7 +20,6 @@ use Rattle.lset_text.specs.Spellings.{kind_of as kind_of_word}
 use Rattle.lset_report.specs.Report.{ReportValue}
 use Rattle.lset_report.specs.ReportReading.{reading}
 use Rattle.tool_examples.specs.declared.texts.TheConstants as texts
-use Rattle.tool_examples.proofs.Orders.{place}
 
 -- ---- the reports
 
@@ -35,6 +34,9 @@ add key = call.Add (record { 0 = key })
 
 abbrev remove : ℕ → Call
 remove key = call.Remove (record { 0 = key })
+
+abbrev place : ℕ → Placed
+place call = record { call = call; reply = True }
 
 abbrev pub place_at : ℕ → ℕ → Placed
 place_at call key = record { call = call; reply = At (record { 0 = key }) }

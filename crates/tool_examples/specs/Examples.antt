@@ -1,7 +1,6 @@
 -- The classic interleavings: their names and their texts.
 use Rattle.std.specs.Prelude.{◌≡◌, ℕ, List, Contains, codes, Option, Some, None}
-use Rattle.lset_words.specs.declared.history.Placed.{Placed}
-use Rattle.lset_history.specs.Faults.{Explains}
+use Rattle.lset_counts.specs.Unexplained.{IsUnexplained}
 use Rattle.lset_report.specs.Report.{ReportValue}
 use Rattle.lset_report.specs.ReportReading.{IsReport}
 use Rattle.lset_report.specs.Texts.{report_text}
@@ -78,13 +77,9 @@ broken_of CeilingLeftInChain = Some texts.CEILING_LEFT_IN_CHAIN_BROKEN.now
 broken_of BehindTheWalk = None
 broken_of NothingInAnothersStep = None
 
--- no order explains the calls and leaves the keys
-abbrev pub IsUnexplained : ReportValue → Type 0
-IsUnexplained r = (order : List Placed) → Explains r.history order r.keys → ⊥
-
 -- the text of a report that no order explains, its own or another
 abbrev pub IsBrokenReport : List ℕ → Type 0
-IsBrokenReport text = (r : ReportValue) × IsReport r × (text ≡ report_text r) × IsUnexplained r
+IsBrokenReport text = (r : ReportValue) × IsReport r × (text ≡ report_text r) × IsUnexplained r.history r.keys
 
 -- ---- laws
 

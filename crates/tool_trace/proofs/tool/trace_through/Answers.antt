@@ -14,6 +14,6 @@ pub returns : goal.returns
 returns g c =
     let input = g.R.Read.remaining c.args.input.now in
     let refused = c.in-Ok.known.1.refused in
-    ended_as (λ made. IfSome input (λ bytes. Traces bytes made)) _ _ _ _ _ c.write_run.result (view c.made_of.result)
+    ended_as (λ made. IfSome input (λ bytes. Traces bytes made)) _ _ _ _ _ c.write_run-written.result (view c.made_of-made.result)
     (status_of refused) _ (λ text. known_bytes input refused text c.in-Ok.ensures.traced) (known_memory input)
-    c.write_run.ensures.kept c.write_run.ensures.grown c.made_of.ensures c.deliver.ensures
+    c.write_run-written.ensures.kept c.write_run-written.ensures.grown c.made_of-made.ensures c.deliver.ensures
