@@ -2,13 +2,14 @@
 ghost use Rattle.std.specs.Prelude.{◌≡◌, All};
 
 use lset_live::{LiveSet, Running, Seat, open};
+use lset_steps::Machine;
 use lset_words::{Key, Reply};
 use std::alloc::Global;
 use std::process::Abort;
 use std::sync::Wait;
 
 /// The last of the seats.
-pub fn last_seat<M: Running, R: Abort>(
+pub fn last_seat<M: Machine, R: Abort>(
     rt: &R,
     set: &LiveSet<M>,
     seats: &mut Vec<Seat<M>>,

@@ -1,5 +1,5 @@
 -- From step to step of a call under way.
-use Rattle.std.proofs.Common.{◌≡◌, ◌≢◌, ℕ, ◌+◌, ◌*◌, ◌<◌, ◌≤◌, false, Option, Some, None, MatchOption, refl, sym, ap, ◌∙◌, subst, arith}
+use Rattle.std.proofs.Common.{◌≡◌, ◌≢◌, ℕ, ◌+◌, ◌*◌, ◌<◌, ◌≤◌, false, Option, Some, None, IfSome, MatchOption, refl, sym, ap, ◌∙◌, subst, arith}
 use Rattle.atomic_table.specs.Seated.{TableId}
 use Rattle.lset_words.specs.declared.Call.{Call}
 use Rattle.lset_words.specs.declared.Reply.{Reply}
@@ -248,3 +248,9 @@ is_call c may = (refl, may.place.0, may.place.1)
 pub called : {m : Table} {c : Call} {s s' : TableSeat} {answer : OwnSlots × Reply} → HasAnswered m (begun_at c s) answer s' →
     HasCalled m c s answer s'
 called e = record { place = e.1.seat; slots = e.2 ∙ ap slots_of (sym e.1.local); made = e.1.makes }
+
+-- if it has answered
+pub called_if : (m : Table) (c : Call) (s s' : TableSeat) (answer : Option (OwnSlots × Reply)) →
+    IfSome answer (λ r. HasAnswered m (begun_at c s) r s') → IfSome answer (λ r. HasCalled m c s r s')
+called_if m c s s' None e = e
+called_if m c s s' (Some r) e = called e

@@ -1,5 +1,5 @@
 //! The steps of a call under way. Each is the step of the row of the list's table at which the seat's view stands.
-ghost use Rattle.std.specs.Prelude.{◌≡◌, ◌≢◌, ℕ, ◌+◌, ◌*◌, ◌/◌, None};
+ghost use Rattle.std.specs.Prelude.{◌≡◌, ◌≢◌, ℕ, ◌+◌, ◌*◌, ◌/◌, None, IfSome};
 ghost use Rattle.lset_words.specs.Words.{key_index, link_index, lock_index};
 ghost use Rattle.lset_steps.specs.ReadRows.{continued};
 ghost use Rattle.lset_steps.specs.declared.Action.TheVariants.{Load, Store, Exchange};
@@ -7,11 +7,12 @@ ghost use Rattle.lset_rule.specs.Calls.{Goes};
 ghost use Rattle.lset_caller.specs.Calling.{HasExchanged, HasStepped, HasTold, Holds, MayAnswer, MayBegin, MayLock, MayStep, first};
 
 use crate::caller::{Caller, Node, Origin};
-use lset_rule::{Pause, TableSeat, exchange_first, exchange_on, load_first, load_on, store_on};
+use lset_rule::{
+    Pause, Rounds, TableSeat, exchange_first, exchange_on, load_first, load_on, store_on,
+};
 use lset_steps::Machine;
 use lset_steps::rows::{key_index, link_index, lock_index};
 use std::marker::Brand;
-use std::sync::Wait;
 
 impl<'a, M: Machine, O: Origin, P: Pause> Caller<'a, M, O, P> {
     /// Asks the pause, after a step that did not answer. A step that never answers does so itself.
@@ -152,59 +153,61 @@ impl<'a, M: Machine, O: Origin, P: Pause> Caller<'a, M, O, P> {
         self.exchange(place, link_index(node.number), unmarked, unmarked + 1)
     }
 
-    /// Tries the lock in this word again and again, until the thread has it.
+    /// Tries the lock in this word again, until the thread has it or `N::MOST` tries have failed: then the answer is `None`.
     #[inline(never)]
-    fn wait_for<R: Wait>(&self, rt: &R, place: &mut TableSeat, word: u64)
+    fn wait_for<N: Rounds>(&self, place: &mut TableSeat, word: u64) -> Option<()>
         requires { MayLock M.table O.begun word self.now.slots.thread place.old }
-        ensures { HasStepped M.table O.begun place.old 0 place.new }
+        ensures { IfSome result (λ _. HasStepped M.table O.begun place.old 0 place.new) }
     {
         let own = u64::from(self.slots.thread) + 1;
-        for _ in rt.forever() {
+        for _ in 0..N::MOST {
             let seen = exchange_on::<M>(self.table, place, word, 0, own);
             self.pause.moved(self.slots.thread, seen != 0);
             if seen == 0 {
-                return;
+                return Some(());
             }
         }
-        unreachable!()
+        None
     }
 
-    /// Takes the lock in this word.
+    /// Takes the lock in this word. `None` where one try and `N::MOST` more have failed.
     #[inline(always)]
-    fn take<R: Wait>(&self, rt: &R, place: &mut TableSeat, word: u64)
+    fn take<N: Rounds>(&self, place: &mut TableSeat, word: u64) -> Option<()>
         requires { MayLock M.table O.begun word self.now.slots.thread place.old }
-        ensures { HasStepped M.table O.begun place.old 0 place.new }
+        ensures { IfSome result (λ _. HasStepped M.table O.begun place.old 0 place.new) }
     {
         let seen = exchange_on::<M>(self.table, place, word, 0, u64::from(self.slots.thread) + 1);
         self.pause.moved(self.slots.thread, seen != 0);
         if seen != 0 {
-            self.wait_for(rt, place, word);
+            self.wait_for::<N>(place, word)?;
         }
+        Some(())
     }
 
-    /// Takes the lock of a node.
+    /// Takes the lock of a node. `None` where one try and `N::MOST` more have failed.
     #[inline(always)]
-    pub fn lock<R: Wait>(&self, rt: &R, place: &mut TableSeat, node: Node)
+    pub fn lock<N: Rounds>(&self, place: &mut TableSeat, node: Node) -> Option<()>
         requires { MayLock M.table O.begun (lock_index node.number) self.now.slots.thread place.old }
-        ensures { HasStepped M.table O.begun place.old 0 place.new }
+        ensures { IfSome result (λ _. HasStepped M.table O.begun place.old 0 place.new) }
     {
-        self.take(rt, place, lock_index(node.number));
+        self.take::<N>(place, lock_index(node.number))
     }
 
-    /// Begins the call with the taking of the lock in this word.
-    pub fn begin_locked<R: Wait>(&self, rt: &R, place: &mut TableSeat, word: u64)
+    /// Begins the call with the taking of the lock in this word. `None` where one try and `N::MOST` more have failed.
+    pub fn begin_locked<N: Rounds>(&self, place: &mut TableSeat, word: u64) -> Option<()>
         requires begins { MayBegin M.table O.begun self.now.slots place.old }
         requires acts { Exchange word 0 (self.now.slots.thread + 1) ≡ M.table.next (first M.table O.begun self.now.slots) }
         requires again { (n : ℕ) → n ≢ 0 → M.table.feed (first M.table O.begun self.now.slots) n ≡ continued (first M.table O.begun self.now.slots) }
         requires goes_on { (M.table.feed (first M.table O.begun self.now.slots) 0).answer ≡ None }
-        ensures { Holds M.table O.begun (M.table.feed (first M.table O.begun self.now.slots) 0).local place.new }
+        ensures { IfSome result (λ _. Holds M.table O.begun (M.table.feed (first M.table O.begun self.now.slots) 0).local place.new) }
     {
         let own = u64::from(self.slots.thread) + 1;
         let seen = exchange_first::<M, Brand>(self.table, place, self.call, word, 0, own);
         self.pause.moved(self.slots.thread, seen != 0);
         if seen != 0 {
-            self.wait_for(rt, place, word);
+            self.wait_for::<N>(place, word)?;
         }
+        Some(())
     }
 
     /// Begins the call with the load of the head's link.

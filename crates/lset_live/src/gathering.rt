@@ -4,11 +4,11 @@ ghost use Rattle.std.specs.Option.{option_map};
 ghost use Rattle.lset_words.specs.declared.TheConstants.{MOST_THREADS};
 ghost use Rattle.lset_live.specs.Seats.{gather_onto, held_in};
 
-use crate::running::Running;
 use crate::seat::Seat;
 use crate::set::LiveSet;
+use lset_steps::Machine;
 
-impl<M: Running> LiveSet<M> {
+impl<M: Machine> LiveSet<M> {
     /// Answers whether the seats hold all seats of the set, as many as there are.
     pub fn is_held_by(&self, seats: &[Seat<M>]) -> bool
         ensures all { IsTrue result ↔ (sum_by (λ s. s.held) seats.now ≡ self.now.shape.threads) }

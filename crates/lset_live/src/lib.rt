@@ -1,6 +1,7 @@
 //! Running sets: the words of a list in a table that threads share, one seat for each thread.
 #![tactic(auto)]
 
+mod bounded;
 mod closed;
 mod fault;
 mod gathering;
@@ -10,9 +11,10 @@ mod seat;
 mod set;
 mod set_calls;
 
+pub use bounded::Bounded;
 pub use closed::Closed;
 pub use fault::OpenFault;
-pub use lset_rule::{Pause, Spin};
+pub use lset_rule::{Countless, Pause, Rounds, Spin};
 pub use lset_words::SetCalls;
 pub use opening::{open, open_with};
 pub use running::{Running, RunningReads};

@@ -6,17 +6,16 @@ ghost use Rattle.lset_steps.specs.Steps.{opening_of};
 ghost use Rattle.lset_live.specs.Seats.{IsOpened, RefusesSeats, RefusesOpening};
 
 use crate::fault::OpenFault;
-use crate::running::Running;
 use crate::seat::Seat;
 use crate::set::LiveSet;
 use atomic_table::Table;
 use lset_rule::{Opened, OwnSlots};
-use lset_steps::opening_words;
+use lset_steps::{Machine, opening_words};
 use lset_words::{Layout, LayoutFault, layout, layout_opening};
 use std::alloc::{AllocError, Global};
 use std::marker::PhantomData;
 
-fn open_on<M: Running>(
+fn open_on<M: Machine>(
     alloc: Global,
     layout: Layout,
     keys: &[u32],
@@ -65,7 +64,7 @@ fn open_on<M: Running>(
 /// All memory that a set takes is taken here, but for that of `Closed::keys`.
 /// `OpenFault::Seats` where the seats are outside their limits, else `OpenFault::Quota` where the quota is, and
 /// `OpenFault::Memory` where memory was refused.
-pub fn open<M: Running>(
+pub fn open<M: Machine>(
     alloc: Global,
     seats: u32,
     quota: u32,
@@ -104,7 +103,7 @@ fn rises(keys: &[u32]) -> bool
 /// `OpenFault::Seats` where the seats are outside their limits, else `OpenFault::Quota` where the quota is, else
 /// `OpenFault::Opening` where the keys are too many or one is not above the key before it, and `OpenFault::Memory` where memory
 /// was refused.
-pub fn open_with<M: Running>(
+pub fn open_with<M: Machine>(
     alloc: Global,
     seats: u32,
     quota: u32,

@@ -3,12 +3,15 @@
 ghost use Rattle.lset_words.specs.declared.Call.TheVariants.{Add, Remove, Contains, Ceiling};
 ghost use Rattle.lset_rule.specs.Seats.{HasCalled, MayCall};
 
+use crate::bounded::Bounded;
 use lset_coarse::CoarseList;
 use lset_fine::FineList;
 use lset_lazy::LazyList;
 use lset_lock_free::LockFreeList;
 use lset_optimistic::OptimisticList;
-use lset_rule::{OwnSlots, Pause, TableSeat, Words, interpret, interpret_read};
+use lset_rule::{
+    Countless, OwnSlots, Pause, TableSeat, Words, interpret, interpret_read, or_wait_forever,
+};
 use lset_steps::{Machine, OpenReads};
 use lset_words::{Call, Key, Reply};
 use std::sync::Wait;
@@ -131,7 +134,8 @@ impl Running for CoarseList {
         call: Call,
         pause: &P,
     ) -> (OwnSlots, Reply) {
-        lset_locked_loops::coarse_on::<R, P>(rt, table, place, slots, call, pause)
+        let answer = Self::make_within::<P, Countless>(table, place, slots, call, pause);
+        or_wait_forever(rt, answer)
     }
 }
 
@@ -144,7 +148,8 @@ impl Running for FineList {
         call: Call,
         pause: &P,
     ) -> (OwnSlots, Reply) {
-        lset_locked_loops::fine_on::<R, P>(rt, table, place, slots, call, pause)
+        let answer = Self::make_within::<P, Countless>(table, place, slots, call, pause);
+        or_wait_forever(rt, answer)
     }
 }
 
@@ -157,7 +162,8 @@ impl Running for OptimisticList {
         call: Call,
         pause: &P,
     ) -> (OwnSlots, Reply) {
-        lset_locked_loops::optimistic_on::<R, P>(rt, table, place, slots, call, pause)
+        let answer = Self::make_within::<P, Countless>(table, place, slots, call, pause);
+        or_wait_forever(rt, answer)
     }
 }
 
@@ -170,7 +176,8 @@ impl Running for LazyList {
         key: Key,
         pause: &P,
     ) -> (OwnSlots, Reply) {
-        lset_loops::lazy_add_on::<R, P>(rt, table, place, slots, key, pause)
+        let answer = lset_loops::lazy_add_within::<P, Countless>(table, place, slots, key, pause);
+        or_wait_forever(rt, answer)
     }
 
     fn remove_on<R: Wait, P: Pause>(
@@ -181,7 +188,10 @@ impl Running for LazyList {
         key: Key,
         pause: &P,
     ) -> (OwnSlots, Reply) {
-        lset_loops::lazy_remove_on::<R, P>(rt, table, place, slots, key, pause)
+        let answer = lset_loops::lazy_remove_within::<P, Countless>(
+            table, place, slots, key, pause,
+        );
+        or_wait_forever(rt, answer)
     }
 
     fn contains_on<R: Wait, P: Pause>(
@@ -205,7 +215,10 @@ impl Running for LockFreeList {
         key: Key,
         pause: &P,
     ) -> (OwnSlots, Reply) {
-        lset_loops::lock_free_add_on::<R, P>(rt, table, place, slots, key, pause)
+        let answer = lset_loops::lock_free_add_within::<P, Countless>(
+            table, place, slots, key, pause,
+        );
+        or_wait_forever(rt, answer)
     }
 
     fn remove_on<R: Wait, P: Pause>(
@@ -216,7 +229,10 @@ impl Running for LockFreeList {
         key: Key,
         pause: &P,
     ) -> (OwnSlots, Reply) {
-        lset_loops::lock_free_remove_on::<R, P>(rt, table, place, slots, key, pause)
+        let answer = lset_loops::lock_free_remove_within::<P, Countless>(
+            table, place, slots, key, pause,
+        );
+        or_wait_forever(rt, answer)
     }
 
     fn contains_on<R: Wait, P: Pause>(

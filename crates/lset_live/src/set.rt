@@ -1,5 +1,5 @@
 //! A running set and its calls.
-ghost use Rattle.std.specs.Prelude.{◌≡◌, ◌≢◌, ◌+◌, ◌<◌, ◌≤◌, ℕ, List, [], ◌∷◌, length, IfOk, IfErr};
+ghost use Rattle.std.specs.Prelude.{◌≡◌, ◌≢◌, ◌+◌, ◌<◌, ◌≤◌, ℕ, List, [], ◌∷◌, length, IfOk, IfErr, IfSome};
 ghost use Rattle.lset_words.specs.Words.{word_count, sizes};
 ghost use Rattle.lset_words.specs.declared.Call.TheVariants.{Add, Remove, Contains, Ceiling};
 ghost use Rattle.lset_words.specs.declared.TheConstants.{MOST_QUOTA, MOST_THREADS};
@@ -13,21 +13,23 @@ ghost use Rattle.lset_live.specs.Explained.{Explains, HasAnswered};
 ghost use Rattle.lset_words.specs.Records.{gathered};
 ghost use Rattle.lset_live.specs.Seats.{is_true, reply_of};
 
+use crate::bounded::Bounded;
 use crate::closed::Closed;
 use crate::running::{Running, RunningReads, call_on};
 use crate::seat::Seat;
 use atomic_table::Table;
 use lset_headline::runs_are_linearizable;
-use lset_rule::{Cutting, Follows, Learning, Opened, Pause, Spin, TableSeat, Taking, View};
+use lset_rule::{Cutting, Follows, Learning, Opened, Pause, Rounds, Spin, TableSeat, Taking, View};
+use lset_steps::Machine;
 use lset_words::{Call, Key, Reply};
 use std::alloc::{AllocError, Global};
-use std::marker::Model;
+use std::marker::{Model, PhantomData};
 use std::sync::Wait;
 
 /// A running set of the list `M` (Herlihy and Shavit's `Set`, with a quota). Threads share it by `&`, and each calls from
 /// a seat of its own. Contracts see its table, its threads and its quota.
 #[derive(Drop)]
-pub struct LiveSet<M: Running> {
+pub struct LiveSet<M: Machine> {
     pub(crate) table: Table<(), View, Opened, Follows<M>, Global>,
     pub(crate) threads: u32,
     pub(crate) quota: u32,
@@ -38,7 +40,7 @@ pub struct LiveSet<M: Running> {
     ghost within: { (0 < threads) × (threads ≤ MOST_THREADS) × (quota ≤ MOST_QUOTA) },
 }
 
-impl<M: Running> Model for LiveSet<M> {
+impl<M: Machine> Model for LiveSet<M> {
     ghost use Rattle.lset_live.specs.Seats.{SetValue};
 
     ghost Value = { SetValue };
@@ -48,12 +50,12 @@ impl<M: Running> Model for LiveSet<M> {
 
 /// A set that is not closed, since the seat does not hold all seats.
 #[derive(Drop)]
-pub struct SeatsOut<M: Running> {
+pub struct SeatsOut<M: Machine> {
     pub set: LiveSet<M>,
     pub seat: Seat<M>,
 }
 
-impl<M: Running> LiveSet<M> {
+impl<M: Machine> LiveSet<M> {
     /// The number of seats that the set was opened with.
     pub fn seats(&self) -> u32
         ensures seats { result ≡ self.now.shape.threads }
@@ -69,7 +71,9 @@ impl<M: Running> LiveSet<M> {
     {
         self.quota
     }
+}
 
+impl<M: Running> LiveSet<M> {
     /// Makes the call from the seat, which is one of this set. `pause` is asked after each of its steps but the last.
     ///
     /// The seat's record grows by the call with its reply. The call begins after all that the seat had seen, and its
@@ -130,7 +134,49 @@ impl<M: Running> LiveSet<M> {
     {
         self.call(rt, seat, Call::Ceiling(key), &Spin::new())
     }
+}
 
+impl<M: Bounded> LiveSet<M> {
+    /// Makes the call from the seat, which is one of this set, with no handle to wait by: each of its loops makes at most
+    /// `N::MOST` rounds. The answer is the seat and the reply, and of both is so what `call` says.
+    ///
+    /// `None` where a loop has made all its rounds, as at a lock that is held. The call is still under way then, with the
+    /// locks that it has. Its seat could make no other and is gone, so the set is not closed any more. With [`Countless`]
+    /// rounds no run comes to it.
+    pub fn call_within<P: Pause, N: Rounds>(
+        &self,
+        seat: Seat<M>,
+        call: Call,
+        pause: &P,
+    ) -> Option<(Seat<M>, Reply)>
+        requires { seat.set ≡ self.now }
+        ensures { IfSome result (λ r. HasAnswered M.table self.now seat call r.1 r.0) }
+    {
+        runs_are_linearizable::<M>();
+        let Seat {
+            mut place,
+            slots,
+            held,
+            of: _,
+        } = seat;
+        let (slots, reply) = M::make_within::<P, N>(
+            &self.table.shared,
+            &mut place,
+            slots,
+            call,
+            pause,
+        )?;
+        let seat = Seat {
+            place,
+            slots,
+            held,
+            of: PhantomData,
+        };
+        Some((seat, reply))
+    }
+}
+
+impl<M: Machine> LiveSet<M> {
     /// `into` takes `from` in: its record, the seats that it holds, and what it has seen. A call that follows is explained
     /// with all gathered calls before it.
     pub fn gather(&self, into: &mut Seat<M>, from: Seat<M>)

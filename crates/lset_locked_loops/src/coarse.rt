@@ -1,5 +1,5 @@
 //! CoarseList: one lock for the whole list.
-ghost use Rattle.std.specs.Prelude.{◌≡◌};
+ghost use Rattle.std.specs.Prelude.{IfSome};
 ghost use Rattle.lset_coarse.specs.Coarse.{coarse};
 ghost use Rattle.lset_rule.specs.Seats.{HasCalled, MayCall};
 ghost use Rattle.lset_caller.specs.Begun.{IsCall};
@@ -8,33 +8,31 @@ ghost use Rattle.lset_locked_loops.specs.Coarse.{AtHead, Leaves, StopsAt};
 
 use lset_caller::{Caller, Decision, Found, Node, Origin, decide, one_more};
 use lset_coarse::CoarseList;
-use lset_rule::{OwnSlots, Pause, TableSeat, Words};
+use lset_rule::{OwnSlots, Pause, Rounds, TableSeat, Words};
 use lset_words::{Call, LOCK, Reply};
 use std::marker::{Brand, PhantomData};
-use std::sync::Wait;
 
 /// Walks from the head to the first key that is not below that of the call.
-fn walk<O: Origin, R: Wait, P: Pause>(
-    rt: &R,
+fn walk<O: Origin, P: Pause, N: Rounds>(
     caller: &Caller<CoarseList, O, P>,
     place: &mut TableSeat,
-) -> Found
+) -> Option<Found>
     requires { AtHead O.begun caller.now.slots place.old }
-    ensures { StopsAt O.begun caller.now.slots result place.new }
+    ensures { IfSome result (λ f. StopsAt O.begun caller.now.slots f place.new) }
 {
     let key = caller.key;
     let mut pred = Node::head();
     let mut curr = Node::behind(caller.load_link(place, pred)); // row 2
-    for _ in rt.forever() {
+    for _ in 0..N::MOST {
         let word = caller.load_key(place, curr); // row 3
         if word >= key {
-            return Found { pred, curr, word };
+            return Some(Found { pred, curr, word });
         }
         let link = caller.load_link(place, curr); // row 4
         pred = curr;
         curr = Node::behind(link);
     }
-    unreachable!()
+    None
 }
 
 /// Does what the call does at the key that was found.
@@ -60,17 +58,16 @@ fn act<O: Origin, P: Pause>(
     }
 }
 
-fn make<O: Origin, R: Wait, P: Pause>(
-    rt: &R,
+fn make<O: Origin, P: Pause, N: Rounds>(
     table: &Words<CoarseList>,
     place: &mut TableSeat,
     slots: OwnSlots,
     call: Call,
     pause: &P,
-) -> (OwnSlots, Reply)
+) -> Option<(OwnSlots, Reply)>
     requires begins { MayBegin coarse O.begun slots place.old }
     requires call { IsCall O.begun call table.now.table_id table.now.key }
-    ensures { HasAnswered coarse O.begun result place.new }
+    ensures { IfSome result (λ r. HasAnswered coarse O.begun r place.new) }
 {
     let caller = Caller::<'_, CoarseList, O, P> {
         table,
@@ -80,25 +77,24 @@ fn make<O: Origin, R: Wait, P: Pause>(
         key: call.key().word(),
         origin: PhantomData,
     };
-    caller.begin_locked(rt, place, LOCK); // row 1
-    let found = walk(rt, &caller, place);
+    caller.begin_locked::<N>(place, LOCK)?; // row 1
+    let found = walk::<O, P, N>(&caller, place)?;
     let answer = act(&caller, place, found);
     caller.release_last(place, LOCK); // row 10
-    answer
+    Some(answer)
 }
 
 /// Makes a whole call: it takes the lock, walks to its key, acts there, and gives the lock back. (Herlihy and Shavit's
-/// coarse-grained list.)
-pub fn coarse_on<R: Wait, P: Pause>(
-    rt: &R,
+/// coarse-grained list.) `None` where a loop of it has made `N::MOST` rounds.
+pub fn coarse_within<P: Pause, N: Rounds>(
     table: &Words<CoarseList>,
     place: &mut TableSeat,
     slots: OwnSlots,
     call: Call,
     pause: &P,
-) -> (OwnSlots, Reply)
+) -> Option<(OwnSlots, Reply)>
     requires { MayCall coarse table.now.table_id table.now.key slots place.old }
-    ensures { HasCalled coarse call place.old result place.new }
+    ensures { IfSome result (λ r. HasCalled coarse call place.old r place.new) }
 {
-    make::<Brand, R, P>(rt, table, place, slots, call, pause)
+    make::<Brand, P, N>(table, place, slots, call, pause)
 }

@@ -1,5 +1,5 @@
 //! FineList: node locks, taken hand over hand.
-ghost use Rattle.std.specs.Prelude.{◌≡◌};
+ghost use Rattle.std.specs.Prelude.{IfSome};
 ghost use Rattle.lset_fine.specs.Fine.{fine};
 ghost use Rattle.lset_rule.specs.Seats.{HasCalled, MayCall};
 ghost use Rattle.lset_caller.specs.Begun.{IsCall};
@@ -8,36 +8,34 @@ ghost use Rattle.lset_locked_loops.specs.Fine.{AtHead, Leaves, StopsAt};
 
 use lset_caller::{Caller, Decision, Found, Node, Origin, decide, one_more};
 use lset_fine::FineList;
-use lset_rule::{OwnSlots, Pause, TableSeat, Words};
+use lset_rule::{OwnSlots, Pause, Rounds, TableSeat, Words};
 use lset_steps::rows::lock_index;
 use lset_words::{Call, HEAD, Reply};
 use std::marker::{Brand, PhantomData};
-use std::sync::Wait;
 
 /// Walks hand over hand from the head, which is locked, to the first key that is not below that of the call.
-fn walk<O: Origin, R: Wait, P: Pause>(
-    rt: &R,
+fn walk<O: Origin, P: Pause, N: Rounds>(
     caller: &Caller<FineList, O, P>,
     place: &mut TableSeat,
-) -> Found
+) -> Option<Found>
     requires { AtHead O.begun caller.now.slots place.old }
-    ensures { StopsAt O.begun caller.now.slots result place.new }
+    ensures { IfSome result (λ f. StopsAt O.begun caller.now.slots f place.new) }
 {
     let key = caller.key;
     let mut pred = Node::head();
     let mut curr = Node::behind(caller.load_link(place, pred)); // row 2
-    for _ in rt.forever() {
-        caller.lock(rt, place, curr); // row 3
+    for _ in 0..N::MOST {
+        caller.lock::<N>(place, curr)?; // row 3
         let word = caller.load_key(place, curr); // row 4
         if word >= key {
-            return Found { pred, curr, word };
+            return Some(Found { pred, curr, word });
         }
         caller.unlock(place, pred); // row 5
         let link = caller.load_link(place, curr); // row 6
         pred = curr;
         curr = Node::behind(link);
     }
-    unreachable!()
+    None
 }
 
 /// Does what the call does at the key that was found, between two nodes that it has locked.
@@ -63,17 +61,16 @@ fn act<O: Origin, P: Pause>(
     }
 }
 
-fn make<O: Origin, R: Wait, P: Pause>(
-    rt: &R,
+fn make<O: Origin, P: Pause, N: Rounds>(
     table: &Words<FineList>,
     place: &mut TableSeat,
     slots: OwnSlots,
     call: Call,
     pause: &P,
-) -> (OwnSlots, Reply)
+) -> Option<(OwnSlots, Reply)>
     requires begins { MayBegin fine O.begun slots place.old }
     requires call { IsCall O.begun call table.now.table_id table.now.key }
-    ensures { HasAnswered fine O.begun result place.new }
+    ensures { IfSome result (λ r. HasAnswered fine O.begun r place.new) }
 {
     let caller = Caller::<'_, FineList, O, P> {
         table,
@@ -83,26 +80,25 @@ fn make<O: Origin, R: Wait, P: Pause>(
         key: call.key().word(),
         origin: PhantomData,
     };
-    caller.begin_locked(rt, place, lock_index(HEAD)); // row 1
-    let found = walk(rt, &caller, place);
+    caller.begin_locked::<N>(place, lock_index(HEAD))?; // row 1
+    let found = walk::<O, P, N>(&caller, place)?;
     let answer = act(&caller, place, found);
     caller.unlock(place, found.curr); // row 12
     caller.unlock_last(place, found.pred); // row 13
-    answer
+    Some(answer)
 }
 
 /// Makes a whole call: it walks to its key, locking each node before it gives up the one behind it, acts there, and gives
-/// both locks back. (Herlihy and Shavit's fine-grained list.)
-pub fn fine_on<R: Wait, P: Pause>(
-    rt: &R,
+/// both locks back. (Herlihy and Shavit's fine-grained list.) `None` where a loop of it has made `N::MOST` rounds.
+pub fn fine_within<P: Pause, N: Rounds>(
     table: &Words<FineList>,
     place: &mut TableSeat,
     slots: OwnSlots,
     call: Call,
     pause: &P,
-) -> (OwnSlots, Reply)
+) -> Option<(OwnSlots, Reply)>
     requires { MayCall fine table.now.table_id table.now.key slots place.old }
-    ensures { HasCalled fine call place.old result place.new }
+    ensures { IfSome result (λ r. HasCalled fine call place.old r place.new) }
 {
-    make::<Brand, R, P>(rt, table, place, slots, call, pause)
+    make::<Brand, P, N>(table, place, slots, call, pause)
 }

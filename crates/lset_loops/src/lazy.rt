@@ -2,7 +2,7 @@
 //! locked them.
 ghost use Rattle.lset_words.specs.declared.Call.TheVariants.{Add, Remove};
 ghost use Rattle.lset_steps.specs.ReadRows.{first_row};
-ghost use Rattle.std.specs.Prelude.{◌≡◌};
+ghost use Rattle.std.specs.Prelude.{◌≡◌, IfSome};
 ghost use Rattle.lset_lazy.specs.Lazy.{lazy};
 ghost use Rattle.lset_rule.specs.Seats.{HasCalled, MayCall};
 ghost use Rattle.lset_caller.specs.Begun.{IsCall};
@@ -11,35 +11,33 @@ ghost use Rattle.lset_loops.specs.Lazy.{AreNeighbours, AtKey, HasLocked, HasVali
 
 use lset_caller::{Caller, Decision, Found, Node, Origin, decide, one_more};
 use lset_lazy::LazyList;
-use lset_rule::{OwnSlots, Pause, TableSeat, Words};
+use lset_rule::{OwnSlots, Pause, Rounds, TableSeat, Words};
 use lset_words::{Call, Key, Reply};
 use std::marker::{Brand, PhantomData};
-use std::sync::Wait;
 
 /// Walks from the head, whose link led to `first`, to the first key that is not below that of the call.
 #[inline(always)]
-fn walk<O: Origin, R: Wait, P: Pause>(
-    rt: &R,
+fn walk<O: Origin, P: Pause, N: Rounds>(
     caller: &Caller<LazyList, O, P>,
     place: &mut TableSeat,
     first: Node,
-) -> Found
+) -> Option<Found>
     requires { AtKey O.begun caller.now.slots 0 first.number place.old }
-    ensures { StopsAt O.begun caller.now.slots result place.new }
+    ensures { IfSome result (λ f. StopsAt O.begun caller.now.slots f place.new) }
 {
     let key = caller.key;
     let mut pred = Node::head();
     let mut curr = first;
-    for _ in rt.forever() {
+    for _ in 0..N::MOST {
         let word = caller.load_key(place, curr); // row 2
         if word >= key {
-            return Found { pred, curr, word };
+            return Some(Found { pred, curr, word });
         }
         let link = caller.load_link(place, curr); // row 3
         pred = curr;
         curr = Node::behind(link);
     }
-    unreachable!()
+    None
 }
 
 /// Whether `pred` leads to `curr`, and neither has a mark: then the answer is the node behind `curr`.
@@ -86,18 +84,17 @@ fn act<O: Origin, P: Pause>(
     }
 }
 
-fn make<O: Origin, R: Wait, P: Pause>(
-    rt: &R,
+fn make<O: Origin, P: Pause, N: Rounds>(
     table: &Words<LazyList>,
     place: &mut TableSeat,
     slots: OwnSlots,
     call: Call,
     pause: &P,
-) -> (OwnSlots, Reply)
+) -> Option<(OwnSlots, Reply)>
     requires begins { MayBegin lazy O.begun slots place.old }
     requires call { IsCall O.begun call table.now.table_id table.now.key }
     requires walks { first_row O.begun.call ≡ 1 }
-    ensures { HasAnswered lazy O.begun result place.new }
+    ensures { IfSome result (λ r. HasAnswered lazy O.begun r place.new) }
 {
     let caller = Caller::<'_, LazyList, O, P> {
         table,
@@ -108,16 +105,16 @@ fn make<O: Origin, R: Wait, P: Pause>(
         origin: PhantomData,
     };
     let mut link = caller.begin_at_head(place); // row 1
-    for _ in rt.forever() {
-        let found = walk(rt, &caller, place, Node::behind(link));
-        caller.lock(rt, place, found.pred); // row 4
-        caller.lock(rt, place, found.curr); // row 5
+    for _ in 0..N::MOST {
+        let found = walk::<O, P, N>(&caller, place, Node::behind(link))?;
+        caller.lock::<N>(place, found.pred)?; // row 4
+        caller.lock::<N>(place, found.curr)?; // row 5
         match validate(&caller, place, found) {
             Some(succ) => {
                 let answer = act(&caller, place, found, succ);
                 caller.unlock(place, found.curr); // row 13
                 caller.unlock_last(place, found.pred); // row 14
-                return answer;
+                return Some(answer);
             }
             None => {
                 caller.unlock(place, found.curr); // row 13
@@ -126,37 +123,35 @@ fn make<O: Origin, R: Wait, P: Pause>(
             }
         }
     }
-    unreachable!()
+    None
 }
 
 /// Makes a whole `add` of `key` to a LazyList: it walks to its place without a lock, locks the two nodes there, looks
 /// whether they are still neighbours in the list, and acts, or gives them back and starts over. (Herlihy and Shavit's lazy
-/// list, after Heller and others.)
-pub fn lazy_add_on<R: Wait, P: Pause>(
-    rt: &R,
+/// list, after Heller and others.) `None` where a loop of it has made `N::MOST` rounds.
+pub fn lazy_add_within<P: Pause, N: Rounds>(
     table: &Words<LazyList>,
     place: &mut TableSeat,
     slots: OwnSlots,
     key: Key,
     pause: &P,
-) -> (OwnSlots, Reply)
+) -> Option<(OwnSlots, Reply)>
     requires { MayCall lazy table.now.table_id table.now.key slots place.old }
-    ensures { HasCalled lazy (Add key) place.old result place.new }
+    ensures { IfSome result (λ r. HasCalled lazy (Add key) place.old r place.new) }
 {
-    make::<Brand, R, P>(rt, table, place, slots, Call::Add(key), pause)
+    make::<Brand, P, N>(table, place, slots, Call::Add(key), pause)
 }
 
-/// Makes a whole `remove` of `key`, as [`lazy_add_on`] an `add`.
-pub fn lazy_remove_on<R: Wait, P: Pause>(
-    rt: &R,
+/// Makes a whole `remove` of `key`, as [`lazy_add_within`] an `add`.
+pub fn lazy_remove_within<P: Pause, N: Rounds>(
     table: &Words<LazyList>,
     place: &mut TableSeat,
     slots: OwnSlots,
     key: Key,
     pause: &P,
-) -> (OwnSlots, Reply)
+) -> Option<(OwnSlots, Reply)>
     requires { MayCall lazy table.now.table_id table.now.key slots place.old }
-    ensures { HasCalled lazy (Remove key) place.old result place.new }
+    ensures { IfSome result (λ r. HasCalled lazy (Remove key) place.old r place.new) }
 {
-    make::<Brand, R, P>(rt, table, place, slots, Call::Remove(key), pause)
+    make::<Brand, P, N>(table, place, slots, Call::Remove(key), pause)
 }

@@ -1,5 +1,5 @@
 //! LockFreeList: no locks. A node is marked by an exchange of its link, and walks take marked nodes out.
-ghost use Rattle.std.specs.Prelude.{◌≡◌};
+ghost use Rattle.std.specs.Prelude.{◌≡◌, IfSome};
 ghost use Rattle.lset_words.specs.declared.Call.TheVariants.{Add, Remove};
 ghost use Rattle.lset_steps.specs.ReadRows.{first_row};
 ghost use Rattle.lset_lock_free.specs.LockFree.{lock_free};
@@ -10,26 +10,24 @@ ghost use Rattle.lset_loops.specs.LockFree.{AtLink, HasTried, StopsAt};
 
 use lset_caller::{Caller, Decision, Found, Node, Origin, decide, one_more};
 use lset_lock_free::LockFreeList;
-use lset_rule::{OwnSlots, Pause, TableSeat, Words};
+use lset_rule::{OwnSlots, Pause, Rounds, TableSeat, Words};
 use lset_words::{Call, Key, Reply};
 use std::marker::{Brand, PhantomData};
-use std::sync::Wait;
 
 /// Walks from the head, whose link led to `first`, to the first key that is not below that of the call, and takes marked
 /// nodes out on its way (Herlihy and Shavit's `find`).
-fn find<O: Origin, R: Wait, P: Pause>(
-    rt: &R,
+fn find<O: Origin, P: Pause, N: Rounds>(
     caller: &Caller<LockFreeList, O, P>,
     place: &mut TableSeat,
     first: Node,
-) -> Found
+) -> Option<Found>
     requires { AtLink O.begun caller.now.slots 0 first.number place.old }
-    ensures { StopsAt O.begun caller.now.slots result place.new }
+    ensures { IfSome result (λ f. StopsAt O.begun caller.now.slots f place.new) }
 {
     let key = caller.key;
     let mut pred = Node::head();
     let mut curr = first;
-    for _ in rt.forever() {
+    for _ in 0..N::MOST {
         let link = caller.load_link(place, curr); // row 2
         let succ = Node::behind(link);
         if link % 2 != 0 {
@@ -44,13 +42,13 @@ fn find<O: Origin, R: Wait, P: Pause>(
         }
         let word = caller.look_at_key(place, curr); // row 4
         if word >= key {
-            return Found { pred, curr, word };
+            return Some(Found { pred, curr, word });
         }
         caller.goes_on();
         pred = curr;
         curr = succ;
     }
-    unreachable!()
+    None
 }
 
 /// Does what the call does at the key that was found. `None` where a link was another by then.
@@ -85,18 +83,17 @@ fn attempt<O: Origin, P: Pause>(
     }
 }
 
-fn make<O: Origin, R: Wait, P: Pause>(
-    rt: &R,
+fn make<O: Origin, P: Pause, N: Rounds>(
     table: &Words<LockFreeList>,
     place: &mut TableSeat,
     slots: OwnSlots,
     call: Call,
     pause: &P,
-) -> (OwnSlots, Reply)
+) -> Option<(OwnSlots, Reply)>
     requires begins { MayBegin lock_free O.begun slots place.old }
     requires call { IsCall O.begun call table.now.table_id table.now.key }
     requires walks { first_row O.begun.call ≡ 1 }
-    ensures { HasAnswered lock_free O.begun result place.new }
+    ensures { IfSome result (λ r. HasAnswered lock_free O.begun r place.new) }
 {
     let caller = Caller::<'_, LockFreeList, O, P> {
         table,
@@ -107,44 +104,42 @@ fn make<O: Origin, R: Wait, P: Pause>(
         origin: PhantomData,
     };
     let mut link = caller.begin_at_head(place); // row 1
-    for _ in rt.forever() {
-        let found = find(rt, &caller, place, Node::behind(link));
+    for _ in 0..N::MOST {
+        let found = find::<O, P, N>(&caller, place, Node::behind(link))?;
         match attempt(&caller, place, found) {
-            Some(answer) => return answer,
+            Some(answer) => return Some(answer),
             None => link = caller.load_link(place, Node::head()), // row 1
         }
     }
-    unreachable!()
+    None
 }
 
 /// Makes a whole `add` of `key` to a LockFreeList: it walks to its place and puts its next slot in there, or starts over
-/// where the link has changed. (Herlihy and Shavit's lock-free list.)
-pub fn lock_free_add_on<R: Wait, P: Pause>(
-    rt: &R,
+/// where the link has changed. (Herlihy and Shavit's lock-free list.) `None` where a loop of it has made `N::MOST` rounds.
+pub fn lock_free_add_within<P: Pause, N: Rounds>(
     table: &Words<LockFreeList>,
     place: &mut TableSeat,
     slots: OwnSlots,
     key: Key,
     pause: &P,
-) -> (OwnSlots, Reply)
+) -> Option<(OwnSlots, Reply)>
     requires { MayCall lock_free table.now.table_id table.now.key slots place.old }
-    ensures { HasCalled lock_free (Add key) place.old result place.new }
+    ensures { IfSome result (λ r. HasCalled lock_free (Add key) place.old r place.new) }
 {
-    make::<Brand, R, P>(rt, table, place, slots, Call::Add(key), pause)
+    make::<Brand, P, N>(table, place, slots, Call::Add(key), pause)
 }
 
 /// Makes a whole `remove` of `key`: it marks the node, or starts over where its link has changed, and tries once to take it
-/// out.
-pub fn lock_free_remove_on<R: Wait, P: Pause>(
-    rt: &R,
+/// out. `None` as that of [`lock_free_add_within`].
+pub fn lock_free_remove_within<P: Pause, N: Rounds>(
     table: &Words<LockFreeList>,
     place: &mut TableSeat,
     slots: OwnSlots,
     key: Key,
     pause: &P,
-) -> (OwnSlots, Reply)
+) -> Option<(OwnSlots, Reply)>
     requires { MayCall lock_free table.now.table_id table.now.key slots place.old }
-    ensures { HasCalled lock_free (Remove key) place.old result place.new }
+    ensures { IfSome result (λ r. HasCalled lock_free (Remove key) place.old r place.new) }
 {
-    make::<Brand, R, P>(rt, table, place, slots, Call::Remove(key), pause)
+    make::<Brand, P, N>(table, place, slots, Call::Remove(key), pause)
 }

@@ -1,7 +1,9 @@
 //! Whole calls on the shared words, made step by step as the machine's table says.
+ghost use Rattle.std.specs.Prelude.{IfSome};
 ghost use Rattle.lset_words.specs.declared.Call.TheVariants.{Contains};
 ghost use Rattle.lset_rule.specs.Seats.{HasCalled, MayCall};
 
+use crate::rounds::{Countless, Rounds, or_wait_forever};
 use crate::row_steps::{Stepped, has_failed, one_step};
 use crate::slots::OwnSlots;
 use crate::word_steps::{TableSeat, Words, start_on};
@@ -51,24 +53,24 @@ impl Pause for Spin {
     }
 }
 
-/// Makes a whole call, step by step, and waits where the list does, as at a lock.
+/// Makes a whole call, step by step, in at most `N::MOST` rounds of its loop, of two steps each. `None` where it has not
+/// answered then.
 ///
 /// `place` is the place of an idle seat of these words, and `slots` are those of its thread, as the last call left them.
 /// The answer is the slots as this call leaves them, and the reply. `pause` is asked after each step that does not answer,
 /// or after the failed ones alone, as [`Pause::EACH_STEP`] says.
 ///
-/// Nothing is said about when a call returns: if it does, it was a call of the machine, begun after all that the place had
-/// seen, and the record of the place grew by it and its reply.
-pub fn interpret<M: Machine, R: Wait, P: Pause>(
-    rt: &R,
+/// If it answers, it was a call of the machine, begun after all that the place had seen, and the record of the place grew by
+/// it and its reply. After `None` the call is still under way, with the locks that it has, and the place makes no other.
+pub fn interpret_within<M: Machine, P: Pause, N: Rounds>(
     table: &Words<M>,
     place: &mut TableSeat,
     slots: OwnSlots,
     call: Call,
     pause: &P,
-) -> (OwnSlots, Reply)
+) -> Option<(OwnSlots, Reply)>
     requires { MayCall M.table table.now.table_id table.now.key slots place.old }
-    ensures { HasCalled M.table call place.old result place.new }
+    ensures { IfSome result (λ r. HasCalled M.table call place.old r place.new) }
 {
     let begun = M::begin(call, &slots.resting());
     let action = M::next(&begun);
@@ -80,23 +82,40 @@ pub fn interpret<M: Machine, R: Wait, P: Pause>(
     // Two steps in a round: within a round the compiler leads from the code of a row straight to that of the next one, and
     // at its end to a search for the row. What is between them stands here and not in a function: after a call that may
     // wait, as one that asks a pause, it leads nowhere straight.
-    for _ in rt.forever() {
+    for _ in 0..N::MOST {
         if let Some(reply) = last.fed.answer {
-            return (OwnSlots::of(&last.fed.local), reply);
+            return Some((OwnSlots::of(&last.fed.local), reply));
         }
         if P::EACH_STEP || last.failed {
             pause.moved(last.fed.local.thread, last.failed);
         }
         let next = one_step::<M, 1>(table, place, &last.fed.local);
         if let Some(reply) = next.fed.answer {
-            return (OwnSlots::of(&next.fed.local), reply);
+            return Some((OwnSlots::of(&next.fed.local), reply));
         }
         if P::EACH_STEP || next.failed {
             pause.moved(next.fed.local.thread, next.failed);
         }
         last = one_step::<M, 2>(table, place, &next.fed.local);
     }
-    unreachable!()
+    None
+}
+
+/// The same under `Wait`: it makes as many rounds as it takes, and waits where the list does, as at a lock. Nothing is said
+/// about when it returns.
+pub fn interpret<M: Machine, R: Wait, P: Pause>(
+    rt: &R,
+    table: &Words<M>,
+    place: &mut TableSeat,
+    slots: OwnSlots,
+    call: Call,
+    pause: &P,
+) -> (OwnSlots, Reply)
+    requires { MayCall M.table table.now.table_id table.now.key slots place.old }
+    ensures { HasCalled M.table call place.old result place.new }
+{
+    let answer = interpret_within::<M, P, Countless>(table, place, slots, call, pause);
+    or_wait_forever(rt, answer)
 }
 
 /// Makes a whole `contains` of `key`, step by step, that waits for nobody and returns: for the lists whose walk meets each

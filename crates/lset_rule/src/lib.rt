@@ -7,13 +7,15 @@
 #![tactic(auto)]
 
 mod interpreter;
+mod rounds;
 mod row_steps;
 mod rule;
 mod slots;
 mod view;
 mod word_steps;
 
-pub use interpreter::{Pause, Spin, interpret, interpret_read};
+pub use interpreter::{Pause, Spin, interpret, interpret_read, interpret_within};
+pub use rounds::{Countless, Rounds, or_wait_forever};
 pub use rule::{Asking, Cutting, Follows, Learning, Onward, Starting, Taking};
 pub use slots::OwnSlots;
 pub use view::{Aside, Opened, OwnCall, Past, Under, View};

@@ -7,5 +7,5 @@ returns g c = (_, c.unlock_last.ensures _ (c.unlock.ensures _ c.act-answer.ensur
 pub unlock_last-requires : goal.unlock_last-requires
 unlock_last-requires g c = record { held = _; holds = c.unlock.ensures _ c.act-answer.ensures.1; acts = refl }
 
-pub walk-found-requires : goal.walk-found-requires
-walk-found-requires g c = (_, c.begin_locked.ensures)
+pub walk-requires : goal.walk-requires
+walk-requires g c = (_, c.in_ok-begin_locked.ensures)

@@ -4,7 +4,7 @@ use Rattle.lset_caller.proofs.Calling.{moved}
 use Rattle.lset_locked_loops.proofs.optimistic.validate.Goals as goal
 
 pub returns-then-link-found : goal.returns-then-link-found
-returns-then-link-found g c = let at8 = rw c.if-not-reaches.false at c.reaches.ensures in (
+returns-then-link-found g c = let at8 = rw c.if-not-branch.false at c.in_ok-reaches.ensures in (
   _,
   moved (c.load_link-link.ensures _ at8.1) (if_other (c.load_link-link.result / 2) c.args.stopped.found.curr.number
       c.if-link-found.true _ _),

@@ -20,14 +20,14 @@ pub lock-requires-in-loop : goal.lock-requires-in-loop
 lock-requires-in-loop g c =
     record {
       held = _;
-      holds = c.lock.ensures _ c.walk-found.ensures.1;
+      holds = c.in_ok-lock.ensures _ c.in_ok-found.ensures.1;
       acts = refl;
       again = λ n ne. ap continued (if_other n 0 ne _ _);
       goes_on = refl;
     }
 
 pub validate-requires : goal.validate-requires
-validate-requires g c = (c.walk-found.ensures.0, c.lock-in-loop.ensures _ (c.lock.ensures _ c.walk-found.ensures.1))
+validate-requires g c = (c.in_ok-found.ensures.0, c.in_ok-lock-in-loop.ensures _ (c.in_ok-lock.ensures _ c.in_ok-found.ensures.1))
 
 pub unlock_last-requires : goal.unlock_last-requires
 unlock_last-requires g c = record { held = _; holds = c.unlock.ensures _ c.act-answer.ensures.1; acts = refl }

@@ -6,10 +6,10 @@ wait_for-requires g c = still g.M.Machine.table g.O.Origin.begun c.args.word c.a
     c.exchange_on-seen.result c.exchange_on-seen.new.place c.requires c.if-seen-ne0.true c.exchange_on-seen.ensures.place
     c.exchange_on-seen.ensures.goes
 
-pub returns-then-seen-ne0 : goal.returns-then-seen-ne0
-returns-then-seen-ne0 g c = leads_still g.M.Machine.table g.O.Origin.begun c.args.word c.args.self.now.slots.thread
+pub returns-in_ok-wait_for : goal.returns-in_ok-wait_for
+returns-in_ok-wait_for g c = leads_still g.M.Machine.table g.O.Origin.begun c.args.word c.args.self.now.slots.thread
     c.args.place.now c.exchange_on-seen.result c.exchange_on-seen.new.place c.wait_for.new.place c.requires c.if-seen-ne0.true
-    c.exchange_on-seen.ensures.place c.exchange_on-seen.ensures.goes c.wait_for.ensures
+    c.exchange_on-seen.ensures.place c.exchange_on-seen.ensures.goes c.in_ok-wait_for.ensures
 
 pub returns-else-seen-ne0 : goal.returns-else-seen-ne0
 returns-else-seen-ne0 g c = leads_had g.M.Machine.table g.O.Origin.begun c.args.word c.args.self.now.slots.thread c.args.place.now

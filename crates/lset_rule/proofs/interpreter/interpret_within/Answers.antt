@@ -3,7 +3,7 @@ use Rattle.lset_words.specs.Words.{target, tail_word}
 use Rattle.lset_rule.specs.OwnSlots.{slots_of}
 use Rattle.lset_rule.proofs.Calls.{first_comes, first_reached, made}
 use Rattle.lset_rule.proofs.RowSteps.{Reached, may_step, stepped}
-use Rattle.lset_rule.proofs.interpreter.interpret.Goals as goal
+use Rattle.lset_rule.proofs.interpreter.interpret_within.Goals as goal
 
 pub next-action-requires : goal.next-action-requires
 next-action-requires g c = let low : target c.args.call < tail_word = search rules in
@@ -19,12 +19,15 @@ loop-init g c = (
 )
 
 pub returns-in-Some-answer : goal.returns-in-Some-answer
-returns-in-Some-answer g c = record {
-  place = c.loop.invariant.1;
-  slots = c.of.ensures ∙ ap slots_of (sym c.loop.invariant.0.0);
-  made = made g.M.Machine.table c.args.call c.args.place.now.me.0 c.loop.place.me.0 c.loop.last.fed c.in-Some-answer.reply
-      c.loop.invariant.0 c.in-Some-answer.is;
-}
+returns-in-Some-answer g c = let T = g.M.Machine.table in let s = c.args.place.now in
+    let next : Reached T c.args.call s c.one_step-next.result.fed c.one_step-next.new.place =
+    stepped T c.args.call s c.loop.place c.one_step-next.new.place c.loop.last.fed c.one_step-next.result.fed c.loop.invariant
+    c.in_default.is c.one_step-next.ensures in record {
+      place = next.1;
+      slots = c.of-in-Some-answer.ensures ∙ ap slots_of (sym next.0.0);
+      made = made T c.args.call s.me.0 c.one_step-next.new.place.me.0 c.one_step-next.result.fed c.in-Some-answer.reply next.0
+          c.in-Some-answer.is;
+    }
 
 pub one_step-next-requires : goal.one_step-next-requires
 one_step-next-requires g c = may_step g.M.Machine.table g.met.M.Machine.lawful c.args.call c.args.table.now.table_id

@@ -1,5 +1,5 @@
 use Rattle.lset_rule.proofs.RowSteps.{Reached}
-use Rattle.lset_rule.proofs.interpreter.interpret.Given as goal
+use Rattle.lset_rule.proofs.interpreter.interpret_within.Given as goal
 
 abbrev pub ghosts-start_on : goal.ghosts-start_on
 ghosts-start_on g a = record { call = a.call }

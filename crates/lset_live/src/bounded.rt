@@ -1,0 +1,116 @@
+//! Calls with no handle to wait by, as a function that may not wait makes them: each loop of theirs has a bound.
+ghost use Rattle.std.specs.Prelude.{IfSome};
+ghost use Rattle.lset_rule.specs.Seats.{HasCalled, MayCall};
+
+use lset_coarse::CoarseList;
+use lset_fine::FineList;
+use lset_lazy::LazyList;
+use lset_lock_free::LockFreeList;
+use lset_optimistic::OptimisticList;
+use lset_rule::{OwnSlots, Pause, Rounds, TableSeat, Words, interpret_within};
+use lset_steps::Machine;
+use lset_words::{Call, Reply};
+
+/// A machine whose calls can be bounded.
+///
+/// A list that has its rows (`Machine`) meets this trait with no body: `impl Bounded for MyList {}`, by the interpreter. The
+/// five lists have their loops here, the same that `Running` makes with as many rounds as it takes.
+pub trait Bounded: Machine {
+    /// Makes a call of any kind, in at most `N::MOST` rounds of each of its loops, or answers `None`. Its arguments, and what
+    /// it asks and owes, are those of `Running::make_on`, without the handle. After `None` the call is still under way, with
+    /// the locks that it has, and the place makes no other.
+    fn make_within<P: Pause, N: Rounds>(
+        table: &Words<Self>,
+        place: &mut TableSeat,
+        slots: OwnSlots,
+        call: Call,
+        pause: &P,
+    ) -> Option<(OwnSlots, Reply)>
+        requires { MayCall Self.table table.now.table_id table.now.key slots place.old }
+        ensures { IfSome result (λ r. HasCalled Self.table call place.old r place.new) }
+    {
+        interpret_within::<Self, P, N>(table, place, slots, call, pause)
+    }
+}
+
+impl Bounded for CoarseList {
+    fn make_within<P: Pause, N: Rounds>(
+        table: &Words<Self>,
+        place: &mut TableSeat,
+        slots: OwnSlots,
+        call: Call,
+        pause: &P,
+    ) -> Option<(OwnSlots, Reply)> {
+        lset_locked_loops::coarse_within::<P, N>(table, place, slots, call, pause)
+    }
+}
+
+impl Bounded for FineList {
+    fn make_within<P: Pause, N: Rounds>(
+        table: &Words<Self>,
+        place: &mut TableSeat,
+        slots: OwnSlots,
+        call: Call,
+        pause: &P,
+    ) -> Option<(OwnSlots, Reply)> {
+        lset_locked_loops::fine_within::<P, N>(table, place, slots, call, pause)
+    }
+}
+
+impl Bounded for OptimisticList {
+    fn make_within<P: Pause, N: Rounds>(
+        table: &Words<Self>,
+        place: &mut TableSeat,
+        slots: OwnSlots,
+        call: Call,
+        pause: &P,
+    ) -> Option<(OwnSlots, Reply)> {
+        lset_locked_loops::optimistic_within::<P, N>(table, place, slots, call, pause)
+    }
+}
+
+impl Bounded for LazyList {
+    fn make_within<P: Pause, N: Rounds>(
+        table: &Words<Self>,
+        place: &mut TableSeat,
+        slots: OwnSlots,
+        call: Call,
+        pause: &P,
+    ) -> Option<(OwnSlots, Reply)> {
+        match call {
+            Call::Add(key) => {
+                lset_loops::lazy_add_within::<P, N>(table, place, slots, key, pause)
+            }
+            Call::Remove(key) => {
+                lset_loops::lazy_remove_within::<P, N>(table, place, slots, key, pause)
+            }
+            Call::Contains(key) => Some(lset_loops::contains_on::<Self, P>(
+                table, place, slots, key, pause,
+            )),
+            Call::Ceiling(_) => interpret_within::<Self, P, N>(table, place, slots, call, pause),
+        }
+    }
+}
+
+impl Bounded for LockFreeList {
+    fn make_within<P: Pause, N: Rounds>(
+        table: &Words<Self>,
+        place: &mut TableSeat,
+        slots: OwnSlots,
+        call: Call,
+        pause: &P,
+    ) -> Option<(OwnSlots, Reply)> {
+        match call {
+            Call::Add(key) => {
+                lset_loops::lock_free_add_within::<P, N>(table, place, slots, key, pause)
+            }
+            Call::Remove(key) => {
+                lset_loops::lock_free_remove_within::<P, N>(table, place, slots, key, pause)
+            }
+            Call::Contains(key) => Some(lset_loops::contains_on::<Self, P>(
+                table, place, slots, key, pause,
+            )),
+            Call::Ceiling(_) => interpret_within::<Self, P, N>(table, place, slots, call, pause),
+        }
+    }
+}

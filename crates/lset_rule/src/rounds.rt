@@ -1,0 +1,31 @@
+//! How many rounds a loop of a call makes: at most a number, or as many as it takes.
+ghost use Rattle.std.specs.Prelude.{◌≡◌, Some};
+
+use crate::slots::OwnSlots;
+use lset_words::Reply;
+use std::sync::Wait;
+
+/// A bound on the rounds of each loop of a call. No contract rests on it: a call that has made all rounds gives up.
+pub trait Rounds {
+    /// How many rounds a loop makes at most.
+    const MOST: u64;
+}
+
+/// More rounds than any run makes: 2^64 - 1.
+pub struct Countless;
+
+impl Rounds for Countless {
+    const MOST: u64 = u64::MAX;
+}
+
+/// The answer of a call with [`Countless`] rounds. Where there is none, it waits for ever.
+#[inline(always)]
+pub fn or_wait_forever<R: Wait>(rt: &R, answer: Option<(OwnSlots, Reply)>) -> (OwnSlots, Reply)
+    ensures { answer ≡ Some result }
+{
+    if let Some(answer) = answer {
+        return answer;
+    }
+    for _ in rt.forever() {}
+    unreachable!()
+}
