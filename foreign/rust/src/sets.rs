@@ -7,6 +7,7 @@ use std::ptr::null_mut;
 use std::sync::atomic::{AtomicU64, Ordering};
 
 /// As `listset.h` has it.
+#[derive(Debug)]
 #[repr(C)]
 struct Raw {
     full: bool,
@@ -117,6 +118,7 @@ fn told(code: u8) -> Result<(), Fault> {
 /// assert_eq!(mine.close().map_err(|it| it.1)?, [7, 9]);
 /// # Ok::<(), listset::Fault>(())
 /// ```
+#[derive(Debug)]
 pub struct Seat {
     raw: Raw,
 }
