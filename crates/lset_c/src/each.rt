@@ -1,15 +1,16 @@
 //! The same of whatever a seat of C holds, list by list.
-ghost use Rattle.std.specs.Prelude.{IfSome, IfOk, MatchOption};
-ghost use Rattle.lset_c.specs.Sets.{Gathers, HasClosed, HasGivenKeys, HasKeysOf, IsOpenedAs, SameSet};
+ghost use Rattle.std.specs.Prelude.{◌≡◌, ◌≢◌, IfSome, IfOk};
+ghost use Rattle.lset_c.specs.Sets.{Gathers, HasClosed, HasGivenKeys, IsKeptOrLost, IsOpenedAs, SameSet};
 ghost use Rattle.lset_c.specs.Calls.{HasCalledHeld};
 
+use crate::codes::{DONE, NO_SEAT, OUT_OF_MEMORY, SEATS_OUT};
 use crate::held::Held;
-use crate::holding::{Unclosed, open_of};
+use crate::holding::{Ending, open_of};
 use lset_live::OpenFault;
 use lset_words::{Call, Reply};
 use std::alloc::Global;
 
-/// Opens a set of the list with this number, if there is one.
+/// Opens a set of the list with this number; `None` where there is no such list.
 pub fn open_held(
     alloc: Global,
     kind: u8,
@@ -17,17 +18,17 @@ pub fn open_held(
     quota: u32,
     number: u64,
     keys: &[u32],
-) -> Option<Result<Held, OpenFault>>
-    ensures { IfSome result (λ r. IfOk r (IsOpenedAs kind (record { threads = seats; quota = quota; keys = keys.now }) number)) }
+) -> Result<Option<Held>, OpenFault>
+    ensures { IfOk result (λ h. IfSome h (IsOpenedAs kind (record { threads = seats; quota = quota; keys = keys.now }) number)) }
 {
-    Some(match kind {
-        0 => open_of(alloc, seats, quota, number, keys).map(Held::Coarse),
-        1 => open_of(alloc, seats, quota, number, keys).map(Held::Fine),
-        2 => open_of(alloc, seats, quota, number, keys).map(Held::Optimistic),
-        3 => open_of(alloc, seats, quota, number, keys).map(Held::Lazy),
-        4 => open_of(alloc, seats, quota, number, keys).map(Held::LockFree),
-        _ => return None,
-    })
+    Ok(Some(match kind {
+        0 => Held::Coarse(open_of(alloc, seats, quota, number, keys)?),
+        1 => Held::Fine(open_of(alloc, seats, quota, number, keys)?),
+        2 => Held::Optimistic(open_of(alloc, seats, quota, number, keys)?),
+        3 => Held::Lazy(open_of(alloc, seats, quota, number, keys)?),
+        4 => Held::LockFree(open_of(alloc, seats, quota, number, keys)?),
+        _ => return Ok(None),
+    }))
 }
 
 /// What a seat of C holds makes a call.
@@ -49,14 +50,14 @@ pub fn split_held(held: &mut Held, alloc: Global) -> Option<Held>
     ensures kept { SameSet held.old held.new }
     ensures split { IfSome result (SameSet held.old) }
 {
-    match held {
-        Held::Coarse(of) => of.split(alloc).map(Held::Coarse),
-        Held::Fine(of) => of.split(alloc).map(Held::Fine),
-        Held::Optimistic(of) => of.split(alloc).map(Held::Optimistic),
-        Held::Lazy(of) => of.split(alloc).map(Held::Lazy),
-        Held::LockFree(of) => of.split(alloc).map(Held::LockFree),
-        Held::Closed(_) | Held::Lost => None,
-    }
+    Some(match held {
+        Held::Coarse(of) => Held::Coarse(of.split(alloc)?),
+        Held::Fine(of) => Held::Fine(of.split(alloc)?),
+        Held::Optimistic(of) => Held::Optimistic(of.split(alloc)?),
+        Held::Lazy(of) => Held::Lazy(of.split(alloc)?),
+        Held::LockFree(of) => Held::LockFree(of.split(alloc)?),
+        Held::Closed(_) | Held::Lost => return None,
+    })
 }
 
 /// Takes a seat of the same set in; gives it back where they are not two seats of one list and number.
@@ -66,68 +67,68 @@ pub fn gather_held(alloc: Global, into: Held, from: Held) -> (Held, Option<Held>
     ensures back { IfSome result.1 (SameSet from) }
 {
     match (into, from) {
-        (Held::Coarse(into), Held::Coarse(from)) => {
-            let (into, back) = into.gather(alloc, from);
-            (Held::Coarse(into), back.map(Held::Coarse))
-        }
-        (Held::Fine(into), Held::Fine(from)) => {
-            let (into, back) = into.gather(alloc, from);
-            (Held::Fine(into), back.map(Held::Fine))
-        }
-        (Held::Optimistic(into), Held::Optimistic(from)) => {
-            let (into, back) = into.gather(alloc, from);
-            (Held::Optimistic(into), back.map(Held::Optimistic))
-        }
-        (Held::Lazy(into), Held::Lazy(from)) => {
-            let (into, back) = into.gather(alloc, from);
-            (Held::Lazy(into), back.map(Held::Lazy))
-        }
-        (Held::LockFree(into), Held::LockFree(from)) => {
-            let (into, back) = into.gather(alloc, from);
-            (Held::LockFree(into), back.map(Held::LockFree))
-        }
+        (Held::Coarse(into), Held::Coarse(from)) => match into.gather(alloc, from) {
+            (into, Some(back)) => (Held::Coarse(into), Some(Held::Coarse(back))),
+            (into, None) => (Held::Coarse(into), None),
+        },
+        (Held::Fine(into), Held::Fine(from)) => match into.gather(alloc, from) {
+            (into, Some(back)) => (Held::Fine(into), Some(Held::Fine(back))),
+            (into, None) => (Held::Fine(into), None),
+        },
+        (Held::Optimistic(into), Held::Optimistic(from)) => match into.gather(alloc, from) {
+            (into, Some(back)) => (Held::Optimistic(into), Some(Held::Optimistic(back))),
+            (into, None) => (Held::Optimistic(into), None),
+        },
+        (Held::Lazy(into), Held::Lazy(from)) => match into.gather(alloc, from) {
+            (into, Some(back)) => (Held::Lazy(into), Some(Held::Lazy(back))),
+            (into, None) => (Held::Lazy(into), None),
+        },
+        (Held::LockFree(into), Held::LockFree(from)) => match into.gather(alloc, from) {
+            (into, Some(back)) => (Held::LockFree(into), Some(Held::LockFree(back))),
+            (into, None) => (Held::LockFree(into), None),
+        },
         (into, from) => (into, Some(from)),
     }
 }
 
-/// What a seat of C holds once its set is closed.
-fn after_close(keys: Option<Vec<u32>>) -> Held
-    ensures { HasKeysOf keys result }
-{
-    match keys {
-        Some(keys) => Held::Closed(keys),
-        None => Held::Lost,
-    }
-}
-
-/// Closes the set where this is the last of its seats, and all others were gathered into it. What it holds afterwards, and why
-/// the set is not closed, if so.
-pub fn close_held(alloc: Global, held: Held) -> (Held, Option<Unclosed>)
-    ensures { MatchOption result.1 (HasClosed held result.0) (λ _. SameSet held result.0) }
+/// Closes the set where this is the last of its seats, and all others were gathered into it: what is held afterwards, and `DONE`
+/// or why the set is not closed.
+pub fn close_held(alloc: Global, held: Held) -> (Held, u8)
+    ensures closed { result.1 ≡ 0 → HasClosed held result.0 }
+    ensures out { result.1 ≢ 0 → IsKeptOrLost held result.0 }
 {
     match held {
         Held::Coarse(of) => match of.close(alloc) {
-            Ok(keys) => (after_close(keys), None),
-            Err((of, why)) => (Held::Coarse(of), Some(why)),
+            Ending::Closed(keys) => (Held::Closed(keys), DONE),
+            Ending::Out(of) => (Held::Coarse(of), SEATS_OUT),
+            Ending::Refused(of) => (Held::Coarse(of), OUT_OF_MEMORY),
+            Ending::Lost => (Held::Lost, OUT_OF_MEMORY),
         },
         Held::Fine(of) => match of.close(alloc) {
-            Ok(keys) => (after_close(keys), None),
-            Err((of, why)) => (Held::Fine(of), Some(why)),
+            Ending::Closed(keys) => (Held::Closed(keys), DONE),
+            Ending::Out(of) => (Held::Fine(of), SEATS_OUT),
+            Ending::Refused(of) => (Held::Fine(of), OUT_OF_MEMORY),
+            Ending::Lost => (Held::Lost, OUT_OF_MEMORY),
         },
         Held::Optimistic(of) => match of.close(alloc) {
-            Ok(keys) => (after_close(keys), None),
-            Err((of, why)) => (Held::Optimistic(of), Some(why)),
+            Ending::Closed(keys) => (Held::Closed(keys), DONE),
+            Ending::Out(of) => (Held::Optimistic(of), SEATS_OUT),
+            Ending::Refused(of) => (Held::Optimistic(of), OUT_OF_MEMORY),
+            Ending::Lost => (Held::Lost, OUT_OF_MEMORY),
         },
         Held::Lazy(of) => match of.close(alloc) {
-            Ok(keys) => (after_close(keys), None),
-            Err((of, why)) => (Held::Lazy(of), Some(why)),
+            Ending::Closed(keys) => (Held::Closed(keys), DONE),
+            Ending::Out(of) => (Held::Lazy(of), SEATS_OUT),
+            Ending::Refused(of) => (Held::Lazy(of), OUT_OF_MEMORY),
+            Ending::Lost => (Held::Lost, OUT_OF_MEMORY),
         },
         Held::LockFree(of) => match of.close(alloc) {
-            Ok(keys) => (after_close(keys), None),
-            Err((of, why)) => (Held::LockFree(of), Some(why)),
+            Ending::Closed(keys) => (Held::Closed(keys), DONE),
+            Ending::Out(of) => (Held::LockFree(of), SEATS_OUT),
+            Ending::Refused(of) => (Held::LockFree(of), OUT_OF_MEMORY),
+            Ending::Lost => (Held::Lost, OUT_OF_MEMORY),
         },
-        Held::Closed(keys) => (Held::Closed(keys), Some(Unclosed::IsClosed)),
-        Held::Lost => (Held::Lost, Some(Unclosed::IsClosed)),
+        other => (other, NO_SEAT),
     }
 }
 

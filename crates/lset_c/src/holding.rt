@@ -49,14 +49,16 @@ fn gathered<M: Bounded>(set: &LiveSet<M>, seat: Seat<M>, spare: Vec<Seat<M>>) ->
     into
 }
 
-/// Why a set is not closed.
-pub enum Unclosed {
+/// What comes of closing a set.
+pub enum Ending<M: Bounded> {
+    /// The keys that are left.
+    Closed(Vec<u32>),
     /// Not all seats are gathered.
-    SeatsOut,
-    /// It is closed.
-    IsClosed,
-    /// There is no memory for the keys.
-    Memory,
+    Out(Of<M>),
+    /// There is no room for the keys.
+    Refused(Of<M>),
+    /// There was room, and yet memory was refused as the keys were read.
+    Lost,
 }
 
 impl<M: Bounded> Of<M> {
@@ -151,11 +153,10 @@ impl<M: Bounded> Of<M> {
         (kept, None)
     }
 
-    /// Closes the set where this is the last of its seats, and all others were gathered into it, and gives its keys; `None`
-    /// where memory was refused as they were read.
-    pub fn close(self, alloc: Global) -> Result<Option<Vec<u32>>, (Of<M>, Unclosed)>
-        ensures closed { IfOk result (λ r. IfSome r (λ keys. (past : Record) × Explains (arc_value self.set).shape (past ∷ []) keys.items)) }
-        ensures out { IfErr result (λ b. (arc_value b.0.set ≡ arc_value self.set) × (b.0.number ≡ self.number)) }
+    /// Closes the set where this is the last of its seats, and all others were gathered into it, and gives its keys. Room for
+    /// them is made first.
+    pub fn close(self, alloc: Global) -> Ending<M>
+        ensures { HasEnded (arc_value self.set) self.number result }
     {
         let Of {
             set,
@@ -164,36 +165,28 @@ impl<M: Bounded> Of<M> {
             spare,
         } = self;
         let Some(seat) = seat else {
-            let out = Of {
+            return Ending::Out(Of {
                 set,
                 number,
                 seat: None,
                 spare,
-            };
-            return Err((out, Unclosed::SeatsOut));
+            });
         };
         let seat = gathered(&set, seat, spare);
         let spare = Vec::new(alloc);
-        if seat.held() != set.seats() {
-            let out = Of {
+        let is_last = seat.held() == set.seats();
+        match Arc::try_unwrap(set) {
+            Ok(set) if is_last => match set.keys_left(seat) {
+                Ok(keys) => Ending::Closed(keys),
+                Err(_) => Ending::Lost,
+            },
+            Ok(set) => todo,
+            Err(set) => Ending::Out(Of {
                 set,
                 number,
                 seat: Some(seat),
                 spare,
-            };
-            return Err((out, Unclosed::SeatsOut));
-        }
-        match Arc::try_unwrap(set) {
-            Ok(set) => Ok(set.keys_left(seat).ok()),
-            Err(set) => {
-                let out = Of {
-                    set,
-                    number,
-                    seat: Some(seat),
-                    spare,
-                };
-                Err((out, Unclosed::SeatsOut))
-            }
+            }),
         }
     }
 }
