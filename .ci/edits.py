@@ -2,10 +2,11 @@
 
 An edit is a file with a line 'file: PATH' of a crate and pairs of lines 'old: TEXT' and 'new: TEXT', as rt reads it. A proof knows
 of what its function calls the contract alone, so the goals of a function hang on its own edit; and so edits of functions of which
-none leads to another are tried in one check, of these functions alone.
+none leads to another are tried in one check, from nothing, of these functions alone.
 """
 
 import collections
+import concurrent.futures
 import os
 import pathlib
 import re
@@ -13,8 +14,13 @@ import re
 TOP = pathlib.Path(__file__).resolve().parent.parent
 CRATES, MUST_FAIL, PLANTED = TOP / "crates", TOP / "must-fail", TOP / "planted"
 PARTS = ["src", "specs", "proofs"]
+ALONE = ["--jobs", "1"]
+REFUSED, WRITTEN = "refused, as it must be", "only because a proof file names"
+SHORT = 160  # letters of the goal that refuses an edit
 EDIT_NAME = r"[A-Za-z0-9_-][A-Za-z0-9_.-]*\.edit"
 
+# A check to make: a crate, and pairs of an edit and the function that it changes, or one edit and None.
+Task = collections.namedtuple("Task", "crate group")
 Function = collections.namedtuple("Function", "path top first last name text")
 
 
@@ -43,19 +49,6 @@ def apply(edit, folder, texts):
         elif line.strip():
             return f"a line is none of an edit, whose texts are one line each: {line.strip()}"
     return None if pairs else "it has no 'old:' and 'new:' pair"
-
-
-def needed(wanted):
-    """These crates and the repository's libraries below them, lowest first, each with the command of rt that proves it."""
-    rows = [row.partition("#")[0] for row in (TOP / "crates.txt").read_text().splitlines()]
-    rows = [row.partition(":") for row in rows if row.strip()]
-    uses = {head.split()[0]: rest.split() for head, _, rest in rows}
-    static = {head.split()[0] for head, _, _ in rows if "staticlib" in head.split()}
-    found = set(wanted)
-    for crate in reversed(uses):
-        if crate in found:
-            found.update(name for name in uses[crate] if name in uses)
-    return [(crate, "check" if crate in static else "lib") for crate in uses if crate in found]
 
 
 def top_of(lines, first, depth):
@@ -147,16 +140,49 @@ def words_of(changed, all_functions):
     return words if all(words) else []
 
 
-def try_together(rt, crate, group, kept):
+def try_together(rt, crate, group):
     """Of edits that are tried together, those that are refused by a goal of their own function, each with that goal."""
     texts, folder = {}, pathlib.Path(crate.folder)
     if any(apply(edit, folder, texts) for edit, _ in group):
         return {}
     only = [flag for word in words_of([it for _, it in group], functions(folder)) for flag in ("--only", word)]
-    ran = rt.checked(crate, texts, ["--jobs", "1", *only], kept)
+    ran = rt.checked(crate, texts, [*ALONE, *only], None)
     lines = ran.stdout.rstrip("\n").split("\n")
     is_told = lines[-1].startswith(("logic=not-proved", "only="))
     if ran.returncode != 1 or not is_told or any(rt.unread(it, texts) for it in lines):
         return {}
     goals = {edit: next((line for line in lines if is_goal_of(line, function)), None) for edit, function in group}
     return {edit: goal for edit, goal in goals.items() if goal}
+
+
+def tasks_of(crate, edits):
+    """The checks of a crate's edits."""
+    together = groups(edits, pathlib.Path(crate.folder))
+    grouped = {edit for group in together for edit, _ in group}
+    return [Task(crate, it) for it in together] + [Task(crate, [(it, None)]) for it in edits if it not in grouped]
+
+
+def tried(rt, task):
+    """Makes a check, and others of what it leaves; gives of each edit whether a clause refused it, and what is said."""
+    crate, group, goals = task.crate, task.group, {}
+    for some in [group, *([it] for it in group)] if len(group) > 1 else [group]:
+        if some[0][1] and any(edit not in goals for edit, _ in some):
+            goals |= try_together(rt, crate, some)
+    found = {edit: (True, f"{REFUSED}: {goal[:SHORT]}") for edit, goal in goals.items()}
+    for edit, _ in group:
+        if edit not in found:
+            kind, text = rt.must_fail(crate, str(edit), ALONE)
+            found[edit] = kind == rt.REFUSED and WRITTEN not in text, text.partition(".edit: ")[2]
+    return found
+
+
+def run_all(rt, tasks, work, jobs):
+    """Runs these tasks side by side, the largest crates first; gives what each came to."""
+    room = 0.85 * rt.free() // max((rt.need(it.crate) for it in tasks), default=1)
+    with concurrent.futures.ThreadPoolExecutor(int(max(min(jobs, room), 1))) as pool:
+        started = [pool.submit(work, rt, it) for it in sorted(tasks, key=lambda it: -it.crate.count(b"\n"))]
+        try:
+            for it in concurrent.futures.as_completed(started):
+                yield from it.result().items()
+        finally:
+            pool.shutdown(wait=False, cancel_futures=True)
