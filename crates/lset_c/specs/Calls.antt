@@ -1,5 +1,5 @@
 -- What a function of C has done with what its seats held, by its answer.
-use Rattle.std.specs.Prelude.{◌≡◌, ◌≢◌, ◌⊎◌, ◌-◌, ◌^◌, ℕ, List, Bool, true, false, Option, Some, None}
+use Rattle.std.specs.Prelude.{◌≡◌, ◌≢◌, ◌⊎◌, ℕ, List, Bool, true, false, Option, Some, None}
 use Rattle.lset_words.specs.declared.Call.{Call}
 use Rattle.lset_words.specs.declared.Reply.{Reply}
 use Rattle.lset_words.specs.declared.Reply.TheVariants as reply
@@ -7,7 +7,7 @@ use Rattle.lset_steps.specs.Steps.{Table}
 use Rattle.lset_live.specs.Seats.{SetValue, SeatValue}
 use Rattle.lset_live.specs.Explained.{HasAnswered}
 use Rattle.lset_c.specs.declared.held.Held.{Held}
-use Rattle.lset_c.specs.Sets.{table_in, set_in, seat_in, SameSet, HasClosed, HasGivenKeys}
+use Rattle.lset_c.specs.Sets.{table_in, set_in, seat_in, keys_in, SameSet, HasClosed, AreGiven, IsKeptOrLost}
 
 -- The call c was made from the seat and answered; or there is none, or the call did not end, and now there is none.
 abbrev pub HasCalledOf : Table → SetValue → Option SeatValue → Call → Option Reply → Option SeatValue → Type 0
@@ -86,16 +86,16 @@ abbrev pub HasGathered : Bool → Held → Bool → Held → ℕ → Bool → He
 HasGathered into h from g n into' h' from' g' = KeepsSeat into h into' h'
     × (((n ≡ 0) × (into ≡ true) × (from ≡ true) × (from' ≡ false)) ⊎ ((n ≢ 0) × KeepsSeat from g from' g'))
 
--- A full seat stays full: of a closed set where the answer is 0, and else of the same set.
+-- A full seat stays full: of a closed set where the answer is 0, and else of the same set; or it holds nothing any more.
 abbrev pub EndsSet : Bool → Held → ℕ → Bool → Held → Type 0
-EndsSet true h n true h' = ((n ≡ 0) × HasClosed h h') ⊎ ((n ≢ 0) × SameSet h h')
+EndsSet true h n true h' = (n ≡ 0 → HasClosed h h') × (n ≢ 0 → IsKeptOrLost h h')
 EndsSet true h n false h' = ⊥
 EndsSet false h n true h' = ⊥
 EndsSet false h n false h' = n ≡ 255
 
 -- The keys of a closed set, which holds them still; and else the answer is 2^64 - 1, and nothing is written.
 abbrev pub GivesKeys : Bool → Held → List ℕ → List ℕ → ℕ → Bool → Held → Type 0
-GivesKeys true h old new n true h' = HasGivenKeys h old new n × (h' ≡ h)
+GivesKeys true h old new n true h' = AreGiven (keys_in h) old new n × (h' ≡ h)
 GivesKeys true h old new n false h' = ⊥
 GivesKeys false h old new n true h' = ⊥
-GivesKeys false h old new n false h' = (n ≡ 2 ^ 64 - 1) × (new ≡ old)
+GivesKeys false h old new n false h' = (n ≡ 18446744073709551615) × (new ≡ old)

@@ -1,5 +1,5 @@
 -- What a seat of C holds: its list, its set, the set's number, its seat; and what is done with it.
-use Rattle.std.specs.Prelude.{Bool, true, false, ◌≡◌, ◌≤◌, ◌<◌, ◌⊎◌, ◌-◌, ◌^◌, ◌++◌, ℕ, suc, List, [], ◌∷◌, Option, Some, None, length, drop}
+use Rattle.std.specs.Prelude.{Bool, true, false, ◌≡◌, ◌≤◌, ◌<◌, ◌⊎◌, ◌++◌, ℕ, suc, List, [], ◌∷◌, Option, Some, None, length, drop}
 use Rattle.std.specs.Arc.{arc_value}
 use Rattle.lset_words.specs.Words.{Opening}
 use Rattle.lset_words.specs.Records.{Record}
@@ -105,15 +105,22 @@ pub record HasClosed (h h' : Held) : Type 0 where
   pub table : table_in h' ≡ None
   pub left : AreLeft (set_in h) (keys_in h')
 
--- The keys are held, or it is closed without.
-abbrev pub HasKeysOf : Option (List ℕ) → Held → Type 0
-HasKeysOf keys h = (table_in h ≡ None) × (keys_in h ≡ keys)
+-- It is of the same set, or holds nothing.
+abbrev pub IsKeptOrLost : Held → Held → Type 0
+IsKeptOrLost h Lost = Unit {0}
+IsKeptOrLost h (Coarse o) = SameSet h (Coarse o)
+IsKeptOrLost h (Fine o) = SameSet h (Fine o)
+IsKeptOrLost h (Optimistic o) = SameSet h (Optimistic o)
+IsKeptOrLost h (Lazy o) = SameSet h (Lazy o)
+IsKeptOrLost h (LockFree o) = SameSet h (LockFree o)
+IsKeptOrLost h (Closed keys) = SameSet h (Closed keys)
 
 -- The keys stand at the front of the room, where it is long enough, and the rest of it is as it was; else nothing was written.
-abbrev pub AreGiven : Option (List ℕ) → List ℕ → List ℕ → ℕ → Type 0
-AreGiven (Some keys) old new n = (n ≡ length keys)
-    × (((n ≤ length old) × (new ≡ keys ++ drop (length keys) old)) ⊎ ((length old < n) × (new ≡ old)))
-AreGiven None old new n = (n ≡ 2 ^ 64 - 1) × (new ≡ old)
+abbrev pub AreAtFront : List ℕ → List ℕ → List ℕ → Type 0
+AreAtFront keys old new =
+    ((length keys ≤ length old) × (new ≡ keys ++ drop (length keys) old)) ⊎ ((length old < length keys) × (new ≡ old))
 
-abbrev pub HasGivenKeys : Held → List ℕ → List ℕ → ℕ → Type 0
-HasGivenKeys h old new n = AreGiven (keys_in h) old new n
+-- The same of the keys of a closed set, and how many they are; where it is none, 2^64 - 1, and nothing was written.
+abbrev pub AreGiven : Option (List ℕ) → List ℕ → List ℕ → ℕ → Type 0
+AreGiven (Some keys) old new n = (n ≡ length keys) × AreAtFront keys old new
+AreGiven None old new n = (n ≡ 18446744073709551615) × (new ≡ old)

@@ -1,11 +1,11 @@
 //! The same of whatever a seat of C holds, list by list.
-ghost use Rattle.std.specs.Prelude.{◌≡◌, ◌≢◌, IfSome, IfOk};
-ghost use Rattle.lset_c.specs.Sets.{Gathers, HasClosed, HasGivenKeys, IsKeptOrLost, IsOpenedAs, SameSet};
+ghost use Rattle.std.specs.Prelude.{◌≡◌, ◌≢◌, IfSome, IfOk, length};
+ghost use Rattle.lset_c.specs.Sets.{AreAtFront, AreGiven, Gathers, HasClosed, IsKeptOrLost, IsOpenedAs, SameSet, keys_in};
 ghost use Rattle.lset_c.specs.Calls.{HasCalledHeld};
 
 use crate::codes::{DONE, NO_SEAT, OUT_OF_MEMORY, SEATS_OUT};
 use crate::held::Held;
-use crate::holding::{Ending, open_of};
+use crate::holding::open_of;
 use lset_live::OpenFault;
 use lset_words::{Call, Reply};
 use std::alloc::Global;
@@ -99,50 +99,53 @@ pub fn close_held(alloc: Global, held: Held) -> (Held, u8)
 {
     match held {
         Held::Coarse(of) => match of.close(alloc) {
-            Ending::Closed(keys) => (Held::Closed(keys), DONE),
-            Ending::Out(of) => (Held::Coarse(of), SEATS_OUT),
-            Ending::Refused(of) => (Held::Coarse(of), OUT_OF_MEMORY),
-            Ending::Lost => (Held::Lost, OUT_OF_MEMORY),
+            Ok(keys) => (Held::Closed(keys), DONE),
+            Err(Some(of)) => (Held::Coarse(of), SEATS_OUT),
+            Err(None) => (Held::Lost, OUT_OF_MEMORY),
         },
         Held::Fine(of) => match of.close(alloc) {
-            Ending::Closed(keys) => (Held::Closed(keys), DONE),
-            Ending::Out(of) => (Held::Fine(of), SEATS_OUT),
-            Ending::Refused(of) => (Held::Fine(of), OUT_OF_MEMORY),
-            Ending::Lost => (Held::Lost, OUT_OF_MEMORY),
+            Ok(keys) => (Held::Closed(keys), DONE),
+            Err(Some(of)) => (Held::Fine(of), SEATS_OUT),
+            Err(None) => (Held::Lost, OUT_OF_MEMORY),
         },
         Held::Optimistic(of) => match of.close(alloc) {
-            Ending::Closed(keys) => (Held::Closed(keys), DONE),
-            Ending::Out(of) => (Held::Optimistic(of), SEATS_OUT),
-            Ending::Refused(of) => (Held::Optimistic(of), OUT_OF_MEMORY),
-            Ending::Lost => (Held::Lost, OUT_OF_MEMORY),
+            Ok(keys) => (Held::Closed(keys), DONE),
+            Err(Some(of)) => (Held::Optimistic(of), SEATS_OUT),
+            Err(None) => (Held::Lost, OUT_OF_MEMORY),
         },
         Held::Lazy(of) => match of.close(alloc) {
-            Ending::Closed(keys) => (Held::Closed(keys), DONE),
-            Ending::Out(of) => (Held::Lazy(of), SEATS_OUT),
-            Ending::Refused(of) => (Held::Lazy(of), OUT_OF_MEMORY),
-            Ending::Lost => (Held::Lost, OUT_OF_MEMORY),
+            Ok(keys) => (Held::Closed(keys), DONE),
+            Err(Some(of)) => (Held::Lazy(of), SEATS_OUT),
+            Err(None) => (Held::Lost, OUT_OF_MEMORY),
         },
         Held::LockFree(of) => match of.close(alloc) {
-            Ending::Closed(keys) => (Held::Closed(keys), DONE),
-            Ending::Out(of) => (Held::LockFree(of), SEATS_OUT),
-            Ending::Refused(of) => (Held::LockFree(of), OUT_OF_MEMORY),
-            Ending::Lost => (Held::Lost, OUT_OF_MEMORY),
+            Ok(keys) => (Held::Closed(keys), DONE),
+            Err(Some(of)) => (Held::LockFree(of), SEATS_OUT),
+            Err(None) => (Held::Lost, OUT_OF_MEMORY),
         },
         other => (other, NO_SEAT),
     }
 }
 
-/// The keys of a closed set, at the front of the room where it is long enough; gives how many they are, or `usize::MAX` where it
-/// is no closed set.
-pub fn keys_held(held: &Held, room: &mut [u32]) -> usize
-    ensures { HasGivenKeys held.now room.old room.new result }
+/// Puts the keys at the front of the room where it is long enough, and gives how many they are.
+fn put_keys(keys: &[u32], room: &mut [u32]) -> usize
+    ensures count { result ≡ length keys.now }
+    ensures given { AreAtFront keys.now room.old room.new }
 {
-    let Held::Closed(keys) = held else {
-        return usize::MAX;
-    };
     let count = keys.len();
     if count <= room.len() {
         room[..count].copy_from_slice(keys);
     }
     count
+}
+
+/// The keys of a closed set, at the front of the room where it is long enough; gives how many they are, or `usize::MAX` where it
+/// is no closed set.
+pub fn keys_held(held: &Held, room: &mut [u32]) -> usize
+    ensures { AreGiven (keys_in held.now) room.old room.new result }
+{
+    match held {
+        Held::Closed(keys) => put_keys(keys, room),
+        _ => usize::MAX,
+    }
 }

@@ -1,8 +1,8 @@
 //! What is done with a seat of a set.
 ghost use Rattle.std.specs.Prelude.{◌≡◌, [], ◌∷◌, IfSome, IfOk, IfErr, All};
+ghost use Rattle.std.specs.Arc.{arc_value};
 ghost use Rattle.lset_words.specs.Records.{Record};
 ghost use Rattle.lset_live.specs.Explained.{Explains};
-ghost use Rattle.std.specs.Arc.{arc_value};
 ghost use Rattle.lset_c.specs.Calls.{HasCalledOf};
 
 use crate::held::Of;
@@ -47,18 +47,6 @@ fn gathered<M: Bounded>(set: &LiveSet<M>, seat: Seat<M>, spare: Vec<Seat<M>>) ->
         set.gather(&mut into, other);
     }
     into
-}
-
-/// What comes of closing a set.
-pub enum Ending<M: Bounded> {
-    /// The keys that are left.
-    Closed(Vec<u32>),
-    /// Not all seats are gathered.
-    Out(Of<M>),
-    /// There is no room for the keys.
-    Refused(Of<M>),
-    /// There was room, and yet memory was refused as the keys were read.
-    Lost,
 }
 
 impl<M: Bounded> Of<M> {
@@ -153,10 +141,11 @@ impl<M: Bounded> Of<M> {
         (kept, None)
     }
 
-    /// Closes the set where this is the last of its seats, and all others were gathered into it, and gives its keys. Room for
-    /// them is made first.
-    pub fn close(self, alloc: Global) -> Ending<M>
-        ensures { HasEnded (arc_value self.set) self.number result }
+    /// Closes the set where this is the last of its seats, and all others were gathered into it, and gives its keys. Else the
+    /// seat comes back; it does not where memory was refused as the keys were read.
+    pub fn close(self, alloc: Global) -> Result<Vec<u32>, Option<Of<M>>>
+        ensures closed { IfOk result (λ keys. (past : Record) × Explains (arc_value self.set).shape (past ∷ []) keys.items) }
+        ensures out { IfErr result (λ b. IfSome b (λ o. (arc_value o.set ≡ arc_value self.set) × (o.number ≡ self.number))) }
     {
         let Of {
             set,
@@ -165,28 +154,34 @@ impl<M: Bounded> Of<M> {
             spare,
         } = self;
         let Some(seat) = seat else {
-            return Ending::Out(Of {
+            return Err(Some(Of {
                 set,
                 number,
                 seat: None,
                 spare,
-            });
+            }));
         };
         let seat = gathered(&set, seat, spare);
         let spare = Vec::new(alloc);
-        let is_last = seat.held() == set.seats();
-        match Arc::try_unwrap(set) {
-            Ok(set) if is_last => match set.keys_left(seat) {
-                Ok(keys) => Ending::Closed(keys),
-                Err(_) => Ending::Lost,
-            },
-            Ok(set) => todo,
-            Err(set) => Ending::Out(Of {
+        if seat.held() != set.seats() {
+            return Err(Some(Of {
                 set,
                 number,
                 seat: Some(seat),
                 spare,
-            }),
+            }));
+        }
+        match Arc::try_unwrap(set) {
+            Ok(set) => match set.keys_left(seat) {
+                Ok(keys) => Ok(keys),
+                Err(_) => Err(None),
+            },
+            Err(set) => Err(Some(Of {
+                set,
+                number,
+                seat: Some(seat),
+                spare,
+            })),
         }
     }
 }
