@@ -4,31 +4,30 @@
 
 const CODE = {
   "crates/lset_locked_loops/src/coarse.rt": [
-    { name: "walk", first: 16, steps: [{"line": 27, "rows": [2]}, {"line": 29, "rows": [3]}, {"line": 33, "rows": [4]}], calls: [], text: `
+    { name: "walk", first: 15, steps: [{"line": 25, "rows": [2]}, {"line": 27, "rows": [3]}, {"line": 31, "rows": [4]}], calls: [], text: `
 /// Walks from the head to the first key that is not below that of the call.
-fn walk<O: Origin, R: Wait, P: Pause>(
-    rt: &R,
+fn walk<O: Origin, P: Pause, N: Rounds>(
     caller: &Caller<CoarseList, O, P>,
     place: &mut TableSeat,
-) -> Found
+) -> Option<Found>
     requires { AtHead O.begun caller.now.slots place.old }
-    ensures { StopsAt O.begun caller.now.slots result place.new }
+    ensures { IfSome result (λ f. StopsAt O.begun caller.now.slots f place.new) }
 {
     let key = caller.key;
     let mut pred = Node::head();
     let mut curr = Node::behind(caller.load_link(place, pred)); // row 2
-    for _ in rt.forever() {
+    for _ in 0..N::MOST {
         let word = caller.load_key(place, curr); // row 3
         if word >= key {
-            return Found { pred, curr, word };
+            return Some(Found { pred, curr, word });
         }
         let link = caller.load_link(place, curr); // row 4
         pred = curr;
         curr = Node::behind(link);
     }
-    unreachable!()
+    None
 }` },
-    { name: "act", first: 40, steps: [{"line": 51, "rows": [5, 6, 7]}, {"line": 55, "rows": [8]}, {"line": 56, "rows": [9]}], calls: [], text: `
+    { name: "act", first: 38, steps: [{"line": 49, "rows": [5, 6, 7]}, {"line": 53, "rows": [8]}, {"line": 54, "rows": [9]}], calls: [], text: `
 /// Does what the call does at the key that was found.
 fn act<O: Origin, P: Pause>(
     caller: &Caller<CoarseList, O, P>,
@@ -51,18 +50,17 @@ fn act<O: Origin, P: Pause>(
         Decision::Answer(reply) => (caller.slots, reply),
     }
 }` },
-    { name: "make", first: 63, steps: [{"line": 83, "rows": [1]}, {"line": 86, "rows": [10]}], calls: [[84, "walk"], [85, "act"]], text: `
-fn make<O: Origin, R: Wait, P: Pause>(
-    rt: &R,
+    { name: "make", first: 61, steps: [{"line": 80, "rows": [1]}, {"line": 83, "rows": [10]}], calls: [[81, "walk"], [82, "act"]], text: `
+fn make<O: Origin, P: Pause, N: Rounds>(
     table: &Words<CoarseList>,
     place: &mut TableSeat,
     slots: OwnSlots,
     call: Call,
     pause: &P,
-) -> (OwnSlots, Reply)
+) -> Option<(OwnSlots, Reply)>
     requires begins { MayBegin coarse O.begun slots place.old }
     requires call { IsCall O.begun call table.now.table_id table.now.key }
-    ensures { HasAnswered coarse O.begun result place.new }
+    ensures { IfSome result (λ r. HasAnswered coarse O.begun r place.new) }
 {
     let caller = Caller::<'_, CoarseList, O, P> {
         table,
@@ -72,41 +70,40 @@ fn make<O: Origin, R: Wait, P: Pause>(
         key: call.key().word(),
         origin: PhantomData,
     };
-    caller.begin_locked(rt, place, LOCK); // row 1
-    let found = walk(rt, &caller, place);
+    caller.begin_locked::<N>(place, LOCK)?; // row 1
+    let found = walk::<O, P, N>(&caller, place)?;
     let answer = act(&caller, place, found);
     caller.release_last(place, LOCK); // row 10
-    answer
+    Some(answer)
 }` },
   ],
   "crates/lset_locked_loops/src/fine.rt": [
-    { name: "walk", first: 17, steps: [{"line": 28, "rows": [2]}, {"line": 30, "rows": [3]}, {"line": 31, "rows": [4]}, {"line": 35, "rows": [5]}, {"line": 36, "rows": [6]}], calls: [], text: `
+    { name: "walk", first: 16, steps: [{"line": 26, "rows": [2]}, {"line": 28, "rows": [3]}, {"line": 29, "rows": [4]}, {"line": 33, "rows": [5]}, {"line": 34, "rows": [6]}], calls: [], text: `
 /// Walks hand over hand from the head, which is locked, to the first key that is not below that of the call.
-fn walk<O: Origin, R: Wait, P: Pause>(
-    rt: &R,
+fn walk<O: Origin, P: Pause, N: Rounds>(
     caller: &Caller<FineList, O, P>,
     place: &mut TableSeat,
-) -> Found
+) -> Option<Found>
     requires { AtHead O.begun caller.now.slots place.old }
-    ensures { StopsAt O.begun caller.now.slots result place.new }
+    ensures { IfSome result (λ f. StopsAt O.begun caller.now.slots f place.new) }
 {
     let key = caller.key;
     let mut pred = Node::head();
     let mut curr = Node::behind(caller.load_link(place, pred)); // row 2
-    for _ in rt.forever() {
-        caller.lock(rt, place, curr); // row 3
+    for _ in 0..N::MOST {
+        caller.lock::<N>(place, curr)?; // row 3
         let word = caller.load_key(place, curr); // row 4
         if word >= key {
-            return Found { pred, curr, word };
+            return Some(Found { pred, curr, word });
         }
         caller.unlock(place, pred); // row 5
         let link = caller.load_link(place, curr); // row 6
         pred = curr;
         curr = Node::behind(link);
     }
-    unreachable!()
+    None
 }` },
-    { name: "act", first: 43, steps: [{"line": 54, "rows": [7, 8, 9]}, {"line": 58, "rows": [10]}, {"line": 59, "rows": [11]}], calls: [], text: `
+    { name: "act", first: 41, steps: [{"line": 52, "rows": [7, 8, 9]}, {"line": 56, "rows": [10]}, {"line": 57, "rows": [11]}], calls: [], text: `
 /// Does what the call does at the key that was found, between two nodes that it has locked.
 fn act<O: Origin, P: Pause>(
     caller: &Caller<FineList, O, P>,
@@ -129,18 +126,17 @@ fn act<O: Origin, P: Pause>(
         Decision::Answer(reply) => (caller.slots, reply),
     }
 }` },
-    { name: "make", first: 66, steps: [{"line": 86, "rows": [1]}, {"line": 89, "rows": [12]}, {"line": 90, "rows": [13]}], calls: [[87, "walk"], [88, "act"]], text: `
-fn make<O: Origin, R: Wait, P: Pause>(
-    rt: &R,
+    { name: "make", first: 64, steps: [{"line": 83, "rows": [1]}, {"line": 86, "rows": [12]}, {"line": 87, "rows": [13]}], calls: [[84, "walk"], [85, "act"]], text: `
+fn make<O: Origin, P: Pause, N: Rounds>(
     table: &Words<FineList>,
     place: &mut TableSeat,
     slots: OwnSlots,
     call: Call,
     pause: &P,
-) -> (OwnSlots, Reply)
+) -> Option<(OwnSlots, Reply)>
     requires begins { MayBegin fine O.begun slots place.old }
     requires call { IsCall O.begun call table.now.table_id table.now.key }
-    ensures { HasAnswered fine O.begun result place.new }
+    ensures { IfSome result (λ r. HasAnswered fine O.begun r place.new) }
 {
     let caller = Caller::<'_, FineList, O, P> {
         table,
@@ -150,98 +146,95 @@ fn make<O: Origin, R: Wait, P: Pause>(
         key: call.key().word(),
         origin: PhantomData,
     };
-    caller.begin_locked(rt, place, lock_index(HEAD)); // row 1
-    let found = walk(rt, &caller, place);
+    caller.begin_locked::<N>(place, lock_index(HEAD))?; // row 1
+    let found = walk::<O, P, N>(&caller, place)?;
     let answer = act(&caller, place, found);
     caller.unlock(place, found.curr); // row 12
     caller.unlock_last(place, found.pred); // row 13
-    answer
+    Some(answer)
 }` },
   ],
   "crates/lset_locked_loops/src/optimistic.rt": [
-    { name: "walk", first: 23, steps: [{"line": 39, "rows": [2]}, {"line": 44, "rows": [3]}], calls: [], text: `
+    { name: "walk", first: 22, steps: [{"line": 37, "rows": [2]}, {"line": 42, "rows": [3]}], calls: [], text: `
 /// Walks from the head, whose link led to \`first\`, to the first key that is not below that of the call.
 #[inline(always)]
-fn walk<O: Origin, R: Wait, P: Pause>(
-    rt: &R,
+fn walk<O: Origin, P: Pause, N: Rounds>(
     caller: &Caller<OptimisticList, O, P>,
     place: &mut TableSeat,
     first: Node,
-) -> Stopped
+) -> Option<Stopped>
     requires { AtKey O.begun caller.now.slots 0 first.number 0 place.old }
-    ensures { StopsAt O.begun caller.now.slots result place.new }
+    ensures { IfSome result (λ f. StopsAt O.begun caller.now.slots f place.new) }
 {
     let key = caller.key;
     let mut pred = Node::head();
     let mut before = 0;
     let mut curr = first;
-    for _ in rt.forever() {
+    for _ in 0..N::MOST {
         let word = caller.load_key(place, curr); // row 2
         if word >= key {
             let found = Found { pred, curr, word };
-            return Stopped { found, before };
+            return Some(Stopped { found, before });
         }
         let link = caller.load_link(place, curr); // row 3
         pred = curr;
         before = word;
         curr = Node::behind(link);
     }
-    unreachable!()
+    None
 }` },
-    { name: "reaches", first: 52, steps: [{"line": 71, "rows": [6]}, {"line": 73, "rows": [7]}], calls: [], text: `
+    { name: "reaches", first: 50, steps: [{"line": 68, "rows": [6]}, {"line": 70, "rows": [7]}], calls: [], text: `
 /// Walks a second time from the head, as far as \`pred\`. Answers whether it came there: not where it saw a key above that of
 /// \`pred\`.
 #[inline(always)]
-fn reaches<O: Origin, R: Wait, P: Pause>(
-    rt: &R,
+fn reaches<O: Origin, P: Pause, N: Rounds>(
     caller: &Caller<OptimisticList, O, P>,
     place: &mut TableSeat,
     stopped: Stopped,
-) -> bool
+) -> Option<bool>
     requires { HasLocked O.begun caller.now.slots stopped place.old }
-    ensures { HasReached O.begun caller.now.slots stopped.found result place.new }
+    ensures { IfSome result (λ r. HasReached O.begun caller.now.slots stopped.found r place.new) }
 {
     let pred = stopped.found.pred.number;
     let before = stopped.before;
     if pred == HEAD {
-        return true;
+        return Some(true);
     }
     let mut node = Node::head();
-    for _ in rt.forever() {
+    for _ in 0..N::MOST {
         let link = caller.load_link(place, node); // row 6
         node = Node::behind(link);
         let word = caller.load_key(place, node); // row 7
         if word > before {
-            return false;
+            return Some(false);
         }
         if node.number == pred {
-            return true;
+            return Some(true);
         }
     }
-    unreachable!()
+    None
 }` },
-    { name: "validate", first: 84, steps: [{"line": 98, "rows": [8]}], calls: [[95, "reaches"]], text: `
+    { name: "validate", first: 81, steps: [{"line": 94, "rows": [8]}], calls: [[91, "reaches"]], text: `
 /// Whether \`pred\` is still in the list and leads to \`curr\`, both of which are locked.
-fn validate<O: Origin, R: Wait, P: Pause>(
-    rt: &R,
+fn validate<O: Origin, P: Pause, N: Rounds>(
     caller: &Caller<OptimisticList, O, P>,
     place: &mut TableSeat,
     stopped: Stopped,
-) -> bool
+) -> Option<bool>
     requires { HasLocked O.begun caller.now.slots stopped place.old }
-    ensures { HasValidated O.begun caller.now.slots stopped.found result place.new }
+    ensures { IfSome result (λ r. HasValidated O.begun caller.now.slots stopped.found r place.new) }
 {
     let found = stopped.found;
-    if !reaches(rt, caller, place, stopped) {
-        return false;
+    if !reaches::<O, P, N>(caller, place, stopped)? {
+        return Some(false);
     }
     let link = caller.load_link(place, found.pred); // row 8
     if link / 2 != found.curr.number {
-        return false;
+        return Some(false);
     }
-    true
+    Some(true)
 }` },
-    { name: "act", first: 105, steps: [{"line": 116, "rows": [9, 10, 11]}, {"line": 120, "rows": [12]}, {"line": 121, "rows": [13]}], calls: [], text: `
+    { name: "act", first: 101, steps: [{"line": 112, "rows": [9, 10, 11]}, {"line": 116, "rows": [12]}, {"line": 117, "rows": [13]}], calls: [], text: `
 /// Does what the call does at the key that was found, between two nodes that it has locked.
 fn act<O: Origin, P: Pause>(
     caller: &Caller<OptimisticList, O, P>,
@@ -264,18 +257,17 @@ fn act<O: Origin, P: Pause>(
         Decision::Answer(reply) => (caller.slots, reply),
     }
 }` },
-    { name: "make", first: 128, steps: [{"line": 148, "rows": [1], "begins": true, "answers": false}, {"line": 152, "rows": [4]}, {"line": 153, "rows": [5]}, {"line": 156, "rows": [14], "begins": false, "answers": true}, {"line": 157, "rows": [15], "begins": false, "answers": true}, {"line": 160, "rows": [14], "begins": false, "answers": false}, {"line": 161, "rows": [15], "begins": false, "answers": false}, {"line": 162, "rows": [1], "begins": false, "answers": false}], calls: [[150, "walk"], [154, "validate"], [155, "act"]], text: `
-fn make<O: Origin, R: Wait, P: Pause>(
-    rt: &R,
+    { name: "make", first: 124, steps: [{"line": 143, "rows": [1], "begins": true, "answers": false}, {"line": 147, "rows": [4]}, {"line": 148, "rows": [5]}, {"line": 151, "rows": [14], "begins": false, "answers": true}, {"line": 152, "rows": [15], "begins": false, "answers": true}, {"line": 155, "rows": [14], "begins": false, "answers": false}, {"line": 156, "rows": [15], "begins": false, "answers": false}, {"line": 157, "rows": [1], "begins": false, "answers": false}], calls: [[145, "walk"], [149, "validate"], [150, "act"]], text: `
+fn make<O: Origin, P: Pause, N: Rounds>(
     table: &Words<OptimisticList>,
     place: &mut TableSeat,
     slots: OwnSlots,
     call: Call,
     pause: &P,
-) -> (OwnSlots, Reply)
+) -> Option<(OwnSlots, Reply)>
     requires begins { MayBegin optimistic O.begun slots place.old }
     requires call { IsCall O.begun call table.now.table_id table.now.key }
-    ensures { HasAnswered optimistic O.begun result place.new }
+    ensures { IfSome result (λ r. HasAnswered optimistic O.begun r place.new) }
 {
     let caller = Caller::<'_, OptimisticList, O, P> {
         table,
@@ -286,52 +278,51 @@ fn make<O: Origin, R: Wait, P: Pause>(
         origin: PhantomData,
     };
     let mut link = caller.begin_at_head(place); // row 1
-    for _ in rt.forever() {
-        let stopped = walk(rt, &caller, place, Node::behind(link));
+    for _ in 0..N::MOST {
+        let stopped = walk::<O, P, N>(&caller, place, Node::behind(link))?;
         let found = stopped.found;
-        caller.lock(rt, place, found.pred); // row 4
-        caller.lock(rt, place, found.curr); // row 5
-        if validate(rt, &caller, place, stopped) {
+        caller.lock::<N>(place, found.pred)?; // row 4
+        caller.lock::<N>(place, found.curr)?; // row 5
+        if validate::<O, P, N>(&caller, place, stopped)? {
             let answer = act(&caller, place, found);
             caller.unlock(place, found.pred); // row 14
             caller.unlock_last(place, found.curr); // row 15
-            return answer;
+            return Some(answer);
         }
         caller.unlock(place, found.pred); // row 14
         caller.unlock(place, found.curr); // row 15
         link = caller.load_link(place, Node::head()); // row 1
     }
-    unreachable!()
+    None
 }` },
   ],
   "crates/lset_loops/src/lazy.rt": [
-    { name: "walk", first: 19, steps: [{"line": 34, "rows": [2]}, {"line": 38, "rows": [3]}], calls: [], text: `
+    { name: "walk", first: 18, steps: [{"line": 32, "rows": [2]}, {"line": 36, "rows": [3]}], calls: [], text: `
 /// Walks from the head, whose link led to \`first\`, to the first key that is not below that of the call.
 #[inline(always)]
-fn walk<O: Origin, R: Wait, P: Pause>(
-    rt: &R,
+fn walk<O: Origin, P: Pause, N: Rounds>(
     caller: &Caller<LazyList, O, P>,
     place: &mut TableSeat,
     first: Node,
-) -> Found
+) -> Option<Found>
     requires { AtKey O.begun caller.now.slots 0 first.number place.old }
-    ensures { StopsAt O.begun caller.now.slots result place.new }
+    ensures { IfSome result (λ f. StopsAt O.begun caller.now.slots f place.new) }
 {
     let key = caller.key;
     let mut pred = Node::head();
     let mut curr = first;
-    for _ in rt.forever() {
+    for _ in 0..N::MOST {
         let word = caller.load_key(place, curr); // row 2
         if word >= key {
-            return Found { pred, curr, word };
+            return Some(Found { pred, curr, word });
         }
         let link = caller.load_link(place, curr); // row 3
         pred = curr;
         curr = Node::behind(link);
     }
-    unreachable!()
+    None
 }` },
-    { name: "validate", first: 45, steps: [{"line": 54, "rows": [6]}, {"line": 58, "rows": [7]}], calls: [], text: `
+    { name: "validate", first: 43, steps: [{"line": 52, "rows": [6]}, {"line": 56, "rows": [7]}], calls: [], text: `
 /// Whether \`pred\` leads to \`curr\`, and neither has a mark: then the answer is the node behind \`curr\`.
 fn validate<O: Origin, P: Pause>(
     caller: &Caller<LazyList, O, P>,
@@ -351,7 +342,7 @@ fn validate<O: Origin, P: Pause>(
     }
     Some(Node::behind(after))
 }` },
-    { name: "act", first: 65, steps: [{"line": 77, "rows": [8, 9, 10]}, {"line": 81, "rows": [11]}, {"line": 82, "rows": [12]}], calls: [], text: `
+    { name: "act", first: 63, steps: [{"line": 75, "rows": [8, 9, 10]}, {"line": 79, "rows": [11]}, {"line": 80, "rows": [12]}], calls: [], text: `
 /// Does what the call does at the key that was found, between two nodes that it has locked.
 fn act<O: Origin, P: Pause>(
     caller: &Caller<LazyList, O, P>,
@@ -375,19 +366,18 @@ fn act<O: Origin, P: Pause>(
         Decision::Answer(reply) => (caller.slots, reply),
     }
 }` },
-    { name: "make", first: 89, steps: [{"line": 110, "rows": [1], "begins": true, "answers": false}, {"line": 113, "rows": [4]}, {"line": 114, "rows": [5]}, {"line": 118, "rows": [13], "begins": false, "answers": true}, {"line": 119, "rows": [14], "begins": false, "answers": true}, {"line": 123, "rows": [13], "begins": false, "answers": false}, {"line": 124, "rows": [14], "begins": false, "answers": false}, {"line": 125, "rows": [1], "begins": false, "answers": false}], calls: [[112, "walk"], [115, "validate"], [117, "act"]], text: `
-fn make<O: Origin, R: Wait, P: Pause>(
-    rt: &R,
+    { name: "make", first: 87, steps: [{"line": 107, "rows": [1], "begins": true, "answers": false}, {"line": 110, "rows": [4]}, {"line": 111, "rows": [5]}, {"line": 115, "rows": [13], "begins": false, "answers": true}, {"line": 116, "rows": [14], "begins": false, "answers": true}, {"line": 120, "rows": [13], "begins": false, "answers": false}, {"line": 121, "rows": [14], "begins": false, "answers": false}, {"line": 122, "rows": [1], "begins": false, "answers": false}], calls: [[109, "walk"], [112, "validate"], [114, "act"]], text: `
+fn make<O: Origin, P: Pause, N: Rounds>(
     table: &Words<LazyList>,
     place: &mut TableSeat,
     slots: OwnSlots,
     call: Call,
     pause: &P,
-) -> (OwnSlots, Reply)
+) -> Option<(OwnSlots, Reply)>
     requires begins { MayBegin lazy O.begun slots place.old }
     requires call { IsCall O.begun call table.now.table_id table.now.key }
     requires walks { first_row O.begun.call ≡ 1 }
-    ensures { HasAnswered lazy O.begun result place.new }
+    ensures { IfSome result (λ r. HasAnswered lazy O.begun r place.new) }
 {
     let caller = Caller::<'_, LazyList, O, P> {
         table,
@@ -398,16 +388,16 @@ fn make<O: Origin, R: Wait, P: Pause>(
         origin: PhantomData,
     };
     let mut link = caller.begin_at_head(place); // row 1
-    for _ in rt.forever() {
-        let found = walk(rt, &caller, place, Node::behind(link));
-        caller.lock(rt, place, found.pred); // row 4
-        caller.lock(rt, place, found.curr); // row 5
+    for _ in 0..N::MOST {
+        let found = walk::<O, P, N>(&caller, place, Node::behind(link))?;
+        caller.lock::<N>(place, found.pred)?; // row 4
+        caller.lock::<N>(place, found.curr)?; // row 5
         match validate(&caller, place, found) {
             Some(succ) => {
                 let answer = act(&caller, place, found, succ);
                 caller.unlock(place, found.curr); // row 13
                 caller.unlock_last(place, found.pred); // row 14
-                return answer;
+                return Some(answer);
             }
             None => {
                 caller.unlock(place, found.curr); // row 13
@@ -416,7 +406,7 @@ fn make<O: Origin, R: Wait, P: Pause>(
             }
         }
     }
-    unreachable!()
+    None
 }` },
   ],
   "crates/lset_loops/src/reads.rt": [
@@ -459,22 +449,21 @@ fn make<M: ReadsByRows, O: Origin, P: Pause>(
 }` },
   ],
   "crates/lset_loops/src/lock_free.rt": [
-    { name: "find", first: 18, steps: [{"line": 33, "rows": [2]}, {"line": 36, "rows": [3]}, {"line": 42, "rows": [1], "begins": false, "answers": false}, {"line": 45, "rows": [4]}], calls: [], text: `
+    { name: "find", first: 17, steps: [{"line": 31, "rows": [2]}, {"line": 34, "rows": [3]}, {"line": 40, "rows": [1], "begins": false, "answers": false}, {"line": 43, "rows": [4]}], calls: [], text: `
 /// Walks from the head, whose link led to \`first\`, to the first key that is not below that of the call, and takes marked
 /// nodes out on its way (Herlihy and Shavit's \`find\`).
-fn find<O: Origin, R: Wait, P: Pause>(
-    rt: &R,
+fn find<O: Origin, P: Pause, N: Rounds>(
     caller: &Caller<LockFreeList, O, P>,
     place: &mut TableSeat,
     first: Node,
-) -> Found
+) -> Option<Found>
     requires { AtLink O.begun caller.now.slots 0 first.number place.old }
-    ensures { StopsAt O.begun caller.now.slots result place.new }
+    ensures { IfSome result (λ f. StopsAt O.begun caller.now.slots f place.new) }
 {
     let key = caller.key;
     let mut pred = Node::head();
     let mut curr = first;
-    for _ in rt.forever() {
+    for _ in 0..N::MOST {
         let link = caller.load_link(place, curr); // row 2
         let succ = Node::behind(link);
         if link % 2 != 0 {
@@ -489,15 +478,15 @@ fn find<O: Origin, R: Wait, P: Pause>(
         }
         let word = caller.look_at_key(place, curr); // row 4
         if word >= key {
-            return Found { pred, curr, word };
+            return Some(Found { pred, curr, word });
         }
         caller.goes_on();
         pred = curr;
         curr = succ;
     }
-    unreachable!()
+    None
 }` },
-    { name: "attempt", first: 56, steps: [{"line": 68, "rows": [5, 6]}, {"line": 69, "rows": [7]}, {"line": 76, "rows": [8]}, {"line": 77, "rows": [9]}, {"line": 81, "rows": [10]}], calls: [], text: `
+    { name: "attempt", first: 54, steps: [{"line": 66, "rows": [5, 6]}, {"line": 67, "rows": [7]}, {"line": 74, "rows": [8]}, {"line": 75, "rows": [9]}, {"line": 79, "rows": [10]}], calls: [], text: `
 /// Does what the call does at the key that was found. \`None\` where a link was another by then.
 fn attempt<O: Origin, P: Pause>(
     caller: &Caller<LockFreeList, O, P>,
@@ -529,19 +518,18 @@ fn attempt<O: Origin, P: Pause>(
         Decision::Answer(reply) => Some((caller.slots, reply)),
     }
 }` },
-    { name: "make", first: 88, steps: [{"line": 109, "rows": [1], "begins": true, "answers": false}, {"line": 114, "rows": [1], "begins": false, "answers": false}], calls: [[111, "find"], [112, "attempt"]], text: `
-fn make<O: Origin, R: Wait, P: Pause>(
-    rt: &R,
+    { name: "make", first: 86, steps: [{"line": 106, "rows": [1], "begins": true, "answers": false}, {"line": 111, "rows": [1], "begins": false, "answers": false}], calls: [[108, "find"], [109, "attempt"]], text: `
+fn make<O: Origin, P: Pause, N: Rounds>(
     table: &Words<LockFreeList>,
     place: &mut TableSeat,
     slots: OwnSlots,
     call: Call,
     pause: &P,
-) -> (OwnSlots, Reply)
+) -> Option<(OwnSlots, Reply)>
     requires begins { MayBegin lock_free O.begun slots place.old }
     requires call { IsCall O.begun call table.now.table_id table.now.key }
     requires walks { first_row O.begun.call ≡ 1 }
-    ensures { HasAnswered lock_free O.begun result place.new }
+    ensures { IfSome result (λ r. HasAnswered lock_free O.begun r place.new) }
 {
     let caller = Caller::<'_, LockFreeList, O, P> {
         table,
@@ -552,14 +540,14 @@ fn make<O: Origin, R: Wait, P: Pause>(
         origin: PhantomData,
     };
     let mut link = caller.begin_at_head(place); // row 1
-    for _ in rt.forever() {
-        let found = find(rt, &caller, place, Node::behind(link));
+    for _ in 0..N::MOST {
+        let found = find::<O, P, N>(&caller, place, Node::behind(link))?;
         match attempt(&caller, place, found) {
-            Some(answer) => return answer,
+            Some(answer) => return Some(answer),
             None => link = caller.load_link(place, Node::head()), // row 1
         }
     }
-    unreachable!()
+    None
 }` },
   ],
 };

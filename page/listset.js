@@ -1,9 +1,10 @@
 // The words of ./listset that need no proof and no toolchain, in node: the proved replayer as the module of this folder.
 //
 //     node page/listset.js replay [FILE]            node page/listset.js trace [--chain] [FILE]
-//     node page/listset.js check [FILE]             node page/listset.js show [--svg] [--from M] [--to M] [--width N] [FILE]
-//     node page/listset.js draft [FILE]             node page/listset.js example [--broken] [NAME]
-//     node page/listset.js faults                   node page/listset.js gen KIND THREADS QUOTA CALLS KEYS SEED
+//     node page/listset.js report [FILE]            node page/listset.js show [--svg] [--from M] [--to M] [--width N] [FILE]
+//     node page/listset.js check [FILE]             node page/listset.js example [--broken] [NAME]
+//     node page/listset.js draft [FILE]             node page/listset.js gen KIND THREADS QUOTA CALLS KEYS SEED
+//     node page/listset.js faults
 //     node page/listset.js --words                  the first words of these lines, one a line
 //
 // FILE may be -, the word for the standard input. Output, line about a trouble and exit status are the program's
@@ -17,13 +18,14 @@ const { NO_ENGINE, NO_MEMORIES, inPage, startedEngine } = require("./in_node.js"
 const LONGEST = 67108864; // bytes of an input; what is longer is not read to its end
 const WRONG = 2; // the status of wrong words, and of a wrong value
 const USAGE =
-  "replay [FILE], check [FILE], trace [--chain] [FILE], show [--svg] [--from M] [--to M] [--width N] [FILE], draft [FILE], " +
+  "replay [FILE], report [FILE], check [FILE], trace [--chain] [FILE], show [--svg] [--from M] [--to M] [--width N] [FILE], draft [FILE], " +
   "example [--broken] [NAME], gen KIND THREADS QUOTA CALLS KEYS SEED or faults";
 
 // Of each command its flag and its options, the engine's function without the flag and with it, whether its value is a file, and
 // how many values it takes at most.
 const COMMANDS = {
   replay: { functions: ["listset_replay"], isOfFile: true },
+  report: { functions: ["listset_report"], isOfFile: true },
   check: { functions: ["listset_check"], isOfFile: true },
   show: { flag: "--svg", options: ["--from", "--to", "--width"], functions: ["listset_show", "listset_show_svg"], isOfFile: true },
   trace: { flag: "--chain", functions: ["listset_trace", "listset_trace_with_chains"], isOfFile: true },

@@ -62,7 +62,7 @@ def code_of(rows, file):
         if own:
             made[name] = {"name": name, "first": first, "steps": own, "lines": lines[first - 1:last]}
     for code in made.values():
-        calls = [re.findall(r"(?<![\w.])(\w+)\(", line.partition("//")[0]) for line in code["lines"]]
+        calls = [re.findall(r"(?<![\w.:])(\w+)(?:::<[\w, ]+>)?\(", line.partition("//")[0]) for line in code["lines"]]
         code["calls"] = [[code["first"] + at, name] for at, names in enumerate(calls) for name in names if name in made
                          and name != code["name"]]
     return made.values()

@@ -102,12 +102,13 @@ async function driveListing() {
   const told = here.map((line) => line.textContent);
   check(
     `the line of each call: ${told}`,
-    told.length === 2 && told[0].includes("// row 6t1 row 6: load link of pred") && told[1].includes("// row 22t0 row 22: load link of curr"),
+    told.length === 2 && told[0].includes("// row 22t0 row 22: load link of curr") && told[1].includes("// row 6t1 row 6: load link of pred"),
   );
-  check("that of the event is in sight", isInSight(part("listing"), here[0]) && here[0].classList.contains("moved"));
+  check("that of the event is in sight", here[1].classList.contains("moved") && isInSight(part("listing"), here[1]));
   const inside = [...part("listing").querySelectorAll(".inside")].map((line) => line.textContent);
   check(`the line that called it: ${inside}`, inside.length === 1 && inside[0].includes("match validate("));
   runSchedule([...header("lazy", 2).map((line) => line.replace("schedule 1", "schedule 2")), "begin 0 ceiling 5", "go 0 1"]);
+  goToEvent(2);
   await sleep(50);
   const rows = [...part("listing").querySelectorAll(".rows .here")].map((line) => line.textContent);
   check(`the row of a call that has no loop: ${rows}`, rows.length === 1 && rows[0].startsWith("row 24: "));

@@ -25,6 +25,8 @@ const SERVE_FILE: usize = 5;
 pub enum Command {
     /// Replays a schedule. It is the command where no word is given.
     Replay,
+    /// Makes a report of calls.
+    Report,
     /// Checks the order of a report.
     Check,
     /// Draws a schedule or a report.
@@ -78,15 +80,19 @@ impl Words {
         Some(self.values.first()?.as_str())
     }
 
-    /// The word for what the command reads, where there is one: the first value of `replay`, `check`, `show`, `trace` and
-    /// `draft`, which read the standard input without one, and the sixth of `serve`, which reads nothing without one. The
+    /// The word for what the command reads, where there is one: the first value of `replay`, `report`, `check`, `show`, `trace`
+    /// and `draft`, which read the standard input without one, and the sixth of `serve`, which reads nothing without one. The
     /// others read nothing.
     pub fn file(&self) -> Option<&str>
         ensures { option_map (λ path. path.now) result ≡ file_of (choice_in self.now) }
     {
         match self.command {
-            Command::Replay | Command::Check | Command::Show | Command::Trace | Command::Draft =>
-                self.first_value(),
+            Command::Replay
+            | Command::Report
+            | Command::Check
+            | Command::Show
+            | Command::Trace
+            | Command::Draft => self.first_value(),
             Command::Serve => Some(self.values.get(SERVE_FILE)?.as_str()),
             Command::Example | Command::Gen | Command::Run | Command::Faults => None,
         }
@@ -411,6 +417,19 @@ fn replay_command<'a>(alloc: Global) -> Result<clap::Command<'a>, AllocError>
     )
 }
 
+fn report_command<'a>(alloc: Global) -> Result<clap::Command<'a>, AllocError>
+    ensures app { IfOk result (λ c. app_of c ≡ file_app (codes "report")) }
+    ensures local { IfOk result (λ c. (out-Command c).has_globals ≡ false) }
+{
+    file_command(
+        alloc,
+        "report",
+        "Makes a report of recorded calls: the changes at their points, each other call where its reply fits",
+        "The calls; standard input where it is - or left out",
+        "Example: listset report a.calls | listset check",
+    )
+}
+
 fn check_command<'a>(alloc: Global) -> Result<clap::Command<'a>, AllocError>
     ensures app { IfOk result (λ c. app_of c ≡ file_app (codes "check")) }
     ensures local { IfOk result (λ c. (out-Command c).has_globals ≡ false) }
@@ -445,6 +464,7 @@ fn program_command<'a>(alloc: Global, faults_help: &'a str) -> Result<clap::Comm
         .no_binary_name(true)
         .bin_name("listset");
     let program = and_subcommand(program, replay_command(alloc));
+    let program = and_subcommand(program, report_command(alloc));
     let program = and_subcommand(program, check_command(alloc));
     let program = and_subcommand(program, show_command(alloc));
     let program = and_subcommand(program, trace_command(alloc));
@@ -556,7 +576,9 @@ fn no_options() -> Options
 fn command_named(name: &str) -> Command
     ensures { result ≡ command_named name.now }
 {
-    if name == "check" {
+    if name == "report" {
+        Command::Report
+    } else if name == "check" {
         Command::Check
     } else if name == "show" {
         Command::Show
@@ -579,7 +601,7 @@ fn command_named(name: &str) -> Command
     }
 }
 
-/// Reads the words that stand after the program's name, by `clap`: `replay [FILE]`, `check [FILE]`,
+/// Reads the words that stand after the program's name, by `clap`: `replay [FILE]`, `report [FILE]`, `check [FILE]`,
 /// `show [--svg] [--from M] [--to M] [--width N] [FILE]`, `trace [--chain] [FILE]`, `draft [FILE]`,
 /// `example [--broken] [NAME]`, `gen KIND THREADS QUOTA CALLS KEYS SEED`, `run` with the same values and `[LIVES]` after them,
 /// `serve KIND SEATS QUOTA PORT SESSIONS [FILE]`, or `faults`. Values and options come as they are written; some or all may be

@@ -7,12 +7,13 @@ use Rattle.clap.specs.declared.error.kind.ErrorKind.{ErrorKind}
 use Rattle.clap.specs.declared.error.kind.ErrorKind.TheVariants.{OutOfMemory, DisplayHelp, DisplayVersion}
 use Rattle.lset_command.specs.CommandLine.{Choice, OptionValues, choice_of, file_by, listset, path_of}
 use Rattle.lset_command.specs.declared.command_line.Command.{Command}
-use Rattle.lset_command.specs.declared.command_line.Command.TheVariants.{Replay, Check, Show, Trace, Draft, Example, Gen, Run}
-use Rattle.lset_command.specs.declared.command_line.Command.TheVariants.{Serve, Faults}
+use Rattle.lset_command.specs.declared.command_line.Command.TheVariants.{Replay, Report, Check, Show, Trace, Draft, Example, Gen}
+use Rattle.lset_command.specs.declared.command_line.Command.TheVariants.{Run, Serve, Faults}
 use Rattle.lset_tools.specs.declared.trouble.ValueName.{ValueName}
 use Rattle.lset_tools.specs.declared.trouble.Trouble.TheVariants.{CannotRead, Memory, Bad}
 use Rattle.lset_tools.specs.Tools.{Made, Ends, AppendsFront}
 use Rattle.lset_tools.specs.Replaying.{Replays}
+use Rattle.lset_tools.specs.Reporting.{Reports}
 use Rattle.lset_tools.specs.Checking.{Checks}
 use Rattle.lset_tools.specs.Generating.{Generates}
 use Rattle.lset_tools.specs.Faults.{TellsFaults}
@@ -46,6 +47,7 @@ ServesBy (Some word) values input old first made = serve.ServesWith (serve.serve
 -- the old to the first: `serve` writes the line that names its port, the others write nothing.
 abbrev pub DoesBy : Command → List Text → OptionValues → Option (List ℕ) → Option (List ℕ) → Option (List ℕ) → Made → Type 0
 DoesBy Replay values options input old first made = (first ≡ old) × IfSome input (λ bytes. Replays bytes made)
+DoesBy Report values options input old first made = (first ≡ old) × IfSome input (λ bytes. Reports bytes made)
 DoesBy Check values options input old first made = (first ≡ old) × IfSome input (λ bytes. Checks bytes made)
 DoesBy Show values options input old first made = (first ≡ old) × ShowsBy options input made
 DoesBy Trace values options input old first made = (first ≡ old) × IfSome input (λ bytes. Traces options.chain bytes made)

@@ -5,7 +5,7 @@ ghost use Rattle.lset_tools.specs.Tools.{Ends};
 ghost use Rattle.lset_dispatch.specs.Dispatch.{CommandEnds, Does, ShowsBy};
 
 use lset_command::{Command, Options, Words};
-use lset_tools::{Trouble, deliver, tool_check, tool_faults, tool_gen, tool_replay};
+use lset_tools::{Trouble, deliver, tool_check, tool_faults, tool_gen, tool_replay, tool_report};
 use std::alloc::Global;
 use std::io::{Read, Write};
 use std::net::{Net, TcpListener, TcpStream};
@@ -45,8 +45,8 @@ fn show<R: Read, W: Write, F: Write>(
     }
 }
 
-/// Does the command of the words with its tool, `replay`, `check`, `show`, `trace` and `draft` on the input, the others on their
-/// values, and `serve` with the keys of the input where the words have one for it. Gives the tool's exit status. `run` and
+/// Does the command of the words with its tool, `replay`, `report`, `check`, `show`, `trace` and `draft` on the input, the others on
+/// their values, and `serve` with the keys of the input where the words have one for it. Gives the tool's exit status. `run` and
 /// `serve` start threads on `rt`, and wait for them; `serve` listens there.
 pub fn run_command<
     H: Net<Listener = TcpListener, Stream = TcpStream> + Threads + Wait + Clock + Sync,
@@ -60,6 +60,7 @@ pub fn run_command<
     let options = &words.options;
     match words.command {
         Command::Replay => tool_replay(alloc, input, output, faults),
+        Command::Report => tool_report(alloc, input, output, faults),
         Command::Check => tool_check(alloc, input, output, faults),
         Command::Show => show(alloc, options, input, output, faults),
         Command::Trace => tool_trace(alloc, options.chain, input, output, faults),

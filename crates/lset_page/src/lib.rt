@@ -14,6 +14,7 @@ mod words;
 
 ghost use Rattle.std.specs.Prelude.{true, false, None, Some};
 ghost use Rattle.lset_tools.specs.Replaying.{Replays};
+ghost use Rattle.lset_tools.specs.Reporting.{Reports};
 ghost use Rattle.lset_tools.specs.Checking.{Checks};
 ghost use Rattle.lset_tools.specs.Faults.{TellsFaults};
 ghost use Rattle.lset_tools.specs.Generating.{Generates};
@@ -24,7 +25,7 @@ ghost use Rattle.lset_page.specs.Page.{Hands, OfText, OfWords, ShowsBy};
 
 use generating::generated_by;
 use handing::hand;
-use lset_tools::{checked, faults_told, replayed};
+use lset_tools::{checked, faults_told, replayed, reported};
 use naming::exampled_by;
 use showing::shown_by;
 use std::alloc::Global;
@@ -44,6 +45,20 @@ pub extern "C" fn listset_replay(
     ensures { Hands (OfText Replays text.now) room.old room.new status.new result }
 {
     hand(alloc, replayed(alloc, text), room, status)
+}
+
+/// What `listset report` prints of the calls whose text is given: their report, or the line about the first fault of the text
+/// or the first line whose call cannot stand beside those above, or about a text that is too long.
+#[unsafe(no_mangle)]
+pub extern "C" fn listset_report(
+    alloc: Global,
+    text: &[u8],
+    room: &mut [u8],
+    status: &mut u8,
+) -> usize
+    ensures { Hands (OfText Reports text.now) room.old room.new status.new result }
+{
+    hand(alloc, reported(alloc, text), room, status)
 }
 
 /// What `listset check` prints of the report whose text is given: `ok`, or the first fault of its order with status 1; or

@@ -1,7 +1,7 @@
 -- What workers give back, added up.
 use Rattle.std.proofs.Common.{◌≡◌, ◌≢◌, ℕ, zero, suc, ◌+◌, ◌-◌, ◌*◌, ◌<◌, ◌≤◌, eqb, List, [], ◌∷◌, ◌++◌, length, map, sum_by}
 use Rattle.std.proofs.Common.{Option, None}
-use Rattle.std.proofs.Common.{refl, sym, ap, ◌∙◌, subst, append_assoc, append-nil, arith, length-append, add-one, true, false}
+use Rattle.std.proofs.Common.{refl, sym, ap, ◌∙◌, subst, append_assoc, append-nil, arith, length-append, true, false}
 use Rattle.std.proofs.Common.{⊎_elim}
 use Rattle.std.proofs.lemmas.Bool.{ne_eqb, eq-eqb}
 use Rattle.std.proofs.lemmas.Bool.Decides.{eqb_tells}
@@ -37,9 +37,6 @@ worked_more s s1 s2 v v' n m k number b e same (more, recorded, count) = record 
 }
 
 -- ---- the sender
-
-numbers-more : (n : ℕ) → numbers_below (n + 1) ≡ numbers_below n ++ n ∷ []
-numbers-more n = ap numbers_below (add-one n)
 
 length-numbers : (n : ℕ) → length (numbers_below n) ≡ n
 length-numbers zero = refl

@@ -11,10 +11,8 @@ ghost use Rattle.lset_server.specs.Tallies.{ReceivedOnce, numbers_below, tally};
 ghost use Rattle.lset_server.specs.Tallied.{tally_of};
 ghost use Rattle.lset_server.specs.declared.channel.TheConstants.{PARTS};
 
-use crate::channel::{
-    Connection, Message, NothingLost, Receiver, Sender, Tally, Token, balance, send,
-};
-use crate::workers::{Gathered, join_all, start_all};
+use crate::channel::{Connection, Message, NothingLost, Sender, Tally, Token, balance, send};
+use crate::workers::{Gathered, Pool};
 use crossbeam_channel::bounded_with;
 use lset_live::{LiveSet, Running, Seat};
 use std::alloc::Global;
@@ -132,31 +130,35 @@ fn send_all<R: Wait>(
 
 /// Starts the workers, accepts the connections and joins the workers. Gives the pass with all parts, and the gathered seat.
 fn serve_in<'s, E, R: Threads + Wait + Clock + Sync, M: Running + Send + Sync>(
-    scope: &Scope<'s, E>,
-    rt: &'s R,
     alloc: Global,
+    scope: &Scope<'s, E>,
     listener: &TcpListener,
-    to: &Sender<TcpStream>,
-    from: &'s Receiver<TcpStream>,
+    pool: &Pool<'s, R, M>,
     mut pass: Token<TcpStream>,
-    set: &'s LiveSet<M>,
     seats: Vec<Seat<M>>,
-    sessions: u32,
 ) -> Result<(Token<TcpStream>, Gathered<M>), ServeCause>
-    requires pass { IsSeatAt (sends_on to.now) pass × (receives_on from.now ≡ sends_on to.now) × (view pass ≡ tally PARTS [] []) }
-    requires seats { All (λ s. s.set ≡ set.now) seats.items × (length seats.items ≤ MOST_THREADS) }
+    requires pass { IsSeatAt (sends_on pool.now.to) pass × (receives_on pool.now.from.now ≡ sends_on pool.now.to)
+        × (view pass ≡ tally PARTS [] []) }
+    requires seats { All (λ s. s.set ≡ pool.now.set.now) seats.items × (length seats.items ≤ MOST_THREADS) }
     ensures gathered { IfOk result (λ g. HasGathered (map (λ s. s.past) seats.items) (option_map (λ s. s.past) g.1.seat)
-        (view g.0) sessions g.1.sessions g.1.calls) }
+        (view g.0) pool.now.sessions g.1.sessions g.1.calls) }
     ensures held { IfOk result (λ g. held_in g.1.seat ≡ sum_by (λ s. s.held) seats.items) }
-    ensures seat { IfOk result (λ g. IfSome g.1.seat (λ s. s.set ≡ set.now)) }
+    ensures seat { IfOk result (λ g. IfSome g.1.seat (λ s. s.set ≡ pool.now.set.now)) }
     ensures cause { IfErr result (λ e. e ≢ ServeCause.Seats) }
 {
     let workers = seats.len();
-    let started = start_all(alloc, scope, rt, to, from, &mut pass, set, seats, sessions)?;
-    send_all(rt, listener, to, &mut pass, sessions, workers)?;
-    let gathered = join_all(rt, to, &mut pass, set, started, sessions);
-    balance(to, &mut pass);
-    if gathered.sessions != u64::from(sessions) {
+    let started = pool.start_all(alloc, scope, &mut pass, seats)?;
+    send_all(
+        pool.rt,
+        listener,
+        &pool.to,
+        &mut pass,
+        pool.sessions,
+        workers,
+    )?;
+    let gathered = pool.join_all(&mut pass, started);
+    balance(&pool.to, &mut pass);
+    if gathered.sessions != u64::from(pool.sessions) {
         return Err(ServeCause::Left);
     }
     Ok((pass, gathered))
@@ -184,18 +186,21 @@ fn serve_all<R: Threads + Wait + Clock + Sync, M: Running + Send + Sync>(
     ) else {
         return Err(ServeCause::Memory);
     };
-    let from = &from;
+    let pool = Pool {
+        rt,
+        set,
+        to,
+        from: &from,
+        sessions,
+    };
     thread::scope(
         thread::scope_env(),
         rt,
         move |scope| -> Result<(Token<TcpStream>, Gathered<M>), ServeCause>
-            requires pass { IsSeatAt (sends_on to) pass × (receives_on from.now ≡ sends_on to) × (view pass ≡ tally PARTS [] []) }
-            requires seats { All (λ s. s.set ≡ set.now) seats.items × (length seats.items ≤ MOST_THREADS) }
-        {
-            serve_in(
-                scope, rt, alloc, listener, &to, from, pass, set, seats, sessions,
-            )
-        },
+            requires pass { IsSeatAt (sends_on pool.to) pass × (receives_on pool.from.now ≡ sends_on pool.to)
+                × (view pass ≡ tally PARTS [] []) }
+            requires seats { All (λ s. s.set ≡ pool.set.now) seats.items × (length seats.items ≤ MOST_THREADS) }
+        { serve_in(alloc, scope, listener, &pool, pass, seats) },
     )
 }
 

@@ -122,71 +122,6 @@ fn work<R: Wait + Clock, M: Running>(
     }
 }
 
-/// Starts a worker on the seat. `None` where the system refuses the thread.
-fn start<'s, E, R: Wait + Clock + Sync, M: Running + Send + Sync>(
-    scope: &Scope<'s, E>,
-    rt: &'s R,
-    from: &'s Receiver<TcpStream>,
-    pass: Token<TcpStream>,
-    set: &'s LiveSet<M>,
-    seat: Seat<M>,
-    most: u32,
-) -> Option<Worker<M>>
-    requires pass { IsSeatAt (receives_on from.now) pass × (view pass ≡ tally 1 [] []) }
-    requires seat { seat.set ≡ set.now }
-    ensures owed { IfSome result (λ h. (receives_on h.promise.from.value ≡ receives_on from.now)
-        × (h.promise.set.value ≡ set.now) × (h.promise.most ≡ most)) }
-    ensures seat { IfSome result (λ h. h.promise.seat.value ≡ seat) }
-{
-    let promise = Owed {
-        from: Snapshot::of(from),
-        set: Snapshot::of(set),
-        seat: Snapshot::of(&seat),
-        most: u64::from(most),
-    };
-    scope
-        .spawn_with(promise, move || work(rt, from, pass, set, seat, most))
-        .ok()
-}
-
-/// Starts a worker on each seat, with a part of the sender's pass. All memory for the handles is taken before the first
-/// one is started.
-pub fn start_all<'s, E, R: Wait + Clock + Sync, M: Running + Send + Sync>(
-    alloc: Global,
-    scope: &Scope<'s, E>,
-    rt: &'s R,
-    to: &Sender<TcpStream>,
-    from: &'s Receiver<TcpStream>,
-    pass: &mut Token<TcpStream>,
-    set: &'s LiveSet<M>,
-    seats: Vec<Seat<M>>,
-    most: u32,
-) -> Result<Vec<Worker<M>>, ServeCause>
-    requires pass { IsSeatAt (sends_on to.now) pass.old × (receives_on from.now ≡ sends_on to.now)
-        × (length seats.items < (view pass.old).parts) }
-    requires seats { All (λ s. s.set ≡ set.now) seats.items }
-    ensures seats { IfOk result (λ v. map (λ h. h.promise.seat.value) v.items ≡ seats.items) }
-    ensures owed { IfOk result (λ v. All (λ h. (receives_on h.promise.from.value ≡ sends_on to.now)
-        × (h.promise.set.value ≡ set.now) × (h.promise.most ≡ most)) v.items) }
-    ensures cause { IfErr result (λ e. e ≢ cause.Seats) }
-    ensures pass { OnOk result (IsSeatAt (sends_on to.now) pass.new
-        × (view pass.new ≡ tally ((view pass.old).parts - length seats.items) (view pass.old).sent (view pass.old).received)) }
-{
-    let Ok(mut workers) = Vec::with_capacity(alloc, seats.len()) else {
-        return Err(ServeCause::Memory);
-    };
-    for seat in seats {
-        let part = cut_part(to, pass);
-        let Some(worker) = start(scope, rt, from, part, set, seat, most) else {
-            return Err(ServeCause::Spawn);
-        };
-        let Ok(()) = workers.push(worker) else {
-            return Err(ServeCause::Memory);
-        };
-    }
-    Ok(workers)
-}
-
 /// What the workers did together, and the seat into which theirs were gathered.
 #[derive(Drop)]
 pub struct Gathered<M: Running> {
@@ -195,44 +130,112 @@ pub struct Gathered<M: Running> {
     pub calls: u64,
 }
 
-/// Waits for the workers, takes their passes back and gathers their seats.
-pub fn join_all<R: Threads, M: Running>(
-    rt: &R,
-    to: &Sender<TcpStream>,
-    pass: &mut Token<TcpStream>,
-    set: &LiveSet<M>,
-    workers: Vec<Worker<M>>,
-    most: u32,
-) -> Gathered<M>
-    requires pass { IsSeatAt (sends_on to.now) pass.old × (0 < (view pass.old).parts) }
-    requires owed { All (λ h. (receives_on h.promise.from.value ≡ sends_on to.now)
-        × (h.promise.set.value ≡ set.now) × (h.promise.most ≡ most)) workers.items }
-    requires few { length workers.items ≤ MOST_THREADS }
-    ensures pass { IsSeatAt (sends_on to.now) pass.new }
-    ensures joined { HaveWorked (map (λ h. h.promise.seat.value.past) workers.items) (option_map (λ s. s.past) result.seat)
-        (view pass.old) (view pass.new) (length workers.items) result.sessions result.calls }
-    ensures held { held_in result.seat ≡ sum_by (λ h. h.promise.seat.value.held) workers.items }
-    ensures seat { IfSome result.seat (λ s. s.set ≡ set.now) }
-{
-    let mut seat = None;
-    let mut sessions = 0u64;
-    let mut calls = 0u64;
-    for worker in workers {
-        let back = worker.join(rt);
-        let Back {
-            pass: part,
-            seat: given,
-            sessions: served,
-            calls: made,
-        } = back;
-        take_back(to, pass, part);
-        seat = Some(set.gather_onto(seat, given));
-        sessions += served;
-        calls += made;
+/// A pool of workers: the set on whose seats they work, both ends of the channel by which connections come to them, and how
+/// many come.
+#[derive(Drop)]
+pub struct Pool<'s, R, M: Running> {
+    pub rt: &'s R,
+    pub set: &'s LiveSet<M>,
+    pub to: Sender<TcpStream>,
+    pub from: &'s Receiver<TcpStream>,
+    pub sessions: u32,
+}
+
+impl<'s, R: Threads + Wait + Clock + Sync, M: Running + Send + Sync> Pool<'s, R, M> {
+    /// Starts a worker on the seat. `None` where the system refuses the thread.
+    fn start<E>(
+        &self,
+        scope: &Scope<'s, E>,
+        pass: Token<TcpStream>,
+        seat: Seat<M>,
+    ) -> Option<Worker<M>>
+        requires pass { IsSeatAt (receives_on self.now.from.now) pass × (view pass ≡ tally 1 [] []) }
+        requires seat { seat.set ≡ self.now.set.now }
+        ensures owed { IfSome result (λ h. (receives_on h.promise.from.value ≡ receives_on self.now.from.now)
+            × (h.promise.set.value ≡ self.now.set.now) × (h.promise.most ≡ self.now.sessions)) }
+        ensures seat { IfSome result (λ h. h.promise.seat.value ≡ seat) }
+    {
+        let rt = self.rt;
+        let from = self.from;
+        let set = self.set;
+        let most = self.sessions;
+        let promise = Owed {
+            from: Snapshot::of(from),
+            set: Snapshot::of(set),
+            seat: Snapshot::of(&seat),
+            most: u64::from(most),
+        };
+        scope
+            .spawn_with(promise, move || work(rt, from, pass, set, seat, most))
+            .ok()
     }
-    Gathered {
-        seat,
-        sessions,
-        calls,
+
+    /// Starts a worker on each seat, with a part of the sender's pass. All memory for the handles is taken before the first
+    /// one is started.
+    pub fn start_all<E>(
+        &self,
+        alloc: Global,
+        scope: &Scope<'s, E>,
+        pass: &mut Token<TcpStream>,
+        seats: Vec<Seat<M>>,
+    ) -> Result<Vec<Worker<M>>, ServeCause>
+        requires pass { IsSeatAt (sends_on self.now.to) pass.old × (receives_on self.now.from.now ≡ sends_on self.now.to)
+            × (length seats.items < (view pass.old).parts) }
+        requires seats { All (λ s. s.set ≡ self.now.set.now) seats.items }
+        ensures seats { IfOk result (λ v. map (λ h. h.promise.seat.value) v.items ≡ seats.items) }
+        ensures owed { IfOk result (λ v. All (λ h. (receives_on h.promise.from.value ≡ sends_on self.now.to)
+            × (h.promise.set.value ≡ self.now.set.now) × (h.promise.most ≡ self.now.sessions)) v.items) }
+        ensures cause { IfErr result (λ e. e ≢ cause.Seats) }
+        ensures pass { OnOk result (IsSeatAt (sends_on self.now.to) pass.new
+            × (view pass.new ≡ tally ((view pass.old).parts - length seats.items) (view pass.old).sent (view pass.old).received)) }
+    {
+        let Ok(mut workers) = Vec::with_capacity(alloc, seats.len()) else {
+            return Err(ServeCause::Memory);
+        };
+        for seat in seats {
+            let part = cut_part(&self.to, pass);
+            let Some(worker) = self.start(scope, part, seat) else {
+                return Err(ServeCause::Spawn);
+            };
+            let Ok(()) = workers.push(worker) else {
+                return Err(ServeCause::Memory);
+            };
+        }
+        Ok(workers)
+    }
+
+    /// Waits for the workers, takes their passes back and gathers their seats.
+    pub fn join_all(&self, pass: &mut Token<TcpStream>, workers: Vec<Worker<M>>) -> Gathered<M>
+        requires pass { IsSeatAt (sends_on self.now.to) pass.old × (0 < (view pass.old).parts) }
+        requires owed { All (λ h. (receives_on h.promise.from.value ≡ sends_on self.now.to)
+            × (h.promise.set.value ≡ self.now.set.now) × (h.promise.most ≡ self.now.sessions)) workers.items }
+        requires few { length workers.items ≤ MOST_THREADS }
+        ensures pass { IsSeatAt (sends_on self.now.to) pass.new }
+        ensures joined { HaveWorked (map (λ h. h.promise.seat.value.past) workers.items) (option_map (λ s. s.past) result.seat)
+            (view pass.old) (view pass.new) (length workers.items) result.sessions result.calls }
+        ensures held { held_in result.seat ≡ sum_by (λ h. h.promise.seat.value.held) workers.items }
+        ensures seat { IfSome result.seat (λ s. s.set ≡ self.now.set.now) }
+    {
+        let mut seat = None;
+        let mut sessions = 0u64;
+        let mut calls = 0u64;
+        for worker in workers {
+            let back = worker.join(self.rt);
+            let Back {
+                pass: part,
+                seat: given,
+                sessions: served,
+                calls: made,
+            } = back;
+            take_back(&self.to, pass, part);
+            seat = Some(self.set.gather_onto(seat, given));
+            sessions += served;
+            calls += made;
+        }
+        Gathered {
+            seat,
+            sessions,
+            calls,
+        }
     }
 }

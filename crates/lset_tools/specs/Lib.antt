@@ -1,6 +1,7 @@
 pub mod Trouble
 pub mod Tools
 pub mod Replaying
+pub mod Reporting
 pub mod Checking
 pub mod Generating
 pub mod Moments

@@ -9,6 +9,11 @@ use Rattle.lset_replay.specs.declared.fault.ReplayFault.TheVariants as replay
 use Rattle.lset_report.specs.declared.report_fault.ReportCause.{ReportCause}
 use Rattle.lset_report.specs.declared.report_fault.ReportCause.TheVariants as report
 use Rattle.lset_report.specs.declared.report_fault.ReportFault.{ReportFault}
+use Rattle.lset_calls.specs.declared.fault.CallsCause.{CallsCause}
+use Rattle.lset_calls.specs.declared.fault.CallsCause.TheVariants as calls
+use Rattle.lset_calls.specs.declared.fault.CallsFault.{CallsFault}
+use Rattle.lset_calls.specs.declared.fault.ClashFault.{ClashFault}
+use Rattle.lset_calls.specs.declared.fault.ClashFault.TheVariants as clash
 use Rattle.lset_tools.specs.declared.streams.InputFault.{InputFault}
 use Rattle.lset_tools.specs.declared.streams.InputFault.TheVariants as input
 use Rattle.lset_tools.specs.declared.trouble.KeyCause.{KeyCause}
@@ -71,6 +76,30 @@ of_report_line number report.Memory = Memory
 abbrev pub of_report : ReportFault → Trouble
 of_report fault = of_report_line fault.line fault.cause
 
+abbrev pub of_calls_line : ℕ → CallsCause → Trouble
+of_calls_line number calls.Header = Line number (line.Calls calls.Header)
+of_calls_line number calls.Kind = Line number (line.Calls calls.Kind)
+of_calls_line number calls.Threads = Line number (line.Calls calls.Threads)
+of_calls_line number calls.Quota = Line number (line.Calls calls.Quota)
+of_calls_line number calls.Line = Line number (line.Calls calls.Line)
+of_calls_line number calls.Number = Line number (line.Calls calls.Number)
+of_calls_line number calls.TooMany = Line number (line.Calls calls.TooMany)
+of_calls_line number calls.Opening = Line number (line.Calls calls.Opening)
+of_calls_line number calls.History = Line number (line.Calls calls.History)
+of_calls_line number calls.Point = Line number (line.Calls calls.Point)
+of_calls_line number calls.NotEnded = Line number (line.Calls calls.NotEnded)
+of_calls_line number calls.Memory = Memory
+
+-- of a text that is none of calls
+abbrev pub of_calls : CallsFault → Trouble
+of_calls fault = of_calls_line fault.line fault.cause
+
+-- of calls that have no report
+abbrev pub of_clash : ClashFault → Trouble
+of_clash (clash.History number) = Line number (line.Calls calls.History)
+of_clash (clash.Quota number) = Line number (line.Calls calls.Quota)
+of_clash clash.Memory = Memory
+
 abbrev pub status_of : Trouble → ℕ
 status_of CannotRead = 1
 status_of TooLong = 1
@@ -108,6 +137,18 @@ name_of (line.Report report.Opening) = codes "Opening"
 name_of (line.Report report.History) = codes "History"
 name_of (line.Report report.NotEnded) = codes "NotEnded"
 name_of (line.Report report.Memory) = codes "Memory"
+name_of (line.Calls calls.Header) = codes "Header"
+name_of (line.Calls calls.Kind) = codes "Kind"
+name_of (line.Calls calls.Threads) = codes "Threads"
+name_of (line.Calls calls.Quota) = codes "Quota"
+name_of (line.Calls calls.Line) = codes "Line"
+name_of (line.Calls calls.Number) = codes "Number"
+name_of (line.Calls calls.TooMany) = codes "TooMany"
+name_of (line.Calls calls.Opening) = codes "Opening"
+name_of (line.Calls calls.History) = codes "History"
+name_of (line.Calls calls.Point) = codes "Point"
+name_of (line.Calls calls.NotEnded) = codes "NotEnded"
+name_of (line.Calls calls.Memory) = codes "Memory"
 name_of (line.Keys keys.Line) = codes "Line"
 name_of (line.Keys keys.Number) = codes "Number"
 name_of (line.Keys keys.TooMany) = codes "TooMany"

@@ -30,7 +30,7 @@ listset: line L: CAUSE, of a draft, status 1
   (others)  As in a schedule.
 
 listset: line L: CAUSE, of a report, status 1
-  Header    Line 1 is neither 'listset-report 1' nor 'listset-report 2'. The word replay makes a report of a schedule.
+  Header    Line 1 is neither 'listset-report 1' nor 'listset-report 2'. The word replay makes a report of a schedule, report one of calls.
   Kind      As in a schedule.
   Threads   As in a schedule.
   Quota     As in a schedule.
@@ -39,6 +39,20 @@ listset: line L: CAUSE, of a report, status 1
   TooMany   There are more than 1048576 lines 'opening', 1000000 'call', 1000000 'place', or 1048576 'key' (in version 2 2097152).
   Opening   The opening key is not above the one in the line before.
   History   The call has not the next number, or does not go on with the history of the calls above.
+  NotEnded  The text ends before the line 'end', or the line has no newline at its end.
+
+listset: line L: CAUSE, of calls, status 1
+  Header    Line 1 is not 'listset-calls 2'. The word report makes a report of calls.
+  Kind      As in a schedule.
+  Threads   As in a schedule.
+  Quota     As in a schedule; or the line is an add with which those of its thread that changed the set are more than its quota.
+  Line      The line is none that may come there: lines 'opening', 'call' and 'key', in this order, and 'end'.
+  Number    A moment is none from 1 to 4294967295; or as in a schedule.
+  TooMany   There are more than 1048576 lines 'opening', 1000000 'call' or 2097152 'key'.
+  Opening   The opening key is not above the one in the line before.
+  History   There is no such thread, the end is not after the beginning, or a line above has one of the moments or a call of
+            the thread that overlaps.
+  Point     The point does not lie between beginning and end, or an add or a remove that answered true has none.
   NotEnded  The text ends before the line 'end', or the line has no newline at its end.
 
 listset: line L: CAUSE, of the keys with which serve opens, status 1

@@ -1,8 +1,9 @@
 ghost use Rattle.std.specs.Prelude.{◌≡◌};
-ghost use Rattle.lset_tools.specs.Trouble.{of_input, of_schedule, of_replay, of_report, status_of, name_of, serve_name, value_word, work_name};
+ghost use Rattle.lset_tools.specs.Trouble.{of_input, of_schedule, of_replay, of_report, of_calls, of_clash, status_of, name_of, serve_name, value_word, work_name};
 ghost use Rattle.lset_tools.specs.declared.trouble.Trouble.TheVariants.{Memory};
 
 use crate::streams::InputFault;
+use lset_calls::{CallsCause, CallsFault, ClashFault};
 use lset_replay::ReplayFault;
 use lset_report::{ReportCause, ReportFault};
 use lset_schedule::{Cause, ScheduleFault};
@@ -38,6 +39,8 @@ pub enum LineCause {
     Waits,
     /// The text is no report.
     Report(ReportCause),
+    /// The text is none of calls, or they have no report.
+    Calls(CallsCause),
     /// The text is not one of rising keys.
     Keys(KeyCause),
 }
@@ -178,6 +181,31 @@ impl From<ReportFault> for Trouble {
     }
 }
 
+impl From<CallsFault> for Trouble {
+    ghost from_gives = { λ e t. t ≡ of_calls e };
+
+    fn from(fault: CallsFault) -> Trouble {
+        match fault.cause {
+            CallsCause::Memory => Trouble::Memory,
+            cause => Trouble::Line(fault.line, LineCause::Calls(cause)),
+        }
+    }
+}
+
+impl From<ClashFault> for Trouble {
+    ghost from_gives = { λ e t. t ≡ of_clash e };
+
+    fn from(fault: ClashFault) -> Trouble {
+        match fault {
+            ClashFault::History(line) => {
+                Trouble::Line(line, LineCause::Calls(CallsCause::History))
+            }
+            ClashFault::Quota(line) => Trouble::Line(line, LineCause::Calls(CallsCause::Quota)),
+            ClashFault::Memory => Trouble::Memory,
+        }
+    }
+}
+
 impl From<AllocError> for Trouble {
     ghost from_gives = { λ _ t. t ≡ Memory };
 
@@ -220,6 +248,20 @@ impl LineCause {
                 ReportCause::History => "History",
                 ReportCause::NotEnded => "NotEnded",
                 ReportCause::Memory => "Memory",
+            },
+            LineCause::Calls(cause) => match cause {
+                CallsCause::Header => "Header",
+                CallsCause::Kind => "Kind",
+                CallsCause::Threads => "Threads",
+                CallsCause::Quota => "Quota",
+                CallsCause::Line => "Line",
+                CallsCause::Number => "Number",
+                CallsCause::TooMany => "TooMany",
+                CallsCause::Opening => "Opening",
+                CallsCause::History => "History",
+                CallsCause::Point => "Point",
+                CallsCause::NotEnded => "NotEnded",
+                CallsCause::Memory => "Memory",
             },
             LineCause::Keys(cause) => match cause {
                 KeyCause::Line => "Line",

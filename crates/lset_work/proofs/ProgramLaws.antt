@@ -1,6 +1,6 @@
 -- Programs that go on call by call, and threads that come back one by one.
 use Rattle.std.proofs.Common.{◌≡◌, ℕ, ◌+◌, ◌<◌, Bool, true, List, [], ◌∷◌, ◌++◌, length, map, take, get_or, Option, Some, None}
-use Rattle.std.proofs.Common.{refl, sym, ap, ◌∙◌, subst, append_assoc, append-nil, arith, length-append, length-take-le, add-one}
+use Rattle.std.proofs.Common.{refl, sym, ap, ◌∙◌, subst, append_assoc, arith, length-append, length-take-le, add-one}
 use Rattle.std.specs.Option.{option_map}
 use Rattle.std.proofs.Math.Seq.{take-suc}
 use Rattle.std.proofs.lemmas.List.{length-map, map-append, get_or_default}
@@ -127,14 +127,6 @@ one_more set seat program items hs rest rest' h last vs vs' v done now step more
           (subst (λ l. HaveRun set (map seat j ++ seat h ∷ []) l (Some now) (map items vs')) (sym (map-append program j (h ∷ [])))
           (subst (λ l. HaveRun set (map seat j ++ seat h ∷ []) (map program j ++ program h ∷ []) (Some now) l) (sym told) next));
     }
-
-pub all_run : {H V : Type 0} (set : SetValue) (seat : H → SeatValue) (program : H → List Call) (items : V → List Reply)
-    (hs rest : List H) (last : Option SeatValue)
-    (vs : List V) → rest ≡ [] → SoFar set seat program items hs rest last vs →
-    HaveRun set (map seat hs) (map program hs) last (map items vs)
-all_run set seat program items hs rest last vs none s =
-    let whole : s.joined ≡ hs = sym (append-nil s.joined) ∙ ap (λ l. s.joined ++ l) (sym none) ∙ s.all in
-    subst (λ l. HaveRun set (map seat l) (map program l) last (map items vs)) whole s.run
 
 pub run_of : (set : SetValue) (seats seats' : List SeatValue) (programs programs' : List (List Call)) (last : Option SeatValue)
     (replies : List (List Reply))

@@ -89,60 +89,69 @@ fn run_program<R: Wait, M: Running, G: Gate>(
     }
 }
 
-/// Starts the thread of a program. `None` where it is refused.
-fn start_one<'s, E, R: Wait + Sync, M: Running + Send + Sync, G: Gate + Sync>(
-    scope: &Scope<'s, E>,
-    rt: &'s R,
-    set: &'s LiveSet<M>,
-    gate: &'s G,
-    seat: Seat<M>,
-    program: Program,
-) -> Option<Worker<M, G>>
-    requires { seat.set ≡ set.now }
-    ensures { IfSome result (λ w. (w.promise.set.value ≡ set.now) × (w.promise.gate.value ≡ gate.now)
-        × (w.promise.seat.value ≡ seat) × (w.promise.program.value ≡ program.calls)) }
-{
-    let owed = Owed {
-        set: Snapshot::of(set),
-        gate: Snapshot::of(gate),
-        seat: Snapshot::of(&seat),
-        program: Snapshot::of(&program.calls),
-    };
-    scope
-        .spawn_with(owed, move || run_program(rt, set, gate, seat, program))
-        .ok()
+/// What all threads of a program of calls share: the set, the gate that they ask, and what they wait by.
+#[derive(Drop)]
+pub struct Shared<'s, R, M: Running, G: Gate> {
+    pub rt: &'s R,
+    pub set: &'s LiveSet<M>,
+    pub gate: &'s G,
 }
 
-/// Starts a thread for each seat. `None` where one is refused.
-pub fn start_all<'s, E, R: Wait + Sync, M: Running + Send + Sync, G: Gate + Sync>(
-    scope: &Scope<'s, E>,
-    rt: &'s R,
-    set: &'s LiveSet<M>,
-    gate: &'s G,
-    mut workers: Vec<Worker<M, G>>,
-    seats: Vec<Seat<M>>,
-    programs: Vec<Program>,
-) -> Option<Vec<Worker<M, G>>>
-    requires seats { All (λ s. s.set ≡ set.now) seats.items }
-    requires programs { length programs.items ≡ length seats.items }
-    requires room { (workers.items ≡ []) × (length seats.items ≤ vec_capacity workers) }
-    ensures seats { IfSome result (λ v. map (λ w. w.promise.seat.value) v.items ≡ seats.items) }
-    ensures programs { IfSome result (λ v.
-        map (λ w. w.promise.program.value.items) v.items ≡ map (λ p. p.calls.items) programs.items) }
-    ensures set { IfSome result (λ v. All (λ w. w.promise.set.value ≡ set.now) v.items) }
-    ensures gate { IfSome result (λ v. All (λ w. w.promise.gate.value ≡ gate.now) v.items) }
-{
-    let mut programs = programs.into_iter();
-    for seat in seats {
-        let Some(program) = programs.next() else {
-            unreachable!()
+impl<'s, R: Wait + Sync, M: Running + Send + Sync, G: Gate + Sync> Shared<'s, R, M, G> {
+    /// Starts the thread of a program. `None` where it is refused.
+    fn start_one<E>(
+        &self,
+        scope: &Scope<'s, E>,
+        seat: Seat<M>,
+        program: Program,
+    ) -> Option<Worker<M, G>>
+        requires { seat.set ≡ self.now.set.now }
+        ensures { IfSome result (λ w. (w.promise.set.value ≡ self.now.set.now) × (w.promise.gate.value ≡ self.now.gate.now)
+            × (w.promise.seat.value ≡ seat) × (w.promise.program.value ≡ program.calls)) }
+    {
+        let rt = self.rt;
+        let set = self.set;
+        let gate = self.gate;
+        let owed = Owed {
+            set: Snapshot::of(set),
+            gate: Snapshot::of(gate),
+            seat: Snapshot::of(&seat),
+            program: Snapshot::of(&program.calls),
         };
-        let worker = start_one(scope, rt, set, gate, seat, program)?;
-        let Ok(()) = workers.push(worker) else {
-            unreachable!()
-        };
+        scope
+            .spawn_with(owed, move || run_program(rt, set, gate, seat, program))
+            .ok()
     }
-    Some(workers)
+
+    /// Starts a thread for each seat. `None` where one is refused.
+    pub fn start_all<E>(
+        &self,
+        scope: &Scope<'s, E>,
+        mut workers: Vec<Worker<M, G>>,
+        seats: Vec<Seat<M>>,
+        programs: Vec<Program>,
+    ) -> Option<Vec<Worker<M, G>>>
+        requires seats { All (λ s. s.set ≡ self.now.set.now) seats.items }
+        requires programs { length programs.items ≡ length seats.items }
+        requires room { (workers.items ≡ []) × (length seats.items ≤ vec_capacity workers) }
+        ensures seats { IfSome result (λ v. map (λ w. w.promise.seat.value) v.items ≡ seats.items) }
+        ensures programs { IfSome result (λ v.
+            map (λ w. w.promise.program.value.items) v.items ≡ map (λ p. p.calls.items) programs.items) }
+        ensures set { IfSome result (λ v. All (λ w. w.promise.set.value ≡ self.now.set.now) v.items) }
+        ensures gate { IfSome result (λ v. All (λ w. w.promise.gate.value ≡ self.now.gate.now) v.items) }
+    {
+        let mut programs = programs.into_iter();
+        for seat in seats {
+            let Some(program) = programs.next() else {
+                unreachable!()
+            };
+            let worker = self.start_one(scope, seat, program)?;
+            let Ok(()) = workers.push(worker) else {
+                unreachable!()
+            };
+        }
+        Some(workers)
+    }
 }
 
 /// The replies of the programs, and the seat into which the others were gathered.

@@ -6,7 +6,7 @@ ghost use Rattle.lset_work.specs.Programs.{Fit, GivesBack, HaveRun, IsOfThreads,
 use crate::fault::{WorkCause, WorkFault};
 use crate::gate::Gate;
 use crate::room::{Room, reserved};
-use crate::workers::{Gathered, join_all, start_all};
+use crate::workers::{Gathered, Shared, join_all};
 use lset_live::{LiveSet, Running, Seat};
 use lset_words::{Call, Reply};
 use std::alloc::Global;
@@ -42,7 +42,8 @@ fn run_in<'s, E, R: Threads + Wait + Sync, M: Running + Send + Sync, G: Gate + S
         workers,
         replies,
     } = room;
-    let Some(workers) = start_all(scope, rt, set, gate, workers, seats, programs) else {
+    let shared = Shared { rt, set, gate };
+    let Some(workers) = shared.start_all(scope, workers, seats, programs) else {
         return Err(WorkCause::Spawn);
     };
     let Some(gathered) = join_all(rt, set, gate, workers, replies) else {

@@ -10,11 +10,11 @@ returns-clause-gathered g c =
     let started = c.in_ok-started.ensures.seats in
     let workers = c.in_ok-started.started.items in
     let j = c.join_all-gathered.ensures.joined in
-    let whole = whole_again (length seats) c.args.sessions (view c.args.pass) _ _ _ j.received (length workers)
+    let whole = whole_again (length seats) c.args.pool.now.sessions (view c.args.pass) _ _ _ j.received (length workers)
     c.requires.pass.2 c.requires.seats.1
     c.in_ok-started.ensures.pass.1 c.in_ok-send_all.ensures.told.1
     (as_many _ workers seats started) j.view in
-    let all : c.join_all-gathered.result.sessions ≡ c.args.sessions = grind arith in
+    let all : c.join_all-gathered.result.sessions ≡ c.args.pool.now.sessions = grind arith in
     let (left, told) = c.balance.ensures.told in
     all_gathered _ _ _ _ _ _ _ _ _ _ left (starts_map _ (λ s. s.past) workers seats started) j whole all told
     c.balance.ensures.channel.1

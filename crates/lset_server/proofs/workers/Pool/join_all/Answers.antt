@@ -4,7 +4,7 @@ use Rattle.std.specs.Vec.Iter.{into_iter_items}
 use Rattle.lset_session.specs.declared.TheConstants.{MOST_LINES}
 use Rattle.lset_live.proofs.Handing.{all_rest, held_next}
 use Rattle.lset_server.proofs.ServeLaws.{joined_none, joined_next, bound_none, bound_next, bound_next'}
-use Rattle.lset_server.proofs.workers.join_all.Goals as goal
+use Rattle.lset_server.proofs.workers.Pool.join_all.Goals as goal
 
 pub loop-worker-init : goal.loop-worker-init
 loop-worker-init g c =
@@ -17,8 +17,8 @@ loop-worker-init g c =
       seat = search rules;
       owed = rw e c.requires.owed;
       pass = c.requires.pass.0;
-      sessions = bound_none c.args.most _ _ many;
-      calls = bound_none MOST_LINES _ _ (ap (λ n. c.args.most * n) many);
+      sessions = bound_none c.args.self.now.sessions _ _ many;
+      calls = bound_none MOST_LINES _ _ (ap (λ n. c.args.self.now.sessions * n) many);
     }
 
 pub loop-worker-preserved : goal.loop-worker-preserved
@@ -28,8 +28,8 @@ loop-worker-preserved g c =
     let h = c.in-Some.worker in
     let back = c.join-back.ensures in
     let (mine, others) = all_rest _ _ h
-    (λ x. (receives_on x.promise.from.value ≡ sends_on c.args.to.now) × (x.promise.set.value ≡ c.args.set.now)
-    × (x.promise.most ≡ c.args.most)) step inv.owed in
+    (λ x. (receives_on x.promise.from.value ≡ sends_on c.args.self.now.to) × (x.promise.set.value ≡ c.args.self.now.set.now)
+    × (x.promise.most ≡ c.args.self.now.sessions)) step inv.owed in
     let one = ap (λ l. length l) step in
     record {
       joined = joined_next _ _ _ _ h _ _ _ _ _ _ _ _ _ _ _ _ step inv.joined refl back.2 c.take_back.ensures.told
@@ -38,6 +38,6 @@ loop-worker-preserved g c =
       seat = c.gather_onto.ensures.seat;
       owed = others;
       pass = c.take_back.ensures.channel;
-      sessions = bound_next _ _ c.args.most _ _ _ inv.sessions (omega (arith, one)) (omega (arith, back.3, mine.2));
-      calls = bound_next' _ _ c.args.most _ _ _ inv.calls (omega (arith, one)) (omega (arith, back.4, mine.2));
+      sessions = bound_next _ _ c.args.self.now.sessions _ _ _ inv.sessions (omega (arith, one)) (omega (arith, back.3, mine.2));
+      calls = bound_next' _ _ c.args.self.now.sessions _ _ _ inv.calls (omega (arith, one)) (omega (arith, back.4, mine.2));
     }

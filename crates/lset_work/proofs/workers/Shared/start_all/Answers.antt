@@ -2,7 +2,7 @@ use Rattle.std.proofs.Common.{◌≡◌, ap, arith, length, ◌∷◌, map}
 use Rattle.std.proofs.lemmas.Grind.{common_steps}
 use Rattle.std.specs.Vec.Iter.{into_iter_items}
 use Rattle.lset_live.proofs.Handing.{moved_more, all_rest, all_more}
-use Rattle.lset_work.proofs.workers.start_all.Goals as goal
+use Rattle.lset_work.proofs.workers.Shared.start_all.Goals as goal
 
 pub loop-seat-preserved : goal.loop-seat-preserved
 loop-seat-preserved g c =
@@ -18,8 +18,8 @@ loop-seat-preserved g c =
       programs = moved_more _ c.loop-seat.workers.items _ w _ _ _ c.in-Some-next.program.calls.items grown
           (ap (λ v. v.items) told.3) (ap (map (λ p. p.calls.items)) next) inv.programs;
       same = omega (arith, inv.same, ap (λ l. length l) step, ap (λ l. length l) next);
-      of = (all_rest _ _ c.in-Some.seat (λ s. s.set ≡ c.args.set.now) step inv.of).1;
-      started = all_more c.loop-seat.workers.items _ w (λ x. x.promise.set.value ≡ c.args.set.now) grown inv.started told.0;
-      gated = all_more c.loop-seat.workers.items _ w (λ x. x.promise.gate.value ≡ c.args.gate.now) grown inv.gated told.1;
+      of = (all_rest _ _ c.in-Some.seat (λ s. s.set ≡ c.args.self.now.set.now) step inv.of).1;
+      started = all_more c.loop-seat.workers.items _ w (λ x. x.promise.set.value ≡ c.args.self.now.set.now) grown inv.started told.0;
+      gated = all_more c.loop-seat.workers.items _ w (λ x. x.promise.gate.value ≡ c.args.self.now.gate.now) grown inv.gated told.1;
       room = grind (arith, common_steps);
     }
