@@ -53,6 +53,9 @@ enum {
 /* The report of a schedule. */
 size_t listset_replay(const char *schedule, size_t length, char *room, size_t size, uint8_t *status);
 
+/* The report of recorded calls. */
+size_t listset_report(const char *calls, size_t length, char *room, size_t size, uint8_t *status);
+
 /* `ok` where the order of a report explains its calls, else the first fault. */
 size_t listset_check(const char *report, size_t length, char *room, size_t size, uint8_t *status);
 

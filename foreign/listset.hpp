@@ -53,6 +53,7 @@ inline said of_text(listset_function *function, std::string_view given) {
 }
 
 inline said replay(std::string_view schedule) { return of_text(listset_replay, schedule); }
+inline said report(std::string_view calls) { return of_text(listset_report, calls); }
 inline said check(std::string_view report) { return of_text(listset_check, report); }
 inline said draft(std::string_view draft) { return of_text(listset_draft, draft); }
 inline said example(std::string_view name) { return of_text(listset_example, name); }

@@ -2,8 +2,8 @@
 
     import listset
 
-    listset.check(report)                 # nothing where the order of the report explains its calls
-    report = listset.replay(schedule)
+    report = listset.report(calls)        # of recorded calls
+    listset.check(report)                 # nothing where its order explains them
     print(listset.show(report, width=60))
 
 A text is str or bytes. Where the exit status of the program `listset` would not be 0, `Wrong` is raised with it, and with what the
@@ -82,6 +82,11 @@ def _words(values):
 def replay(schedule):
     """The report of a schedule."""
     return _asked("replay", schedule)
+
+
+def report(calls):
+    """The report of recorded calls."""
+    return _asked("report", calls)
 
 
 def check(report):

@@ -35,8 +35,15 @@ static void expect_own() {
   expect(has(listset::examples(), "snip") && has(listset::faults(), "listset: line L:"), "examples, faults");
 }
 
+static void expect_calls() {
+  std::string head = "listset-calls 2\nlist lock-free\nthreads 2\nquota 4\n", calls = "call 0 add 5 1 3 6 true\ncall 1 contains 5 2 - 4 true\n";
+  expect(listset::check(listset::report(head + calls + "key 5\nend\n").text).is_ok(), "recorded calls");
+  expect(listset::check(listset::report(head + calls + "end\n").text).text == "refused WrongSet\n", "a key is left out");
+}
+
 int main() {
   expect_own();
+  expect_calls();
   const std::vector<std::string> kinds{"coarse", "fine", "optimistic", "lazy", "lock-free"};
   std::vector<int> right(kinds.size());
   std::vector<std::thread> threads;

@@ -52,6 +52,13 @@ def each_says_its_own():
     assert "snip" in listset.examples() and "listset: line L:" in listset.faults()
 
 
+def judges_recorded_calls():
+    calls = "listset-calls 2\nlist lock-free\nthreads 2\nquota 4\ncall 0 add 5 1 3 6 true\ncall 1 contains 5 2 - 4 true\nkey 5\nend\n"
+    listset.check(listset.report(calls))
+    assert wrong(listset.check, listset.report(calls.replace("key 5\n", ""))) == (1, "WrongSet")
+    assert wrong(listset.report, calls.replace("1 3 6", "1 - 6")) == (1, "Point")
+
+
 def main():
     examples, faults = list(pairs(pathlib.Path(sys.argv[1]))), []
     threads = [threading.Thread(target=judge, args=(examples, faults)) for _ in range(THREADS)]
@@ -61,6 +68,7 @@ def main():
         it.join()
     assert len(examples) > 20 and not faults, faults
     each_says_its_own()
+    judges_recorded_calls()
     assert wrong(listset.check, listset.example("snip", is_broken=True)) == (1, "WrongSet")
     assert wrong(listset.example, "none") == (2, "NAME")
     assert wrong(listset.gen, "lazy", 0, 4, 10, 5, 1) == (2, "THREADS")

@@ -20,6 +20,7 @@ static const struct {
 } OF_A_FILE[] = {
     {"replay", listset_replay, listset_replay},
     {"check", listset_check, listset_check},
+    {"report", listset_report, listset_report},
     {"draft", listset_draft, listset_draft},
     {"trace", listset_trace, listset_trace_with_chains},
 };

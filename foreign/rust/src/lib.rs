@@ -51,6 +51,11 @@ pub fn replay(schedule: impl AsRef<[u8]>) -> Result<String, Wrong> {
     of_text(calls::listset_replay, schedule.as_ref())
 }
 
+/// The report of recorded calls.
+pub fn report(calls: impl AsRef<[u8]>) -> Result<String, Wrong> {
+    of_text(calls::listset_report, calls.as_ref())
+}
+
 /// Whether the order of a report explains its calls; else the first fault.
 pub fn check(report: impl AsRef<[u8]>) -> Result<(), Wrong> {
     of_text(calls::listset_check, report.as_ref()).map(|_| ())

@@ -53,6 +53,24 @@ fn each_function_says_its_own() {
     assert!(examples().unwrap().contains("snip") && faults().unwrap().contains("listset: line L:"));
 }
 
+const CALLS: &str = "listset-calls 2
+list lock-free
+threads 2
+quota 4
+call 0 add 5 1 3 6 true
+call 1 contains 5 2 - 4 true
+key 5
+end
+";
+
+#[test]
+fn recorded_calls_are_judged() {
+    assert_eq!(check(report(CALLS).unwrap()), Ok(()));
+    let without_key = report(CALLS.replace("key 5\n", "")).unwrap();
+    assert_eq!(check(without_key).unwrap_err().to_string(), "refused WrongSet");
+    assert_eq!(report(CALLS.replace("1 3 6", "1 - 6")).unwrap_err().status, 1);
+}
+
 #[test]
 fn what_is_wrong_comes_with_its_status() {
     let broken = broken_example("snip").unwrap();
