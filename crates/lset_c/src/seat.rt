@@ -39,7 +39,7 @@ impl CSeat {
         (full, CSeat { full, at })
     }
 
-    fn discard(self) {
+    pub fn discard(self) {
         let CSeat { full: _, at: _ } = self;
     }
 
