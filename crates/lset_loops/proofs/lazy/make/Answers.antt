@@ -27,26 +27,26 @@ lock-requires-in-loop g c =
     }
 
 pub validate-requires : goal.validate-requires
-validate-requires g c = (c.in_ok-found.ensures.0, c.in_ok-lock-in-loop.ensures _ (c.in_ok-lock.ensures _ c.in_ok-found.ensures.1))
+validate-requires g c = (c.in_ok-found.ensures.0, c.in_ok-lock-2.ensures _ (c.in_ok-lock.ensures _ c.in_ok-found.ensures.1))
 
 pub unlock_last-requires : goal.unlock_last-requires
 unlock_last-requires g c = record { held = _; holds = c.unlock.ensures _ c.act-answer.ensures.1; acts = refl }
 
-pub returns-in-Some-validate : goal.returns-in-Some-validate
-returns-in-Some-validate g c = (
+pub returns-in-Some : goal.returns-in-Some
+returns-in-Some g c = (
   _,
   c.unlock_last.ensures _ (c.unlock.ensures _ c.act-answer.ensures.1) _ refl,
   refl,
 )
 
-pub unlock-requires-in-None-validate : goal.unlock-requires-in-None-validate
-unlock-requires-in-None-validate g c = record { held = _; holds = c.in-None-validate.ensures.1; acts = refl; goes_on = λ n. refl }
+pub unlock-requires-in-None : goal.unlock-requires-in-None
+unlock-requires-in-None g c = record { held = _; holds = c.in-None.ensures.1; acts = refl; goes_on = λ n. refl }
 
-pub unlock-requires-in-None-validate-2 : goal.unlock-requires-in-None-validate-2
-unlock-requires-in-None-validate-2 g c =
+pub unlock-requires-in-None-2 : goal.unlock-requires-in-None-2
+unlock-requires-in-None-2 g c =
     record {
       held = _;
-      holds = c.unlock-in-None-validate.ensures _ c.in-None-validate.ensures.1;
+      holds = c.unlock-in-None.ensures _ c.in-None.ensures.1;
       acts = refl;
       goes_on = λ n. refl;
     }
@@ -55,8 +55,8 @@ pub load_link-link-requires : goal.load_link-link-requires
 load_link-link-requires g c =
     record {
       held = _;
-      holds = c.unlock-in-None-validate-2.ensures _
-          (c.unlock-in-None-validate.ensures _ c.in-None-validate.ensures.1);
+      holds = c.unlock-in-None-2.ensures _
+          (c.unlock-in-None.ensures _ c.in-None.ensures.1);
       acts = ap (λ n. Load (link_index n)) c.head.ensures;
       goes_on = λ n. refl;
     }
@@ -65,5 +65,5 @@ pub loop-preserved : goal.loop-preserved
 loop-preserved g c = (
   _,
   c.load_link-link.ensures _
-      (c.unlock-in-None-validate-2.ensures _ (c.unlock-in-None-validate.ensures _ c.in-None-validate.ensures.1)),
+      (c.unlock-in-None-2.ensures _ (c.unlock-in-None.ensures _ c.in-None.ensures.1)),
 )

@@ -18,10 +18,10 @@ pub load_link-link-requires : goal.load_link-link-requires
 load_link-link-requires g c =
     record {
       held = _;
-      holds = c.in-None-attempt.ensures.3;
+      holds = c.in-None.ensures.3;
       acts = ap (λ n. Load (link_index n)) c.head.ensures;
       goes_on = λ n. refl;
     }
 
 pub loop-preserved : goal.loop-preserved
-loop-preserved g c = (_, c.load_link-link.ensures _ c.in-None-attempt.ensures.3)
+loop-preserved g c = (_, c.load_link-link.ensures _ c.in-None.ensures.3)
