@@ -53,8 +53,8 @@ pub fn put_new(alloc: Global, seat: &mut CSeat, held: Held) -> u8
     ensures refused { result ≢ 0 → seat.new.full ≡ false }
 {
     match Box::new(alloc, held) {
-        Ok(held) => {
-            put(seat, held);
+        Ok(boxed) => {
+            put(seat, boxed);
             DONE
         }
         Err(_) => OUT_OF_MEMORY,
