@@ -135,6 +135,7 @@ int main(void) {
   listset_drop(&none);
   refused_openings();
   for (uint8_t kind = LISTSET_COARSE; kind <= LISTSET_LOCK_FREE; kind++) {
+    refused_at = 0;
     refused_calls(kind);
     blocks = 0;
     for (size_t refused = 1; refused == 1 || asked >= refused - 1; refused++) {

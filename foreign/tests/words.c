@@ -19,6 +19,7 @@ static const struct {
   listset_function *plain, *with_flag;
 } OF_A_FILE[] = {
     {"replay", listset_replay, listset_replay},
+    {"report", listset_report, listset_report},
     {"check", listset_check, listset_check},
     {"report", listset_report, listset_report},
     {"draft", listset_draft, listset_draft},

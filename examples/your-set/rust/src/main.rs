@@ -9,6 +9,7 @@ use std::sync::Mutex;
 struct Set(lazy_list::LazyList);
 
 impl Set {
+    fn new(calls: u32) -> Set { Set(lazy_list::LazyList::new(calls)) }
     fn add(&self, key: u32) -> bool { self.0.add(key) }
     fn remove(&self, key: u32) -> bool { self.0.remove(key) }
     fn contains(&self, key: u32) -> bool { self.0.contains(key) }
@@ -41,7 +42,7 @@ fn main() {
     let given: Vec<u32> = std::env::args().skip(1).map(|it| it.parse().expect("a number")).collect();
     let (threads, calls, keys, seed) = (given[0], given[1], given[2], given[3]);
     let locks: &Vec<Mutex<()>> = &(0..1024).map(|_| Mutex::new(())).collect(); // of the keys; those that are 1024 apart share one
-    let set = &Set(lazy_list::LazyList::new(threads * calls));
+    let set = &Set::new(threads * calls);
     let draws = (0..threads).map(|i| draws::Draws(64 * u64::from(seed) + u64::from(i)));
     let rows: Vec<Row> = std::thread::scope(|scope| {
         let started: Vec<_> = draws.map(|it| scope.spawn(move || run(set, locks, calls, keys, it))).collect();
