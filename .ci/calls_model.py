@@ -34,15 +34,16 @@ def is_form(pieces):
     if pieces[0] != "call" or len(pieces) != 8:
         return len(pieces) == {"opening": 2, "key": 2, "end": 1}.get(pieces[0])
     is_open = pieces[6] == pieces[7] == "-"
-    return pieces[2] in WORDS and (is_open or pieces[6] != "-" and (pieces[7] in REPLIES or pieces[7].startswith("at-")))
+    return pieces[2] in WORDS and (is_open or pieces[7] in REPLIES or pieces[7].startswith("at-"))
 
 
 def call_of(pieces):
     _, thread, name, key, begin, point, end, reply = pieces
     if reply.startswith("at-"):
         number(reply[3:])
-    point, end = (None if it == "-" else number(it, 1) for it in (point, end))
-    return Call(number(thread), name, number(key), number(begin, 1), point, end, None if end is None else reply)
+    point = None if point == "-" else number(point, 1)
+    end, reply = (None, None) if reply == "-" else (number(end, 1), reply)
+    return Call(number(thread), name, number(key), number(begin, 1), point, end, reply)
 
 
 def has_its_point(it):

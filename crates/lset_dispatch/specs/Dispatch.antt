@@ -31,7 +31,7 @@ use Rattle.tool_serve.specs.Serving as serve
 
 -- what `show` makes of its input, in the form and within the moments that its options ask for; a wrong option is named
 abbrev pub ShowsAsked : Result (Form × Window) ValueName → Option (List ℕ) → Made → Type 0
-ShowsAsked (Ok asked) input made = IfSome input (λ bytes. Shows asked.0 asked.1 bytes made)
+ShowsAsked (Ok asked) input made = IfSome input (λ bytes. Shows asked.1 bytes made)
 ShowsAsked (Err wrong) input made = made ≡ Err (Bad wrong)
 
 abbrev pub ShowsBy : OptionValues → Option (List ℕ) → Made → Type 0
@@ -50,7 +50,7 @@ DoesBy Replay values options input old first made = (first ≡ old) × IfSome in
 DoesBy Report values options input old first made = (first ≡ old) × IfSome input (λ bytes. Reports bytes made)
 DoesBy Check values options input old first made = (first ≡ old) × IfSome input (λ bytes. Checks bytes made)
 DoesBy Show values options input old first made = (first ≡ old) × ShowsBy options input made
-DoesBy Trace values options input old first made = (first ≡ old) × IfSome input (λ bytes. Traces options.chain bytes made)
+DoesBy Trace values options input old first made = (first ≡ old) × IfSome input (λ bytes. Traces bytes made)
 DoesBy Draft values options input old first made = (first ≡ old) × IfSome input (λ bytes. Drafts bytes made)
 DoesBy Example values options input old first made = (first ≡ old) × Exampled options.broken (slice_get values 0) made
 DoesBy Gen values options input old first made = (first ≡ old) × Generates values made

@@ -1,14 +1,3 @@
 pub mod Pictures
-pub mod Standings
 pub mod Moments
-pub mod Sets
-pub mod Signs
-pub mod Columns
-pub mod Drawings
-pub mod Headings
-pub mod Lines
-pub mod Orders
-pub mod Refusals
-pub mod RefusedEvents
 pub mod Clashes
-pub mod Frames

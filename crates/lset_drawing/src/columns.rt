@@ -1,27 +1,10 @@
-ghost use Rattle.std.specs.Prelude.{◌≡◌, ◌++◌, length, vec_len, map, true, IfOk, OnOk, string_bytes};
-ghost use Rattle.std.specs.List.{list_any};
-ghost use Rattle.lset_drawing.specs.Sets.{Leads};
-ghost use Rattle.lset_drawing.specs.Columns.{
-  begin_mark,
-  begun_at,
-  end_mark,
-  ended_at,
-  point_mark,
-  standing_at,
-  marks_at,
-  is_change,
-  has_change,
-  set_shown,
-  column_view,
-  column_with,
-  columns_from,
-};
-
-use crate::sets::{Reached, reached_at_first, set_text_at};
-use crate::signs::width_of;
-use crate::standings::Standing;
-use lset_history::History;
-use lset_words::{Call, CallRecord, Reply};
+//! What is drawn of a picture in a window: a column for each moment at which something happens.
+use crate::moments::{moments_shown, next_moment};
+use crate::picture::{are_known, points_of, standing_at};
+use crate::sets::{go_on, reached_at_first, set_text};
+use crate::{MOST_WIDTH, Picture, Window};
+use lset_text::{call_word, reply_word};
+use lset_words::{Call, Reply};
 use std::alloc::{AllocError, Global};
 
 /// What is drawn on a thread's row at a moment: a call begins, stands and changes the set, stands and changes nothing,
@@ -48,173 +31,174 @@ pub struct Column {
     pub moment: u32,
     pub marks: Vec<Mark>,
     pub set: String,
-    pub width: u8,
+    pub width: usize,
 }
 
-fn begin_mark(made: &CallRecord, moment: u32) -> Option<Mark>
-    ensures { result ≡ begin_mark moment made.now }
-{
-    if made.begun != moment {
-        return None;
+/// The columns of a picture, whether its points are known, the first and last moment that are drawn, and whether something
+/// happens before or after them.
+#[derive(Drop)]
+pub struct Drawing {
+    pub columns: Vec<Column>,
+    pub known: bool,
+    pub from: u32,
+    pub last: u32,
+    pub before: bool,
+    pub after: bool,
+}
+
+impl Drawing {
+    /// Whether something happens at moments that are not drawn.
+    pub fn is_cut(&self) -> bool {
+        self.before || self.after
     }
-    Some(Mark {
-        thread: made.thread,
-        sign: Sign::Begin(made.call),
-    })
 }
 
-fn add_begun(marks: &mut Vec<Mark>, calls: &[CallRecord], moment: u32) -> Result<(), AllocError>
-    ensures { OnOk result (marks.new.items ≡ marks.old.items ++ begun_at moment calls.now) }
-{
-    for made in calls {
-        if let Some(mark) = begin_mark(made, moment) {
-            marks.push(mark)?;
+fn add_begun(marks: &mut Vec<Mark>, picture: &Picture, moment: u32) -> Result<(), AllocError> {
+    for made in picture.history.calls() {
+        if made.begun == moment {
+            let sign = Sign::Begin(made.call);
+            let thread = made.thread;
+            marks.push(Mark { thread, sign })?;
         }
     }
     Ok(())
 }
 
-fn end_mark(made: &CallRecord, moment: u32) -> Option<Mark>
-    ensures { result ≡ end_mark moment made.now }
-{
-    match made.ended {
-        Some((end, reply)) if end == moment => Some(Mark {
-            thread: made.thread,
-            sign: Sign::End(reply),
-        }),
-        _ => None,
-    }
-}
-
-fn add_ended(marks: &mut Vec<Mark>, calls: &[CallRecord], moment: u32) -> Result<(), AllocError>
-    ensures { OnOk result (marks.new.items ≡ marks.old.items ++ ended_at moment calls.now) }
-{
-    for made in calls {
-        if let Some(mark) = end_mark(made, moment) {
-            marks.push(mark)?;
+fn add_standing(marks: &mut Vec<Mark>, picture: &Picture, moment: u32) -> Result<(), AllocError> {
+    for (index, point) in points_of(picture).iter().enumerate() {
+        if point.moment != moment {
+            continue;
+        }
+        let Some(standing) = standing_at(picture, index) else {
+            return Ok(());
+        };
+        if let Some(made) = standing.made {
+            let sign = if point.change {
+                Sign::Change
+            } else {
+                Sign::Fit
+            };
+            let thread = made.thread;
+            marks.push(Mark { thread, sign })?;
         }
     }
     Ok(())
 }
 
-fn point_mark(standing: &Standing, moment: u32) -> Option<Mark>
-    ensures { result ≡ point_mark moment standing.now }
-{
-    let (Some(made), Some(point)) = (standing.made, standing.point) else {
-        return None;
-    };
-    if point.moment != moment {
-        return None;
-    }
-    let sign = if point.change {
-        Sign::Change
-    } else {
-        Sign::Fit
-    };
-    Some(Mark {
-        thread: made.thread,
-        sign,
-    })
-}
-
-fn add_standing(
-    marks: &mut Vec<Mark>,
-    standings: &[Standing],
-    moment: u32,
-) -> Result<(), AllocError>
-    ensures { OnOk result (marks.new.items ≡ marks.old.items ++ standing_at moment standings.now) }
-{
-    for standing in standings {
-        if let Some(mark) = point_mark(standing, moment) {
-            marks.push(mark)?;
+fn add_ended(marks: &mut Vec<Mark>, picture: &Picture, moment: u32) -> Result<(), AllocError> {
+    for made in picture.history.calls() {
+        if let Some((end, reply)) = made.ended {
+            if end == moment {
+                let sign = Sign::End(reply);
+                let thread = made.thread;
+                marks.push(Mark { thread, sign })?;
+            }
         }
     }
     Ok(())
 }
 
-fn marks_at(
-    alloc: Global,
-    calls: &[CallRecord],
-    standings: &[Standing],
-    moment: u32,
-) -> Result<Vec<Mark>, AllocError>
-    ensures { IfOk result (λ v. v.items ≡ marks_at calls.now standings.now moment) }
-{
-    let mut marks = Vec::new(alloc);
-    add_begun(&mut marks, calls, moment)?;
-    add_standing(&mut marks, standings, moment)?;
-    add_ended(&mut marks, calls, moment)?;
-    Ok(marks)
+/// Writes a call, as `add 5`.
+pub fn put_call(out: &mut String, call: Call) -> Result<(), AllocError> {
+    let word = call_word(call);
+    let key = call.key().0;
+    write!(out, "{word} {key}")
 }
 
-fn is_change(sign: Sign) -> bool
-    ensures { result ≡ is_change sign }
-{
-    matches!(sign, Sign::Change)
-}
-
-fn has_change(marks: &[Mark]) -> bool
-    ensures { result ≡ has_change marks.now }
-{
-    marks.iter().any(|mark| is_change(mark.sign))
-}
-
-fn set_shown(
-    alloc: Global,
-    history: &History,
-    standings: &[Standing],
-    reached: &mut Reached,
-    shown: bool,
-    moment: u32,
-) -> Result<String, AllocError>
-    requires { Leads history.now.opening.keys standings.now reached.old.keys.keys reached.old.next reached.old.moment }
-    ensures leads { OnOk result (Leads history.now.opening.keys standings.now reached.new.keys.keys reached.new.next reached.new.moment) }
-    ensures text { IfOk result (λ s. string_bytes s ≡ set_shown history.now standings.now shown moment) }
-{
-    if !shown {
-        return Ok(String::new(alloc));
+/// Writes a sign with what parts it from the next: the bar goes on after each sign but the last.
+fn put_sign(out: &mut String, sign: Sign) -> Result<(), AllocError> {
+    match sign {
+        Sign::Begin(call) => {
+            out.push_str("[")?;
+            put_call(out, call)?;
+            out.push_str("-")
+        }
+        Sign::Change => out.push_str("*-"),
+        Sign::Fit => out.push_str("o-"),
+        Sign::End(reply) => {
+            let word = reply_word(reply);
+            write!(out, "{word}] ")
+        }
     }
-    set_text_at(alloc, history, standings, reached, moment)
 }
 
-/// The column of a moment, of its signs and the text of its set.
-fn column_with(
-    alloc: Global,
-    moment: u32,
-    marks: Vec<Mark>,
-    set: String,
-) -> Result<Column, AllocError>
-    ensures { IfOk result (λ c. column_view c ≡ column_with marks.items (string_bytes set) moment) }
-{
-    let width = width_of(alloc, moment, &marks, &set)?;
-    Ok(Column {
-        moment,
-        marks,
-        set,
-        width,
-    })
+/// Writes the signs of a thread among those of a moment, as `[add 5-*-`.
+pub fn put_signs(out: &mut String, marks: &[Mark], thread: u32) -> Result<(), AllocError> {
+    for mark in marks {
+        if mark.thread == thread {
+            put_sign(out, mark.sign)?;
+        }
+    }
+    Ok(())
+}
+
+/// How many characters a column is wide: as its longest piece, with what parts it from the next.
+fn width_of(alloc: Global, moment: u32, marks: &[Mark], set: &str) -> Result<usize, AllocError> {
+    let mut most = format!(in alloc; "{moment} ")?.len();
+    if set.len() >= most {
+        most = set.len() + 1;
+    }
+    for mark in marks {
+        let mut signs = String::new(alloc);
+        put_signs(&mut signs, marks, mark.thread)?;
+        most = most.max(signs.len());
+    }
+    Ok(most.min(MOST_WIDTH))
 }
 
 /// The columns of these moments. The set is told, where points are known, in the first one and in those with a change.
-pub fn columns(
+fn columns_at(
     alloc: Global,
-    history: &History,
-    standings: &[Standing],
-    known: bool,
+    picture: &Picture,
     moments: &[u32],
-) -> Result<Vec<Column>, AllocError>
-    ensures columns { IfOk result (λ v. map column_view v.items ≡ columns_from history.now standings.now known true moments.now) }
-    ensures count { IfOk result (λ v. vec_len v ≡ length moments.now) }
-{
+) -> Result<Vec<Column>, AllocError> {
+    let known = are_known(picture);
+    let mut reached = reached_at_first(alloc, picture)?;
     let mut columns = Vec::new(alloc);
-    let mut reached = reached_at_first(alloc, history)?;
-    let mut first = true;
     for moment in moments {
-        let marks = marks_at(alloc, history.calls(), standings, *moment)?;
-        let shown = known && (first || has_change(&marks));
-        let set = set_shown(alloc, history, standings, &mut reached, shown, *moment)?;
-        columns.push(column_with(alloc, *moment, marks, set)?)?;
-        first = false;
+        let moment = *moment;
+        let mut marks = Vec::new(alloc);
+        add_begun(&mut marks, picture, moment)?;
+        add_standing(&mut marks, picture, moment)?;
+        add_ended(&mut marks, picture, moment)?;
+        let mut set = String::new(alloc);
+        if known
+            && (columns.is_empty() || marks.iter().any(|mark| matches!(mark.sign, Sign::Change)))
+        {
+            go_on(&mut reached, picture, moment)?;
+            set = set_text(alloc, &reached)?;
+        }
+        let width = width_of(alloc, moment, &marks, &set)?;
+        columns.push(Column {
+            moment,
+            marks,
+            set,
+            width,
+        })?;
     }
     Ok(columns)
+}
+
+/// What is drawn of a picture in a window.
+pub fn drawing_in(alloc: Global, picture: &Picture, window: Window) -> Result<Drawing, AllocError> {
+    let moments = moments_shown(alloc, picture, window)?;
+    let columns = columns_at(alloc, picture, &moments)?;
+    let mut drawing = Drawing {
+        columns,
+        known: are_known(picture),
+        from: window.from,
+        last: window.to,
+        before: next_moment(picture, 0).is_some_and(|moment| moment < window.from),
+        after: false,
+    };
+    end_at_last(picture, &mut drawing);
+    Ok(drawing)
+}
+
+/// Ends a drawing with its last column.
+pub fn end_at_last(picture: &Picture, drawing: &mut Drawing) {
+    if let Some(column) = drawing.columns.last() {
+        drawing.last = column.moment;
+    }
+    drawing.after = next_moment(picture, u64::from(drawing.last) + 1).is_some();
 }

@@ -1,35 +1,27 @@
-//! What is drawn of a history: its calls, the points at which they stand in the order, the set at its moments, and the columns
-//! of a window of moments; and what the text and the SVG of a picture share: the signs of a thread's row, the heading, and
-//! the lines below the rows.
+//! Pictures of histories: a bar for each call, a point where it stands in the order, the set below, and the order, as text and as
+//! SVG. Contracts speak of a picture as a value. How it looks is theirs no more: what writes it fails only where memory is
+//! refused, and tests hold the bytes.
 #![tactic(auto)]
 
 mod clashes;
 mod columns;
-mod drawings;
-mod frames;
-mod headings;
-mod lines;
 mod moments;
 mod orders;
 mod picture;
 mod refusals;
-mod refused_events;
 mod sets;
-mod signs;
-mod standings;
+mod sheet;
+mod style;
+mod svg;
+mod text;
 
 pub use clashes::is_clash;
-pub use columns::{Column, Mark, Sign};
-pub use drawings::{Drawing, drawing_in, is_past_the_last};
-pub use frames::add_lines_below;
-pub use headings::{cut_line, heading_line};
-pub use lines::{add_line, put_filled, text_of_lines, thread_label};
 pub use lset_history::Refusal;
 pub use lset_steps::StepFault;
-pub use moments::has_ended_before;
+pub use moments::is_past_the_last;
 pub use picture::{Picture, Window};
-pub use signs::{put_call, signs_text};
-pub use standings::Standing;
+pub use svg::write_svg;
+pub use text::write_picture;
 
 /// The most columns of a picture. (This project's own limit, as are those below.)
 pub const MOST_COLUMNS: usize = 64;
@@ -38,4 +30,4 @@ pub const MOST_COLUMNS: usize = 64;
 pub const MOST_KEYS_SHOWN: usize = 8;
 
 /// The most characters of a column that are left free for its pieces; no piece of a history with an order is longer.
-pub const MOST_WIDTH: u8 = 255;
+pub const MOST_WIDTH: usize = 255;

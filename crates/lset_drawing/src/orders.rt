@@ -1,200 +1,144 @@
-ghost use Rattle.std.specs.Prelude.{◌≡◌, ◌++◌, IfOk, OnOk, count_by, string_bytes};
-ghost use Rattle.lset_drawing.specs.Lines.{texts};
-ghost use Rattle.lset_drawing.specs.Orders.{
-  point_text,
-  made_text,
-  no_change_note,
-  open_note,
-  right_aligned,
-  position_text,
-  place_line,
-  is_shown,
-  is_earlier,
-  is_later,
-  place_lines,
-  left_out_line,
-  left_out_lines,
-  order_lines,
-};
+//! The lines above and below the rows of a picture: its heading, which moments are drawn, and its order.
+use crate::Picture;
+use crate::columns::{Drawing, put_call};
+use crate::picture::{Standing, points_of, standing_at};
+use crate::refusals::{put_refusal, put_refused};
+use crate::sets::put_keys_line;
+use lset_text::{kind_word, reply_word};
+use std::alloc::AllocError;
 
-use crate::lines::{put_filled, put_many};
-use crate::sets::keys_line;
-use crate::signs::put_call;
-use crate::standings::Standing;
-use lset_text::reply_word;
-use lset_words::{CallRecord, Point};
-use std::alloc::{AllocError, Global};
-
-fn point_text(alloc: Global, point: Option<Point>) -> Result<String, AllocError>
-    ensures { IfOk result (λ s. string_bytes s ≡ point_text point) }
-{
-    match point {
-        None => Ok(String::new(alloc)),
-        Some(Point { moment, .. }) => format!(in alloc; "at {moment}"),
-    }
+/// Writes how many there are of something, as `2 calls` or `1 call`.
+fn put_counted(out: &mut String, count: usize, word: &str) -> Result<(), AllocError> {
+    let plural = if count == 1 { "" } else { "s" };
+    write!(out, "{count} {word}{plural}")
 }
 
-fn put_made(out: &mut String, call: u32, made: Option<CallRecord>) -> Result<(), AllocError>
-    ensures { OnOk result (string_bytes out.new ≡ string_bytes out.old ++ made_text call made) }
-{
-    match made {
-        None => write!(out, "call {call}")?,
+/// Writes the heading, as `fine list, 2 threads, quota 4: 3 calls in 35 events`.
+pub fn put_heading(out: &mut String, picture: &Picture) -> Result<(), AllocError> {
+    let kind = kind_word(picture.kind);
+    write!(out, "{kind} list, ")?;
+    put_counted(out, picture.history.threads() as usize, "thread")?;
+    let quota = picture.history.quota();
+    write!(out, ", quota {quota}: ")?;
+    put_counted(out, picture.history.calls().len(), "call")?;
+    if let Some(count) = picture.events {
+        out.push_str(" in ")?;
+        put_counted(out, count as usize, "event")?;
+    }
+    Ok(())
+}
+
+/// Writes which moments are drawn, and by which options those before and after them are:
+/// `moments 20 to 33 of 35; --to 19 goes before; --from 34 goes on`.
+pub fn put_cut(out: &mut String, picture: &Picture, drawing: &Drawing) -> Result<(), AllocError> {
+    let first = drawing.from.max(1);
+    let last = drawing.last;
+    write!(out, "moments {first} to {last}")?;
+    if let Some(count) = picture.events {
+        write!(out, " of {count}")?;
+    }
+    if drawing.before {
+        let before = drawing.from.saturating_sub(1);
+        write!(out, "; --to {before} goes before")?;
+    }
+    if drawing.after {
+        let next = u64::from(last) + 1;
+        write!(out, "; --from {next} goes on")?;
+    }
+    Ok(())
+}
+
+/// Writes a place of the order, as `   2  at 21    thread 0  add 5 true`.
+fn put_place(out: &mut String, number: usize, standing: Standing) -> Result<(), AllocError> {
+    write!(out, "{number:>4}  ")?;
+    match standing.point {
+        Some(point) => {
+            let moment = point.moment;
+            write!(out, "at {moment:<5} ")?;
+        }
+        None => out.push_str("         ")?,
+    }
+    match standing.made {
         Some(made) => {
             let thread = made.thread;
             write!(out, "thread {thread}  ")?;
             put_call(out, made.call)?;
         }
+        None => {
+            let call = standing.placed.call;
+            write!(out, "call {call}")?;
+        }
     }
-    Ok(())
-}
-
-fn no_change_note(point: Option<Point>) -> &'static str
-    ensures { result.now ≡ no_change_note point }
-{
-    match point {
-        None => "",
-        Some(point) => { if point.change { "" } else { "  (no change)" } }
-    }
-}
-
-fn open_note(made: Option<CallRecord>) -> &'static str
-    ensures { result.now ≡ open_note made }
-{
-    match made {
-        None => "",
-        Some(made) => match made.ended {
-            None => "  (still open)",
-            Some(_) => "",
-        },
-    }
-}
-
-fn put_right_aligned(out: &mut String, text: &str, width: usize) -> Result<(), AllocError>
-    ensures { OnOk result (string_bytes out.new ≡ string_bytes out.old ++ right_aligned width text.now) }
-{
-    put_many(out, ' ', width.saturating_sub(text.len()))?;
-    out.push_str(text)
-}
-
-/// Writes where a place stands: its number, and its moment, where it is known.
-fn put_position(alloc: Global, out: &mut String, standing: &Standing) -> Result<(), AllocError>
-    ensures { OnOk result (string_bytes out.new ≡ string_bytes out.old ++ position_text standing.now) }
-{
-    let number = standing.number;
-    let number = format!(in alloc; "{number}")?;
-    put_right_aligned(out, &number, 4)?;
-    out.push_str("  ")?;
-    let point = point_text(alloc, standing.point)?;
-    put_filled(out, &point, 8, ' ')?;
-    out.push_str(" ")
-}
-
-fn place_line(alloc: Global, standing: &Standing) -> Result<String, AllocError>
-    ensures { IfOk result (λ s. string_bytes s ≡ place_line standing.now) }
-{
-    let mut out = String::new(alloc);
-    put_position(alloc, &mut out, standing)?;
-    put_made(&mut out, standing.placed.call, standing.made)?;
     let reply = reply_word(standing.placed.reply);
-    let no_change = no_change_note(standing.point);
-    let still_open = open_note(standing.made);
-    write!(out, " {reply}{no_change}{still_open}")?;
-    Ok(out)
+    let fit = standing.point.is_some_and(|point| !point.change);
+    let open = standing.made.is_some_and(|made| made.ended.is_none());
+    let no_change = if fit { "  (no change)" } else { "" };
+    let still_open = if open { "  (still open)" } else { "" };
+    writeln!(out, " {reply}{no_change}{still_open}")
 }
 
-fn is_shown(standing: &Standing, from: u32, last: u32) -> bool
-    ensures { result ≡ is_shown from last standing.now }
-{
+fn is_shown(standing: Standing, drawing: &Drawing) -> bool {
     match standing.point {
+        Some(point) => drawing.from <= point.moment && point.moment <= drawing.last,
         None => true,
-        Some(point) => from <= point.moment && point.moment <= last,
     }
 }
 
-fn add_places(
-    alloc: Global,
-    lines: &mut Vec<String>,
-    standings: &[Standing],
-    from: u32,
-    last: u32,
-) -> Result<(), AllocError>
-    ensures { OnOk result (texts lines.new.items ≡ texts lines.old.items ++ place_lines from last standings.now) }
-{
-    for standing in standings {
-        if is_shown(standing, from, last) {
-            lines.push(place_line(alloc, standing)?)?;
+fn put_places(out: &mut String, picture: &Picture, drawing: &Drawing) -> Result<(), AllocError> {
+    for index in 0..picture.order.len() {
+        if let Some(standing) = standing_at(picture, index) {
+            if is_shown(standing, drawing) {
+                put_place(out, index + 1, standing)?;
+            }
         }
     }
     Ok(())
 }
 
-fn is_earlier(standing: &Standing, from: u32) -> bool
-    ensures { result ≡ is_earlier from standing.now }
-{
-    match standing.point {
-        None => false,
-        Some(point) => point.moment < from,
-    }
-}
-
-fn is_later(standing: &Standing, last: u32) -> bool
-    ensures { result ≡ is_later last standing.now }
-{
-    match standing.point {
-        None => false,
-        Some(point) => last < point.moment,
-    }
-}
-
-fn count_earlier(standings: &[Standing], from: u32) -> usize
-    ensures { result ≡ count_by (is_earlier from) standings.now }
-{
-    standings.iter().filter(|s| is_earlier(s, from)).count()
-}
-
-fn count_later(standings: &[Standing], last: u32) -> usize
-    ensures { result ≡ count_by (is_later last) standings.now }
-{
-    standings.iter().filter(|s| is_later(s, last)).count()
-}
-
-fn left_out_line(alloc: Global, earlier: usize, later: usize) -> Result<String, AllocError>
-    ensures { IfOk result (λ s. string_bytes s ≡ left_out_line earlier later) }
-{
-    format!(in alloc; "{earlier} before, {later} after")
-}
-
-fn add_left_out(
-    alloc: Global,
-    lines: &mut Vec<String>,
-    standings: &[Standing],
-    from: u32,
-    last: u32,
-) -> Result<(), AllocError>
-    ensures { OnOk result (texts lines.new.items ≡ texts lines.old.items ++ left_out_lines from last standings.now) }
-{
-    let earlier = count_earlier(standings, from);
-    let later = count_later(standings, last);
+/// Writes how many places are not drawn.
+fn put_left_out(out: &mut String, picture: &Picture, drawing: &Drawing) -> Result<(), AllocError> {
+    let points = points_of(picture);
+    let earlier = points
+        .iter()
+        .filter(|point| point.moment < drawing.from)
+        .count();
+    let later = points
+        .iter()
+        .filter(|point| drawing.last < point.moment)
+        .count();
     if earlier > 0 || later > 0 {
-        lines.push(left_out_line(alloc, earlier, later)?)?;
+        writeln!(out, "{earlier} before, {later} after")?;
     }
     Ok(())
 }
 
-/// Adds the order, as far as its points are drawn, and the keys that are left.
-pub fn add_order(
-    alloc: Global,
-    lines: &mut Vec<String>,
-    standings: &[Standing],
-    from: u32,
-    last: u32,
-    keys: &[u32],
-) -> Result<(), AllocError>
-    ensures { OnOk result (texts lines.new.items ≡ texts lines.old.items ++ order_lines from last standings.now keys.now) }
-{
-    lines.push(String::from_str(alloc, "order")?)?;
-    add_places(alloc, lines, standings, from, last)?;
-    add_left_out(alloc, lines, standings, from, last)?;
-    lines.push(keys_line(alloc, keys)?)?;
-    Ok(())
+fn put_order(out: &mut String, picture: &Picture, drawing: &Drawing) -> Result<(), AllocError> {
+    if picture.history.calls().is_empty() {
+        return out.push_str("no calls\n");
+    }
+    out.push_str("order\n")?;
+    put_places(out, picture, drawing)?;
+    put_left_out(out, picture, drawing)
+}
+
+/// Writes what stands below the rows: the order, as far as its points are drawn, with how many places are left out, and the
+/// keys that are left; where the order is refused, why, and else `legend`, where there are points; and at last, where an event of
+/// a schedule is refused, which.
+pub fn put_lines_below(
+    out: &mut String,
+    picture: &Picture,
+    drawing: &Drawing,
+    legend: &str,
+) -> Result<(), AllocError> {
+    put_order(out, picture, drawing)?;
+    put_keys_line(out, &picture.keys)?;
+    if let Some(refusal) = &picture.refusal {
+        put_refusal(out, refusal, &picture.keys)?;
+    } else if drawing.known && !picture.order.is_empty() {
+        writeln!(out, "\n{legend}")?;
+    }
+    match picture.refused {
+        Some((line, cause)) => put_refused(out, line, cause),
+        None => Ok(()),
+    }
 }

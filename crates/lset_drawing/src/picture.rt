@@ -1,10 +1,13 @@
+ghost use Rattle.std.specs.Prelude.{◌≡◌};
+ghost use Rattle.lset_drawing.specs.Pictures.{are_known, points_of, view};
+
 use lset_history::{History, Refusal};
 use lset_steps::StepFault;
-use lset_words::{Kind, Placed, Point};
+use lset_words::{CallRecord, Kind, Placed, Point};
 
 /// The picture of a history: its bars are the calls, by number; the order of the calls, with the point of each place where
-/// they are known; the keys that are left; of a refused order, why; and of a schedule, which event is refused. The points may be
-/// any; they are drawn where there is one for each place and no refusal.
+/// they are known; the keys that are left; of a refused order, why; and of a schedule, which event is refused. The points never
+/// fall along the order; they are drawn where there is one for each place and no refusal.
 #[derive(Drop)]
 pub struct Picture {
     pub kind: Kind,
@@ -25,4 +28,44 @@ pub struct Picture {
 pub struct Window {
     pub from: u32,
     pub to: u32,
+}
+
+/// Whether there is a point for each place of the order, and no refusal.
+pub fn are_known(picture: &Picture) -> bool
+    ensures { result ≡ are_known (view picture.now) }
+{
+    picture.refusal.is_none() && picture.points.len() == picture.order.len()
+}
+
+/// The points that are drawn.
+pub fn points_of(picture: &Picture) -> &[Point]
+    ensures { result.now ≡ points_of (view picture.now) }
+{
+    if are_known(picture) {
+        &picture.points
+    } else {
+        &[]
+    }
+}
+
+/// A place of the order with its call, where the history has it, and its point, where it is known.
+#[derive(Clone, Copy)]
+pub struct Standing {
+    pub placed: Placed,
+    pub made: Option<CallRecord>,
+    pub point: Option<Point>,
+}
+
+fn standing_of(picture: &Picture, index: usize, placed: Placed) -> Standing {
+    Standing {
+        placed,
+        made: picture.history.calls().get(placed.call as usize).copied(),
+        point: points_of(picture).get(index).copied(),
+    }
+}
+
+/// The place of the order with this index, from 0.
+pub fn standing_at(picture: &Picture, index: usize) -> Option<Standing> {
+    let placed = picture.order.get(index)?;
+    Some(standing_of(picture, index, *placed))
 }

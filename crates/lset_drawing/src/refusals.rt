@@ -1,182 +1,82 @@
-ghost use Rattle.std.specs.Prelude.{◌≡◌, ◌++◌, IfOk, OnOk, string_bytes};
-ghost use Rattle.lset_text.specs.Spellings.{reply_text};
-ghost use Rattle.lset_drawing.specs.Sets.{set_text};
-ghost use Rattle.lset_drawing.specs.Refusals.{
-  calls_there,
-  places_before,
-  unknown_text,
-  twice_text,
-  missing_text,
-  says_words,
-  history_says,
-  set_answers_text,
-  too_early_text,
-  wrong_set_words,
-  refusal_text,
-  refusal_line,
-};
-
-use crate::Refusal;
-use crate::sets::set_text;
+//! Why an order, or an event of a schedule, is refused.
+use crate::sets::put_set;
+use lset_history::Refusal;
+use lset_steps::StepFault;
 use lset_text::reply_word;
 use lset_words::Reply;
-use std::alloc::{AllocError, Global};
+use std::alloc::AllocError;
 
-fn put_calls_there(out: &mut String, calls: u32) -> Result<(), AllocError>
-    ensures { OnOk result (string_bytes out.new ≡ string_bytes out.old ++ calls_there calls) }
-{
-    if calls == 0 {
-        return out.push_str("no calls");
+/// Writes the places before a place.
+fn put_places_before(out: &mut String, place: u64) -> Result<(), AllocError> {
+    match place {
+        0 | 1 => out.push_str("at first"),
+        2 => out.push_str("after place 1"),
+        3 => out.push_str("after places 1 and 2"),
+        _ => {
+            let last = place - 1;
+            write!(out, "after places 1 to {last}")
+        }
     }
-    let last = calls - 1;
-    write!(out, "calls 0 to {last}")?;
-    Ok(())
 }
 
-/// Writes when the set stood so, of a set before a place.
-fn put_places_before(out: &mut String, place: u64) -> Result<(), AllocError>
-    ensures { OnOk result (string_bytes out.new ≡ string_bytes out.old ++ places_before place) }
-{
-    if place < 2 {
-        return out.push_str("at first");
-    }
-    if place == 2 {
-        return out.push_str("after place 1");
-    }
-    if place == 3 {
-        return out.push_str("after places 1 and 2");
-    }
-    let last = place - 1;
-    write!(out, "after places 1 to {last}")?;
-    Ok(())
-}
-
-fn put_unknown(out: &mut String, call: u32, calls: u32) -> Result<(), AllocError>
-    ensures { OnOk result (string_bytes out.new ≡ string_bytes out.old ++ unknown_text call calls) }
-{
+fn put_unknown(out: &mut String, call: u32, calls: u32) -> Result<(), AllocError> {
     write!(out, "Unknown {call}: the history has ")?;
-    put_calls_there(out, calls)
-}
-
-fn put_twice(out: &mut String, call: u32, first: u64, second: u64) -> Result<(), AllocError>
-    ensures { OnOk result (string_bytes out.new ≡ string_bytes out.old ++ twice_text call first second) }
-{
-    write!(
-        out,
-        "Twice {call}: it stands at places {first} and {second}"
-    )?;
-    Ok(())
-}
-
-fn put_missing(out: &mut String, call: u32, moment: u32, reply: Reply) -> Result<(), AllocError>
-    ensures { OnOk result (string_bytes out.new ≡ string_bytes out.old ++ missing_text call moment reply) }
-{
-    let word = reply_word(reply);
-    write!(
-        out,
-        "Missing {call}: it ended at {moment} with {word} and has no place"
-    )?;
-    Ok(())
+    match calls.checked_sub(1) {
+        None => out.push_str("no calls"),
+        Some(last) => write!(out, "calls 0 to {last}"),
+    }
 }
 
 /// Writes which reply a place gives to a call.
-#[tactic(auto, unfolding(crate::specs::Refusals::says_words))]
-fn put_says(out: &mut String, call: u32, place: u64, says: Reply) -> Result<(), AllocError>
-    ensures { OnOk result (string_bytes out.new ≡ string_bytes out.old ++ says_words call place (reply_text says)) }
-{
+fn put_says(out: &mut String, call: u32, place: u64, says: Reply) -> Result<(), AllocError> {
     let word = reply_word(says);
-    write!(out, "WrongReply {call}: place {place} says {word}, and ")?;
-    Ok(())
-}
-
-#[tactic(auto, unfolding(crate::specs::Refusals::history_says))]
-fn put_history_says(out: &mut String, ended: Reply) -> Result<(), AllocError>
-    ensures { OnOk result (string_bytes out.new ≡ string_bytes out.old ++ history_says (reply_text ended)) }
-{
-    let word = reply_word(ended);
-    write!(out, "the history says {word}")?;
-    Ok(())
+    write!(out, "WrongReply {call}: place {place} says {word}, and ")
 }
 
 fn put_set_answers(
-    alloc: Global,
     out: &mut String,
     place: u64,
     keys: &[u32],
     answer: Reply,
-) -> Result<(), AllocError>
-    ensures { OnOk result (string_bytes out.new ≡ string_bytes out.old ++ set_answers_text place keys.now answer) }
-{
-    let set = set_text(alloc, keys)?;
+) -> Result<(), AllocError> {
     put_places_before(out, place)?;
     out.push_str(" the set is ")?;
-    out.push_str(&set)?;
+    put_set(out, keys)?;
     let word = reply_word(answer);
-    write!(out, " and answers {word}")?;
-    Ok(())
+    write!(out, " and answers {word}")
 }
 
-fn put_too_early(
-    out: &mut String,
-    call: u32,
-    begun: u32,
-    other: u32,
-    ended: u32,
-) -> Result<(), AllocError>
-    ensures { OnOk result (string_bytes out.new ≡ string_bytes out.old ++ too_early_text call begun other ended) }
-{
-    write!(
-        out,
-        "TooEarly {call}: it begins at {begun} and stands before call {other}, which ended at {ended}"
-    )?;
-    Ok(())
+fn put_sets(out: &mut String, left: &[u32], keys: &[u32]) -> Result<(), AllocError> {
+    out.push_str("WrongSet: the order leaves ")?;
+    put_set(out, left)?;
+    out.push_str(", and the keys are ")?;
+    put_set(out, keys)
 }
 
-#[tactic(auto, unfolding(crate::specs::Refusals::wrong_set_words))]
-fn put_sets(out: &mut String, left: &str, keys: &str) -> Result<(), AllocError>
-    ensures { OnOk result (string_bytes out.new ≡ string_bytes out.old ++ wrong_set_words left.now keys.now) }
-{
-    write!(
-        out,
-        "WrongSet: the order leaves {left}, and the keys are {keys}"
-    )?;
-    Ok(())
-}
-
-fn put_wrong_set(
-    alloc: Global,
-    out: &mut String,
-    left: &[u32],
-    keys: &[u32],
-) -> Result<(), AllocError>
-    ensures { OnOk result
-        (string_bytes out.new ≡ string_bytes out.old ++ wrong_set_words (set_text left.now) (set_text keys.now)) }
-{
-    let left = set_text(alloc, left)?;
-    let keys = set_text(alloc, keys)?;
-    put_sets(out, &left, &keys)
-}
-
-fn put_refusal(
-    alloc: Global,
-    out: &mut String,
-    refusal: &Refusal,
-    keys: &[u32],
-) -> Result<(), AllocError>
-    ensures { OnOk result (string_bytes out.new ≡ string_bytes out.old ++ refusal_text keys.now refusal.now) }
-{
+fn put_reason(out: &mut String, refusal: &Refusal, told: &[u32]) -> Result<(), AllocError> {
     match refusal {
         Refusal::Unknown { call, calls } => put_unknown(out, *call, *calls),
         Refusal::Twice {
             call,
             first,
             second,
-        } => put_twice(out, *call, *first, *second),
+        } => {
+            write!(
+                out,
+                "Twice {call}: it stands at places {first} and {second}"
+            )
+        }
         Refusal::Missing {
             call,
             moment,
             reply,
-        } => put_missing(out, *call, *moment, *reply),
+        } => {
+            let word = reply_word(*reply);
+            write!(
+                out,
+                "Missing {call}: it ended at {moment} with {word} and has no place"
+            )
+        }
         Refusal::HistoryReply {
             call,
             place,
@@ -184,34 +84,45 @@ fn put_refusal(
             ended,
         } => {
             put_says(out, *call, *place, *says)?;
-            put_history_says(out, *ended)
+            let word = reply_word(*ended);
+            write!(out, "the history says {word}")
         }
         Refusal::SetReply {
             call,
             place,
             says,
-            keys: before,
+            keys,
             answer,
         } => {
             put_says(out, *call, *place, *says)?;
-            put_set_answers(alloc, out, *place, before, *answer)
+            put_set_answers(out, *place, keys, *answer)
         }
         Refusal::TooEarly {
             call,
             begun,
             other,
             ended,
-        } => put_too_early(out, *call, *begun, *other, *ended),
-        Refusal::WrongSet { left } => put_wrong_set(alloc, out, left, keys),
+        } => write!(
+            out,
+            "TooEarly {call}: it begins at {begun} and stands before call {other}, which ended at {ended}"
+        ),
+        Refusal::WrongSet { left } => put_sets(out, left, told),
     }
 }
 
-/// The line that tells why an order is refused.
-pub fn refusal_line(alloc: Global, refusal: &Refusal, keys: &[u32]) -> Result<String, AllocError>
-    ensures { IfOk result (λ s. string_bytes s ≡ refusal_line keys.now refusal.now) }
-{
-    let mut out = String::new(alloc);
-    out.push_str("refused ")?;
-    put_refusal(alloc, &mut out, refusal, keys)?;
-    Ok(out)
+/// Writes, after an empty line, why an order is refused, where the report tells these keys.
+pub fn put_refusal(out: &mut String, refusal: &Refusal, told: &[u32]) -> Result<(), AllocError> {
+    out.push_str("\nrefused ")?;
+    put_reason(out, refusal, told)?;
+    out.push_str("\n")
+}
+
+/// Writes, after an empty line, which event of a schedule is refused, in the words of a trace.
+pub fn put_refused(out: &mut String, line: u64, cause: StepFault) -> Result<(), AllocError> {
+    let word = match cause {
+        StepFault::NoThread => "NoThread",
+        StepFault::Busy => "Busy",
+        StepFault::Idle => "Idle",
+    };
+    writeln!(out, "\nrefused line {line} {word}")
 }

@@ -1,2 +1,1 @@
-mod ExampleNames
 mod Marks

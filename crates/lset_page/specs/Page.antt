@@ -40,7 +40,7 @@ OfText Makes text made = Makes text made × (made ≢ Err CannotRead)
 -- What `show` makes of the bytes as options ask for it, as in the program (`ShowsAsked` of lset_dispatch); a wrong option is
 -- named.
 abbrev pub ShowsAsked : Result (Form × Window) ValueName → List ℕ → Made → Type 0
-ShowsAsked (Ok asked) bytes made = Shows asked.0 asked.1 bytes made
+ShowsAsked (Ok asked) bytes made = Shows asked.1 bytes made
 ShowsAsked (Err wrong) bytes made = made ≡ Err (Bad wrong)
 
 -- the words of the bytes, which are UTF-8, or are read with U+FFFD for what is none, cut at zero bytes

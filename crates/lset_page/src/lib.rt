@@ -8,7 +8,6 @@
 
 mod generating;
 mod handing;
-mod naming;
 mod showing;
 mod words;
 
@@ -26,11 +25,10 @@ ghost use Rattle.lset_page.specs.Page.{Hands, OfText, OfWords, ShowsBy};
 use generating::generated_by;
 use handing::hand;
 use lset_tools::{checked, faults_told, replayed, reported};
-use naming::exampled_by;
 use showing::shown_by;
 use std::alloc::Global;
 use tool_draft::drafted;
-use tool_examples::exampled;
+use tool_examples::{exampled, exampled_by};
 use tool_trace::traced;
 
 /// What `listset replay` prints of the schedule whose text is given: its report, or the line about the first fault of the
@@ -84,7 +82,7 @@ pub extern "C" fn listset_trace(
     room: &mut [u8],
     status: &mut u8,
 ) -> usize
-    ensures { Hands (OfText (Traces false) text.now) room.old room.new status.new result }
+    ensures { Hands (OfText Traces text.now) room.old room.new status.new result }
 {
     hand(alloc, traced(alloc, text, false), room, status)
 }
@@ -97,7 +95,7 @@ pub extern "C" fn listset_trace_with_chains(
     room: &mut [u8],
     status: &mut u8,
 ) -> usize
-    ensures { Hands (OfText (Traces true) text.now) room.old room.new status.new result }
+    ensures { Hands (OfText Traces text.now) room.old room.new status.new result }
 {
     hand(alloc, traced(alloc, text, true), room, status)
 }

@@ -1,4 +1,4 @@
-pub mod Plans
+pub mod Listed
 pub mod Orders
 pub mod TakenOut
 pub mod LostKey

@@ -7,4 +7,4 @@ mod texts;
 mod tool;
 
 pub use example::{ALL, Example, named, names_are_distinct};
-pub use tool::{exampled, tool_example};
+pub use tool::{exampled, exampled_by, tool_example};

@@ -11,7 +11,6 @@ use Rattle.lset_replay.specs.Reports.{IsExplained}
 use Rattle.lset_drawing.specs.declared.picture.Window.{Window}
 use Rattle.lset_drawing.specs.Pictures.{PictureValue}
 use Rattle.lset_tools.specs.Tools.{Made}
-use Rattle.tool_show.specs.declared.asking.Form.{Form}
 use Rattle.tool_show.specs.Bars.{BarsAreApart}
 use Rattle.tool_show.specs.ReportPictures.{report_in}
 use Rattle.tool_show.specs.SchedulePictures.{IsPictureOfSchedule}
@@ -49,9 +48,9 @@ schedule_picture p r points events refused upto explained apart =
     }
 
 -- what is made of the bytes that were read is made of those of the input
-pub shown_of : (remaining : Option (List ℕ)) (form : Form) (window : Window) (items read : List ℕ) (made : Made)
-    → read ≡ items → IfSome remaining (λ bytes. items ≡ bytes) → Shows form window read made
-    → IfSome remaining (λ bytes. Shows form window bytes made)
-shown_of None form window items read made e is h = tt
-shown_of (Some bytes) form window items read made e is h =
-    let S : List ℕ → Type 0 = λ bs. Shows form window bs made in subst S (e ∙ is) h
+pub shown_of : (remaining : Option (List ℕ)) (window : Window) (items read : List ℕ) (made : Made)
+    → read ≡ items → IfSome remaining (λ bytes. items ≡ bytes) → Shows window read made
+    → IfSome remaining (λ bytes. Shows window bytes made)
+shown_of None window items read made e is h = tt
+shown_of (Some bytes) window items read made e is h =
+    let S : List ℕ → Type 0 = λ bs. Shows window bs made in subst S (e ∙ is) h

@@ -12,18 +12,13 @@ use Rattle.lset_text.specs.Parts.{ended}
 use Rattle.lset_text.specs.declared.words.Version.TheVariants.{One, Two}
 use Rattle.lset_drawing.specs.declared.picture.Window.{Window}
 use Rattle.lset_drawing.specs.Pictures.{PictureValue}
-use Rattle.lset_drawing.specs.Drawings.{is_past_the_last}
-use Rattle.lset_text_picture.specs.PictureTexts.{picture_text}
-use Rattle.lset_text_picture.specs.Widths.{IsFitted}
-use Rattle.lset_svg.specs.Svg.{svg_text}
+use Rattle.lset_drawing.specs.Moments.{is_past_the_last}
 use Rattle.lset_tools.specs.declared.trouble.Trouble.{Trouble}
 use Rattle.lset_tools.specs.declared.trouble.Trouble.TheVariants.{Bad}
 use Rattle.lset_tools.specs.declared.trouble.ValueName.TheVariants.{From}
 use Rattle.lset_tools.specs.Tools.{Made, IsTaken, IsInputTrouble}
 use Rattle.lset_tools.specs.Trouble.{of_schedule}
 use Rattle.lset_tools.specs.Checking as checking
-use Rattle.tool_show.specs.declared.asking.Form.{Form}
-use Rattle.tool_show.specs.declared.asking.Form.TheVariants.{Text, Svg}
 use Rattle.tool_show.specs.ReportPictures.{IsPictureOfReport}
 use Rattle.tool_show.specs.SchedulePictures.{IsPictureOfSchedule}
 
@@ -58,11 +53,6 @@ IsFirstFault bytes t =
     (has_report_title bytes ≡ true) × checking.IsFirstFault (report.reading bytes) t
     ⊎ (has_report_title bytes ≡ false) × IsScheduleFault (schedule.reading bytes) t
 
--- the text of a picture, of the window that fits its width, or its SVG
-abbrev pub Draws : Form → PictureValue → Window → List ℕ → Type 0
-Draws (Text width) v window text = (fitted : Window) × IsFitted width v window fitted × (text ≡ picture_text v fitted)
-Draws Svg v window text = text ≡ svg_text v window
-
 -- 1 where a refusal is told, of an order or of an event
 abbrev pub status_of : PictureValue → ℕ
 status_of v = if is_none v.refusal && is_none v.refused then 0 else 1
@@ -76,10 +66,10 @@ IsPast window bytes t = (t ≡ Bad From) × (v : PictureValue) × ShowsText byte
 abbrev pub IsWrong : Window → List ℕ → Trouble → Type 0
 IsWrong window bytes t = IsFirstFault bytes t ⊎ IsPast window bytes t
 
--- what is made of the bytes of an input: the picture of the schedule or the report whose text they are, which goes on to the
--- first moment of the window; or a trouble with the input, or its first fault, or a window past the picture
-abbrev pub Shows : Form → Window → List ℕ → Made → Type 0
-Shows form window bytes (Ok answer) =
-    IsTaken bytes × (v : PictureValue) × ShowsText bytes v × (is_past_the_last v window.from ≡ false)
-    × Draws form v window answer.text × (answer.status ≡ status_of v)
-Shows form window bytes (Err t) = IsInputTrouble bytes t ⊎ (IsTaken bytes × IsWrong window bytes t)
+-- What is made of the bytes of an input: a text of the picture of the schedule or the report whose text they are, which goes on to
+-- the first moment of the window, with the status of that picture; or a trouble with the input, or its first fault, or a window
+-- past the picture. How the picture looks as text or as SVG is tested.
+abbrev pub Shows : Window → List ℕ → Made → Type 0
+Shows window bytes (Ok answer) =
+    IsTaken bytes × (v : PictureValue) × ShowsText bytes v × (is_past_the_last v window.from ≡ false) × (answer.status ≡ status_of v)
+Shows window bytes (Err t) = IsInputTrouble bytes t ⊎ (IsTaken bytes × IsWrong window bytes t)

@@ -15,16 +15,13 @@ ghost use Rattle.tool_show.specs.Showing.{
   IsScheduleFault,
   IsWrong,
   has_report_title,
-  Draws,
   status_of,
 };
 
 use crate::{Form, picture_of_replay, picture_of_report};
-use lset_drawing::{Picture, Window, is_past_the_last};
+use lset_drawing::{Picture, Window, is_past_the_last, write_picture, write_svg};
 use lset_report::read_report;
 use lset_schedule::read_schedule;
-use lset_svg::write_svg;
-use lset_text_picture::{fitted_window, write_picture};
 use lset_tools::{Answer, LONGEST, Trouble, ValueName, deliver, input_of};
 use std::alloc::{AllocError, Global};
 use std::io::{Read, Write};
@@ -73,20 +70,15 @@ fn picture_of(alloc: Global, bytes: &[u8]) -> Result<Picture, Trouble>
     }
 }
 
-/// The text of the picture, of the window that fits its width, or its SVG.
+/// The picture as text, or as an SVG.
 fn text_of(
     alloc: Global,
     picture: &Picture,
     form: Form,
     window: Window,
-) -> Result<Vec<u8>, AllocError>
-    ensures { IfOk result (λ v. Draws form (view picture.now) window v.items) }
-{
+) -> Result<Vec<u8>, AllocError> {
     match form {
-        Form::Text(width) => {
-            let fitted = fitted_window(alloc, picture, window, width)?;
-            write_picture(alloc, picture, fitted)
-        }
+        Form::Text(width) => write_picture(alloc, picture, window, width),
         Form::Svg => write_svg(alloc, picture, window),
     }
 }
@@ -106,7 +98,7 @@ fn status_of(picture: &Picture) -> u8
 /// last moment at which something happens is refused.
 fn answer_of(alloc: Global, bytes: &[u8], form: Form, window: Window) -> Result<Answer, Trouble>
     requires { IsTaken bytes.now }
-    ensures shows { Shows form window bytes.now (tools.view result) }
+    ensures shows { Shows window bytes.now (tools.view result) }
     ensures trouble { IfErr result (λ t. (t ≡ Memory) ⊎ IsWrong window bytes.now t) }
 {
     let picture = picture_of(alloc, bytes)?;
@@ -129,7 +121,7 @@ fn answer_of(alloc: Global, bytes: &[u8], form: Form, window: Window) -> Result<
 /// `read_schedule`. `Bad(From)` where calls begin, stand or end in the picture, and all of that before `window.from`. `Memory`
 /// where memory was refused.
 pub fn shown(alloc: Global, bytes: &[u8], form: Form, window: Window) -> Result<Answer, Trouble>
-    ensures shows { Shows form window bytes.now (tools.view result) }
+    ensures shows { Shows window bytes.now (tools.view result) }
     // Bytes that are here can be read.
     ensures read { IfErr result (λ t. t ≢ Trouble.CannotRead) }
 {
@@ -145,7 +137,7 @@ fn drawn_of<R: Read>(
     window: Window,
     input: &mut R,
 ) -> Result<Answer, Trouble>
-    ensures { IfSome (R.remaining input.old) (λ bytes. Shows form window bytes (tools.view result)) }
+    ensures { IfSome (R.remaining input.old) (λ bytes. Shows window bytes (tools.view result)) }
 {
     let bytes = input_of(alloc, input)?;
     shown(alloc, &bytes, form, window)
@@ -164,7 +156,7 @@ pub fn tool_show<R: Read, W: Write, F: Write>(
     output: &mut W,
     faults: &mut F,
 ) -> u8
-    ensures { Ends (λ made. IfSome (R.remaining input.old) (λ bytes. Shows form window bytes made))
+    ensures { Ends (λ made. IfSome (R.remaining input.old) (λ bytes. Shows window bytes made))
         (W.contents output.old) (W.contents output.new) (F.contents faults.old) (F.contents faults.new) result }
 {
     let answer = drawn_of(alloc, form, window, input);

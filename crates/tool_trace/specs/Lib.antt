@@ -1,3 +1,1 @@
-pub mod WordTexts
-pub mod TraceTexts
 pub mod Tracing

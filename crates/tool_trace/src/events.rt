@@ -1,114 +1,118 @@
-ghost use Rattle.std.specs.Prelude.{◌≡◌, ◌++◌, OnOk, string_bytes};
-ghost use Rattle.lset_text.specs.Parts.{ended, text_of};
-ghost use Rattle.tool_trace.specs.TraceTexts.{
-  access_text,
-  begin_text,
-  deed_text,
-  change_text,
-  end_text,
-  event_line,
-  chain_key_text,
-  chain_line,
-  lines_of_event,
-  event_lines,
-};
-
-use crate::registers::put_changes;
-use crate::table_words::{TableWord, put_name, put_value};
+//! The line of an event.
+use crate::chunks::{Chunk, put, put_number};
+use crate::table_words::{TableWord, put_key, put_name, put_node, put_value};
 use lset_replay::{CallEnd, Deed, TracedEvent};
-use lset_steps::{Action, ChainKey, Local};
-use lset_text::{call_word, reply_word};
-use lset_words::{Call, Key};
-use std::alloc::AllocError;
+use lset_steps::{Action, Local};
+use lset_text::call_word;
+use lset_words::{Call, Key, Reply};
 
-fn put_load(out: &mut String, index: u64, seen: u64) -> Result<(), AllocError>
-    ensures { OnOk result (string_bytes out.new ≡ string_bytes out.old ++ access_text (Action.Load index) seen) }
-{
-    let word = TableWord::at(index);
-    write!(out, "load ")?;
-    put_name(out, word)?;
-    write!(out, " saw ")?;
-    put_value(out, word, seen)
-}
-
-fn put_store(out: &mut String, index: u64, value: u64, seen: u64) -> Result<(), AllocError>
-    ensures { OnOk result (string_bytes out.new ≡ string_bytes out.old ++ access_text (Action.Store index value) seen) }
-{
-    let word = TableWord::at(index);
-    write!(out, "store ")?;
-    put_name(out, word)?;
-    write!(out, " ")?;
-    put_value(out, word, value)
-}
-
-fn put_exchange(
-    out: &mut String,
-    index: u64,
-    from: u64,
-    to: u64,
-    seen: u64,
-) -> Result<(), AllocError>
-    ensures { OnOk result (string_bytes out.new ≡ string_bytes out.old ++ access_text (Action.Exchange index from to) seen) }
-{
-    let word = TableWord::at(index);
-    write!(out, "exchange ")?;
-    put_name(out, word)?;
-    write!(out, " from ")?;
-    put_value(out, word, from)?;
-    write!(out, " to ")?;
-    put_value(out, word, to)?;
-    write!(out, " saw ")?;
-    put_value(out, word, seen)
-}
-
-fn put_access(out: &mut String, action: Action, seen: u64) -> Result<(), AllocError>
-    ensures { OnOk result (string_bytes out.new ≡ string_bytes out.old ++ access_text action seen) }
-{
-    match action {
-        Action::Load(index) => put_load(out, index, seen),
-        Action::Store(index, value) => put_store(out, index, value, seen),
-        Action::Exchange(index, from, to) => put_exchange(out, index, from, to, seen),
-    }
-}
-
-fn put_begin(out: &mut String, call: Call, number: u32, pc: u8) -> Result<(), AllocError>
-    ensures { OnOk result (string_bytes out.new ≡ string_bytes out.old ++ begin_text call number pc) }
-{
-    let word = call_word(call);
-    let key = call.key().0;
-    write!(out, "begin {word} {key} call {number} pc {pc}")?;
-    Ok(())
-}
-
-/// What was done, the row at which the thread stands then, and what it holds that is new.
-fn put_deed(out: &mut String, deed: Deed, before: Local, after: Local) -> Result<(), AllocError>
-    ensures { OnOk result (string_bytes out.new ≡ string_bytes out.old ++ deed_text deed before after) }
-{
-    let pc = after.pc;
-    match deed {
-        Deed::Begin(call, number) => put_begin(out, call, number, pc),
-        Deed::Access(action, seen) => {
-            put_access(out, action, seen)?;
-            write!(out, " pc {pc}")?;
-            put_changes(out, before, after)
+fn put_reply(out: &mut Chunk, reply: Reply) {
+    match reply {
+        Reply::True => put(out, "true"),
+        Reply::False => put(out, "false"),
+        Reply::Full => put(out, "full"),
+        Reply::Nothing => put(out, "nothing"),
+        Reply::At(key) => {
+            put(out, "at-");
+            put_number(out, u64::from(key.0));
         }
     }
 }
 
-fn put_change(out: &mut String, change: Option<(Key, bool)>) -> Result<(), AllocError>
-    ensures { OnOk result (string_bytes out.new ≡ string_bytes out.old ++ change_text change) }
-{
-    if let Some((key, added)) = change {
-        let word = if added { "put" } else { "took" };
-        let key = key.0;
-        write!(out, " {word} {key}")?;
+/// Writes an access, and the value that it saw; of a store that is the value stored, which is not told twice.
+fn put_access(out: &mut Chunk, action: Action, seen: u64) {
+    let (verb, index) = match action {
+        Action::Load(index) => ("load ", index),
+        Action::Store(index, _) => ("store ", index),
+        Action::Exchange(index, _, _) => ("exchange ", index),
+    };
+    let word = TableWord::at(index);
+    put(out, verb);
+    put_name(out, word);
+    match action {
+        Action::Load(_) => {}
+        Action::Store(_, value) => {
+            put(out, " ");
+            return put_value(out, word, value);
+        }
+        Action::Exchange(_, from, to) => {
+            put(out, " from ");
+            put_value(out, word, from);
+            put(out, " to ");
+            put_value(out, word, to);
+        }
     }
-    Ok(())
+    put(out, " saw ");
+    put_value(out, word, seen);
 }
 
-fn put_end(out: &mut String, end: Option<CallEnd>) -> Result<(), AllocError>
-    ensures { OnOk result (string_bytes out.new ≡ string_bytes out.old ++ end_text end) }
-{
+/// A register of nodes, where it has another value than before.
+fn put_node_change(out: &mut Chunk, name: &str, before: u64, after: u64) {
+    if before != after {
+        put(out, name);
+        put_node(out, after);
+    }
+}
+
+/// A register of key words, where it has another value than before.
+fn put_key_change(out: &mut Chunk, name: &str, before: u64, after: u64) {
+    if before != after {
+        put(out, name);
+        put_key(out, after);
+    }
+}
+
+/// Of what a thread holds, whatever an event has changed.
+fn put_changes(out: &mut Chunk, before: &Local, after: &Local) {
+    put_node_change(out, " pred ", before.pred, after.pred);
+    put_node_change(out, " curr ", before.curr, after.curr);
+    put_node_change(out, " succ ", before.succ, after.succ);
+    put_node_change(out, " node ", before.node, after.node);
+    put_key_change(out, " pkey ", before.pkey, after.pkey);
+    put_key_change(out, " ckey ", before.ckey, after.ckey);
+    if before.used != after.used {
+        put(out, " used ");
+        put_number(out, u64::from(after.used));
+    }
+    if before.reply != after.reply {
+        put(out, " reply ");
+        match after.reply {
+            Some(reply) => put_reply(out, reply),
+            None => put(out, "none"),
+        }
+    }
+}
+
+fn put_begin(out: &mut Chunk, call: Call, number: u32) {
+    put(out, "begin ");
+    put(out, call_word(call));
+    put(out, " ");
+    put_number(out, u64::from(call.key().0));
+    put(out, " call ");
+    put_number(out, u64::from(number));
+}
+
+/// What was done, the row at which the thread stands then, and what it holds that is new.
+fn put_deed(out: &mut Chunk, deed: Deed, before: &Local, after: &Local) {
+    match deed {
+        Deed::Begin(call, number) => put_begin(out, call, number),
+        Deed::Access(action, seen) => put_access(out, action, seen),
+    }
+    put(out, " pc ");
+    put_number(out, u64::from(after.pc));
+    if let Deed::Access(_, _) = deed {
+        put_changes(out, before, after);
+    }
+}
+
+fn put_change(out: &mut Chunk, change: Option<(Key, bool)>) {
+    if let Some((key, added)) = change {
+        put(out, if added { " put " } else { " took " });
+        put_number(out, u64::from(key.0));
+    }
+}
+
+fn put_end(out: &mut Chunk, end: Option<CallEnd>) {
     if let Some(
         CallEnd {
             call,
@@ -117,67 +121,26 @@ fn put_end(out: &mut String, end: Option<CallEnd>) -> Result<(), AllocError>
         },
     ) = end
     {
-        let word = reply_word(reply);
-        write!(out, " answer {word} call {call} at {moment}")?;
+        put(out, " answer ");
+        put_reply(out, reply);
+        put(out, " call ");
+        put_number(out, u64::from(call));
+        put(out, " at ");
+        put_number(out, u64::from(moment));
     }
-    Ok(())
 }
 
-fn put_line(out: &mut String, number: usize, event: &TracedEvent) -> Result<(), AllocError>
-    ensures { OnOk result (string_bytes out.new ≡ string_bytes out.old ++ ended (event_line number event.now)) }
-{
-    let line = event.line;
-    let thread = event.thread;
-    write!(out, "event {number} line {line} thread {thread} ")?;
-    put_deed(out, event.deed, event.before, event.after)?;
-    put_change(out, event.change)?;
-    put_end(out, event.end)?;
-    writeln!(out)?;
-    Ok(())
-}
-
-fn put_chain_key(out: &mut String, place: ChainKey) -> Result<(), AllocError>
-    ensures { OnOk result (string_bytes out.new ≡ string_bytes out.old ++ chain_key_text place) }
-{
-    let key = place.key;
-    write!(out, " {key}")?;
-    if place.marked {
-        write!(out, "*")?;
-    }
-    Ok(())
-}
-
-fn put_chain(out: &mut String, chain: &[ChainKey]) -> Result<(), AllocError>
-    ensures { OnOk result (string_bytes out.new ≡ string_bytes out.old ++ ended (chain_line chain.now)) }
-{
-    write!(out, "chain")?;
-    for place in chain {
-        put_chain_key(out, *place)?;
-    }
-    writeln!(out)?;
-    Ok(())
-}
-
-/// The line of an event, and after it that of the chain where the event has one.
-pub(crate) fn put_event(
-    out: &mut String,
-    number: usize,
-    event: &TracedEvent,
-) -> Result<(), AllocError>
-    ensures { OnOk result (string_bytes out.new ≡ string_bytes out.old ++ text_of (lines_of_event number event.now)) }
-{
-    put_line(out, number, event)?;
-    if let Some(chain) = &event.chain {
-        put_chain(out, chain)?;
-    }
-    Ok(())
-}
-
-pub(crate) fn put_events(out: &mut String, events: &[TracedEvent]) -> Result<(), AllocError>
-    ensures { OnOk result (string_bytes out.new ≡ string_bytes out.old ++ text_of (event_lines 1 events.now)) }
-{
-    for (index, event) in events.iter().enumerate() {
-        put_event(out, index + 1, event)?;
-    }
-    Ok(())
+/// Writes the line of an event, the one with this number from 1.
+pub fn put_event(out: &mut Chunk, number: u32, event: &TracedEvent) {
+    put(out, "event ");
+    put_number(out, u64::from(number));
+    put(out, " line ");
+    put_number(out, event.line);
+    put(out, " thread ");
+    put_number(out, u64::from(event.thread));
+    put(out, " ");
+    put_deed(out, event.deed, &event.before, &event.after);
+    put_change(out, event.change);
+    put_end(out, event.end);
+    put(out, "\n");
 }

@@ -1,15 +1,17 @@
 //! The text of a trace: what each event of a schedule did, one line for each.
+//!
+//! A listener of `lset_replay::trace_to` writes it into memory. The program writes the trace without chains as it goes: a first
+//! replay finds how the events end and where the calls stand, a second one asks for no memory.
 #![tactic(auto)]
 
+mod chunks;
 mod events;
-mod registers;
+mod heard;
+mod streamed;
 mod table_words;
 mod tool;
-mod writing;
 
-pub use table_words::{TableWord, texts_are_apart};
 pub use tool::{tool_trace, traced};
-pub use writing::write_trace;
 
 /// The first line of a trace's text.
 const TITLE: &str = "listset-trace 1";

@@ -1,23 +1,5 @@
-ghost use Rattle.std.specs.Prelude.{◌≡◌, ◌++◌, OnOk, string_bytes};
-ghost use Rattle.std.specs.Fmt.{decimal};
-ghost use Rattle.tool_trace.specs.WordTexts.{
-  word_at,
-  node_text,
-  key_text,
-  link_text,
-  lock_text,
-  field_text,
-  name_text,
-  value_text,
-  WordsAreNamed,
-  NamesApart,
-  ValuesApart,
-};
-
-use std::alloc::AllocError;
-
-/// The key word of the head.
-const BELOW_ALL_KEYS: u64 = 0;
+//! The words of a list's table as text: three of the list, and three of each node.
+use crate::chunks::{Chunk, put, put_number};
 
 /// The key word of the tail.
 const ABOVE_ALL_KEYS: u64 = 4_294_967_297;
@@ -36,105 +18,75 @@ pub enum TableWord {
 
 impl TableWord {
     /// The word with this index in the table. Every index has one, also past the end of a table.
-    pub fn at(index: u64) -> TableWord
-        ensures { result ≡ word_at index }
-    {
-        match index {
-            0 => TableWord::ListLock,
-            1 => TableWord::Threads,
-            2 => TableWord::Quota,
-            _ => {
-                let node = (index - 3) / 3;
-                match index % 3 {
-                    0 => TableWord::Key(node),
-                    1 => TableWord::Link(node),
-                    _ => TableWord::Lock(node),
-                }
-            }
+    pub fn at(index: u64) -> TableWord {
+        let Some(past) = index.checked_sub(3) else {
+            return match index {
+                0 => TableWord::ListLock,
+                1 => TableWord::Threads,
+                _ => TableWord::Quota,
+            };
+        };
+        let node = past / 3;
+        match past % 3 {
+            0 => TableWord::Key(node),
+            1 => TableWord::Link(node),
+            _ => TableWord::Lock(node),
         }
     }
 }
 
-pub(crate) fn put_node(out: &mut String, node: u64) -> Result<(), AllocError>
-    ensures { OnOk result (string_bytes out.new ≡ string_bytes out.old ++ node_text node) }
-{
+pub fn put_node(out: &mut Chunk, node: u64) {
     match node {
-        0 => write!(out, "head")?,
-        1 => write!(out, "tail")?,
-        _ => write!(out, "n{node}")?,
-    }
-    Ok(())
-}
-
-pub(crate) fn put_key(out: &mut String, word: u64) -> Result<(), AllocError>
-    ensures { OnOk result (string_bytes out.new ≡ string_bytes out.old ++ key_text word) }
-{
-    match word {
-        BELOW_ALL_KEYS => write!(out, "-inf")?,
-        ABOVE_ALL_KEYS => write!(out, "+inf")?,
+        0 => put(out, "head"),
+        1 => put(out, "tail"),
         _ => {
-            let key = word - 1;
-            write!(out, "{key}")?;
+            put(out, "n");
+            put_number(out, node);
         }
     }
-    Ok(())
 }
 
-fn put_link(out: &mut String, word: u64) -> Result<(), AllocError>
-    ensures { OnOk result (string_bytes out.new ≡ string_bytes out.old ++ link_text word) }
-{
-    put_node(out, word / 2)?;
-    if word % 2 == 1 {
-        write!(out, "*")?;
-    }
-    Ok(())
-}
-
-fn put_lock(out: &mut String, word: u64) -> Result<(), AllocError>
-    ensures { OnOk result (string_bytes out.new ≡ string_bytes out.old ++ lock_text word) }
-{
-    if word == 0 {
-        write!(out, "free")?;
-    } else {
-        let thread = word - 1;
-        write!(out, "t{thread}")?;
-    }
-    Ok(())
-}
-
-fn put_number(out: &mut String, word: u64) -> Result<(), AllocError>
-    ensures { OnOk result (string_bytes out.new ≡ string_bytes out.old ++ decimal word) }
-{
-    write!(out, "{word}")?;
-    Ok(())
-}
-
-/// A word of a node: the node and, after a point, which of its words.
-fn put_field(out: &mut String, node: u64, field: &str) -> Result<(), AllocError>
-    ensures { OnOk result (string_bytes out.new ≡ string_bytes out.old ++ field_text node field.now) }
-{
-    put_node(out, node)?;
-    write!(out, ".{field}")?;
-    Ok(())
-}
-
-pub(crate) fn put_name(out: &mut String, word: TableWord) -> Result<(), AllocError>
-    ensures { OnOk result (string_bytes out.new ≡ string_bytes out.old ++ name_text word) }
-{
+pub fn put_key(out: &mut Chunk, word: u64) {
     match word {
-        TableWord::ListLock => write!(out, "list.lock")?,
-        TableWord::Threads => write!(out, "list.threads")?,
-        TableWord::Quota => write!(out, "list.quota")?,
-        TableWord::Key(node) => put_field(out, node, "key")?,
-        TableWord::Link(node) => put_field(out, node, "link")?,
-        TableWord::Lock(node) => put_field(out, node, "lock")?,
+        0 => put(out, "-inf"),
+        ABOVE_ALL_KEYS => put(out, "+inf"),
+        _ => put_number(out, word - 1),
     }
-    Ok(())
 }
 
-pub(crate) fn put_value(out: &mut String, word: TableWord, value: u64) -> Result<(), AllocError>
-    ensures { OnOk result (string_bytes out.new ≡ string_bytes out.old ++ value_text word value) }
-{
+fn put_link(out: &mut Chunk, word: u64) {
+    put_node(out, word / 2);
+    if word % 2 == 1 {
+        put(out, "*");
+    }
+}
+
+fn put_lock(out: &mut Chunk, word: u64) {
+    match word {
+        0 => put(out, "free"),
+        _ => {
+            put(out, "t");
+            put_number(out, word - 1);
+        }
+    }
+}
+
+/// Writes the name of a word, as `n2.link`.
+pub fn put_name(out: &mut Chunk, word: TableWord) {
+    let (node, field) = match word {
+        TableWord::ListLock => return put(out, "list.lock"),
+        TableWord::Threads => return put(out, "list.threads"),
+        TableWord::Quota => return put(out, "list.quota"),
+        TableWord::Key(node) => (node, ".key"),
+        TableWord::Link(node) => (node, ".link"),
+        TableWord::Lock(node) => (node, ".lock"),
+    };
+    put_node(out, node);
+    put(out, field);
+}
+
+/// Writes a value of a word: of a link the next node, with a star where it is marked.
+pub fn put_value(out: &mut Chunk, word: TableWord, value: u64) {
     match word {
         TableWord::Key(_) => put_key(out, value),
         TableWord::Link(_) => put_link(out, value),
@@ -142,11 +94,3 @@ pub(crate) fn put_value(out: &mut String, word: TableWord, value: u64) -> Result
         TableWord::Threads | TableWord::Quota => put_number(out, value),
     }
 }
-
-/// Nothing is lost in the texts: an index gives the word that lies there, different words have different names, and different
-/// values of one word different texts.
-pub fn texts_are_apart()
-    ensures named { WordsAreNamed }
-    ensures names { NamesApart }
-    ensures values { ValuesApart }
-{}

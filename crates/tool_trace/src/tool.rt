@@ -1,14 +1,16 @@
-ghost use Rattle.std.specs.Prelude.{◌≡◌, ◌≢◌, ◌⊎◌, IfErr, IfSome};
+ghost use Rattle.std.specs.Prelude.{◌≡◌, ◌≢◌, ◌⊎◌, Err, IfErr, IfOk, IfSome};
+ghost use Rattle.lset_schedule.specs.Plan as plan;
 ghost use Rattle.lset_schedule.specs.ScheduleReading.{reading};
 ghost use Rattle.lset_tools.specs.Tools.{Ends, IsTaken, view};
 ghost use Rattle.lset_tools.specs.declared.trouble.Trouble.TheVariants.{Memory};
-ghost use Rattle.tool_trace.specs.Tracing.{IsFirstFault, Traces, status_of};
+ghost use Rattle.tool_trace.specs.Tracing.{HowItEnds, IsFirstFault, IsTraced, Traces, made_for, status_of};
 
-use crate::writing::write_run;
-use lset_schedule::read_schedule;
+use crate::heard::text_of_run;
+use crate::streamed::{Known, known_of, write_run};
+use lset_schedule::{Schedule, read_schedule};
 use lset_steps::StepFault;
 use lset_tools::{Answer, LONGEST, Trouble, deliver, input_of};
-use std::alloc::Global;
+use std::alloc::{AllocError, Global};
 use std::io::{Read, Write};
 
 fn status_of(refused: Option<(u64, StepFault)>) -> u8
@@ -20,14 +22,25 @@ fn status_of(refused: Option<(u64, StepFault)>) -> u8
     }
 }
 
-/// The text of the trace of the schedule whose text the bytes are.
-fn trace_of(alloc: Global, bytes: &[u8], chains: bool) -> Result<Answer, Trouble>
-    requires { IsTaken bytes.now }
-    ensures traces { Traces chains bytes.now (view result) }
+/// The schedule whose text the bytes are, and what a first pass tells.
+fn known_in(alloc: Global, bytes: &[u8]) -> Result<(Schedule, Known), Trouble>
+    ensures traced { IfOk result (λ r. IsTraced bytes.now r.1.refused) }
+    ensures schedule { IfOk result (λ r. plan.IsSchedule (plan.view r.0)) }
     ensures trouble { IfErr result (λ t. (t ≡ Memory) ⊎ IsFirstFault (reading bytes.now) t) }
 {
     let schedule = read_schedule(alloc, bytes)?;
-    let (text, refused) = write_run(alloc, &schedule, chains)?;
+    let known = known_of(alloc, &schedule)?;
+    Ok((schedule, known))
+}
+
+/// The text of the trace of the schedule whose text the bytes are.
+fn trace_of(alloc: Global, bytes: &[u8], chains: bool) -> Result<Answer, Trouble>
+    requires { IsTaken bytes.now }
+    ensures traces { Traces bytes.now (view result) }
+    ensures trouble { IfErr result (λ t. (t ≡ Memory) ⊎ IsFirstFault (reading bytes.now) t) }
+{
+    let schedule = read_schedule(alloc, bytes)?;
+    let (text, refused) = text_of_run(alloc, &schedule, chains)?;
     let status = status_of(refused);
     Ok(Answer { text, status })
 }
@@ -37,7 +50,7 @@ fn trace_of(alloc: Global, bytes: &[u8], chains: bool) -> Result<Answer, Trouble
 /// `TooLong` where the bytes are more than `LONGEST`; the first fault of bytes that are no schedule's text, as `replay` names it;
 /// `Memory` where memory was refused.
 pub fn traced(alloc: Global, bytes: &[u8], chains: bool) -> Result<Answer, Trouble>
-    ensures traces { Traces chains bytes.now (view result) }
+    ensures traces { Traces bytes.now (view result) }
     // Bytes that are here can be read.
     ensures read { IfErr result (λ t. t ≢ Trouble.CannotRead) }
 {
@@ -47,17 +60,71 @@ pub fn traced(alloc: Global, bytes: &[u8], chains: bool) -> Result<Answer, Troub
     trace_of(alloc, bytes, chains)
 }
 
-fn traced_input<R: Read>(alloc: Global, input: &mut R, chains: bool) -> Result<Answer, Trouble>
-    ensures { IfSome (R.remaining input.old) (λ bytes. Traces chains bytes (view result)) }
+fn traced_input<R: Read>(alloc: Global, input: &mut R) -> Result<Answer, Trouble>
+    ensures { IfSome (R.remaining input.old) (λ bytes. Traces bytes (view result)) }
 {
     let bytes = input_of(alloc, input)?;
-    trace_of(alloc, &bytes, chains)
+    trace_of(alloc, &bytes, true)
+}
+
+/// The schedule on the input, and what a first pass tells.
+fn known_input<R: Read>(alloc: Global, input: &mut R) -> Result<(Schedule, Known), Trouble>
+    ensures traced { IfOk result (λ r. IfSome (R.remaining input.old) (λ bytes. IsTaken bytes × IsTraced bytes r.1.refused)) }
+    ensures schedule { IfOk result (λ r. plan.IsSchedule (plan.view r.0)) }
+    ensures trouble { IfErr result (λ t. IfSome (R.remaining input.old) (λ bytes. Traces bytes (Err t))) }
+{
+    let bytes = input_of(alloc, input)?;
+    known_in(alloc, &bytes)
+}
+
+/// What is left to tell once a trace was written, whole or not, or memory was refused before.
+fn made_of(
+    alloc: Global,
+    written: Result<bool, AllocError>,
+    refused: Option<(u64, StepFault)>,
+) -> Result<Answer, Trouble>
+    ensures { view result ≡ made_for written (status_of refused) }
+{
+    match written {
+        Ok(true) => Ok(Answer {
+            text: Vec::new(alloc),
+            status: status_of(refused),
+        }),
+        Ok(false) => Err(Trouble::CannotWrite),
+        Err(_) => Err(Trouble::Memory),
+    }
+}
+
+/// Ends without a trace.
+fn refuse<W: Write, F: Write>(alloc: Global, trouble: Trouble, output: &mut W, faults: &mut F) -> u8
+    ensures { HowItEnds (Err trouble) (W.contents output.old) (W.contents output.new) (F.contents faults.old) (F.contents faults.new) result }
+{
+    deliver(alloc, Err(trouble), output, faults)
+}
+
+/// Traces the schedule on the input, without chains: writes each event as it is made.
+fn trace_through<R: Read, W: Write, F: Write>(
+    alloc: Global,
+    input: &mut R,
+    output: &mut W,
+    faults: &mut F,
+) -> u8
+    ensures { Ends (λ made. IfSome (R.remaining input.old) (λ bytes. Traces bytes made))
+        (W.contents output.old) (W.contents output.new) (F.contents faults.old) (F.contents faults.new) result }
+{
+    let (schedule, known) = match known_input(alloc, input) {
+        Ok(known) => known,
+        Err(trouble) => return refuse(alloc, trouble, output, faults),
+    };
+    let written = write_run(alloc, &schedule, &known, output);
+    let made = made_of(alloc, written, known.refused);
+    deliver(alloc, made, output, faults)
 }
 
 /// Traces the schedule on the input: writes the text of its trace on the output, with the chain after each event that
 /// changed it where `chains`, or one line about what is wrong on `faults`. It gives the exit status: 0 where the trace of
 /// all events was written, 3 where memory was refused, else 1, also where the trace ends at an event that is not enabled.
-/// A failing write on `faults` leaves the status as it is.
+/// A failing write on `faults` leaves the status as it is. Without chains the text is not held in memory.
 pub fn tool_trace<R: Read, W: Write, F: Write>(
     alloc: Global,
     chains: bool,
@@ -65,9 +132,13 @@ pub fn tool_trace<R: Read, W: Write, F: Write>(
     output: &mut W,
     faults: &mut F,
 ) -> u8
-    ensures { Ends (λ made. IfSome (R.remaining input.old) (λ bytes. Traces chains bytes made))
+    ensures { Ends (λ made. IfSome (R.remaining input.old) (λ bytes. Traces bytes made))
         (W.contents output.old) (W.contents output.new) (F.contents faults.old) (F.contents faults.new) result }
 {
-    let made = traced_input(alloc, input, chains);
-    deliver(alloc, made, output, faults)
+    if chains {
+        let made = traced_input(alloc, input);
+        deliver(alloc, made, output, faults)
+    } else {
+        trace_through(alloc, input, output, faults)
+    }
 }

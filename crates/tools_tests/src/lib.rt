@@ -22,5 +22,3 @@ mod row_texts;
 mod rows;
 #[cfg(test)]
 mod servers;
-#[cfg(test)]
-mod tracing;

@@ -1,8 +1,7 @@
 //! Pictures that no schedule and no report has: calls that end where a list's do not, points where they do not stand, and refusals
 //! of other orders.
-use lset_drawing::{Picture, Refusal, Window};
+use lset_drawing::{Picture, Refusal, Window, write_picture};
 use lset_report::{Report, read_report};
-use lset_text_picture::write_picture;
 use lset_words::{Point, Reply};
 use std::alloc::Global;
 use std::process::Abort;
@@ -13,6 +12,9 @@ const ALL: Window = Window {
     from: 1,
     to: 4_294_967_295,
 };
+
+/// The width of no row.
+const WIDE: u32 = 4_294_967_295;
 
 /// The picture of a report, in so many events where it is that of a schedule, with these points: each its moment, and whether the
 /// set changes there.
@@ -47,7 +49,7 @@ fn picture_of(
 
 /// The text of a picture is as it should be.
 fn assert_text<R: Abort>(rt: &R, alloc: Global, picture: &Picture, text: &str) -> Result<(), Fail> {
-    let written = write_picture(alloc, picture, ALL)?;
+    let written = write_picture(alloc, picture, ALL, WIDE)?;
     assert_eq!(rt; std::str::from_utf8(&written)?, text);
     Ok(())
 }
@@ -143,7 +145,7 @@ fn assert_rows<R: Abort>(
     window: Window,
     rows: &str,
 ) -> Result<(), Fail> {
-    let written = write_picture(alloc, picture, window)?;
+    let written = write_picture(alloc, picture, window, WIDE)?;
     assert!(rt; std::str::from_utf8(&written)?.contains(rows), "{rows}");
     Ok(())
 }
@@ -178,7 +180,7 @@ fn many_calls(alloc: Global) -> Result<String, Fail> {
 fn the_first_columns_of_many(rt: HostRuntime) -> Result<(), Fail> {
     let report = many_calls(rt.alloc())?;
     let picture = picture_of(rt.alloc(), &report, Some(80), &[])?;
-    let written = write_picture(rt.alloc(), &picture, ALL)?;
+    let written = write_picture(rt.alloc(), &picture, ALL, WIDE)?;
     let lines = written.iter().filter(|byte| **byte == b'\n').count();
     assert!(rt; lines == 72);
     let head =

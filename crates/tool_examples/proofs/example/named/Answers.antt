@@ -1,6 +1,6 @@
 use Rattle.std.proofs.Common.{◌∙◌, ◌<◌, sym, ap, arith}
 use Rattle.tool_examples.specs.Examples.{name_of}
-use Rattle.tool_examples.proofs.Plans.{is_listed}
+use Rattle.tool_examples.proofs.Listed.{is_listed}
 use Rattle.tool_examples.proofs.example.named.Goals as goal
 
 -- each example is listed, and none that was passed has the name

@@ -1,4 +1,0 @@
-pub mod MoreLines
-pub mod MoreMoments
-pub mod Reached
-mod FirstMoments

@@ -1,0 +1,90 @@
+//! The elements of an SVG, each on a line of its own, and where they lie. All numbers are in pixels.
+use crate::columns::Column;
+use std::alloc::AllocError;
+
+/// The classes of what is of a thread: the colours are used in turn.
+const THREADS: [&str; 8] = [
+    "thread-0", "thread-1", "thread-2", "thread-3", "thread-4", "thread-5", "thread-6", "thread-7",
+];
+
+/// The class of what is of a thread.
+pub fn thread_class(thread: u32) -> &'static str {
+    THREADS[(thread % 8) as usize]
+}
+
+/// A place on the sheet, from its left and from its top.
+#[derive(Clone, Copy)]
+pub struct Spot {
+    pub x: u64,
+    pub y: u64,
+}
+
+/// How far from the left a moment stands: after the columns of earlier moments.
+pub fn x_of(columns: &[Column], moment: u64) -> u64 {
+    let mut x = 88u64;
+    for column in columns {
+        if u64::from(column.moment) < moment {
+            x = x.saturating_add(9 * column.width.min(255) as u64);
+        }
+    }
+    x
+}
+
+/// How far from the left the columns end.
+pub fn right_edge(columns: &[Column]) -> u64 {
+    x_of(columns, 4_294_967_296)
+}
+
+/// How far from the top the row of a thread stands; that of the set stands under the last one.
+pub fn lane_y(thread: u32) -> u64 {
+    40 * u64::from(thread) + 90
+}
+
+/// How far from the top a line of text under the rows stands.
+pub fn line_y(threads: u32, number: usize) -> u64 {
+    40 * u64::from(threads) + 126 + 16 * number.min(1_000_000) as u64
+}
+
+/// Adds a text of these classes that begins there.
+pub fn put_text(
+    out: &mut String,
+    class: &str,
+    clash: &str,
+    start: Spot,
+    text: &str,
+) -> Result<(), AllocError> {
+    let Spot { x, y } = start;
+    writeln!(
+        out,
+        "<text class=\"{class}{clash}\" xml:space=\"preserve\" x=\"{x}\" y=\"{y}\">{text}</text>"
+    )
+}
+
+/// Adds a text of no thread.
+pub fn put_plain(out: &mut String, x: u64, y: u64, text: &str) -> Result<(), AllocError> {
+    put_text(out, "plain", "", Spot { x, y }, text)
+}
+
+/// Adds a line of a class between two places.
+pub fn put_line(out: &mut String, class: &str, start: Spot, end: Spot) -> Result<(), AllocError> {
+    let Spot { x, y } = start;
+    let Spot { x: x2, y: y2 } = end;
+    writeln!(
+        out,
+        "<line class=\"{class}\" x1=\"{x}\" y1=\"{y}\" x2=\"{x2}\" y2=\"{y2}\"/>"
+    )
+}
+
+/// Adds a circle of these classes around a place.
+pub fn put_circle(
+    out: &mut String,
+    kind: &str,
+    class: &str,
+    centre: Spot,
+) -> Result<(), AllocError> {
+    let Spot { x, y } = centre;
+    writeln!(
+        out,
+        "<circle class=\"{kind} {class}\" cx=\"{x}\" cy=\"{y}\" r=\"5\"/>"
+    )
+}

@@ -1,2 +1,0 @@
-mod Labels
-mod Counts

@@ -1,0 +1,35 @@
+-- What a step of a wrong list answers: the event is the table's, or it is refused and changes nothing.
+use Rattle.std.specs.Prelude.{◌≡◌, ◌<◌, ◌^◌, length, Result, Ok, Err}
+use Rattle.lset_words.specs.Words.{IsWithin, word_count, sizes}
+use Rattle.lset_steps.specs.declared.Event.{Event}
+use Rattle.lset_steps.specs.declared.Local.{Local}
+use Rattle.lset_steps.specs.declared.Told.{Told}
+use Rattle.lset_steps.specs.declared.world.StepFault.TheVariants as step
+use Rattle.lset_steps.specs.Rows.{IsSmall}
+use Rattle.lset_steps.specs.Steps.{Table, after, told, Enabled}
+use Rattle.lset_steps.specs.Worlds.{WorldState, Refused}
+use Rattle.lset_wrong_lists.specs.declared.world.WrongFault.{WrongFault}
+use Rattle.lset_wrong_lists.specs.declared.world.WrongFault.TheVariants as fault
+
+-- a thread's numbers are small enough to go on with
+pub record IsRunnable (l : Local) : Type 0 where
+  pub small : IsSmall l
+  pub pkey : l.pkey < 2 ^ 62
+
+-- as many words and threads as its sizes say
+pub record IsSized (w : WorldState) : Type 0 where
+  pub within : IsWithin w.sizes
+  pub words : length w.state.words ≡ word_count w.sizes
+  pub locals : length w.state.locals ≡ w.sizes.threads
+
+-- why an event is refused; where a thread has numbers for which there is no word, its event is enabled, and is not made
+abbrev pub IsRefusedFor : WorldState → Event → WrongFault → Type 0
+IsRefusedFor w e fault.NoThread = Refused w e step.NoThread
+IsRefusedFor w e fault.Busy = Refused w e step.Busy
+IsRefusedFor w e fault.Idle = Refused w e step.Idle
+IsRefusedFor w e fault.Lost = Enabled w.state e
+
+-- A STEP OF A WRONG LIST
+abbrev pub WrongStep : Table → WorldState → Event → Result Told WrongFault → WorldState → Type 0
+WrongStep T w e (Ok answer) w' = Enabled w.state e × (w' ≡ record w { state = after T w.state e }) × (answer ≡ told T w.state e)
+WrongStep T w e (Err cause) w' = IsRefusedFor w e cause × (w' ≡ w)

@@ -1,0 +1,269 @@
+//! The text of a trace without chains, written as its events are made: all memory is taken before the first byte.
+ghost use Rattle.std.specs.Prelude.{⊤, false, IfOk, OnErr, OnOk};
+ghost use Rattle.std.specs.Io.KnownBytes.{Keeps};
+ghost use Rattle.lset_words.specs.Words.{Opens};
+ghost use Rattle.lset_schedule.specs.Plan.{IsSchedule, opening_in, view};
+ghost use Rattle.tool_trace.specs.Tracing.{Grows, IsHeard};
+
+use crate::chunks::{Chunk, is_full};
+use crate::events::put_event;
+use crate::heard::{head_of, put_last};
+use lset_coarse::CoarseList;
+use lset_fine::FineList;
+use lset_lazy::LazyList;
+use lset_lock_free::LockFreeList;
+use lset_optimistic::OptimisticList;
+use lset_replay::{CallEnd, Deed, Listener, TracedEvent, trace_to};
+use lset_schedule::{Line, Schedule};
+use lset_steps::{Event, Machine, StepFault, World};
+use lset_tools::put as put_out;
+use lset_words::{Kind, layout_opening};
+use std::alloc::{AllocError, Global};
+use std::io::Write;
+
+/// The most threads of a list.
+const MOST_THREADS: usize = 64;
+
+/// What a first pass over a schedule tells: the moment at which each call stands that ended, by its number, and how the events
+/// end.
+#[derive(Drop)]
+pub struct Known {
+    pub moments: Vec<u32>,
+    pub refused: Option<(u64, StepFault)>,
+}
+
+/// Keeps the moments at which calls stand.
+#[derive(Drop)]
+struct Moments {
+    of_calls: Vec<u32>,
+}
+
+impl Listener for Moments {
+    ghost has_heard = { λ _ _ _. ⊤ };
+
+    fn hear(&mut self, _number: u32, event: TracedEvent) -> Result<(), AllocError> {
+        if let Deed::Begin(_, _) = event.deed {
+            self.of_calls.push(0)?;
+        }
+        let Some(end) = event.end else {
+            return Ok(());
+        };
+        if let Some(moment) = self.of_calls.get_mut(end.call as usize) {
+            *moment = end.moment;
+        }
+        Ok(())
+    }
+}
+
+/// Makes the events of a schedule for the first time.
+pub fn known_of(alloc: Global, schedule: &Schedule) -> Result<Known, AllocError>
+    requires { IsSchedule (view schedule.now) }
+    ensures { IfOk result (λ known. IsHeard (view schedule.now) false known.refused) }
+{
+    let silent = Moments {
+        of_calls: Vec::new(alloc),
+    };
+    let (moments, refused) = trace_to(alloc, schedule, false, silent)?;
+    Ok(Known {
+        moments: moments.of_calls,
+        refused,
+    })
+}
+
+/// How many events were told, and how many of them began a call; and the number of the last call that each thread began.
+#[derive(Clone, Copy)]
+struct Tally {
+    events: u32,
+    calls: u32,
+    last: [u32; MOST_THREADS],
+}
+
+impl Tally {
+    fn begin(&mut self, thread: u32) {
+        if let Some(last) = self.last.get_mut(thread as usize) {
+            *last = self.calls;
+        }
+        self.calls = self.calls.saturating_add(1);
+    }
+
+    fn call_of(&self, thread: u32) -> u32 {
+        self.last.get(thread as usize).copied().unwrap_or(0)
+    }
+}
+
+/// Makes an event in the world, and tells it; `None` where it is not enabled.
+fn tell<M: Machine>(
+    world: &mut World<M>,
+    tally: &mut Tally,
+    moments: &[u32],
+    line: u64,
+    event: Event,
+) -> Option<TracedEvent> {
+    let (thread, deed) = match event {
+        Event::Begin(thread, call) => (thread, Deed::Begin(call, tally.calls)),
+        Event::Go(thread) => {
+            let (action, seen) = world.next(thread)?;
+            (thread, Deed::Access(action, seen))
+        }
+    };
+    let before = world.holds(thread)?;
+    let told = world.step(event).ok()?;
+    if let Event::Begin(_, _) = event {
+        tally.begin(thread);
+    }
+    tally.events = tally.events.saturating_add(1);
+    let call = tally.call_of(thread);
+    let moment = moments.get(call as usize).copied().unwrap_or(0);
+    Some(TracedEvent {
+        line,
+        thread,
+        deed,
+        before,
+        after: world.holds(thread)?,
+        change: told.change,
+        end: told.answer.map(|reply| CallEnd {
+            call,
+            reply,
+            moment,
+        }),
+        chain: None,
+    })
+}
+
+fn write_out<W: Write>(output: &mut W, text: &[u8]) -> bool
+    ensures { Grows (W.contents output.old) (W.contents output.new) }
+{
+    put_out(output, text)
+}
+
+/// Writes a chunk where it is full, and tells whether that was done whole, if it was.
+fn pour_full<W: Write>(chunk: &mut Chunk, output: &mut W) -> bool
+    ensures { Grows (W.contents output.old) (W.contents output.new) }
+{
+    if !is_full(chunk) {
+        return true;
+    }
+    let whole = put_out(output, chunk.as_str().as_bytes());
+    chunk.clear();
+    whole
+}
+
+/// The event that a line stands for, and how many times.
+fn event_of(line: Line) -> (Event, u32) {
+    match line {
+        Line::Begin(thread, call) => (Event::Begin(thread, call), 1),
+        Line::Go(thread, steps) => (Event::Go(thread), steps),
+    }
+}
+
+/// Writes the events of a line up to one that is not enabled: whether each write was done whole.
+fn write_line<M: Machine, W: Write>(
+    world: &mut World<M>,
+    tally: &mut Tally,
+    known: &Known,
+    number: u64,
+    line: Line,
+    chunk: &mut Chunk,
+    output: &mut W,
+) -> bool
+    ensures { Grows (W.contents output.old) (W.contents output.new) }
+{
+    let (event, times) = event_of(line);
+    for _done in 0..times {
+        let Some(told) = tell(world, tally, &known.moments, number, event) else {
+            return true;
+        };
+        if !pour_full(chunk, output) {
+            return false;
+        }
+        put_event(chunk, tally.events, &told);
+    }
+    true
+}
+
+/// Writes the events of a schedule, and how they end: whether each write was done whole.
+fn write_events<M: Machine, W: Write>(
+    world: &mut World<M>,
+    schedule: &Schedule,
+    known: &Known,
+    output: &mut W,
+) -> bool
+    ensures { Grows (W.contents output.old) (W.contents output.new) }
+{
+    let mut tally = Tally {
+        events: 0,
+        calls: 0,
+        last: [0; MOST_THREADS],
+    };
+    let mut chunk = Chunk::new();
+    let mut number = schedule.first_event_line();
+    for line in &schedule.lines {
+        if known.refused.is_some_and(|(refused, _)| refused < number) {
+            break;
+        }
+        if !write_line(world, &mut tally, known, number, *line, &mut chunk, output) {
+            return false;
+        }
+        number = number.saturating_add(1);
+    }
+    write_rest(&mut chunk, known.refused, output)
+}
+
+/// Writes what a chunk has, and how the events end.
+fn write_rest<W: Write>(
+    chunk: &mut Chunk,
+    refused: Option<(u64, StepFault)>,
+    output: &mut W,
+) -> bool
+    ensures { Grows (W.contents output.old) (W.contents output.new) }
+{
+    if !pour_full(chunk, output) {
+        return false;
+    }
+    put_last(chunk, refused);
+    write_out(output, chunk.as_str().as_bytes())
+}
+
+/// The same on the list of the machine `M`, with what stands before the events.
+fn write_on<M: Machine, W: Write>(
+    alloc: Global,
+    schedule: &Schedule,
+    known: &Known,
+    output: &mut W,
+) -> Result<bool, AllocError>
+    requires { Opens (opening_in (view schedule.now)) }
+    ensures kept { OnErr result (Keeps (W.contents output.old) (W.contents output.new)) }
+    ensures grown { OnOk result (Grows (W.contents output.old) (W.contents output.new)) }
+{
+    let keys = schedule.opening.as_slice();
+    let Ok(layout) = layout_opening(schedule.threads, schedule.quota, keys.len() as u32) else {
+        unreachable!();
+    };
+    let mut world = World::<M>::opened(alloc, layout, keys)?;
+    let head = head_of(alloc, schedule)?;
+    if !write_out(output, head.as_bytes()) {
+        return Ok(false);
+    }
+    Ok(write_events(&mut world, schedule, known, output))
+}
+
+/// Writes the trace of a schedule, of which this is known, and tells whether each write was done whole. Where memory is refused
+/// nothing is written.
+pub fn write_run<W: Write>(
+    alloc: Global,
+    schedule: &Schedule,
+    known: &Known,
+    output: &mut W,
+) -> Result<bool, AllocError>
+    requires { Opens (opening_in (view schedule.now)) }
+    ensures kept { OnErr result (Keeps (W.contents output.old) (W.contents output.new)) }
+    ensures grown { OnOk result (Grows (W.contents output.old) (W.contents output.new)) }
+{
+    match schedule.kind {
+        Kind::Coarse => write_on::<CoarseList, W>(alloc, schedule, known, output),
+        Kind::Fine => write_on::<FineList, W>(alloc, schedule, known, output),
+        Kind::Optimistic => write_on::<OptimisticList, W>(alloc, schedule, known, output),
+        Kind::Lazy => write_on::<LazyList, W>(alloc, schedule, known, output),
+        Kind::LockFree => write_on::<LockFreeList, W>(alloc, schedule, known, output),
+    }
+}
