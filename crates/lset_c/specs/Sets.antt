@@ -1,5 +1,5 @@
 -- What a seat of C holds: its list, its set, the set's number, its seat; and what is done with it.
-use Rattle.std.specs.Prelude.{Bool, true, false, ◌≡◌, ◌≤◌, ◌<◌, ◌⊎◌, ◌++◌, ℕ, suc, List, [], ◌∷◌, Option, Some, None, length, drop}
+use Rattle.std.specs.Prelude.{Bool, true, false, ◌≡◌, ◌≤◌, ◌<◌, ◌⊎◌, ◌++◌, ℕ, zero, suc, List, [], ◌∷◌, Option, Some, None, length, drop}
 use Rattle.std.specs.Arc.{arc_value}
 use Rattle.lset_words.specs.Words.{Opening}
 use Rattle.lset_words.specs.Records.{Record}
@@ -77,11 +77,11 @@ GathersAt false h from h' = Unit {0}
 
 -- the table of the list that the number names
 abbrev pub table_of : ℕ → Option Table
-table_of 0 = Some coarse
-table_of 1 = Some fine
-table_of 2 = Some optimistic
-table_of 3 = Some lazy
-table_of 4 = Some lock_free
+table_of zero = Some coarse
+table_of (suc zero) = Some fine
+table_of (suc (suc zero)) = Some optimistic
+table_of (suc (suc (suc zero))) = Some lazy
+table_of (suc (suc (suc (suc zero)))) = Some lock_free
 table_of (suc (suc (suc (suc (suc kind))))) = None
 
 abbrev pub OpensWith : Opening → Option SetValue → Type 0
