@@ -50,7 +50,7 @@ fn another(reply: Reply) -> Reply {
 
 /// Three threads make calls, each of which takes effect at once, at some moment between its begin and its end. The call with the
 /// number `lie` ends with another reply.
-fn made(alloc: Global, rng: &mut Pcg32, lie: Option<u32>) -> Result<Made, Fail> {
+fn drawn_history(alloc: Global, rng: &mut Pcg32, lie: Option<u32>) -> Result<Made, Fail> {
     let mut oracle = Oracle::opened(alloc, THREADS, QUOTA, &[5])?;
     let mut history = History::opened(alloc, THREADS, QUOTA, Vec::from_slice(alloc, &[5])?);
     let mut stands = [Stand::AtRest; THREADS as usize];
@@ -100,7 +100,7 @@ fn is_refuted(made: &Made) -> bool {
 fn a_history_with_an_order_is_not_refuted(rt: HostRuntime) -> Result<(), Fail> {
     for seed in 0..HISTORIES {
         let mut rng = Pcg32::seed_from_u64(seed);
-        let made = made(rt.alloc(), &mut rng, None)?;
+        let made = drawn_history(rt.alloc(), &mut rng, None)?;
         let found = find_miscount(rt.alloc(), &made.history, &made.keys)?;
         assert!(rt; found.is_none(), "seed {seed}");
     }
@@ -112,7 +112,7 @@ fn what_refutes_is_found(rt: HostRuntime) -> Result<(), Fail> {
     let mut refuted = 0u32;
     for seed in 0..HISTORIES {
         let mut rng = Pcg32::seed_from_u64(seed);
-        let made = made(rt.alloc(), &mut rng, Some(seed as u32 % 8))?;
+        let made = drawn_history(rt.alloc(), &mut rng, Some(seed as u32 % 8))?;
         let found = find_miscount(rt.alloc(), &made.history, &made.keys)?;
         assert!(rt; found.is_some() == is_refuted(&made), "seed {seed}");
         if found.is_some() {
