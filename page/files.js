@@ -83,15 +83,16 @@ function drawPicture(text) {
   byId("picture-box").hidden = !drawn.startsWith("<svg ");
   if (byId("picture-box").hidden) return;
   byId("picture").innerHTML = drawn;
-  const said = lastLine(askNow("listset_show", text).text);
-  byId("picture-says").textContent = said.startsWith("refused ") ? said : "";
+  const said = refusalIn(askNow("listset_show", text).text);
+  byId("picture-says").textContent = said;
   const svg = byId("picture").firstElementChild;
   svg.setAttribute("role", "img");
-  svg.setAttribute("aria-label", `the calls of the report${said.startsWith("refused ") ? `; ${said}` : ""}`);
+  svg.setAttribute("aria-label", `the calls of the report${said === "" ? "" : `; ${said}`}`);
   scrollToClash();
 }
 
-const lastLine = (text) => text.trimEnd().split("\n").at(-1);
+// The line of a picture that says why its order is refused, or which event is.
+const refusalIn = (text) => text.split("\n").find((line) => line.startsWith("refused ")) ?? "";
 
 // Brings the first call that clashes into sight, with its reply, where the picture is wider than its place.
 function scrollToClash() {

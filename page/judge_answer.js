@@ -3,7 +3,7 @@
 //
 // The calls and the keys are those of the run; the order and the replies in it are the reader's. So `check` says ok exactly where
 // the reader's order explains what the run did, and it need not be the order that the replayer gives. No set is computed here: why
-// an order is refused says the last line of `show`.
+// an order is refused says the line of `show` that begins with `refused`.
 "use strict";
 
 const MOST_JUDGED = 60; // events of a run that is judged
@@ -115,9 +115,9 @@ function verdictOn(ask, answer) {
   const report = reportOfAnswer(answer);
   const checked = ask("listset_check", report).text.trim();
   if (checked === "ok") return { isRight: true, clash: null, report, says: rightInWords(answer) };
-  const shown = ask("listset_show", report).text.trimEnd().split("\n");
+  const told = ask("listset_show", report).text.split("\n").find((line) => line.startsWith("refused "));
   const clash = Number(/^refused \w+ (\d+)/.exec(checked)?.[1] ?? -1);
-  return { isRight: false, clash, report, says: faultInWords(answer, shown[shown.length - 1]) };
+  return { isRight: false, clash, report, says: faultInWords(answer, told) };
 }
 
 // A claim that there is no order is judged by what is proved, not by a search: each run of the replayer has an order, and each

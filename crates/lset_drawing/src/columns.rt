@@ -1,10 +1,11 @@
 //! What is drawn of a picture in a window: a column for each moment at which something happens.
+use crate::beginning::clash_begins;
 use crate::moments::{moments_shown, next_moment};
 use crate::picture::{are_known, points_of, standing_at};
 use crate::sets::{go_on, reached_at_first, set_text};
 use crate::{MOST_WIDTH, Picture, Window};
 use lset_text::{call_word, reply_word};
-use lset_words::{Call, Reply};
+use lset_words::{Call, CallRecord, Reply};
 use std::alloc::{AllocError, Global};
 
 /// What is drawn on a thread's row at a moment: a call begins, stands and changes the set, stands and changes nothing,
@@ -34,6 +35,14 @@ pub struct Column {
     pub width: usize,
 }
 
+/// Where something lies: at moments before those that are drawn, after them, or, be it in part, at them.
+#[derive(Clone, Copy)]
+pub enum Side {
+    Before,
+    Within,
+    After,
+}
+
 /// The columns of a picture, whether its points are known, the first and last moment that are drawn, and whether something
 /// happens before or after them.
 #[derive(Drop)]
@@ -50,6 +59,31 @@ impl Drawing {
     /// Whether something happens at moments that are not drawn.
     pub fn is_cut(&self) -> bool {
         self.before || self.after
+    }
+
+    /// In place of a window of all moments that is not drawn whole: of a refused order that from the clash on.
+    pub fn window_of_clash(&self, picture: &Picture, window: Window) -> Option<Window> {
+        if !(self.after && window.is_whole()) {
+            return None;
+        }
+        let from = clash_begins(picture)?;
+        Some(Window { from, ..window })
+    }
+
+    /// Where a stretch of moments lies, from its first one to its last, if it has one.
+    pub fn side_of(&self, first: u32, last: Option<u32>) -> Side {
+        if self.last < first {
+            Side::After
+        } else if last.is_some_and(|last| last < self.from) {
+            Side::Before
+        } else {
+            Side::Within
+        }
+    }
+
+    /// Where the bar of a call lies.
+    pub fn side_of_bar(&self, made: CallRecord) -> Side {
+        self.side_of(made.begun, made.ended.map(|(end, _)| end))
     }
 }
 

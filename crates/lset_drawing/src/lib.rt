@@ -3,6 +3,7 @@
 //! refused, and tests hold the bytes.
 #![tactic(auto)]
 
+mod beginning;
 mod clashes;
 mod columns;
 mod moments;

@@ -1,10 +1,11 @@
 //! The lines above and below the rows of a picture: its heading, which moments are drawn, and its order.
-use crate::Picture;
-use crate::columns::{Drawing, put_call};
-use crate::picture::{Standing, points_of, standing_at};
-use crate::refusals::{put_refusal, put_refused};
+use crate::columns::{Drawing, Side, put_call};
+use crate::picture::{Standing, standing_at};
+use crate::refusals::put_refused;
 use crate::sets::put_keys_line;
+use crate::{Picture, Refusal};
 use lset_text::{kind_word, reply_word};
+use lset_words::Placed;
 use std::alloc::AllocError;
 
 /// Writes how many there are of something, as `2 calls` or `1 call`.
@@ -77,37 +78,75 @@ fn put_place(out: &mut String, number: usize, standing: Standing) -> Result<(), 
     writeln!(out, " {reply}{no_change}{still_open}")
 }
 
-fn is_shown(standing: Standing, drawing: &Drawing) -> bool {
+/// Where a place lies: its point, or, where that is not known, the bar of its call. Of a call that the history has not, it lies
+/// nowhere.
+fn side_of(standing: Standing, drawing: &Drawing) -> Option<Side> {
     match standing.point {
-        Some(point) => drawing.from <= point.moment && point.moment <= drawing.last,
-        None => true,
+        Some(point) => Some(drawing.side_of(point.moment, Some(point.moment))),
+        None => Some(drawing.side_of_bar(standing.made?)),
     }
 }
 
-fn put_places(out: &mut String, picture: &Picture, drawing: &Drawing) -> Result<(), AllocError> {
+/// Whether a place that lies nowhere is shown: where all is drawn, or the refusal is of its call.
+fn is_told(picture: &Picture, drawing: &Drawing, place: Placed) -> bool {
+    match &picture.refusal {
+        _ if !drawing.is_cut() => true,
+        Some(Refusal::Unknown { call, .. }) => place.call == *call,
+        _ => false,
+    }
+}
+
+/// How many places are not drawn: before the moments that are, after them, and of calls that the history has not.
+struct LeftOut {
+    before: usize,
+    after: usize,
+    unknown: usize,
+}
+
+/// Writes the places that are drawn, and gives how many are not.
+fn put_places(
+    out: &mut String,
+    picture: &Picture,
+    drawing: &Drawing,
+) -> Result<LeftOut, AllocError> {
+    let mut before = 0usize;
+    let mut after = 0usize;
+    let mut unknown = 0usize;
     for index in 0..picture.order.len() {
-        if let Some(standing) = standing_at(picture, index) {
-            if is_shown(standing, drawing) {
-                put_place(out, index + 1, standing)?;
+        let Some(standing) = standing_at(picture, index) else {
+            break;
+        };
+        match side_of(standing, drawing) {
+            Some(Side::Before) => before = before.saturating_add(1),
+            Some(Side::After) => after = after.saturating_add(1),
+            None if !is_told(picture, drawing, standing.placed) => {
+                unknown = unknown.saturating_add(1);
             }
+            _ => put_place(out, index + 1, standing)?,
         }
     }
-    Ok(())
+    Ok(LeftOut {
+        before,
+        after,
+        unknown,
+    })
 }
 
 /// Writes how many places are not drawn.
-fn put_left_out(out: &mut String, picture: &Picture, drawing: &Drawing) -> Result<(), AllocError> {
-    let points = points_of(picture);
-    let earlier = points
-        .iter()
-        .filter(|point| point.moment < drawing.from)
-        .count();
-    let later = points
-        .iter()
-        .filter(|point| drawing.last < point.moment)
-        .count();
-    if earlier > 0 || later > 0 {
-        writeln!(out, "{earlier} before, {later} after")?;
+fn put_left_out(out: &mut String, left: LeftOut) -> Result<(), AllocError> {
+    let LeftOut {
+        before,
+        after,
+        unknown,
+    } = left;
+    if unknown > 0 {
+        return writeln!(
+            out,
+            "{before} before, {after} after, {unknown} of unknown calls"
+        );
+    }
+    if before > 0 || after > 0 {
+        writeln!(out, "{before} before, {after} after")?;
     }
     Ok(())
 }
@@ -117,13 +156,12 @@ fn put_order(out: &mut String, picture: &Picture, drawing: &Drawing) -> Result<(
         return out.push_str("no calls\n");
     }
     out.push_str("order\n")?;
-    put_places(out, picture, drawing)?;
-    put_left_out(out, picture, drawing)
+    let left = put_places(out, picture, drawing)?;
+    put_left_out(out, left)
 }
 
 /// Writes what stands below the rows: the order, as far as its points are drawn, with how many places are left out, and the
-/// keys that are left; where the order is refused, why, and else `legend`, where there are points; and at last, where an event of
-/// a schedule is refused, which.
+/// keys that are left; `legend`, where there are points; and at last, where an event of a schedule is refused, which.
 pub fn put_lines_below(
     out: &mut String,
     picture: &Picture,
@@ -132,9 +170,7 @@ pub fn put_lines_below(
 ) -> Result<(), AllocError> {
     put_order(out, picture, drawing)?;
     put_keys_line(out, &picture.keys)?;
-    if let Some(refusal) = &picture.refusal {
-        put_refusal(out, refusal, &picture.keys)?;
-    } else if drawing.known && !picture.order.is_empty() {
+    if drawing.known && !picture.order.is_empty() {
         writeln!(out, "\n{legend}")?;
     }
     match picture.refused {

@@ -30,6 +30,13 @@ pub struct Window {
     pub to: u32,
 }
 
+impl Window {
+    /// Whether it holds each moment.
+    pub fn is_whole(self) -> bool {
+        self.from <= 1 && self.to == u32::MAX
+    }
+}
+
 /// Whether there is a point for each place of the order, and no refusal.
 pub fn are_known(picture: &Picture) -> bool
     ensures { result ≡ are_known (view picture.now) }

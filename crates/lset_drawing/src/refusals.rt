@@ -1,4 +1,5 @@
 //! Why an order, or an event of a schedule, is refused.
+use crate::Picture;
 use crate::sets::put_set;
 use lset_history::Refusal;
 use lset_steps::StepFault;
@@ -110,11 +111,14 @@ fn put_reason(out: &mut String, refusal: &Refusal, told: &[u32]) -> Result<(), A
     }
 }
 
-/// Writes, after an empty line, why an order is refused, where the report tells these keys.
-pub fn put_refusal(out: &mut String, refusal: &Refusal, told: &[u32]) -> Result<(), AllocError> {
-    out.push_str("\nrefused ")?;
-    put_reason(out, refusal, told)?;
-    out.push_str("\n")
+/// Writes why the order of a picture is refused, in a line; where it is not, nothing.
+pub fn put_refusal(out: &mut String, picture: &Picture) -> Result<(), AllocError> {
+    if let Some(refusal) = &picture.refusal {
+        out.push_str("refused ")?;
+        put_reason(out, refusal, &picture.keys)?;
+        out.push_str("\n")?;
+    }
+    Ok(())
 }
 
 /// Writes, after an empty line, which event of a schedule is refused, in the words of a trace.

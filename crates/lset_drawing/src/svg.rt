@@ -1,8 +1,9 @@
 //! The SVG of a picture: a line for each call, a circle for each point, the set below them, and the order as text.
 use crate::clashes::is_clash;
-use crate::columns::{Drawing, drawing_in, put_call};
+use crate::columns::{Drawing, Side, drawing_in, put_call};
 use crate::orders::{put_cut, put_heading, put_lines_below};
 use crate::picture::{Standing, points_of, standing_at};
+use crate::refusals::put_refusal;
 use crate::sheet::{
     Spot, lane_y, line_y, put_circle, put_line, put_plain, put_text, right_edge, thread_class, x_of,
 };
@@ -18,15 +19,23 @@ const LEGEND: &str =
 /// How many characters at most a line of text makes the sheet wide for.
 const MOST_CHARACTERS: usize = 255;
 
+/// The lines above the rows: the heading, and why the order is refused, or nothing.
+#[derive(Clone, Copy)]
+struct Above<'a> {
+    heading: &'a str,
+    refusal: &'a str,
+}
+
 /// Adds the sheet, wide enough for the columns and for each line of text, its title, style and ground.
 fn put_sheet(
     out: &mut String,
     threads: u32,
     drawing: &Drawing,
-    heading: &str,
+    above: Above,
     below: &str,
 ) -> Result<(), AllocError> {
-    let mut widest = heading.len();
+    let Above { heading, refusal } = above;
+    let mut widest = heading.len().max(refusal.len());
     let mut count = 0usize;
     for line in below.lines() {
         widest = widest.max(line.len());
@@ -40,8 +49,29 @@ fn put_sheet(
         "<svg xmlns=\"http://www.w3.org/2000/svg\" class=\"listset\" font-family=\"monospace\" font-size=\"12\" width=\"{width}\" height=\"{height}\" viewBox=\"0 0 {width} {height}\">"
     )?;
     writeln!(out, "<title>{heading}</title>\n{STYLE}")?;
-    out.push_str("<rect class=\"ground\" width=\"100%\" height=\"100%\"/>\n")?;
-    put_plain(out, 8, 20, heading)
+    out.push_str("<rect class=\"ground\" width=\"100%\" height=\"100%\"/>\n")
+}
+
+/// Adds the lines above the rows: the heading, why the order is refused, and which moments are drawn, where that are not all.
+fn put_above(
+    alloc: Global,
+    out: &mut String,
+    picture: &Picture,
+    drawing: &Drawing,
+    above: Above,
+) -> Result<(), AllocError> {
+    put_plain(out, 8, 20, above.heading)?;
+    let mut y = 38;
+    if picture.refusal.is_some() {
+        put_plain(out, 8, 34, above.refusal)?;
+        y = 47;
+    }
+    if drawing.is_cut() {
+        let mut cut = String::new(alloc);
+        put_cut(&mut cut, picture, drawing)?;
+        put_plain(out, 8, y, &cut)?;
+    }
+    Ok(())
 }
 
 /// Adds the labels of the rows, the moments and the sets.
@@ -78,11 +108,6 @@ fn put_columns(
         }
     }
     Ok(())
-}
-
-/// Whether a call begins or goes on in the window.
-fn is_in_view(made: &CallRecord, drawing: &Drawing) -> bool {
-    made.begun <= drawing.last && made.ended.is_none_or(|(end, _)| drawing.from <= end)
 }
 
 /// Adds the line of a call.
@@ -152,7 +177,7 @@ fn put_bars(
     drawing: &Drawing,
 ) -> Result<(), AllocError> {
     for (number, made) in picture.history.calls().iter().enumerate() {
-        if is_in_view(made, drawing) {
+        if matches!(drawing.side_of_bar(*made), Side::Within) {
             let clash = if is_clash(picture, number, made) {
                 " clash"
             } else {
@@ -224,30 +249,30 @@ fn put_below(out: &mut String, threads: u32, below: &str) -> Result<(), AllocErr
     Ok(())
 }
 
-/// The picture as an SVG, of the moments from `window.from` to `window.to`, of those only the first 64 at which something happens;
-/// moments count from 1. It has no script and no reference to anything outside: a line for each call, in the colour of its
-/// thread, dashed where it is open, and thick where it clashes in a refused order (`is_clash`); a circle for each point, filled
-/// where the set changes; a thin line from there down to the set; and the order as text. Its style sheet has a dark ground for
-/// who prefers one. The only error is want of memory. (This project's own drawing.)
+/// The picture as an SVG, of the moments from `window.from` to `window.to`, of those only the first 64 at which something
+/// happens; moments count from 1, and begin at a clash as those of `write_picture` do. It has no script and no reference to
+/// anything outside: a line for each call, in the colour of its thread, dashed where it is open, and thick where it clashes in
+/// a refused order (`is_clash`); a circle for each point, filled where the set changes; a thin line from there down to the set;
+/// and the order as text. Its style sheet has a dark ground for who prefers one. The only error is want of memory.
+/// (This project's own drawing.)
 pub fn write_svg(alloc: Global, picture: &Picture, window: Window) -> Result<Vec<u8>, AllocError> {
-    let drawing = drawing_in(alloc, picture, window)?;
+    let mut drawing = drawing_in(alloc, picture, window)?;
+    if let Some(window) = drawing.window_of_clash(picture, window) {
+        drawing = drawing_in(alloc, picture, window)?;
+    }
     let mut heading = String::new(alloc);
     put_heading(&mut heading, picture)?;
+    let mut refusal = String::new(alloc);
+    put_refusal(&mut refusal, picture)?;
+    let above = Above {
+        heading: &heading,
+        refusal: refusal.trim_end(),
+    };
     let mut below = String::new(alloc);
     put_lines_below(&mut below, picture, &drawing, LEGEND)?;
     let mut out = String::new(alloc);
-    put_sheet(
-        &mut out,
-        picture.history.threads(),
-        &drawing,
-        &heading,
-        &below,
-    )?;
-    if drawing.is_cut() {
-        let mut cut = String::new(alloc);
-        put_cut(&mut cut, picture, &drawing)?;
-        put_plain(&mut out, 8, 38, &cut)?;
-    }
+    put_sheet(&mut out, picture.history.threads(), &drawing, above, &below)?;
+    put_above(alloc, &mut out, picture, &drawing, above)?;
     put_rows(alloc, &mut out, picture, &drawing)?;
     put_below(&mut out, picture.history.threads(), &below)?;
     out.push_str("</svg>\n")?;

@@ -2,6 +2,7 @@
 //! them, and the order.
 use crate::columns::{Column, Drawing, Mark, Sign, drawing_in, end_at_last, put_signs};
 use crate::orders::{put_cut, put_heading, put_lines_below};
+use crate::refusals::put_refusal;
 use crate::{MOST_COLUMNS, Picture, Window};
 use lset_words::CallRecord;
 use std::alloc::{AllocError, Global};
@@ -165,6 +166,22 @@ fn fit(
     Ok(())
 }
 
+/// What is drawn in a window in rows that fit the width.
+fn fitted(
+    alloc: Global,
+    picture: &Picture,
+    window: Window,
+    width: u32,
+) -> Result<Drawing, AllocError> {
+    let mut drawing = drawing_in(alloc, picture, window)?;
+    fit(alloc, picture, &mut drawing, width)?;
+    if let Some(window) = drawing.window_of_clash(picture, window) {
+        drawing = drawing_in(alloc, picture, window)?;
+        fit(alloc, picture, &mut drawing, width)?;
+    }
+    Ok(drawing)
+}
+
 /// Writes which moments are drawn, where that are not all, and the rows; of a history without calls nothing.
 fn put_drawn_rows(
     alloc: Global,
@@ -185,7 +202,8 @@ fn put_drawn_rows(
 
 /// The picture as text: a row for each thread, with a bar for each call and its point, from the moment `window.from` to the
 /// moment `window.to`, of those only the first 64 at which something happens, and only as many as let each row have at most
-/// `width` characters, but one at any width; the set; and the order. Moments count from 1. The only error is want of memory.
+/// `width` characters, but one at any width; the set; and the order. Moments count from 1. Where a window of all moments is not
+/// drawn whole, it begins, of a refused order, with the call that the refusal is about. The only error is want of memory.
 /// (The picture with bars and points is Herlihy and Wing's; its text is this project's own.)
 pub fn write_picture(
     alloc: Global,
@@ -193,11 +211,12 @@ pub fn write_picture(
     window: Window,
     width: u32,
 ) -> Result<Vec<u8>, AllocError> {
-    let mut drawing = drawing_in(alloc, picture, window)?;
-    fit(alloc, picture, &mut drawing, width)?;
+    let drawing = fitted(alloc, picture, window, width)?;
     let mut out = String::new(alloc);
     put_heading(&mut out, picture)?;
-    out.push_str("\n\n")?;
+    out.push_str("\n")?;
+    put_refusal(&mut out, picture)?;
+    out.push_str("\n")?;
     put_drawn_rows(alloc, &mut out, picture, &drawing)?;
     let legend = if drawing.is_cut() {
         LEGEND_OF_CUT

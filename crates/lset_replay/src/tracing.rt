@@ -152,83 +152,89 @@ fn changed_chain<M: Machine>(
     Ok(Some(chain))
 }
 
-/// Makes an event in the world, follows it to the moment, and tells it.
-fn trace_event<M: Machine>(
-    alloc: Global,
-    world: &mut World<M>,
-    recorder: &mut Recorder,
-    kept: &mut Vec<ChainKey>,
-    next: LineEvent,
-    moment: u32,
-    chains: bool,
-) -> Result<TracedEvent, Stop>
-    requires seats { length world.old.state.locals ≡ world.old.sizes.threads }
-    requires few { length recorder.old.places.items < 2 ^ 32 }
-    requires may { Enabled world.old.state next.event
-        → MayFollow recorder.old moment next.event (told M.table world.old.state next.event) }
-    requires chain { KeepsChain chains (view_of world.old.sizes world.old.state) kept.old.items }
-    ensures { MakesEvent M.table next moment chains world.old recorder.old kept.old.items result
-        world.new recorder.new kept.new.items }
-{
-    let thread = thread_of(next.event);
-    let ahead = look(world, recorder, next.event);
-    let number = open_number(recorder, thread);
-    let told = match world.step(next.event) {
-        Ok(told) => told,
-        Err(cause) => return Err(Stop::Refused(cause)),
-    };
-    recorder.follow(next.event, told, moment)?;
-    let (Some((before, deed)), Some(after)) = (ahead, world.holds(thread)) else {
-        unreachable!();
-    };
-    let chain = changed_chain(alloc, world, kept, deed, chains)?;
-    Ok(TracedEvent {
-        line: next.line,
-        thread,
-        deed,
-        before,
-        after,
-        change: told.change,
-        end: call_end(recorder, number, told.answer),
-        chain,
-    })
+/// What a trace has come to: the world, its recorder, and the chain that was told last, where chains are told.
+#[derive(Drop)]
+struct Tracer<M: Machine> {
+    world: World<M>,
+    recorder: Recorder,
+    kept: Vec<ChainKey>,
 }
 
-/// Makes the events of the lines, the first of which has the number `first`, and tells the listener of them, one after
-/// another, up to the first that is not enabled, whose line and cause it answers.
-fn trace_lines<M: Machine, L: Listener>(
-    alloc: Global,
-    world: &mut World<M>,
-    recorder: &mut Recorder,
-    kept: &mut Vec<ChainKey>,
-    listener: &mut L,
-    first: u64,
-    lines: &[Line],
-    chains: bool,
-) -> Result<Option<(u64, StepFault)>, AllocError>
-    requires header { first ≤ 2 ^ 32 }
-    requires few { sum_by event_count lines.now ≤ MOST_EVENTS }
-    requires start { HasTraced M.table recorder.old.history.opening (events_from first lines.now) chains 0
-        world.old recorder.old kept.old.items [] }
-    requires silence { L.has_heard listener.old [] listener.old }
-    ensures { IfOk result (λ refused. HearsEvents (λ events. L.has_heard listener.old events listener.new) M.table recorder.old.history.opening
-        (events_from first lines.now) chains refused) }
-{
-    has_account::<M>();
-    listed_content::<M>();
-    let mut moment = 0u32;
-    for (index, line) in lines.iter().enumerate() {
-        let (next, times) = event_of(first + index as u64, *line);
-        for _done in 0..times {
-            moment += 1;
-            match trace_event(alloc, world, recorder, kept, next, moment, chains) {
-                Ok(told) => listener.hear(moment, told)?,
-                Err(Stop::Refused(cause)) => return Ok(Some((next.line, cause))),
-                Err(Stop::Memory) => return Err(AllocError),
+impl<M: Machine> Tracer<M> {
+    /// Makes an event in the world, follows it to the moment, and tells it.
+    fn trace_event(
+        &mut self,
+        alloc: Global,
+        next: LineEvent,
+        moment: u32,
+        chains: bool,
+    ) -> Result<TracedEvent, Stop>
+        requires seats { length self.old.world.state.locals ≡ self.old.world.sizes.threads }
+        requires few { length self.old.recorder.places.items < 2 ^ 32 }
+        requires may { Enabled self.old.world.state next.event
+            → MayFollow self.old.recorder moment next.event (told M.table self.old.world.state next.event) }
+        requires chain { KeepsChain chains (view_of self.old.world.sizes self.old.world.state) self.old.kept.items }
+        ensures { MakesEvent M.table next moment chains self.old.world self.old.recorder self.old.kept.items result
+            self.new.world self.new.recorder self.new.kept.items }
+    {
+        let thread = thread_of(next.event);
+        let ahead = look(&self.world, &self.recorder, next.event);
+        let number = open_number(&self.recorder, thread);
+        let told = match self.world.step(next.event) {
+            Ok(told) => told,
+            Err(cause) => return Err(Stop::Refused(cause)),
+        };
+        self.recorder.follow(next.event, told, moment)?;
+        let (Some((before, deed)), Some(after)) = (ahead, self.world.holds(thread)) else {
+            unreachable!();
+        };
+        let chain = changed_chain(alloc, &self.world, &mut self.kept, deed, chains)?;
+        Ok(TracedEvent {
+            line: next.line,
+            thread,
+            deed,
+            before,
+            after,
+            change: told.change,
+            end: call_end(&self.recorder, number, told.answer),
+            chain,
+        })
+    }
+
+    /// Makes the events of the lines, the first of which has the number `first`, and tells the listener of them, one after
+    /// another, up to the first that is not enabled, whose line and cause it answers.
+    fn trace_lines<L: Listener>(
+        &mut self,
+        alloc: Global,
+        listener: &mut L,
+        first: u64,
+        lines: &[Line],
+        chains: bool,
+    ) -> Result<Option<(u64, StepFault)>, AllocError>
+        requires header { first ≤ 2 ^ 32 }
+        requires few { sum_by event_count lines.now ≤ MOST_EVENTS }
+        requires start { HasTraced M.table self.old.recorder.history.opening (events_from first lines.now) chains 0
+            self.old.world self.old.recorder self.old.kept.items [] }
+        requires silence { L.has_heard listener.old [] listener.old }
+        ensures { IfOk result (λ refused. HearsEvents (λ events. L.has_heard listener.old events listener.new) M.table
+            self.old.recorder.history.opening (events_from first lines.now) chains refused) }
+    {
+        has_account::<M>();
+        listed_content::<M>();
+        let mut moment = 0u32;
+        for (index, line) in lines.iter().enumerate() {
+            let (next, times) = event_of(first + index as u64, *line);
+            for _done in 0..times {
+                moment += 1;
+                match self.trace_event(alloc, next, moment, chains) {
+                    Ok(told) => listener.hear(moment, told)?,
+                    Err(Stop::Refused(cause)) => return Ok(Some((next.line, cause))),
+                    Err(Stop::Memory) => return Err(AllocError),
+                }
             }
         }
+        Ok(None)
     }
-    Ok(None)
 }
 
 /// Traces a schedule on the list of the machine `M`.
@@ -244,18 +250,15 @@ fn trace_on<M: Machine, L: Listener + Drop>(
         (events_of (view schedule.now)) chains r.1) }
 {
     let mut listener = listener;
-    let (mut world, mut recorder) = start_of::<M>(alloc, schedule)?;
-    let mut kept = world.chain()?;
-    let refused = trace_lines(
-        alloc,
-        &mut world,
-        &mut recorder,
-        &mut kept,
-        &mut listener,
-        schedule.first_event_line(),
-        &schedule.lines,
-        chains,
-    )?;
+    let (world, recorder) = start_of::<M>(alloc, schedule)?;
+    let kept = world.chain()?;
+    let mut tracer = Tracer {
+        world,
+        recorder,
+        kept,
+    };
+    let first = schedule.first_event_line();
+    let refused = tracer.trace_lines(alloc, &mut listener, first, &schedule.lines, chains)?;
     Ok((listener, refused))
 }
 

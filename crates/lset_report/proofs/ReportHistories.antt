@@ -1,15 +1,13 @@
 -- The test of a call line is the law of histories, and what the reader keeps decides it.
 use Rattle.std.proofs.Common.{◌≡◌, ◌≢◌, ℕ, ◌<◌, ◌&&◌, ◌||◌, not, ltb, eqb, Bool, true, false}
 use Rattle.std.proofs.Common.{List, [], ◌∷◌, ◌++◌, length, get_or, Option, Some, None, refl, sym, ap, ◌∙◌, subst, arith}
-use Rattle.std.proofs.Common.{⊎_elim, append_assoc}
+use Rattle.std.proofs.Common.{⊎_elim, append_assoc, zero, suc, replicate}
 use Rattle.std.proofs.Math.ListN.{set}
 use Rattle.std.proofs.Math.Bool.{or-false}
 use Rattle.std.specs.List.{All, list_any, list_all}
 use Rattle.std.specs.Option.{IfSome, IsSomeAnd}
-use Rattle.std.specs.Ordering.{nat_cmp}
-use Rattle.std.specs.BTreeSet.{contains}
 use Rattle.std.proofs.lemmas.Option.{IfSome_then}
-use Rattle.std.proofs.lemmas.List.{get_or-set_other, get_or-set_same, append-nil, length-set}
+use Rattle.std.proofs.lemmas.List.{get_or-set_other, get_or-set_same, get_or-replicate, append-nil, length-set, length-replicate}
 use Rattle.std.proofs.lemmas.List.Elements.{All-cons, All-nil}
 use Rattle.std.proofs.lemmas.List.Folds.{list_any-append, list_all-append, list_any_none}
 use Rattle.std.proofs.lemmas.List.Sums.{AllPass-from_list_all, list_all-from_AllPass}
@@ -22,7 +20,7 @@ use Rattle.lset_words.specs.History.{MayFollow, ContinuesHistory, IsHistory}
 use Rattle.lset_report.specs.declared.reading.calls.CallsSoFar.{CallsSoFar}
 use Rattle.lset_report.specs.ReportReading.{ends_at, is_entry, is_taken, begins_later, ended_before, is_idle, ends_later}
 use Rattle.lset_report.specs.ReportReading.{may_follow}
-use Rattle.lset_report.specs.ReportCalls.{threads_of, is_before, end_moment, Tracks}
+use Rattle.lset_report.specs.ReportCalls.{threads_of, is_before, end_moment, is_end, is_last_end, Tracks}
 
 -- ---- tests of every call
 
@@ -199,11 +197,41 @@ begins_pushed calls x last old may m =
     (λ (no_ : ltb x.begun m ≡ false). and_right (ltb 0 m) _ (and_right (list_all (λ y. ltb y.begun m) calls) _ no_) ∙ sym no_)
     (cases_Bool (ltb x.begun m))
 
-taken_pushed : (calls : List CallRecord) (x : CallRecord) (b : Bool) (m : ℕ) → is_taken calls m ≡ b
-    → is_taken (calls ++ x ∷ []) m ≡ (b || is_entry m x)
-taken_pushed calls x b m is =
+taken_pushed : (calls : List CallRecord) (x : CallRecord) (m : ℕ) → x.begun < m
+    → is_taken (calls ++ x ∷ []) m ≡ (is_taken calls m || ends_at m x.ended)
+taken_pushed calls x m past =
+    let other : eqb x.begun m ≡ false = ne_eqb x.begun m (λ same. absurd (omega (arith, past, same))) in
     list_any-append (is_entry m) calls (x ∷ []) ∙ ap (λ c. is_taken calls m || c) (or-false (is_entry m x))
-    ∙ ap (λ c. c || is_entry m x) is
+    ∙ ap (λ c. is_taken calls m || (c || ends_at m x.ended)) other
+
+or_swap : (a b : Bool) → (a || b) ≡ (b || a)
+or_swap true true = refl
+or_swap true false = refl
+or_swap false true = refl
+or_swap false false = refl
+
+or_regroup : (a b c : Bool) → (a || (b || c)) ≡ ((a || b) || c)
+or_regroup true b c = refl
+or_regroup false b c = refl
+
+-- what a thread's further end adds to the last ends, where its end before is not that moment
+last_end_set : (ends : List (Option ℕ)) (t m : ℕ) (v : Option ℕ) → t < length ends → is_end m (get_or ends t None) ≡ false
+    → is_last_end (set ends t v) m ≡ (is_last_end ends m || is_end m v)
+last_end_set [] t m v low old = absurd (omega (arith, low))
+last_end_set (o ∷ os) zero m v low old =
+    or_swap (is_end m v) (is_last_end os m) ∙ ap (λ b. (b || is_last_end os m) || is_end m v) (sym old)
+last_end_set (o ∷ os) (suc t) m v low old =
+    ap (λ b. is_end m o || b) (last_end_set os t m v (omega (arith, low)) old)
+    ∙ or_regroup (is_end m o) (is_last_end os m) (is_end m v)
+
+end_is : (m : ℕ) (o : Option (ℕ × Reply)) → is_end m (end_moment o) ≡ ends_at m o
+end_is m None = refl
+end_is m (Some e) = refl
+
+not_last : (b m : ℕ) (o : Option ℕ) → is_before b o ≡ true → b < m → is_end m o ≡ false
+not_last b m None h past = absurd cc
+not_last b m (Some e) h past =
+    let below : e < b = ltb-true e b h in ne_eqb e m (λ same. absurd (omega (arith, below, past, same)))
 
 before_later : (a m : ℕ) (o : Option ℕ) → is_before a o ≡ true → a < m → is_before m o ≡ true
 before_later a m None h lt = absurd cc
@@ -245,23 +273,47 @@ idle_other calls x t m other =
     let apart : idle_at t m x ≡ true = or_left _ _ (not_from_false _ (ne_eqb x.thread t (λ same. other (sym same)))) in
     idle_step calls x t m ∙ ap (λ b. is_idle calls t m && b) apart ∙ and-true (is_idle calls t m)
 
+-- ---- what is kept of no calls
+
+none_at : (n m : ℕ) → 0 < m → is_last_end (replicate n (Some 0)) m ≡ false
+none_at zero m some = refl
+none_at (suc n) m some = or_from _ _ (ne_eqb 0 m (λ same. absurd (omega (arith, some, same)))) (none_at n m some)
+
+pub tracks_none : (s : CallsSoFar) (threads : ℕ) → s.calls.items ≡ [] → s.last_begun ≡ 0
+    → s.idle_since.items ≡ replicate threads (Some 0) → Tracks s
+tracks_none s threads calls_are last_is idle_is =
+    let seats : threads_of s ≡ threads = ap length idle_is ∙ length-replicate threads (Some 0) in
+    record {
+      history = subst (λ (cs : List CallRecord). IsHistory (threads_of s) cs) (sym calls_are) tt;
+      begins = λ m. rw (calls_are, last_is) (and-true (ltb 0 m));
+      taken = λ m past. rw (calls_are, idle_is) (sym (none_at threads m (omega (arith, past, last_is))));
+      idle = λ u m seat some. rw (calls_are, idle_is) (sym (ap (is_before m)
+          (get_or-replicate threads u (Some 0) None (omega (arith, seat, seats))) ∙ lt-ltb 0 m some));
+    }
+
 pub tracks_more : (s t : CallsSoFar) (x : CallRecord) → Tracks s → may_follow (threads_of s) s.calls.items x ≡ true
     → t.calls.items ≡ s.calls.items ++ x ∷ [] → t.last_begun ≡ x.begun
-    → ((m : ℕ) → contains nat_cmp t.moments m ≡ (contains nat_cmp s.moments m || is_entry m x))
     → t.idle_since.items ≡ set s.idle_since.items x.thread (end_moment x.ended) → Tracks t
-tracks_more s t x old may calls_are last_is moments idle_is =
+tracks_more s t x old may calls_are last_is idle_is =
     let parts = may_parts (threads_of s) s.calls.items x may in
     let calls : List CallRecord = s.calls.items in
     let idle : List (Option ℕ) = s.idle_since.items in
     let seats : threads_of t ≡ threads_of s = ap length idle_is ∙ length-set idle x.thread (end_moment x.ended) in
     let low : x.thread < length idle = parts.low in
+    let later : s.last_begun < x.begun = ltb-true _ _ (sym (old.begins x.begun) ∙ parts.begins) in
+    let counted : 0 < x.begun = omega (arith, later) in
+    let before : is_before x.begun (get_or idle x.thread None) ≡ true = sym (old.idle x.thread x.begun low counted) ∙ parts.idle in
     record {
       history = rw (seats, calls_are) (history_more (threads_of s) calls x old.history may);
       begins = λ m. rw (calls_are, last_is) (begins_pushed calls x s.last_begun old.begins parts.begins m);
-      taken = λ m. rw calls_are (taken_pushed calls x (contains nat_cmp s.moments m) m (old.taken m)) ∙ sym (moments m);
+      taken = λ m past.
+          let after : x.begun < m = omega (arith, past, last_is) in
+          rw (calls_are, idle_is) (taken_pushed calls x m after
+          ∙ ap (λ b. b || ends_at m x.ended) (old.taken m (omega (arith, later, after)))
+          ∙ ap (λ b. is_last_end idle m || b) (sym (end_is m x.ended))
+          ∙ sym (last_end_set idle x.thread m (end_moment x.ended) low (not_last x.begun m (get_or idle x.thread None) before after)));
       idle = λ u m seat some. rw (calls_are, idle_is) (⊎_elim
           (λ (same : u ≡ x.thread).
-          let counted : 0 < x.begun = (may_ok (threads_of s) calls x may).counted in
           subst (λ v. is_idle (calls ++ x ∷ []) v m ≡ is_before m (get_or (set idle x.thread (end_moment x.ended)) v None))
           (sym same)
           (idle_own calls x m (get_or idle x.thread None) parts.ends (old.idle x.thread x.begun low counted)

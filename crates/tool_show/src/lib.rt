@@ -4,11 +4,13 @@
 
 mod asking;
 mod bars;
+mod endings;
 mod reports;
 mod schedules;
 mod tool;
 
 pub use asking::{Form, read_asked};
+pub use endings::ending;
 pub use reports::picture_of_report;
 pub use schedules::picture_of_replay;
 pub use tool::{shown, tool_show};

@@ -18,7 +18,7 @@ ghost use Rattle.tool_show.specs.Showing.{
   status_of,
 };
 
-use crate::{Form, picture_of_replay, picture_of_report};
+use crate::{Form, ending, picture_of_replay, picture_of_report};
 use lset_drawing::{Picture, Window, is_past_the_last, write_picture, write_svg};
 use lset_report::read_report;
 use lset_schedule::read_schedule;
@@ -70,7 +70,7 @@ fn picture_of(alloc: Global, bytes: &[u8]) -> Result<Picture, Trouble>
     }
 }
 
-/// The picture as text, or as an SVG.
+/// The picture as text, with its ending, or as an SVG.
 fn text_of(
     alloc: Global,
     picture: &Picture,
@@ -78,7 +78,12 @@ fn text_of(
     window: Window,
 ) -> Result<Vec<u8>, AllocError> {
     match form {
-        Form::Text(width) => write_picture(alloc, picture, window, width),
+        Form::Text(width) => {
+            let mut text = write_picture(alloc, picture, window, width)?;
+            let end = ending(alloc, picture)?;
+            text.extend_from_slice(end.as_bytes())?;
+            Ok(text)
+        }
         Form::Svg => write_svg(alloc, picture, window),
     }
 }

@@ -202,9 +202,9 @@ key 5
 end
 ";
 
-const EARLY_ROWS: &str = "coarse list, 2 threads, quota 4: 2 calls
+const EARLY_HEADING: &str = "coarse list, 2 threads, quota 4: 2 calls";
 
-moment    1      8     9           13
+const EARLY_ROWS: &str = "moment    1      8     9           13
 thread 0  [add 5-true]
 thread 1               [contains 5-false]
 
@@ -214,7 +214,7 @@ order
 keys  5
 ";
 
-/// The picture of this refusal ends with this line.
+/// The picture of this refusal has this line below its heading.
 fn assert_sentence<R: Abort>(
     rt: &R,
     alloc: Global,
@@ -223,11 +223,11 @@ fn assert_sentence<R: Abort>(
 ) -> Result<(), Fail> {
     let mut picture = picture_of(alloc, EARLY, None, &[])?;
     picture.refusal = Some(refusal);
-    let text = format!(in alloc; "{EARLY_ROWS}\n{line}\n")?;
+    let text = format!(in alloc; "{EARLY_HEADING}\n{line}\n\n{EARLY_ROWS}")?;
     assert_text(rt, alloc, &picture, &text)
 }
 
-/// The last line of each fault.
+/// The second line of each fault.
 #[test]
 fn each_fault_has_its_sentence(rt: HostRuntime) -> Result<(), Fail> {
     let refusal = Refusal::SetReply {

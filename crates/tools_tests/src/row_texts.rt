@@ -67,14 +67,13 @@ refused line 7 Idle
 /// The picture of the report whose order leaves out its call.
 pub const REFUSED_PICTURE: &str = "\
 coarse list, 1 thread, quota 4: 1 call
+refused Missing 0: it ended at 8 with true and has no place
 
 moment    1      8
 thread 0  [add 5-true]
 
 order
 keys  5
-
-refused Missing 0: it ended at 8 with true and has no place
 ";
 
 /// The trace of the schedule with the chains.

@@ -1,12 +1,9 @@
-ghost use Rattle.std.specs.Prelude.{◌≡◌, ℕ, ◌++◌, ◌∷◌, [], ◌||◌, true, IfOk, OnOk};
-ghost use Rattle.std.specs.Ordering.{nat_cmp};
-ghost use Rattle.std.specs.BTreeSet.{contains};
-ghost use Rattle.lset_report.specs.ReportReading.{is_entry, may_follow};
-ghost use Rattle.lset_report.specs.ReportCalls.{Tracks, threads_of, is_before, end_moment, ends_well_by};
+ghost use Rattle.std.specs.Prelude.{◌≡◌, ◌++◌, ◌∷◌, [], true, IfOk, OnOk};
+ghost use Rattle.lset_report.specs.ReportReading.{may_follow};
+ghost use Rattle.lset_report.specs.ReportCalls.{Tracks, threads_of, is_before, end_moment, is_last_end, ends_well_by};
 
 use lset_words::CallRecord;
 use std::alloc::{AllocError, Global};
-use std::collections::BTreeSet;
 
 /// The calls of a report so far, and what tells whether a call may follow them.
 #[derive(Drop)]
@@ -14,8 +11,6 @@ pub struct CallsSoFar {
     pub calls: Vec<CallRecord>,
     /// When the last call began; 0 before the first one.
     pub last_begun: u32,
-    /// When the calls began and ended.
-    pub moments: BTreeSet<u32>,
     /// For each thread, when its last call ended; 0 before its first one, and none while a call is open.
     pub idle_since: Vec<Option<u32>>,
 }
@@ -38,17 +33,6 @@ fn end_moment(made: CallRecord) -> Option<u32>
     }
 }
 
-/// Adds the moments of a call.
-fn note(moments: &mut BTreeSet<u32>, made: CallRecord) -> Result<(), AllocError>
-    ensures { OnOk result ((m : ℕ) → contains nat_cmp moments.new m ≡ (contains nat_cmp moments.old m || is_entry m made)) }
-{
-    moments.insert(made.begun)?;
-    if let Some((end, _)) = made.ended {
-        moments.insert(end)?;
-    }
-    Ok(())
-}
-
 impl CallsSoFar {
     /// No calls of `threads` threads.
     pub fn new(alloc: Global, threads: u32) -> Result<CallsSoFar, AllocError>
@@ -59,21 +43,28 @@ impl CallsSoFar {
         Ok(CallsSoFar {
             calls: Vec::new(alloc),
             last_begun: 0,
-            moments: BTreeSet::new(alloc),
             idle_since: vec![in alloc; Some(0); threads as usize]?,
         })
     }
 
+    /// Whether the last call of a thread ended at this moment.
+    fn is_last_end(&self, moment: u32) -> bool
+        ensures { result ≡ is_last_end self.now.idle_since.items moment }
+    {
+        self.idle_since.contains(&Some(moment))
+    }
+
     fn ends_well(&self, made: CallRecord) -> bool
-        ensures { result ≡ ends_well_by self.now.moments made }
+        ensures { result ≡ ends_well_by self.now.idle_since.items made }
     {
         match made.ended {
-            Some((end, _)) => made.begun < end && !self.moments.contains(&end),
+            Some((end, _)) => made.begun < end && !self.is_last_end(end),
             None => true,
         }
     }
 
-    /// Whether a call of such threads may follow the calls.
+    /// Whether a call of such threads may follow the calls. A moment past the last beginning is taken only as the last end of a
+    /// thread: so these are looked at, and no set of moments is kept.
     pub fn may_follow(&self, made: CallRecord) -> bool
         requires { Tracks self.now }
         ensures { result ≡ may_follow (threads_of self.now) self.now.calls.items made }
@@ -84,7 +75,7 @@ impl CallsSoFar {
         }
         self.last_begun < made.begun
             && self.ends_well(made)
-            && !self.moments.contains(&made.begun)
+            && !self.is_last_end(made.begun)
             && is_before(self.idle_since[thread], made.begun)
     }
 
@@ -97,7 +88,6 @@ impl CallsSoFar {
         ensures pushed { OnOk result (self.new.calls.items ≡ self.old.calls.items ++ made ∷ []) }
     {
         self.calls.push(made)?;
-        note(&mut self.moments, made)?;
         self.last_begun = made.begun;
         self.idle_since[made.thread as usize] = end_moment(made);
         Ok(())

@@ -9,15 +9,15 @@ use Rattle.lset_replay.proofs.tracing.trace_on.Goals as goal
 pub trace_lines-requires-clause-start : goal.trace_lines-requires-clause-start
 trace_lines-requires-clause-start g c =
     let followed : HasFollowed g.M.Machine.table c.in_ok-world.recorder.history.opening
-    (events_from c.first_event_line.result c.deref.result.now) 0 c.in_ok-world.world c.in_ok-world.recorder = search rules in
+    (events_from c.first_event_line-first.result c.deref.result.now) 0 c.in_ok-world.world c.in_ok-world.recorder = search rules in
     traced_none g.M.Machine.table c.in_ok-world.recorder.history.opening
-    (events_from c.first_event_line.result c.deref.result.now)
+    (events_from c.first_event_line-first.result c.deref.result.now)
     c.args.chains c.in_ok-world.world c.in_ok-world.recorder c.in_ok-kept.kept.items _ followed refl c.in_ok-kept.ensures.keys
 
 pub returns : goal.returns
 returns g c =
     heard_is _ g.M.Machine.table (view c.args.schedule.now) c.args.chains c.in_ok-world.recorder.history.opening
-    (events_from c.first_event_line.result c.deref.result.now) _
+    (events_from c.first_event_line-first.result c.deref.result.now) _
     c.in_ok-world.ensures.opening
-    (same_events c.first_event_line.result _ c.deref.result.now _ c.first_event_line.ensures c.deref.ensures.value)
+    (same_events c.first_event_line-first.result _ c.deref.result.now _ c.first_event_line-first.ensures c.deref.ensures.value)
     c.in_ok-refused.ensures

@@ -12,9 +12,8 @@ returns-clause-tracks c =
     let t : CallsSoFar = record {
       calls = c.push.new.self;
       last_begun = c.args.made.begun;
-      moments = c.note.new.moments;
       idle_since = with_item s.idle_since c.args.made.thread c.end_moment.result;
     } in
     let pushed : c.push.new.self.items ≡ s.calls.items ++ c.args.made ∷ [] = grind (arith, common_steps) in
-    tracks_more s t c.args.made c.requires.tracks c.requires.may pushed refl c.in_ok-note.ensures
+    tracks_more s t c.args.made c.requires.tracks c.requires.may pushed refl
     (ap (set s.idle_since.items c.args.made.thread) c.end_moment.ensures)

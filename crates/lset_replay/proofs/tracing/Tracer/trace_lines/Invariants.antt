@@ -2,15 +2,15 @@ use Rattle.std.proofs.Common.{◌≡◌, length, take}
 use Rattle.lset_replay.specs.Events.{events_from}
 use Rattle.lset_replay.specs.Tracer.{IsHeard}
 use Rattle.lset_replay.proofs.EventLists.{AreBehind}
-use Rattle.lset_replay.proofs.tracing.trace_lines.Given as goal
+use Rattle.lset_replay.proofs.tracing.Tracer.trace_lines.Given as goal
 
 -- the events of the lines so far have been told
 abbrev pub invariant-loop-index : goal.invariant-loop-index
 invariant-loop-index g l = record {
   count : l.moment ≡ length (events_from l.first (take l.index l.lines));
   told : IsHeard (λ traced. g.L.Listener.has_heard l.fn.listener traced l.listener) g.M.Machine.table
-      l.fn.recorder.history.opening (events_from l.first l.lines)
-      l.chains l.moment l.world l.recorder l.kept.items;
+      l.fn.self.recorder.history.opening (events_from l.first l.lines)
+      l.chains l.moment l.self.world l.self.recorder l.self.kept.items;
 }
 
 -- and some of the next line
@@ -18,6 +18,6 @@ abbrev pub invariant-loop-done : goal.invariant-loop-done
 invariant-loop-done g l = record {
   count : AreBehind l.first l.lines l.index l._done l.moment;
   told : IsHeard (λ traced. g.L.Listener.has_heard l.fn.listener traced l.listener) g.M.Machine.table
-      l.fn.recorder.history.opening (events_from l.first l.lines)
-      l.chains l.moment l.world l.recorder l.kept.items;
+      l.fn.self.recorder.history.opening (events_from l.first l.lines)
+      l.chains l.moment l.self.world l.self.recorder l.self.kept.items;
 }

@@ -11,7 +11,7 @@ use Rattle.lset_replay.specs.Tracer.{HasTraced, MadeEvent}
 use Rattle.lset_replay.proofs.Followed.{tells_keys}
 use Rattle.lset_replay.proofs.EventLists.{comes_next, few_behind, line_done}
 use Rattle.lset_replay.proofs.Telling.{few_begun, may_follow, traced_more, told_to_refused, told_all}
-use Rattle.lset_replay.proofs.tracing.trace_lines.Goals as goal
+use Rattle.lset_replay.proofs.tracing.Tracer.trace_lines.Goals as goal
 
 pub loop-index-init : goal.loop-index-init
 loop-index-init g c = record {
@@ -36,10 +36,10 @@ trace_event-requires-clause-few g c =
     let few : c.loop-done.moment < MOST_EVENTS =
     few_behind c.args.first c.args.lines.now c.loop-done.moment MOST_EVENTS c.event_of-times.result.0 c.requires.few there in
     let heard = c.loop-done.invariant.told in
-    let begun : length c.loop-done.recorder.places.items ≤ c.loop-done.moment =
+    let begun : length c.loop-done.self.recorder.places.items ≤ c.loop-done.moment =
     few_begun g.M.Machine.table (tells_keys g.M.Machine.table c.has_account.ensures c.listed_content.ensures)
-    c.args.recorder.now.history.opening (events_from c.args.first c.args.lines.now)
-    c.args.chains c.loop-done.moment c.loop-done.world c.loop-done.recorder c.loop-done.kept.items heard.traced heard.told in
+    c.args.self.now.recorder.history.opening (events_from c.args.first c.args.lines.now)
+    c.args.chains c.loop-done.moment c.loop-done.self.world c.loop-done.self.recorder c.loop-done.self.kept.items heard.traced heard.told in
     omega arith
 
 pub trace_event-requires-clause-may : goal.trace_event-requires-clause-may
@@ -48,11 +48,11 @@ trace_event-requires-clause-may g c =
     c.event_of-times.result.1
     c.event_of-times.result.0 c.loop-index-test.true c.event_of-times.ensures c.loop-done-test.true c.loop-done.invariant.count in
     let heard = c.loop-done.invariant.told in
-    λ enabled. subst (λ m. MayFollow c.loop-done.recorder m c.event_of-times.result.0.event
-    (told g.M.Machine.table c.loop-done.world.state c.event_of-times.result.0.event)) (sym (add-one c.loop-done.moment))
+    λ enabled. subst (λ m. MayFollow c.loop-done.self.recorder m c.event_of-times.result.0.event
+    (told g.M.Machine.table c.loop-done.self.world.state c.event_of-times.result.0.event)) (sym (add-one c.loop-done.moment))
     (may_follow g.M.Machine.table (tells_keys g.M.Machine.table c.has_account.ensures c.listed_content.ensures)
-    c.args.recorder.now.history.opening (events_from c.args.first c.args.lines.now)
-    c.args.chains c.loop-done.moment c.loop-done.world c.loop-done.recorder c.loop-done.kept.items heard.traced heard.told
+    c.args.self.now.recorder.history.opening (events_from c.args.first c.args.lines.now)
+    c.args.chains c.loop-done.moment c.loop-done.self.world c.loop-done.self.recorder c.loop-done.self.kept.items heard.traced heard.told
     c.event_of-times.result.0 there.event_is enabled)
 
 pub returns-in-Err-Refused : goal.returns-in-Err-Refused
@@ -62,20 +62,20 @@ returns-in-Err-Refused g c =
     c.event_of-times.result.0 c.loop-index-test.true c.event_of-times.ensures c.loop-done-test.true c.loop-done.invariant.count in
     let heard = c.loop-done.invariant.told in
     let refused = rw c.in-Err-Refused.field-0-is at c.in-Err-Refused.ensures in
-    let t : TellsEvents g.M.Machine.table c.args.recorder.now.history.opening (events_from c.args.first c.args.lines.now)
+    let t : TellsEvents g.M.Machine.table c.args.self.now.recorder.history.opening (events_from c.args.first c.args.lines.now)
     c.args.chains
     heard.traced (Some (c.event_of-times.result.0.line, c.in-Err-Refused.cause)) =
     told_to_refused g.M.Machine.table (tells_keys g.M.Machine.table c.has_account.ensures c.listed_content.ensures)
-    c.args.recorder.now.history.opening
-    (events_from c.args.first c.args.lines.now) c.args.chains c.loop-done.moment c.loop-done.world c.loop-done.recorder
-    c.loop-done.kept.items
+    c.args.self.now.recorder.history.opening
+    (events_from c.args.first c.args.lines.now) c.args.chains c.loop-done.moment c.loop-done.self.world c.loop-done.self.recorder
+    c.loop-done.self.kept.items
     heard.traced heard.told c.event_of-times.result.0
     there.event_is c.in-Err-Refused.cause there.known
     there.line_is refused in
     record {
       traced = heard.traced;
       heard = heard.heard;
-      tells = subst (λ (z : StepFault). TellsEvents g.M.Machine.table c.args.recorder.now.history.opening
+      tells = subst (λ (z : StepFault). TellsEvents g.M.Machine.table c.args.self.now.recorder.history.opening
           (events_from c.args.first c.args.lines.now) c.args.chains heard.traced (Some (c.event_of-times.result.0.line, z)))
           (sym c.in-Err-Refused.cause-is) t;
     }
@@ -92,21 +92,21 @@ loop-done-preserved g c =
       told = record {
         traced = heard.traced ++ c.in-Ok.told ∷ [];
         heard = c.in_ok-hear-in-Ok.ensures c.args.listener.now heard.traced (omega (arith, count)) heard.heard;
-        told = subst (λ m. HasTraced g.M.Machine.table c.args.recorder.now.history.opening
+        told = subst (λ m. HasTraced g.M.Machine.table c.args.self.now.recorder.history.opening
             (events_from c.args.first c.args.lines.now)
-            c.args.chains m c.trace_event.new.world c.trace_event.new.recorder c.trace_event.new.kept.items
+            c.args.chains m c.trace_event.new.self.world c.trace_event.new.self.recorder c.trace_event.new.self.kept.items
             (heard.traced ++ c.in-Ok.told ∷ []))
             (sym (add-one c.loop-done.moment))
             (traced_more g.M.Machine.table (tells_keys g.M.Machine.table c.has_account.ensures c.listed_content.ensures)
-            c.args.recorder.now.history.opening
-            (events_from c.args.first c.args.lines.now) c.args.chains c.loop-done.moment c.loop-done.world c.loop-done.recorder
-            c.loop-done.kept.items heard.traced heard.told c.event_of-times.result.0
+            c.args.self.now.recorder.history.opening
+            (events_from c.args.first c.args.lines.now) c.args.chains c.loop-done.moment c.loop-done.self.world c.loop-done.self.recorder
+            c.loop-done.self.kept.items heard.traced heard.told c.event_of-times.result.0
             there.event_is
-            c.trace_event.new.world c.trace_event.new.recorder c.trace_event.new.kept.items c.in-Ok.told
+            c.trace_event.new.self.world c.trace_event.new.self.recorder c.trace_event.new.self.kept.items c.in-Ok.told
             there.line_is
-            (subst (λ m. MadeEvent g.M.Machine.table c.event_of-times.result.0 m c.args.chains c.loop-done.world
-            c.loop-done.recorder
-            c.loop-done.kept.items c.in-Ok.told c.trace_event.new.world c.trace_event.new.recorder c.trace_event.new.kept.items)
+            (subst (λ m. MadeEvent g.M.Machine.table c.event_of-times.result.0 m c.args.chains c.loop-done.self.world
+            c.loop-done.self.recorder
+            c.loop-done.self.kept.items c.in-Ok.told c.trace_event.new.self.world c.trace_event.new.self.recorder c.trace_event.new.self.kept.items)
             (add-one c.loop-done.moment) c.in-Ok.ensures));
       };
     }
@@ -128,8 +128,8 @@ returns g c =
       traced = heard.traced;
       heard = heard.heard;
       tells = told_all g.M.Machine.table (tells_keys g.M.Machine.table c.has_account.ensures c.listed_content.ensures)
-          c.args.recorder.now.history.opening (events_from c.args.first c.args.lines.now) c.args.chains c.loop-index.moment
-          c.loop-index.world c.loop-index.recorder c.loop-index.kept.items heard.traced heard.told
+          c.args.self.now.recorder.history.opening (events_from c.args.first c.args.lines.now) c.args.chains c.loop-index.moment
+          c.loop-index.self.world c.loop-index.self.recorder c.loop-index.self.kept.items heard.traced heard.told
           (c.loop-index.invariant.count
           ∙ ap (λ ls. length (events_from c.args.first ls)) (take_all c.loop-index.index c.args.lines.now past));
     }
