@@ -322,7 +322,7 @@ def crates(_top):
         elif line:
             name = line.split(":")[0].split()[0]
             said = first_words(name)
-            rows[-1][1].append(f"`{name}`" + (f": {said}" if " " in said and name not in said.replace(" `", "_") and rows[-1][0] != "tests" else ""))
+            rows[-1][1].append(f"`{name}`" + (f": {said}" if " " in said and "`" not in said and rows[-1][0] != "tests" else ""))
     return "\n".join(["| Group | Crates |", "|---|---|", *(f"| {group} | {'; '.join(of)} |" for group, of in rows)])
 
 
