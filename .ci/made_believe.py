@@ -331,7 +331,7 @@ def first_words(crate):
     roots = [TOP / "crates" / crate / "src" / it for it in ("lib.rt", "main.rt")]
     said = " ".join(re.findall(r"^//! (.*)", next(it for it in roots if it.exists()).read_text(), re.M))
     said = re.split(r"[.:](?: |$)| [(]|, (?:and|as|for|made|one|over|read|so|which|whose)\b| as plain| as Herl| for a web", said)[0]
-    return said[0].lower() + said[1:]
+    return said[:1].lower() + said[1:]
 
 
 MADE = {f"definitions {it}": functools.partial(definitions_of, it) for it in dict.fromkeys(it[0] for it in entries())}
@@ -341,7 +341,7 @@ MADE |= {"lines": lambda _top: table_of_lines(analysis()[1], analysis()[0]), "pr
 # ---- what is wrong
 
 
-def faults(top):
+def problems(top):
     """What docs/BELIEVE.md leaves out, or has that is not there."""
     page = (top / "docs" / "BELIEVE.md").read_text()
     yield from (f"docs/BELIEVE.md {it}" for it in [*file_faults(), *name_faults(page), *function_faults(page)])
