@@ -1,13 +1,11 @@
-"""Tables of docs/LIBRARY.md, made from the sources: public functions by their signatures and the first sentence of their comments."""
+"""Parts of docs/LIBRARY.md, made from the sources: public functions, by signature and what their comments say first; faults."""
 import functools
 import re
 
+from made_texts import first_sentence
+
 BLOCK = re.compile(r"(?:pub )?(impl|trait)\b(.*)")
 FUNCTION = re.compile(r"\s*(pub )?fn (\w+)")
-
-
-def first_sentence(lines):
-    return re.match(r"(?:[^.`]|`[^`]*`|\.(?! |$))*", " ".join(lines))[0]
 
 
 def owner_of(line):
@@ -37,14 +35,16 @@ def functions_in(text):
     for at, line in enumerate(lines):
         if BLOCK.match(line):
             owner, is_trait = owner_of(line)
-            is_named = owner is not None
         elif line.startswith("}"):
             owner, is_trait = None, False
-        found = FUNCTION.match(line)
-        inner = line.startswith(" ")
-        if found and said and (found[1] or is_trait) and (owner if inner else True):
-            yield owner if inner else None, found[2], signature_at(lines, at), first_sentence(said)
-        said = [*said, line.strip().removeprefix("///").strip()] if line.strip().startswith("///") else said if line.strip().startswith("#") else []
+        found, is_inner = FUNCTION.match(line), line.startswith(" ")
+        if found and said and (found[1] or is_trait) and (owner or not is_inner):
+            yield owner if is_inner else None, found[2], signature_at(lines, at), first_sentence(" ".join(said))
+        comment = re.match(r"\s*/// ?(.*)", line)
+        if comment:
+            said = [*said, comment[1].strip()]
+        elif not line.strip().startswith("#"):
+            said = []
 
 
 class Library:
@@ -86,15 +86,15 @@ SHOWN = {
         "tool_examples": [],
     },
     "functions-running": {
-        "lset_live": ["open_with", "LiveSet::call", "LiveSet::add", "LiveSet::contains_now", "LiveSet::call_within", "LiveSet::gather",
-                      "LiveSet::close", "Closed::keys"],
+        "lset_live": ["open_with", "LiveSet::call", "LiveSet::add", "LiveSet::contains_now", "LiveSet::call_within",
+                      "LiveSet::gather", "LiveSet::close", "Closed::keys"],
         "lset_work": ["work"],
     },
     "functions-sessions": {"lset_session": ["session", "buffered_session"], "lset_server": ["serve"]},
 }
 # Tools of the program, what a list of one's own gives, and traits to be written: the page tells of these.
-NOT_NAMED = re.compile(r"tool_|shown|drafted|exampled|laws::|rows::|reads::|(?:Machine|OpenReads|EventLine|SetCalls|Listener|Task|List|"
-                       r"Running|RunningReads|Bounded|Gate|Source|Sink)::")
+NOT_NAMED = re.compile(r"tool_|shown|drafted|exampled|laws::|rows::|reads::|(?:Machine|OpenReads|EventLine|SetCalls|Listener|Task|"
+                       r"List|Running|RunningReads|Bounded|Gate|Source|Sink)::")
 FAULTS = [
     ("lset_words/src/fault.rt", "LayoutFault"),
     ("lset_history/src/fault.rt", "HistoryFault"),

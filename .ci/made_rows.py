@@ -1,9 +1,8 @@
-"""Tables of rows for docs/TABLES.md, made from the definitions of the lists' tables (`specs/`): MADE has a function for each part."""
+"""The rows of docs/TABLES.md, made from the definitions of the lists' tables (`specs/`), but for what they are in the book."""
 import functools
 import re
-from pathlib import Path
 
-LISTS = {"CoarseList": "coarse", "FineList": "fine", "OptimisticList": "optimistic", "LazyList": "lazy", "LockFreeList": "lock_free"}
+LISTS = ["coarse", "fine", "optimistic", "lazy", "lock_free"]
 REGISTERS = ["pred", "curr", "succ", "node", "pkey", "ckey"]
 TOKEN = re.compile(r"[\w.]+|==|[(){}=;%/*+]")
 PRECEDENCE = {"==": 1, "+": 2, "*": 3, "/": 3, "%": 3}
@@ -14,8 +13,8 @@ FILL = ["the new node's key", "its next", "link it in"]
 UNLINK = ["read `curr`'s next", "unlink `curr`"]
 BOOK = {
     "coarse": ["lock the list", "`pred` is the head, `curr` its next", *WALK, *FILL, *UNLINK, "unlock the list"],
-    "fine": ["lock the head", "`curr` is its next", "lock `curr`, with `pred` still locked", WALK[0], "unlock `pred`: hand over hand",
-             WALK[1], *FILL, *UNLINK, "unlock `curr`", "unlock `pred`"],
+    "fine": ["lock the head", "`curr` is its next", "lock `curr`, with `pred` still locked", WALK[0],
+             "unlock `pred`: hand over hand", WALK[1], *FILL, *UNLINK, "unlock `curr`", "unlock `pred`"],
     "optimistic": ["start of a try", "test of the loop", WALK[1], "lock `pred`", "lock `curr`; validate from the head",
                    "one node further", "is `pred` met, or passed", "does `pred` still lead to `curr`", *FILL, *UNLINK,
                    "unlock `pred`", "unlock `curr`; if not valid, try again"],
@@ -31,7 +30,7 @@ BOOK = {
 
 
 class Parser:
-    """Reads an expression of a definition: numbers, names, calls, records, tests."""
+    """Reads an expression of a definition: a number, a name, or a tuple that begins with "if", "record", "call" or an operator."""
 
     def __init__(self, text):
         self.tokens, self.at = TOKEN.findall(text), 0
@@ -93,6 +92,7 @@ class Parser:
         return found
 
 
+CHANGE = "('call', 'Some', ('call', 'key_of', 'l.call', '%s'))"
 CLAUSE = re.compile(r"^(\w+)((?: (?:\w+|\([^)]*\)))*) =(.*\n(?:[ ]+\S.*\n)*)", re.M)
 
 
@@ -135,6 +135,7 @@ class Table:
         return name in self.defined and name != "targets"
 
     def called(self, name, values, row):
+        """What a definition gives for these values. One with two clauses is of the reply: where there is none, and where there is."""
         clauses = self.defined[name]
         if len(clauses) == 1:
             words, body = clauses[0]
@@ -159,7 +160,11 @@ class Table:
         action = self.called("next_action", ["l"], row)
         tree = Tree.of(self.called("fed_by", ["l", "seen"], row))
         effect = self.called("effect_of", ["l", "seen"], row)
-        change = "" if effect == "None" else "**+k**" if "true" in str(effect) else "**-k**"
+        if effect[0] == "if":
+            if (effect[1], effect[3]) != (tree.test, "None"):
+                raise ValueError(f"row {row} changes the set by another test than {tree.test}")
+            effect = effect[2]
+        change = {"None": "", CHANGE % "true": "**+k**", CHANGE % "false": "**-k**"}[str(effect)]
         return in_words(tree, row, action, change)
 
 
@@ -260,8 +265,10 @@ def test_in_words(test, action):
     }
     if test in told:
         return told[test], test == MARKED
-    if test[:2] == ("==", "seen") and test[2][0] == "*":
-        return ("success" if action[1] == "Exchange" else f"{link_in_words(test[2])}, unmarked"), False
+    if test[:2] == ("==", "seen") and action[1] == "Exchange" and test[2] == action[3]:
+        return "success", False
+    if test[:2] == ("==", "seen") and action[1] == "Load" and test[2][0] == "*":
+        return f"{link_in_words(test[2])}, unmarked", False
     raise ValueError(f"no words for {test}")
 
 
@@ -289,9 +296,10 @@ def ends_in_words(ends):
 
 
 def in_words(tree, row, action, change="", inner=False):
+    """What comes of a step. What both sides of a test set alike is told first; of a try only what comes where it succeeds."""
     if tree.test and action[1] == "Exchange" and tree.test == ("==", "seen", 0):
         if tree.sides[1].ends != ("row", row) or tree.sides[1].sets:
-            raise ValueError(f"a try that fails at row {row} leaves it")
+            raise ValueError(f"a try that fails at row {row} does more than to stay there")
         tree = tree.sides[0]
     sets = tree.common()
     parts = [*([change] if change and not tree.test else []), *sets_in_words(sets)]
@@ -339,4 +347,4 @@ def rows_of_reads(top):
     return f"From the head, `contains` begins at row {begin['contains']}, `ceiling` at row {begin['ceiling']}.\n\n{made}"
 
 
-MADE = {f"rows-{name}": functools.partial(rows_of, name) for name in LISTS.values()} | {"rows-reads": rows_of_reads}
+MADE = {f"rows-{name}": functools.partial(rows_of, name) for name in LISTS} | {"rows-reads": rows_of_reads}

@@ -21,7 +21,7 @@ EXAMPLES = {
     ("Kind", "schedule"): "`list skip`, `list Coarse`",
     ("Threads", "schedule"): "`threads 65`, `threads 01`",
     ("Quota", "schedule"): "`quota 16385`",
-    ("Event", "schedule"): "`take 0 5`; `go  0 1`; `opening 5` below an event; an empty line",
+    ("Event", "schedule"): "`take 0 5`; `go  0 1` (two spaces); `opening 5` below an event; an empty line",
     ("Number", "schedule"): "`begin 0 add 05`, `go 0 10001`",
     ("TooMany", "schedule"): "the hundredth `go 0 10000`",
     ("Opening", "schedule"): "`opening 9` twice",
@@ -48,12 +48,18 @@ LIMITS = [
     ("lset_report/src/report.rt", "MOST_KEYS_OPENED", "`TooMany`"),
     ("lset_tools/src/streams.rt", "LONGEST", "`too long`"),
 ]
+VERSIONS = {"One": 1, "Two": 2}
 
 
 def comment_in_words(comment):
     """A doc comment without its signs, and without what it says of whose limit it is."""
     said = " ".join(re.sub(r"^\s*/// ?", "", comment, flags=re.M).split())
     return re.sub(r" \(This project's own limit[^)]*\)", "", said)
+
+
+def first_sentence(said):
+    """What comes before the first full stop, but those within backquotes."""
+    return re.match(r"(?:[^.`]|`[^`]*`|\.(?! |$))*", said)[0]
 
 
 def variants_of(text, name):
@@ -64,8 +70,9 @@ def variants_of(text, name):
 
 
 def table(head, rows):
-    lines = [head, ["---"] * len(head), *rows]
-    return "\n".join(f"| {' | '.join(cells)} |".replace("| --- ", "|---").replace("--- |", "---|") for cells in lines)
+    below = "|---" * len(head) + "|"
+    first, *others = [f"| {' | '.join(cells)} |" for cells in [head, *rows]]
+    return "\n".join([first, below, *others])
 
 
 def with_figures(said, figures):
@@ -82,43 +89,45 @@ def figures_in(top):
     return {name: figure_of((top / "crates" / file).read_text(), name) for file, name, _ in LIMITS}
 
 
-def first_sentence(said):
-    return re.match(r"(?:[^.`]|`[^`]*`|\.(?! |$))*", said)[0]
-
-
-def faults(top):
-    """The causes of `line L: CAUSE`: of each its texts, what the comment of its variant says first, and lines that have it."""
-    rows, figures, examples = {}, figures_in(top), dict(EXAMPLES)
+def causes_in(top):
+    """Each cause, with its place among the others, its text, and what its variant's comment says first."""
+    figures = figures_in(top)
     for file, name, text in CAUSES:
-        read = name not in ("StepFault", "DraftCause", "ClashFault")
-        for variant, said in variants_of((top / "crates" / file).read_text(), name):
-            if variant in NO_CAUSES:
-                continue
-            at = READING.index(variant) if read else len(READING)
-            of, shown = rows.setdefault((at, variant, with_figures(first_sentence(said), figures)), ([], []))
-            of.append(text)
-            if example := examples.pop((variant, text), None):
-                shown.append(f": {example}")
+        is_read = name not in ("StepFault", "DraftCause", "ClashFault")
+        for cause, said in variants_of((top / "crates" / file).read_text(), name):
+            if cause not in NO_CAUSES:
+                place = READING.index(cause) if is_read else len(READING)
+                yield place, cause, text, with_figures(first_sentence(said), figures)
+
+
+def table_of_causes(top):
+    """The causes of `line L: CAUSE`, those with one comment together, and lines that have the fault."""
+    rows, examples = {}, dict(EXAMPLES)
+    for place, cause, text, said in sorted(causes_in(top), key=lambda it: it[0]):
+        texts, shown = rows.setdefault((cause, said, place), ([], []))
+        texts.append(text)
+        if (cause, text) in examples:
+            shown.append(f": {examples.pop((cause, text))}")
     if examples:
         raise ValueError(f"examples of no cause: {examples}")
-    cells = [[f"`{cause}`", ", ".join(of), said + "".join(shown)] for (_, cause, said), (of, shown) in sorted(rows.items(), key=lambda row: row[0][0])]
+    cells = [[f"`{cause}`", ", ".join(texts), said + "".join(shown)] for (cause, said, _), (texts, shown) in rows.items()]
     return table(["Cause", "Text", "When, and examples"], cells)
 
 
-def orders(top):
+def table_of_orders(top):
     """Why an order is refused: from the comments of the variants of OrderFault."""
-    text = (top / "crates/lset_history/src/fault.rt").read_text()
-    return table(["Fault", "When"], [[f"`{name}`", said] for name, said in variants_of(text, "OrderFault") if name not in NO_CAUSES])
+    found = variants_of((top / "crates/lset_history/src/fault.rt").read_text(), "OrderFault")
+    return table(["Fault", "When"], [[f"`{name}`", first_sentence(said)] for name, said in found if name not in NO_CAUSES])
 
 
-def limits(top):
-    """The limits: what the comment of each constant says, its value and its crate, and what is told past it."""
+def table_of_limits(top):
+    """The limits: what the comment of each constant says first, its value, its name, and what is told past it."""
     rows, figures = [], figures_in(top)
     for file, name, past in LIMITS:
         comment = re.search(rf"((?:^///.*\n)+)pub const {name}:", (top / "crates" / file).read_text(), re.M)[1]
-        said = re.sub(r"`Version::(\w+)`.*", lambda found: f"version {1 + (found[1] == 'Two')}", first_sentence(comment_in_words(comment)))
+        said = re.sub(r"`Version::(\w+)`.*", lambda it: f"version {VERSIONS[it[1]]}", first_sentence(comment_in_words(comment)))
         rows.append([said, figures[name], f"`{name}`", past])
     return table(["Limit", "Is", "Constant", "Past it"], rows)
 
 
-MADE = {"faults": faults, "orders": orders, "limits": limits}
+MADE = {"causes": table_of_causes, "orders": table_of_orders, "limits": table_of_limits}
