@@ -135,7 +135,7 @@ class Table:
         return name in self.defined and name != "targets"
 
     def called(self, name, values, row):
-        """What a definition gives for these values. One with two clauses is of the reply: where there is none, and where there is."""
+        """What a definition gives for these values. One with two clauses is of the reply: where there is none, where there is one."""
         clauses = self.defined[name]
         if len(clauses) == 1:
             words, body = clauses[0]
@@ -157,14 +157,16 @@ class Table:
 
     def then(self, row):
         """What a thread holds after the step, and where it stands then."""
-        action = self.called("next_action", ["l"], row)
-        tree = Tree.of(self.called("fed_by", ["l", "seen"], row))
+        action, fed = self.called("next_action", ["l"], row), self.called("fed_by", ["l", "seen"], row)
+        tree = Tree.of(fed)
         effect = self.called("effect_of", ["l", "seen"], row)
         if effect[0] == "if":
             if (effect[1], effect[3]) != (tree.test, "None"):
                 raise ValueError(f"row {row} changes the set by another test than {tree.test}")
             effect = effect[2]
         change = {"None": "", CHANGE % "true": "**+k**", CHANGE % "false": "**-k**"}[str(effect)]
+        if ("l.used" in str(fed)) != (change == "**+k**"):
+            raise ValueError(f"row {row} uses a slot and puts no key in, or puts one in and uses none")
         return in_words(tree, row, action, change)
 
 
