@@ -135,7 +135,7 @@ class Table:
         return name in self.defined and name != "targets"
 
     def called(self, name, values, row):
-        """What a definition gives for these values. One with two clauses is of the reply: where there is none, where there is one."""
+        """What a definition gives for these values. One with two clauses is of the reply: where there is none, and else."""
         clauses = self.defined[name]
         if len(clauses) == 1:
             words, body = clauses[0]
