@@ -1,4 +1,4 @@
-"""A model of what `trace` and `show` print, written apart from the crates, by docs/TABLES.md and docs/FORMATS.md alone."""
+"""A model of what `trace` and `show` print, written apart from the crates, by docs/TABLES.md and docs/TEXTS.md alone."""
 
 import collections
 import functools

@@ -1,4 +1,4 @@
-// Whether a text from a file is a trace: it is read by the grammar of docs/FORMATS.md, and the first line that is wrong is named.
+// Whether a text from a file is a trace: it is read by the grammar of docs/TEXTS.md, and the first line that is wrong is named.
 "use strict";
 
 const MOST_THREADS = 64;

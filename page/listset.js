@@ -8,7 +8,7 @@
 //     node page/listset.js --words                  the first words of these lines, one a line
 //
 // FILE may be -, the word for the standard input. Output, line about a trouble and exit status are the program's
-// (docs/FORMATS.md), but that wrong words are one line. Where node has no 64-bit memories, it says so and ends with status 70,
+// (docs/TEXTS.md), but that wrong words are one line. Where node has no 64-bit memories, it says so and ends with status 70,
 // before it reads anything.
 "use strict";
 

@@ -56,7 +56,15 @@ def deciding_rows(section):
     def row_of(pattern):
         found = re.search(pattern, section)
         return int(found[1]) if found else max(number for number in rows_of(section)) + 1
-    return row_of(r"Adds at row (\d+)"), row_of(r"removes at row (\d+)"), row_of(r"leaves at row (\d+)")
+    return row_of(r"add at row (\d+)"), row_of(r"remove at row (\d+)"), row_of(r"leave at row (\d+)")
+
+
+def reads_of(section):
+    """The rows of `contains` and those of `ceiling`, of the lists in which these take no lock."""
+    rows = rows_of(section)
+    ceiling = int(re.search(r"`ceiling` at row (\d+)", section)[1])
+    return {"contains": {number: row for number, row in rows.items() if number < ceiling},
+            "ceiling": {number: row for number, row in rows.items() if number >= ceiling}}
 
 
 def registers_in(rows):
@@ -80,7 +88,7 @@ def calls_of(section, reads):
 def rows_text(tables):
     """The text of rows.js for the text of docs/TABLES.md."""
     sections = {part.split("\n", 1)[0].strip(): part for part in tables.split("\n## ")}
-    reads = {call: rows_of(sections[f"`{call}` of LazyList and LockFreeList"]) for call in ("contains", "ceiling")}
+    reads = reads_of(sections["Reads without locks"])
     lists = {}
     for name, kind in TITLES.items():
         own = reads if kind in ("lazy", "lock-free") else {}

@@ -95,8 +95,8 @@ const OUTCOMES = {
     if (event.answer !== undefined) return `<b>${owner} is marked</b>, ${where} in the chain.`;
     if (event.changes.curr !== undefined) return `${owner} is marked, and the walk goes on over it.`;
     const next = LISTS[trace.kind].rows[held.pc]?.step ?? "";
-    if (next.startsWith("exchange link of pred")) return `<b>${owner} is marked:</b> it goes on to take it out.`;
-    return next.startsWith("exchange link of curr") ? `<b>${owner} is marked already:</b> its exchange is going to fail.` : "";
+    if (next.startsWith("exchange pred.link")) return `<b>${owner} is marked:</b> it goes on to take it out.`;
+    return next.startsWith("exchange curr.link") ? `<b>${owner} is marked already:</b> its exchange is going to fail.` : "";
   },
 
   walk({ trace, event, held, row }) {

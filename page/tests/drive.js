@@ -41,7 +41,7 @@ function driveMoves() {
 function driveCeilingExamples() {
   pick("ceiling-meets-mark");
   goToEvent(10);
-  check("the row that looks at the mark", rowOf(0).startsWith("t0; ceiling(3); 25 load link of curr "));
+  check("the row that looks at the mark", rowOf(0).startsWith("t0; ceiling(3); 25 load curr.link "));
   check("the key at which the walk stops", rowOf(0).includes("; ; n6; ; 5; "));
   goToEvent(18);
   check("the mark is seen", textOf("said").includes("n6.link: tail, marked."));

@@ -102,7 +102,7 @@ async function driveListing() {
   const told = here.map((line) => line.textContent);
   check(
     `the line of each call: ${told}`,
-    told.length === 2 && told[0].includes("// row 22t0 row 22: load link of curr") && told[1].includes("// row 6t1 row 6: load link of pred"),
+    told.length === 2 && told[0].includes("// row 22t0 row 22: load curr.link") && told[1].includes("// row 6t1 row 6: load pred.link"),
   );
   check("that of the event is in sight", here[1].classList.contains("moved") && isInSight(part("listing"), here[1]));
   const inside = [...part("listing").querySelectorAll(".inside")].map((line) => line.textContent);

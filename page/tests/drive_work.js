@@ -249,7 +249,7 @@ async function driveTold() {
   const rows = [...part("table").querySelectorAll("tbody tr")];
   check("the table has the rows of the list", rows.length === 16);
   const made = textsOf(part("table").querySelectorAll("tr.moved td"));
-  check("the row just made", made.startsWith("; 3 made by t1; exchange link of pred"));
+  check("the row just made", made.startsWith("; 3 made by t1; exchange pred.link"));
   check("each thread at its row", rows[9].children[0].textContent === "t0" && rows[1].children[0].textContent === "t1");
   part("table-box").open = false;
   part("list").querySelector(".node.out rect").dispatchEvent(new frame.contentWindow.MouseEvent("click", { bubbles: true }));

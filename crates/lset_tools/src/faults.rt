@@ -8,7 +8,7 @@ use std::io::Write;
 
 /// Each line about a fault, and each cause in a sentence.
 pub const FAULTS: &str = "\
-What a line about a fault says. The page docs/FORMATS.md has each with an example.
+What a line about a fault says. The page docs/TEXTS.md has examples.
 
 listset: line L: CAUSE, of a schedule, status 1
   Header    Line 1 is neither 'listset-schedule 1' nor 'listset-schedule 2'. The word draft makes a schedule of a draft.
