@@ -11,8 +11,8 @@ import re
 PAGES = {"HOW-IT-WORKS.md": "how-it-works.html", "CLASSIC.md": "classic.html", "TABLES.md": "tables.html"}
 KINDS = {"CoarseList": "coarse", "FineList": "fine", "OptimisticList": "optimistic", "LazyList": "lazy", "LockFreeList": "lock-free"}
 SPAN = re.compile(r"(`[^`]+`)|\[([^\]]+)\]\(([^)\s]+)\)|\*\*(.+?)\*\*|(?<![\w*])\*([^*]+)\*(?![\w*])")
-PICTURE = re.compile(rf"({'|'.join(KINDS.values())}) list, \d+ threads?, quota \d+: ")
-EVENT = re.compile(r"event (\d+) line \d+ thread (\d+) (begin )?.*? pc (\d+)(?: |$)")
+PICTURE = re.compile(r"[a-z-]+ list, \d+ threads?, quota \d+: \d+ calls? in (\d+) events?$")
+EVENT = re.compile(r"event \d+ line \d+ thread (\d+) (begin )?.*? pc (\d+)(?: |$)")
 NUMBER = re.compile(r"\d+")
 HEAD = """<!doctype html>
 <html lang="en">
@@ -33,29 +33,33 @@ FOOT = "</main>\n</body>\n</html>\n"
 
 
 class Runs:
-    """The classic examples by their traces: the list of each, how many events it has, and the rows that its events make."""
+    """The classic examples by their traces: the list of each, the lines of its events, and the rows that these make."""
 
     def __init__(self, text):
         self.kinds, self.events, self.rows = {}, {}, {kind: {} for kind in KINDS.values()}
         for name, trace in re.findall(r'^  "([a-z-]+)": `\n(.*?)^`', text, re.M | re.S):
             self.kinds[name] = re.search(r"^list (.*)$", trace, re.M)[1]
-            self.add(name, trace)
+            self.events[name] = re.findall(r"^event .*$", trace, re.M)
+            self.add_rows(name)
 
-    def add(self, name, trace):
+    def add_rows(self, name):
         """Notes of each row the first event that makes it: it stands in the line before of the event's thread."""
-        stood, self.events[name] = {}, 0
-        for line in trace.splitlines():
-            if found := EVENT.match(line):
-                number, thread, begins, row = found.groups()
-                if not begins:
-                    self.rows[self.kinds[name]].setdefault(int(stood[thread]), (name, int(number)))
-                stood[thread], self.events[name] = row, int(number)
+        stood = {}
+        for number, line in enumerate(self.events[name], 1):
+            thread, begins, row = EVENT.match(line).groups()
+            if not begins:
+                self.rows[self.kinds[name]].setdefault(int(stood[thread]), (name, number))
+            stood[thread] = row
 
     def link(self, name, event, said):
         """A link into an example's run, where it has so many events."""
-        if event > self.events[name]:
+        if event > len(self.events[name]):
             return said
         return f'<a href="index.html#example={name}&amp;event={event}">{said}</a>'
+
+    def is_picture(self, name, line):
+        """Whether this is the first line of the picture of the example's run."""
+        return (found := PICTURE.match(line)) and int(found[1]) == len(self.events[name])
 
 
 class Document:
@@ -144,17 +148,17 @@ class Document:
 
     def code(self, lines):
         """A block of code; a picture and a trace of the section's example have links into its run."""
-        texts = [html.escape(line, quote=False) for line in lines]
-        if not self.example or not (PICTURE.match(lines[0]) or lines[0].startswith("event ")):
-            return "<pre>" + "\n".join(texts) + "</pre>\n"
-        return "<pre>" + "\n".join(self.of_run(text) for text in texts) + "</pre>\n"
+        is_picture = self.example and self.runs.is_picture(self.example, lines[0])
+        return "<pre>" + "\n".join(self.of_run(line, is_picture) for line in lines) + "</pre>\n"
 
-    def of_run(self, text):
-        """A line of a picture or of a trace, whose moments lead into the run."""
-        if text.startswith("moment "):
+    def of_run(self, line, is_picture):
+        """A line of the picture or of the trace of the section's example, whose moments lead into its run; or any other."""
+        text, is_event = html.escape(line, quote=False), self.example and line in self.runs.events[self.example]
+        if is_picture and line.startswith("moment "):
             return NUMBER.sub(lambda it: self.runs.link(self.example, int(it[0]), it[0]), text)
-        return re.sub(r"^(event |.* at )(\d+)\b",
-                      lambda it: it[1] + self.runs.link(self.example, int(it[2]), it[2]), text, count=1)
+        if not is_picture and not is_event:
+            return text
+        return re.sub(r"^(event | +\d+ +at )(\d+)\b", lambda it: it[1] + self.runs.link(self.example, int(it[2]), it[2]), text)
 
 
 def place_of(target):
