@@ -13,6 +13,7 @@ KINDS = {"CoarseList": "coarse", "FineList": "fine", "OptimisticList": "optimist
 SPAN = re.compile(r"(`[^`]+`)|\[([^\]]+)\]\(([^)\s]+)\)|\*\*(.+?)\*\*|(?<![\w*])\*([^*]+)\*(?![\w*])")
 PICTURE = re.compile(r"[a-z-]+ list, \d+ threads?, quota \d+: \d+ calls? in (\d+) events?$")
 EVENT = re.compile(r"event \d+ line \d+ thread (\d+) (begin )?.*? pc (\d+)(?: |$)")
+FILE = re.compile(r"`examples/([a-z-]+)\.schedule`")
 NUMBER = re.compile(r"\d+")
 HEAD = """<!doctype html>
 <html lang="en">
@@ -82,10 +83,8 @@ class Document:
         code, said, target, bold, italic = found.groups()
         if code:
             shown = f"<code>{html.escape(code[1:-1], quote=False)}</code>"
-            # (a name without a hyphen can be another word: `full` is a reply too)
-            named = re.fullmatch(r"`(?:examples/([a-z-]+)\.schedule|([a-z]+-[a-z-]+))`", code)
-            name = named and (named[1] or named[2])
-            return self.runs.link(name, 0, shown) if is_linked and name in self.runs.kinds else shown
+            named = FILE.fullmatch(code)
+            return self.runs.link(named[1], 0, shown) if is_linked and named and named[1] in self.runs.kinds else shown
         if target:
             return f'<a href="{html.escape(place_of(target))}">{self.spans(said, is_linked=False)}</a>'
         return f"<b>{self.spans(bold, is_linked)}</b>" if bold else f"<i>{self.spans(italic, is_linked)}</i>"
@@ -97,15 +96,17 @@ class Document:
         again = self.slugs[slug] = self.slugs.get(slug, -1) + 1
         slug += f"-{again}" * bool(again)
         self.example = plain.split()[0] if plain.split()[0] in self.runs.kinds else None
-        self.kinds = [kind for name, kind in KINDS.items() if name in plain]
+        self.kinds = kinds_in(plain)
         if len(signs) == 2:
             self.contents.append(f'<a href="#{slug}">{self.spans(said, is_linked=False)}</a>')
         return f'<h{len(signs)} id="{slug}">{self.spans(said)}</h{len(signs)}>\n'
 
     def prose(self, lines):
-        if found := re.search(r"`examples/([a-z-]+)\.schedule`", " ".join(lines)):
-            self.example = found[1] if found[1] in self.runs.kinds else self.example
-        return f"<p>{self.spans(' '.join(lines))}</p>\n"
+        text = " ".join(lines)
+        if (found := FILE.search(text)) and found[1] in self.runs.kinds:
+            self.example = found[1]
+        self.kinds = self.kinds or kinds_in(text)
+        return f"<p>{self.spans(text)}</p>\n"
 
     def items(self, lines):
         """A list: items that go on stand in lines that are indented."""
@@ -159,6 +160,11 @@ class Document:
         if not is_picture and not is_event:
             return text
         return re.sub(r"^(event | +\d+ +at )(\d+)\b", lambda it: it[1] + self.runs.link(self.example, int(it[2]), it[2]), text)
+
+
+def kinds_in(text):
+    """The lists that a text names."""
+    return [kind for name, kind in KINDS.items() if name in text]
 
 
 def place_of(target):
