@@ -228,7 +228,7 @@ def page_of(source, text, runs):
     nav = " · ".join(['<a href="index.html">the runs, step by step</a>', *others])
     # (the contents stand below what is said of the page, where no table there has them)
     at = next((n for n, it in enumerate(body) if it.startswith("<h2")), len(body))
-    if not any('href="#' in it for it in body[:at]):
+    if sum(it.count('href="#') for it in body[:at]) < len(document.contents) / 2:
         body.insert(at, f'<nav class="contents">{" · ".join(document.contents)}</nav>\n')
     title = re.search(r"^# (.*)$", text, re.M)[1]
     return HEAD.format(source=source, title=html.escape(title), nav=nav) + "".join(body) + FOOT, document.unmade
