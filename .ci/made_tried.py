@@ -24,10 +24,10 @@ def edits(top):
         planted[file.parent.name] += 1
     tried = collections.Counter(VERDICT.findall((top / "planted" / "TRIED.md").read_text(encoding="utf-8")))
     gate = sum(1 for _ in (top / "must-fail").glob("*/*.edit"))
-    refusals = ", ".join(f"{count} by a {kind}" for kind, count in tried.most_common())
+    refusals = ", ".join(f"{count} were refused by a {kind}" for kind, count in tried.most_common())
     return "\n".join([
         f"| Crate | The {gate} in the gate |", "|---|---|", *rows, "",
-        f"Planted: {planted.total()}, of which {refusals}: {listed(planted)}."])
+        f"Planted: {planted.total()}; when last tried, {refusals}. By crate: {listed(planted)}."])
 
 
 def tests(top):
