@@ -345,7 +345,7 @@ MADE |= {"lines": lambda _top: table_of_lines(analysis()[1], analysis()[0]), "pr
 def problems(top):
     """What docs/BELIEVE.md leaves out, or has that is not there."""
     page = (top / "docs" / "BELIEVE.md").read_text()
-    yield from (f"docs/BELIEVE.md {it}" for it in [*file_faults(), *name_faults(page), *function_faults(page)])
+    yield from (f"docs/BELIEVE.md {it}" for it in [*file_faults(), *name_faults(), *function_faults(page)])
 
 
 def file_faults():
@@ -368,10 +368,11 @@ def file_faults():
                 yield f"shows a comment of {it} in {file}, and there is none"
 
 
-def name_faults(page):
-    """Names in brackets that are no definition: in comments, and on the page."""
+def name_faults():
+    """Names in brackets that are no definition: in comments, and in pages."""
     known = {name for _, _, name, *_ in entries()}
-    for name, file in [*names_in_brackets(), *((name, "the page") for name in bracketed(page))]:
+    of_pages = ((name, page.relative_to(TOP)) for page in sorted((TOP / "docs").glob("*.md")) for name in bracketed(page.read_text()))
+    for name, file in [*names_in_brackets(), *of_pages]:
         if name not in known:
             yield f"has no definition [{name}], which {file} names"
 
@@ -385,9 +386,9 @@ def names_in_brackets():
 
 
 def bracketed(text):
-    """The names in brackets in a text, but for links, and what stands in backquotes."""
-    pieces = re.split(r"(?<!\w)(\[[A-Z][a-z][^][]*\](?!\())", text)
-    return [it[1:-1] for it in pieces[1::2]]
+    """The names in brackets in a text, but for links, and for brackets that stand in backquotes."""
+    text = re.sub(r"`([^`\n]*)`", lambda it: "" if "[" in it[1] else it[0], text)
+    return re.findall(r"(?<!\w)\[([A-Z][a-z][^][]*)\](?!\()", text)
 
 
 def functions_in(listed):
