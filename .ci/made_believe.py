@@ -371,8 +371,8 @@ def file_faults():
 def name_faults():
     """Names in brackets that are no definition: in comments, and in pages."""
     known = {name for _, _, name, *_ in entries()}
-    of_pages = ((name, page.relative_to(TOP)) for page in sorted((TOP / "docs").glob("*.md")) for name in bracketed(page.read_text()))
-    for name, file in [*names_in_brackets(), *of_pages]:
+    pages = {it.relative_to(TOP): re.sub(r"^    .*$", "", it.read_text(), flags=re.M) for it in sorted((TOP / "docs").glob("*.md"))}
+    for name, file in [*names_in_brackets(), *((name, page) for page, text in pages.items() for name in bracketed(text))]:
         if name not in known:
             yield f"has no definition [{name}], which {file} names"
 
