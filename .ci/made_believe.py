@@ -17,6 +17,8 @@ TOP = Path(__file__).resolve().parent.parent
 BELIEVED = Path(__file__).resolve().parent / "believed.txt"
 SHORT = 12  # words
 ABBREVIATIONS = {"SVG", "KIND"}
+# Functions in a cell of a table, and the clauses in the parentheses behind them.
+SAID_BY = re.compile(r"((?:`\w+::[\w:{}, ]+`,? ?)+)(?:\(((?:`\w+`,? ?)+)\))?")
 NAME = r"[^\W\d][\w'\-]*"
 KINDS = {"abbrev", "unfoldable", "opaque", "record", "data"}
 # The rows of the table of lines: what a reader wants to understand, and the functions whose contracts that is.
@@ -269,7 +271,7 @@ def said_of(file, name, label):
     said = comment_at(lines, at, sign).strip() if at is not None else ""
     said = re.sub(r"^\[[^]]*\](?:, rising)?: ", "", said).rstrip(".")
     said = re.sub(r"\b[A-Z]{2,}\b", lambda it: it[0] if it[0] in ABBREVIATIONS else it[0].lower(), said)
-    said = said[:1].lower() + said[1:] if not re.match("[A-Z](?!\\w| )", said) else said
+    said = said if re.match(r"\w*[a-z][A-Z]", said) else said[:1].lower() + said[1:]
     return said.removeprefix(f"{label[0].lower()}{label[1:]}: ") or None
 
 
@@ -294,11 +296,10 @@ def definitions_of(part, _top=TOP):
 def grouped(files):
     """Names of files, those of one folder as `lset_x/specs/{A,B}.antt`."""
     folders = {}
-    for file in files:
-        folder, _, name = file.rpartition("/")
-        stem, _, ending = name.partition(".")
-        folders.setdefault((folder, ending), []).append(stem)
-    return ", ".join(f"`{folder}/{it[0] if len(it) == 1 else '{' + ','.join(it) + '}'}.{ending}`" for (folder, ending), it in folders.items())
+    for file in map(Path, files):
+        folders.setdefault((file.parent, file.suffix), []).append(file.stem)
+    names = {it: stems[0] if len(stems) == 1 else f"{{{','.join(stems)}}}" for it, stems in folders.items()}
+    return ", ".join(f"`{folder}/{name}{suffix}`" for (folder, suffix), name in names.items())
 
 
 def private_files(_top):
@@ -330,7 +331,7 @@ def first_words(crate):
     """What a crate's root file says of it first, up to a stop, a colon or a clause that explains."""
     roots = [TOP / "crates" / crate / "src" / it for it in ("lib.rt", "main.rt")]
     said = " ".join(re.findall(r"^//! (.*)", next(it for it in roots if it.exists()).read_text(), re.M))
-    said = re.split(r"[.:](?: |$)| [(]|, (?:and|as|for|made|one|over|read|so|which|whose)\b| as plain| as Herl| for a web", said)[0]
+    said = re.split(r"[.:](?: |$)| [(]| as | for a |, (?:and|as|for|made|one|over|read|so|which|whose) ", said)[0]
     return said[:1].lower() + said[1:]
 
 
@@ -344,7 +345,7 @@ MADE |= {"lines": lambda _top: table_of_lines(analysis()[1], analysis()[0]), "pr
 def problems(top):
     """What docs/BELIEVE.md leaves out, or has that is not there."""
     page = (top / "docs" / "BELIEVE.md").read_text()
-    yield from (f"docs/BELIEVE.md {it}" for it in [*file_faults(), *name_faults(page), *function_faults(page)])
+    yield from (f"docs/BELIEVE.md {it}" for it in [*file_faults(), *name_faults(), *function_faults(page)])
 
 
 def file_faults():
@@ -367,10 +368,11 @@ def file_faults():
                 yield f"shows a comment of {it} in {file}, and there is none"
 
 
-def name_faults(page):
-    """Names in brackets that are no definition: in comments, and on the page."""
+def name_faults():
+    """Names in brackets that are no definition: in comments, and in pages."""
     known = {name for _, _, name, *_ in entries()}
-    for name, file in [*names_in_brackets(), *((name, "the page") for name in bracketed(page))]:
+    pages = {it.relative_to(TOP): re.sub(r"^    .*$", "", it.read_text(), flags=re.M) for it in sorted((TOP / "docs").glob("*.md"))}
+    for name, file in [*names_in_brackets(), *((name, page) for page, text in pages.items() for name in bracketed(text))]:
         if name not in known:
             yield f"has no definition [{name}], which {file} names"
 
@@ -384,9 +386,15 @@ def names_in_brackets():
 
 
 def bracketed(text):
-    """The names in brackets in a text, but for links, and what stands in backquotes."""
-    pieces = re.split(r"(?<!\w)(\[[A-Z][a-z][^][]*\](?!\())", text)
-    return [it[1:-1] for it in pieces[1::2]]
+    """The names in brackets in a text, but for links, and for brackets that stand in backquotes."""
+    text = re.sub(r"`([^`\n]*)`", lambda it: "" if "[" in it[1] else it[0], text)
+    return re.findall(r"(?<!\w)\[([A-Z][a-z][^][]*)\](?!\()", text)
+
+
+def functions_in(listed):
+    """The functions of a cell of the page, as crate and name, where braces may hold several."""
+    for crate, before, names in re.findall(r"`(\w+)::((?:\w+::)*)(\w+|\{[^}]*\})`", listed):
+        yield from ((crate, before + name) for name in re.findall(r"[\w:]+", names))
 
 
 def function_faults(page):
@@ -396,23 +404,18 @@ def function_faults(page):
         stated[crate, name] = stated.get((crate, name), "") + text
     cells = re.findall(r"^\|[^|]*\|([^|]*)\|[^|]*\|$", page, re.M)
     cells += [" ".join(f"`{it}`" for it in functions) for *_, functions in entries()]
-    for cell in cells:
-        for listed, clauses_said in re.findall(r"((?:`\w+::[\w:{}, ]+`,? ?)+)(?:\(((?:`\w+`,? ?)+)\))?", cell):
-            texts = []
-            for crate, before, names in re.findall(r"`(\w+)::((?:\w+::)*)(\w+|\{[^}]*\})`", listed):
-                for name in re.findall(r"[\w:]+", names):
-                    text = stated.get((crate, before + name))
-                    if text is None and not is_declared(crate, name.rpartition("::")[2]):
-                        yield f"names {crate}::{before}{name}, which is not there"
-                    texts.append(text or "")
-            for clause in re.findall(r"\w+", clauses_said):
-                if not any(re.search(rf"\bensures {clause}\b", it) for it in texts):
-                    yield f"names a clause {clause} of {listed.strip()}, which is not there"
+    for listed, clauses_said in (it for cell in cells for it in SAID_BY.findall(cell)):
+        functions = list(functions_in(listed))
+        missing = [it for it in functions if it not in stated and not is_declared(*it)]
+        yield from (f"names {crate}::{name}, which is not there" for crate, name in missing)
+        text = "".join(stated.get(it, "") for it in functions)
+        lost = [it for it in re.findall(r"\w+", clauses_said) if not re.search(rf"\bensures {it}\b", text)]
+        yield from (f"names a clause {it} of {listed.strip()}, which is not there" for it in lost)
 
 
 def is_declared(crate, name):
     """Whether a crate declares a function, type or trait of this name (one that is no public function of a library)."""
-    declared = re.compile(rf"\b(?:fn|struct|enum|trait|type|mod) {name}\b")
+    declared = re.compile(rf"\b(?:fn|struct|enum|trait|type|mod) {name.rpartition('::')[2]}\b")
     return any(declared.search(it.read_text()) for it in (TOP / "crates" / crate / "src").rglob("*.rt"))
 
 
