@@ -1,5 +1,6 @@
 """Pages of docs/ as HTML, to be read beside the page: each picture leads into its run, moment by moment, each line of a trace to its
-event, each row of a table to an event of an example that makes it (traces.js), where one does.
+event, each row of a table to an event of an example that makes it (traces.js), where one does, and each list that lacks a check into
+the schedule that breaks it (examples/lacks).
 
 Of Markdown they have what those pages use: headings, paragraphs, lists, tables, blocks of code, and in a line code, bold, italic,
 links.
@@ -14,6 +15,7 @@ SPAN = re.compile(r"(`[^`]+`)|\[([^\]]+)\]\(([^)\s]+)\)|\*\*(.+?)\*\*|(?<![\w*])
 PICTURE = re.compile(r"[a-z-]+ list, \d+ threads?, quota \d+: \d+ calls? in (\d+) events?$")
 EVENT = re.compile(r"event \d+ line \d+ thread (\d+) (begin )?.*? pc (\d+)(?: |$)")
 FILE = re.compile(r"`examples/([a-z-]+)\.schedule`")
+LACKING = re.compile(r"`([a-z-]+)` \([a-z-]+\): ")  # how an item of CLASSIC.md begins that is of a list which lacks a check
 NUMBER = re.compile(r"\d+")
 HEAD = """<!doctype html>
 <html lang="en">
@@ -66,9 +68,9 @@ class Runs:
 class Document:
     """One page on its way to HTML: the section that it is in, with its example and its lists, and the rows that no example makes."""
 
-    def __init__(self, runs):
-        self.runs, self.example, self.kinds = runs, None, []
-        self.slugs, self.contents, self.unmade = {}, [], {}
+    def __init__(self, runs, broken):
+        self.runs, self.broken, self.example, self.kinds = runs, broken, None, []
+        self.slugs, self.contents, self.unmade, self.lists_told = {}, [], {}, 0
 
     def spans(self, text, is_linked=True):
         """A line's text as HTML."""
@@ -116,7 +118,17 @@ class Document:
                 items.append(found[1])
             else:
                 items[-1] += " " + line.strip()
-        return f"<{tag}>\n" + "".join(f"<li>{self.spans(it)}</li>\n" for it in items) + f"</{tag}>\n"
+        return f"<{tag}>\n" + "".join(f"<li>{self.item(it)}</li>\n" for it in items) + f"</{tag}>\n"
+
+    def item(self, text):
+        """An item; of a list that lacks a check its name leads into the schedule that breaks it, on that list, which the page knows by
+        its number."""
+        found = LACKING.match(text)
+        if not found or found[1] not in self.broken:
+            return self.spans(text)
+        self.lists_told += 1
+        address = html.escape(f"index.html#{address_of(self.broken[found[1]])}&event=0&lacks={self.lists_told}")
+        return f'<a href="{address}"><code>{found[1]}</code></a>{self.spans(text[found.end(1) + 1:])}'
 
     def table(self, lines):
         head, _, *rows = [[cell.strip() for cell in re.split(r"(?<!\\)\|", line.strip().strip("|"))] for line in lines]
@@ -160,6 +172,19 @@ class Document:
         if not is_picture and not is_event:
             return text
         return re.sub(r"^(event | +\d+ +at )(\d+)\b", lambda it: it[1] + self.runs.link(self.example, int(it[2]), it[2]), text)
+
+
+def address_of(schedule):
+    """A schedule as page/address.js has it in an address."""
+    title, *lines = schedule.splitlines()
+    words = [line.split() for line in lines]
+    opening = [values[0] for word, *values in words[3:] if word == "opening"]
+    events = [word[0] + ".".join(values) for word, *values in words[3:] if word != "opening"]
+    needed = "2" if opening or " ceiling " in schedule else "1"
+    parts = [f"{word}={value}" for word, value in words[:3]]
+    parts += [f"version={title.split()[1]}"] * (title.split()[1] != needed)
+    parts += [f"opening={'.'.join(opening)}"] * bool(opening)
+    return "&".join([*parts, f"s={','.join(events)}"])
 
 
 def kinds_in(text):
@@ -219,9 +244,9 @@ FORMS = [
 ]
 
 
-def page_of(source, text, runs):
+def page_of(source, text, runs, broken):
     """The HTML of a page, and the rows that no example makes, by list."""
-    document, body = Document(runs), []
+    document, body = Document(runs, broken), []
     for make, lines in blocks(text):
         body.append(make(document, lines))
     others = [f'<a href="{name}">{name.removesuffix(".html").replace("-", " ")}</a>' for it, name in PAGES.items() if it != source]
@@ -234,10 +259,11 @@ def page_of(source, text, runs):
     return HEAD.format(source=source, title=html.escape(title), nav=nav) + "".join(body) + FOOT, document.unmade
 
 
-def docs_made(docs, traces):
-    """The pages by name, from the folder docs/ and the text of traces.js; and of each the rows that no example makes."""
-    runs = Runs(traces)
-    made = {name: page_of(it, (docs / it).read_text(encoding="utf-8"), runs) for it, name in PAGES.items()}
+def docs_made(top):
+    """The pages by name, from docs/, page/traces.js and examples/lacks; and of each the rows that no example makes."""
+    runs = Runs((top / "page" / "traces.js").read_text(encoding="utf-8"))
+    broken = {it.stem: it.read_text(encoding="utf-8") for it in (top / "examples" / "lacks").glob("*.schedule")}
+    made = {name: page_of(it, (top / "docs" / it).read_text(encoding="utf-8"), runs, broken) for it, name in PAGES.items()}
     for name, (text, _) in made.items():
         for page, heading in re.findall(r'href="([a-z-]+\.html)?#([\w-]+)"', text):
             if f' id="{heading}"' not in made[page or name][0]:

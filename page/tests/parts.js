@@ -92,6 +92,21 @@ const refusalOf = (hash) => {
   }
 };
 
+// Each link into a run, of the pages that are made of docs/, is an address, and of an event that its run has.
+function checkDocs(engine) {
+  const lengthOf = (line) => (line.startsWith("go ") ? Number(line.split(" ")[2]) : Number(line.startsWith("begin ")));
+  for (const page of ["how-it-works", "classic", "tables"]) {
+    const links = fs.readFileSync(path.join(folder, `${page}.html`), "utf8").matchAll(/href="index\.html(#[^"]+)"/g);
+    const addresses = [...links].map(([, hash]) => inPage("readAddress")(hash.replaceAll("&amp;", "&")));
+    check(`${page}.html leads into runs`, addresses.length > 20);
+    for (const { example, text, event } of addresses) {
+      const lines = (example === null ? text : engine.ask("listset_example", example).text).split("\n");
+      const events = lines.map(lengthOf).reduce((sum, length) => sum + length);
+      check(`${page}.html: ${example ?? text} has no event ${event}`, event <= events);
+    }
+  }
+}
+
 // Each text comes back from its address, to the byte; what is no address is refused with its part.
 function checkAddresses(engine, texts) {
   const addressOf = inPage("addressOf");
@@ -225,6 +240,7 @@ async function main() {
   checkColours();
   const texts = names.map((name) => engine.ask("listset_example", name).text);
   checkAddresses(engine, texts);
+  checkDocs(engine);
   const crowds = crowded(engine);
   checkArrows(engine, [...texts, ...crowds]);
   checkListing(engine, [...texts, ...crowds]);
