@@ -189,13 +189,14 @@ fn calls(alloc: Global, bytes: &[u8]) -> Result<Calls, CallsFault>
     Ok(reader.calls)
 }
 
-/// The calls that the bytes are the text of, or the first fault of the bytes: its line, and the first check of that line that
-/// fails, in the order of `CallsCause` but for `NotEnded`, which comes before all others. A header line that is due where no
-/// byte is left has the fault of that header line. `Memory` comes last.
+/// The calls that the bytes are the text of, or the first fault of the bytes.
 ///
-/// After the four lines of the header come the lines of opening keys, `opening K`, which rise; the calls in any order,
-/// `call T CALL K BEGIN POINT END REPLY`, with `-` for the point where there is none, and for end and reply of an open call;
-/// the keys in any order, `key K`; and `end`. Whether calls can stand beside each other is for `report_of` to tell.
+/// After the four lines of the header come the opening keys, `opening K`, which rise; the calls in any order, `call T CALL
+/// K BEGIN POINT END REPLY`, with `-` for a point that is not known, and for end and reply of an open call; the keys in any
+/// order, `key K`; and `end`. Whether calls can stand beside each other is for `report_of` to tell.
+///
+/// A fault is its line, and the first check of that line that fails, in the order of `CallsCause`, but `NotEnded` comes
+/// before all others and `Memory` last. A header line that is due where no byte is left has the fault of that header line.
 pub fn read_calls(alloc: Global, bytes: &[u8]) -> Result<Calls, CallsFault>
     // What is read are calls, and the bytes are their text.
     ensures found { IfOk result (λ c. AreCalls (view c) × (bytes.now ≡ calls_text (view c))) }

@@ -55,13 +55,15 @@ fn order_of(alloc: Global, calls: &Calls, sorted: &[TimedCall]) -> Result<Vec<Pl
     in_order(alloc, sorted, &places)
 }
 
-/// The report of calls: its calls are those of the text by their beginnings, in the least version that has words for them, and
-/// its keys are those of the text. Its order has the changes at the points that were given for them, each other call that has
-/// ended at the first moment of its own at which its reply fits the set that those changes make, and at its end where there is
-/// none; whether that order explains the calls is for `check_order` to tell. (Herlihy and Wing's linearization points.)
+/// The report of calls: their history, an order of them, and the keys of the text.
 ///
-/// `ClashFault::History` and `ClashFault::Quota` tell the first line whose call cannot stand beside those of the lines above.
-/// With n calls it takes about `n log n` steps, as it sorts their moments and searches no order.
+/// The calls stand by their beginnings, in the least version that has words for them. The changes stand at the points given
+/// for them. Each other ended call stands at the first moment of its own at which its reply fits the set that those changes
+/// make, and at its end where there is none. Whether that order explains the calls is for `check_order`. (Herlihy and
+/// Wing's linearization points.)
+///
+/// `ClashFault::History` and `ClashFault::Quota` tell the first line whose call cannot stand beside those of the lines
+/// above. With n calls it takes about `n log n` steps, as it sorts their moments and searches no order.
 pub fn report_of(alloc: Global, calls: Calls) -> Result<Report, ClashFault>
     requires { AreCalls (view calls) }
     // What is told is the report of the calls, none of which is refused.

@@ -601,15 +601,17 @@ fn command_named(name: &str) -> Command
     }
 }
 
-/// Reads the words that stand after the program's name, by `clap`: `replay [FILE]`, `report [FILE]`, `check [FILE]`,
-/// `show [--svg] [--from M] [--to M] [--width N] [FILE]`, `trace [--chain] [FILE]`, `draft [FILE]`,
-/// `example [--broken] [NAME]`, `gen KIND THREADS QUOTA CALLS KEYS SEED`, `run` with the same values and `[LIVES]` after them,
-/// `serve KIND SEATS QUOTA PORT SESSIONS [FILE]`, or `faults`. Values and options come as they are written; some or all may be
-/// missing, and `gen`, `run` and `serve` may have more values. No word at all gives `replay` without values. A value
-/// that begins with `-` and has more letters needs a word `--` before it. The help on `faults` is `faults_help`.
+/// Reads the words that stand after the program's name, by `clap`.
 ///
-/// The error has the text for the user: the help or the version, where words ask for it (`exit_code` 0), or what is
-/// wrong with the words (`exit_code` 2). It may also say that memory was refused: `is_out_of_memory`.
+/// They are those that the help shows; no word at all gives `replay` without values. Values and options come as they are
+/// written. Some or all may be missing, and `gen`, `run` and `serve` may have more. A value that begins with `-` and has
+/// more letters needs a word `--` before it. The help on `faults` is `faults_help`.
+///
+/// The error has the text for the user, and its exit code:
+///
+/// - 0: the help or the version, where words ask for it;
+/// - 2: what is wrong with the words;
+/// - `is_out_of_memory`: memory was refused.
 pub fn words_given<'a>(
     alloc: Global,
     words: &'a [&'a str],

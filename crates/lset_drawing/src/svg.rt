@@ -249,12 +249,13 @@ fn put_below(out: &mut String, threads: u32, below: &str) -> Result<(), AllocErr
     Ok(())
 }
 
-/// The picture as an SVG, of the moments from `window.from` to `window.to`, of those only the first 64 at which something
-/// happens; moments count from 1, and begin at a clash as those of `write_picture` do. It has no script and no reference to
-/// anything outside: a line for each call, in the colour of its thread, dashed where it is open, and thick where it clashes in
-/// a refused order (`is_clash`); a circle for each point, filled where the set changes; a thin line from there down to the set;
-/// and the order as text. Its style sheet has a dark ground for who prefers one. The only error is want of memory.
-/// (This project's own drawing.)
+/// The picture as an SVG, of the moments in `window`, of those only the first 64 at which something happens.
+///
+/// Moments count from 1, and begin at a clash as those of `write_picture` do. A call is a line in the colour of its thread,
+/// dashed where it is open, thick where it clashes in a refused order (`is_clash`). A point is a circle, filled where the
+/// set changes, with a thin line down to the set. Below stands the order as text. The style sheet has a dark ground for who
+/// prefers one; nothing in it is a script or a reference to anything outside. The only error is want of memory. (This
+/// project's own.)
 pub fn write_svg(alloc: Global, picture: &Picture, window: Window) -> Result<Vec<u8>, AllocError> {
     let mut drawing = drawing_in(alloc, picture, window)?;
     if let Some(window) = drawing.window_of_clash(picture, window) {

@@ -135,16 +135,19 @@ fn first_too_early(calls: &[CallRecord], order: &[Placed]) -> Option<u32>
     early
 }
 
-/// Checks that an order of calls explains a history: that it linearizes the history (Herlihy and Wing, with
-/// completion of open calls) for the sequential set of the history's threads and quota, and that `keys` are the
-/// keys of the set that it leaves, rising.
+/// Checks that an order of calls explains a history, and that `keys` are the keys of the set that it leaves, rising.
 ///
-/// Else it gives the first fault: a place whose call the history has not (`OrderFault::Unknown`), or which stands
-/// at an earlier place too (`Twice`); the least number of an ended call that does not stand (`Missing`); a place
-/// with another reply than the history's, or than the sequential set gives there (`WrongReply`); a place before
-/// that of a call which ended before this one began (`TooEarly`); other keys (`WrongSet`). `Memory` stands in
-/// place of any other answer, where a growth was refused. With n places, c calls and at most k keys in the set it makes about
-/// `c + n log k` steps.
+/// It does where it linearizes the history (Herlihy and Wing, with completion of open calls) for the sequential set of the
+/// history's threads and quota. Else the first fault is told:
+///
+/// - `Unknown`: the history has no such call; `Twice`: it stands at an earlier place too;
+/// - `Missing`: an ended call does not stand, the one of least number;
+/// - `WrongReply`: another reply than the history's, or than the sequential set gives there;
+/// - `TooEarly`: the place is before that of a call which ended before this one began;
+/// - `WrongSet`: other keys are left.
+///
+/// `Memory` stands in place of any other answer, where a growth was refused. With n places, c calls and at most k keys in
+/// the set it makes about `c + n log k` steps.
 pub fn check_order(
     alloc: Global,
     history: &History,

@@ -18,16 +18,16 @@ use std::sync::Wait;
 
 /// A machine whose calls run on words that threads share.
 ///
-/// A list that has its rows (`Machine`) meets this trait with no body: `impl Running for MyList {}`. The default bodies
-/// are the interpreter (`lset_rule::interpret`): it takes the row from `next`, makes this one step on the table, feeds what was
-/// seen, and asks `pause` after each step that does not answer. A list may have bodies of its own, loops over the steps
-/// of `lset_rule`, under the same contract: one for all of its calls (`make_on`), or one for a kind of call. It asks that a call may be made from the place (`MayCall`): that it is a seat
-/// of the table, with no call under way, and that the slots are those in its view. It owes that the call was made
-/// (`HasCalled`): the place is still that of the same seat and table, the slots given back are those in its view, the call
-/// began after all that the seat had seen, its last step answered, and the record grew by just this call (`Makes`).
+/// A list that has its rows (`Machine`) meets this trait with no body: `impl Running for MyList {}`. The default bodies are
+/// the interpreter (`lset_rule::interpret`). A list may have bodies of its own under the same contract, as loops over the
+/// steps of `lset_rule`: one for all calls (`make_on`), or one for a kind of call.
+///
+/// - It asks `MayCall`: the place is a seat of the table with no call under way, and the slots are those in its view.
+/// - It owes `HasCalled`: the place is still that of this seat and table, the slots given back are those in its view, and
+///   the record grew by just this call (`Makes`), which began after all that the seat had seen and has answered.
 ///
 /// Of each function: `rt` is what a call waits by, `table` are the words, `place` is the seat's place among their views,
-/// `slots` are those of its thread, which has no call under way, and `key` is any key.
+/// `slots` are those of its thread, and `key` is any key.
 pub trait Running: Machine {
     /// Makes a call of any kind. The four functions below make theirs by it, where a list has no other body for them.
     fn make_on<R: Wait, P: Pause>(

@@ -25,17 +25,23 @@ fn refusal(cause: StepFault, line: u64) -> ReplayFault
     }
 }
 
-/// Replays a schedule on the list of its kind, which opens with the schedule's opening keys, one event after another. The
-/// schedule is within its limits, as what `read_schedule` gives: 1 to 64 threads, a quota of 0 to 16,384, 0 to 1,048,576
-/// opening keys, which rise strictly, and at most 1,000,000 events. Its calls may be ceilings too, which have words in a
-/// text of version 2 alone, as opening keys have lines. A schedule whose version has words for its calls and its opening
-/// keys gets a report whose version, the same, has words for what it tells, so that `write_report` takes it.
+/// Replays a schedule on the list of its kind: its history, an order that explains it, and the keys left.
 ///
-/// It is refused at the first event that is not enabled, with the number of its line: `NoThread` where there is no such
-/// thread, `Busy` where a thread begins a call and has one open, `Idle` where a thread makes a step and has no call open.
-/// `Memory` where a growth was refused. The order of the report has each call that changed the set at the event that did,
-/// also while it is open, and each other ended call at its least moment that its reply fits. (Herlihy and
-/// Wing's linearizability; the schedules are this project's own.)
+/// `schedule` is within its limits, as `read_schedule` gives it: 1 to 64 threads, a quota of 0 to 16,384, at most 1,048,576
+/// opening keys, which rise strictly, and at most 1,000,000 events. Where its version has words for its calls and opening
+/// keys, the report is of the same version and has words for all it tells, so that `write_report` takes it.
+///
+/// A call that changed the set stands in the order at the event that did, also while it is open. Each other ended call
+/// stands at its least moment that its reply fits. (Herlihy and Wing's linearizability; the schedules are this project's
+/// own.)
+///
+/// The first event that is not enabled is refused, with the number of its line:
+///
+/// - `NoThread`: there is no such thread;
+/// - `Busy`: the thread begins a call and has one open;
+/// - `Idle`: the thread makes a step and has no call open.
+///
+/// `Memory` stands where a growth was refused.
 pub fn replay(alloc: Global, schedule: &Schedule) -> Result<Report, ReplayFault>
     requires { IsInLimits (view schedule.now) }
     ensures replays { Replays (table_of schedule.now.kind) (view schedule.now) result }

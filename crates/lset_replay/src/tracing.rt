@@ -322,12 +322,15 @@ impl Listener for Events {
     }
 }
 
-/// Tells the events of a schedule on the list of its kind, one after another, up to the first that is not enabled:
-/// what each did, what its thread held before and after, the change that it made, and the call that it ended, with
-/// the moment at which that call stands in the order of the schedule's report. Where `chains` are asked for, each event that
-/// changed the chain or a mark in it has the chain after it, which takes a walk along the chain for each event that wrote the
-/// key or the link of a node. The schedule is within its limits, as what `read_schedule` gives. It fails only where memory was
-/// refused. (This project's own.)
+/// Tells the events of a schedule on the list of its kind, one after another, up to the first that is not enabled.
+///
+/// Of each it tells what it did, what its thread held before and after, the change that it made, and the call that it
+/// ended, with the moment at which that call stands in the order of the schedule's report. `schedule` is within its limits,
+/// as `read_schedule` gives it.
+///
+/// With `chains`, each event that changed the chain or a mark in it has the chain after it. That takes a walk along the
+/// chain for each event that wrote the key or the link of a node. It fails only where memory was refused. (This project's
+/// own.)
 pub fn trace(alloc: Global, schedule: &Schedule, chains: bool) -> Result<Trace, AllocError>
     requires { IsSchedule (view schedule.now) }
     ensures { IfOk result (λ t. IsTraceOf (table_of schedule.now.kind) (view schedule.now) chains t) }

@@ -217,18 +217,21 @@ fn report(alloc: Global, bytes: &[u8]) -> Result<Report, ReportFault>
     Ok(reader.into_report())
 }
 
-/// The report that the bytes are the text of, or the first fault of the bytes: its line, and the first check
-/// of that line that fails, in the order of `ReportCause` but for `NotEnded`, which comes before all others.
-/// A header line that is due where no byte is left has the fault of that header line. `Memory` stands in place
-/// of any other answer, where a growth was refused: its line is the last one that was read, which is not `end`
-/// and has no other fault, and neither has a line above it.
+/// The report that the bytes are the text of, or the first fault of the bytes.
 ///
-/// The first line alone tells the version, `listset-report 1` or `listset-report 2`. The other lines have the words
-/// of that version: in version 1 a line with `opening`, `ceiling`, `nothing` or `at-5` has the fault `Line`. In version 2
-/// the lines of opening keys, `opening 5`, come before all calls, and their keys rise strictly.
+/// A fault is its line, and the first check of that line that fails, in the order of `ReportCause`:
 ///
-/// The order and the keys are not judged: whether they explain the history is for `check_order`. With n bytes
-/// it takes about `n log n` steps, whatever the numbers are. (This project's own format.)
+/// - `NotEnded` comes before all others;
+/// - a header line that is due where no byte is left has the fault of that header line;
+/// - `Memory` stands in place of any other answer, where a growth was refused. Its line is the last that was read, which is
+///   not `end` and has no other fault, and neither has a line above it.
+///
+/// The first line alone tells the version, and the other lines have its words: in version 1 a line with `opening`,
+/// `ceiling`, `nothing` or `at-5` has the fault `Line`. In version 2 the lines of opening keys come before all calls, and
+/// they rise.
+///
+/// Whether order and keys explain the history is for `check_order`. With n bytes it takes about `n log n` steps, whatever
+/// the numbers are. (This project's own format.)
 pub fn read_report(alloc: Global, bytes: &[u8]) -> Result<Report, ReportFault>
     // What is read is a report with a history, and the bytes are its text.
     ensures found { IfOk result (λ r. IsReport (view r) × (bytes.now ≡ report_text (view r))) }

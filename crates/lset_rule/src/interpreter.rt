@@ -53,15 +53,14 @@ impl Pause for Spin {
     }
 }
 
-/// Makes a whole call, step by step, in at most `N::MOST` rounds of its loop, of two steps each. `None` where it has not
-/// answered then.
+/// Makes a whole call, step by step, in at most `N::MOST` rounds of two steps each; `None` where it has not answered then.
 ///
 /// `place` is the place of an idle seat of these words, and `slots` are those of its thread, as the last call left them.
-/// The answer is the slots as this call leaves them, and the reply. `pause` is asked after each step that does not answer,
-/// or after the failed ones alone, as [`Pause::EACH_STEP`] says.
+/// `pause` is asked after each step that does not answer, or after the failed ones alone, as [`Pause::EACH_STEP`] says.
 ///
-/// If it answers, it was a call of the machine, begun after all that the place had seen, and the record of the place grew by
-/// it and its reply. After `None` the call is still under way, with the locks that it has, and the place makes no other.
+/// An answer is the slots as this call leaves them, and the reply: of a call of the machine, begun after all that the place
+/// had seen, by which the record of the place grew. After `None` the call is still under way, with the locks that it has,
+/// and the place makes no other.
 pub fn interpret_within<M: Machine, P: Pause, N: Rounds>(
     table: &Words<M>,
     place: &mut TableSeat,

@@ -125,15 +125,15 @@ fn generated_lines<M: Machine, R: Rng>(
     Ok(lines)
 }
 
-/// A schedule of at most 10,000 events, one a line, that `replay` refuses for nothing but want of memory:
-/// of the machine's kind, for `threads` threads, 1 to 64, with a quota of `quota` slots, 0 to 16,384. Every
-/// draw is a number from one generator, which is made from `seed`. In each of at most 100,000 turns a draw
-/// chooses a thread. If it has an open call, it goes one step; else, while fewer than `calls` calls were
-/// begun, two draws choose the kind of the call that it begins and its key, below `keys`. The turns end
-/// where no call is open and none is left. It is of the first version. (This project's own format.)
+/// A random schedule of at most 10,000 events, one a line, that `replay` refuses for nothing but want of memory.
 ///
-/// `GenFault::Threads` where the threads are outside their limits, else `GenFault::Quota` where the quota
-/// is, else `GenFault::Keys` where `keys` is 0, and `GenFault::Memory` where memory was refused.
+/// It is of the machine's kind and of the first version, for 1 to 64 `threads` with a `quota` of 0 to 16,384 slots. Each
+/// draw is a number from one generator, made from `seed`. In each of at most 100,000 turns a draw chooses a thread: one
+/// with an open call goes a step; else, while fewer than `calls` calls were begun, two draws choose the kind of its call
+/// and its key, below `keys`. The turns end where no call is open and none is left. (This project's own format.)
+///
+/// The first that holds: `GenFault::Threads` or `Quota`, outside its limits; `Keys`, where `keys` is 0. `Memory` stands
+/// where memory was refused.
 pub fn generate<M: Machine>(
     alloc: Global,
     threads: u32,

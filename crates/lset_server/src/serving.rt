@@ -204,16 +204,22 @@ fn serve_all<R: Threads + Wait + Clock + Sync, M: Running + Send + Sync>(
     )
 }
 
-/// Accepts `sessions` connections, numbered from 0, and passes each through a channel bounded by the number of seats to a
-/// pool of one worker for each of `seats`, which are seats of `set`. Each worker runs `session` on its seat, with one
-/// connection after another. Then the seats are gathered and the set is closed. A session that ends with a fault does not
-/// end the server.
+/// Serves a set to `sessions` connections, with one worker for each of `seats`.
 ///
-/// `ServeCause::Seats` exactly where the seats do not hold all seats of the set; then no connection was accepted, and set
-/// and seats come back. `Accept` and `Spawn` where the system refuses, `Send` where the channel gives a connection back,
-/// `Memory` where memory was refused, `Left` where the workers received fewer connections than were accepted. After these
-/// the workers that were started end, and the set is dropped. It waits for connections and for its workers, and each worker
-/// waits for its client.
+/// `seats` are those of `set`. Connections are numbered from 0 and pass through a channel with as many places as there are
+/// seats. Each worker runs `session` on its seat, with one connection after another; a session that ends with a fault does
+/// not end the server. Then the seats are gathered and the set is closed. It waits for connections and workers, and each
+/// worker for its client.
+///
+/// The cause of a `ServeFault`:
+///
+/// - `Seats`: exactly where the seats do not hold all seats of the set. Nothing was accepted, and set and seats come back.
+/// - `Accept`, `Spawn`: the system refuses a connection or a thread.
+/// - `Send`: the channel gives a connection back.
+/// - `Left`: the workers received fewer connections than were accepted.
+/// - `Memory`: it was refused.
+///
+/// After each but the first the workers that were started end, and the set is dropped.
 pub fn serve<R: Threads + Wait + Clock + Sync, M: Running + Send + Sync>(
     rt: &R,
     alloc: Global,

@@ -206,12 +206,14 @@ fn bytes_in<R: Wait, W: Sink, S: SetCalls>(
     None
 }
 
-/// Answers the lines of `reader` on `writer`, and makes their calls on `seat`, which is a seat of `set`. The requests are
-/// `ADD k`, `REMOVE k`, `CONTAINS k`, `CEILING k` and `QUIT`, the answers `TRUE`, `FALSE`, `FULL`, `AT x` (the key x),
-/// `NONE` (no key), `BYE`, and `BAD` to any other line; requests and answers end with a newline. The session ends with
-/// `QUIT`, where no byte is left, with `LONG` as the 65th byte of a line comes, with `LIMIT` after the 1,000,000th line
-/// unless it was `QUIT`, or where a read or a write fails. Each answer is handed to `writer` whole before the next call is
-/// made. It may wait as its set, its reader and its writer do, and takes no memory. (This project's own line protocol.)
+/// Answers the lines of `reader` on `writer`, and makes their calls on `seat`, which is a seat of `set`.
+///
+/// Requests and answers end with a newline. `ADD k`, `REMOVE k`, `CONTAINS k` and `CEILING k` get `TRUE`, `FALSE`, `FULL`,
+/// `AT x` (the key x) or `NONE` (no key), `QUIT` gets `BYE`, and any other line `BAD`. Each answer is handed to `writer`
+/// whole before the next call is made. It may wait as its set, its reader and its writer do, and takes no memory.
+///
+/// The session ends with `QUIT`, where no byte is left, with `LONG` as the 65th byte of a line comes, with `LIMIT` after
+/// the 1,000,000th line unless it was `QUIT`, or where a read or a write fails. (This project's own line protocol.)
 pub fn session<R: Wait, I: Source, O: Sink, S: SetCalls>(
     rt: &R,
     reader: &mut I,

@@ -84,14 +84,14 @@ pub fn generated(alloc: Global, values: &[String]) -> Result<Answer, Trouble>
     Ok(Answer { text, status: 0 })
 }
 
-/// Generates the schedule that the values ask for, which are KIND THREADS QUOTA CALLS KEYS SEED in this
-/// order: writes its text, of version 1, on the output, or one line about the first wrong value on `faults`, and gives the
-/// exit status: 0 where the schedule was written, 2 where a value is wrong, 3 where memory was refused, else 1.
-/// KIND is the word for a list; numbers are decimals without leading zeros, THREADS 1 to 64,
-/// QUOTA 0 to 16,384, CALLS 0 to 10,000, KEYS 1 to 4,294,967,295, SEED 0 to 2^64 - 1. The schedule ends at 10,000
-/// events, so it may begin fewer calls. A value that is missing
-/// is a wrong one, and values past the last are not looked at. A failing write on `faults` leaves the status as
-/// it is.
+/// Writes a random schedule, of version 1, on the output.
+///
+/// `values` are KIND THREADS QUOTA CALLS KEYS SEED in this order; those past the last are not looked at. KIND is the word
+/// for a list, the rest are decimals without leading zeros: THREADS 1 to 64, QUOTA 0 to 16,384, CALLS 0 to 10,000, KEYS 1
+/// to 4,294,967,295, SEED 0 to 2^64 - 1. The schedule ends at 10,000 events, so it may begin fewer calls.
+///
+/// The exit status is 0 where it was written. Else one line on `faults` says why, where it can be written: 2 for the first
+/// wrong value or one that is missing, 3 where memory was refused, 1 for anything else.
 pub fn tool_gen<W: Write, F: Write>(
     alloc: Global,
     values: &[String],

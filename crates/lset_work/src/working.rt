@@ -77,17 +77,23 @@ fn run_all<R: Threads + Wait + Sync, M: Running + Send + Sync, G: Gate + Sync>(
     )
 }
 
-/// Makes the calls of each program on its seat, all programs at once, one thread for each seat; `gate` is asked before each
-/// call. Then the seats are gathered and the set is closed. One legal order of calls (Herlihy and Wing) keeps each seat's
-/// earlier record followed by the calls of its program with their replies, has no other call, and leaves the keys. No
-/// program has more than 4,294,967,295 calls.
+/// Makes the calls of each program on its seat, all programs at once, one thread for each seat.
 ///
-/// The cause of a `WorkFault` is the first of these: `Programs` where the programs are not as many as the seats, or the
-/// seats do not hold all seats of the set; nothing was called, and set and seats come back. `Spawn` where the system
-/// refused a thread; those that were started run to their ends. `Gate` where the gate answered false; that worker stops,
-/// the others run to their ends. `Memory` where memory was refused, before the first thread started, and then set and
-/// seats come back, or for the keys at the end. When a thread is refused, and when a gate that may answer false does, no
-/// clause says. It waits for its threads, which wait for the locks of the set and as long as the gate does.
+/// `gate` is asked before each call. At the end the seats are gathered and the set is closed. One legal order of calls
+/// (Herlihy and Wing) keeps each seat's earlier record, then the calls of its program with their replies, has no other
+/// call, and leaves the keys. No program has more than 4,294,967,295 calls. It waits for its threads, which wait for the
+/// locks of the set and as long as the gate does.
+///
+/// The cause of a `WorkFault` is the first of these:
+///
+/// - `Programs`: the programs are not as many as the seats, or the seats do not hold all seats of the set. Nothing was
+///   called, and set and seats come back.
+/// - `Spawn`: the system refused a thread. Those that were started run to their ends.
+/// - `Gate`: the gate answered false. That worker stops, the others run to their ends.
+/// - `Memory`: it was refused before the first thread started, and then set and seats come back, or for the keys at the
+///   end.
+///
+/// No clause says when a thread is refused, or when a gate that may answer false does.
 pub fn work<R: Threads + Wait + Sync, M: Running + Send + Sync, G: Gate + Sync>(
     rt: &R,
     alloc: Global,

@@ -118,14 +118,19 @@ impl Task for Expanding<'_> {
     }
 }
 
-/// The schedule of a draft on the list of its kind: each line without a count gets the least one, at least 1, after which
-/// the call of the thread has ended, or the thread stands before the row; all else stays as it is. It is of the first version
-/// where it opens with no keys and begins no `ceiling`, and else of the second. The draft is within its limits, as what
-/// `read_draft` gives. (This project's own.)
+/// The schedule of a draft on the list of its kind: each line gets the number of events that it stands for.
 ///
-/// It is refused at the first line that stands for none of a schedule, with the number of the line: `TooMany` where a line has
-/// more events than are left of 1,000,000, `Refused` where an event is not enabled, `Waits` where a thread does not come
-/// to where the line sends it within 10,000 steps and the events that are left. `Memory` where memory was refused.
+/// `draft` is within its limits, as `read_draft` gives it. A line without a count gets the least, at least 1, after which
+/// the call of the thread has ended, or the thread stands before the row; all else stays. The schedule is of the first
+/// version where it opens with no keys and begins no `ceiling`, and else of the second. (This project's own.)
+///
+/// The first line that stands for none of a schedule is refused, with its number:
+///
+/// - `TooMany`: it has more events than are left of 1,000,000;
+/// - `Refused`: an event is not enabled;
+/// - `Waits`: the thread does not come to where the line sends it within 10,000 steps and the events that are left.
+///
+/// `Memory` stands where memory was refused.
 pub fn schedule_of(alloc: Global, draft: &Draft) -> Result<Schedule, DraftFault>
     requires { IsDraft (view draft.now) }
     ensures { MatchResult result (λ s. Expands (table_of draft.now.kind) (view draft.now) (plan.view s))

@@ -26,19 +26,23 @@ fn run_text<R: Threads + Wait + Sync>(
     Ok(Answer { text, status: 0 })
 }
 
-/// Runs random programs on threads, in one life of a set after the other: KIND THREADS QUOTA CALLS KEYS SEED LIVES in this
-/// order say which list, how many threads, how many successful adds each may make in a life, how many calls each makes in a
-/// life, below which number and from which seed keys are drawn, and how many lives there are. Life `i`, from 0, runs its
-/// programs, all at once on one set, drawn from the wrapping sum of SEED and `64 * i`; its set opens with the keys that the
-/// life before it left, the first one empty. Writes on the output, as lines, how many calls were made in all lives
-/// (`calls N`), how many answered true, false and full (`true N`, `false N`, `full N`), how many keys the last life left
-/// (`keys N`), and each of them (`key k`), rising; or one line about the first wrong value, or about what went wrong, on
-/// `faults`. Nothing is written before the last life has ended. Gives the exit status: 0 where the outcome was written, 2
-/// where a value is wrong, 3 where memory was refused, else 1, as where a life would open with more than 1,048,576 keys. KIND
-/// is the word for a list; numbers are decimals without leading zeros, THREADS 1 to 64, QUOTA 0 to 16,384, CALLS 0 to 10,000,
-/// KEYS 1 to 4,294,967,295, SEED 0 to 2^64 - 1, LIVES 1 to 100. LIVES may be left out, and is 1 then; another value that is
-/// missing is a wrong one, and values past LIVES are not looked at. A failing write on `faults` leaves the status as it is.
-/// It waits for its threads.
+/// Runs random programs on threads, in one life of a set after the other, and writes what they came to.
+///
+/// `values` are KIND THREADS QUOTA CALLS KEYS SEED LIVES in this order; those past LIVES are not looked at. KIND is the
+/// word for a list, the rest are decimals without leading zeros:
+///
+/// - THREADS, 1 to 64; QUOTA, 0 to 16,384 successful adds of a thread in a life; CALLS, 0 to 10,000 of a thread in a life;
+/// - KEYS, 1 to 4,294,967,295: keys are drawn below it; SEED, 0 to 2^64 - 1; LIVES, 1 to 100, and 1 where it is left out.
+///
+/// Life `i`, from 0, runs its programs at once on one set. They are drawn from the wrapping sum of SEED and `64 * i`, and
+/// the set opens with the keys that the life before left, the first one empty. After the last life come on `output` the
+/// lines `calls N`, `true N`, `false N`, `full N`, `keys N` and each key left (`key k`), rising. It waits for its threads.
+///
+/// The exit status is 0 where that was written. Else one line on `faults` says why, where it can be written:
+///
+/// - 2: the first wrong value, or one that is missing;
+/// - 3: memory was refused;
+/// - 1: anything else, as a life that would open with more than 1,048,576 keys.
 pub fn tool_run<R: Threads + Wait + Sync, W: Write, F: Write>(
     rt: &R,
     alloc: Global,

@@ -129,14 +129,20 @@ fn keys_of_lines(alloc: Global, left: Left<'_>) -> Result<Vec<u32>, KeysFault>
     Ok(keys)
 }
 
-/// The keys of a text with which a set is to open: lines `key K`, each K above the one before. The lines that a server
-/// prints before its keys, `listening A`, `sessions N` and `calls N`, may stand at the head, each of them or not, in this
-/// order; what A and N are is not looked at. So all that one server printed opens the next.
+/// The keys of a text with which a set is to open: lines `key K`, each K above the one before.
 ///
-/// `KeysFault::Line` is of the first line that is refused, and of the first check of it that fails: `NotEnded` where the
-/// line has bytes and no newline, `Line` where it is not `key` and one further piece, `Number` where the key is no number up
-/// to 4294967295 (a decimal without leading zeros), `TooMany` where `MOST_OPENING` keys stand above it, `Opening` where the
-/// key is not above the one before. `KeysFault::Memory` where memory was refused.
+/// The lines that a server prints before its keys, `listening A`, `sessions N` and `calls N`, may stand at the head, each
+/// or not, in this order, whatever A and N are. So all that one server printed opens the next.
+///
+/// `KeysFault::Line` tells the first line that is refused, and the first check of it that fails:
+///
+/// - `NotEnded`: it has bytes and no newline;
+/// - `Line`: it is not `key` and one further piece;
+/// - `Number`: the key is no decimal up to 4,294,967,295 without leading zeros;
+/// - `TooMany`: `MOST_OPENING` keys stand above it;
+/// - `Opening`: the key is not above the one before.
+///
+/// `KeysFault::Memory` stands where memory was refused.
 pub fn read_keys(alloc: Global, text: &[u8]) -> Result<Vec<u32>, KeysFault>
     // Which keys, and which fault it is.
     ensures exact { Gives (λ v. v.items) result (keys_in text.now) }

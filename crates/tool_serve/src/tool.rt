@@ -172,15 +172,19 @@ fn serve_values_with<
     serve_request(rt, alloc, request, &keys, output)
 }
 
-/// Serves a set on the loopback, which opens empty: KIND SEATS QUOTA PORT SESSIONS in this order say which list, how many seats (and so how
-/// many connections at once), how many successful adds each seat may make, which port of 127.0.0.1, and how many
-/// connections are served before the server ends. Opens the set, then listens, writes `listening 127.0.0.1:P` and flushes
-/// it, and only then accepts. At the end writes `sessions N`, `calls N` and each key that is left (`key k`), rising, on
-/// `output`; or one line about the first wrong value, or about what went wrong, on `faults`. Gives the exit status: 0 where
-/// all was written, 2 where a value is wrong, 3 where memory was refused, else 1. KIND is the word for a list; numbers are
-/// decimals without leading zeros, SEATS 1 to 64, QUOTA 0 to 16,384, PORT 0 to 65,535 (0 lets the system choose), SESSIONS
-/// 0 to 10,000. A value that is missing is a wrong one, and values past the last are not looked at. A failing write on
-/// `faults` leaves the status as it is. It waits for its connections.
+/// Serves a set, which opens empty, on the loopback.
+///
+/// `values` are KIND SEATS QUOTA PORT SESSIONS in this order; those past the last are not looked at. KIND is the word for a
+/// list, the rest are decimals without leading zeros:
+///
+/// - SEATS, 1 to 64: how many connections there are at once; QUOTA, 0 to 16,384 successful adds of a seat;
+/// - PORT of 127.0.0.1, 0 to 65,535 (0 lets the system choose); SESSIONS, 0 to 10,000 connections before it ends.
+///
+/// It opens the set, listens, writes `listening 127.0.0.1:P`, flushes it, and only then accepts. At the end it writes
+/// `sessions N`, `calls N` and each key left (`key k`), rising, on `output`. It waits for its connections.
+///
+/// The exit status is 0 where all was written. Else one line on `faults` says why, where it can be written: 2 for the first
+/// wrong value or one that is missing, 3 where memory was refused, 1 for anything else.
 pub fn tool_serve<
     R: Net<Listener = TcpListener, Stream = TcpStream> + Threads + Wait + Clock + Sync,
     W: Write,

@@ -117,14 +117,15 @@ fn answer_of(alloc: Global, bytes: &[u8], form: Form, window: Window) -> Result<
     })
 }
 
-/// The answer of `show` on an input of these bytes: the picture of the schedule or the report whose text they are, of the
-/// moments in `window`, in that form; its status is 1 where the order of the report or an event of the schedule is refused, and
-/// else 0. A schedule with such an event is drawn up to it.
+/// The answer of `show` on an input of these bytes: the picture of that schedule or report, of the moments in `window`.
 ///
-/// The error is `TooLong` where there are more than `LONGEST` bytes. A text with the first line of a report, of either
-/// version, that is none has the first fault of `read_report`; any other text that is no schedule has that of
-/// `read_schedule`. `Bad(From)` where calls begin, stand or end in the picture, and all of that before `window.from`. `Memory`
-/// where memory was refused.
+/// Its status is 1 where the order of the report or an event of the schedule is refused, and else 0. A schedule with such
+/// an event is drawn up to it.
+///
+/// - `TooLong`: there are more than `LONGEST` bytes.
+/// - `Bad`: a text with the first line of a report, of either version, has the first fault of `read_report`; any other text
+///   that of `read_schedule`; and `From`, where all that happens in the picture is before `window.from`.
+/// - `Memory`: it was refused.
 pub fn shown(alloc: Global, bytes: &[u8], form: Form, window: Window) -> Result<Answer, Trouble>
     ensures shows { Shows window bytes.now (tools.view result) }
     // Bytes that are here can be read.
