@@ -1,11 +1,16 @@
 -- Looking for a moment among rising ones, and what is found there.
-use Rattle.std.proofs.Common.{◌≡◌, ℕ, zero, suc, ◌+◌, ◌-◌, ◌*◌, ◌^◌, ◌%◌, ◌<◌, ◌≤◌, ◌⊎◌, inl, inr, Bool, true, false, not, List}
-use Rattle.std.proofs.Common.{[], length, get_or, sym, refl, subst, ap, ◌∙◌, arith}
-use Rattle.std.specs.Prelude.{◌==◌, Some, None}
+use Rattle.std.proofs.Common.{◌≡◌, ◌≢◌, ℕ, zero, suc, ◌+◌, ◌-◌, ◌*◌, ◌^◌, ◌%◌, ◌<◌, ◌≤◌, ◌⊎◌, inl, inr, Bool, true, false, not, List}
+use Rattle.std.proofs.Common.{[], ◌∷◌, ◌++◌, length, get_or, sym, refl, subst, ap, ◌∙◌, arith}
+use Rattle.std.specs.Prelude.{◌==◌, Option, Some, None, Contains, if◌then◌else◌}
 use Rattle.std.specs.List.Sorted.{IsStrictlyIncreasing}
 use mathlib.Core.Bool.{beq}
 use Rattle.std.proofs.Math.Nat.{pow-suc}
-use Rattle.lset_words.proofs.Numbers.{equal_test, unequal_test}
+use Rattle.std.proofs.lemmas.Bool.{cases_Bool, false≢true, le-ltb}
+use Rattle.std.proofs.lemmas.List.Elements.{All-contains, All-from_get_or, Contains-get_or}
+use Rattle.lset_words.proofs.Numbers.{same_number, equal_test, unequal_test}
+use Rattle.lset_words.specs.SequentialSet.{has_key}
+use Rattle.lset_history.proofs.Firsts.{first_same}
+use Rattle.lset_history.proofs.Keys.{has_true, has_false}
 use Rattle.lset_history.specs.Changes.{IsFirst, state_at, IsCountUpTo}
 use Rattle.lset_history.proofs.ChangeLaws.{turned, state_between}
 
@@ -50,6 +55,17 @@ turned_is n = elim (odd_or_even n) [
   | inr h ↦ (unequal_test (n % 2) 1 (λ e. let a : n % 2 ≡ 0 = h.0 in omega arith) ∙ sym h.1)
 ]
 
+-- turned so many times, from being there at first or not
+differ : (x there : Bool) → not (beq x there) ≡ (if there then not x else x)
+differ true true = refl
+differ true false = refl
+differ false true = refl
+differ false false = refl
+
+pub turned_from : (n : ℕ) (there : Bool) → not (beq (n % 2 == 1) there) ≡ turned n there
+turned_from n true = differ (n % 2 == 1) true ∙ ap not (turned_is n) ∙ sym (turned_not n false)
+turned_from n false = differ (n % 2 == 1) false ∙ turned_is n
+
 pub same_state : (a b : Bool) → beq a b ≡ true → a ≡ b
 same_state true true e = refl
 same_state true false e = absurd (cc)
@@ -68,50 +84,97 @@ other_turned true false n = refl
 other_turned false true n = refl
 other_turned false false n = absurd (n refl)
 
-module _ (ms : List ℕ) (rise : IsStrictlyIncreasing ms) (wanted : Bool) (from to count : ℕ) (order : from ≤ to)
+module _ (there : Bool) (ms : List ℕ) (rise : IsStrictlyIncreasing ms) (wanted : Bool) (from to count : ℕ) (order : from ≤ to)
     (h : IsCountUpTo ms from count) where
   abbrev pub Wanted : ℕ → Type 0
-  Wanted m = state_at false ms m ≡ wanted
+  Wanted m = state_at there ms m ≡ wanted
 
-  stays : (m : ℕ) → from ≤ m → (count < length ms → m < get_or ms count 0) → state_at false ms m ≡ turned count false
-  stays m l g = state_between false ms count m h.inside
+  stays : (m : ℕ) → from ≤ m → (count < length ms → m < get_or ms count 0) → state_at there ms m ≡ turned count there
+  stays m l g = state_between there ms count m h.inside
       (λ j n. let a : get_or ms j 0 ≤ from = h.upto j n in omega arith) g
 
   next_above : (n : count < length ms) → from < get_or ms count 0
   next_above n = h.past count (omega arith) n
 
-  turns : (n : count < length ms) → state_at false ms (get_or ms count 0) ≡ not (turned count false)
-  turns n = state_between false ms (suc count) (get_or ms count 0) (omega arith)
+  turns : (n : count < length ms) → state_at there ms (get_or ms count 0) ≡ not (turned count there)
+  turns n = state_between there ms (suc count) (get_or ms count 0) (omega arith)
       (λ j k. below_rises ms rise j count (omega arith) n)
       (λ k. let a : get_or ms count 0 < get_or ms (count + 1) 0 = rise count (omega arith) in
       let e : get_or ms (count + 1) 0 ≡ get_or ms (suc count) 0 = ap (λ z. get_or ms z 0) (let f : count + 1 ≡ suc count =
       omega arith in f) in
       omega arith)
-      ∙ turned_not count false
+      ∙ turned_not count there
 
-  pub found_at_once : turned count false ≡ wanted → IsFirst Wanted from to (Some from)
+  pub found_at_once : turned count there ≡ wanted → IsFirst Wanted from to (Some from)
   found_at_once e = (omega arith, order, stays from (omega arith) next_above ∙ e, λ m a b i. absurd (omega arith))
 
-  pub never_found : (turned count false ≡ wanted → ⊥) → (count < length ms → to < get_or ms count 0) → IsFirst Wanted from to None
+  pub never_found : (turned count there ≡ wanted → ⊥) → (count < length ms → to < get_or ms count 0) → IsFirst Wanted from to None
   never_found n g = λ m a b i. n (sym (stays m a (λ k. let l : to < get_or ms count 0 = g k in omega arith)) ∙ i)
 
-  pub found_next : (turned count false ≡ wanted → ⊥) → count < length ms → get_or ms count 0 ≤ to
+  pub found_next : (turned count there ≡ wanted → ⊥) → count < length ms → get_or ms count 0 ≤ to
       → IsFirst Wanted from to (Some (get_or ms count 0))
   found_next n k l = (
     (let a : from < get_or ms count 0 = next_above k in omega arith),
     l,
-    turns k ∙ other_turned (turned count false) wanted n,
+    turns k ∙ other_turned (turned count there) wanted n,
     λ m a b i. n (sym (stays m a (λ z. b)) ∙ i),
   )
 
--- a key that was never put in
-pub absent_always : (ms : List ℕ) → ms ≡ [] → (from to : ℕ) → IsFirst (λ m. state_at false ms m ≡ true) from to None
-absent_always ms e from to = λ m a b i. absurd (let f : state_at false ms m ≡ false = ap (λ z. state_at false z m) e in cc)
+-- an opening key is there from moment 0 on
+pub state_opened : (b : Bool) (ms : List ℕ) (m : ℕ) → state_at false ((if b then 0 ∷ [] else []) ++ ms) m ≡ state_at b ms m
+state_opened true ms m = rw (le-ltb m 0 (omega arith)) refl
+state_opened false ms m = refl
 
-pub absent_at_once : (ms : List ℕ) → ms ≡ [] → (from to : ℕ) → from ≤ to →
-    IsFirst (λ m. state_at false ms m ≡ false) from to (Some from)
-absent_at_once ms e from to order = (omega arith, order, ap (λ z. state_at false z from) e, λ m a b i. absurd (omega arith))
+pub rises_behind : (b : Bool) (ms : List ℕ) → IsStrictlyIncreasing ((if b then 0 ∷ [] else []) ++ ms) → IsStrictlyIncreasing ms
+rises_behind true ms h i l =
+    let a : get_or ms i 0 < get_or (0 ∷ ms) (suc i + 1) 0 = h (suc i) (omega arith) in
+    let e : get_or (0 ∷ ms) (suc i + 1) 0 ≡ get_or ms (i + 1) 0 =
+    ap (λ z. get_or (0 ∷ ms) z 0) (let f : suc i + 1 ≡ suc (i + 1) = omega arith in f) in
+    omega (arith, a, e)
+rises_behind false ms h i l = h i l
+
+no_longer : (b : Bool) (ms : List ℕ) (n : ℕ) → length ((if b then 0 ∷ [] else []) ++ ms) ≤ n → length ms ≤ n
+no_longer true ms n l = omega arith
+no_longer false ms n l = l
 
 -- the numbers of looks
-pub at_most_20 : (n looked : ℕ) → ((b : ℕ) → b ≤ 64 → n < 2 ^ b → looked ≤ b) → n ≤ 1000000 → looked ≤ 20
+at_most_20 : (n looked : ℕ) → ((b : ℕ) → b ≤ 64 → n < 2 ^ b → looked ≤ b) → n ≤ 1000000 → looked ≤ 20
 at_most_20 n looked h l = h 20 (omega arith) (let e : 2 ^ 20 ≡ 1048576 = refl in omega arith)
+
+module _ (there : Bool) (ms all : List ℕ) (is : all ≡ (if there then 0 ∷ [] else []) ++ ms) where
+  pub first_of_all : (wanted : Bool) (from to : ℕ) (o : Option ℕ) → IsFirst (λ m. state_at there ms m ≡ wanted) from to o
+      → IsFirst (λ m. state_at false all m ≡ wanted) from to o
+  first_of_all wanted from to o h = first_same (λ m. state_at there ms m ≡ wanted) (λ m. state_at false all m ≡ wanted)
+      (λ m p. ap (λ z. state_at false z m) is ∙ state_opened there ms m ∙ p)
+      (λ m q. sym (state_opened there ms m) ∙ sym (ap (λ z. state_at false z m) is) ∙ q) from to o h
+
+  pub few_looks : (looked : ℕ) → ((b : ℕ) → b ≤ 64 → length ms < 2 ^ b → looked ≤ b) → length all ≤ 1000000 → looked ≤ 20
+  few_looks looked h few = at_most_20 (length ms) looked h (no_longer there ms 1000000 (subst (λ z. length z ≤ 1000000) is few))
+
+-- whether a key is the last of those up to it
+module _ (keys : List ℕ) (key upto : ℕ) (rise : IsStrictlyIncreasing keys) (h : IsCountUpTo keys key upto) where
+  has_none_equal : ((i : ℕ) → i < length keys → get_or keys i 0 ≢ key) → has_key key keys ≡ false
+  has_none_equal other = has_false key keys (λ c. All-contains (λ x. x ≢ key) keys key (All-from_get_or (λ x. x ≢ key) keys 0 other) c refl)
+
+  pub none_upto : upto ≡ 0 → has_key key keys ≡ false
+  none_upto e = has_none_equal (λ i l same. let a : key < get_or keys i 0 = h.past i (omega arith) l in omega (arith, a, same))
+
+  pub some_upto : 0 < upto → has_key key keys ≡ (get_or keys (upto - 1) 0 == key)
+  some_upto some =
+      let inside : upto ≤ length keys = h.inside in
+      elim (cases_Bool (get_or keys (upto - 1) 0 == key)) [
+        | inl e ↦ has_true key keys (subst (λ z. Contains keys z) (same_number (get_or keys (upto - 1) 0) key e)
+            (Contains-get_or keys (upto - 1) 0 (omega arith))) ∙ sym e
+        | inr e ↦ has_none_equal (λ i l same. elim (before_or_past i upto) [
+          | inl b ↦ (let a : get_or keys i 0 ≤ get_or keys (upto - 1) 0 =
+              below_rises keys rise i (upto - 1) (omega arith) (omega arith) in
+              let c : get_or keys (upto - 1) 0 ≤ key = h.upto (upto - 1) (omega arith) in
+              let d : get_or keys (upto - 1) 0 ≡ key = omega (arith, a, c, same) in
+              let f : (get_or keys (upto - 1) 0 == key) ≡ true = equal_test (get_or keys (upto - 1) 0) key d in
+              false≢true (sym e ∙ f))
+          | inr p ↦ (let a : key < get_or keys i 0 = h.past i p l in omega (arith, a, same))
+        ]) ∙ sym e
+      ]
+    where
+      before_or_past : (i n : ℕ) → (i < n) ⊎ (n ≤ i)
+      before_or_past i n = grind arith

@@ -66,6 +66,12 @@ first_passing_is asked f first (suc n) last e = elim (same_or_not asked (f first
       (first_passing_is asked f (suc first) n last (omega arith)))
 ]
 
+-- of a fact that says the same
+pub first_same : (P Q : ℕ → Type 0) → ((m : ℕ) → P m → Q m) → ((m : ℕ) → Q m → P m) → (first last : ℕ) (o : Option ℕ)
+    → IsFirst P first last o → IsFirst Q first last o
+first_same P Q to from first last None h = λ m a b q. h m a b (from m q)
+first_same P Q to from first last (Some k) h = (h.0, h.1, to k h.2, λ m a b q. h.3 m a b (from m q))
+
 -- there is one first moment
 pub one_first : (P : ℕ → Type 0) (first last : ℕ) (o p : Option ℕ) → IsFirst P first last o → IsFirst P first last p → o ≡ p
 one_first P first last None None h g = refl

@@ -1,7 +1,7 @@
 -- What the map of changes holds after one more change.
-use Rattle.std.proofs.Common.{◌≡◌, ◌≢◌, ℕ, ◌+◌, ◌<◌, ◌^◌, ◌⊎◌, inl, inr, Bool, true, false, List, [], ◌∷◌, ◌++◌, length, get_or}
-use Rattle.std.proofs.Common.{map, sym, refl, subst, ap, ◌∙◌, arith}
-use Rattle.std.specs.Prelude.{All, IsTrue, not, ◌==◌, Option, Some, None, Vec, if◌then◌else◌}
+use Rattle.std.proofs.Common.{◌≡◌, ◌≢◌, ℕ, ◌+◌, ◌<◌, ◌^◌, ◌≤◌, ◌⊎◌, inl, inr, Bool, true, false, List, [], ◌∷◌, ◌++◌, length, get_or}
+use Rattle.std.proofs.Common.{map, sym, refl, subst, ap, ◌∙◌, arith, append_assoc}
+use Rattle.std.specs.Prelude.{All, Contains, IsTrue, not, ◌==◌, Option, Some, None, Vec, if◌then◌else◌}
 use Rattle.std.specs.declared.alloc.Global.{Global}
 use Rattle.std.specs.Ordering.{nat_cmp, is_eq}
 use Rattle.std.specs.Option.{option_map}
@@ -12,12 +12,15 @@ use Rattle.std.specs.BTreeSet.{BTreeSet, contains, Updates}
 use Rattle.std.specs.List.Sorted.{IsStrictlyIncreasing}
 use Rattle.std.proofs.lemmas.Map.Made.{lookup-map_values}
 use Rattle.std.proofs.lemmas.List.{get_or_push, get_or_append_left, length_push}
-use Rattle.std.proofs.lemmas.List.Elements.{All-get_or, All-from_get_or, All-push}
+use Rattle.std.proofs.lemmas.List.Elements.{All-get_or, All-from_get_or, All-push, All-nil, All-cons, All-contains}
 use mathlib.Core.Bool.{cond}
 use Rattle.lset_words.proofs.Numbers.{same_number, same_or_not, unequal_test, if_other}
-use Rattle.lset_history.specs.Changes.{ChangesValue, changes_in, moments_in, moments_of, state_after, is_present_now, with_change}
+use Rattle.lset_words.specs.SequentialSet.{has_key}
+use Rattle.lset_history.specs.Changes.{ChangesValue, changes_in, moments_in, noted_of, opened_moments, moments_of, state_after}
+use Rattle.lset_history.specs.Changes.{is_present_now, with_change}
 use Rattle.lset_history.specs.Changes.{IsLaterThanAll, Rise, IsBounded, IsListed, AreKept}
 use Rattle.lset_history.proofs.KeySets.{same_test}
+use Rattle.lset_history.proofs.Keys.{has_false}
 use Rattle.lset_history.proofs.ChangeLaws.{noted_now}
 
 abbrev pub Kept : Type 0
@@ -31,23 +34,39 @@ items_mapped : (o : Option (Vec ℕ Global)) → moments_in (option_map (λ (v :
 items_mapped None = refl
 items_mapped (Some v) = refl
 
-pub kept_moments : (m : Kept) (k : ℕ) → moments_of (changes_in m) k ≡ items_in (get nat_cmp m k)
-kept_moments m k = ap moments_in (lookup-map_values (λ (v : Vec ℕ Global). v.items) (is_at (nat_cmp k)) m.entries)
+pub noted_in : (keys : List ℕ) (m : Kept) (k : ℕ) → noted_of (changes_in keys m) k ≡ items_in (get nat_cmp m k)
+noted_in keys m k = ap moments_in (lookup-map_values (λ (v : Vec ℕ Global). v.items) (is_at (nat_cmp k)) m.entries)
     ∙ items_mapped (get nat_cmp m k)
 
 -- the key has these moments now
-pub noted_map : (m n : Kept) (key at : ℕ) (w : Vec ℕ Global) → UpdatesBy nat_cmp (nat_cmp key) m n (Some w)
+noted_items : (m n : Kept) (key at : ℕ) (w : Vec ℕ Global) → UpdatesBy nat_cmp (nat_cmp key) m n (Some w)
     → w.items ≡ items_in (get nat_cmp m key) ++ at ∷ []
-    → (k : ℕ) → moments_of (changes_in n) k ≡ with_change (moments_of (changes_in m)) key at k
-noted_map m n key at w up is k = kept_moments n k ∙ ap items_in (up.0 k) ∙ by_test (k == key) refl
+    → (k : ℕ) → items_in (get nat_cmp n k)
+    ≡ (if k == key then items_in (get nat_cmp m k) ++ at ∷ [] else items_in (get nat_cmp m k))
+noted_items m n key at w up is k = ap items_in (up.0 k) ∙ by_test (k == key) refl
   where
     by_test : (b : Bool) → (k == key) ≡ b → items_in (cond (is_eq (nat_cmp key k)) (Some w) (get nat_cmp m k))
-        ≡ (if b then moments_of (changes_in m) k ++ at ∷ [] else moments_of (changes_in m) k)
+        ≡ (if b then items_in (get nat_cmp m k) ++ at ∷ [] else items_in (get nat_cmp m k))
     by_test true e = ap (λ z. items_in (cond z (Some w) (get nat_cmp m k))) (sym (same_test key k) ∙ e) ∙ is
         ∙ ap (λ z. items_in (get nat_cmp m z) ++ at ∷ []) (sym (same_number k key e))
-        ∙ ap (λ z. z ++ at ∷ []) (sym (kept_moments m k))
     by_test false e = ap (λ z. items_in (cond z (Some w) (get nat_cmp m k))) (sym (same_test key k) ∙ e)
-        ∙ sym (kept_moments m k)
+
+pub noted_map : (m n : Kept) (key at : ℕ) (w : Vec ℕ Global) → UpdatesBy nat_cmp (nat_cmp key) m n (Some w)
+    → w.items ≡ items_in (get nat_cmp m key) ++ at ∷ []
+    → (keys : List ℕ) (k : ℕ) → moments_of (changes_in keys n) k ≡ with_change (moments_of (changes_in keys m)) key at k
+noted_map m n key at w up is keys k =
+    ap (λ z. opened_moments keys k ++ z) (noted_in keys n k ∙ noted_items m n key at w up is k) ∙ by_test (k == key)
+  where
+    before : opened_moments keys k ++ items_in (get nat_cmp m k) ≡ moments_of (changes_in keys m) k
+    before = ap (λ z. opened_moments keys k ++ z) (sym (noted_in keys m k))
+
+    by_test : (b : Bool) → opened_moments keys k ++ (if b then items_in (get nat_cmp m k) ++ at ∷ [] else items_in (get nat_cmp m k))
+        ≡ (if b then moments_of (changes_in keys m) k ++ at ∷ [] else moments_of (changes_in keys m) k)
+    by_test true =
+        let regrouped : opened_moments keys k ++ (items_in (get nat_cmp m k) ++ at ∷ [])
+        ≡ (opened_moments keys k ++ items_in (get nat_cmp m k)) ++ at ∷ [] = simp append_assoc in
+        regrouped ∙ ap (λ z. z ++ at ∷ []) before
+    by_test false = before
 
 rises_more : (ms : List ℕ) (at : ℕ) → IsStrictlyIncreasing ms → All (λ m. m < at) ms → IsStrictlyIncreasing (ms ++ at ∷ [])
 rises_more ms at rise later k below =
@@ -118,18 +137,20 @@ module _ (c : ChangesValue) (key at : ℕ) (later : IsLaterThanAll (moments_of c
   pub kept_beside : (old new : BTreeMap ℕ ℕ) (now : BTreeSet ℕ) → UpdatesBy nat_cmp (nat_cmp at) old new (Some key)
       → AreKept c old now → AreKept c new now
   kept_beside old new now up kept = record {
+    opening = kept.opening;
     rise = kept.rise;
     bounded = kept.bounded;
     listed = listed_beside old new up kept.listed;
     present = kept.present;
   }
 
-  pub kept_noted : (d : ChangesValue) (noted : (k : ℕ) → moments_of d k ≡ with_change (moments_of c) key at k)
+  pub kept_noted : (d : ChangesValue) → d.opening ≡ c.opening → (noted : (k : ℕ) → moments_of d k ≡ with_change (moments_of c) key at k)
       (keys_at : BTreeMap ℕ ℕ) (present : Bool) (old new : BTreeSet ℕ) → key < 2 ^ 32 → AreKept c keys_at old
       → get nat_cmp keys_at at ≡ Some key → present ≡ not (is_present_now (moments_of c) key)
       → ((k : ℕ) → k ≢ key → IsTrue (contains nat_cmp old k) → IsTrue (contains nat_cmp new k))
       → (present ≡ true → IsTrue (contains nat_cmp new key)) → AreKept d keys_at new
-  kept_noted d noted keys_at present old new low kept is turn others own = record {
+  kept_noted d same noted keys_at present old new low kept is turn others own = record {
+    opening = subst IsStrictlyIncreasing (sym same) kept.opening;
     rise = rise_noted c d key at kept.rise later noted;
     bounded = bounded_noted c d key at low kept.bounded noted;
     listed = listed_noted c d key at noted keys_at (λ some. is) kept.listed;
@@ -140,6 +161,7 @@ module _ (c : ChangesValue) (key at : ℕ) (later : IsLaterThanAll (moments_of c
 pub kept_listed : (c : ChangesValue) (old new : BTreeMap ℕ ℕ) (now : BTreeSet ℕ) → new.entries ≡ old.entries → AreKept c old now →
     AreKept c new now
 kept_listed c old new now e kept = record {
+  opening = kept.opening;
   rise = kept.rise;
   bounded = kept.bounded;
   listed = subst (λ es. (k : ℕ) → All (λ m. 0 < m → lookup (is_at (nat_cmp m)) es ≡ Some k) (moments_of c k)) (sym e) kept.listed;
@@ -150,6 +172,7 @@ pub kept_present : (c : ChangesValue) (keys_at : BTreeMap ℕ ℕ) (old new : BT
     → ((k : ℕ) → IsTrue (contains nat_cmp old k) → IsTrue (contains nat_cmp new k)) → AreKept c keys_at old →
     AreKept c keys_at new
 kept_present c keys_at old new more kept = record {
+  opening = kept.opening;
   rise = kept.rise;
   bounded = kept.bounded;
   listed = kept.listed;
@@ -168,24 +191,29 @@ pub others_after : (key : ℕ) (old new : BTreeSet ℕ) → set.UpdatesBy nat_cm
     → IsTrue (contains nat_cmp old k) → IsTrue (contains nat_cmp new k)
 others_after key old new up k n has = up.2 k (sym (same_test key k) ∙ unequal_test k key n) ∙ has
 
--- a key without changes is there from the beginning
-pub kept_opened : (c d : ChangesValue) (key : ℕ) (keys_at : BTreeMap ℕ ℕ) (before now : BTreeSet ℕ) → key < 2 ^ 32 →
-    moments_of c key ≡ []
-    → ((k : ℕ) → moments_of d k ≡ with_change (moments_of c) key 0 k) → Updates nat_cmp before now key true →
-    AreKept c keys_at before
-    → AreKept d keys_at now
-kept_opened c d key keys_at before now low none noted up kept = record {
-  rise = λ k. subst (λ ms. IsStrictlyIncreasing ms) (sym (noted k)) (rises k (k == key) refl);
-  bounded = bounded_noted c d key 0 low kept.bounded noted;
-  listed = listed_noted c d key 0 noted keys_at (λ some. absurd (omega arith)) kept.listed;
-  present = present_noted c d key 0 noted true before now (ap (λ ms. not (state_after false ms)) (sym none))
-      (λ k n has. has_after key before now up k has) (λ e. up.1) kept.present;
+-- opening keys are there from the beginning
+opened_then : (P : List ℕ → Type 0) → P [] → P (0 ∷ []) → (b : Bool) → P ((if b then 0 ∷ [] else []) ++ [])
+opened_then P none one true = one
+opened_then P none one false = none
+
+present_opened : (b : Bool) → state_after false ((if b then 0 ∷ [] else []) ++ []) ≡ true → b ≡ true
+present_opened true e = refl
+present_opened false e = e
+
+pub kept_opened : (keys : List ℕ) (keys_at : BTreeMap ℕ ℕ) (now : BTreeSet ℕ) → IsStrictlyIncreasing keys
+    → All (λ k. k < 2 ^ 32) keys → ((k : ℕ) → has_key k keys ≡ true → IsTrue (contains nat_cmp now k))
+    → AreKept (record { opening = keys; entries = [] }) keys_at now
+kept_opened keys keys_at now rising small has = record {
+  opening = rising;
+  rise = λ k. opened_then (λ ms. IsStrictlyIncreasing ms) (λ i l. absurd (omega arith)) (λ i l. absurd (omega arith)) (has_key k keys);
+  bounded = λ k high. ap (λ b. (if b then 0 ∷ [] else []) ++ []) (has_false k keys (λ c. absurd (too_high k high c)));
+  listed = λ k. opened_then (λ ms. All (IsListed keys_at k) ms) (All-nil (IsListed keys_at k))
+      (All-cons (IsListed keys_at k) 0 [] (λ some. absurd (omega (arith, some))) (All-nil (IsListed keys_at k))) (has_key k keys);
+  present = λ k now_there. has k (present_opened (has_key k keys) now_there);
 }
   where
-    rises : (k : ℕ) (b : Bool) → (k == key) ≡ b → IsStrictlyIncreasing (if b then moments_of c k ++ 0 ∷ [] else moments_of c k)
-    rises k true e = subst (λ ms. IsStrictlyIncreasing (ms ++ 0 ∷ []))
-        (sym (ap (λ z. moments_of c z) (same_number k key e) ∙ none)) (λ i l. absurd (omega arith))
-    rises k false e = kept.rise k
+    too_high : (k : ℕ) → 2 ^ 32 ≤ k → Contains keys k → ⊥
+    too_high k high c = let low : k < 2 ^ 32 = All-contains (λ x. x < 2 ^ 32) keys k small c in omega (arith, high, low)
 
 -- a value written back with the same items
 abbrev pub shown : List (ℕ × Vec ℕ Global) → List (ℕ × List ℕ)

@@ -9,19 +9,29 @@ use Rattle.std.specs.BTreeMap.{BTreeMap, get, is_at}
 use Rattle.std.specs.BTreeSet.{BTreeSet, contains}
 use Rattle.lset_words.specs.SequentialSet.{has_key}
 
--- each key that was ever there, with the moments at which it was put in and taken out, in turn, from the earliest on
+-- the opening keys; and each key that changed, with the moments above 0 at which it was put in and taken out, in turn, from the
+-- earliest on
 pub record ChangesValue : Type 0 where
+  pub opening : List ℕ
   pub entries : List (ℕ × List ℕ)
 
 abbrev pub no_changes : ChangesValue
-no_changes = record { entries = [] }
+no_changes = record { opening = []; entries = [] }
+
+-- the changes with which a set opens: its keys go in at moment 0
+abbrev pub opened_moments : List ℕ → ℕ → List ℕ
+opened_moments keys key = if has_key key keys then 0 ∷ [] else []
 
 abbrev pub moments_in : Option (List ℕ) → List ℕ
 moments_in None = []
 moments_in (Some ms) = ms
 
+abbrev pub noted_of : ChangesValue → ℕ → List ℕ
+noted_of c key = moments_in (lookup (is_at (nat_cmp key)) c.entries)
+
+-- all moments of a key
 abbrev pub moments_of : ChangesValue → ℕ → List ℕ
-moments_of c key = moments_in (lookup (is_at (nat_cmp key)) c.entries)
+moments_of c key = opened_moments c.opening key ++ noted_of c key
 
 -- whether a key is there at a moment, where it was there (`present`) or not before all these changes of it
 abbrev pub state_at : Bool → List ℕ → ℕ → Bool
@@ -48,18 +58,14 @@ IsLaterThanAll changes moment = (0 < moment) × ((key : ℕ) → All (λ m. m < 
 abbrev pub with_change : (ℕ → List ℕ) → ℕ → ℕ → ℕ → List ℕ
 with_change changes key moment k = if k == key then changes k ++ moment ∷ [] else changes k
 
--- the changes with which a set opens: its keys go in at moment 0
-abbrev pub opened_moments : List ℕ → ℕ → List ℕ
-opened_moments keys key = if has_key key keys then 0 ∷ [] else []
-
 -- THE FIRST MOMENT from `first` to `last` at which a fact holds, or none
 abbrev pub IsFirst : (ℕ → Type 0) → ℕ → ℕ → Option ℕ → Type 0
 IsFirst P first last None = (m : ℕ) → first ≤ m → m ≤ last → P m → ⊥
 IsFirst P first last (Some k) = (first ≤ k) × (k ≤ last) × P k × ((m : ℕ) → first ≤ m → m < k → P m → ⊥)
 
 -- what is kept
-abbrev pub changes_in : BTreeMap ℕ (Vec ℕ Global) → ChangesValue
-changes_in kept = record { entries = map (λ (e : ℕ × Vec ℕ Global). (e.0, e.1.items)) kept.entries }
+abbrev pub changes_in : List ℕ → BTreeMap ℕ (Vec ℕ Global) → ChangesValue
+changes_in opening kept = record { opening = opening; entries = map (λ (e : ℕ × Vec ℕ Global). (e.0, e.1.items)) kept.entries }
 
 abbrev pub Rise : ChangesValue → Type 0
 Rise c = (key : ℕ) → IsStrictlyIncreasing (moments_of c key)
@@ -74,6 +80,7 @@ IsListed keys_at key moment = 0 < moment → get nat_cmp keys_at moment ≡ Some
 
 -- these changes, each of their moments with its key, and each key that is there now
 pub record AreKept (c : ChangesValue) (keys_at : BTreeMap ℕ ℕ) (keys_now : BTreeSet ℕ) : Type 0 where
+  pub opening : IsStrictlyIncreasing c.opening
   pub rise : Rise c
   pub bounded : IsBounded (moments_of c)
   pub listed : (key : ℕ) → All (IsListed keys_at key) (moments_of c key)

@@ -1,10 +1,11 @@
-ghost use Rattle.std.specs.Prelude.{◌≡◌, ◌≤◌, ◌<◌, ◌^◌, ◌↔◌, ℕ, length, not, true, false, IsTrue, OnOk, OnErr, IfOk, []};
+ghost use Rattle.std.specs.Prelude.{◌≡◌, ◌≤◌, ◌<◌, ◌^◌, ◌↔◌, ℕ, List, All, length, not, true, false, IsTrue, OnOk, OnErr, IfOk};
 ghost use Rattle.std.specs.List.Sorted.{IsStrictlyIncreasing};
 ghost use Rattle.lset_history.specs.Changes.{
   IsFirst,
   no_changes,
   changes_in,
   moments_of,
+  noted_of,
   is_present,
   is_present_now,
   IsLaterThanAll,
@@ -23,6 +24,7 @@ ghost use Rattle.lset_history.specs.Raising.{
   CameAfter,
 };
 ghost use Rattle.lset_words.specs.Account.{IsCeiling};
+ghost use Rattle.lset_words.specs.SequentialSet.{has_key};
 
 use std::alloc::{AllocError, Global};
 use std::collections::{BTreeMap, BTreeSet};
@@ -33,10 +35,12 @@ use std::ops::Bound;
 #[derive(Drop)]
 pub struct Changes {
     alloc: Global,
-    /// For each key that was ever there, the moments at which it was put in (0 for an opening key) and taken out, in turn.
+    /// The opening keys, rising: their moment 0 stands nowhere else.
+    opening: Vec<u32>,
+    /// For each key that changed, the moments above 0 at which it was put in and taken out, in turn.
     moments: BTreeMap<u32, Vec<u32>>,
-    /// At each of these moments above 0, the key that was put in or taken out. Want of memory in `note` may leave one more
-    /// here, and one more in `keys_now`.
+    /// At each of these moments, the key that was put in or taken out. Want of memory in `note` may leave one more here, and
+    /// one more in `keys_now`.
     keys_at: BTreeMap<u32, u32>,
     /// The keys that are in the set now.
     keys_now: BTreeSet<u32>,
@@ -47,9 +51,16 @@ impl Model for Changes {
 
     ghost Value = { ChangesValue };
 
-    ghost view = { λ c. changes_in c.moments };
+    ghost view = { λ c. changes_in c.opening.items c.moments };
 
-    ghost invariant = { λ c. AreKept (changes_in c.moments) c.keys_at c.keys_now };
+    ghost invariant = { λ c. AreKept (changes_in c.opening.items c.moments) c.keys_at c.keys_now };
+}
+
+/// Keys are numbers of 32 bits.
+fn keys_are_small(keys: &[u32])
+    ensures { All (λ k. k < 2 ^ 32) keys.now }
+{
+    let _keys = keys;
 }
 
 /// How many of the rising moments are not above `at`, and how many of them were looked at for that.
@@ -90,8 +101,9 @@ fn push_moment(
     key: u32,
     at: u32,
 ) -> Result<(), AllocError>
-    ensures noted { OnOk result ((k : ℕ) → moments_of (changes_in moments.new) k ≡ with_change (moments_of (changes_in moments.old)) key at k) }
-    ensures unchanged { OnErr result (changes_in moments.new ≡ changes_in moments.old) }
+    ensures noted { OnOk result ((opening : List ℕ) (k : ℕ) → moments_of (changes_in opening moments.new) k
+        ≡ with_change (moments_of (changes_in opening moments.old)) key at k) }
+    ensures unchanged { OnErr result ((opening : List ℕ) → changes_in opening moments.new ≡ changes_in opening moments.old) }
 {
     if let Some(moments) = moments.get_mut(&key) {
         moments.push(at)?;
@@ -110,6 +122,7 @@ impl Changes {
     {
         Changes {
             alloc,
+            opening: Vec::new(alloc),
             moments: BTreeMap::new(alloc),
             keys_at: BTreeMap::new(alloc),
             keys_now: BTreeSet::new(alloc),
@@ -122,22 +135,14 @@ impl Changes {
         requires { IsStrictlyIncreasing keys.now }
         ensures { IfOk result (λ c. (k : ℕ) → moments_of c k ≡ opened_moments keys.now k) }
     {
-        let mut changes = Changes::new(alloc);
-        for key in keys {
-            changes.open(*key)?;
-        }
-        Ok(changes)
-    }
-
-    /// A key without changes is there from moment 0 on. An error is want of memory, and changes nothing.
-    fn open(&mut self, key: u32) -> Result<(), AllocError>
-        requires { moments_of self.old key ≡ [] }
-        ensures noted { OnOk result ((k : ℕ) → moments_of self.new k ≡ with_change (moments_of self.old) key 0 k) }
-        ensures unchanged { OnErr result (self.new ≡ self.old) }
-    {
-        self.keys_now.insert(key)?;
-        push_moment(&mut self.moments, self.alloc, key, 0)?;
-        Ok(())
+        keys_are_small(keys);
+        Ok(Changes {
+            alloc,
+            opening: Vec::from_slice(alloc, keys)?,
+            moments: BTreeMap::new(alloc),
+            keys_at: BTreeMap::new(alloc),
+            keys_now: keys.iter().copied().collect(alloc)?,
+        })
     }
 
     /// Notes that `key` was put in (`present`), or taken out, at the moment `at`, which is above 0 and above
@@ -167,19 +172,36 @@ impl Changes {
         ensures first { IsFirst (λ m. is_present (moments_of self.now) key m ≡ present) from to result.0 }
         ensures few { length (moments_of self.now key) ≤ 1000000 → result.1 ≤ 24 }
     {
-        let Some(moments) = self.moments.get(&key) else {
-            return (if present { None } else { Some(from) }, 0);
-        };
-        let (before, looked) = count_upto(moments, from);
-        if (before % 2 == 1) == present {
+        let noted = self.noted(key);
+        let (before, looked) = count_upto(noted, from);
+        if ((before % 2 == 1) != self.opens_with(key)) == present {
             return (Some(from), looked);
         }
-        if before == moments.len() {
+        if before == noted.len() {
             return (None, looked);
         }
-        let next = moments[before];
+        let next = noted[before];
         let found = if next <= to { Some(next) } else { None };
         (found, looked + 1)
+    }
+
+    /// Whether this is an opening key.
+    fn opens_with(&self, key: u32) -> bool
+        ensures { result ≡ has_key key self.now.opening }
+    {
+        let (upto, _looked) = count_upto(&self.opening, key);
+        upto > 0 && self.opening[upto - 1] == key
+    }
+
+    /// The moments above 0 at which a key was put in and taken out.
+    fn noted(&self, key: u32) -> &[u32]
+        ensures value { result.now ≡ noted_of self.now key }
+        ensures rises { IsStrictlyIncreasing result.now }
+    {
+        match self.moments.get(&key) {
+            Some(moments) => moments,
+            None => &[],
+        }
     }
 
     /// Whether a key was in the set at a moment.

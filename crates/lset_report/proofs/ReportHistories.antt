@@ -20,7 +20,7 @@ use Rattle.lset_words.specs.History.{MayFollow, ContinuesHistory, IsHistory}
 use Rattle.lset_report.specs.declared.reading.calls.CallsSoFar.{CallsSoFar}
 use Rattle.lset_report.specs.ReportReading.{ends_at, is_entry, is_taken, begins_later, ended_before, is_idle, ends_later}
 use Rattle.lset_report.specs.ReportReading.{may_follow}
-use Rattle.lset_report.specs.ReportCalls.{threads_of, is_before, end_moment, is_end, is_last_end, Tracks}
+use Rattle.lset_report.specs.ReportCalls.{threads_of, end_moment, is_open, is_last_end, Tracks}
 
 -- ---- tests of every call
 
@@ -215,27 +215,18 @@ or_regroup true b c = refl
 or_regroup false b c = refl
 
 -- what a thread's further end adds to the last ends, where its end before is not that moment
-last_end_set : (ends : List (Option ℕ)) (t m : ℕ) (v : Option ℕ) → t < length ends → is_end m (get_or ends t None) ≡ false
-    → is_last_end (set ends t v) m ≡ (is_last_end ends m || is_end m v)
+last_end_set : (ends : List ℕ) (t m v : ℕ) → t < length ends → eqb (get_or ends t 0) m ≡ false
+    → is_last_end (set ends t v) m ≡ (is_last_end ends m || eqb v m)
 last_end_set [] t m v low old = absurd (omega (arith, low))
 last_end_set (o ∷ os) zero m v low old =
-    or_swap (is_end m v) (is_last_end os m) ∙ ap (λ b. (b || is_last_end os m) || is_end m v) (sym old)
+    or_swap (eqb v m) (is_last_end os m) ∙ ap (λ b. (b || is_last_end os m) || eqb v m) (sym old)
 last_end_set (o ∷ os) (suc t) m v low old =
-    ap (λ b. is_end m o || b) (last_end_set os t m v (omega (arith, low)) old)
-    ∙ or_regroup (is_end m o) (is_last_end os m) (is_end m v)
+    ap (λ b. eqb o m || b) (last_end_set os t m v (omega (arith, low)) old)
+    ∙ or_regroup (eqb o m) (is_last_end os m) (eqb v m)
 
-end_is : (m : ℕ) (o : Option (ℕ × Reply)) → is_end m (end_moment o) ≡ ends_at m o
-end_is m None = refl
-end_is m (Some e) = refl
-
-not_last : (b m : ℕ) (o : Option ℕ) → is_before b o ≡ true → b < m → is_end m o ≡ false
-not_last b m None h past = absurd cc
-not_last b m (Some e) h past =
-    let below : e < b = ltb-true e b h in ne_eqb e m (λ same. absurd (omega (arith, below, past, same)))
-
-before_later : (a m : ℕ) (o : Option ℕ) → is_before a o ≡ true → a < m → is_before m o ≡ true
-before_later a m None h lt = absurd cc
-before_later a m (Some v) h lt = let below = ltb-true v a h in lt-ltb v m (omega arith)
+end_is : (m : ℕ) (o : Option (ℕ × Reply)) → 0 < m → eqb (end_moment o) m ≡ ends_at m o
+end_is m None some = ne_eqb 0 m (λ same. absurd (omega (arith, some, same)))
+end_is m (Some e) some = refl
 
 abbrev idle_at : ℕ → ℕ → CallRecord → Bool
 idle_at t m y = not (eqb y.thread t) || ended_before m y.ended
@@ -245,8 +236,18 @@ idle_step : (calls : List CallRecord) (x : CallRecord) (t m : ℕ)
 idle_step calls x t m =
     list_all-append (idle_at t m) calls (x ∷ []) ∙ ap (λ b. is_idle calls t m && b) (and-true (idle_at t m x))
 
+-- no call is open, and the last end is before a moment
+abbrev is_over : Bool → ℕ → ℕ → Bool
+is_over busy end m = not busy && ltb end m
+
+over_later : (busy : Bool) (end a m : ℕ) → is_over busy end a ≡ true → a < m → is_over busy end m ≡ true
+over_later busy end a m h lt =
+    let parts = and_parts (not busy) (ltb end a) h in
+    let below : end < a = ltb-true end a parts.1 in
+    and_from _ _ parts.0 (lt-ltb end m (omega (arith, below, lt)))
+
 idle_ended : (before : Bool) (b m : ℕ) (o : Option (ℕ × Reply)) (calls : List CallRecord) → ends_later calls b o ≡ true
-    → (b < m → before ≡ true) → (before && ended_before m o) ≡ is_before m (end_moment o)
+    → (b < m → before ≡ true) → (before && ended_before m o) ≡ is_over (is_open o) (end_moment o) m
 idle_ended before b m None calls ends h = and_right before false refl
 idle_ended before b m (Some e) calls ends h = ⊎_elim
     (λ (yes : ltb e.0 m ≡ true).
@@ -256,16 +257,15 @@ idle_ended before b m (Some e) calls ends h = ⊎_elim
     (λ (no_ : ltb e.0 m ≡ false). and_right before _ no_ ∙ sym no_)
     (cases_Bool (ltb e.0 m))
 
-idle_own : (calls : List CallRecord) (x : CallRecord) (m : ℕ) (o : Option ℕ) → ends_later calls x.begun x.ended ≡ true
-    → is_idle calls x.thread x.begun ≡ is_before x.begun o → is_idle calls x.thread m ≡ is_before m o
-    → is_idle calls x.thread x.begun ≡ true
-    → is_idle (calls ++ x ∷ []) x.thread m ≡ is_before m (end_moment x.ended)
-idle_own calls x m o ends old_then old may =
+idle_own : (calls : List CallRecord) (x : CallRecord) (m : ℕ) (busy : Bool) (end : ℕ) → ends_later calls x.begun x.ended ≡ true
+    → is_over busy end x.begun ≡ true → is_idle calls x.thread m ≡ is_over busy end m
+    → is_idle (calls ++ x ∷ []) x.thread m ≡ is_over (is_open x.ended) (end_moment x.ended) m
+idle_own calls x m busy end ends over old =
     let own : idle_at x.thread m x ≡ ended_before m x.ended =
     ap (λ b. not b || ended_before m x.ended) (eq-eqb x.thread x.thread refl) in
     idle_step calls x x.thread m ∙ ap (λ b. is_idle calls x.thread m && b) own
     ∙ idle_ended (is_idle calls x.thread m) x.begun m x.ended calls ends
-    (λ lt. old ∙ before_later x.begun m o (sym old_then ∙ may) lt)
+    (λ lt. old ∙ over_later busy end x.begun m over lt)
 
 idle_other : (calls : List CallRecord) (x : CallRecord) (t m : ℕ) → t ≢ x.thread
     → is_idle (calls ++ x ∷ []) t m ≡ is_idle calls t m
@@ -275,51 +275,66 @@ idle_other calls x t m other =
 
 -- ---- what is kept of no calls
 
-none_at : (n m : ℕ) → 0 < m → is_last_end (replicate n (Some 0)) m ≡ false
+none_at : (n m : ℕ) → 0 < m → is_last_end (replicate n 0) m ≡ false
 none_at zero m some = refl
 none_at (suc n) m some = or_from _ _ (ne_eqb 0 m (λ same. absurd (omega (arith, some, same)))) (none_at n m some)
 
 pub tracks_none : (s : CallsSoFar) (threads : ℕ) → s.calls.items ≡ [] → s.last_begun ≡ 0
-    → s.idle_since.items ≡ replicate threads (Some 0) → Tracks s
-tracks_none s threads calls_are last_is idle_is =
-    let seats : threads_of s ≡ threads = ap length idle_is ∙ length-replicate threads (Some 0) in
+    → s.last_ends.items ≡ replicate threads 0 → s.busy.items ≡ replicate threads false → Tracks s
+tracks_none s threads calls_are last_is ends_are busy_is =
+    let seats : threads_of s ≡ threads = ap length ends_are ∙ length-replicate threads 0 in
     record {
       history = subst (λ (cs : List CallRecord). IsHistory (threads_of s) cs) (sym calls_are) tt;
       begins = λ m. rw (calls_are, last_is) (and-true (ltb 0 m));
-      taken = λ m past. rw (calls_are, idle_is) (sym (none_at threads m (omega (arith, past, last_is))));
-      idle = λ u m seat some. rw (calls_are, idle_is) (sym (ap (is_before m)
-          (get_or-replicate threads u (Some 0) None (omega (arith, seat, seats))) ∙ lt-ltb 0 m some));
+      taken = λ m past. rw (calls_are, ends_are) (sym (none_at threads m (omega (arith, past, last_is))));
+      each = ap length busy_is ∙ length-replicate threads false ∙ sym seats;
+      idle = λ u m seat some.
+          let low : u < threads = omega (arith, seat, seats) in
+          rw (calls_are, ends_are, busy_is) (sym (ap (λ b. is_over b (get_or (replicate threads 0) u 0) m)
+          (get_or-replicate threads u false false low)
+          ∙ ap (λ end. is_over false end m) (get_or-replicate threads u 0 0 low) ∙ lt-ltb 0 m some));
     }
 
 pub tracks_more : (s t : CallsSoFar) (x : CallRecord) → Tracks s → may_follow (threads_of s) s.calls.items x ≡ true
     → t.calls.items ≡ s.calls.items ++ x ∷ [] → t.last_begun ≡ x.begun
-    → t.idle_since.items ≡ set s.idle_since.items x.thread (end_moment x.ended) → Tracks t
-tracks_more s t x old may calls_are last_is idle_is =
+    → t.last_ends.items ≡ set s.last_ends.items x.thread (end_moment x.ended)
+    → t.busy.items ≡ set s.busy.items x.thread (is_open x.ended) → Tracks t
+tracks_more s t x old may calls_are last_is ends_are busy_is =
     let parts = may_parts (threads_of s) s.calls.items x may in
     let calls : List CallRecord = s.calls.items in
-    let idle : List (Option ℕ) = s.idle_since.items in
-    let seats : threads_of t ≡ threads_of s = ap length idle_is ∙ length-set idle x.thread (end_moment x.ended) in
-    let low : x.thread < length idle = parts.low in
+    let ends : List ℕ = s.last_ends.items in
+    let busy : List Bool = s.busy.items in
+    let seats : threads_of t ≡ threads_of s = ap length ends_are ∙ length-set ends x.thread (end_moment x.ended) in
+    let low : x.thread < length ends = parts.low in
+    let low_busy : x.thread < length busy = omega (arith, low, old.each) in
     let later : s.last_begun < x.begun = ltb-true _ _ (sym (old.begins x.begun) ∙ parts.begins) in
     let counted : 0 < x.begun = omega (arith, later) in
-    let before : is_before x.begun (get_or idle x.thread None) ≡ true = sym (old.idle x.thread x.begun low counted) ∙ parts.idle in
+    let over : is_over (get_or busy x.thread false) (get_or ends x.thread 0) x.begun ≡ true =
+    sym (old.idle x.thread x.begun low counted) ∙ parts.idle in
+    let before : get_or ends x.thread 0 < x.begun = ltb-true _ _ (and_parts (not (get_or busy x.thread false)) _ over).1 in
     record {
       history = rw (seats, calls_are) (history_more (threads_of s) calls x old.history may);
       begins = λ m. rw (calls_are, last_is) (begins_pushed calls x s.last_begun old.begins parts.begins m);
       taken = λ m past.
           let after : x.begun < m = omega (arith, past, last_is) in
-          rw (calls_are, idle_is) (taken_pushed calls x m after
+          rw (calls_are, ends_are) (taken_pushed calls x m after
           ∙ ap (λ b. b || ends_at m x.ended) (old.taken m (omega (arith, later, after)))
-          ∙ ap (λ b. is_last_end idle m || b) (sym (end_is m x.ended))
-          ∙ sym (last_end_set idle x.thread m (end_moment x.ended) low (not_last x.begun m (get_or idle x.thread None) before after)));
-      idle = λ u m seat some. rw (calls_are, idle_is) (⊎_elim
+          ∙ ap (λ b. is_last_end ends m || b) (sym (end_is m x.ended (omega (arith, counted, after))))
+          ∙ sym (last_end_set ends x.thread m (end_moment x.ended) low
+          (ne_eqb (get_or ends x.thread 0) m (λ same. absurd (omega (arith, before, after, same))))));
+      each = ap length busy_is ∙ length-set busy x.thread (is_open x.ended) ∙ old.each ∙ sym seats;
+      idle = λ u m seat some. rw (calls_are, ends_are, busy_is) (⊎_elim
           (λ (same : u ≡ x.thread).
-          subst (λ v. is_idle (calls ++ x ∷ []) v m ≡ is_before m (get_or (set idle x.thread (end_moment x.ended)) v None))
+          subst (λ v. is_idle (calls ++ x ∷ []) v m
+          ≡ is_over (get_or (set busy x.thread (is_open x.ended)) v false) (get_or (set ends x.thread (end_moment x.ended)) v 0) m)
           (sym same)
-          (idle_own calls x m (get_or idle x.thread None) parts.ends (old.idle x.thread x.begun low counted)
-          (old.idle x.thread m low some) parts.idle
-          ∙ sym (ap (is_before m) (get_or-set_same idle x.thread (end_moment x.ended) None low))))
+          (idle_own calls x m (get_or busy x.thread false) (get_or ends x.thread 0) parts.ends over (old.idle x.thread m low some)
+          ∙ sym (ap (λ b. is_over b (get_or (set ends x.thread (end_moment x.ended)) x.thread 0) m)
+          (get_or-set_same busy x.thread (is_open x.ended) false low_busy)
+          ∙ ap (λ end. is_over (is_open x.ended) end m) (get_or-set_same ends x.thread (end_moment x.ended) 0 low))))
           (λ (other : u ≢ x.thread). idle_other calls x u m other ∙ old.idle u m (omega arith) some
-          ∙ sym (ap (is_before m) (get_or-set_other idle x.thread u (end_moment x.ended) None other)))
+          ∙ sym (ap (λ b. is_over b (get_or (set ends x.thread (end_moment x.ended)) u 0) m)
+          (get_or-set_other busy x.thread u (is_open x.ended) false other)
+          ∙ ap (λ end. is_over (get_or busy u false) end m) (get_or-set_other ends x.thread u (end_moment x.ended) 0 other)))
           (cases_eq u x.thread));
     }

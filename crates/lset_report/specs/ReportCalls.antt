@@ -8,31 +8,27 @@ use Rattle.lset_report.specs.declared.reading.calls.CallsSoFar.{CallsSoFar}
 use Rattle.lset_report.specs.ReportReading.{begins_later, is_taken, is_idle}
 
 abbrev pub threads_of : CallsSoFar → ℕ
-threads_of s = length s.idle_since.items
+threads_of s = length s.last_ends.items
 
--- there is an end, and it is before the moment
-abbrev pub is_before : ℕ → Option ℕ → Bool
-is_before moment None = false
-is_before moment (Some end) = nat_lt end moment
+-- 0 stands for no end
+abbrev pub end_moment : Option (ℕ × Reply) → ℕ
+end_moment None = 0
+end_moment (Some end) = end.0
 
-abbrev pub end_moment : Option (ℕ × Reply) → Option ℕ
-end_moment None = None
-end_moment (Some end) = Some end.0
+abbrev pub is_open : Option (ℕ × Reply) → Bool
+is_open None = true
+is_open (Some end) = false
 
--- a moment at which the last call of a thread ended
-abbrev pub is_end : ℕ → Option ℕ → Bool
-is_end moment None = false
-is_end moment (Some end) = end == moment
-
-abbrev pub is_last_end : List (Option ℕ) → ℕ → Bool
-is_last_end ends moment = list_any (is_end moment) ends
+-- a moment, counted from 1, at which the last call of a thread ended
+abbrev pub is_last_end : List ℕ → ℕ → Bool
+is_last_end ends moment = list_any (λ end. end == moment) ends
 
 -- a call ends after its beginning, where no last call of a thread did
-abbrev pub ends_apart : List (Option ℕ) → ℕ → Option (ℕ × Reply) → Bool
+abbrev pub ends_apart : List ℕ → ℕ → Option (ℕ × Reply) → Bool
 ends_apart ends begun None = true
 ends_apart ends begun (Some end) = nat_lt begun end.0 && not (is_last_end ends end.0)
 
-abbrev pub ends_well_by : List (Option ℕ) → CallRecord → Bool
+abbrev pub ends_well_by : List ℕ → CallRecord → Bool
 ends_well_by ends x = ends_apart ends x.begun x.ended
 
 -- WHAT IS KEPT of a history of calls:
@@ -41,7 +37,8 @@ pub record Tracks (s : CallsSoFar) : Type 0 where
   -- the last beginning,
   pub begins : (m : ℕ) → begins_later s.calls.items m ≡ nat_lt s.last_begun m
   -- each moment past it, which is taken only by the last end of a thread,
-  pub taken : (m : ℕ) → s.last_begun < m → is_taken s.calls.items m ≡ is_last_end s.idle_since.items m
-  -- and the last end of each thread
+  pub taken : (m : ℕ) → s.last_begun < m → is_taken s.calls.items m ≡ is_last_end s.last_ends.items m
+  -- and of each thread the last end, and whether a call is open
+  pub each : length s.busy.items ≡ threads_of s
   pub idle : (t m : ℕ) → t < threads_of s → 0 < m
-      → is_idle s.calls.items t m ≡ is_before m (slice_index_or s.idle_since.items t None)
+      → is_idle s.calls.items t m ≡ (not (slice_index_or s.busy.items t false) && nat_lt (slice_index_or s.last_ends.items t 0) m)

@@ -1,6 +1,6 @@
 ghost use Rattle.std.specs.Prelude.{◌≡◌, ◌++◌, ◌∷◌, [], true, IfOk, OnOk};
 ghost use Rattle.lset_report.specs.ReportReading.{may_follow};
-ghost use Rattle.lset_report.specs.ReportCalls.{Tracks, threads_of, is_before, end_moment, is_last_end, ends_well_by};
+ghost use Rattle.lset_report.specs.ReportCalls.{Tracks, threads_of, end_moment, is_open, is_last_end, ends_well_by};
 
 use lset_words::CallRecord;
 use std::alloc::{AllocError, Global};
@@ -11,25 +11,27 @@ pub struct CallsSoFar {
     pub calls: Vec<CallRecord>,
     /// When the last call began; 0 before the first one.
     pub last_begun: u32,
-    /// For each thread, when its last call ended; 0 before its first one, and none while a call is open.
-    pub idle_since: Vec<Option<u32>>,
+    /// For each thread, when its last call ended; 0 before its first one, and while a call is open.
+    pub last_ends: Vec<u32>,
+    /// For each thread, whether its last call is open.
+    pub busy: Vec<bool>,
 }
 
-fn is_before(end: Option<u32>, moment: u32) -> bool
-    ensures { result ≡ is_before moment end }
-{
-    match end {
-        Some(end) => end < moment,
-        None => false,
-    }
-}
-
-fn end_moment(made: CallRecord) -> Option<u32>
+fn end_moment(made: CallRecord) -> u32
     ensures { result ≡ end_moment made.ended }
 {
     match made.ended {
-        Some((end, _)) => Some(end),
-        None => None,
+        Some((end, _)) => end,
+        None => 0,
+    }
+}
+
+fn is_open(made: CallRecord) -> bool
+    ensures { result ≡ is_open made.ended }
+{
+    match made.ended {
+        Some(_) => false,
+        None => true,
     }
 }
 
@@ -43,19 +45,20 @@ impl CallsSoFar {
         Ok(CallsSoFar {
             calls: Vec::new(alloc),
             last_begun: 0,
-            idle_since: vec![in alloc; Some(0); threads as usize]?,
+            last_ends: vec![in alloc; 0; threads as usize]?,
+            busy: vec![in alloc; false; threads as usize]?,
         })
     }
 
-    /// Whether the last call of a thread ended at this moment.
+    /// Whether the last call of a thread ended at this moment, which is not 0.
     fn is_last_end(&self, moment: u32) -> bool
-        ensures { result ≡ is_last_end self.now.idle_since.items moment }
+        ensures { result ≡ is_last_end self.now.last_ends.items moment }
     {
-        self.idle_since.contains(&Some(moment))
+        self.last_ends.contains(&moment)
     }
 
     fn ends_well(&self, made: CallRecord) -> bool
-        ensures { result ≡ ends_well_by self.now.idle_since.items made }
+        ensures { result ≡ ends_well_by self.now.last_ends.items made }
     {
         match made.ended {
             Some((end, _)) => made.begun < end && !self.is_last_end(end),
@@ -70,13 +73,14 @@ impl CallsSoFar {
         ensures { result ≡ may_follow (threads_of self.now) self.now.calls.items made }
     {
         let thread = made.thread as usize;
-        if thread >= self.idle_since.len() {
+        if thread >= self.last_ends.len() {
             return false;
         }
         self.last_begun < made.begun
             && self.ends_well(made)
             && !self.is_last_end(made.begun)
-            && is_before(self.idle_since[thread], made.begun)
+            && !self.busy[thread]
+            && self.last_ends[thread] < made.begun
     }
 
     /// Adds a call that may follow.
@@ -89,7 +93,8 @@ impl CallsSoFar {
     {
         self.calls.push(made)?;
         self.last_begun = made.begun;
-        self.idle_since[made.thread as usize] = end_moment(made);
+        self.last_ends[made.thread as usize] = end_moment(made);
+        self.busy[made.thread as usize] = is_open(made);
         Ok(())
     }
 }

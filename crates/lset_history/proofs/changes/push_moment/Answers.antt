@@ -14,8 +14,8 @@ returns-in-Some-clause-noted c = noted_map c.args.moments.now (c.get_mut.follows
 
 -- nothing was pushed
 pub returns-in_err-push-clause-unchanged : goal.returns-in_err-push-clause-unchanged
-returns-in_err-push-clause-unchanged c = MatchResult-from_err _ _ _ c.from_residual.ensures.0 (λ _.
-    ap (λ es. record { entries = es }) (ap shown (c.get_mut.follows.holds c.push.new.self).0
+returns-in_err-push-clause-unchanged c = MatchResult-from_err _ _ _ c.from_residual.ensures.0 (λ _ opening.
+    ap (λ es. record { opening = opening; entries = es }) (ap shown (c.get_mut.follows.holds c.push.new.self).0
     ∙ same_items (is_at (nat_cmp c.args.key)) c.args.moments.now.entries
     c.in-Some.moments.now c.push.new.self (sym c.in-Some.ensures.value) c.in_err-push.ensures.items))
 

@@ -1,21 +1,23 @@
-use Rattle.std.proofs.Common.{arith, ap, ◌∙◌, [], ◌∷◌}
-use Rattle.std.specs.Prelude.{if◌then◌else◌}
-use Rattle.std.proofs.lemmas.List.{take_all}
-use Rattle.lset_history.specs.Changes.{ChangesValue, moments_of, opened_moments}
-use Rattle.lset_history.proofs.OpeningKeys.{next_is_new, opened_more}
+use Rattle.std.proofs.Common.{◌≡◌, ℕ, true, sym, ◌∙◌}
+use Rattle.std.specs.Prelude.{IsTrue}
+use Rattle.std.specs.Ordering.{nat_cmp}
+use Rattle.std.specs.BTreeSet as set
+use Rattle.std.proofs.lemmas.Iterator.{YieldsList-from_slice}
+use Rattle.std.proofs.lemmas.Iterator.Adapters.{fact_from_collect}
+use Rattle.std.proofs.lemmas.Iterator.Consumers.{YieldsList-at, YieldsList-from_copied}
+use Rattle.std.proofs.lemmas.Result.{IfOk-at_ok}
+use Rattle.lset_words.specs.SequentialSet.{has_key}
+use Rattle.lset_history.proofs.KeySets.{has_key_tree}
+use Rattle.lset_history.proofs.Noting.{kept_opened}
 use Rattle.lset_history.proofs.changes.Changes.opened.Goals as goal
 
-pub loop-key-init : goal.loop-key-init
-loop-key-init c k = ap (λ (x : ChangesValue). moments_of x k) c.new-changes.ensures
-
-pub open-requires : goal.open-requires
-open-requires c = c.loop-key.invariant _
-    ∙ ap (λ b. if b then 0 ∷ [] else []) (next_is_new c.args.keys.now c.loop-key.key-index c.requires c.loop-key-test.true)
-
-pub loop-key-preserved : goal.loop-key-preserved
-loop-key-preserved c = opened_more c.args.keys.now c.loop-key.key-index c.requires c.loop-key-test.true
-    (moments_of c.loop-key.changes) (moments_of c.open.new.self) c.loop-key.invariant c.in_ok-open.ensures.noted
-
-pub returns : goal.returns
-returns c k = c.loop-key.invariant k
-    ∙ ap (λ ks. opened_moments ks k) (take_all c.loop-key.key-index c.args.keys.now (omega arith))
+-- the tree of the opening keys has each of them
+pub invariant_of-result : goal.invariant_of-result
+invariant_of-result c =
+    let road = YieldsList-from_copied (YieldsList-at c.copied.ensures.source (YieldsList-from_slice c.args.keys.now c.iter.ensures.rest)) in
+    let got = fact_from_collect (λ ys s. set.IsFromIterResult nat_cmp ys s) c.collect.result c.collect.ensures.ran road in
+    let made = IfOk-at_ok (λ s. set.IsFromIterResult nat_cmp c.args.keys.now s) c.in_ok-collect.was got in
+    let has : (k : ℕ) → has_key k c.args.keys.now ≡ true → IsTrue (set.contains nat_cmp c.in_ok-collect.field-0 k) =
+    λ k e. made.0 k ∙ sym (has_key_tree k c.args.keys.now) ∙ e in
+    rw (c.in_ok-from_slice.ensures.items, c.new.ensures.empty)
+    (kept_opened c.args.keys.now c.new-2.result c.in_ok-collect.field-0 c.requires c.keys_are_small.ensures has)

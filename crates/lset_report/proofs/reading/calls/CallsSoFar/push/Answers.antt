@@ -12,8 +12,10 @@ returns-clause-tracks c =
     let t : CallsSoFar = record {
       calls = c.push.new.self;
       last_begun = c.args.made.begun;
-      idle_since = with_item s.idle_since c.args.made.thread c.end_moment.result;
+      last_ends = with_item s.last_ends c.args.made.thread c.end_moment.result;
+      busy = with_item s.busy c.args.made.thread c.is_open.result;
     } in
     let pushed : c.push.new.self.items ≡ s.calls.items ++ c.args.made ∷ [] = grind (arith, common_steps) in
     tracks_more s t c.args.made c.requires.tracks c.requires.may pushed refl
-    (ap (set s.idle_since.items c.args.made.thread) c.end_moment.ensures)
+    (ap (set s.last_ends.items c.args.made.thread) c.end_moment.ensures)
+    (ap (set s.busy.items c.args.made.thread) c.is_open.ensures)
