@@ -45,6 +45,6 @@ def measured_on():
     """The date, the machine and what it had to do when a table was begun."""
     with open("/proc/cpuinfo") as it:
         model = re.search(r"model name\s*: (.*)", it.read())
-    named = f" ({model[1]})" if model else ""
+    named = " ".join(re.sub(r"\(R\)|\(TM\)|CPU|Processor|@", " ", model[1] if model else "").split()) or "processors"
     many, load = len(os.sched_getaffinity(0)), os.getloadavg()[0]
-    return f"{datetime.date.today():%-d %B %Y}, {many} processors{named}, load {load:.1f}"
+    return f"{datetime.date.today():%-d %B %Y}, {many} x {named}, load {load:.1f}"
