@@ -91,18 +91,22 @@ fn meet(there: &AtomicUsize, many: usize) {
     }
 }
 
-/// Runs each thread's program by `run`, all at once: none begins before all threads are there.
+/// Runs each thread's program by `run`, all at once.
 fn at_once<T: Send>(programs: &[Vec<Call>], run: impl Fn(u64, &[Call]) -> T + Sync) -> Vec<T> {
-    let (there, run) = (&AtomicUsize::new(0), &run);
+    let run = &run;
     std::thread::scope(|scope| {
-        let mut started = Vec::new();
-        for (thread, calls) in (0..).zip(programs) {
-            started.push(scope.spawn(move || {
-                meet(there, programs.len());
-                run(thread, calls)
-            }));
-        }
+        let started: Vec<_> =
+            (0..).zip(programs).map(|(thread, calls)| scope.spawn(move || run(thread, calls))).collect();
         started.into_iter().map(|it| it.join().expect("a thread")).collect()
+    })
+}
+
+/// The same, where none begins before all threads are there.
+fn together<T: Send>(programs: &[Vec<Call>], run: impl Fn(u64, &[Call]) -> T + Sync) -> Vec<T> {
+    let there = AtomicUsize::new(0);
+    at_once(programs, |thread, calls| {
+        meet(&there, programs.len());
+        run(thread, calls)
     })
 }
 
@@ -151,7 +155,7 @@ fn tell(name: &str, spent: Spent) {
 /// One reading of the clock for each call.
 fn each(kind: Kind, wanted: &Wanted) {
     let set = Set::new(kind, wanted.threads, wanted.quota);
-    let spent = at_once(&wanted.programs(), |thread, calls| {
+    let spent = together(&wanted.programs(), |thread, calls| {
         let mut seat = Seat { thread, used: 0 };
         let mut spent = [Spent::default(); OPS.len()];
         let mut before = Instant::now();
@@ -175,7 +179,7 @@ fn whole<S: Sync>(wanted: &Wanted, new: impl Fn() -> S, make_calls: impl Fn(&S, 
     let (mut calls, mut spent) = (0, Duration::ZERO);
     while spent < ENOUGH {
         let set = new();
-        let times = at_once(&programs, |thread, calls| {
+        let times = together(&programs, |thread, calls| {
             let before = Instant::now();
             make_calls(&set, thread, calls);
             (before, Instant::now())
