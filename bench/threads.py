@@ -38,7 +38,8 @@ def threads():
 def calls():
     """Calls by kind: their time beside that of the list by hand, by the loops, and by the interpreter; the median of some runs in turn."""
     timer, tool, kind_names = built("bench_calls"), built("listset"), ("add", "remove", "contains")
-    heading("List", *(f"`{call}`" + f", {named(many)}" * (call == "add") for many in THREADS for call in kind_names), "interpreter, 1 thread")
+    heads = (f"`{call}`" + f", {named(many)}" * (call == "add") for many in THREADS for call in kind_names)
+    heading("List", *heads, "interpreter, 1 thread")
     with tempfile.TemporaryDirectory() as room:
         peer = compiled("peer.rs", room)
         for kind in kinds(tool):
