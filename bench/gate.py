@@ -1,5 +1,6 @@
 """What the gate costs: its steps, and of `rt ci` and the must-fail edits each crate and part."""
 
+import contextlib
 import os
 import re
 import subprocess
@@ -7,7 +8,7 @@ import sys
 import threading
 import time
 
-from measuring import TOP
+from measuring import TOP, heading, row
 
 PARTS = ("proof", "tests", "edits", "programs")
 MEASURED = f"{TOP}/bench/seconds.txt"
@@ -100,7 +101,7 @@ def run_gate(words):
     watch, steps = Watch(run.pid, set(os.listdir(f"{TOP}/crates"))), {}
     watch.start()
     for line in run.stdout:
-        print(line, end="", flush=True)
+        print(line, end="", file=sys.stderr, flush=True)
         if found := ENDED.match(line):
             steps[found[1]] = int(found[2]), int(found[3])
     _, status, used = os.wait4(run.pid, 0)
@@ -130,18 +131,22 @@ def edits_of(name):
     return f" ({sum(it.endswith('.edit') for it in os.listdir(folder))})" if os.path.isdir(folder) else ""
 
 
-def gate_table(tasks):
-    """Prints minutes and seconds of each crate and part, as a table of docs/COSTS.md, and the ten dearest tasks."""
-    print("\n| Crate | Proof | Tests | Must-fail edits | Programs |\n|---|---|---|---|---|")
+def tell_crates(tasks):
+    """Prints minutes and seconds of each crate and part."""
+    heading("Crate", "Proof", "Tests", "Must-fail edits", "Programs")
     for name in dict.fromkeys(name for name, _ in tasks):
         cells = [f"{tasks[name, it][0]:.1f} min, {tasks[name, it][1]:.0f} s" if (name, it) in tasks else "" for it in PARTS]
         cells[2] += edits_of(name) if cells[2] else ""
-        print(f"| `{name}` | {' | '.join(cells)} |")
+        row(f"`{name}`", *cells)
     sums = [sum(seconds for (_, part), (_, seconds) in tasks.items() if part == it) for it in PARTS]
-    print("| all | " + " | ".join(f"{it:.0f} s" for it in sums) + " |")
-    print("\nThe dearest tasks:\n\n| Crate | What | Processor |\n|---|---|---|")
+    row("all", *(f"{it:.0f} s" for it in sums))
+
+
+def tell_dearest(tasks):
+    """Prints the seconds of the dearest tasks."""
+    heading("Task", "Seconds of one processor")
     for (name, part), (_, seconds) in sorted(tasks.items(), key=lambda it: -it[1][1])[:DEAREST]:
-        print(f"| `{name}` | {part} | {seconds:.0f} s |")
+        row(f"{part} of `{name}`", f"{seconds:.0f}")
 
 
 def wanted_and_taken():
@@ -152,13 +157,16 @@ def wanted_and_taken():
 
 
 def gate(*words):
-    """Runs the gate, or with `--quick` the quick one, and tells what each step and crate took, and the whole."""
+    """Runs the gate, or with `--quick` the quick one, and tells the dearest tasks and the whole; what each step and crate took goes to
+    standard error."""
     if any(it != "--quick" for it in words):
         sys.exit("bench: --gate takes --quick alone")
     began, load, before = time.monotonic(), os.getloadavg()[0], wanted_and_taken()
     status, steps, tasks, processor = run_gate(words)
     told = {(name, "programs"): (wall / 60, seconds) for name, (wall, seconds) in steps.items() if name not in IN_CRATES}
-    gate_table({**told, **tasks})
+    with contextlib.redirect_stdout(sys.stderr):
+        tell_crates({**told, **tasks})
+    tell_dearest({**told, **tasks})
     minutes = (time.monotonic() - began) / 60
     many = f"{len(os.sched_getaffinity(0))} processors, with a load of {load:.1f} at the start"
     print(f"\nThe whole took {minutes:.0f} minutes on {many}, and {processor / 60:.0f} minutes of one processor.")

@@ -1,20 +1,24 @@
-//! What running sets are measured against: the lists of `lists.rs`, and a tree under one lock.
+//! What running sets are measured against: the lists of `lists.rs`, and std's tree under one lock.
 //!   rustc -O peer.rs
 //!   peer run KIND THREADS QUOTA CALLS KEYS SEED      runs what `listset run` runs, and prints what that prints
 //!   peer each KIND ..                                times each call, as `bench_calls KIND loops ..` does
-//!   peer whole KIND ..                               times each thread's calls together, as `bench_calls KIND whole ..` does; KIND
-//!                                                    may be `tree` here, a `Mutex<BTreeSet>` without a quota
-//! The times stand on standard error: for each kind of call, or for all, nanoseconds over all threads, and how many calls are left out of
-//! them: of `each` those that took more than `LONGEST`, since the processor was taken away. The output tells how many calls there were.
+//!   peer whole KIND ..                               times rounds of all calls, as `bench_calls KIND whole ..` does; KIND may be
+//!                                                    `mutex-tree` or `rwlock-tree` here, which have no quota
+//! The times stand on standard error: of `each`, for each kind of call, nanoseconds over all threads, and how many calls are left out of
+//! them since they took more than `LONGEST`, as where the processor was taken away; of `whole`, nanoseconds by the clock. The output
+//! tells how many calls there were.
 
 mod lists;
 
 use lists::{Call, Kind, Op, Reply, Seat, Set};
 use std::collections::BTreeSet;
-use std::sync::Mutex;
-use std::time::Instant;
+use std::sync::atomic::{AtomicUsize, Ordering::SeqCst};
+use std::sync::{Mutex, RwLock};
+use std::time::{Duration, Instant};
 
 const LONGEST: u64 = 200_000;
+/// Rounds go on until they have taken so long.
+const ENOUGH: Duration = Duration::from_millis(100);
 const OPS: [(Op, &str); 3] = [(Op::Add, "add"), (Op::Remove, "remove"), (Op::Contains, "contains")];
 
 /// The generator of the library's programs, PCG32.
@@ -73,22 +77,42 @@ impl Wanted {
         };
         (0..self.calls).map(call).collect()
     }
+
+    fn programs(&self) -> Vec<Vec<Call>> {
+        (0..self.threads).map(|thread| self.program(thread)).collect()
+    }
+}
+
+/// Waits until so many threads are there.
+fn meet(there: &AtomicUsize, many: usize) {
+    there.fetch_add(1, SeqCst);
+    while there.load(SeqCst) < many {
+        std::thread::yield_now();
+    }
 }
 
 /// Runs each thread's program by `run`, all at once.
-fn at_once<T: Send>(wanted: &Wanted, run: impl Fn(u64, &[Call]) -> T + Sync) -> Vec<T> {
-    let programs: Vec<_> = (0..wanted.threads).map(|thread| wanted.program(thread)).collect();
+fn at_once<T: Send>(programs: &[Vec<Call>], run: impl Fn(u64, &[Call]) -> T + Sync) -> Vec<T> {
     let run = &run;
     std::thread::scope(|scope| {
         let started: Vec<_> =
-            (0..).zip(&programs).map(|(thread, calls)| scope.spawn(move || run(thread, calls))).collect();
+            (0..).zip(programs).map(|(thread, calls)| scope.spawn(move || run(thread, calls))).collect();
         started.into_iter().map(|it| it.join().expect("a thread")).collect()
+    })
+}
+
+/// The same, where none begins before all threads are there.
+fn together<T: Send>(programs: &[Vec<Call>], run: impl Fn(u64, &[Call]) -> T + Sync) -> Vec<T> {
+    let there = AtomicUsize::new(0);
+    at_once(programs, |thread, calls| {
+        meet(&there, programs.len());
+        run(thread, calls)
     })
 }
 
 fn run(kind: Kind, wanted: &Wanted) {
     let set = Set::new(kind, wanted.threads, wanted.quota);
-    let replies = at_once(wanted, |thread, calls| {
+    let replies = at_once(&wanted.programs(), |thread, calls| {
         let mut seat = Seat { thread, used: 0 };
         calls.iter().map(|call| set.call(&mut seat, *call)).collect::<Vec<_>>()
     });
@@ -131,7 +155,7 @@ fn tell(name: &str, spent: Spent) {
 /// One reading of the clock for each call.
 fn each(kind: Kind, wanted: &Wanted) {
     let set = Set::new(kind, wanted.threads, wanted.quota);
-    let spent = at_once(wanted, |thread, calls| {
+    let spent = together(&wanted.programs(), |thread, calls| {
         let mut seat = Seat { thread, used: 0 };
         let mut spent = [Spent::default(); OPS.len()];
         let mut before = Instant::now();
@@ -149,19 +173,27 @@ fn each(kind: Kind, wanted: &Wanted) {
     }
 }
 
-/// Two readings of the clock for each thread.
-fn whole(wanted: &Wanted, make_calls: impl Fn(u64, &[Call]) + Sync) {
-    let spent = at_once(wanted, |thread, calls| {
-        let before = Instant::now();
-        make_calls(thread, calls);
-        Spent { calls: calls.len() as u64, nanoseconds: before.elapsed().as_nanos() as u64, left_out: 0 }
-    });
-    tell("all", spent.into_iter().fold(Spent::default(), Spent::and));
+/// Rounds of all calls, each on a new set, timed from the first thread's first call to the last one's last.
+fn whole<S: Sync>(wanted: &Wanted, new: impl Fn() -> S, make_calls: impl Fn(&S, u64, &[Call]) + Sync) {
+    let programs = wanted.programs();
+    let (mut calls, mut spent) = (0, Duration::ZERO);
+    while spent < ENOUGH {
+        let set = new();
+        let times = together(&programs, |thread, calls| {
+            let before = Instant::now();
+            make_calls(&set, thread, calls);
+            (before, Instant::now())
+        });
+        let began = times.iter().map(|it| it.0).min().expect("a thread");
+        let ended = times.iter().map(|it| it.1).max().expect("a thread");
+        calls += wanted.threads * wanted.calls;
+        spent += ended - began;
+    }
+    tell("all", Spent { calls, nanoseconds: spent.as_nanos() as u64, left_out: 0 });
 }
 
 fn whole_of_list(kind: Kind, wanted: &Wanted) {
-    let set = Set::new(kind, wanted.threads, wanted.quota);
-    whole(wanted, |thread, calls| {
+    whole(wanted, || Set::new(kind, wanted.threads, wanted.quota), |set, thread, calls| {
         let mut seat = Seat { thread, used: 0 };
         for call in calls {
             std::hint::black_box(set.call(&mut seat, *call));
@@ -169,15 +201,29 @@ fn whole_of_list(kind: Kind, wanted: &Wanted) {
     });
 }
 
-fn whole_of_tree(wanted: &Wanted) {
-    let tree = Mutex::new(BTreeSet::new());
-    whole(wanted, |_, calls| {
+/// What a call makes of a tree that it may change.
+fn change(tree: &mut BTreeSet<u32>, call: &Call) -> bool {
+    match call.op {
+        Op::Add => tree.insert(call.key),
+        Op::Remove => tree.remove(&call.key),
+        Op::Contains => tree.contains(&call.key),
+    }
+}
+
+fn whole_of_mutex_tree(wanted: &Wanted) {
+    whole(wanted, || Mutex::new(BTreeSet::new()), |tree, _, calls| {
         for call in calls {
-            let mut tree = tree.lock().expect("no thread panics");
+            std::hint::black_box(change(&mut tree.lock().expect("no thread panics"), call));
+        }
+    });
+}
+
+fn whole_of_rwlock_tree(wanted: &Wanted) {
+    whole(wanted, || RwLock::new(BTreeSet::new()), |tree, _, calls| {
+        for call in calls {
             std::hint::black_box(match call.op {
-                Op::Add => tree.insert(call.key),
-                Op::Remove => tree.remove(&call.key),
-                Op::Contains => tree.contains(&call.key),
+                Op::Contains => tree.read().expect("no thread panics").contains(&call.key),
+                _ => change(&mut tree.write().expect("no thread panics"), call),
             });
         }
     });
@@ -189,7 +235,8 @@ fn main() {
     match (words[0].as_str(), words[1].as_str()) {
         ("run", kind) => run(Kind::named(kind), &wanted),
         ("each", kind) => each(Kind::named(kind), &wanted),
-        ("whole", "tree") => whole_of_tree(&wanted),
+        ("whole", "mutex-tree") => whole_of_mutex_tree(&wanted),
+        ("whole", "rwlock-tree") => whole_of_rwlock_tree(&wanted),
         ("whole", kind) => whole_of_list(Kind::named(kind), &wanted),
         (word, _) => panic!("no {word} here"),
     }

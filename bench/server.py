@@ -4,6 +4,7 @@ import contextlib
 import os
 import shutil
 import socket
+import statistics
 import subprocess
 import sys
 import tempfile
@@ -85,7 +86,7 @@ def loaded(load, protocol, server, clients, at_once):
 
 
 def server():
-    """The table of servers, the best of some rounds in turn."""
+    """Servers: thousand requests a second and the 99th of 100 of the microseconds of a write, the median of some rounds in turn."""
     tool = built("listset")
     servers = {kind: ("listset", lambda clients, kind=kind: listset(tool, kind, clients)) for kind in kinds(tool)}
     program = shutil.which("redis-server")
@@ -93,17 +94,15 @@ def server():
         servers["redis"] = "redis", lambda clients: redis(program, None, clients)
     else:
         print("bench: redis-server is not installed (Debian: apt-get install redis-server), so its row is left out", file=sys.stderr)
+    loads = [(many, at_once) for at_once in REQUESTS for many in CLIENTS]
+    heading("Server", *(it for many, at_once in loads for it in (f"{many} client{'s'[:many > 1]}, {at_once} at once", "p99")))
+    cells = {name: [] for name in servers}
     with tempfile.TemporaryDirectory() as room:
         load = compiled("load.rs", room)
-        for at_once in REQUESTS:
-            print(f"\n{at_once} request{'s'[:at_once > 1]} at once, best of {ROUNDS} rounds in turn:\n")
-            heading("Server", *(f"{many} client{'s'[:many > 1]}: {what}" for many in CLIENTS for what in
-                    ("requests a second", "p50 / p99", "processor a request")))
-            cells = {name: [] for name in servers}
-            for many in CLIENTS:
-                rounds = [{name: loaded(load, *way, many, at_once) for name, way in servers.items()} for _ in range(ROUNDS)]
-                for name in servers:
-                    rate, median, late, spent = max(it[name] for it in rounds)
-                    cells[name] += [f"{rate:,.0f}", f"{median:.0f} / {late:.0f} us", f"{spent:.2f} us"]
-            for name, told in cells.items():
-                row(name, *told)
+        for many, at_once in loads:
+            rounds = [{name: loaded(load, *way, many, at_once) for name, way in servers.items()} for _ in range(ROUNDS)]
+            for name in servers:
+                rate, _, late, _ = (statistics.median(it) for it in zip(*(it[name] for it in rounds)))
+                cells[name] += [f"{rate / 1000:.0f}", f"{late:.0f}"]
+    for name, told in cells.items():
+        row(name, *told)

@@ -1,22 +1,111 @@
-"""What running threads cost: whole programs, calls by kind, and calls at several sizes of the set."""
+"""What running threads cost: whole programs, calls by kind, rounds of calls under contention, and at several sizes of the set."""
 
 import os
+import shutil
+import statistics
 import subprocess
 import sys
 import tempfile
 
-from measuring import CALLS, RUNS, SEED, built, compiled, heading, kinds, least, row, seconds_of
+from measuring import BENCH, CALLS, RUNS, SEED, built, compiled, heading, kinds, row, seconds_of
 
 THREADS = (1, 4)
 QUOTA, KEYS = "5000", "1000"
+SIZES = (16, 64, 256, 1000)
+MANY_CALLS, MOST_QUOTA = "60000", "16384"
+MANY_RUNS = 25
 
 
 def threads():
-    """The tables of running threads: programs of 10,000 calls each on a thousand keys."""
+    """Whole programs, from opening to the keys, by the processor: milliseconds beside the list by hand, the median of some runs in
+    turn."""
+    tool = built("listset")
+    heading("List", *(cell for many in THREADS for cell in (named(many), "by hand", "ratio")))
     with tempfile.TemporaryDirectory() as room:
         peer = compiled("peer.rs", room)
-        whole_programs(peer)
-        calls_by_kind(peer)
+        for kind in kinds(tool):
+            cells = []
+            for many in THREADS:
+                values = ["run", kind, str(many), QUOTA, CALLS, KEYS, SEED]
+                programs = [tool, *values], [peer, *values]
+                if many == 1 and len(set(map(printed, programs))) > 1:
+                    sys.exit(f"bench: {' '.join(values)}: the programs print different counts")
+                ours, hand = medians([seconds_of(it, os.devnull, os.devnull, 0) for it in programs] for _ in range(MANY_RUNS))
+                cells += f"{1000 * ours:.1f}", f"{1000 * hand:.1f}", f"{ours / hand:.2f}"
+            row(kind, *cells)
+
+
+def calls():
+    """Calls by kind: their time beside that of the list by hand, by the loops, and by the interpreter; the median of some runs in turn."""
+    timer, tool, kind_names = built("bench_calls"), built("listset"), ("add", "remove", "contains")
+    heads = (f"`{call}`" + f", {named(many)}" * (call == "add") for many in THREADS for call in kind_names)
+    heading("List", *heads, "interpreter, 1 thread")
+    with tempfile.TemporaryDirectory() as room:
+        peer = compiled("peer.rs", room)
+        for kind in kinds(tool):
+            ratios = []
+            for many in THREADS:
+                values = [str(many), QUOTA, CALLS, KEYS, SEED]
+                programs = [timer, kind, "loops", *values], [peer, "each", kind, *values]
+                loop, hand = zip(*([nanoseconds(it) for it in programs] for _ in range(MANY_RUNS)))
+                ratios += (median_of(loop, call) / median_of(hand, call) for call in kind_names)
+            values = ["1", QUOTA, CALLS, KEYS, SEED]
+            programs = [timer, kind, "steps", *values], [peer, "each", kind, *values]
+            steps, hand = medians([nanoseconds(it)["all"] for it in programs] for _ in range(RUNS))
+            row(kind, *(f"{it:.2f}" for it in [*ratios, steps / hand]))
+
+
+def contention():
+    """Calls a second in four threads beside those of the list by hand, at several sizes: the median of some runs in turn, and half the
+    way from the first quarter of the ratios to the last."""
+    tool, many = built("listset"), THREADS[-1]
+    heading("List", *(f"{size:,}" + " keys" * (size == SIZES[0]) for size in SIZES))
+    with tempfile.TemporaryDirectory() as room:
+        sets = programs_of(room)
+        for kind in kinds(tool):
+            ours, by_hand = sets[kind], sets[f"{kind}, by hand"]
+            cells = []
+            for size in SIZES:
+                runs = [[rate(it, many, size) for it in (ours, by_hand)] for _ in range(MANY_RUNS)]
+                ratio = statistics.median(it[0] for it in runs) / statistics.median(it[1] for it in runs)
+                low, _, high = statistics.quantiles([it[0] / it[1] for it in runs])
+                cells.append(f"{ratio:.2f}±{(high - low) / 2:.2f}")
+            row(kind, *cells)
+
+
+def sizes():
+    """Millions of calls a second at several sizes, drawn from so many keys of which about half are in the set: the median of some runs
+    in turn."""
+    heading("Set", *(f"{size:,}" + f" keys, {named(many)}" * (size == SIZES[0]) for many in THREADS for size in SIZES))
+    with tempfile.TemporaryDirectory() as room:
+        sets = {name: words for name, words in programs_of(room).items() if "by hand" not in name}
+        found = {name: [] for name in sets}
+        for many in THREADS:
+            for size in SIZES:
+                runs = ([rate(it, many, size) for it in sets.values()] for _ in range(RUNS))
+                for name, calls_a_second in zip(sets, medians(runs)):
+                    found[name].append(f"{calls_a_second / 1e6:.1f}")
+        for name, rates in found.items():
+            row(name, *rates)
+
+
+def programs_of(room):
+    """Of each set the words of the program that times rounds of its calls, but for their numbers."""
+    timer, tool, peer = built("bench_calls"), built("listset"), compiled("peer.rs", room)
+    sets = {}
+    for kind in kinds(tool):
+        sets |= {kind: [timer, kind, "whole"], f"{kind}, by hand": [peer, "whole", kind]}
+    sets |= {"`Mutex<BTreeSet>`": [peer, "whole", "mutex-tree"], "`RwLock<BTreeSet>`": [peer, "whole", "rwlock-tree"]}
+    if shutil.which("javac"):
+        subprocess.run(["javac", "-d", room, f"{BENCH}/SkipList.java"], check=True)
+        sets["Java's `ConcurrentSkipListSet`"] = ["java", "-cp", room, "SkipList"]
+    else:
+        print("bench: no javac is installed, so the row of ConcurrentSkipListSet is left out", file=sys.stderr)
+    return sets
+
+
+def named(many):
+    return f"{many} thread{'s'[:many > 1]}"
 
 
 def printed(words):
@@ -24,67 +113,26 @@ def printed(words):
     return subprocess.run(words, stdin=subprocess.DEVNULL, capture_output=True, text=True, check=True).stdout
 
 
-def whole_programs(peer):
-    """The table of whole programs, from opening to the keys, by the processor. In one thread both print the same."""
-    tool = built("listset")
-    print("\nWhole programs, by the processor:\n")
-    heading("List", "Threads", "`listset run`", "By hand", "Ratio")
-    for kind in kinds(tool):
-        for many in THREADS:
-            values = ["run", kind, str(many), QUOTA, CALLS, KEYS, SEED]
-            programs = [tool, *values], [peer, *values]
-            if many == 1 and len(set(map(printed, programs))) > 1:
-                sys.exit(f"bench: {' '.join(values)}: the programs print different counts")
-            ours, hand = least([seconds_of(it, os.devnull, os.devnull, 0) for it in programs] for _ in range(RUNS))
-            row(kind, str(many), f"{1000 * ours:.1f} ms", f"{1000 * hand:.1f} ms", f"{ours / hand:.2f}")
+def medians(rows):
+    """The median of each column."""
+    return [statistics.median(column) for column in zip(*rows)]
+
+
+def median_of(runs, call):
+    return statistics.median(it[call] for it in runs)
 
 
 def nanoseconds(words):
-    """Of each kind of call, the nanoseconds of one, as a run of bench_calls or of peer.rs tells them, which leave out the calls in
-    which the processor was taken away; none where the program does not know the words."""
+    """Of each kind of call, or of all, the nanoseconds of one, as a run of bench_calls, of peer.rs or of SkipList.java tells them, which
+    leave out the calls in which the processor was taken away."""
     run = subprocess.run(words, stdin=subprocess.DEVNULL, capture_output=True, text=True, check=True)
-    many = {kind: int(calls) for kind, calls in map(str.split, run.stdout.splitlines() if run.stderr else [])}
+    many = {kind: int(calls) for kind, calls in map(str.split, run.stdout.splitlines())}
     spent = {kind: (int(time), int(left)) for kind, time, left in map(str.split, run.stderr.splitlines())}
-    return {kind: spent[kind][0] / max(1, many[kind] - spent[kind][1]) for kind in many}
+    told = {kind: spent[kind][0] / max(1, many[kind] - spent[kind][1]) for kind in many}
+    total = sum(time for time, _ in spent.values()) / max(1, sum(many.values()) - sum(left for _, left in spent.values()))
+    return {"all": total, **told}
 
 
-def calls_by_kind(peer):
-    """The table of calls by kind: nanoseconds by the loop, by the interpreter where `stepped_lists` has the list, and by hand; the
-    least of some runs in turn."""
-    timer, tool = built("bench_calls"), built("listset")
-    print("\nCalls by kind:\n")
-    heading("List", "Call", "Threads", "The loop", "The interpreter", "By hand", "Loop to hand", "Interpreter to hand")
-    for kind in kinds(tool):
-        for many in THREADS:
-            values = [str(many), QUOTA, CALLS, KEYS, SEED]
-            programs = [timer, kind, "loops"], [timer, kind, "steps"], [peer, "each", kind]
-            runs = [[nanoseconds([*program, *values]) for program in programs] for _ in range(RUNS)]
-            for call in ("add", "remove", "contains"):
-                loop, steps, hand = least([told.get(call, 0) for told in run] for run in runs)
-                stepped = (f"{steps:,.0f} ns", f"{steps / hand:.2f}") if steps else ("", "")
-                row(kind, f"`{call}`", str(many), f"{loop:,.0f} ns", stepped[0], f"{hand:,.0f} ns", f"{loop / hand:.2f}", stepped[1])
-
-
-SIZES = (16, 64, 256, 1000)
-MANY_CALLS, MOST_QUOTA = "60000", "16384"
-
-
-def sizes():
-    """The table of calls a second at several sizes: drawn from so many keys, of which about half are in the set."""
-    timer, tool = built("bench_calls"), built("listset")
-    with tempfile.TemporaryDirectory() as room:
-        peer = compiled("peer.rs", room)
-        sets = {f"{kind}{by}": words for kind in kinds(tool) for by, words in
-                (("", [timer, kind, "whole"]), (", by hand", [peer, "whole", kind]))}
-        sets["`Mutex<BTreeSet>`"] = [peer, "whole", "tree"]
-        for many in THREADS:
-            print(f"\nCalls a second, {many} thread{'s'[:many > 1]}, drawn from so many keys:\n")
-            heading("Set", *(f"{size:,} keys" for size in SIZES))
-            values = {size: [str(many), MOST_QUOTA, MANY_CALLS, str(size), SEED] for size in SIZES}
-            found = {name: [] for name in sets}
-            for size in SIZES:
-                runs = [[nanoseconds([*words, *values[size]])["all"] for words in sets.values()] for _ in range(RUNS)]
-                for name, spent in zip(sets, least(runs)):
-                    found[name].append(f"{many * 1e9 / spent:,.0f}")
-            for name, rates in found.items():
-                row(name, *rates)
+def rate(words, many, size):
+    """Calls a second of so many threads together, by rounds of 100 ms and more."""
+    return 1e9 / nanoseconds([*words, str(many), MOST_QUOTA, MANY_CALLS, str(size), SEED])["all"]

@@ -19,7 +19,11 @@ use std::time::Clock;
 
 /// Holds each of two threads at its first step until the other has made one too.
 impl<'a, R: Clock> Pause for Meeting<'a, R> {
-    fn moved(&self, thread: u32, _failed: bool) {
+    fn moved(&self, thread: u32) {
+        let _has_met = self.come(thread);
+    }
+
+    fn failed(&self, thread: u32) {
         let _has_met = self.come(thread);
     }
 }

@@ -32,12 +32,22 @@ impl Count {
     }
 }
 
-impl Pause for Count {
-    fn moved(&self, thread: u32, failed: bool) {
+impl Count {
+    fn count(&self, is_wrong: bool) {
         self.steps.set(self.steps.get().wrapping_add(1));
-        if thread != self.thread || failed {
+        if is_wrong {
             self.wrong.set(self.wrong.get().wrapping_add(1));
         }
+    }
+}
+
+impl Pause for Count {
+    fn moved(&self, thread: u32) {
+        self.count(thread != self.thread);
+    }
+
+    fn failed(&self, _thread: u32) {
+        self.count(true);
     }
 }
 

@@ -98,6 +98,13 @@ impl<'a, R: Clock> Stopping<'a, R> {
         self.missed.store(true, Ordering::SeqCst);
     }
 
+    fn asked(&self, thread: u32, failed: bool) {
+        let told = if thread == 0 { &self.zero } else { &self.one };
+        if told.stops(failed) {
+            self.wait(thread);
+        }
+    }
+
     /// Each thread that was to stop did, and none waited in vain.
     fn was_held(&self) -> bool {
         let zero = self.zero.stops_at == NEVER || self.zero.has_stopped.load(Ordering::SeqCst);
@@ -106,27 +113,12 @@ impl<'a, R: Clock> Stopping<'a, R> {
 }
 
 impl<'a, R: Clock> Pause for Stopping<'a, R> {
-    fn moved(&self, thread: u32, failed: bool) {
-        let told = if thread == 0 { &self.zero } else { &self.one };
-        if told.stops(failed) {
-            self.wait(thread);
-        }
+    fn moved(&self, thread: u32) {
+        self.asked(thread, false);
     }
-}
 
-/// Is to be asked after the failed steps alone.
-#[derive(Drop)]
-struct Seldom<'a, R> {
-    stopping: &'a Stopping<'a, R>,
-}
-
-impl<'a, R: Clock> Pause for Seldom<'a, R> {
-    const EACH_STEP: bool = false;
-
-    fn moved(&self, thread: u32, failed: bool) {
-        if failed {
-            self.stopping.moved(thread, true);
-        }
+    fn failed(&self, thread: u32) {
+        self.asked(thread, true);
     }
 }
 
@@ -148,12 +140,11 @@ fn calls<M: Running, R: Wait + Clock, P: Pause>(
 }
 
 /// Seats 0 and 1 make a call each, in two threads: the thread that stops first begins, and the other once it has stopped.
-fn both_call<M: Running + Send + Sync, R: Threads + Wait + Clock + Sync, P: Pause + Sync>(
+fn both_call<M: Running + Send + Sync, R: Threads + Wait + Clock + Sync>(
     rt: &R,
     set: &LiveSet<M>,
     seats: (Seat<M>, Seat<M>),
     both: (Call, Call),
-    pause_of_zero: &P,
     stopping: &Stopping<'_, R>,
 ) -> (Reply, Reply)
     requires { (seats.0.set ≡ set.now) × (seats.1.set ≡ set.now) }
@@ -169,7 +160,7 @@ fn both_call<M: Running + Send + Sync, R: Threads + Wait + Clock + Sync, P: Paus
     let of_one = (one_starts, &stopping.one.has_ended);
     join(
         rt,
-        move || calls(rt, set, zero, both.0, pause_of_zero, of_zero),
+        move || calls(rt, set, zero, both.0, stopping, of_zero),
         move || calls(rt, set, one, both.1, stopping, of_one),
     )
 }
@@ -179,34 +170,23 @@ fn waits_at_a_lock<M: Running + Send + Sync, R: Threads + Wait + Clock + Abort +
     rt: &R,
     alloc: Global,
     locks_at: u64,
-    seldom: bool,
 ) {
     let (set, zero, one) = two_seats::<M, R>(rt, alloc);
     let stopping = Stopping::new(rt, NEVER, locks_at);
     let adds = (Call::Add(Key(2)), Call::Add(Key(1)));
     let seats = (zero, one);
-    let replies = if seldom {
-        let pause = Seldom {
-            stopping: &stopping,
-        };
-        both_call(rt, &set, seats, adds, &pause, &stopping)
-    } else {
-        both_call(rt, &set, seats, adds, &stopping, &stopping)
-    };
+    let replies = both_call(rt, &set, seats, adds, &stopping);
     assert!(rt; replies.0 == Reply::True && replies.1 == Reply::True);
     assert!(rt; stopping.was_held() && stopping.zero.has_failed_thrice());
     assert!(rt; stopping.one.failed.load(Ordering::SeqCst) == 0);
 }
 
-/// Also a pause that is to be asked after failed steps alone.
 #[test]
 fn a_pause_is_told_of_each_try_at_a_lock_that_another_seat_has(rt: HostRuntime) {
-    for &seldom in &[false, true] {
-        waits_at_a_lock::<CoarseList, HostRuntime>(&rt, rt.alloc(), 0, seldom);
-        waits_at_a_lock::<FineList, HostRuntime>(&rt, rt.alloc(), 0, seldom);
-        waits_at_a_lock::<OptimisticList, HostRuntime>(&rt, rt.alloc(), 2, seldom);
-        waits_at_a_lock::<LazyList, HostRuntime>(&rt, rt.alloc(), 2, seldom);
-    }
+    waits_at_a_lock::<CoarseList, HostRuntime>(&rt, rt.alloc(), 0);
+    waits_at_a_lock::<FineList, HostRuntime>(&rt, rt.alloc(), 0);
+    waits_at_a_lock::<OptimisticList, HostRuntime>(&rt, rt.alloc(), 2);
+    waits_at_a_lock::<LazyList, HostRuntime>(&rt, rt.alloc(), 2);
 }
 
 /// A key that is there before, the calls of seats 0 and 1, the steps after which they stop, their replies, and of the call of
@@ -229,7 +209,7 @@ fn is_told<M: Running + Send + Sync, R: Threads + Wait + Clock + Abort + Sync>(
     let (set, mut zero, one) = two_seats::<M, R>(rt, alloc);
     add(rt, &set, &mut zero, row.before, Reply::True);
     let stopping = Stopping::new(rt, row.stops_at.0, row.stops_at.1);
-    let replies = both_call(rt, &set, (zero, one), row.calls, &stopping, &stopping);
+    let replies = both_call(rt, &set, (zero, one), row.calls, &stopping);
     assert!(rt; stopping.was_held(), "{}", row.steps);
     assert!(rt; replies == row.replies, "{}", row.steps);
     assert!(rt; stopping.zero.failed.load(Ordering::SeqCst) == 0);

@@ -18,9 +18,7 @@ impl<'a, M: Machine, O: Origin, P: Pause> Caller<'a, M, O, P> {
     /// Asks the pause, after a step that did not answer. A step that never answers does so itself.
     #[inline(always)]
     pub fn goes_on(&self) {
-        if P::EACH_STEP {
-            self.pause.moved(self.slots.thread, false);
-        }
+        self.pause.moved(self.slots.thread);
     }
 
     /// Loads the key word of a node.
@@ -69,7 +67,7 @@ impl<'a, M: Machine, O: Origin, P: Pause> Caller<'a, M, O, P> {
         ensures { HasStepped M.table O.begun place.old value place.new }
     {
         store_on::<M>(self.table, place, word, value);
-        self.pause.moved(self.slots.thread, false);
+        self.goes_on();
     }
 
     /// Writes the key word of a node.
@@ -113,7 +111,7 @@ impl<'a, M: Machine, O: Origin, P: Pause> Caller<'a, M, O, P> {
     {
         let seen = exchange_on::<M>(self.table, place, word, old, new);
         if seen != old {
-            self.pause.moved(self.slots.thread, true);
+            self.pause.failed(self.slots.thread);
             return false;
         }
         true
@@ -162,10 +160,11 @@ impl<'a, M: Machine, O: Origin, P: Pause> Caller<'a, M, O, P> {
         let own = u64::from(self.slots.thread) + 1;
         for _ in 0..N::MOST {
             let seen = exchange_on::<M>(self.table, place, word, 0, own);
-            self.pause.moved(self.slots.thread, seen != 0);
             if seen == 0 {
+                self.goes_on();
                 return Some(());
             }
+            self.pause.failed(self.slots.thread);
         }
         None
     }
@@ -177,9 +176,11 @@ impl<'a, M: Machine, O: Origin, P: Pause> Caller<'a, M, O, P> {
         ensures { IfSome result (λ _. HasStepped M.table O.begun place.old 0 place.new) }
     {
         let seen = exchange_on::<M>(self.table, place, word, 0, u64::from(self.slots.thread) + 1);
-        self.pause.moved(self.slots.thread, seen != 0);
         if seen != 0 {
+            self.pause.failed(self.slots.thread);
             self.wait_for::<N>(place, word)?;
+        } else {
+            self.goes_on();
         }
         Some(())
     }
@@ -203,9 +204,11 @@ impl<'a, M: Machine, O: Origin, P: Pause> Caller<'a, M, O, P> {
     {
         let own = u64::from(self.slots.thread) + 1;
         let seen = exchange_first::<M, Brand>(self.table, place, self.call, word, 0, own);
-        self.pause.moved(self.slots.thread, seen != 0);
         if seen != 0 {
+            self.pause.failed(self.slots.thread);
             self.wait_for::<N>(place, word)?;
+        } else {
+            self.goes_on();
         }
         Some(())
     }
@@ -218,7 +221,7 @@ impl<'a, M: Machine, O: Origin, P: Pause> Caller<'a, M, O, P> {
         ensures { Holds M.table O.begun (M.table.feed (first M.table O.begun self.now.slots) result).local place.new }
     {
         let seen = load_first::<M, Brand>(self.table, place, self.call, link_index(0));
-        self.pause.moved(self.slots.thread, false);
+        self.goes_on();
         seen
     }
 

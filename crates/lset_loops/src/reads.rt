@@ -101,7 +101,9 @@ pub fn contains_on<M: ReadsByRows, P: Pause>(
 struct Unasked;
 
 impl Pause for Unasked {
-    fn moved(&self, _thread: u32, _failed: bool) {}
+    fn moved(&self, _thread: u32) {}
+
+    fn failed(&self, _thread: u32) {}
 }
 
 /// The same with no pause.

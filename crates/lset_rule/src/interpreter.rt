@@ -3,60 +3,20 @@ ghost use Rattle.std.specs.Prelude.{IfSome};
 ghost use Rattle.lset_words.specs.declared.Call.TheVariants.{Contains};
 ghost use Rattle.lset_rule.specs.Seats.{HasCalled, MayCall};
 
+use crate::pause::Pause;
 use crate::rounds::{Countless, Rounds, or_wait_forever};
 use crate::row_steps::{Stepped, has_failed, one_step};
 use crate::slots::OwnSlots;
 use crate::word_steps::{TableSeat, Words, start_on};
-use crossbeam_utils::Backoff;
 use lset_steps::{Machine, OpenReads};
 use lset_words::{Call, Key, Reply};
 use std::marker::Brand;
 use std::sync::Wait;
 
-/// What a call does between two steps of its own. No contract rests on it: it sees no word and no seat, and changes how
-/// long a call takes and nothing else.
-pub trait Pause {
-    /// Whether it has to be asked after each step that does not answer. Where it has not, only a failed one is sure to ask
-    /// it, and a call is faster by the questions that are left out.
-    const EACH_STEP: bool = true;
-
-    /// Asked after a step that does not answer: after each one, or after the failed ones, as [`Pause::EACH_STEP`] says.
-    /// `thread` is the number of the caller's thread, and `failed` says that the step was an exchange that found another
-    /// value than it looked for, as at a lock that is taken.
-    fn moved(&self, thread: u32, failed: bool);
-}
-
-/// Backs off after each failed exchange, longer each time: `Backoff` of `crossbeam_utils`, which spins at first and then
-/// yields the processor. One is made for each call.
-#[derive(Drop)]
-pub struct Spin {
-    backoff: Backoff,
-}
-
-impl Spin {
-    /// A pause to which nothing has failed yet.
-    pub fn new() -> Spin {
-        Spin {
-            backoff: Backoff::new(),
-        }
-    }
-}
-
-impl Pause for Spin {
-    /// It does nothing after a step that did not fail.
-    const EACH_STEP: bool = false;
-
-    fn moved(&self, _thread: u32, failed: bool) {
-        if failed {
-            self.backoff.snooze();
-        }
-    }
-}
-
 /// Makes a whole call, step by step, in at most `N::MOST` rounds of two steps each; `None` where it has not answered then.
 ///
 /// `place` is the place of an idle seat of these words, and `slots` are those of its thread, as the last call left them.
-/// `pause` is asked after each step that does not answer, or after the failed ones alone, as [`Pause::EACH_STEP`] says.
+/// `pause` is asked after each step that does not answer.
 ///
 /// An answer is the slots as this call leaves them, and the reply: of a call of the machine, begun after all that the place
 /// had seen, by which the record of the place grew. After `None` the call is still under way, with the locks that it has,
@@ -85,15 +45,19 @@ pub fn interpret_within<M: Machine, P: Pause, N: Rounds>(
         if let Some(reply) = last.fed.answer {
             return Some((OwnSlots::of(&last.fed.local), reply));
         }
-        if P::EACH_STEP || last.failed {
-            pause.moved(last.fed.local.thread, last.failed);
+        if last.failed {
+            pause.failed(last.fed.local.thread);
+        } else {
+            pause.moved(last.fed.local.thread);
         }
         let next = one_step::<M, 1>(table, place, &last.fed.local);
         if let Some(reply) = next.fed.answer {
             return Some((OwnSlots::of(&next.fed.local), reply));
         }
-        if P::EACH_STEP || next.failed {
-            pause.moved(next.fed.local.thread, next.failed);
+        if next.failed {
+            pause.failed(next.fed.local.thread);
+        } else {
+            pause.moved(next.fed.local.thread);
         }
         last = one_step::<M, 2>(table, place, &next.fed.local);
     }

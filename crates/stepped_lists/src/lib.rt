@@ -19,14 +19,17 @@ impl<M: Machine> Machine for Stepped<M> {
 
     ghost table = { M.table };
 
+    #[inline(always)]
     fn begin(call: Call, local: &Local) -> Local {
         M::begin(call, local)
     }
 
+    #[inline(always)]
     fn next(local: &Local) -> Action {
         M::next(local)
     }
 
+    #[inline(always)]
     fn feed(local: &Local, seen: u64) -> Fed {
         M::feed(local, seen)
     }
