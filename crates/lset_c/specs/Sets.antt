@@ -1,8 +1,7 @@
 -- What a seat of C holds: its list, its set, the set's number, its seats; and what is done with them.
-use Rattle.std.specs.Prelude.{◌≡◌, ◌≤◌, ◌<◌, ◌⊎◌, ◌+◌, ◌++◌, ℕ, zero, suc, List, [], ◌∷◌, All, Option, Some, None, drop, length, map}
+use Rattle.std.specs.Prelude.{Bool, true, false, ◌≡◌, ◌≤◌, ◌<◌, ◌⊎◌, ◌+◌, ◌++◌, ℕ, zero, suc, List, [], ◌∷◌, Option, Some, None, drop, length, map, option_to_list}
 use Rattle.std.specs.List.{range_with_len}
 use Rattle.std.specs.Option.{option_map}
-use Rattle.std.specs.Prelude.{option_to_list}
 use Rattle.std.specs.Arc.{arc_value}
 use Rattle.lset_words.specs.Words.{Opening}
 use Rattle.lset_words.specs.Records.{Record}
@@ -15,7 +14,7 @@ use Rattle.lset_lock_free.specs.LockFree.{lock_free}
 use Rattle.lset_live.specs.Seats.{SetValue, SeatValue, gather_onto, held_in, new_seat}
 use Rattle.lset_live.specs.Explained.{Explains}
 use Rattle.lset_c.specs.declared.held.Held.{Held}
-use Rattle.lset_c.specs.declared.held.Held.TheVariants.{Coarse, Fine, Optimistic, Lazy, LockFree, Closed}
+use Rattle.lset_c.specs.declared.held.Held.TheVariants.{Coarse, Fine, Optimistic, Lazy, LockFree, Closed, Nothing}
 
 abbrev pub table_in : Held → Option Table
 table_in (Coarse o) = Some coarse
@@ -24,6 +23,7 @@ table_in (Optimistic o) = Some optimistic
 table_in (Lazy o) = Some lazy
 table_in (LockFree o) = Some lock_free
 table_in (Closed keys) = None
+table_in Nothing = None
 
 abbrev pub set_in : Held → Option SetValue
 set_in (Coarse o) = Some (arc_value o.set)
@@ -32,6 +32,7 @@ set_in (Optimistic o) = Some (arc_value o.set)
 set_in (Lazy o) = Some (arc_value o.set)
 set_in (LockFree o) = Some (arc_value o.set)
 set_in (Closed keys) = None
+set_in Nothing = None
 
 abbrev pub number_in : Held → Option ℕ
 number_in (Coarse o) = Some o.number
@@ -40,6 +41,7 @@ number_in (Optimistic o) = Some o.number
 number_in (Lazy o) = Some o.number
 number_in (LockFree o) = Some o.number
 number_in (Closed keys) = None
+number_in Nothing = None
 
 -- the seat that calls, and those that are to be split off
 abbrev pub seat_in : Held → Option SeatValue
@@ -49,6 +51,7 @@ seat_in (Optimistic o) = o.seat
 seat_in (Lazy o) = o.seat
 seat_in (LockFree o) = o.seat
 seat_in (Closed keys) = None
+seat_in Nothing = None
 
 abbrev pub spare_in : Held → List SeatValue
 spare_in (Coarse o) = o.spare.items
@@ -57,6 +60,7 @@ spare_in (Optimistic o) = o.spare.items
 spare_in (Lazy o) = o.spare.items
 spare_in (LockFree o) = o.spare.items
 spare_in (Closed keys) = []
+spare_in Nothing = []
 
 abbrev pub keys_in : Held → Option (List ℕ)
 keys_in (Coarse o) = None
@@ -65,10 +69,7 @@ keys_in (Optimistic o) = None
 keys_in (Lazy o) = None
 keys_in (LockFree o) = None
 keys_in (Closed keys) = Some keys.items
-
--- a seat that is to be split off is of the set, and is one seat
-abbrev pub AreOf : SetValue → List SeatValue → Type 0
-AreOf set spare = All (λ s. (s.set ≡ set) × (s.held ≡ 1)) spare
+keys_in Nothing = None
 
 -- HOW MANY SEATS of the set these are, and the record of them all
 abbrev pub count_of : Option SeatValue → List SeatValue → ℕ
@@ -104,6 +105,12 @@ pub record IsBoth (g h both : Held) : Type 0 where
 -- Seats of one number are of one set: the caller's duty where two sets are opened.
 abbrev pub Gathers : Held → Held → Type 0
 Gathers h h' = number_in h ≡ number_in h' → set_in h ≡ set_in h'
+
+-- the same of two seats of C, where both are full
+abbrev pub GathersAt : Bool → Held → Bool → Held → Type 0
+GathersAt true h true h' = Gathers h h'
+GathersAt true h false h' = Unit {0}
+GathersAt false h from h' = Unit {0}
 
 -- the table of the list that the number names
 abbrev pub table_of : ℕ → Option Table

@@ -67,7 +67,7 @@ pub fn split_onto(alloc: Global, held: &mut Held, out: &mut CSeat) -> u8
     ensures done { result ≡ 0 → (out.new.full ≡ true) × (seat_in held.new ≡ seat_in held.old) × IsBoth held.new out.new.held held.old }
     ensures refused { result ≢ 0 → (out.new.full ≡ false) × IsKept held.old held.new }
 {
-    let Ok(mut made) = Box::new(alloc, Held::nothing(alloc)) else {
+    let Ok(mut made) = Box::new(alloc, Held::Nothing) else {
         return OUT_OF_MEMORY;
     };
     let Some(split) = split_held(held, alloc) else {

@@ -41,7 +41,7 @@ pub fn call_held(held: &mut Held, call: Call) -> Option<Reply>
         Held::Optimistic(of) => of.call(call),
         Held::Lazy(of) => of.call(call),
         Held::LockFree(of) => of.call(call),
-        Held::Closed(_) => None,
+        Held::Closed(_) | Held::Nothing => None,
     }
 }
 
@@ -55,7 +55,7 @@ pub fn split_held(held: &mut Held, alloc: Global) -> Option<Held>
         Held::Optimistic(of) => Held::Optimistic(of.split(alloc)?),
         Held::Lazy(of) => Held::Lazy(of.split(alloc)?),
         Held::LockFree(of) => Held::LockFree(of.split(alloc)?),
-        Held::Closed(_) => return None,
+        Held::Closed(_) | Held::Nothing => return None,
     })
 }
 

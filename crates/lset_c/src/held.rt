@@ -1,8 +1,7 @@
 //! What a seat of C holds.
 ghost use Rattle.std.specs.Prelude.{◌≡◌, IfSome};
 ghost use Rattle.std.specs.Arc.{arc_value};
-ghost use Rattle.lset_c.specs.Facts.{seat_of_prop, spare_of_prop};
-ghost use Rattle.lset_c.specs.Sets.{AreOf};
+ghost use Rattle.lset_c.specs.Facts.{AreOf, seat_of_prop, spare_of_prop};
 
 use lset_coarse::CoarseList;
 use lset_fine::FineList;
@@ -25,7 +24,8 @@ pub struct Of<M: Bounded> {
     ghost spare_of: { AreOf (arc_value set) spare.items } by { spare_of_prop spare.items (arc_value set) },
 }
 
-/// What a seat of C holds: a seat of a set of one of the lists, or the keys of a closed set.
+/// What a seat of C holds: a seat of a set of one of the lists, or the keys of a closed set; and what stands in its place
+/// while it is taken.
 #[derive(Drop)]
 pub enum Held {
     Coarse(Of<CoarseList>),
@@ -34,11 +34,5 @@ pub enum Held {
     Lazy(Of<LazyList>),
     LockFree(Of<LockFreeList>),
     Closed(Vec<u32>),
-}
-
-impl Held {
-    /// What stands in a box while it is empty.
-    pub fn nothing(alloc: Global) -> Held {
-        Held::Closed(Vec::new(alloc))
-    }
+    Nothing,
 }

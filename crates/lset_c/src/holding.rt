@@ -4,7 +4,8 @@ ghost use Rattle.std.specs.Arc.{arc_value};
 ghost use Rattle.lset_words.specs.Words.{sizes};
 ghost use Rattle.lset_live.specs.Closes.{most_keys};
 ghost use Rattle.lset_c.specs.Calls.{HasCalledOf};
-ghost use Rattle.lset_c.specs.Sets.{AddUp, AreLeft, AreOf, OpensWith, count_of, record_of};
+ghost use Rattle.lset_c.specs.Facts.{AreOf};
+ghost use Rattle.lset_c.specs.Sets.{AddUp, AreLeft, OpensWith, count_of, record_of};
 
 use crate::codes::{OUT_OF_MEMORY, SEATS_OUT};
 use crate::held::Of;

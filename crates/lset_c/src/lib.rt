@@ -126,8 +126,8 @@ pub extern "C" fn listset_gather(alloc: Global, into: &mut CSeat, from: &mut CSe
     };
     let (kept, back) = gather_held(
         alloc,
-        replace(&mut *seat, Held::nothing(alloc)),
-        replace(&mut *other, Held::nothing(alloc)),
+        replace(&mut *seat, Held::Nothing),
+        replace(&mut *other, Held::Nothing),
     );
     *seat = kept;
     put(into, seat);
@@ -148,7 +148,7 @@ pub extern "C" fn listset_close(alloc: Global, seat: &mut CSeat) -> u8
     let Some(mut held) = take(alloc, seat) else {
         return NO_SEAT;
     };
-    let (after, code) = close_held(alloc, replace(&mut *held, Held::nothing(alloc)));
+    let (after, code) = close_held(alloc, replace(&mut *held, Held::Nothing));
     *held = after;
     put(seat, held);
     code

@@ -20,7 +20,7 @@ use denote.Triple.Entry.{alive}
 use denote.Triple.Walked.{Stays, walk_of}
 use Rattle.std.proofs.raw_atomic.Walks.{proved_at, leaves}
 use Rattle.lset_c.proofs.Seats.{seat_val, seat_own, seat_made, seat_typed}
-use Rattle.lset_c.specs.declared.held.Held.TheVariants.{Lost}
+use Rattle.lset_c.specs.declared.held.Held.TheVariants.{Nothing}
 use Rattle.lset_c.specs.contracts.seat.CSeat as seat
 use Rattle.lset_c.specs.contracts.seat.CSeat.none.{ended, clauses}
 use Rattle.lset_c.specs.contracts.seat.CSeat.none.Key.{name as #self}
@@ -38,7 +38,7 @@ none_spec 𝓤 𝓛 𝓜 𝓡 wired =
     let Λ = (tables 𝓤 H 𝓜 𝓡 𝓡.env).Λ in
     proved_at 𝓛 En₀ stays c 𝓜 𝓡 tt #self fn (compiled.unfolded 𝓤 H 𝓜 𝓡 wired) (λ z are.
     let Post : Val → SProp 𝓤 = (walk_of 𝓛 En₀ stays c).post z in
-    let x : (seat.the_row).Denot = record { full = false; at = null_ptr; held = Lost } in
+    let x : (seat.the_row).Denot = record { full = false; at = null_ptr; held = Nothing } in
     qed 𝓛 ((raw (alive 𝓛 En₀.signature z.0.0 z.0.1) ⊛ ‵ ftrue) ∷ ‵ ftrue ∷ []) ∵ move ! (1 ∷ []) $ drop ! $ split ! $ move ! (1 ∷ []) $ drop ! $
     enter ! C Λ fn [] Post $
     alloc_all ! (λ l. pass_all ! refl tt $
