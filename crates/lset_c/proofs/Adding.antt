@@ -1,13 +1,13 @@
 -- How seats and their records add up.
-use Rattle.std.proofs.Common.{◌≡◌, ℕ, ◌+◌, List, [], ◌∷◌, ◌++◌, Option, Some, None, IfSome, length, map, option_to_list, refl, sym, ap, ◌∙◌, subst, arith}
+use Rattle.std.proofs.Common.{◌≡◌, ℕ, List, [], ◌∷◌, ◌++◌, Option, Some, None, IfSome, length, map, option_to_list, refl, sym, ap, ◌∙◌, subst, arith}
 use Rattle.std.specs.List.{AllByRecursion, range_with_len}
 use Rattle.std.specs.Option.{option_map}
 use Rattle.std.proofs.lemmas.List.{map-append, length-append}
 use Rattle.std.proofs.lemmas.List.Elements.{recursion_from_All, All-from_recursion}
 use Rattle.lset_words.specs.Records.{Record, gathered}
-use Rattle.lset_live.specs.Seats.{SetValue, SeatValue, gather_onto, held_in, new_seat}
+use Rattle.lset_live.specs.Seats.{SetValue, SeatValue, gather_onto, new_seat}
 use Rattle.lset_c.specs.Facts.{AreOf}
-use Rattle.lset_c.specs.Sets.{AddUp, count_of, record_of}
+use Rattle.lset_c.specs.Sets.{AddUp}
 
 abbrev IsOf : SetValue → SeatValue → Type 0
 IsOf set s = (s.set ≡ set) × (s.held ≡ 1)
