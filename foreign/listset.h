@@ -1,8 +1,8 @@
 /* Sorted-list sets that threads share, and their judge, in one's own process.
 
-   THE JUDGE: a text in, a text out, and the exit status of the program `listset`. Each function puts what the program prints of the text, on its output or as the line about a trouble, at the front of `room`,
-   gives its length in bytes, and sets `*status`. Where the text is longer than `size` nothing is written there: ask again with a
-   room of that length, or let `listset_said` do so.
+   THE JUDGE: a text in, a text out, and the exit status of the program `listset`. Each function puts what the program prints of
+   the text, on its output or as the line about a trouble, at the front of `room`, gives its length in bytes, and sets `*status`.
+   Where the text is longer than `size` nothing is written there: ask again with a room of that length, or let `listset_said` do so.
 
        size_t length;
        uint8_t status;
@@ -24,12 +24,14 @@
        uint8_t fault = listset_open(LISTSET_LAZY, 4, 1000, 1, &none, 0, &seat);
        if (listset_add(&seat, 7) == LISTSET_TRUE) ..
 
-   What is refused, with LISTSET_NO_SEAT or a fault, and changes nothing: an empty seat where a full one is wanted, a full one where
-   an empty one is, a gather of two lists or two numbers, a close while seats are out, and sizes and keys outside their limits.
+   What is refused, with LISTSET_NO_SEAT or a fault, changes nothing: an empty seat where a full one is wanted, a full one where an
+   empty one is, a gather of two lists or two numbers, a close while seats are out, sizes and keys outside their limits, and want of
+   memory.
    The caller's part, beside the four duties above, which nothing checks:
    - a seat begins as LISTSET_NONE; only these functions write it, and it is handed over by its address, not copied;
    - one call at a time on a seat: it goes to another thread by that thread's start or join, or under a lock;
-   - two sets that are open at once have two numbers, and `listset_gather` is given two seats and not one twice.
+   - two sets that are open at once have two numbers, and `listset_split` and `listset_gather` are given two seats and
+     not one twice.
    A call waits for the locks of others: it spins, and then yields the processor. */
 #ifndef LISTSET_H
 #define LISTSET_H

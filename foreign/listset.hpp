@@ -135,11 +135,13 @@ public:
   // Takes another seat of this set in. Where it throws, both are as they were.
   void gather(seat &&from) { tell(&from == this ? uint8_t(LISTSET_NO_GATHER) : listset_gather(&raw, &from.raw)); }
 
-  // Ends the set, of which this is the only seat, and gives its keys. Where it throws, the seat is as it was.
+  // Ends the set, whose seats are all within this one, and gives its keys. Where it throws, nothing is lost: it may be called again.
   std::vector<uint32_t> close() {
-    tell(listset_close(&raw));
     uint32_t none = 0;
-    std::vector<uint32_t> keys(listset_keys(&raw, &none, 0));
+    uint8_t code = listset_close(&raw);
+    size_t count = listset_keys(&raw, &none, 0);
+    if (count == SIZE_MAX) throw fault(code);
+    std::vector<uint32_t> keys(count);
     if (!keys.empty()) listset_keys(&raw, keys.data(), keys.size());
     listset_drop(&raw);
     return keys;

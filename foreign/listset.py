@@ -203,11 +203,12 @@ class Seat:
         _told(self._call("gather", ctypes.byref(other.raw)) if other is not self else 18)
 
     def close(self):
-        """Ends the set, of which this is the only seat, and gives the keys that are left."""
-        _told(self._call("close"))
+        """Ends the set, whose seats are all within this one, and gives the keys that are left. Where it raises, nothing is lost."""
+        code, closed = self._call("close"), ctypes.byref(self.raw)
         _LIBRARY.listset_keys.restype = ctypes.c_size_t
-        closed = ctypes.byref(self.raw)
         count = _LIBRARY.listset_keys(closed, _keys([]), ctypes.c_size_t(0))
+        if count == ctypes.c_size_t(-1).value:
+            raise Fault(code)
         room = _keys([0] * count)
         _LIBRARY.listset_keys(closed, room, ctypes.c_size_t(count))
         self.drop()

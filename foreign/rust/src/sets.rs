@@ -177,7 +177,7 @@ impl Seat {
         told(code).map_err(|fault| (from, fault))
     }
 
-    /// Ends the set, of which this is the only seat, and gives the keys that are left; else the seat is given back.
+    /// Ends the set, whose seats are all within this one, and gives the keys that are left; else the seat is given back.
     pub fn close(mut self) -> Result<Vec<u32>, (Seat, Fault)> {
         if let Err(fault) = told(unsafe { listset_close(&mut self.raw) }) {
             return Err((self, fault));
