@@ -1,8 +1,8 @@
-/* The judge of sorted-list sets in one's own process: a text in, a text out, and the exit status of the program `listset`.
+/* Sorted-list sets that threads share, and their judge, in one's own process.
 
-   Each function puts what the program prints of the text, on its output or as the line about a trouble, at the front of `room`,
-   gives its length in bytes, and sets `*status`. Where the text is longer than `size` nothing is written there: ask again with a
-   room of that length, or let `listset_said` do so.
+   THE JUDGE: a text in, a text out, and the exit status of the program `listset`. Each function puts what the program prints of
+   the text, on its output or as the line about a trouble, at the front of `room`, gives its length in bytes, and sets `*status`.
+   Where the text is longer than `size` nothing is written there: ask again with a room of that length, or let `listset_said` do so.
 
        size_t length;
        uint8_t status;
@@ -13,10 +13,30 @@
    - the room overlaps no text, and no other thread writes a text, or touches the room or the status, meanwhile;
    - malloc, realloc and free are of one allocator, and align a block to each power of two up to 16 that divides its size;
    - no call comes from a signal handler, or in the forked child of a process with threads.
-   Any number of threads may call at once: a call keeps nothing, and waits for nobody. */
+   Any number of threads may call at once: a call keeps nothing, and waits for nobody.
+
+   THE SETS: a thread calls from a seat of its own. `listset_open` gives one, which has all others within it; `listset_split` takes
+   one of these out, for another thread; `listset_gather` puts a seat back into another one of its set. Where one seat has gathered
+   all, `listset_close` ends the set, and `listset_keys` gives the keys that are left.
+
+       uint32_t none;
+       listset_seat seat = LISTSET_NONE;
+       uint8_t fault = listset_open(LISTSET_LAZY, 4, 1000, 1, &none, 0, &seat);
+       if (listset_add(&seat, 7) == LISTSET_TRUE) ..
+
+   What is refused, with LISTSET_NO_SEAT or a fault, changes nothing: an empty seat where a full one is wanted, a full one where an
+   empty one is, a gather of two lists or two numbers, a close while seats are out, sizes and keys outside their limits, and want of
+   memory.
+   The caller's part, beside the four duties above, which nothing checks:
+   - a seat begins as LISTSET_NONE; only these functions write it, and it is handed over by its address, not copied;
+   - one call at a time on a seat: it goes to another thread by that thread's start or join, or under a lock;
+   - two sets that are open at once have two numbers, and `listset_split` and `listset_gather` are given two seats and
+     not one twice.
+   A call waits for the locks of others: it spins, and then yields the processor. */
 #ifndef LISTSET_H
 #define LISTSET_H
 
+#include <stdbool.h>
 #include <stddef.h>
 #include <stdint.h>
 #include <stdlib.h>
@@ -66,6 +86,66 @@ size_t listset_broken_example(const char *name, size_t length, char *room, size_
 
 /* Each line about a fault, and each cause in a sentence. */
 size_t listset_faults(char *room, size_t size, uint8_t *status);
+
+/* A seat of a set, or the keys of one that is closed, or nothing. */
+typedef struct {
+  bool full;
+  void *at;
+} listset_seat;
+
+#define LISTSET_NONE {false, NULL}
+
+/* the lists */
+enum { LISTSET_COARSE, LISTSET_FINE, LISTSET_OPTIMISTIC, LISTSET_LAZY, LISTSET_LOCK_FREE };
+
+/* replies */
+enum {
+  LISTSET_FALSE = 0,
+  LISTSET_TRUE = 1,
+  LISTSET_FULL = 2,     /* add: the key is not there, and the seat has used its quota */
+  LISTSET_AT = 3,       /* ceiling: the key is in *at */
+  LISTSET_NOTHING = 4,  /* ceiling: there is no key at or above this one */
+  LISTSET_NO_SEAT = 255 /* the seat is empty, or of a closed set */
+};
+
+/* faults; LISTSET_OK is none */
+enum {
+  LISTSET_BAD_SEATS = 10,      /* not 1 to 64 */
+  LISTSET_BAD_QUOTA = 11,      /* above 16,384 */
+  LISTSET_BAD_KEYS = 12,       /* they do not rise, or are more than 1,048,576 */
+  LISTSET_OUT_OF_MEMORY = 13,
+  LISTSET_BAD_KIND = 14,
+  LISTSET_IS_SEAT = 15,        /* `out` is full */
+  LISTSET_SEATS_OUT = 16,      /* not all seats are gathered */
+  LISTSET_NO_MORE = 17,        /* no seat is left to be split off */
+  LISTSET_NO_GATHER = 18       /* not two seats of one list and number */
+};
+
+/* Opens a set of this list, with so many seats, each of which may put in as many keys as the quota says, and with keys that rise.
+   The number tells it from other sets, as `listset_gather` asks. */
+uint8_t listset_open(uint8_t kind, uint32_t seats, uint32_t quota, uint64_t number, const uint32_t *keys, size_t count,
+                     listset_seat *out);
+
+/* Takes a seat out of this one. After a gather there is none left in it. */
+uint8_t listset_split(listset_seat *seat, listset_seat *out);
+
+/* The calls of the set: their answers are replies. */
+uint8_t listset_add(listset_seat *seat, uint32_t key);
+uint8_t listset_remove(listset_seat *seat, uint32_t key);
+uint8_t listset_contains(listset_seat *seat, uint32_t key);
+uint8_t listset_ceiling(listset_seat *seat, uint32_t key, uint32_t *at);
+
+/* Puts `from`, with all that is within it, back into the other, and empties it. */
+uint8_t listset_gather(listset_seat *into, listset_seat *from);
+
+/* Ends the set: the seat then holds its keys. They take memory; where that is refused, nothing is closed. */
+uint8_t listset_close(listset_seat *seat);
+
+/* How many keys the closed set has; they are in `room`, rising, where it has places enough. SIZE_MAX where it is no closed set. */
+size_t listset_keys(listset_seat *closed, uint32_t *room, size_t places);
+
+/* Lets go of what a seat holds, and empties it. Without all its seats a set is not closed any more. */
+void listset_drop(listset_seat *seat);
 
 /* A function that takes one text. */
 typedef size_t listset_function(const char *text, size_t length, char *room, size_t size, uint8_t *status);

@@ -1,15 +1,25 @@
-// The judge of sorted-list sets for C++17, over listset.h, which tells what each function says and what the caller owes.
+// Sorted-list sets and their judge for C++17, over listset.h, which tells what each function says and what the caller owes.
 //
 //     listset::said verdict = listset::check(report);
 //     if (!verdict.is_ok()) std::cerr << verdict.text;
+//
+//     listset::seat mine = listset::open(listset::list::lazy, 2, 1000), other = mine.split();
+//     mine.add(7);                              // and `other` in another thread
+//     mine.gather(std::move(other));
+//     std::vector<uint32_t> keys = mine.close();
 #ifndef LISTSET_HPP
 #define LISTSET_HPP
 
 #include "listset.h"
 
+#include <atomic>
 #include <initializer_list>
+#include <optional>
+#include <stdexcept>
 #include <string>
 #include <string_view>
+#include <utility>
+#include <vector>
 
 namespace listset {
 
@@ -81,6 +91,85 @@ inline said show(std::string_view given, const window &asked = {}, bool as_svg =
 inline said gen(const std::string &kind, uint32_t threads, uint32_t quota, uint32_t calls, uint32_t keys, uint64_t seed) {
   auto text = [](uint64_t number) { return std::to_string(number); };
   return of_text(listset_gen, words({kind, text(threads), text(quota), text(calls), text(keys), text(seed)}));
+}
+
+enum class list : uint8_t { coarse, fine, optimistic, lazy, lock_free };
+
+enum class added : uint8_t { not_new, is_new, full };
+
+// What listset.h has as a fault, or LISTSET_NO_SEAT: a call on a seat that was moved away, gathered or closed.
+struct fault : std::runtime_error {
+  uint8_t code;
+
+  explicit fault(uint8_t code) : std::runtime_error("listset: fault " + std::to_string(code)), code(code) {}
+};
+
+// A thread's place in a set, or nothing. It is moved and not copied; one thread uses it at a time.
+class seat {
+public:
+  seat() = default;
+  seat(seat &&other) noexcept : raw(std::exchange(other.raw, listset_seat LISTSET_NONE)) {}
+  seat &operator=(seat &&other) noexcept {
+    std::swap(raw, other.raw);
+    return *this;
+  }
+  ~seat() { listset_drop(&raw); }
+
+  // Takes a seat out of this one, for another thread.
+  seat split() {
+    seat made;
+    tell(listset_split(&raw, &made.raw));
+    return made;
+  }
+
+  added add(uint32_t key) { return static_cast<added>(replied(listset_add(&raw, key))); }
+  bool remove(uint32_t key) { return replied(listset_remove(&raw, key)) == LISTSET_TRUE; }
+  bool contains(uint32_t key) { return replied(listset_contains(&raw, key)) == LISTSET_TRUE; }
+
+  // The least key at or above this one, if there is one.
+  std::optional<uint32_t> ceiling(uint32_t key) {
+    uint32_t at = 0;
+    return replied(listset_ceiling(&raw, key, &at)) == LISTSET_AT ? std::optional<uint32_t>(at) : std::nullopt;
+  }
+
+  // Takes another seat of this set in. Where it throws, both are as they were.
+  void gather(seat &&from) { tell(&from == this ? uint8_t(LISTSET_NO_GATHER) : listset_gather(&raw, &from.raw)); }
+
+  // Ends the set, whose seats are all within this one, and gives its keys. Where it throws, nothing is lost: it may be called again.
+  std::vector<uint32_t> close() {
+    uint32_t none = 0;
+    uint8_t code = listset_close(&raw);
+    size_t count = listset_keys(&raw, &none, 0);
+    if (count == SIZE_MAX) throw fault(code);
+    std::vector<uint32_t> keys(count);
+    if (!keys.empty()) listset_keys(&raw, keys.data(), keys.size());
+    listset_drop(&raw);
+    return keys;
+  }
+
+private:
+  listset_seat raw = LISTSET_NONE;
+
+  static void tell(uint8_t code) {
+    if (code != LISTSET_OK) throw fault(code);
+  }
+
+  static uint8_t replied(uint8_t reply) {
+    if (reply == LISTSET_NO_SEAT) throw fault(reply);
+    return reply;
+  }
+
+  friend seat open(list, uint32_t, uint32_t, const std::vector<uint32_t> &);
+};
+
+// Opens a set with keys that rise, and gives a seat that has all others within it.
+inline seat open(list kind, uint32_t seats, uint32_t quota, const std::vector<uint32_t> &keys = {}) {
+  static std::atomic<uint64_t> sets{0};
+  seat made;
+  uint32_t none = 0;
+  const uint32_t *first = keys.empty() ? &none : keys.data();
+  seat::tell(listset_open(static_cast<uint8_t>(kind), seats, quota, sets++, first, keys.size(), &made.raw));
+  return made;
 }
 
 } // namespace listset

@@ -1,4 +1,4 @@
-"""The judge of sorted-list sets in this process: a text in, a text out, by liblistset.so.
+"""Sorted-list sets that threads share, and their judge in this process, by liblistset.so. The judge: a text in, a text out.
 
     import listset
 
@@ -10,10 +10,19 @@ A text is str or bytes. Where the exit status of the program `listset` would not
 program prints: the first fault of an order, the trace up to an event that is not enabled, or the line about a trouble. Any number
 of threads may call at once, and run side by side: a call lets go of Python's lock.
 
+The sets, for tests and teaching: a thread calls from a seat of its own, and one thread uses a seat at a time.
+
+    mine = listset.open_set("lazy", seats=2, quota=1000)
+    other = mine.split()
+    mine.add(7)                           # and `other` in another thread
+    mine.gather(other)
+    keys = mine.close()
+
 The library is that of the folder LISTSET_LIB where this is set, else that which `foreign/build` puts beside this file.
 """
 
 import ctypes
+import itertools
 import os
 import pathlib
 
@@ -119,3 +128,104 @@ def example(name, is_broken=False):
 def faults():
     """Each line about a fault, and each cause in a sentence."""
     return _asked("faults")
+
+
+LISTS = ["coarse", "fine", "optimistic", "lazy", "lock-free"]
+FULL, AT, NO_SEAT = 2, 3, 255  # replies; 0 and 1 are False and True
+FAULTS = {10: "the seats are not 1 to 64", 11: "the quota is above 16384", 12: "the keys do not rise or are too many",
+          13: "out of memory", 16: "not all seats are gathered", 17: "no seat is left to be split off",
+          18: "not two seats of one set", 255: "there is no seat"}
+_NUMBERS = itertools.count()
+
+
+class Fault(Exception):
+    """Why something is refused; `code` is that of listset.h."""
+
+    def __init__(self, code):
+        super().__init__(FAULTS.get(code, f"fault {code}"))
+        self.code = code
+
+
+class _Raw(ctypes.Structure):
+    _fields_ = [("full", ctypes.c_bool), ("at", ctypes.c_void_p)]
+
+
+def _told(code):
+    if code:
+        raise Fault(code)
+
+
+def _keys(keys):
+    return (ctypes.c_uint32 * max(len(keys), 1))(*keys)
+
+
+class Seat:
+    """A thread's place in a set, or nothing once it is gathered or closed."""
+
+    def __init__(self):
+        self.raw = _Raw()
+
+    def _call(self, name, *values):
+        function = getattr(_LIBRARY, f"listset_{name}")
+        function.restype = ctypes.c_uint8
+        return function(ctypes.byref(self.raw), *values)
+
+    def _reply(self, name, key, *values):
+        reply = self._call(name, ctypes.c_uint32(key), *values)
+        if reply == NO_SEAT:
+            raise Fault(reply)
+        return reply
+
+    def split(self):
+        """Takes a seat out of this one. After a gather there is none left in it."""
+        made = Seat()
+        _told(self._call("split", ctypes.byref(made.raw)))
+        return made
+
+    def add(self, key):
+        """True where the key was not there, False where it was; None where it was not and the seat has used its quota."""
+        reply = self._reply("add", key)
+        return None if reply == FULL else bool(reply)
+
+    def remove(self, key):
+        return bool(self._reply("remove", key))
+
+    def contains(self, key):
+        return bool(self._reply("contains", key))
+
+    def ceiling(self, key):
+        """The least key at or above this one, or None."""
+        at = ctypes.c_uint32()
+        return at.value if self._reply("ceiling", key, ctypes.byref(at)) == AT else None
+
+    def gather(self, other):
+        """Takes another seat of this set in, and empties it."""
+        _told(self._call("gather", ctypes.byref(other.raw)) if other is not self else 18)
+
+    def close(self):
+        """Ends the set, whose seats are all within this one, and gives the keys that are left. Where it raises, nothing is lost."""
+        code, closed = self._call("close"), ctypes.byref(self.raw)
+        _LIBRARY.listset_keys.restype = ctypes.c_size_t
+        count = _LIBRARY.listset_keys(closed, _keys([]), ctypes.c_size_t(0))
+        if count == ctypes.c_size_t(-1).value:
+            raise Fault(code)
+        room = _keys([0] * count)
+        _LIBRARY.listset_keys(closed, room, ctypes.c_size_t(count))
+        self.drop()
+        return list(room[:count])
+
+    def drop(self):
+        """Lets go of what the seat holds. Without all its seats a set is not closed any more."""
+        _LIBRARY.listset_drop.restype = None
+        _LIBRARY.listset_drop(ctypes.byref(self.raw))
+
+    __del__ = drop
+
+
+def open_set(kind, seats, quota, keys=()):
+    """Opens a set with keys that rise, and gives a seat that has all others within it."""
+    made, keys = Seat(), list(keys)
+    _LIBRARY.listset_open.restype = ctypes.c_uint8
+    sizes = [ctypes.c_uint8(LISTS.index(kind)), ctypes.c_uint32(seats), ctypes.c_uint32(quota), ctypes.c_uint64(next(_NUMBERS))]
+    _told(_LIBRARY.listset_open(*sizes, _keys(keys), ctypes.c_size_t(len(keys)), ctypes.byref(made.raw)))
+    return made

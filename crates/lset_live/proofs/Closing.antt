@@ -124,6 +124,7 @@ laws_of c l =
     let n : length c.words ≡ word_count c.sizes = ap length l.words ∙ laws.words in
     subst (λ ws. HasLaws (record { sizes = c.sizes; words = ws })) (sym l.words) record {
       few = let w = laws.words in let m = nodes_within c.sizes within in omega arith;
+      count = laws.words;
       used = used_in s;
       ordered = laws.ordered;
       head_key = laws.head_key;

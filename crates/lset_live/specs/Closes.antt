@@ -1,7 +1,7 @@
 -- What a closed set says.
-use Rattle.std.specs.Prelude.{◌≡◌, ℕ, ◌<◌, ◌≤◌, List, length}
+use Rattle.std.specs.Prelude.{◌≡◌, ℕ, ◌+◌, ◌*◌, ◌<◌, ◌≤◌, List, length}
 use Rattle.lset_words.specs.declared.TheConstants.{MOST_WORDS}
-use Rattle.lset_words.specs.Words.{lock_index, tail_word, Opening, sizes, Sizes}
+use Rattle.lset_words.specs.Words.{lock_index, tail_word, word_count, Opening, sizes, Sizes}
 use Rattle.lset_steps.specs.declared.Event.{Event}
 use Rattle.lset_steps.specs.Chain.{view, IsOrdered}
 use Rattle.lset_steps.specs.Worlds.{IsContent}
@@ -28,9 +28,14 @@ pub record IsLast (c : LastWords) : Type 0 where
 abbrev pub HasKeys : LastWords → List ℕ → Type 0
 HasKeys c keys = IsContent (view c.sizes c.words (λ t. 0)) keys
 
+-- the most keys that a set can hold: one for each slot, and the opening keys
+abbrev pub most_keys : Sizes → ℕ
+most_keys s = s.threads * s.quota + s.opening
+
 -- what the walk along the chain rests on
 pub record HasLaws (c : LastWords) : Type 0 where
   pub few : length c.words ≤ MOST_WORDS
+  pub count : length c.words ≡ word_count c.sizes
   pub used : ℕ → ℕ
   pub ordered : IsOrdered (view c.sizes c.words used)
   pub head_key : (view c.sizes c.words used).key 0 ≡ 0

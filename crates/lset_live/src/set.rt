@@ -8,7 +8,7 @@ ghost use Rattle.lset_rule.specs.Views.{IsIdle};
 ghost use Rattle.lset_rule.specs.Seats.{IsOf};
 ghost use Rattle.lset_rule.specs.Runs.{StartsWith};
 ghost use Rattle.lset_rule.specs.Rule.{left_view, right_view};
-ghost use Rattle.lset_live.specs.Closes.{HasKeys};
+ghost use Rattle.lset_live.specs.Closes.{HasKeys, most_keys};
 ghost use Rattle.lset_live.specs.Explained.{Explains, HasAnswered};
 ghost use Rattle.lset_words.specs.Records.{gathered};
 ghost use Rattle.lset_live.specs.Seats.{is_true, reply_of};
@@ -70,6 +70,13 @@ impl<M: Machine> LiveSet<M> {
         ensures range { result ≤ MOST_QUOTA }
     {
         self.quota
+    }
+
+    /// The most keys that the set can hold: one for each slot of each thread, and the opening keys.
+    pub fn most_keys(&self) -> usize
+        ensures { result ≡ most_keys (sizes self.now.shape) }
+    {
+        self.threads as usize * self.quota as usize + self.opening as usize
     }
 }
 
@@ -205,6 +212,7 @@ impl<M: Machine> LiveSet<M> {
     pub fn close(self, seat: Seat<M>) -> Result<Closed, SeatsOut<M>>
         requires { seat.set ≡ self }
         ensures all { IfOk result (λ c. seat.held ≡ self.shape.threads) }
+        ensures sizes { IfOk result (λ c. c.sizes ≡ sizes self.shape) }
         ensures closed { IfOk result (λ c. (keys : List ℕ) → HasKeys c keys → Explains self.shape (seat.past ∷ []) keys) }
         ensures out { IfErr result (λ b. (seat.held ≢ self.shape.threads) × (b.set ≡ self) × (b.seat ≡ seat)) }
     {

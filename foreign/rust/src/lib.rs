@@ -1,5 +1,5 @@
-//! The judge of sorted-list sets in one's own process: a text in, a text out, by `liblistset.a`, of whose functions it is proved
-//! what they print.
+//! Sorted-list sets that threads share ([`open`], [`Seat`]), and their judge in one's own process: a text in, a text out. Both are
+//! the functions of `liblistset.a`, of which it is proved what they do.
 //!
 //! ```
 //! let schedule = listset::generated("lazy", 2, 4, 10, 5, 1)?;
@@ -15,6 +15,9 @@ use std::error::Error;
 use std::fmt::{self, Display};
 
 mod calls;
+mod sets;
+
+pub use sets::{open, Added, Fault, List, Seat};
 
 use calls::{of_room, of_text, of_two_texts};
 

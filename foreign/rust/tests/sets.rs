@@ -1,0 +1,71 @@
+//! The lists in four threads, beside sets of std for each thread's own keys, and at misuse.
+
+use std::collections::BTreeSet;
+use std::thread::scope;
+
+use listset::{open, Added, Fault, List, Seat};
+
+const LISTS: [List; 5] = [List::Coarse, List::Fine, List::Optimistic, List::Lazy, List::LockFree];
+const THREADS: u32 = 4;
+const CALLS: u32 = 5000;
+const OWN: u32 = 32;
+
+/// Calls on keys that no other thread uses, and the keys that are left of them.
+fn calls_of(seat: &mut Seat, thread: u32) -> BTreeSet<u32> {
+    let (mut left, mut drawn) = (BTreeSet::new(), u64::from(thread) + 88172645463325252);
+    for _ in 0..CALLS {
+        drawn ^= drawn << 13;
+        drawn ^= drawn >> 7;
+        drawn ^= drawn << 17;
+        let key = thread * OWN + (drawn >> 8) as u32 % OWN;
+        match drawn % 4 {
+            0 => assert_eq!(seat.add(key) == Added::True, left.insert(key)),
+            1 => assert_eq!(seat.remove(key), left.remove(&key)),
+            2 => assert_eq!(seat.contains(key), left.contains(&key)),
+            _ => {
+                let found = seat.ceiling(key).filter(|at| *at < (thread + 1) * OWN);
+                assert_eq!(found, left.range(key..).next().copied());
+            }
+        }
+    }
+    left
+}
+
+#[test]
+fn each_list_keeps_what_its_threads_put_in() {
+    for list in LISTS {
+        let mut seats = vec![open(list, THREADS, CALLS, &[]).unwrap()];
+        for _ in 1..THREADS {
+            let split = seats[0].split().unwrap();
+            seats.push(split);
+        }
+        let left: BTreeSet<u32> = scope(|threads| {
+            let run = |(thread, seat)| threads.spawn(move || calls_of(seat, thread));
+            let running: Vec<_> = (0..THREADS).zip(&mut seats).map(run).collect();
+            running.into_iter().flat_map(|it| it.join().unwrap()).collect()
+        });
+        let mut all = seats.pop().unwrap();
+        for seat in seats {
+            all.gather(seat).map_err(|it| it.1).unwrap();
+        }
+        assert_eq!(all.close().map_err(|it| it.1).unwrap(), Vec::from_iter(left), "{list:?}");
+    }
+}
+
+#[test]
+fn what_is_refused_is_given_back() {
+    assert_eq!(open(List::Lazy, 0, 1, &[]).err(), Some(Fault::Seats));
+    assert_eq!(open(List::Lazy, 1, 16385, &[]).err(), Some(Fault::Quota));
+    assert_eq!(open(List::Lazy, 1, 1, &[7, 7]).err(), Some(Fault::Keys));
+    let mut mine = open(List::Lazy, 2, 1, &[5]).unwrap();
+    let mut split = mine.split().unwrap();
+    assert_eq!(mine.split().err(), Some(Fault::NoMore));
+    let (mut mine, fault) = mine.close().unwrap_err();
+    assert_eq!(fault, Fault::SeatsOut);
+    let (mut other, fault) = mine.gather(open(List::Lazy, 1, 1, &[6]).unwrap()).unwrap_err();
+    assert_eq!((fault, other.contains(6), mine.contains(6)), (Fault::OtherSet, true, false));
+    assert_eq!((split.add(8), split.add(9), mine.add(5)), (Added::True, Added::Full, Added::False));
+    mine.gather(split).map_err(|it| it.1).unwrap();
+    assert_eq!((mine.remove(5), mine.ceiling(5), mine.ceiling(9)), (true, Some(8), None));
+    assert_eq!(mine.close().map_err(|it| it.1).unwrap(), [8]);
+}

@@ -1,0 +1,147 @@
+// Each function of the sets at arguments that are refused, and what comes of them; and each of their allocations refused in turn.
+// Linked with --wrap for malloc, realloc and free.
+#include "listset.h"
+
+#include <stdio.h>
+#include <string.h>
+
+enum { UNTOUCHED = 77 };
+
+static const uint32_t KEYS[] = {1, 7, 63}, FALLING[] = {7, 7};
+static size_t refused_at, asked, blocks, wrong;
+
+void *__real_malloc(size_t);
+void *__real_realloc(void *, size_t);
+void __real_free(void *);
+
+static int is_refused(void) { return ++asked == refused_at; }
+
+void *__wrap_malloc(size_t size) {
+  void *block = is_refused() ? NULL : __real_malloc(size);
+  blocks += block != NULL;
+  return block;
+}
+
+void *__wrap_realloc(void *block, size_t size) { return is_refused() ? NULL : __real_realloc(block, size); }
+
+void __wrap_free(void *block) {
+  blocks -= block != NULL;
+  __real_free(block);
+}
+
+static void expect(const char *what, size_t found, size_t due) {
+  if (found == due) return;
+  printf("%s: %zu in place of %zu\n", what, found, due);
+  wrong++;
+}
+
+static void calls_without_a_seat(const char *what, listset_seat *none) {
+  uint32_t at = UNTOUCHED, room[4] = {UNTOUCHED};
+  listset_seat out = LISTSET_NONE;
+  expect(what, listset_add(none, 1), LISTSET_NO_SEAT);
+  expect(what, listset_remove(none, 1), LISTSET_NO_SEAT);
+  expect(what, listset_contains(none, 1), LISTSET_NO_SEAT);
+  expect(what, listset_ceiling(none, 1, &at), LISTSET_NO_SEAT);
+  expect(what, at, UNTOUCHED);
+  expect(what, listset_split(none, &out), none->full ? LISTSET_NO_MORE : LISTSET_NO_SEAT);
+  expect(what, out.full, false);
+  expect(what, listset_close(none), LISTSET_NO_SEAT);
+  if (!none->full) expect(what, listset_keys(none, room, 4), SIZE_MAX), expect(what, room[0], UNTOUCHED);
+}
+
+static void refused_openings(void) {
+  listset_seat out = LISTSET_NONE;
+  expect("no such list", listset_open(5, 1, 1, 0, KEYS, 3, &out), LISTSET_BAD_KIND);
+  expect("no seat", listset_open(LISTSET_LAZY, 0, 1, 0, KEYS, 3, &out), LISTSET_BAD_SEATS);
+  expect("too many seats", listset_open(LISTSET_LAZY, 65, 1, 0, KEYS, 3, &out), LISTSET_BAD_SEATS);
+  expect("too large a quota", listset_open(LISTSET_LAZY, 1, 16385, 0, KEYS, 3, &out), LISTSET_BAD_QUOTA);
+  expect("keys that do not rise", listset_open(LISTSET_LAZY, 1, 1, 0, FALLING, 2, &out), LISTSET_BAD_KEYS);
+  expect("nothing was opened", out.full, false);
+}
+
+static void refused_calls(uint8_t kind) {
+  listset_seat a = LISTSET_NONE, b = LISTSET_NONE, c = LISTSET_NONE, other = LISTSET_NONE;
+  uint32_t at = 0, room[8] = {UNTOUCHED};
+  expect("open", listset_open(kind, 2, 2, 1, KEYS, 3, &a), LISTSET_OK);
+  expect("open another of the list", listset_open(kind, 1, 1, 2, KEYS, 0, &other), LISTSET_OK);
+  expect("open onto a seat", listset_open(kind, 2, 2, 1, KEYS, 3, &a), LISTSET_IS_SEAT);
+  expect("split onto a seat", listset_split(&a, &other), LISTSET_IS_SEAT);
+  expect("split", listset_split(&a, &b), LISTSET_OK);
+  expect("none is left", listset_split(&a, &c), LISTSET_NO_MORE);
+  expect("a seat is out", listset_close(&a), LISTSET_SEATS_OUT);
+  expect("the set goes on", listset_contains(&a, 7), LISTSET_TRUE);
+  expect("add", listset_add(&b, 100), LISTSET_TRUE);
+  expect("add again", listset_add(&a, 100), LISTSET_FALSE);
+  expect("add more", listset_add(&b, 101), LISTSET_TRUE);
+  expect("past the quota", listset_add(&b, 102), LISTSET_FULL);
+  expect("ceiling", listset_ceiling(&b, 64, &at), LISTSET_AT);
+  expect("of 64", at, 100);
+  expect("no ceiling", listset_ceiling(&b, 102, &at), LISTSET_NOTHING);
+  expect("it writes nothing", at, 100);
+  expect("gather a seat of another set", listset_gather(&a, &other), LISTSET_NO_GATHER);
+  expect("the one goes on", listset_contains(&a, 63), LISTSET_TRUE);
+  expect("the other goes on", listset_contains(&other, 63), LISTSET_FALSE);
+  expect("gather none", listset_gather(&a, &c), LISTSET_NO_SEAT);
+  expect("gather into none", listset_gather(&c, &b), LISTSET_NO_SEAT);
+  expect("keys of a running set", listset_keys(&a, room, 8), SIZE_MAX);
+  expect("gather", listset_gather(&a, &b), LISTSET_OK);
+  calls_without_a_seat("a gathered seat", &b);
+  expect("remove", listset_remove(&a, 7), LISTSET_TRUE);
+  expect("close", listset_close(&a), LISTSET_OK);
+  calls_without_a_seat("a closed set", &a);
+  expect("gather a closed set", listset_gather(&other, &a), LISTSET_NO_GATHER);
+  expect("keys into too little room", listset_keys(&a, room, 3), 4);
+  expect("it writes nothing", room[0], UNTOUCHED);
+  expect("keys", listset_keys(&a, room, 8), 4);
+  static const uint32_t LEFT[] = {1, 63, 100, 101};
+  expect("are those", memcmp(room, LEFT, sizeof LEFT), 0);
+  expect("they are kept", listset_keys(&a, room, 8), 4);
+  listset_drop(&a), listset_drop(&a), listset_drop(&other);
+  calls_without_a_seat("a dropped seat", &a);
+}
+
+// A set is opened, split, used, gathered and closed; each refusal is told, and what was there goes on.
+static void one_life(uint8_t kind, size_t refused) {
+  listset_seat a = LISTSET_NONE, b = LISTSET_NONE;
+  uint32_t room[8];
+  refused_at = refused, asked = 0;
+  uint8_t fault = listset_open(kind, 2, 4, 1, KEYS, 3, &a);
+  if (fault != LISTSET_OK) {
+    expect("open tells", fault, LISTSET_OUT_OF_MEMORY);
+    expect("nothing is opened", a.full, false);
+    return;
+  }
+  fault = listset_split(&a, &b);
+  if (fault != LISTSET_OK) {
+    expect("split tells", fault, LISTSET_OUT_OF_MEMORY);
+    expect("nothing is split off", b.full, false);
+    expect("it is split off later", listset_split(&a, &b), LISTSET_OK);
+  }
+  expect("add", listset_add(&a, 5), LISTSET_TRUE);
+  expect("gather", listset_gather(&a, &b), LISTSET_OK);
+  fault = listset_close(&a);
+  if (fault != LISTSET_OK) {
+    expect("close tells", fault, LISTSET_OUT_OF_MEMORY);
+    expect("the set goes on", listset_contains(&a, 5), LISTSET_TRUE);
+    expect("it is closed later", listset_close(&a), LISTSET_OK);
+  }
+  expect("keys", listset_keys(&a, room, 8), 4);
+  listset_drop(&a);
+}
+
+int main(void) {
+  listset_seat none = LISTSET_NONE;
+  calls_without_a_seat("an empty seat", &none);
+  listset_drop(&none);
+  refused_openings();
+  for (uint8_t kind = LISTSET_COARSE; kind <= LISTSET_LOCK_FREE; kind++) {
+    refused_at = 0;
+    refused_calls(kind);
+    blocks = 0;
+    for (size_t refused = 1; refused == 1 || asked >= refused - 1; refused++) {
+      one_life(kind, refused);
+      expect("blocks kept", blocks, 0);
+    }
+  }
+  return wrong != 0;
+}
