@@ -1,5 +1,5 @@
 // What calls from C cost: the programs of `bench_calls KIND whole ..`, over liblistset.
-//     foreign KIND THREADS QUOTA CALLS KEYS SEED     times each thread's calls together; KIND is a number, 0 to 4
+//     foreign KIND THREADS QUOTA CALLS KEYS SEED     times rounds of all calls, each on a new set; KIND is a number, 0 to 4
 //     foreign none CALLS                             times calls on an empty seat: what the border alone costs
 // The times stand on standard error, as those of `peer.rs`; the output tells how many calls there were.
 #include "listset.h"
@@ -9,7 +9,7 @@
 #include <string.h>
 #include <time.h>
 
-enum { MOST_THREADS = 64 };
+enum { MOST_THREADS = 64, ENOUGH = 100000000 };
 
 typedef struct {
   uint64_t state, step;
@@ -48,7 +48,6 @@ typedef struct {
   listset_seat seat;
   call *calls;
   size_t count;
-  uint64_t nanoseconds;
 } task;
 
 static pthread_barrier_t all_are_there;
@@ -63,7 +62,6 @@ static void *run(void *given) {
   task *it = given;
   volatile uint8_t reply;
   pthread_barrier_wait(&all_are_there);
-  uint64_t before = now();
   for (size_t at = 0; at < it->count; at++) {
     call made = it->calls[at];
     reply = made.kind == 0   ? listset_add(&it->seat, made.key)
@@ -71,8 +69,17 @@ static void *run(void *given) {
                              : listset_contains(&it->seat, made.key);
   }
   (void)reply;
-  it->nanoseconds = now() - before;
   return NULL;
+}
+
+// The nanoseconds of all calls, from the moment at which all threads are there.
+static uint64_t round_of(task *tasks, uint32_t count) {
+  pthread_t threads[MOST_THREADS];
+  for (uint32_t at = 0; at < count; at++) pthread_create(&threads[at], NULL, run, &tasks[at]);
+  pthread_barrier_wait(&all_are_there);
+  uint64_t before = now();
+  for (uint32_t at = 0; at < count; at++) pthread_join(threads[at], NULL);
+  return now() - before;
 }
 
 static call *program(uint64_t seed, size_t count, uint32_t keys) {
@@ -104,18 +111,19 @@ int main(int count, char **words) {
   if (count == 3 && strcmp(words[1], "none") == 0) return on_none(strtoull(words[2], NULL, 10));
   if (count != 7) return 2;
   static task tasks[MOST_THREADS];
-  pthread_t threads[MOST_THREADS];
-  uint64_t values[6], spent = 0;
+  uint64_t values[6], calls = 0, spent = 0;
   for (int at = 0; at < 6; at++) values[at] = strtoull(words[at + 1], NULL, 10);
   uint32_t none, thread_count = values[1];
-  if (listset_open(values[0], thread_count, values[2], 0, &none, 0, &tasks[0].seat) != LISTSET_OK) return 2;
-  pthread_barrier_init(&all_are_there, NULL, thread_count);
-  for (uint32_t at = 0; at < thread_count; at++) {
-    if (at > 0 && listset_split(&tasks[0].seat, &tasks[at].seat) != LISTSET_OK) return 2;
+  pthread_barrier_init(&all_are_there, NULL, thread_count + 1);
+  for (uint32_t at = 0; at < thread_count; at++)
     tasks[at].count = values[3], tasks[at].calls = program(values[5] + at, values[3], values[4]);
+  while (spent < ENOUGH) {
+    if (listset_open(values[0], thread_count, values[2], 0, &none, 0, &tasks[0].seat) != LISTSET_OK) return 2;
+    for (uint32_t at = 1; at < thread_count; at++)
+      if (listset_split(&tasks[0].seat, &tasks[at].seat) != LISTSET_OK) return 2;
+    spent += round_of(tasks, thread_count);
+    calls += thread_count * values[3];
+    for (uint32_t at = 0; at < thread_count; at++) listset_drop(&tasks[at].seat);
   }
-  for (uint32_t at = 0; at < thread_count; at++) pthread_create(&threads[at], NULL, run, &tasks[at]);
-  for (uint32_t at = 0; at < thread_count; at++) pthread_join(threads[at], NULL);
-  for (uint32_t at = 0; at < thread_count; at++) spent += tasks[at].nanoseconds;
-  return tell(thread_count * values[3], spent);
+  return tell(calls, spent);
 }

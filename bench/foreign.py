@@ -1,10 +1,13 @@
-"""What the border to C costs: the same programs of calls by the loops from Rattle, from C, and by hand."""
+"""What the border to C costs: the same programs of calls by the loops from Rattle, and from C."""
 
+import statistics
 import subprocess
 import tempfile
 
-from measuring import BENCH, RUNS, SEED, TOP, built, compiled, heading, kinds, least, row
-from threads import MANY_CALLS, MOST_QUOTA, SIZES, THREADS, nanoseconds
+from measuring import BENCH, RUNS, SEED, TOP, built, heading, kinds, row
+from threads import MANY_CALLS, MOST_QUOTA, SIZES, THREADS, medians, named, nanoseconds
+
+ENDS = (SIZES[0], SIZES[-1])
 
 
 def from_c(room):
@@ -16,18 +19,19 @@ def from_c(room):
 
 
 def foreign():
-    """The table of calls by the loops, from Rattle, from C and by hand, and what a call on an empty seat takes."""
+    """Nanoseconds of a call by the loops from Rattle, and how many more from C; the median of some runs in turn."""
     timer, tool = built("bench_calls"), built("listset")
+    heads = [(many, size) for many in THREADS for size in ENDS]
+    heading("List", *(cell for many, size in heads for cell in (f"{named(many)}, {size:,} keys", "more from C")))
     with tempfile.TemporaryDirectory() as room:
-        peer, program = compiled("peer.rs", room), from_c(room)
-        border = min(nanoseconds([program, "none", "1000000"])["all"] for _ in range(RUNS))
-        print(f"\nA call on an empty seat: {border:.1f} ns\n\nNanoseconds of a call:\n")
-        heading("List", "Threads", "Keys", "The loop", "From C", "More", "By hand", "C to hand")
+        program = from_c(room)
         for number, kind in enumerate(kinds(tool)):
-            for many in THREADS:
-                for size in SIZES:
-                    values = [str(many), MOST_QUOTA, MANY_CALLS, str(size), SEED]
-                    programs = [[timer, kind, "whole"], [program, str(number)], [peer, "whole", kind]]
-                    runs = [[nanoseconds([*words, *values])["all"] for words in programs] for _ in range(RUNS)]
-                    loop, c, hand = least(runs)
-                    row(kind, str(many), f"{size:,}", f"{loop:.0f}", f"{c:.0f}", f"{c - loop:.1f}", f"{hand:.0f}", f"{c / hand:.2f}")
+            cells = []
+            for many, size in heads:
+                values = [str(many), MOST_QUOTA, MANY_CALLS, str(size), SEED]
+                programs = [timer, kind, "whole", *values], [program, str(number), *values]
+                loop, c = medians([nanoseconds(it)["all"] for it in programs] for _ in range(RUNS))
+                cells += f"{loop:.0f}", f"{c - loop:.1f}"
+            row(kind, *cells)
+        border = statistics.median(nanoseconds([program, "none", "1000000"])["all"] for _ in range(RUNS))
+        row("an empty seat", "", f"{border:.1f}", *[""] * (2 * len(heads) - 2))
