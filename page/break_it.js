@@ -102,11 +102,13 @@ function departureOf(ask, trace) {
   return { event, here: told(trace), whole: told(whole) };
 }
 
-// The row at which the thread of an event stands after it, where its call goes on.
-function rowInWords(trace, event) {
-  const row = trace.event(event).changes.pc;
+// The row at which the thread of an event stands after it, where its call goes on and the sentence does not tell the row.
+function rowInWords(trace, number) {
+  const event = trace.event(number);
+  const row = event.changes.pc;
   const { step } = LISTS[trace.kind].rows[row] ?? { step: "which the whole list has not" };
-  return row === 0 ? "" : ` It goes on at row ${row}, ${escaped(step)}.`;
+  const isSaid = event.deed === "exchange" && isFailed(event) && isLock(event.word);
+  return row === 0 || isSaid ? "" : ` It goes on at row ${row}, ${escaped(step)}.`;
 }
 
 // How many steps of a thread, after the lines of this schedule, end its call or lead to a row; or why none do, as the engine says

@@ -55,14 +55,14 @@ const CLASSICS = {
   "read-in-anothers-step": {
     "question": "Just after each of thread 0's own events 5 is in the set. Its contains answers false. Is that right?",
     "turnsOn": "Yes: between two of them thread 1 took 5 out, and put it in again with another node. The call stands at event 23, a step of thread 1.",
-    "without": "One who looks for the point of a call among its own steps finds none, and calls a right list wrong. The order that puts the contains last is refused by check.",
+    "without": "One who looks for its point among its own steps finds none, and calls a right list wrong. check refuses the order that puts it last.",
     "turns": [23, 36, 39],
     "lacks": []
   },
   "ceiling-in-anothers-step": {
     "question": "Just after each of thread 0's own events the least key from 6 on is none, or 7. Its ceiling of 6 answers 9. Is that right?",
     "turnsOn": "Yes: it was 9 from event 15 until event 38, all steps of thread 1. The walk stood at the node of 5 when that was taken out, and its link still leads to 9.",
-    "without": "A ceiling that began again at each mark on its way would answer 7 here, which is no better; and removes of keys below its own could send it back.",
+    "without": "A ceiling that began again at each mark would answer 7 here, which is no better; and removes of smaller keys could send it back.",
     "turns": [15, 38, 43],
     "lacks": []
   },
@@ -75,14 +75,14 @@ const CLASSICS = {
   },
   "two-removers": {
     "question": "Two threads have found the node of 5, unmarked, and want to take it out. Who has removed it?",
-    "turnsOn": "The one whose exchange sets the mark. That of the other compares link and mark in one, sees the mark, and fails. It walks again and answers false.",
+    "turnsOn": "The one whose exchange sets the mark. The other's compares link and mark in one, and fails. It walks again and answers false.",
     "without": "A remove that marks a marked node answers true too, and 5 is taken out twice (mark-in-remove).",
     "turns": [18, 20],
     "lacks": ["mark-in-remove"]
   },
   "snip": {
     "question": "Thread 0 has marked the node of 5 and stops there. Thread 1 wants to put in 7 behind it. Does it have to wait?",
-    "turnsOn": "No thread waits for another in this list: thread 1 takes the marked node out itself. The exchange of thread 0 fails then, and it answers true all the same, since its mark stands.",
+    "turnsOn": "No: thread 1 takes the marked node out itself. The exchange of thread 0 fails then, and it answers true all the same, since its mark stands.",
     "without": "An add that ignores the mark links 7 in behind the node of 5, and goes out with it (mark-in-add). Without marks no add could know (mark).",
     "turns": [17, 23],
     "lacks": ["mark-in-add", "mark"]
@@ -104,13 +104,13 @@ const CLASSICS = {
   "ceiling-meets-mark": {
     "question": "Thread 0's ceiling of 3 has come to the node of 5. Before it looks at the mark, thread 1 takes 5 out. What does it answer, and where does that fit?",
     "turnsOn": "The mark is looked at last (row 25). It finds one, begins again at the head, and comes to the tail: nothing, which fits from the mark on.",
-    "without": "Here 5 would be no wrong answer, since the remove was begun after the ceiling. But a mark may be older than the call, as in the next example.",
+    "without": "Here 5 would be right too, since the remove was begun after the ceiling. But a mark may be older: see the next example.",
     "turns": [18, 20],
     "lacks": []
   },
   "ceiling-left-in-chain": {
     "question": "The remove of 5 has ended, and its node is still in the chain. What may a ceiling of 4 answer, and how often may it walk?",
-    "turnsOn": "Not 5: the mark sends it back to the head, as often as it meets that node, since it takes none out. Thread 1's walk takes it out; the second walk answers 7, put in after the call had begun.",
+    "turnsOn": "Not 5: the mark sends it back to the head, as often as it meets that node. Thread 1's walk takes it out; the second walk answers 7, put in after the call had begun.",
     "without": "It answers 5, which nobody puts in again: no order helps. LazyList's ceiling wants the same look (mark-in-ceiling).",
     "turns": [27, 33, 43],
     "lacks": []
@@ -118,7 +118,7 @@ const CLASSICS = {
   "behind-the-walk": {
     "question": "Thread 0 has read the link of the head, which leads to 9. Thread 1 puts 5 in between. May its ceiling of 3 answer 9?",
     "turnsOn": "Yes: at that moment no key lay between. It fits already at the begin of the call, before the add, which ended earlier.",
-    "without": "No check is left out here. Each node that the walk passes was in the chain, with the link that was read, at some moment of the call. Over other links it could pass a key that was there all the time.",
+    "without": "No check is left out here. Each node of the walk was in the chain, with the link that was read, at some moment of the call. Over other links it could pass a key that was always there.",
     "turns": [9, 16],
     "lacks": []
   },

@@ -8,8 +8,8 @@ const os = require("os");
 const path = require("path");
 const { inPage, loadScripts, startedEngine } = require("../in_node.js");
 
-const SCRIPTS = ["rows", "trace", "schedule_text", "state", "address", "svg", "draw_history", "run", "goal_words", "lesson_text",
-  "judge_lesson", "judge_answer", "hand_in", "book"];
+const SCRIPTS = ["rows", "classics", "trace", "schedule_text", "state", "address", "svg", "draw_history", "run", "goal_words",
+  "lesson_text", "judge_lesson", "judge_answer", "break_it", "hand_in", "book"];
 loadScripts(...SCRIPTS.map((name) => `${name}.js`));
 const [textsIn, readHandIn, handInText, triedCourse] = ["textsIn", "readHandIn", "handInText", "triedCourse"].map(inPage);
 const PAGE = path.join(__dirname, "..");
