@@ -49,7 +49,7 @@ const works = {
   },
 
   // The name of the work with this text, run on the same list, or null.
-  nameOf(text, lacks) {
+  nameOf(text, lacks = null) {
     return [...this.byName].findLast(([, work]) => work.text === text && (work.lacks ?? null) === lacks)?.[0] ?? null;
   },
 

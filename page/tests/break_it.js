@@ -106,7 +106,7 @@ function checkHandedIn(ask) {
   const own = inPage("addressOf")(scheduleOf("mark"), 0);
   const refused = { "break luck": own, "break mark": "", "break second-walk": own, "break mark-in-add": `${own} more` };
   for (const [task, link] of Object.entries(refused)) check(`${task} ${link}`.slice(0, 60), !judge(`${task} ${link}`).isSolved);
-  const points = "#list=lock-free&threads=2&quota=2&opening=3.7&s=b1.remove.7,b0.contains.7,g1.7,g0.5,g1.1&event=15";
+  const points = "#list=lock-free&threads=2&quota=2&opening=3.7&s=b1.remove.7,g1.7,b0.contains.7,g0.5,g1.1&event=15";
   const said = verdictOnLacking(ask, "mark-at-key", inPage("readAddress")(points).text);
   check(`of two calls that overlap another order may be right: ${said.says}`, said.kind === "points");
   check("and that is no solution", !judge(`break mark-at-key ${points}`).isSolved);

@@ -46,7 +46,8 @@ function driveBreaking() {
 function driveBreak(name) {
   pick(`break: ${name}`);
   check(`${name} is opened: ${breakText("title")}`, breakText("title").endsWith(" lacks one check:") && !part("break-box").hidden);
-  check(`${name} is not named`, !frame.contentDocument.body.innerText.includes(name) || name === "lock" || name === "mark");
+  const shown = ["break-box", "title", "source", "told"].map((id) => part(id).innerText).join(" ") + inPage("ownAddress()");
+  check(`${name} is not named: ${shown}`, !shown.toLowerCase().split(/[^a-z-]+/).includes(name));
   check(`${name} begins whole: ${breakText("verdict")}`, breakText("verdict") === "Explained: this schedule does not break it.");
   check("its departure is not told", part("break-departs").hidden);
   for (const deed of DEEDS[name].split(", ")) doDeed(deed);
