@@ -27,22 +27,27 @@ flag_rule name = record (new_rule name) { long = Some name; action = Some SetTru
 abbrev pub option_rule : Text → Rule
 option_rule name = record (new_rule name) { long = Some name; value_names = 1 }
 
--- `replay [FILE]`, `report [FILE]` and `check [FILE]`
+-- `report [FILE]`, `check [FILE]` and `draft [FILE]`
 abbrev pub file_app : Text → App
 file_app name = with_rule (new_app name) (new_rule (codes "FILE"))
 
--- `show [--svg] [--from M] [--to M] [--width N] [FILE]`
+-- `replay [--lacks NAME] [FILE]`
+abbrev pub replay_app : App
+replay_app = with_rule (file_app (codes "replay")) (option_rule (codes "lacks"))
+
+-- `show [--svg] [--from M] [--to M] [--width N] [--lacks NAME] [FILE]`
 abbrev pub show_app : App
 show_app =
-    with_rule (with_rule (with_rule (with_rule (file_app (codes "show"))
+    with_rule (with_rule (with_rule (with_rule (with_rule (file_app (codes "show"))
     (flag_rule (codes "svg")))
     (option_rule (codes "from")))
     (option_rule (codes "to")))
-    (option_rule (codes "width"))
+    (option_rule (codes "width")))
+    (option_rule (codes "lacks"))
 
--- `trace [--chain] [FILE]`
+-- `trace [--chain] [--lacks NAME] [FILE]`
 abbrev pub trace_app : App
-trace_app = with_rule (file_app (codes "trace")) (flag_rule (codes "chain"))
+trace_app = with_rule (with_rule (file_app (codes "trace")) (flag_rule (codes "chain"))) (option_rule (codes "lacks"))
 
 -- `example [--broken] [NAME]`
 abbrev pub example_app : App
@@ -90,7 +95,7 @@ listset =
     (with_subcommand (with_subcommand
     (with_subcommand (with_subcommand (with_subcommand
     (with_subcommand (on_top (λ s. record s { no_binary_name = true; has_version = true }) (new_app (codes "listset")))
-    (file_app (codes "replay")).top)
+    replay_app.top)
     (file_app (codes "report")).top)
     (file_app (codes "check")).top)
     show_app.top)
@@ -130,7 +135,8 @@ MakesWithSubcommand old sub new = (a b : App) → Makes old a → Makes sub b �
 -- the name of a flag or of an option; each other name is that of values
 abbrev pub is_option : Text → Bool
 is_option name = bytes_eq name (codes "svg") || (bytes_eq name (codes "from") || (bytes_eq name (codes "to")
-    || (bytes_eq name (codes "width") || (bytes_eq name (codes "chain") || bytes_eq name (codes "broken")))))
+    || (bytes_eq name (codes "width") || (bytes_eq name (codes "chain") || (bytes_eq name (codes "broken")
+    || bytes_eq name (codes "lacks"))))))
 
 -- the values of a name among the rows that a parse found
 abbrev pub values_by : Text → List Row → List Text
@@ -152,6 +158,7 @@ pub record OptionValues : Type 0 where
   pub width : Option Text
   pub chain : Bool
   pub broken : Bool
+  pub lacks : Option Text
 
 abbrev pub options_in : List Row → OptionValues
 options_in rows = record {
@@ -161,6 +168,7 @@ options_in rows = record {
   width = first_of (codes "width") rows;
   chain = is_on (codes "chain") rows;
   broken = is_on (codes "broken") rows;
+  lacks = first_of (codes "lacks") rows;
 }
 
 -- the command of a name; a parse of the program's words finds the names of `listset` alone
@@ -199,6 +207,7 @@ options_of o = record {
   width = option_map string_bytes o.width;
   chain = o.chain;
   broken = o.broken;
+  lacks = option_map string_bytes o.lacks;
 }
 
 abbrev pub choice_in : Words → Choice

@@ -6,7 +6,7 @@ ghost use Rattle.clap.specs.declared.Command.TheViews.{out-Command};
 ghost use Rattle.clap.specs.declared.error.kind.ErrorKind.TheVariants.{OutOfMemory};
 ghost use Rattle.lset_command.specs.CommandLine.{choice_in, choice_of, command_named, file_app, file_of, first_value, path_of, six_values, serve_app};
 ghost use Rattle.lset_command.specs.CommandLine.{example_app, flag_rule, gen_app, option_rule, run_app, show_app, trace_app};
-ghost use Rattle.lset_command.specs.CommandLine.{MakesWithArg, MakesWithSubcommand, MakesWithValue, is_on, is_option, listset, options_in, options_of, rule_past_the_last, values_by, values_in};
+ghost use Rattle.lset_command.specs.CommandLine.{MakesWithArg, MakesWithSubcommand, MakesWithValue, is_on, is_option, listset, replay_app, options_in, options_of, rule_past_the_last, values_by, values_in};
 
 use clap::error::ErrorKind;
 use clap::{Arg, ArgAction, ArgMatches, Error};
@@ -62,6 +62,8 @@ pub struct Options {
     pub chain: bool,
     /// `example` prints the report of a broken list.
     pub broken: bool,
+    /// The name of the list that lacks a check, by which `replay`, `show` and `trace` run the schedule.
+    pub lacks: Option<String>,
 }
 
 /// A command, with its values in order as they are written, its flags and its options.
@@ -126,8 +128,8 @@ fn flag<'a>(alloc: Global, name: &'a str, help: &'a str) -> Arg<'a>
         .help(help)
 }
 
-// An option whose value is a number.
-fn number_option<'a>(alloc: Global, name: &'a str, value_name: &'a str, help: &'a str) -> Arg<'a>
+// An option of one value.
+fn value_option<'a>(alloc: Global, name: &'a str, value_name: &'a str, help: &'a str) -> Arg<'a>
     ensures rule { rule_of result ≡ option_rule name.entry.now }
     ensures local { result.global ≡ false }
 {
@@ -135,6 +137,19 @@ fn number_option<'a>(alloc: Global, name: &'a str, value_name: &'a str, help: &'
         .long(name)
         .value_name(value_name)
         .help(help)
+}
+
+// The option that names a list that lacks a check.
+fn lacks_option<'a>(alloc: Global) -> Arg<'a>
+    ensures rule { rule_of result ≡ option_rule (codes "lacks") }
+    ensures local { result.global ≡ false }
+{
+    value_option(
+        alloc,
+        "lacks",
+        "NAME",
+        "Runs the list that lacks a check: lock (coarse), second-lock, hand-over-hand (fine), second-walk, same-node (optimistic), marks-in-validation, mark-in-contains, mark-in-ceiling (lazy), mark, mark-in-add, mark-in-remove, mark-at-key, new-slot, last-slot (lock-free)",
+    )
 }
 
 // Any number of values past the last, of which help says nothing.
@@ -208,7 +223,7 @@ fn show_command<'a>(alloc: Global) -> Result<clap::Command<'a>, AllocError>
     let command = and_arg(command, flag(alloc, "svg", "Draws an SVG in place of text"));
     let command = and_arg(
         command,
-        number_option(
+        value_option(
             alloc,
             "from",
             "M",
@@ -217,40 +232,45 @@ fn show_command<'a>(alloc: Global) -> Result<clap::Command<'a>, AllocError>
     );
     let command = and_arg(
         command,
-        number_option(
+        value_option(
             alloc,
             "to",
             "M",
             "The last moment to draw: the first or a later one; 4294967295 where it is left out",
         ),
     );
-    and_arg(
+    let command = and_arg(
         command,
-        number_option(
+        value_option(
             alloc,
             "width",
             "N",
             "How many characters the rows of the text may have: 1 to 4294967295; 100 where it is left out",
         ),
-    )
+    );
+    and_arg(command, lacks_option(alloc))
 }
 
 fn trace_command<'a>(alloc: Global) -> Result<clap::Command<'a>, AllocError>
     ensures app { IfOk result (λ c. app_of c ≡ trace_app) }
     ensures local { IfOk result (λ c. (out-Command c).has_globals ≡ false) }
 {
-    file_command(
+    let command = file_command(
         alloc,
         "trace",
         "Tells what each step of a schedule did: the word, what was seen, and what changed",
         "The schedule; standard input where it is - or left out",
         "Example: listset example two-removers | listset trace --chain",
-    )?
-    .arg(flag(
-        alloc,
-        "chain",
-        "Tells the chain after each step that changed it",
-    ))
+    );
+    let command = and_arg(
+        command,
+        flag(
+            alloc,
+            "chain",
+            "Tells the chain after each step that changed it",
+        ),
+    );
+    and_arg(command, lacks_option(alloc))
 }
 
 fn draft_command<'a>(alloc: Global) -> Result<clap::Command<'a>, AllocError>
@@ -405,16 +425,17 @@ fn run_command<'a>(alloc: Global) -> Result<clap::Command<'a>, AllocError>
 }
 
 fn replay_command<'a>(alloc: Global) -> Result<clap::Command<'a>, AllocError>
-    ensures app { IfOk result (λ c. app_of c ≡ file_app (codes "replay")) }
+    ensures app { IfOk result (λ c. app_of c ≡ replay_app) }
     ensures local { IfOk result (λ c. (out-Command c).has_globals ≡ false) }
 {
-    file_command(
+    let command = file_command(
         alloc,
         "replay",
         "Replays a schedule of atomic steps and prints a report (the command where none is given)",
         "The schedule; standard input where it is - or left out",
         "Example: listset example full | listset replay",
-    )
+    );
+    and_arg(command, lacks_option(alloc))
 }
 
 fn report_command<'a>(alloc: Global) -> Result<clap::Command<'a>, AllocError>
@@ -486,6 +507,7 @@ fn is_option(name: &str) -> bool
         || name == "width"
         || name == "chain"
         || name == "broken"
+        || name == "lacks"
 }
 
 // Adds the texts that `found` has by the name, if it is that of values. There may be none.
@@ -554,6 +576,7 @@ fn options_of(alloc: Global, found: &ArgMatches<'_>) -> Result<Options, AllocErr
         width: option_text(alloc, found, "width")?,
         chain: is_on(found, "chain"),
         broken: is_on(found, "broken"),
+        lacks: option_text(alloc, found, "lacks")?,
     })
 }
 
@@ -568,6 +591,7 @@ fn no_options() -> Options
         width: None,
         chain: false,
         broken: false,
+        lacks: None,
     }
 }
 
@@ -601,8 +625,9 @@ fn command_named(name: &str) -> Command
     }
 }
 
-/// Reads the words that stand after the program's name, by `clap`: `replay [FILE]`, `report [FILE]`, `check [FILE]`,
-/// `show [--svg] [--from M] [--to M] [--width N] [FILE]`, `trace [--chain] [FILE]`, `draft [FILE]`,
+/// Reads the words that stand after the program's name, by `clap`: `replay [--lacks NAME] [FILE]`, `report [FILE]`,
+/// `check [FILE]`, `show [--svg] [--from M] [--to M] [--width N] [--lacks NAME] [FILE]`, `trace [--chain] [--lacks NAME] [FILE]`,
+/// `draft [FILE]`,
 /// `example [--broken] [NAME]`, `gen KIND THREADS QUOTA CALLS KEYS SEED`, `run` with the same values and `[LIVES]` after them,
 /// `serve KIND SEATS QUOTA PORT SESSIONS [FILE]`, or `faults`. Values and options come as they are written; some or all may be
 /// missing, and `gen`, `run` and `serve` may have more values. No word at all gives `replay` without values. A value

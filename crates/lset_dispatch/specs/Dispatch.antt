@@ -22,6 +22,7 @@ use Rattle.tool_show.specs.declared.asking.Form.{Form}
 use Rattle.tool_show.specs.Asking.{asked_of}
 use Rattle.tool_show.specs.Showing.{Shows}
 use Rattle.tool_trace.specs.Tracing.{Traces}
+use Rattle.tool_lacks.specs.Lacks as lacks
 use Rattle.tool_draft.specs.Drafting.{Drafts}
 use Rattle.tool_examples.specs.Exampling.{Exampled}
 use Rattle.tool_run.specs.Running as run
@@ -29,13 +30,33 @@ use Rattle.tool_serve.specs.Serving as serve
 
 -- ---- words that are taken
 
--- what `show` makes of its input, in the form and within the moments that its options ask for; a wrong option is named
-abbrev pub ShowsAsked : Result (Form × Window) ValueName → Option (List ℕ) → Made → Type 0
-ShowsAsked (Ok asked) input made = IfSome input (λ bytes. Shows asked.1 bytes made)
-ShowsAsked (Err wrong) input made = made ≡ Err (Bad wrong)
+-- What `replay`, `trace` and `show` make of their input: by the list that it names, or, where an option gives the name of what a
+-- list lacks, by that.
+abbrev pub ReplaysFor : Option Text → Option (List ℕ) → Made → Type 0
+ReplaysFor None input made = IfSome input (λ bytes. Replays bytes made)
+ReplaysFor (Some name) input made = lacks.ByName (λ l m. IfSome input (λ bytes. lacks.Replays l bytes m)) name made
+
+abbrev pub ReplaysBy : OptionValues → Option (List ℕ) → Made → Type 0
+ReplaysBy options input made = ReplaysFor options.lacks input made
+
+abbrev pub TracesFor : Option Text → Option (List ℕ) → Made → Type 0
+TracesFor None input made = IfSome input (λ bytes. Traces bytes made)
+TracesFor (Some name) input made = lacks.ByName (λ l m. IfSome input (λ bytes. lacks.Traces l bytes m)) name made
+
+abbrev pub TracesBy : OptionValues → Option (List ℕ) → Made → Type 0
+TracesBy options input made = TracesFor options.lacks input made
+
+abbrev pub ShowsFor : Option Text → Window → Option (List ℕ) → Made → Type 0
+ShowsFor None window input made = IfSome input (λ bytes. Shows window bytes made)
+ShowsFor (Some name) window input made = lacks.ByName (λ l m. IfSome input (λ bytes. lacks.Shows window l bytes m)) name made
+
+-- `show` does so in the form and within the moments that its options ask for; a wrong option is named
+abbrev pub ShowsAsked : Result (Form × Window) ValueName → Option Text → Option (List ℕ) → Made → Type 0
+ShowsAsked (Ok asked) name input made = ShowsFor name asked.1 input made
+ShowsAsked (Err wrong) name input made = made ≡ Err (Bad wrong)
 
 abbrev pub ShowsBy : OptionValues → Option (List ℕ) → Made → Type 0
-ShowsBy options input made = ShowsAsked (asked_of options.svg options.from options.to options.width) input made
+ShowsBy options input made = ShowsAsked (asked_of options.svg options.from options.to options.width) options.lacks input made
 
 -- what `serve` makes of its values: with the keys of its input where it has a word for one, and else on an empty set
 abbrev pub ServesBy : Option Text → List Text → Option (List ℕ) → Option (List ℕ) → Option (List ℕ) → Made → Type 0
@@ -46,11 +67,11 @@ ServesBy (Some word) values input old first made = serve.ServesWith (serve.serve
 -- output from
 -- the old to the first: `serve` writes the line that names its port, the others write nothing.
 abbrev pub DoesBy : Command → List Text → OptionValues → Option (List ℕ) → Option (List ℕ) → Option (List ℕ) → Made → Type 0
-DoesBy Replay values options input old first made = (first ≡ old) × IfSome input (λ bytes. Replays bytes made)
+DoesBy Replay values options input old first made = (first ≡ old) × ReplaysBy options input made
 DoesBy Report values options input old first made = (first ≡ old) × IfSome input (λ bytes. Reports bytes made)
 DoesBy Check values options input old first made = (first ≡ old) × IfSome input (λ bytes. Checks bytes made)
 DoesBy Show values options input old first made = (first ≡ old) × ShowsBy options input made
-DoesBy Trace values options input old first made = (first ≡ old) × IfSome input (λ bytes. Traces bytes made)
+DoesBy Trace values options input old first made = (first ≡ old) × TracesBy options input made
 DoesBy Draft values options input old first made = (first ≡ old) × IfSome input (λ bytes. Drafts bytes made)
 DoesBy Example values options input old first made = (first ≡ old) × Exampled options.broken (slice_get values 0) made
 DoesBy Gen values options input old first made = (first ≡ old) × Generates values made

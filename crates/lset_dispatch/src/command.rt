@@ -2,7 +2,7 @@ ghost use Rattle.std.specs.Prelude.{◌≡◌, option_map, string_bytes};
 ghost use Rattle.std.specs.Option.{option_copied};
 ghost use Rattle.lset_command.specs.CommandLine.{choice_in, options_of};
 ghost use Rattle.lset_tools.specs.Tools.{Ends};
-ghost use Rattle.lset_dispatch.specs.Dispatch.{CommandEnds, Does, ShowsBy};
+ghost use Rattle.lset_dispatch.specs.Dispatch.{CommandEnds, Does, ReplaysBy, ShowsBy, TracesBy};
 
 use lset_command::{Command, Options, Words};
 use lset_tools::{Trouble, deliver, tool_check, tool_faults, tool_gen, tool_replay, tool_report};
@@ -14,6 +14,7 @@ use std::thread::Threads;
 use std::time::Clock;
 use tool_draft::tool_draft;
 use tool_examples::tool_example;
+use tool_lacks::{tool_replay_lacking, tool_show_lacking, tool_trace_lacking};
 use tool_run::tool_run;
 use tool_serve::{tool_serve, tool_serve_with};
 use tool_show::{read_asked, tool_show};
@@ -40,8 +41,45 @@ fn show<R: Read, W: Write, F: Write>(
     let to = text_of(&options.to);
     let width = text_of(&options.width);
     match read_asked(options.svg, from, to, width) {
-        Ok((form, window)) => tool_show(alloc, form, window, input, output, faults),
+        Ok((form, window)) => match text_of(&options.lacks) {
+            None => tool_show(alloc, form, window, input, output, faults),
+            Some(name) => tool_show_lacking(alloc, name, form, window, input, output, faults),
+        },
         Err(wrong) => deliver(alloc, Err(Trouble::Bad(wrong)), output, faults),
+    }
+}
+
+/// Replays the input, by the list that the options say lacks a check, if they do, and gives the exit status.
+fn replay<R: Read, W: Write, F: Write>(
+    alloc: Global,
+    options: &Options,
+    input: &mut R,
+    output: &mut W,
+    faults: &mut F,
+) -> u8
+    ensures { Ends (ReplaysBy (options_of options.now) (R.remaining input.old))
+        (W.contents output.old) (W.contents output.new) (F.contents faults.old) (F.contents faults.new) result }
+{
+    match text_of(&options.lacks) {
+        None => tool_replay(alloc, input, output, faults),
+        Some(name) => tool_replay_lacking(alloc, name, input, output, faults),
+    }
+}
+
+/// Traces the input, by the list that the options say lacks a check, if they do, and gives the exit status.
+fn trace<R: Read, W: Write, F: Write>(
+    alloc: Global,
+    options: &Options,
+    input: &mut R,
+    output: &mut W,
+    faults: &mut F,
+) -> u8
+    ensures { Ends (TracesBy (options_of options.now) (R.remaining input.old))
+        (W.contents output.old) (W.contents output.new) (F.contents faults.old) (F.contents faults.new) result }
+{
+    match text_of(&options.lacks) {
+        None => tool_trace(alloc, options.chain, input, output, faults),
+        Some(name) => tool_trace_lacking(alloc, name, options.chain, input, output, faults),
     }
 }
 
@@ -59,11 +97,11 @@ pub fn run_command<
 {
     let options = &words.options;
     match words.command {
-        Command::Replay => tool_replay(alloc, input, output, faults),
+        Command::Replay => replay(alloc, options, input, output, faults),
         Command::Report => tool_report(alloc, input, output, faults),
         Command::Check => tool_check(alloc, input, output, faults),
         Command::Show => show(alloc, options, input, output, faults),
-        Command::Trace => tool_trace(alloc, options.chain, input, output, faults),
+        Command::Trace => trace(alloc, options, input, output, faults),
         Command::Draft => tool_draft(alloc, input, output, faults),
         Command::Example => tool_example(
             alloc,

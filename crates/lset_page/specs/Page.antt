@@ -5,12 +5,14 @@ use Rattle.std.specs.Str.Lossy.{utf8_lossy}
 use Rattle.lset_drawing.specs.declared.picture.Window.{Window}
 use Rattle.lset_text.specs.Parts.{cut_at}
 use Rattle.lset_tools.specs.declared.trouble.Trouble.TheVariants.{CannotRead, Memory, Bad}
+use Rattle.lset_tools.specs.declared.trouble.Trouble.{Trouble}
 use Rattle.lset_tools.specs.declared.trouble.ValueName.{ValueName}
 use Rattle.lset_tools.specs.Tools.{Made}
 use Rattle.lset_tools.specs.Trouble as trouble
 use Rattle.tool_show.specs.declared.asking.Form.{Form}
 use Rattle.tool_show.specs.Asking.{asked_of}
 use Rattle.tool_show.specs.Showing.{Shows}
+use Rattle.tool_lacks.specs.Lacks as lacks
 
 -- what the program prints of it: the answer's text, or the line about the trouble
 abbrev pub text_of : Made → List ℕ
@@ -37,11 +39,10 @@ pub record IsHanded (made : Made) (old new : List ℕ) (status count : ℕ) : Ty
 abbrev pub OfText : (List ℕ → Made → Type 0) → List ℕ → Made → Type 0
 OfText Makes text made = Makes text made × (made ≢ Err CannotRead)
 
--- What `show` makes of the bytes as options ask for it, as in the program (`ShowsAsked` of lset_dispatch); a wrong option is
--- named.
-abbrev pub ShowsAsked : Result (Form × Window) ValueName → List ℕ → Made → Type 0
-ShowsAsked (Ok asked) bytes made = Shows asked.1 bytes made
-ShowsAsked (Err wrong) bytes made = made ≡ Err (Bad wrong)
+-- What is made as options ask for it, as in the program (`ShowsAsked` of lset_dispatch); a wrong option is named.
+abbrev pub AsAsked : Result (Form × Window) ValueName → (Window → Made → Type 0) → Made → Type 0
+AsAsked (Ok asked) Makes made = Makes asked.1 made
+AsAsked (Err wrong) Makes made = made ≡ Err (Bad wrong)
 
 -- the words of the bytes, which are UTF-8, or are read with U+FFFD for what is none, cut at zero bytes
 abbrev pub words_in : List ℕ → List (List ℕ)
@@ -60,9 +61,21 @@ abbrev pub option_at : List (List ℕ) → ℕ → Option (List ℕ)
 option_at words index = option_and_then given_in (slice_get words index)
 
 -- the options of `show` are words: --from, --to and --width
+abbrev pub asked_in : Bool → List (List ℕ) → Result (Form × Window) ValueName
+asked_in svg words = asked_of svg (option_at words 0) (option_at words 1) (option_at words 2)
+
+abbrev pub AsksBy : Bool → List ℕ → Result (Form × Window) Trouble → Type 0
+AsksBy svg options (Ok asked) = asked_in svg (words_in options) ≡ Ok asked
+AsksBy svg options (Err t) = (t ≡ Memory) ⊎ ((wrong : ValueName) × (t ≡ Bad wrong) × (asked_in svg (words_in options) ≡ Err wrong))
+
 abbrev pub ShowsBy : Bool → List ℕ → List ℕ → Made → Type 0
 ShowsBy svg options bytes made =
-    OfWords (λ words. ShowsAsked (asked_of svg (option_at words 0) (option_at words 1) (option_at words 2)) bytes) options made
+    OfWords (λ words. AsAsked (asked_in svg words) (λ window. Shows window bytes)) options made
+
+-- the same of `show --lacks NAME`
+abbrev pub ShowsLackingBy : Bool → List ℕ → List ℕ → List ℕ → Made → Type 0
+ShowsLackingBy svg options name bytes made =
+    OfWords (λ words. AsAsked (asked_in svg words) (λ window. lacks.ByName (λ l m. lacks.Shows window l bytes m) name)) options made
 
 -- A tool ends so outside: what it made is handed over.
 abbrev pub Hands : (Made → Type 0) → List ℕ → List ℕ → ℕ → ℕ → Type 0

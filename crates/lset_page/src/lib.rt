@@ -20,15 +20,18 @@ ghost use Rattle.lset_tools.specs.Generating.{Generates};
 ghost use Rattle.tool_draft.specs.Drafting.{Drafts};
 ghost use Rattle.tool_trace.specs.Tracing.{Traces};
 ghost use Rattle.tool_examples.specs.Exampling.{Exampled};
-ghost use Rattle.lset_page.specs.Page.{Hands, OfText, OfWords, ShowsBy};
+ghost use Rattle.tool_lacks.specs.Lacks.{ByName};
+ghost use Rattle.tool_lacks.specs.Lacks as lacks;
+ghost use Rattle.lset_page.specs.Page.{Hands, OfText, OfWords, ShowsBy, ShowsLackingBy};
 
 use generating::generated_by;
 use handing::hand;
 use lset_tools::{checked, faults_told, replayed, reported};
-use showing::shown_by;
+use showing::{shown_by, shown_lacking_by};
 use std::alloc::Global;
 use tool_draft::drafted;
 use tool_examples::{exampled, exampled_by};
+use tool_lacks::{replayed_lacking, traced_lacking};
 use tool_trace::traced;
 
 /// What `listset replay` prints of the schedule whose text is given: its report, or the line about the first fault of the
@@ -130,6 +133,86 @@ pub extern "C" fn listset_show_svg(
     ensures { Hands (OfText (ShowsBy true options.now) text.now) room.old room.new status.new result }
 {
     hand(alloc, shown_by(alloc, text, true, options), room, status)
+}
+
+/// What `listset replay --lacks NAME` prints of the schedule whose text is given, by the list that lacks the check of this name: the
+/// report of its run; `listset: bad NAME: ..` with status 2 where no list has the name; or the line about the first fault of the
+/// text, about a schedule of another list, or about the event at which the run ends.
+#[unsafe(no_mangle)]
+pub extern "C" fn listset_replay_lacking(
+    alloc: Global,
+    name: &[u8],
+    text: &[u8],
+    room: &mut [u8],
+    status: &mut u8,
+) -> usize
+    ensures { Hands (OfText (λ bytes made. ByName (λ l m. lacks.Replays l bytes m) name.now made) text.now)
+        room.old room.new status.new result }
+{
+    hand(alloc, replayed_lacking(alloc, name, text), room, status)
+}
+
+/// What `listset trace --lacks NAME` prints of it: its trace, up to the event at which the run ends, which has status 1; or a line
+/// as of `listset_replay_lacking`.
+#[unsafe(no_mangle)]
+pub extern "C" fn listset_trace_lacking(
+    alloc: Global,
+    name: &[u8],
+    text: &[u8],
+    room: &mut [u8],
+    status: &mut u8,
+) -> usize
+    ensures { Hands (OfText (λ bytes made. ByName (λ l m. lacks.Traces l bytes m) name.now made) text.now)
+        room.old room.new status.new result }
+{
+    hand(alloc, traced_lacking(alloc, name, text, false), room, status)
+}
+
+/// What `listset trace --chain --lacks NAME` prints of it: the same, with the chain after each event that changed it.
+#[unsafe(no_mangle)]
+pub extern "C" fn listset_trace_with_chains_lacking(
+    alloc: Global,
+    name: &[u8],
+    text: &[u8],
+    room: &mut [u8],
+    status: &mut u8,
+) -> usize
+    ensures { Hands (OfText (λ bytes made. ByName (λ l m. lacks.Traces l bytes m) name.now made) text.now)
+        room.old room.new status.new result }
+{
+    hand(alloc, traced_lacking(alloc, name, text, true), room, status)
+}
+
+/// What `listset show --lacks NAME` prints of it: the picture of the report of its run, with status 1 where its order is refused, and
+/// a last line where counting shows that no order explains it; or a line as of `listset_replay_lacking`. The options are those of
+/// `listset_show`.
+#[unsafe(no_mangle)]
+pub extern "C" fn listset_show_lacking(
+    alloc: Global,
+    name: &[u8],
+    text: &[u8],
+    options: &[u8],
+    room: &mut [u8],
+    status: &mut u8,
+) -> usize
+    ensures { Hands (OfText (ShowsLackingBy false options.now name.now) text.now) room.old room.new status.new result }
+{
+    hand(alloc, shown_lacking_by(alloc, name, text, false, options), room, status)
+}
+
+/// What `listset show --svg --lacks NAME` prints of it: the same picture as an SVG.
+#[unsafe(no_mangle)]
+pub extern "C" fn listset_show_svg_lacking(
+    alloc: Global,
+    name: &[u8],
+    text: &[u8],
+    options: &[u8],
+    room: &mut [u8],
+    status: &mut u8,
+) -> usize
+    ensures { Hands (OfText (ShowsLackingBy true options.now name.now) text.now) room.old room.new status.new result }
+{
+    hand(alloc, shown_lacking_by(alloc, name, text, true, options), room, status)
 }
 
 /// What `listset draft` prints of the draft whose text is given: the schedule, or the line about the first fault of the text or the

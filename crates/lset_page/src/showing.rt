@@ -1,12 +1,25 @@
 ghost use Rattle.std.specs.Prelude.{◌≢◌, IfErr};
 ghost use Rattle.lset_tools.specs.Tools.{view};
 ghost use Rattle.lset_tools.specs.declared.trouble.Trouble.TheVariants.{CannotRead};
-ghost use Rattle.lset_page.specs.Page.{ShowsBy};
+ghost use Rattle.lset_page.specs.Page.{AsksBy, ShowsBy, ShowsLackingBy};
 
 use crate::words::{option_at, words_in};
+use lset_drawing::Window;
 use lset_tools::{Answer, Trouble};
 use std::alloc::Global;
-use tool_show::{read_asked, shown};
+use tool_lacks::shown_lacking;
+use tool_show::{Form, read_asked, shown};
+
+/// The form and the window for which the options ask. The errors are `Bad` where an option is wrong, and `Memory`.
+fn asked_by(alloc: Global, svg: bool, options: &[u8]) -> Result<(Form, Window), Trouble>
+    ensures { AsksBy svg options.now result }
+{
+    let words = words_in(alloc, options)?;
+    let from = option_at(&words, 0);
+    let to = option_at(&words, 1);
+    let width = option_at(&words, 2);
+    Ok(read_asked(svg, from, to, width)?)
+}
 
 /// The picture of the schedule or the report whose text the bytes are, as text or as an SVG (`svg`), within the moments and
 /// the width for which the options ask. The errors are those of `shown`, and `Bad` where an option is wrong.
@@ -14,10 +27,22 @@ pub fn shown_by(alloc: Global, bytes: &[u8], svg: bool, options: &[u8]) -> Resul
     ensures shows { ShowsBy svg options.now bytes.now (view result) }
     ensures read { IfErr result (λ t. t ≢ CannotRead) }
 {
-    let words = words_in(alloc, options)?;
-    let from = option_at(&words, 0);
-    let to = option_at(&words, 1);
-    let width = option_at(&words, 2);
-    let (form, window) = read_asked(svg, from, to, width)?;
+    let (form, window) = asked_by(alloc, svg, options)?;
     shown(alloc, bytes, form, window)
+}
+
+/// The picture of the report of the run of the schedule whose text the bytes are, by the list that lacks the check of this name. The
+/// errors are those of `shown_lacking`, and `Bad` where an option is wrong.
+pub fn shown_lacking_by(
+    alloc: Global,
+    name: &[u8],
+    bytes: &[u8],
+    svg: bool,
+    options: &[u8],
+) -> Result<Answer, Trouble>
+    ensures shows { ShowsLackingBy svg options.now name.now bytes.now (view result) }
+    ensures read { IfErr result (λ t. t ≢ CannotRead) }
+{
+    let (form, window) = asked_by(alloc, svg, options)?;
+    shown_lacking(alloc, name, bytes, form, window)
 }

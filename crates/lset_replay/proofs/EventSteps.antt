@@ -20,11 +20,11 @@ use Rattle.lset_replay.proofs.Followed.{TellsKeys, holds_keys, shown}
 use Rattle.lset_replay.proofs.Ready.{may_begin, may_step}
 
 -- what an event told is its entry
-told_entry : (T : Table) (s : State) (e : Event) → entry_told e (told T s e) ≡ entry_of T s e
+pub told_entry : (T : Table) (s : State) (e : Event) → entry_told e (told T s e) ≡ entry_of T s e
 told_entry T s (Begin t call) = refl
 told_entry T s (Go t) = refl
 
-run_more : (T : Table) (op : Opening) (es : ℕ → Event) (k : ℕ) → Run T op es k → Enabled (state_at T op es k) (es k)
+pub run_more : (T : Table) (op : Opening) (es : ℕ → Event) (k : ℕ) → Run T op es k → Enabled (state_at T op es k) (es k)
     → Run T op es (suc k)
 run_more T op es k r e = record {
   opens = r.opens;

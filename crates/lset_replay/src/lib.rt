@@ -16,11 +16,15 @@ mod traced;
 mod tracing;
 mod upto;
 
+pub use events::{LineEvent, event_of};
 pub use fault::ReplayFault;
 pub use listener::Listener;
+pub use order::in_order;
 pub use placed_report::PlacedReport;
+pub use places::{Linearized, OpenCall};
+pub use recorder::Recorder;
 pub use replaying::{replay, replay_with_points};
 pub use told::traces_tell_reports;
 pub use traced::{CallEnd, Deed, Trace, TracedEvent};
-pub use tracing::{trace, trace_to};
+pub use tracing::{call_end, open_number, trace, trace_to, writes_node};
 pub use upto::{FrontReport, replay_upto};

@@ -72,7 +72,7 @@ impl Recorder {
     }
 
     /// The least moment of an open call, up to a last one, that this reply fits, where the call changes nothing.
-    fn fit(&self, made: OpenCall, reply: Reply, last: u32) -> Option<u32>
+    pub fn fit(&self, made: OpenCall, reply: Reply, last: u32) -> Option<u32>
         requires { made.begun ≤ last }
         ensures { result ≡ fit (moments_of self.now.changes) made reply last }
     {

@@ -76,7 +76,7 @@ fn look<M: Machine>(world: &World<M>, recorder: &Recorder, event: Event) -> Opti
 }
 
 /// The number of the call that a thread has open.
-fn open_number(recorder: &Recorder, thread: u32) -> Option<u32>
+pub fn open_number(recorder: &Recorder, thread: u32) -> Option<u32>
     ensures { result ≡ open_number_of (open_call_at recorder.now.under_way.items thread) }
 {
     let open = (*recorder.under_way.get(thread as usize)?)?;
@@ -84,7 +84,7 @@ fn open_number(recorder: &Recorder, thread: u32) -> Option<u32>
 }
 
 /// The end of the call with a number, where there is an answer.
-fn call_end(recorder: &Recorder, number: Option<u32>, answer: Option<Reply>) -> Option<CallEnd>
+pub fn call_end(recorder: &Recorder, number: Option<u32>, answer: Option<Reply>) -> Option<CallEnd>
     ensures { result ≡ end_with answer number recorder.now.places.items }
 {
     let reply = answer?;
@@ -117,7 +117,7 @@ fn is_node_word(word: u64) -> bool
 }
 
 /// Whether a deed writes the key or the link of a node: any other leaves the chain as it was.
-fn writes_node(deed: Deed) -> bool
+pub fn writes_node(deed: Deed) -> bool
     ensures { result ≡ writes_node deed }
 {
     match deed {

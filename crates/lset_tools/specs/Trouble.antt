@@ -18,6 +18,7 @@ use Rattle.lset_tools.specs.declared.streams.InputFault.{InputFault}
 use Rattle.lset_tools.specs.declared.streams.InputFault.TheVariants as input
 use Rattle.lset_tools.specs.declared.trouble.KeyCause.{KeyCause}
 use Rattle.lset_tools.specs.declared.trouble.KeyCause.TheVariants as keys
+use Rattle.lset_tools.specs.declared.trouble.TheConstants.{LACKS}
 use Rattle.lset_tools.specs.declared.trouble.LineCause.{LineCause}
 use Rattle.lset_tools.specs.declared.trouble.LineCause.TheVariants as line
 use Rattle.lset_tools.specs.declared.trouble.ValueName.{ValueName}
@@ -115,6 +116,7 @@ abbrev pub name_of : LineCause → List ℕ
 name_of line.NoThread = codes "NoThread"
 name_of line.Busy = codes "Busy"
 name_of line.Idle = codes "Idle"
+name_of line.Lost = codes "Lost"
 name_of line.Waits = codes "Waits"
 name_of (line.Schedule schedule.Header) = codes "Header"
 name_of (line.Schedule schedule.Kind) = codes "Kind"
@@ -167,6 +169,7 @@ value_word value.Seats = codes "SEATS"
 value_word value.Port = codes "PORT"
 value_word value.Sessions = codes "SESSIONS"
 value_word value.Name = codes "NAME"
+value_word value.Lacks = LACKS.now
 value_word value.From = codes "FROM"
 value_word value.To = codes "TO"
 value_word value.Width = codes "WIDTH"

@@ -12,7 +12,7 @@ What a line about a fault says. The page docs/FORMATS.md has each with an exampl
 
 listset: line L: CAUSE, of a schedule, status 1
   Header    Line 1 is neither 'listset-schedule 1' nor 'listset-schedule 2'. The word draft makes a schedule of a draft.
-  Kind      Line 2 is not 'list' and one of coarse, fine, optimistic, lazy and lock-free.
+  Kind      Line 2 is not 'list' and one of coarse, fine, optimistic, lazy and lock-free, or not the list of --lacks NAME.
   Threads   Line 3 is not 'threads' and a number from 1 to 64.
   Quota     Line 4 is not 'quota' and a number from 0 to 16384.
   Event     The line is neither 'begin T CALL K' nor 'go T N', nor, in version 2 and above the first of these, 'opening K'.
@@ -23,6 +23,7 @@ listset: line L: CAUSE, of a schedule, status 1
   NoThread  The event is of a thread that is not below the number of threads.
   Busy      A thread begins a call and has one open.
   Idle      A thread makes a step and has no call open.
+  Lost      Of --lacks NAME alone: the list is so broken that the step names no word of its table.
 
 listset: line L: CAUSE, of a draft, status 1
   Header    Line 1 is not 'listset-draft 2'.
@@ -86,6 +87,7 @@ Other lines
   listset: cannot write   A write failed; status 1.
   listset: cannot listen  The system did not give the port; status 1.
   listset: bad NAME       The value or the option NAME is missing or is none that may stand there, or FROM is past the last moment; status 2.
+  listset: bad NAME: ..   No list lacks what --lacks names; the line has the names; status 2.
   listset: out of memory  The system gave no memory; status 3.
 ";
 

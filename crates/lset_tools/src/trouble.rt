@@ -9,6 +9,9 @@ use lset_report::{ReportCause, ReportFault};
 use lset_schedule::{Cause, ScheduleFault};
 use std::alloc::AllocError;
 
+/// The word for the name of a list that lacks a check, with the names that there are.
+const LACKS: &str = "NAME: it is none of lock, second-lock, hand-over-hand, second-walk, same-node, marks-in-validation, mark-in-contains, mark-in-ceiling, mark, mark-in-add, mark-in-remove, mark-at-key, new-slot or last-slot";
+
 /// Why a line of the keys with which a set is to open is refused.
 #[derive(Clone, Copy)]
 pub enum KeyCause {
@@ -35,6 +38,8 @@ pub enum LineCause {
     Busy,
     /// A thread makes a step on the line and has no call open.
     Idle,
+    /// A list that lacks a check is broken beyond running at an event of the line.
+    Lost,
     /// A thread does not come to where the line of a draft sends it.
     Waits,
     /// The text is no report.
@@ -59,6 +64,7 @@ pub enum ValueName {
     Port,
     Sessions,
     Name,
+    Lacks,
     From,
     To,
     Width,
@@ -223,6 +229,7 @@ impl LineCause {
             LineCause::NoThread => "NoThread",
             LineCause::Busy => "Busy",
             LineCause::Idle => "Idle",
+            LineCause::Lost => "Lost",
             LineCause::Waits => "Waits",
             LineCause::Schedule(cause) => match cause {
                 Cause::Header => "Header",
@@ -291,6 +298,7 @@ impl ValueName {
             ValueName::Port => "PORT",
             ValueName::Sessions => "SESSIONS",
             ValueName::Name => "NAME",
+            ValueName::Lacks => LACKS,
             ValueName::From => "FROM",
             ValueName::To => "TO",
             ValueName::Width => "WIDTH",

@@ -1,6 +1,6 @@
-ghost use Rattle.std.specs.Prelude.{◌≡◌, ◌≢◌, ◌<◌, IfOk, IsTrue, length, map};
+ghost use Rattle.std.specs.Prelude.{◌≡◌, ◌≢◌, ◌<◌, ◌≤◌, ◌↔◌, IfOk, IfSome, IsTrue, MatchOption, length, map};
 ghost use Rattle.std.specs.List.{range_with_len};
-ghost use Rattle.lset_steps.specs.Steps.{Enabled, idle, opening, opening_of, after, told, local_of, seen_by, left_by};
+ghost use Rattle.lset_steps.specs.Steps.{Enabled, idle, opening, opening_of, after, told, local_of, seen_by, seen_next, left_by};
 ghost use Rattle.lset_steps.specs.Laws.{word_named};
 ghost use Rattle.lset_steps.specs.Worlds.{WorldState};
 ghost use Rattle.lset_wrong_lists.specs.WrongSteps.{IsRunnable, IsSized, WrongStep};
@@ -66,7 +66,7 @@ fn idle_locals(alloc: Global, layout: &Layout) -> Result<Vec<Local>, AllocError>
 
 /// Whether every number is small enough to compute with.
 fn is_runnable(local: &Local) -> bool
-    ensures { IsTrue result → IsRunnable local.now }
+    ensures { IsTrue result ↔ IsRunnable local.now }
 {
     local.thread < MOST_THREADS
         && local.quota <= MOST_QUOTA
@@ -108,6 +108,17 @@ fn access(words: &mut Vec<u64>, action: Action) -> u64
     }
 }
 
+/// What an access will see.
+fn sight(words: &[u64], action: Action) -> u64
+    requires { word_named action < length words.now }
+    ensures { result ≡ seen_by words.now action }
+{
+    match action {
+        Action::Load(w) | Action::Exchange(w, _, _) => words[w as usize],
+        Action::Store(_, v) => v,
+    }
+}
+
 impl<M: WrongMachine> WrongWorld<M> {
     /// The world before any event of a list that opens with these keys.
     pub fn opened(alloc: Global, layout: &Layout, keys: &[u32]) -> Result<WrongWorld<M>, AllocError>
@@ -131,6 +142,34 @@ impl<M: WrongMachine> WrongWorld<M> {
         ensures { result.now ≡ self.now.state.words }
     {
         &self.words
+    }
+
+    /// What thread `t` holds; `None` where there is no such thread.
+    pub fn holds(&self, t: u32) -> Option<Local>
+        ensures { MatchOption result (self.now.sizes.threads ≤ t) (λ l.
+            (t < self.now.sizes.threads) × (l ≡ local_of self.now.state t)) }
+    {
+        if t < self.threads {
+            Some(self.local(t))
+        } else {
+            None
+        }
+    }
+
+    /// The next access of thread `t`, and the value that it will see; `None` where `step` refuses it.
+    pub fn next(&self, t: u32) -> Option<(Action, u64)>
+        ensures { IfSome result (λ s. (s.0 ≡ M.table.next (local_of self.now.state t))
+            × (s.1 ≡ seen_next M.table self.now.state t)) }
+    {
+        let local = self.holds(t)?;
+        if local.pc == 0 || !is_runnable(&local) {
+            return None;
+        }
+        let action = M::next(&local);
+        if word_of(action) >= self.words.len() as u64 {
+            return None;
+        }
+        Some((action, sight(&self.words, action)))
     }
 
     /// What thread `t` holds, below the number of threads.

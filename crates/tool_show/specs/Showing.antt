@@ -14,7 +14,7 @@ use Rattle.lset_drawing.specs.declared.picture.Window.{Window}
 use Rattle.lset_drawing.specs.Pictures.{PictureValue}
 use Rattle.lset_drawing.specs.Moments.{is_past_the_last}
 use Rattle.lset_tools.specs.declared.trouble.Trouble.{Trouble}
-use Rattle.lset_tools.specs.declared.trouble.Trouble.TheVariants.{Bad}
+use Rattle.lset_tools.specs.declared.trouble.Trouble.TheVariants.{Bad, Memory}
 use Rattle.lset_tools.specs.declared.trouble.ValueName.TheVariants.{From}
 use Rattle.lset_tools.specs.Tools.{Made, IsTaken, IsInputTrouble}
 use Rattle.lset_tools.specs.Trouble.{of_schedule}
@@ -56,6 +56,11 @@ IsFirstFault bytes t =
 -- 1 where a refusal is told, of an order or of an event
 abbrev pub status_of : PictureValue → ℕ
 status_of v = if is_none v.refusal && is_none v.refused then 0 else 1
+
+-- what is made of a picture: a text with its status, where it goes on to the first moment of the window
+abbrev pub IsDrawn : Window → PictureValue → Made → Type 0
+IsDrawn window v (Ok answer) = (is_past_the_last v window.from ≡ false) × (answer.status ≡ status_of v)
+IsDrawn window v (Err t) = (t ≡ Memory) ⊎ ((t ≡ Bad From) × (is_past_the_last v window.from ≡ true))
 
 -- THE FIRST MOMENT IS REFUSED where something happens in the picture, of a schedule, up to an event that is refused, or of a
 -- report, and all of it before that moment.

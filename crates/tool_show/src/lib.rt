@@ -13,4 +13,4 @@ pub use asking::{Form, read_asked};
 pub use endings::ending;
 pub use reports::picture_of_report;
 pub use schedules::picture_of_replay;
-pub use tool::{shown, tool_show};
+pub use tool::{drawn, shown, tool_show};

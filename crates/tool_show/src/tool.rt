@@ -11,6 +11,7 @@ ghost use Rattle.tool_show.specs.Showing.{
   ShowsReport,
   ShowsText,
   Shows,
+  IsDrawn,
   IsFirstFault,
   IsScheduleFault,
   IsWrong,
@@ -99,6 +100,22 @@ fn status_of(picture: &Picture) -> u8
     }
 }
 
+/// A picture as text, with its ending, or as an SVG, of the moments in `window`; the status is 1 where it tells a refusal, of an
+/// order or of an event, and else 0. The error is `Bad(From)` where the window begins past the last moment at which something
+/// happens, and `Memory`.
+pub fn drawn(alloc: Global, picture: &Picture, form: Form, window: Window) -> Result<Answer, Trouble>
+    ensures { IsDrawn window (view picture.now) (tools.view result) }
+{
+    if is_past_the_last(picture, window.from) {
+        return Err(Trouble::Bad(ValueName::From));
+    }
+    let text = text_of(alloc, picture, form, window)?;
+    Ok(Answer {
+        text,
+        status: status_of(picture),
+    })
+}
+
 /// The picture of the schedule or the report whose text the bytes are, as text or as an SVG. A window that begins past the
 /// last moment at which something happens is refused.
 fn answer_of(alloc: Global, bytes: &[u8], form: Form, window: Window) -> Result<Answer, Trouble>
@@ -107,14 +124,7 @@ fn answer_of(alloc: Global, bytes: &[u8], form: Form, window: Window) -> Result<
     ensures trouble { IfErr result (λ t. (t ≡ Memory) ⊎ IsWrong window bytes.now t) }
 {
     let picture = picture_of(alloc, bytes)?;
-    if is_past_the_last(&picture, window.from) {
-        return Err(Trouble::Bad(ValueName::From));
-    }
-    let text = text_of(alloc, &picture, form, window)?;
-    Ok(Answer {
-        text,
-        status: status_of(&picture),
-    })
+    drawn(alloc, &picture, form, window)
 }
 
 /// The answer of `show` on an input of these bytes: the picture of the schedule or the report whose text they are, of the

@@ -12,6 +12,15 @@ use lset_steps::{ChainKey, StepFault};
 use lset_text::{Header, put_header, put_openings};
 use std::alloc::{AllocError, Global};
 
+/// The cause for which an event is not enabled, as the last line has it.
+fn cause_word(cause: StepFault) -> &'static str {
+    match cause {
+        StepFault::NoThread => "NoThread",
+        StepFault::Busy => "Busy",
+        StepFault::Idle => "Idle",
+    }
+}
+
 /// What a trace has before its first event: its header, and the keys with which the set opens, which are the first chain.
 pub fn head_of(alloc: Global, schedule: &Schedule) -> Result<String, AllocError> {
     let header = Header {
@@ -25,31 +34,51 @@ pub fn head_of(alloc: Global, schedule: &Schedule) -> Result<String, AllocError>
     Ok(head)
 }
 
-/// Writes how a trace ends: with all events, or at the first that is not enabled.
-pub fn put_last(chunk: &mut Chunk, refused: Option<(u64, StepFault)>) {
-    let Some((line, cause)) = refused else {
+/// Writes how a trace ends: with all events, or at an event, by the number of its line and the word for the cause.
+fn put_end(chunk: &mut Chunk, end: Option<(u64, &str)>) {
+    let Some((line, cause)) = end else {
         return put(chunk, "end\n");
     };
     put(chunk, "refused line ");
     put_number(chunk, line);
-    put(
-        chunk,
-        match cause {
-            StepFault::NoThread => " NoThread\n",
-            StepFault::Busy => " Busy\n",
-            StepFault::Idle => " Idle\n",
-        },
-    );
+    put(chunk, " ");
+    put(chunk, cause);
+    put(chunk, "\n");
 }
 
-/// Writes the lines of each event that it hears of at the end of its text.
+/// Writes how a trace ends: with all events, or at the first that is not enabled.
+pub fn put_last(chunk: &mut Chunk, refused: Option<(u64, StepFault)>) {
+    put_end(chunk, refused.map(|(line, cause)| (line, cause_word(cause))));
+}
+
+/// A listener that writes the lines of each event that it hears of, as `trace` tells them, at the end of its text.
 #[derive(Drop)]
-struct EventLines {
+pub struct EventLines {
     text: Vec<u8>,
     chunk: Chunk,
 }
 
 impl EventLines {
+    /// The text so far is what stands before the first event.
+    pub fn after(head: String) -> EventLines {
+        EventLines {
+            text: head.into_bytes(),
+            chunk: Chunk::new(),
+        }
+    }
+
+    /// The whole text, where all events were heard, or those up to the line at which the run ended for this cause. An error is
+    /// want of memory.
+    pub fn ended(self, end: Option<(u64, &str)>) -> Result<Vec<u8>, AllocError> {
+        let mut lines = self;
+        if is_full(&lines.chunk) {
+            lines.pour()?;
+        }
+        put_end(&mut lines.chunk, end);
+        lines.pour()?;
+        Ok(lines.text)
+    }
+
     fn pour(&mut self) -> Result<(), AllocError> {
         self.text.extend_from_slice(self.chunk.as_str().as_bytes())?;
         self.chunk.clear();
@@ -98,13 +127,8 @@ pub fn text_of_run(
     requires { IsSchedule (view schedule.now) }
     ensures { IfOk result (λ r. IsHeard (view schedule.now) chains r.1) }
 {
-    let text = head_of(alloc, schedule)?.into_bytes();
-    let chunk = Chunk::new();
-    let (mut lines, refused) = trace_to(alloc, schedule, chains, EventLines { text, chunk })?;
-    if is_full(&lines.chunk) {
-        lines.pour()?;
-    }
-    put_last(&mut lines.chunk, refused);
-    lines.pour()?;
-    Ok((lines.text, refused))
+    let silent = EventLines::after(head_of(alloc, schedule)?);
+    let (lines, refused) = trace_to(alloc, schedule, chains, silent)?;
+    let text = lines.ended(refused.map(|(line, cause)| (line, cause_word(cause))))?;
+    Ok((text, refused))
 }

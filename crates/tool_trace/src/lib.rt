@@ -11,7 +11,8 @@ mod streamed;
 mod table_words;
 mod tool;
 
+pub use heard::EventLines;
 pub use tool::{tool_trace, traced};
 
 /// The first line of a trace's text.
-const TITLE: &str = "listset-trace 1";
+pub const TITLE: &str = "listset-trace 1";

@@ -7,9 +7,10 @@ is_show : (c : goal.After-and_arg) → Makes c.and_arg.result show_app
 is_show c =
     let file = both c.file_command-command.result _ c.file_command-command.ensures.app c.file_command-command.ensures.local in
     let svg = c.and_arg-command.ensures _ _ file c.flag.ensures.rule c.flag.ensures.local in
-    let from = c.and_arg-command-2.ensures _ _ svg c.number_option.ensures.rule c.number_option.ensures.local in
-    let to = c.and_arg-command-3.ensures _ _ from c.number_option-2.ensures.rule c.number_option-2.ensures.local in
-    c.and_arg.ensures _ _ to c.number_option-3.ensures.rule c.number_option-3.ensures.local
+    let from = c.and_arg-command-2.ensures _ _ svg c.value_option.ensures.rule c.value_option.ensures.local in
+    let to = c.and_arg-command-3.ensures _ _ from c.value_option-2.ensures.rule c.value_option-2.ensures.local in
+    let width = c.and_arg-command-4.ensures _ _ to c.value_option-3.ensures.rule c.value_option-3.ensures.local in
+    c.and_arg.ensures _ _ width c.lacks_option.ensures.rule c.lacks_option.ensures.local
 
 pub returns-clause-app : goal.returns-clause-app
 returns-clause-app c = IfOk-weaker c.and_arg.result _ _ (λ r is. is.0) (is_show c)

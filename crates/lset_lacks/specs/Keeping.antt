@@ -1,0 +1,54 @@
+-- What is kept of a run of a list that keeps no promise, as a function of what its events tell: as a replay keeps it
+-- (Rattle.lset_replay.specs.Trace), but that a change of a key that is so already is none, and that a call whose reply fits at no
+-- moment stands at its end.
+use Rattle.std.specs.Prelude.{◌≡◌, ℕ, zero, suc, Bool, true, false, not, List, Option, Some, None, slice_set, if◌then◌else◌}
+use Rattle.lset_words.specs.declared.Reply.{Reply}
+use Rattle.lset_words.specs.History.{call_numbered}
+use Rattle.lset_words.specs.Log.{Log, Entry, Change}
+use Rattle.lset_words.specs.Log.Entry.{began, stepped}
+use Rattle.lset_words.specs.Words.{Opening}
+use Rattle.lset_history.specs.History.{ended_with}
+use Rattle.lset_history.specs.Changes.{is_present, with_change}
+use Rattle.lset_replay.specs.declared.places.OpenCall.{OpenCall}
+use Rattle.lset_replay.specs.Blocks.{is_same}
+use Rattle.lset_replay.specs.Trace.{Trace, begun_on, changed_at, fit_of, no_trace, number_of, open_call_at, place_at, settled}
+
+-- a key is put in or taken out at a moment, unless it is so then
+abbrev pub noted : (ℕ → List ℕ) → ℕ → ℕ → Bool → ℕ → List ℕ
+noted changes moment key present = if is_same present (is_present changes key moment) then changes else with_change changes key moment
+
+abbrev pub noted_on : ℕ → ℕ → Option Change → Trace → Trace
+noted_on moment thread None s = s
+noted_on moment thread (Some (k, present)) s = record {
+  calls = s.calls;
+  under_way = s.under_way;
+  places = slice_set s.places (number_of (open_call_at s.under_way thread)) (Some (changed_at moment));
+  changes = noted s.changes moment k.0 present;
+}
+
+-- the first moment that fits, or else the end
+abbrev pub fit_or : ℕ → Option ℕ → ℕ
+fit_or end None = end
+fit_or end (Some moment) = moment
+
+abbrev pub closed_by : ℕ → ℕ → Reply → Option OpenCall → Trace → Trace
+closed_by moment thread reply o s = record {
+  calls = slice_set s.calls (number_of o) (ended_with (call_numbered s.calls (number_of o)) (moment, reply));
+  under_way = slice_set s.under_way thread None;
+  places = slice_set s.places (number_of o)
+      (settled (place_at s.places (number_of o)) (Some (fit_or moment (fit_of s.changes o reply moment))) reply);
+  changes = s.changes;
+}
+
+abbrev pub closed_on : ℕ → ℕ → Option Reply → Trace → Trace
+closed_on moment thread None s = s
+closed_on moment thread (Some reply) s = closed_by moment thread reply (open_call_at s.under_way thread) s
+
+abbrev pub kept_after : ℕ → Entry → Trace → Trace
+kept_after moment (began thread call) s = begun_on moment thread call s
+kept_after moment (stepped thread change reply) s = closed_on moment thread reply (noted_on moment thread change s)
+
+-- AFTER THE FIRST k EVENTS
+abbrev pub kept_at : Opening → Log → ℕ → Trace
+kept_at op log zero = no_trace op
+kept_at op log (suc k) = kept_after (suc k) (log k) (kept_at op log k)

@@ -1,0 +1,4 @@
+pub mod Lackings
+pub mod Keeping
+pub mod Meeting
+pub mod LackingRuns

@@ -1,0 +1,281 @@
+ghost use Rattle.std.specs.Prelude.{◌≡◌, ℕ, ◌<◌, ◌≤◌, ◌^◌, All, IfOk, IfSome, MatchOption, [], length};
+ghost use Rattle.std.specs.List.{sum_by};
+ghost use Rattle.lset_words.specs.Words.{Opens, sizes};
+ghost use Rattle.lset_history.specs.Changes.{moments_of};
+ghost use Rattle.lset_steps.specs.Steps.{opening};
+ghost use Rattle.lset_steps.specs.Worlds.{thread_of};
+ghost use Rattle.lset_schedule.specs.declared.TheConstants.{MOST_EVENTS};
+ghost use Rattle.lset_schedule.specs.Plan.{event_count, opening_in, view};
+ghost use Rattle.lset_replay.specs.Events.{IsInLimits, events_from};
+ghost use Rattle.lset_replay.specs.Trace.{no_trace, trace_of};
+ghost use Rattle.lset_replay.specs.Tracer.{deed_ahead};
+ghost use Rattle.lset_lacks.specs.Lackings.{table_of};
+ghost use Rattle.lset_lacks.specs.LackingRuns.{HasKept, MakesEvent, RunsAs, RunsLines};
+ghost use Rattle.lset_lacks.specs.Meeting.{met};
+
+use crate::keeping::{Unkept, follow};
+use crate::lacking::{Lacking, Task, on_lacking};
+use crate::meeting::{chain_met, keys_of};
+use lset_replay::{
+    Deed, LineEvent, Listener, Recorder, TracedEvent, call_end, event_of, in_order, open_number,
+    writes_node,
+};
+use lset_report::Report;
+use lset_schedule::{Line, Schedule, Version};
+use lset_steps::{ChainKey, Event, Local};
+use lset_words::layout_opening;
+use lset_wrong_lists::{WrongFault, WrongMachine, WrongWorld};
+use std::alloc::{AllocError, Global};
+
+/// How the run of a schedule ended: with the report of all its events, or at the event of a line.
+pub type LackingRun = Result<Report, (u64, WrongFault)>;
+
+/// Why an event is not made and kept.
+#[derive(Clone, Copy)]
+pub enum Stop {
+    At(WrongFault),
+    Memory,
+}
+
+impl From<AllocError> for Stop {
+    ghost from_gives = { λ _ stop. stop ≡ Stop.Memory };
+
+    fn from(_refused: AllocError) -> Stop {
+        Stop::Memory
+    }
+}
+
+impl From<WrongFault> for Stop {
+    ghost from_gives = { λ fault stop. stop ≡ Stop.At fault };
+
+    fn from(fault: WrongFault) -> Stop {
+        Stop::At(fault)
+    }
+}
+
+impl From<Unkept> for Stop {
+    ghost from_gives = { λ unkept stop. stop ≡ stop_of unkept };
+
+    fn from(unkept: Unkept) -> Stop {
+        match unkept {
+            Unkept::Lost => Stop::At(WrongFault::Lost),
+            Unkept::Memory => Stop::Memory,
+        }
+    }
+}
+
+fn thread_of(event: Event) -> u32
+    ensures { result ≡ thread_of event }
+{
+    match event {
+        Event::Begin(thread, _) | Event::Go(thread) => thread,
+    }
+}
+
+/// A run under way: the world, what is kept of its events, and the chain that was told last.
+#[derive(Drop)]
+struct Running<M: WrongMachine> {
+    world: WrongWorld<M>,
+    recorder: Recorder,
+    chain: Vec<ChainKey>,
+}
+
+impl<M: WrongMachine> Running<M> {
+    /// What a thread holds before an event, and what the event will do, where it can be made.
+    fn look(&self, event: Event) -> Option<(Local, Deed)>
+        requires { length self.now.recorder.places.items < 2 ^ 32 }
+        ensures { IfSome result (λ r. (r.0 ≡ local_of self.now.world.state (thread_of event))
+            × (r.1 ≡ deed_ahead M.table self.now.world.state (length self.now.recorder.places.items) event)) }
+    {
+        let deed = match event {
+            Event::Begin(_, call) => Deed::Begin(call, self.recorder.places.len() as u32),
+            Event::Go(thread) => {
+                let (action, seen) = self.world.next(thread)?;
+                Deed::Access(action, seen)
+            }
+        };
+        Some((self.world.holds(thread_of(event))?, deed))
+    }
+
+    /// The chain after a deed, where it is another than the one told last, in whose place it then comes.
+    fn changed_chain(&mut self, alloc: Global, deed: Deed) -> Result<Option<Vec<ChainKey>>, AllocError>
+        ensures chain { IfOk result (λ chain. IfSome chain (λ c. c.items ≡ met self.old.world.state.words)) }
+        ensures world { self.new.world ≡ self.old.world }
+        ensures recorder { self.new.recorder ≡ self.old.recorder }
+    {
+        if !writes_node(deed) {
+            return Ok(None);
+        }
+        let chain = chain_met(alloc, self.world.words())?;
+        if chain.as_slice() == self.chain.as_slice() {
+            return Ok(None);
+        }
+        self.chain = chain.iter().copied().collect(alloc)?;
+        Ok(Some(chain))
+    }
+
+    /// Makes the event that leads to a moment, keeps it, and tells it, with the chain where `chains`.
+    fn make(&mut self, alloc: Global, next: LineEvent, moment: u32, chains: bool) -> Result<TracedEvent, Stop>
+        requires counted { 0 < moment }
+        requires few { length self.old.recorder.places.items < 2 ^ 32 }
+        requires later { (j : ℕ) → All (λ m. m < moment) (moments_of self.old.recorder.changes j) }
+        ensures { MakesEvent M.table next moment self.old.world self.old.recorder result self.new.world self.new.recorder }
+    {
+        let thread = thread_of(next.event);
+        let ahead = self.look(next.event);
+        let number = open_number(&self.recorder, thread);
+        let told = self.world.step(next.event)?;
+        let (Some((before, deed)), Some(after)) = (ahead, self.world.holds(thread)) else {
+            return Err(Stop::At(WrongFault::Lost));
+        };
+        follow(&mut self.recorder, next.event, told, moment)?;
+        let chain = if chains { self.changed_chain(alloc, deed)? } else { None };
+        Ok(TracedEvent {
+            line: next.line,
+            thread,
+            deed,
+            before,
+            after,
+            change: told.change,
+            end: call_end(&self.recorder, number, told.answer),
+            chain,
+        })
+    }
+
+    /// Makes the events of the lines, one after another, up to one that is not made; the first line has the number `first`.
+    fn make_lines<L: Listener>(
+        &mut self,
+        alloc: Global,
+        listener: &mut L,
+        first: u64,
+        lines: &[Line],
+        chains: bool,
+    ) -> Result<Option<(u64, WrongFault)>, AllocError>
+        requires header { first ≤ 2 ^ 32 }
+        requires few { sum_by event_count lines.now ≤ MOST_EVENTS }
+        requires start { HasKept M.table self.old.recorder.history.opening (events_from first lines.now) 0
+            self.old.world self.old.recorder }
+        requires silence { L.has_heard listener.old [] listener.old }
+        ensures { IfOk result (λ end. RunsLines (λ events. L.has_heard listener.old events listener.new) M.table
+            self.old.recorder.history.opening (events_from first lines.now) end self.new.world self.new.recorder) }
+    {
+        let mut moment = 0u32;
+        for (index, line) in lines.iter().enumerate() {
+            let (next, times) = event_of(first + index as u64, *line);
+            for _done in 0..times {
+                moment += 1;
+                match self.make(alloc, next, moment, chains) {
+                    Ok(told) => listener.hear(moment, told)?,
+                    Err(Stop::At(cause)) => return Ok(Some((next.line, cause))),
+                    Err(Stop::Memory) => return Err(AllocError),
+                }
+            }
+        }
+        Ok(None)
+    }
+}
+
+/// A run before any event of a schedule.
+fn start_of<M: WrongMachine>(alloc: Global, schedule: &Schedule) -> Result<Running<M>, AllocError>
+    requires { Opens (opening_in (view schedule.now)) }
+    ensures world { IfOk result (λ r. r.world ≡ record {
+      sizes = sizes (opening_in (view schedule.now));
+      state = opening (opening_in (view schedule.now));
+    }) }
+    ensures trace { IfOk result (λ r. trace_of r.recorder ≡ no_trace (opening_in (view schedule.now))) }
+    ensures opening { IfOk result (λ r. r.recorder.history.opening ≡ opening_in (view schedule.now)) }
+{
+    let keys = schedule.opening.as_slice();
+    let Ok(layout) = layout_opening(schedule.threads, schedule.quota, keys.len() as u32) else {
+        unreachable!();
+    };
+    let world = WrongWorld::<M>::opened(alloc, &layout, keys)?;
+    let chain = chain_met(alloc, world.words())?;
+    let recorder = Recorder::new(alloc, schedule.threads, schedule.quota, keys.to_vec(alloc)?)?;
+    Ok(Running {
+        world,
+        recorder,
+        chain,
+    })
+}
+
+/// Runs a schedule by the list `M`.
+fn run_on<M: WrongMachine, L: Listener + Drop>(
+    alloc: Global,
+    schedule: &Schedule,
+    chains: bool,
+    listener: L,
+) -> Result<(L, LackingRun), AllocError>
+    requires schedule { IsInLimits (view schedule.now) }
+    requires silence { L.has_heard listener [] listener }
+    ensures { IfOk result (λ r. RunsAs (λ events. L.has_heard listener events r.0) M.table (view schedule.now) r.1) }
+{
+    let mut listener = listener;
+    let mut running = start_of::<M>(alloc, schedule)?;
+    let first = schedule.first_event_line();
+    let end = running.make_lines(alloc, &mut listener, first, &schedule.lines, chains)?;
+    if let Some(end) = end {
+        return Ok((listener, Err(end)));
+    }
+    let ordered = in_order(alloc, &running.recorder.places)?;
+    let met = chain_met(alloc, running.world.words())?;
+    let report = Report {
+        version: Version::Two,
+        kind: schedule.kind,
+        history: running.recorder.history,
+        order: ordered.order,
+        keys: keys_of(alloc, &met)?,
+    };
+    Ok((listener, Ok(report)))
+}
+
+/// The run of a schedule, whatever the list lacks.
+#[derive(Drop)]
+struct Runs<'a, L: Listener> {
+    alloc: Global,
+    schedule: &'a Schedule,
+    chains: bool,
+    listener: L,
+}
+
+impl<L: Listener + Drop> Task for Runs<'_, L> {
+    type Out = Result<(L, LackingRun), AllocError>;
+
+    ghost may = { λ task. IsInLimits (view task.schedule.now) × L.has_heard task.listener [] task.listener };
+
+    ghost done = { λ task table result. IfOk result (λ r. RunsAs (λ events. L.has_heard task.listener events r.0) table
+        (view task.schedule.now) r.1) };
+
+    fn run<M: WrongMachine>(self) -> Result<(L, LackingRun), AllocError> {
+        run_on::<M, L>(self.alloc, self.schedule, self.chains, self.listener)
+    }
+}
+
+/// Runs a schedule by a list that lacks a check, whatever list the schedule names. It tells a listener of each event, with the
+/// chain after each that changed it where `chains`, and gives it back; and the report of the run, or of the event at which the
+/// run ends its line and the cause: it is not enabled, or, `Lost`, the list is broken beyond running.
+///
+/// The report has the calls and replies of the run. A call that told a change stands at that event; another that ended, at the
+/// first moment of its bar that its reply fits by the changes told, and at its end where there is none. The keys are those of the
+/// unmarked nodes that a walk from the head meets. So no order need explain it, and this one may fail where another does:
+/// `check_order` judges it. The schedule is within its limits, as what `read_schedule` gives. An error is want of memory, also
+/// of the listener. (This project's own.)
+pub fn run_lacking<L: Listener + Drop>(
+    alloc: Global,
+    lacking: Lacking,
+    schedule: &Schedule,
+    chains: bool,
+    listener: L,
+) -> Result<(L, LackingRun), AllocError>
+    requires schedule { IsInLimits (view schedule.now) }
+    requires silence { L.has_heard listener [] listener }
+    ensures { IfOk result (λ r. RunsAs (λ events. L.has_heard listener events r.0) (table_of lacking) (view schedule.now) r.1) }
+{
+    let task = Runs {
+        alloc,
+        schedule,
+        chains,
+        listener,
+    };
+    on_lacking(lacking, task)
+}
