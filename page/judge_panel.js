@@ -27,7 +27,7 @@ class Judging {
     Object.assign(this, { held: null, verdict: null, tries: 0, moment: 0, told: LEVELS[exercise.level].task });
     document.body.classList.toggle("claim", exercise.level === "claim");
     document.body.classList.add("judging");
-    judgePart("level").value = exercise.level;
+    if (page.lacks === null) judgePart("level").value = exercise.level;
     show();
   }
 

@@ -38,6 +38,7 @@ function driveBreaking() {
   driveDoubt();
   driveBrokenExample();
   driveKeptBroken();
+  driveLackingLesson();
   pick("snip");
   check("a whole list has no such box", part("break-box").hidden && !inPage("document.body.classList.contains('breaking')"));
 }
@@ -88,6 +89,21 @@ function driveBrokenExample() {
   check("it can be stepped", inPage("page.count") === inPage("page.trace.total") && inPage("page.trace.lacks") === "second-walk");
   pick("behind-the-walk");
   check("an example that shows no check offers none", part("see-broken").hidden);
+}
+
+// A lesson whose list lacks a check is begun and solved like any other.
+function driveLackingLesson() {
+  const lines = ["listset-course 1", "course Broken", "lesson one", "title One", "list fine", "lacks second-lock", "threads 2", "quota 2"];
+  part("lesson-course-text").value = [...lines, "opening 3 7", "question", "  Which check?", ""].join("\n");
+  part("lesson-try").click();
+  part("lesson-start").click();
+  check("the lesson's list lacks the check", inPage("page.trace.lacks") === "second-lock" && !part("break-box").hidden);
+  check("it is not solved", textOf("lesson-verdict") === "A solution shows all of this:" && textOf("lesson-conditions").startsWith("○ No order"));
+  for (const deed of DEEDS["second-lock"].split(", ")) doDeed(deed);
+  check(`it is solved: ${textOf("lesson-verdict")}`, textOf("lesson-verdict") === "Solved.");
+  pick("break: lock");
+  check("another list is not the lesson's", textOf("lesson-verdict").startsWith("Press Start."));
+  typeChoice(part("lesson-course"), inPage("BOOK_NAME"));
 }
 
 // What was broken has a tick, is handed in, and its address opens it again without a name.
