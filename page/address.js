@@ -1,7 +1,7 @@
 // The address of a schedule, as #list=lazy&threads=2&quota=4&s=b0.add.5,g0.11&event=12, of an example, as #example=snip&event=17,
 // of a course of lessons, as #course=.. with its text packed, or of two lists side by side. With &view=lecture, list or history it
-// shows only that; with &lacks=3 the schedule is run on the third of the lists that lack a check, whose name would tell too much. An
-// address is made a text again; whether that is a schedule says the engine.
+// shows only that; with &lacks=3 the schedule is run on the third of the lists that lack a check, whose name would tell too much.
+// An address is made a text again; whether that is a schedule says the engine.
 "use strict";
 
 const LONGEST_ADDRESS = 30000; // characters; a longer schedule has no address

@@ -9,7 +9,8 @@ const LACKING_THREADS = 2;
 const LACKING_QUOTA = 2;
 const LACKING_OPENING = [3, 7]; // what such a list opens with, until the reader changes that
 const EXPLAINED = "Explained: this schedule does not break it.";
-const BY_POINTS = "Not by its points: check refuses the order by the moments that the table names. Another order may explain these replies: try";
+const BY_POINTS =
+  "Not by its points: check refuses the order by the moments that the table names. Another order may explain these replies: try";
 const UNEXPLAINED = "No order of these calls explains that (proved by counting).";
 
 // LazyList's `contains` and `ceiling` without the mark: counting refutes no run of theirs, and so an order that is refused is what

@@ -7,7 +7,8 @@ const BREAK = "break: ";
 const MOST_BROKEN = 1000; // events of a run that is judged
 
 const breaking = { trace: null, verdict: null };
-const brokenLines = () => Object.entries(keptUnder(BROKEN) ?? {}).filter(([name, line]) => Object.hasOwn(LACKING, name) && isText(line));
+const isBroken = ([name, line]) => Object.hasOwn(LACKING, name) && isText(line);
+const brokenLines = () => Object.entries(keptUnder(BROKEN) ?? {}).filter(isBroken);
 
 function showBreaking() {
   const { trace } = page;
@@ -20,7 +21,7 @@ function showBreaking() {
   drawBreaking(trace, breaking.verdict);
 }
 
-const tooLong = ({ total }) => ({ kind: "refused", says: `Judged are runs of at most ${MOST_BROKEN} events: this one has ${total}.` });
+const tooLong = ({ total }) => ({ kind: "refused", says: `Judged are at most ${MOST_BROKEN} events: this run has ${total}.` });
 
 function drawBreaking({ lacks }, { kind, says }) {
   byId("break-title").textContent = `${titleOfLacking(lacks)}:`;
@@ -55,8 +56,8 @@ function keepBroken(trace) {
 // The lists that lack a check, in the list of what can be opened, with a tick at each that was broken.
 function fillBreaks() {
   const broken = new Set(brokenLines().map(([name]) => name));
-  const options = Object.keys(LACKING).map((name) => new Option(`${broken.has(name) ? "✓ " : ""}${titleOfLacking(name)}`, `${BREAK}${name}`));
-  byId("break-options").replaceChildren(...options);
+  const textOf = (name) => `${broken.has(name) ? "✓ " : ""}${titleOfLacking(name)}`;
+  byId("break-options").replaceChildren(...Object.keys(LACKING).map((name) => new Option(textOf(name), `${BREAK}${name}`)));
 }
 
 function openLacking(name, schedule, told = "") {

@@ -206,7 +206,8 @@ function takeHeader(lines) {
   const [threads, quota] = more.slice(-2);
   title.expect("1");
   const kind = list.oneOf(Object.keys(LISTS), "list");
-  if (more.length === 3) more[0].oneOf(Object.keys(LACKING).filter((name) => LACKING[name] === kind), `check that a ${kind} list lacks`);
+  const names = Object.keys(LACKING).filter((name) => LACKING[name] === kind);
+  if (more.length === 3) more[0].oneOf(names, `check that a ${kind} list lacks`);
   const trace = {
     threads: threads.number(1, MOST_THREADS, "number of threads"),
     quota: quota.number(0, MOST_QUOTA, "quota"),

@@ -1,5 +1,5 @@
-// What docs/CLASSIC.md says, by page/build: of each example its question, what it turns on, at which events, what goes wrong
-// without it, and which lists of its kind lack that check; and the kind of each list that lacks one.
+// What docs/CLASSIC.md says, by page/build: of each example its question, what it turns on, at which events, what goes
+// wrong without it, and which lists of its kind lack that check; and the kind of each list that lacks one.
 "use strict";
 
 const CLASSICS = {

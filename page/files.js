@@ -105,12 +105,13 @@ function scrollToClash() {
 
 // The report of the schedule that is shown, or the line about its first fault.
 async function showOwnReport(schedule) {
-  const answer = page.lacks === null ? await askLong("listset_replay", schedule) : askList(askNow, "listset_replay", page.lacks, schedule);
+  const { lacks } = page;
+  const answer = lacks === null ? await askLong("listset_replay", schedule) : askList(askNow, "listset_replay", lacks, schedule);
   if (page.text !== schedule) return;
   if (answer.status === 0) return showReport(answer.text, "The report of this schedule:");
   byId("report").textContent = answer.text;
   byId("report-of").textContent = "There is no report:";
   byId("checked").textContent = "—";
-  if (page.lacks === null) drawPicture(schedule);
+  if (lacks === null) drawPicture(schedule);
   else byId("picture-box").hidden = true;
 }

@@ -1,5 +1,5 @@
 // A text that is handed in: a title, the course and the student, and a line for each solution: the name of its lesson, a space and
-// the address of a schedule (or a whole link that ends with it), an order that was judged right, or the schedule that breaks a list.
+// the address of a schedule (or a whole link that ends with it), an order that was judged right, or what breaks a list.
 //
 //     listset-lessons 2
 //     course The twelve lessons of the five lists
@@ -125,8 +125,8 @@ function judgedOrder(ask, [run = "", level = "", word = "", ...more]) {
   return { task, isSolved: isRight === true, says: isRight === true ? "" : says };
 }
 
-// Of a line `break NAME SCHEDULE`: whether counting refutes the run of the list that lacks this check, or for want of that its order
-// is refused.
+// Of a line `break NAME SCHEDULE`: whether counting refutes the run of the list that lacks this check, or, where counting never can,
+// its order is refused.
 function judgedBreak(ask, [name = "", link = "", ...more]) {
   const task = `break ${name}`;
   const not = (says) => ({ task, isSolved: false, says });

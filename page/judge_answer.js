@@ -126,7 +126,8 @@ function verdictOn(ask, answer) {
 // that counting refutes has none. Of any other nothing is said.
 function verdictOnClaim(ask, { isWhole, reportText }) {
   const said = (isRight, says) => ({ isRight, clash: null, report: null, says });
-  if (isWhole) return said(false, "There is one: this is a run of a list that is proved to have an order for each of its runs. Find it.");
+  const there = "There is one: this is a run of a list that is proved to have an order for each of its runs. Find it.";
+  if (isWhole) return said(false, there);
   const isCounted = ask("listset_show", reportText).text.includes(`\n${COUNTED}`);
   if (isCounted) return said(true, "Right: no order explains this report (proved by counting). A list that lacks a check gave it.");
   return said(null, "Counting does not tell: a list that lacks a check gave this report, and another order may explain it.");

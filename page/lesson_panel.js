@@ -205,8 +205,8 @@ class LessonsOnPage {
 
   // The text with all solutions is shown, and copied where the browser does that.
   async handIn() {
-    const solved = this.course.lessons.filter(({ name }) => this.isSolved(name));
-    const solutions = solved.map(({ name }) => ({ name, schedule: this.own.solutions.get(name) }));
+    const lessons = this.course.lessons.filter(({ name }) => this.isSolved(name));
+    const solutions = lessons.map(({ name }) => ({ name, schedule: this.own.solutions.get(name) }));
     const orders = Object.values(keptUnder(JUDGED) ?? {}).filter(isText);
     const broken = brokenLines().map(([, line]) => line);
     const box = lessonPart("text");
@@ -214,7 +214,8 @@ class LessonsOnPage {
     box.hidden = false;
     box.focus();
     box.select();
-    const count = `${solutions.length} solution${solutions.length === 1 ? "" : "s"}, ${orders.length} judged orders and ${broken.length} broken lists`;
+    const solved = `${solutions.length} solution${solutions.length === 1 ? "" : "s"}`;
+    const count = `${solved}, ${orders.length} judged orders and ${broken.length} broken lists`;
     const isCopied = await copied(box.value);
     lessonPart("told").textContent = isCopied ? `The text with ${count} is copied.` : `Copy this text: it has ${count}.`;
   }

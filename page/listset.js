@@ -1,10 +1,10 @@
 // The words of ./listset that need no proof and no toolchain, in node: the proved replayer as the module of this folder.
 //
-//     node page/listset.js replay [FILE]            node page/listset.js trace [--chain] [FILE]     (both, and show: [--lacks NAME])
+//     node page/listset.js replay [FILE]            node page/listset.js trace [--chain] [FILE]
 //     node page/listset.js report [FILE]            node page/listset.js show [--svg] [--from M] [--to M] [--width N] [FILE]
 //     node page/listset.js check [FILE]             node page/listset.js example [--broken] [NAME]
 //     node page/listset.js draft [FILE]             node page/listset.js gen KIND THREADS QUOTA CALLS KEYS SEED
-//     node page/listset.js faults
+//     node page/listset.js faults                   and of replay, trace and show [--lacks NAME]
 //     node page/listset.js --words                  the first words of these lines, one a line
 //
 // FILE may be -, the word for the standard input. Output, line about a trouble and exit status are the program's

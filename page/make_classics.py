@@ -33,6 +33,6 @@ def classics_text(page):
         lacks = [one for one in named if lacking.get(one) == kinds.get(kind.lower())]
         classics[name] = {"question": said["question"], "turnsOn": said["turns_on"], "without": said["without"],
                           "turns": turns_of(section), "lacks": lacks}
-    return ("// What docs/CLASSIC.md says, by page/build: of each example its question, what it turns on, at which events, what goes wrong\n"
-            "// without it, and which lists of its kind lack that check; and the kind of each list that lacks one.\n"
+    return ("// What docs/CLASSIC.md says, by page/build: of each example its question, what it turns on, at which events, what goes\n"
+            "// wrong without it, and which lists of its kind lack that check; and the kind of each list that lacks one.\n"
             f'"use strict";\n\nconst CLASSICS = {in_lines(classics)};\n\nconst LACKING = {in_lines(lacking)};\n')

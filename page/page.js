@@ -91,7 +91,8 @@ function showThreads(event) {
 
 // The table of the list's rows, while it is unfolded.
 function showTable(moment) {
-  byId("table-title").textContent = `The table of ${LISTS[page.trace.kind].name}${page.lacks === null ? "" : ", which lacks nothing"}`;
+  const which = page.lacks === null ? "" : ", which lacks nothing";
+  byId("table-title").textContent = `The table of ${LISTS[page.trace.kind].name}${which}`;
   if (byId("table-box").open) byId("table").innerHTML = drawTable(moment);
 }
 

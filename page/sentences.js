@@ -189,5 +189,6 @@ function sentenceOf(moment, hidden = []) {
   if (event.deed === "begin") return `${chipOf(event.thread)} ${deedText(event)}`;
   const told = Object.keys(OUTCOMES).filter((name) => !hidden.includes(name));
   const outcomes = told.map((name) => OUTCOMES[name](moment));
-  return [chipOf(event.thread), deedText(event, moment.before.pc), ...outcomes, effectText(moment, hidden)].filter((text) => text !== "").join(" ");
+  const parts = [chipOf(event.thread), deedText(event, moment.before.pc), ...outcomes, effectText(moment, hidden)];
+  return parts.filter((text) => text !== "").join(" ");
 }

@@ -6,8 +6,8 @@ const fs = require("fs");
 const path = require("path");
 const { inPage, loadScripts, startedEngine } = require("../in_node.js");
 
-const SCRIPTS = ["rows", "classics", "trace", "check_trace", "schedule_text", "state", "address", "svg", "draw_history", "sentences",
-  "draw_list", "judge_answer", "break_it", "run", "goal_words", "lesson_text", "judge_lesson", "hand_in", "files"];
+const SCRIPTS = ["rows", "classics", "trace", "check_trace", "schedule_text", "state", "address", "svg", "draw_history",
+  "sentences", "draw_list", "judge_answer", "break_it", "run", "goal_words", "lesson_text", "judge_lesson", "hand_in", "files"];
 loadScripts(...SCRIPTS.map((name) => `${name}.js`));
 const LACKING = inPage("LACKING");
 const NAMES = Object.keys(LACKING);
@@ -32,7 +32,7 @@ function checkBroken(ask, name) {
   const schedule = scheduleOf(name);
   const { kind, says } = verdictOnLacking(ask, name, schedule);
   check(`${name} is broken: ${says}`, kind === (isUncounted(name) ? "points" : "broken"));
-  check(`${name}: of an order that is refused alone it says: ${says}`, says.includes("(proved by counting)") === (kind === "broken"));
+  check(`${name}: of a refused order alone it says: ${says}`, says.includes("(proved by counting)") === (kind === "broken"));
   const line = CLASSIC.split("\n").find((one) => one.startsWith(`- \`${name}\` (${LACKING[name]}): `)) ?? "";
   const counted = says.slice("Broken: ".length, says.indexOf(". No order")).replace(LOST, "$1 is lost");
   const told = kind === "broken" ? `${counted}.` : "the order is refused, and counting tells nothing.";
@@ -42,7 +42,8 @@ function checkBroken(ask, name) {
   const whole = ask("listset_trace", schedule).text.replace(/^refused .*\n/m, "end\n");
   const replayed = ask("listset_replay", inPage("scheduleOfTrace")(new Trace(whole, 2)));
   check(`${name}: the whole list explains its part of it`, ask("listset_check", replayed.text).text === "ok\n");
-  check(`${name} is a list of one kind`, verdictOnLacking(ask, name, schedule.replace(/^list .*$/m, "list none")).kind === "refused");
+  const ofOther = schedule.replace(/^list .*$/m, `list ${LACKING[name] === "lazy" ? "fine" : "lazy"}`);
+  check(`${name} is a list of one kind`, verdictOnLacking(ask, name, ofOther).kind === "refused");
 }
 
 // Each event has its sentence and its picture, and the whole list departs at one of them: up to it both make the same.
@@ -56,9 +57,10 @@ function checkDeparture(ask, name) {
     check(`${name}: event ${count} is told and drawn`, inPage("sentenceOf")(moment) !== "" && isDrawn);
   }
   const { event, here, whole } = departureOf(ask, trace);
-  check(`${name} departs at ${event}: ${plain(here)} | ${plain(whole)}`, event > 0 && event <= trace.total && here !== whole);
+  check(`${name} departs at ${event}: ${plain(here)} | ${plain(whole)}`, event <= trace.total && here !== whole);
   const common = new Trace(ask("listset_trace", inPage("scheduleOfTrace")(trace, event - 1)).text, 2);
-  check(`${name}: up to event ${event} they agree`, inPage("eventsInCommon")(trace, common) === event - 1 && common.total === event - 1);
+  const agree = inPage("eventsInCommon")(trace, common);
+  check(`${name}: up to event ${event} they agree`, agree === event - 1 && common.total === event - 1);
 }
 
 // Its trace as a file: by the grammar, compared with the engine's; and another name in it is none.
@@ -67,7 +69,7 @@ function checkFile(engine, ask, name) {
   check(`${name}: its trace is one: ${inPage("faultOfTrace")(text)}`, inPage("faultOfTrace")(text) === null);
   const compared = (given) => inPage("comparedTrace")(engine, new Trace(given, 2));
   check(`${name}: ${compared(text)}`, compared(text) === "a trace from a file, and the engine gives the same for its schedule");
-  const whole = compared(text.replace(/^lacks .*\n/m, ""));
+  const whole = compared(text.replace(/^lacks .*\n/m, "")); // as if the whole list had made it
   const { event } = departureOf(ask, new Trace(text, 2));
   check(`${name}: as one of the whole list: ${whole}`, whole.endsWith(`the proved replayer gives another, from its event ${event} on`));
   check(`${name}: a check that is none`, inPage("faultOfTrace")(text.replace(`lacks ${name}`, "lacks luck"))?.startsWith("line 3: "));
@@ -148,12 +150,14 @@ function checkLesson(ask) {
   const judged = inPage("judged")(ask, lessons[0], scheduleOf("hand-over-hand"));
   check("another schedule solves it", judged.isSolved && judged.conditions.length === 1);
   const begun = inPage("judged")(ask, lessons[0], lessons[0].begun);
-  check(`its start does not: ${JSON.stringify(begun.conditions)}`, !begun.isSolved && begun.conditions[0].says === inPage("UNEXPLAINED"));
-  const more = tried(`${LESSON}goal\n  call C of 0: add\n  say Thread 0 adds.\n`);
-  check(`a goal beside it: ${more.faults[0]?.fault}`, more.faults[0]?.fault.includes("its answer does not solve it: missing: Thread 0 adds."));
-  const wrong = tried(LESSON.replace("lacks hand", "lacks hands"));
-  check("a list that there is not", wrong.faults[0].line === 6 && wrong.faults[0].fault.startsWith('there is no fine list that lacks "hands'));
-  check("a goal is due of a whole list", tried(LESSON.replace(/^lacks .*\n/m, "")).faults[0].fault.includes('lacks "goal"'));
+  const [condition] = begun.conditions;
+  check(`its start does not: ${JSON.stringify(condition)}`, !begun.isSolved && condition.says === inPage("UNEXPLAINED"));
+  const faultOf = (text) => tried(text).faults[0] ?? { line: 0, fault: "none" };
+  const more = faultOf(`${LESSON}goal\n  call C of 0: add\n  say Thread 0 adds.\n`).fault;
+  check(`a goal beside it: ${more}`, more.endsWith("its answer does not solve it: missing: Thread 0 adds."));
+  const wrong = faultOf(LESSON.replace("lacks hand", "lacks hands"));
+  check("a list that there is not", wrong.line === 6 && wrong.fault.startsWith('there is no fine list that lacks "hands'));
+  check("a goal is due of a whole list", faultOf(LESSON.replace(/^lacks .*\n/m, "")).fault.includes('lacks "goal"'));
 }
 
 async function main() {

@@ -61,7 +61,7 @@ function driveBreak(name) {
   const line = breakText("line");
   check(`${name} is kept: ${line}`, name === "mark-in-contains" ? line === "" : line.includes(`: break ${name} #list=`));
   part("undo").click();
-  check(`${name}: one step before it was whole`, name.startsWith("mark-in-c") || !breakText("verdict").startsWith("Not") || !isCounted);
+  check(`${name}: a deed before it: ${breakText("verdict")}`, !isCounted || !breakText("verdict").startsWith("Not"));
 }
 
 // "Not by its points" opens Judge yourself with this report: another order may be right, and that none is right is not proved.
@@ -75,7 +75,8 @@ function driveDoubt() {
   dragPoint(1, 10, 10);
   dragPoint(0, 12, 12);
   part("judge-ask").click();
-  check(`another order is right: ${textOf("judge-verdict")}`, textOf("judge-verdict").startsWith("check says ok: this order explains the report"));
+  const verdict = textOf("judge-verdict");
+  check(`another order is right: ${verdict}`, verdict.startsWith("check says ok: this order explains the report"));
   check("it is not handed in", textOf("judge-line") === "");
   part("judge-end").click();
 }
@@ -85,20 +86,22 @@ function driveBrokenExample() {
   pick("stale-pred");
   part("without-box").open = true;
   part("see-broken").click();
-  check(`the run without the check: ${breakText("verdict")}`, breakText("verdict").startsWith("Broken: 5 was put in once and never taken out"));
-  check("it can be stepped", inPage("page.count") === inPage("page.trace.total") && inPage("page.trace.lacks") === "second-walk");
+  const verdict = breakText("verdict");
+  check(`the run without the check: ${verdict}`, verdict.startsWith("Broken: 5 was put in once and never taken out"));
+  check("it can be stepped", textOf("where") === "event 34 of 34" && inPage("page.trace.lacks") === "second-walk");
   pick("behind-the-walk");
   check("an example that shows no check offers none", part("see-broken").hidden);
 }
 
 // A lesson whose list lacks a check is begun and solved like any other.
 function driveLackingLesson() {
-  const lines = ["listset-course 1", "course Broken", "lesson one", "title One", "list fine", "lacks second-lock", "threads 2", "quota 2"];
-  part("lesson-course-text").value = [...lines, "opening 3 7", "question", "  Which check?", ""].join("\n");
+  const head = ["listset-course 1", "course Broken", "lesson one", "title One"];
+  const set = ["list fine", "lacks second-lock", "threads 2", "quota 2", "opening 3 7"];
+  part("lesson-course-text").value = [...head, ...set, "question", "  Which check?", ""].join("\n");
   part("lesson-try").click();
   part("lesson-start").click();
   check("the lesson's list lacks the check", inPage("page.trace.lacks") === "second-lock" && !part("break-box").hidden);
-  check("it is not solved", textOf("lesson-verdict") === "A solution shows all of this:" && textOf("lesson-conditions").startsWith("○ No order"));
+  check("its condition", textOf("lesson-conditions").startsWith("○ No order of these calls explains that"));
   for (const deed of DEEDS["second-lock"].split(", ")) doDeed(deed);
   check(`it is solved: ${textOf("lesson-verdict")}`, textOf("lesson-verdict") === "Solved.");
   pick("break: lock");

@@ -120,7 +120,7 @@ def asked(program, names, folder):
     yield from ((["show", *words], text) for text in drawn for words in ([], ["--svg"]))
     for file in sorted((TOP / "examples" / "lacks").glob("*.schedule")):
         lacks = [str(file), "--lacks", file.stem]
-        yield from ((words, b"") for words in (["replay", *lacks], ["trace", "--chain", *lacks], ["show", *lacks], ["show", "--svg", *lacks]))
+        yield from (([*words, *lacks], b"") for words in (["replay"], ["trace", "--chain"], ["show"], ["show", "--svg"]))
     for word, files in (("draft", "drafts/*.draft"), ("report", "recorded/*.calls")):
         texts = [file.read_bytes() for file in sorted(DATA.glob(files))]
         yield from (([word], text) for text in [*texts, *refused(dice, texts)])
