@@ -12,6 +12,7 @@ const EXPLAINED = "Explained: this schedule does not break it.";
 const BY_POINTS =
   "Not by its points: check refuses the order by the moments that the table names. Another order may explain these replies: try";
 const UNEXPLAINED = "No order of these calls explains that (proved by counting).";
+const TO_BREAK = "No order explains what the calls answer (proved by counting)."; // the condition of a lesson
 
 // LazyList's `contains` and `ceiling` without the mark: counting refutes no run of theirs, and so an order that is refused is what
 // can be reached. Of the first no history is known that no order explains, and it is no task.

@@ -33,12 +33,12 @@ function judged(ask, lesson, schedule) {
 
 // What a solution shows, as the student reads it: the conditions of the goal, and of a list that lacks a check that it is broken.
 const conditionTexts = ({ goal, lacks }) =>
-  [...goal.map(({ says }) => says), lacks === null ? undefined : UNEXPLAINED].filter((says) => says !== undefined);
+  [...goal.map(({ says }) => says), lacks === null ? undefined : TO_BREAK].filter((says) => says !== undefined);
 
 function conditionsOfLesson(ask, { goal, lacks }, schedule, run) {
   const conditions = conditionsOf(goal, run);
   if (lacks === null) return conditions;
-  return [...conditions, { says: UNEXPLAINED, isMet: verdictOnLacking(ask, lacks, schedule).kind === "broken" }];
+  return [...conditions, { says: TO_BREAK, isMet: verdictOnLacking(ask, lacks, schedule).kind === "broken" }];
 }
 
 // What the lesson's text says of a run that leads nowhere, or null.

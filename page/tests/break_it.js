@@ -151,7 +151,7 @@ function checkLesson(ask) {
   check("another schedule solves it", judged.isSolved && judged.conditions.length === 1);
   const begun = inPage("judged")(ask, lessons[0], lessons[0].begun);
   const [condition] = begun.conditions;
-  check(`its start does not: ${JSON.stringify(condition)}`, !begun.isSolved && condition.says === inPage("UNEXPLAINED"));
+  check(`its start does not: ${JSON.stringify(condition)}`, !begun.isSolved && condition.says === inPage("TO_BREAK"));
   const faultOf = (text) => tried(text).faults[0] ?? { line: 0, fault: "none" };
   const more = faultOf(`${LESSON}goal\n  call C of 0: add\n  say Thread 0 adds.\n`).fault;
   check(`a goal beside it: ${more}`, more.endsWith("its answer does not solve it: missing: Thread 0 adds."));

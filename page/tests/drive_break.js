@@ -101,7 +101,7 @@ function driveLackingLesson() {
   part("lesson-try").click();
   part("lesson-start").click();
   check("the lesson's list lacks the check", inPage("page.trace.lacks") === "second-lock" && !part("break-box").hidden);
-  check("its condition", textOf("lesson-conditions").startsWith("○ No order of these calls explains that"));
+  check("its condition", textOf("lesson-conditions").startsWith("○ No order explains what the calls answer"));
   for (const deed of DEEDS["second-lock"].split(", ")) doDeed(deed);
   check(`it is solved: ${textOf("lesson-verdict")}`, textOf("lesson-verdict") === "Solved.");
   pick("break: lock");
