@@ -70,7 +70,7 @@ function countInWords(report, counted) {
   const call = exercise.calls[number];
   const says = `${nameOfCall(call)} answers ${call.reply}`;
   if (call.reply === "full") {
-    const own = exercise.calls.filter((other) => other.thread === call.thread && isChange("add", other) && other.id < call.id);
+    const own = exercise.calls.filter((other) => other.thread === call.thread && isChange("add", other));
     return `${says}, and its thread had put in ${own.length} of the ${exercise.head[3].replace("quota ", "")} keys of its quota`;
   }
   const read = Number(/^at-(\d+)$/.exec(call.reply)?.[1] ?? call.key);

@@ -75,6 +75,19 @@ function checkFile(engine, ask, name) {
   check(`${name}: a check that is none`, inPage("faultOfTrace")(text.replace(`lacks ${name}`, "lacks luck"))?.startsWith("line 3: "));
 }
 
+// Counted are the calls that ended before, and of a full add those of its own thread.
+function checkCounts(ask) {
+  const saidOf = (name, schedule, lines) => {
+    const { text } = inPage("scheduleOfDraft")(ask, `${schedule}${lines.join("\n")}\n`, name);
+    return verdictOnLacking(ask, name, text).says;
+  };
+  const later = saidOf("mark-at-key", scheduleOf("mark-at-key"), ["begin 1 add 7", "go 1 out"]);
+  check(`what comes later is not counted: ${later}`, later.includes("before it 7 was there at first, never put in and taken out once."));
+  const adds = ["begin 1 add 9", "go 1 out", "begin 0 add 4", "go 0 out", "begin 0 add 5", "go 0 out"];
+  const other = saidOf("last-slot", startOf("last-slot"), adds);
+  check(`nor that of another thread: ${other}`, other.includes("add(5) of t0 answers full, and its thread had put in 1 of the 2 keys"));
+}
+
 // A draft's line stands for the steps of the list that lacks the check, and is refused as the engine refuses that of a whole list.
 function checkDrafts(ask) {
   const drafted = (name, lines) => inPage("scheduleOfDraft")(ask, `${startOf(name)}${lines.join("\n")}\n`, name);
@@ -171,6 +184,7 @@ async function main() {
     checkFile(engine, ask, name);
     checkClaims(ask, name);
   }
+  checkCounts(ask);
   checkDrafts(ask);
   checkHandedIn(ask);
   checkLesson(ask);
