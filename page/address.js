@@ -1,6 +1,7 @@
 // The address of a schedule, as #list=lazy&threads=2&quota=4&s=b0.add.5,g0.11&event=12, of an example, as #example=snip&event=17,
 // of a course of lessons, as #course=.. with its text packed, or of two lists side by side. With &view=lecture, list or history it
-// shows only that. An address is made a text again; whether that is a schedule says the engine.
+// shows only that; with &lacks=3 the schedule is run on the third of the lists that lack a check, whose name would tell too much.
+// An address is made a text again; whether that is a schedule says the engine.
 "use strict";
 
 const LONGEST_ADDRESS = 30000; // characters; a longer schedule has no address
@@ -16,6 +17,7 @@ const ADDRESS_PARTS = {
   opening: /^\d+(\.\d+)*$/,
   s: new RegExp(`^(${SHORT_EVENT}(,${SHORT_EVENT})*)?$`),
   event: /^\d+$/,
+  lacks: /^\d+$/,
   view: /^(lecture|list|history)$/,
   course: /^[A-Za-z0-9_-]+$/,
   sides: /^(coarse|fine|optimistic|lazy|lock-free)\.(coarse|fine|optimistic|lazy|lock-free)$/,
@@ -29,7 +31,7 @@ class AddressFault extends Error {}
 const neededVersion = (lines) => (lines.some((line) => /^(opening |begin \d+ ceiling )/.test(line)) ? 2 : 1);
 
 // The address of a text at an event, or null where it has none: it is no text of a schedule's form, or too long.
-function addressOf(text, event) {
+function addressOf(text, event, lacks = null) {
   if (text.length > 2 * LONGEST_ADDRESS) return null; // an address has more than half of the letters
   const [title, list, threads, quota, ...lines] = text.split("\n").slice(0, -1);
   const isOpening = (line) => line.startsWith("opening ");
@@ -40,6 +42,7 @@ function addressOf(text, event) {
   if (version !== String(neededVersion(lines))) parts.push(`version=${version}`);
   if (opening.length > 0) parts.push(`opening=${opening.join(".")}`);
   parts.push(`s=${events.join()}`, `event=${event}`);
+  if (lacks !== null) parts.push(`lacks=${Object.keys(LACKING).indexOf(lacks) + 1}`);
   const address = `#${parts.join("&")}`;
   return address.length <= LONGEST_ADDRESS && isAddressOf(address, text) ? address : null;
 }
@@ -62,10 +65,13 @@ function isAddressOf(address, text) {
 
 const exampleAddress = (name, event) => `#example=${name}&event=${event}`;
 
-// What an address names: an example, a text, a course or two lists, each null where it names none; the event, and the view.
+// What an address names: an example, a text, a course or two lists, each null where it names none; the event, the list that lacks a
+// check, and the view.
 function readAddress(hash) {
-  const { view = null, course = null, ...parts } = partsOf(hash);
-  const named = { example: parts.example ?? null, text: null, event: Number(parts.event ?? 0), view, course, sides: null };
+  const { view = null, course = null, lacks: number, ...parts } = partsOf(hash);
+  const lacks = number === undefined ? null : Object.keys(LACKING)[number - 1];
+  if (lacks === undefined) throw new AddressFault(`there is no list ${number} that lacks a check`);
+  const named = { example: parts.example ?? null, text: null, event: Number(parts.event ?? 0), view, course, sides: null, lacks };
   if (parts.sides !== undefined) return { ...named, sides: parts };
   const ofSchedule = Object.keys(parts).filter((name) => name !== "event" && name !== "example");
   if (named.example !== null && ofSchedule.length > 0) {

@@ -10,6 +10,7 @@ const BOOK = [
   "#   lesson      a name of its own, of small letters, digits and -",
   "#   title       as the student reads it",
   "#   list        coarse, fine, optimistic, lazy or lock-free",
+  "#   lacks       the name of a check that the list lacks (docs/CLASSIC.md): a solution breaks it. No goal is due then",
   "#   threads, quota, opening     as in a schedule; the opening keys with a space between; none where the line is missing",
   "#   start       the schedule's lines with which the student begins",
   "#   question    what is asked; teaches: what it shows, once it is solved; hint; answer: the lines that solve it, after the start",

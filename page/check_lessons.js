@@ -6,7 +6,8 @@
 //     node page/check_lessons.js --link COURSE     the part of a link that opens the course on the page
 //
 // A file may have courses and texts of many students, as they came by mail (hand_in.js). Without a course the lessons are those of
-// book.course. Each schedule is run by the proved replayer, each order is judged by the proved check, as the module of this folder.
+// book.course. Each schedule is run by the proved replayer, each order is judged by the proved check, and a list that lacks a check
+// is broken where counting refutes the run, as the module of this folder.
 // The status is 0 where nothing is missing, 1 where something is, 2 where the words are wrong, a file cannot be read or has no such
 // text, and 70 where there is no engine.
 "use strict";
@@ -17,8 +18,8 @@ const { NO_ENGINE, NO_MEMORIES, inPage, loadScripts, startedEngine } = require("
 
 const MOST_BYTES = 10000000;
 const BOOK = path.join(__dirname, "book.course");
-const SCRIPTS = ["rows", "trace", "schedule_text", "state", "address", "svg", "draw_history", "run", "goal_words", "lesson_text",
-  "judge_lesson", "judge_answer", "hand_in", "course_link"];
+const SCRIPTS = ["rows", "classics", "trace", "schedule_text", "state", "address", "svg", "draw_history", "run", "goal_words",
+  "lesson_text", "judge_lesson", "judge_answer", "break_it", "hand_in", "course_link"];
 const USAGE = "node page/check_lessons.js FILE .., with courses among the files or none; or --link COURSE";
 
 class Trouble extends Error {}
@@ -99,10 +100,11 @@ function isWhole(ask, { name, parts, faults, courses }) {
   const lessons = [...courses].flatMap((course) => course.lessons.map((lesson) => lesson.name));
   const open = lessons.filter((lesson) => !solved.has(lesson));
   for (const lesson of open.filter((one) => !verdicts.some(({ task }) => task === one))) say(`${name}: ${lesson}: not handed in`);
-  const judgedRight = [...solved].filter((task) => task.startsWith("judge ")).length;
+  const [judgedRight, broken] = ["judge ", "break "].map((word) => [...solved].filter((task) => task.startsWith(word)).length);
   const very = new Set(verdicts.filter(({ isVeryAnswer }) => isVeryAnswer).map(({ task }) => task)).size;
   const more = [
     judgedRight > 0 ? `${counted(judgedRight, "order")} judged right` : "",
+    broken > 0 ? `${counted(broken, "list")} broken` : "",
     very > 0 ? `${very} by the very schedule of the lesson's answer, which may be its shortest` : "",
   ];
   say([`${name}: ${lessons.length - open.length} of ${lessons.length} solved`, ...more.filter((part) => part !== "")].join("; "));

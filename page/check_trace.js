@@ -5,7 +5,7 @@ const MOST_THREADS = 64;
 const MOST_QUOTA = 16384;
 const MOST_OPENING = 1048576;
 const REPLY_WORDS = ["true", "false", "full", "nothing"]; // and at-X of a key X
-const REFUSALS = ["NoThread", "Busy", "Idle"];
+const REFUSALS = ["NoThread", "Busy", "Idle", "Lost"];
 
 class TraceFault extends Error {
   constructor(line, wanted) {
@@ -201,21 +201,26 @@ function takeHeader(lines) {
     pieces.expect(word);
     return pieces;
   };
-  const [title, list, threads, quota] = ["listset-trace", "list", "threads", "quota"].map((word, at) => header(at + 1, word));
+  const words = ["listset-trace", "list", ...(lines[2]?.startsWith("lacks ") ? ["lacks"] : []), "threads", "quota"];
+  const [title, list, ...more] = words.map((word, at) => header(at + 1, word));
+  const [threads, quota] = more.slice(-2);
   title.expect("1");
-  list.oneOf(Object.keys(LISTS), "list");
+  const kind = list.oneOf(Object.keys(LISTS), "list");
+  const names = Object.keys(LACKING).filter((name) => LACKING[name] === kind);
+  if (more.length === 3) more[0].oneOf(names, `check that a ${kind} list lacks`);
   const trace = {
     threads: threads.number(1, MOST_THREADS, "number of threads"),
     quota: quota.number(0, MOST_QUOTA, "quota"),
   };
-  [title, list, threads, quota].forEach((pieces) => pieces.end());
-  return { ...trace, opening: takeOpening(lines), open: Array(trace.threads).fill(null), events: 0, calls: 0, line: 0 };
+  [title, list, ...more].forEach((pieces) => pieces.end());
+  const opening = takeOpening(lines, words.length);
+  return { ...trace, head: words.length, opening, open: Array(trace.threads).fill(null), events: 0, calls: 0, line: 0 };
 }
 
 // The keys with which the set opens, rising: a line of its own for each, after the header.
-function takeOpening(lines) {
+function takeOpening(lines, head) {
   const keys = [];
-  for (let number = HEADER_LINES + 1; lines[number - 1]?.startsWith("opening "); number++) {
+  for (let number = head + 1; lines[number - 1]?.startsWith("opening "); number++) {
     const pieces = new Pieces(lines[number - 1], number);
     pieces.expect("opening");
     const least = keys.length === 0 ? 0 : keys[keys.length - 1] + 1;
@@ -230,7 +235,7 @@ function takeOpening(lines) {
 function readWhole(text) {
   const lines = text.split("\n");
   const trace = takeHeader(lines);
-  let number = HEADER_LINES + trace.opening.length + 1;
+  let number = trace.head + trace.opening.length + 1;
   for (; lines[number - 1] !== "end"; number++) {
     const pieces = new Pieces(lines[number - 1] ?? "", number);
     const word = pieces.oneOf(["event", "chain", "refused"], 'line of a trace ("event", "chain", "refused" or "end")');

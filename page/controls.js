@@ -46,6 +46,7 @@ function listen() {
   listenToFiles();
   listenToSettings();
   listenToJudging();
+  listenToBreaking();
   listenToSides();
   placeParts();
 }

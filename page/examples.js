@@ -13,8 +13,7 @@ function exampleText(name) {
 function chooseExample(name) {
   page.example = name;
   fillWorks();
-  const isBroken = page.engine !== null && name !== "" && page.engine.ask("listset_broken_example", name).status === 0;
-  byId("see-broken").hidden = !isBroken;
+  byId("see-broken").hidden = page.engine === null || !(CLASSICS[name]?.lacks.length > 0);
 }
 
 // The names that there are.
@@ -37,6 +36,7 @@ function fillWorks() {
 // What was chosen in the list of what can be opened.
 function chooseInList(value) {
   if (value.startsWith(WORK)) openWork(value.slice(WORK.length));
+  else if (value.startsWith(BREAK)) openLacking(value.slice(BREAK.length), startOfLacking(value.slice(BREAK.length)));
   else if (value !== "") pickExample(value, 0);
 }
 
@@ -65,6 +65,7 @@ function fillExamples() {
     const [name, kind] = line.split(/ +/);
     byId("example-options").append(new Option(`${name} (${kind})`, name));
   }
+  if (page.engine !== null) fillBreaks();
 }
 
 // The question of the example. Where it turns is told where that is asked for: by ticks on the slider, and a button for each event.

@@ -22,12 +22,13 @@ function kindOfFile(text) {
 function comparedTrace(engine, trace) {
   if (engine === null) return "a trace from a file; its grammar was checked";
   if (trace.refused !== null) return "a trace from a file; its grammar was checked, and it ends with a refused event";
-  const own = engine.ask("listset_trace", scheduleOfTrace(trace));
+  const own = askList((...asked) => engine.ask(...asked), "listset_trace", trace.lacks, scheduleOfTrace(trace));
   const given = trace.text.split("\n").filter((line) => !/^chain( |$)/.test(line));
   const line = own.text.split("\n").findIndex((text, index) => text !== given[index]);
-  if (line === -1) return "a trace from a file, and the proved replayer gives the same for its schedule";
-  const event = Math.max(line - 3 - trace.opening.length, 1);
-  return `a trace from a file; the proved replayer gives another, from its event ${event} on`;
+  const engines = trace.lacks === null ? "the proved replayer" : "the engine";
+  if (line === -1) return `a trace from a file, and ${engines} gives the same for its schedule`;
+  const event = Math.max(line + 1 - trace.text.split("\n").findIndex((text) => text.startsWith("event ")), 1);
+  return `a trace from a file; ${engines} gives another, from its event ${event} on`;
 }
 
 // Opens a file, by what its first line says that it is.
@@ -91,8 +92,8 @@ function drawPicture(text) {
   scrollToClash();
 }
 
-// The line of a picture that says why its order is refused, or which event is.
-const refusalIn = (text) => text.split("\n").find((line) => line.startsWith("refused ")) ?? "";
+// The lines of a picture that say why its order is refused, or which event is, and that no order explains the report.
+const refusalIn = (text) => text.split("\n").filter((line) => line.startsWith("refused ") || line.startsWith(COUNTED)).join("; ");
 
 // Brings the first call that clashes into sight, with its reply, where the picture is wider than its place.
 function scrollToClash() {
@@ -104,11 +105,13 @@ function scrollToClash() {
 
 // The report of the schedule that is shown, or the line about its first fault.
 async function showOwnReport(schedule) {
-  const answer = await askLong("listset_replay", schedule);
+  const { lacks } = page;
+  const answer = lacks === null ? await askLong("listset_replay", schedule) : askList(askNow, "listset_replay", lacks, schedule);
   if (page.text !== schedule) return;
   if (answer.status === 0) return showReport(answer.text, "The report of this schedule:");
   byId("report").textContent = answer.text;
   byId("report-of").textContent = "There is no report:";
   byId("checked").textContent = "—";
-  drawPicture(schedule);
+  if (lacks === null) drawPicture(schedule);
+  else byId("picture-box").hidden = true;
 }

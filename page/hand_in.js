@@ -1,11 +1,12 @@
 // A text that is handed in: a title, the course and the student, and a line for each solution: the name of its lesson, a space and
-// the address of a schedule (or a whole link that ends with it), or an order that was judged right.
+// the address of a schedule (or a whole link that ends with it), an order that was judged right, or what breaks a list.
 //
 //     listset-lessons 2
 //     course The twelve lessons of the five lists
 //     student Ada
 //     marked-in-chain #list=lazy&threads=2&quota=4&opening=5&s=b1.remove.5,g1.7,b0.contains.5,g0.3&event=12
 //     judge snip points 2-true,0-true,1-true
+//     break mark-in-add #list=lock-free&threads=2&quota=2&opening=3.7&s=b0.add.5,g0.5&event=6
 //     end
 //
 // It comes by mail as often as not: lines may be quoted, folded or coded as mail does that, and others may stand around the text.
@@ -14,10 +15,11 @@
 
 const HAND_IN_TITLE = /^listset-lessons [12]$/;
 
-// The text with these solutions, each with the name of its lesson and its schedule, and these lines about runs that were judged.
-function handInText(course, student, solutions, judgedLines) {
+// The text with these solutions, each with the name of its lesson and its schedule, and these lines about runs that were judged and
+// lists that were broken.
+function handInText(course, student, solutions, otherLines) {
   const lines = solutions.map(({ name, schedule }) => `${name} ${addressOf(schedule, eventsAsked(schedule))}`);
-  return ["listset-lessons 2", `course ${course}`, `student ${student}`, ...lines, ...judgedLines, "end", ""].join("\n");
+  return ["listset-lessons 2", `course ${course}`, `student ${student}`, ...lines, ...otherLines, "end", ""].join("\n");
 }
 
 // The lines of a text without what mail has done to them, each with the number of its first line.
@@ -56,7 +58,7 @@ function textsIn(text) {
 }
 
 // Whether a line begins a part of a text that is handed in, whether a part lacks words, and whether a line may go on with one.
-const isBegin = (line) => /^(student|course|judge) /.test(line) || /^[a-z][a-z0-9-]* +(\S*#|<?https?:)/.test(line);
+const isBegin = (line) => /^(student|course|judge|break) /.test(line) || /^[a-z][a-z0-9-]* +(\S*#|<?https?:)/.test(line);
 const lacksWords = (line) =>
   /^judge /.test(line) ? line.split(" ").length < 4 : !/^(student|course) /.test(line) && !line.includes("#");
 const isPiece = (line) => !line.includes(" ") || /^\S*[.,=&]\S* /.test(line);
@@ -94,6 +96,7 @@ function readSchedule(link) {
 function judgedPart(ask, lessons, line) {
   const [word, ...words] = line.split(/ +/);
   if (word === "judge") return judgedOrder(ask, words);
+  if (word === "break") return judgedBreak(ask, words);
   const lesson = lessons.find(({ name }) => name === word);
   const not = (says) => ({ task: lesson?.name ?? null, isSolved: false, says });
   if (lesson === undefined) return not(`there is no lesson ${JSON.stringify(word.slice(0, 60))}`);
@@ -120,6 +123,21 @@ function judgedOrder(ask, [run = "", level = "", word = "", ...more]) {
   if (answer === null) return not("the order is due, as 0-true,2-true,1-false");
   const { isRight, says } = verdictOn(ask, answer);
   return { task, isSolved: isRight === true, says: isRight === true ? "" : says };
+}
+
+// Of a line `break NAME SCHEDULE`: whether counting refutes the run of the list that lacks this check, or, where counting never can,
+// its order is refused.
+function judgedBreak(ask, [name = "", link = "", ...more]) {
+  const task = `break ${name}`;
+  const not = (says) => ({ task, isSolved: false, says });
+  if (!Object.hasOwn(LACKING, name) || name === NO_TASK) return not("there is no such list to break");
+  if (!link.includes("#")) return not("the address of a schedule is due, from # on");
+  if (more.length > 0) return not("something stands behind the address");
+  const { schedule, fault } = readSchedule(link);
+  if (fault !== undefined) return not(fault);
+  if (eventsAsked(schedule) > MOST_EVENTS) return not(`at most ${MOST_EVENTS} events are due`);
+  const verdict = verdictOnLacking(ask, name, schedule);
+  return isTaskDone(name, verdict) ? { task, isSolved: true, says: "" } : not(verdict.says);
 }
 
 function scheduleOfExample(ask, name) {

@@ -7,6 +7,7 @@
 "use strict";
 
 const MOST_JUDGED = 60; // events of a run that is judged
+const COUNTED = "no order explains this report: "; // how the line of `show` begins that counting refutes a report
 
 // Of each level what is asked for, and which outcomes of a sentence would tell it.
 const LEVELS = {
@@ -18,16 +19,17 @@ const LEVELS = {
   claim: { task: "May a set answer this? Give an order that explains the report, or say that there is none.", hidden: [] },
 };
 
-// A report's calls, order, keys and header. The text is the engine's own.
-function exerciseOf(text, level, isBroken = false) {
+// A report's calls, order, keys and header. The text is the engine's own, of a whole list or of one that lacks a check.
+function exerciseOf(text, level, isWhole = true) {
   const lines = text.trimEnd().split("\n");
   const linesOf = (word) => lines.filter((line) => line.startsWith(`${word} `));
   const calls = linesOf("call").map(callOfLine);
   return {
     level,
-    isBroken,
+    isWhole,
     calls,
     places: linesOf("place").map((line) => line.split(" ").slice(1).join("-")),
+    reportText: text,
     head: [...lines.slice(0, HEADER_LINES), ...linesOf("opening")],
     callLines: linesOf("call"),
     keyLines: linesOf("key"),
@@ -109,7 +111,7 @@ function reportOfAnswer(answer) {
 // What is said of an answer: whether it is right, the sentence, the call that clashes, and the report that was judged, if one was.
 function verdictOn(ask, answer) {
   const unsaid = answer.unsaid();
-  if (answer.isNone) return verdictOnClaim(answer);
+  if (answer.isNone) return verdictOnClaim(ask, answer.exercise);
   const nothing = { isRight: null, clash: null, report: null };
   if (unsaid.length > 0) return { ...nothing, says: `Still to be said: ${unsaid.map(nameOfCall).join(", ")}.` };
   const report = reportOfAnswer(answer);
@@ -120,15 +122,19 @@ function verdictOn(ask, answer) {
   return { isRight: false, clash, report, says: faultInWords(answer, told) };
 }
 
-// A claim that there is no order is judged by what is proved, not by a search: each run of the replayer has an order, and each
-// report of a list without its check that the engine gives has none.
-function verdictOnClaim({ exercise: { isBroken } }) {
-  const right = "Right: that no order explains this report is proved. A list that lacks a check gave it.";
-  const wrong = "There is one: this is a run of a list that is proved to have an order for each of its runs. Find it.";
-  return { isRight: isBroken, clash: null, report: null, says: isBroken ? right : wrong };
+// A claim that there is no order is judged by what is proved, not by a search: each run of the replayer has an order, and a report
+// that counting refutes has none. Of any other nothing is said.
+function verdictOnClaim(ask, { isWhole, reportText }) {
+  const said = (isRight, says) => ({ isRight, clash: null, report: null, says });
+  const there = "There is one: this is a run of a list that is proved to have an order for each of its runs. Find it.";
+  if (isWhole) return said(false, there);
+  const isCounted = ask("listset_show", reportText).text.includes(`\n${COUNTED}`);
+  if (isCounted) return said(true, "Right: no order explains this report (proved by counting). A list that lacks a check gave it.");
+  return said(null, "Counting does not tell: a list that lacks a check gave this report, and another order may explain it.");
 }
 
 function rightInWords(answer) {
+  if (!answer.exercise.isWhole) return "check says ok: this order explains the report, so this schedule does not break the list.";
   const own = answer.order().map(({ call, reply }) => `${call.id}-${reply}`);
   const isSame = own.join() === answer.exercise.places.join();
   const also = isSame ? "It is the order that the replayer gives, too." : "The replayer gives another one: both explain the run.";

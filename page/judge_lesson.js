@@ -9,8 +9,8 @@ const OTHER_SET = "The list, the number of threads, the quota and the opening ke
 const setOf = (schedule) => schedule.split("\n").slice(1).filter((line) => !/^(begin|go) /.test(line)).join("\n");
 
 // The run of a schedule by the engine, or why there is none: `ask` gives what a function of the engine says of a text.
-function runOfSchedule(ask, schedule) {
-  const made = ask("listset_trace", schedule).text;
+function runOfSchedule(ask, schedule, lacks) {
+  const made = askList(ask, "listset_trace", lacks, schedule).text;
   if (!made.startsWith("listset-trace")) return { trace: null, fault: `the schedule is refused: ${made.trim()}` };
   const trace = new Trace(made, versionOf(schedule));
   if (trace.refused === null) return { trace, fault: null };
@@ -23,12 +23,22 @@ const unjudged = (reason) => ({ isSolved: false, reason, conditions: [], deadEnd
 function judged(ask, lesson, schedule) {
   if (setOf(schedule) !== setOf(lesson.begun)) return unjudged(OTHER_SET);
   if (eventsAsked(schedule) > MOST_EVENTS) return unjudged(`A solution has at most ${MOST_EVENTS} events.`);
-  const { trace, fault } = runOfSchedule(ask, schedule);
+  const { trace, fault } = runOfSchedule(ask, schedule, lesson.lacks);
   if (trace === null) return unjudged(`${fault[0].toUpperCase()}${fault.slice(1)}.`);
   const run = new Run(trace);
-  const conditions = conditionsOf(lesson.goal, run);
+  const conditions = conditionsOfLesson(ask, lesson, schedule, run);
   const isSolved = conditions.every(({ isMet }) => isMet);
   return { isSolved, reason: null, conditions, deadEnd: isSolved ? null : deadEndIn(lesson, run) };
+}
+
+// What a solution shows, as the student reads it: the conditions of the goal, and of a list that lacks a check that it is broken.
+const conditionTexts = ({ goal, lacks }) =>
+  [...goal.map(({ says }) => says), lacks === null ? undefined : TO_BREAK].filter((says) => says !== undefined);
+
+function conditionsOfLesson(ask, { goal, lacks }, schedule, run) {
+  const conditions = conditionsOf(goal, run);
+  if (lacks === null) return conditions;
+  return [...conditions, { says: TO_BREAK, isMet: verdictOnLacking(ask, lacks, schedule).kind === "broken" }];
 }
 
 // What the lesson's text says of a run that leads nowhere, or null.
@@ -45,15 +55,16 @@ function missingIn({ reason, conditions }) {
 
 // Tries a lesson, which then has the schedules of its start and of its answer: what is wrong with it, or null.
 function troubleOf(ask, lesson) {
-  const start = scheduleOfDraft(ask, lessonText(lesson, lesson.start));
+  const start = scheduleOfDraft(ask, lessonText(lesson, lesson.start), lesson.lacks);
   if (start.fault !== null) return `its start is refused: ${start.fault}`;
   lesson.begun = start.text;
-  const begin = runOfSchedule(ask, start.text);
+  const begin = runOfSchedule(ask, start.text, lesson.lacks);
   if (begin.trace === null) return `its start is refused: ${begin.fault}`;
-  if (conditionsOf(lesson.goal, new Run(begin.trace)).every(({ isMet }) => isMet)) return "its start meets the goal already";
+  const met = conditionsOfLesson(ask, lesson, start.text, new Run(begin.trace));
+  if (met.every(({ isMet }) => isMet)) return "its start meets the goal already";
   lesson.solution = null;
   if (lesson.answer.length === 0) return null;
-  const answer = scheduleOfDraft(ask, lessonText(lesson, [...lesson.start, ...lesson.answer]));
+  const answer = scheduleOfDraft(ask, lessonText(lesson, [...lesson.start, ...lesson.answer]), lesson.lacks);
   if (answer.fault !== null) return `its answer is refused: ${answer.fault}`;
   lesson.solution = answer.text;
   const verdict = judged(ask, lesson, answer.text);

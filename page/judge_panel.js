@@ -1,5 +1,5 @@
 // The panel in which the reader judges the run that is shown: it stands in the place of the history and of the order. The bars on
-// which points are put, the replies, the verdict; a report of a list without its check is shown here too.
+// which points are put, the replies, the verdict. Of a list that lacks a check the report alone is judged, as a claim.
 "use strict";
 
 const JUDGED = "listset-judged"; // in the browser's storage: of each run and level the order that was right
@@ -15,20 +15,11 @@ class Judging {
 
   // Begins an exercise of this level about the run that is shown. At the third the report may be that of a list without its check.
   begin(level) {
+    if (page.lacks !== null) return this.take(exerciseOf(breaking.verdict.report, "claim", false));
     const broken = page.example === "" ? null : page.engine.ask("listset_broken_example", page.example);
     const isBroken = level === "claim" && broken?.status === 0 && Math.random() < 0.5;
     const report = isBroken ? broken.text : page.engine.ask("listset_replay", page.text).text;
-    this.take(exerciseOf(report, level, isBroken));
-  }
-
-  // Shows the report of the list without its check, with its own order, which is refused.
-  showBroken() {
-    const report = page.engine.ask("listset_broken_example", page.example).text;
-    this.take(exerciseOf(report, "claim", true));
-    this.answer = answerOfWord(this.exercise, this.exercise.places.join());
-    this.verdict = verdictOn(askNow, this.answer);
-    this.told = "The report of a list without the check, with the order of its own points. That no order explains it is proved.";
-    this.draw();
+    this.take(exerciseOf(report, level, !isBroken));
   }
 
   take(exercise) {
@@ -36,7 +27,7 @@ class Judging {
     Object.assign(this, { held: null, verdict: null, tries: 0, moment: 0, told: LEVELS[exercise.level].task });
     document.body.classList.toggle("claim", exercise.level === "claim");
     document.body.classList.add("judging");
-    judgePart("level").value = exercise.level;
+    if (page.lacks === null) judgePart("level").value = exercise.level;
     show();
   }
 
@@ -99,7 +90,7 @@ class Judging {
     this.answer.isNone = isNone;
     this.verdict = verdictOn(askNow, this.answer);
     if (this.verdict.isRight === false) this.tries++;
-    if (this.verdict.isRight && !this.exercise.isBroken) this.keep();
+    if (this.verdict.isRight && this.exercise.isWhole) this.keep();
     this.answer.isNone = false;
     this.draw();
   }
@@ -154,7 +145,7 @@ class Judging {
     judgePart("verdict").textContent = verdict?.says ?? "";
     judgePart("tries").textContent = tries === 0 ? "" : `${tries} ${tries === 1 ? "try" : "tries"} refused`;
     judgePart("hint").textContent = kind === "wrong" && tries >= 2 && this.exercise.level !== "claim" ? hintOfRun() : "";
-    const isKept = kind === "right" && !this.exercise.isBroken;
+    const isKept = kind === "right" && this.exercise.isWhole;
     judgePart("line").innerHTML = isKept ? `Kept, and handed in with the lessons: <code>${escaped(this.line)}</code>` : "";
     const drawn = verdict?.report == null ? "" : askNow("listset_show_svg", verdict.report).text;
     judgePart("picture-box").hidden = !drawn.startsWith("<svg ");
@@ -193,11 +184,6 @@ function beginJudging() {
 
 function listenToJudging() {
   byId("judge-begin").onclick = beginJudging;
-  byId("see-broken").onclick = () => {
-    judging.showBroken();
-    byId("judge").scrollIntoView({ block: "nearest" });
-    judgePart("end").focus();
-  };
   judgePart("level").append(...Object.keys(LEVELS).map((level) => new Option(level, level)));
   judgePart("level").value = "replies";
   judgePart("level").onchange = judgePart("again").onclick = () => judging.begin(judgePart("level").value);

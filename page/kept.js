@@ -48,9 +48,9 @@ const works = {
     this.isKept = keepUnder(KEPT, [...this.byName]);
   },
 
-  // The name of the work with this text, or null.
-  nameOf(text) {
-    return [...this.byName].findLast(([, work]) => work.text === text)?.[0] ?? null;
+  // The name of the work with this text, run on the same list, or null.
+  nameOf(text, lacks = null) {
+    return [...this.byName].findLast(([, work]) => work.text === text && (work.lacks ?? null) === lacks)?.[0] ?? null;
   },
 
   // A name that no work has yet.
@@ -69,6 +69,6 @@ function keepWork() {
   if (page.engine === null || page.text === "" || isLookedAt) return;
   const before = works.byName.get(page.name);
   if (before?.text === page.text && before.box === box && before.count === page.count) return;
-  works.set(page.name, { text: page.text, box, count: page.count });
+  works.set(page.name, { text: page.text, box, count: page.count, lacks: page.lacks });
   fillWorks();
 }

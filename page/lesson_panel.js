@@ -59,9 +59,10 @@ class LessonsOnPage {
     this.own.chosen = lesson.name;
     this.trace = undefined;
     this.ticks.clear();
-    const { title, list, threads, opening, question, hint, teaches, answer } = lesson;
+    const { title, list, lacks, threads, opening, question, hint, teaches, answer } = lesson;
     const keys = opening.length === 0 ? "" : `, opens with ${opening.join(", ")}`;
-    lessonPart("title").innerHTML = `${escaped(title)} <small>${LISTS[list].name}, ${threads} threads${keys}</small>`;
+    const set = `${LISTS[list].name}${lacks === null ? "" : " without one check"}, ${threads} threads${keys}`;
+    lessonPart("title").innerHTML = `${escaped(title)} <small>${set}</small>`;
     lessonPart("question").textContent = question;
     lessonPart("hint-fold").textContent = hint;
     lessonPart("hint").hidden = hint === "";
@@ -90,7 +91,7 @@ class LessonsOnPage {
   }
 
   open(schedule, told) {
-    openText(schedule, eventsAsked(schedule), works.newName(this.workName()), told);
+    openText(schedule, eventsAsked(schedule), works.newName(this.workName()), told, this.lesson.lacks);
   }
 
   // Begins at the start; a try that was begun before stays kept.
@@ -136,9 +137,10 @@ class LessonsOnPage {
   }
 
   // Whether a run has the lesson's set, and is no longer than a solution.
-  isOfLesson({ kind, threads, quota, opening, total, refused }) {
+  isOfLesson({ kind, lacks, threads, quota, opening, total, refused }) {
     const { lesson } = this;
-    const isSame = kind === lesson.list && threads === lesson.threads && quota === lesson.quota && refused === null;
+    const isList = kind === lesson.list && lacks === lesson.lacks;
+    const isSame = isList && threads === lesson.threads && quota === lesson.quota && refused === null;
     return isSame && total <= MOST_EVENTS && opening.length === lesson.opening.length && opening.join() === lesson.opening.join();
   }
 
@@ -190,7 +192,7 @@ class LessonsOnPage {
 
   // The conditions stand there before a schedule of the lesson is shown, too. One that was met keeps its tick.
   drawVerdict(text) {
-    const says = this.lesson.goal.map((line) => line.says).filter((said) => said !== undefined);
+    const says = conditionTexts(this.lesson);
     const now = new Set(this.verdict.conditions.filter(({ isMet }) => isMet).map((condition) => condition.says));
     const lineOf = (said) => {
       const kind = now.has(said) ? "met" : this.ticks.has(said) ? "was-met" : "unmet";
@@ -203,15 +205,17 @@ class LessonsOnPage {
 
   // The text with all solutions is shown, and copied where the browser does that.
   async handIn() {
-    const solved = this.course.lessons.filter(({ name }) => this.isSolved(name));
-    const solutions = solved.map(({ name }) => ({ name, schedule: this.own.solutions.get(name) }));
+    const lessons = this.course.lessons.filter(({ name }) => this.isSolved(name));
+    const solutions = lessons.map(({ name }) => ({ name, schedule: this.own.solutions.get(name) }));
     const orders = Object.values(keptUnder(JUDGED) ?? {}).filter(isText);
+    const broken = brokenLines().map(([, line]) => line);
     const box = lessonPart("text");
-    box.value = handInText(this.course.name, lessonPart("student").value.trim() || "?", solutions, orders);
+    box.value = handInText(this.course.name, lessonPart("student").value.trim() || "?", solutions, [...orders, ...broken]);
     box.hidden = false;
     box.focus();
     box.select();
-    const count = `${solutions.length} solution${solutions.length === 1 ? "" : "s"} and ${orders.length} judged orders`;
+    const solved = `${solutions.length} solution${solutions.length === 1 ? "" : "s"}`;
+    const count = `${solved}, ${orders.length} judged orders and ${broken.length} broken lists`;
     const isCopied = await copied(box.value);
     lessonPart("told").textContent = isCopied ? `The text with ${count} is copied.` : `Copy this text: it has ${count}.`;
   }

@@ -8,6 +8,7 @@ const LESSON_WORDS = {
   lesson: { form: /^[a-z][a-z0-9-]{0,40}$/, says: "a name of small letters, digits and -" },
   title: { form: /^.{1,80}$/, says: "a title of 1 to 80 letters" },
   list: { form: /^(coarse|fine|optimistic|lazy|lock-free)$/, says: "coarse, fine, optimistic, lazy or lock-free" },
+  lacks: { form: /^[a-z][a-z-]{0,40}$/, says: "the name of a list that lacks a check", isOptional: true },
   threads: { form: /^([1-9]|[1-5]\d|6[0-4])$/, says: "a number from 1 to 64" },
   quota: { form: /^(0|[1-9]\d{0,4})$/, says: "a number, the nodes that a thread may put in" },
   opening: { form: /^\d+( \d+)*$/, says: "keys, rising, with a space between", isOptional: true },
@@ -72,16 +73,22 @@ class CourseReader {
 
   // The lesson as the panel has it, or null where something of it is missing.
   lessonOf(parts) {
-    const missing = WORDS.filter((word) => !(word in parts) && !LESSON_WORDS[word].isOptional);
+    const isDue = (word) => !LESSON_WORDS[word].isOptional && !(word === "goal" && "lacks" in parts);
+    const missing = WORDS.filter((word) => !(word in parts) && isDue(word));
     if (missing.length > 0) {
       this.fault(parts.lesson.number, `the lesson lacks ${missing.map((word) => `"${word}"`).join(", ")}`);
       return null;
     }
     const linesOf = (word) => (parts[word]?.lines ?? []).map(({ line }) => line);
-    const goal = this.goalOf(parts.goal);
+    const lacks = parts.lacks?.value ?? null;
+    if (lacks !== null && LACKING[lacks] !== parts.list.value) {
+      this.fault(parts.lacks.number, `there is no ${parts.list.value} list that lacks "${lacks}"`);
+      return null;
+    }
+    const goal = "goal" in parts ? this.goalOf(parts.goal) : [];
     const deadEnds = this.deadEndsOf(parts["dead-ends"]);
     if (goal === null || deadEnds === null) return null;
-    const lesson = { name: parts.lesson.value, line: parts.lesson.number, goal, deadEnds };
+    const lesson = { name: parts.lesson.value, line: parts.lesson.number, lacks, goal, deadEnds };
     for (const word of ["title", "list"]) lesson[word] = parts[word].value;
     for (const word of ["threads", "quota"]) lesson[word] = Number(parts[word].value);
     for (const word of ["question", "teaches", "hint"]) lesson[word] = linesOf(word).join(" ");

@@ -4,7 +4,7 @@
 //     node page/listset.js report [FILE]            node page/listset.js show [--svg] [--from M] [--to M] [--width N] [FILE]
 //     node page/listset.js check [FILE]             node page/listset.js example [--broken] [NAME]
 //     node page/listset.js draft [FILE]             node page/listset.js gen KIND THREADS QUOTA CALLS KEYS SEED
-//     node page/listset.js faults
+//     node page/listset.js faults                   and of replay, trace and show [--lacks NAME]
 //     node page/listset.js --words                  the first words of these lines, one a line
 //
 // FILE may be -, the word for the standard input. Output, line about a trouble and exit status are the program's
@@ -18,17 +18,23 @@ const { NO_ENGINE, NO_MEMORIES, inPage, startedEngine } = require("./in_node.js"
 const LONGEST = 67108864; // bytes of an input; what is longer is not read to its end
 const WRONG = 2; // the status of wrong words, and of a wrong value
 const USAGE =
-  "replay [FILE], report [FILE], check [FILE], trace [--chain] [FILE], show [--svg] [--from M] [--to M] [--width N] [FILE], draft [FILE], " +
+  "replay [--lacks NAME] [FILE], report [FILE], check [FILE], trace [--chain] [--lacks NAME] [FILE], " +
+  "show [--svg] [--from M] [--to M] [--width N] [--lacks NAME] [FILE], draft [FILE], " +
   "example [--broken] [NAME], gen KIND THREADS QUOTA CALLS KEYS SEED or faults";
 
 // Of each command its flag and its options, the engine's function without the flag and with it, whether its value is a file, and
 // how many values it takes at most.
 const COMMANDS = {
-  replay: { functions: ["listset_replay"], isOfFile: true },
+  replay: { options: ["--lacks"], functions: ["listset_replay"], isOfFile: true },
   report: { functions: ["listset_report"], isOfFile: true },
   check: { functions: ["listset_check"], isOfFile: true },
-  show: { flag: "--svg", options: ["--from", "--to", "--width"], functions: ["listset_show", "listset_show_svg"], isOfFile: true },
-  trace: { flag: "--chain", functions: ["listset_trace", "listset_trace_with_chains"], isOfFile: true },
+  show: {
+    flag: "--svg",
+    options: ["--from", "--to", "--width", "--lacks"],
+    functions: ["listset_show", "listset_show_svg"],
+    isOfFile: true,
+  },
+  trace: { flag: "--chain", options: ["--lacks"], functions: ["listset_trace", "listset_trace_with_chains"], isOfFile: true },
   draft: { functions: ["listset_draft"], isOfFile: true },
   example: { flag: "--broken", functions: ["listset_example", "listset_broken_example"] },
   gen: { functions: ["listset_gen"], most: Infinity },
@@ -67,7 +73,7 @@ function take(found, words) {
 }
 
 function textBehind(name, words) {
-  if (words.length === 0 || !isValue(words[0])) throw new WrongWords(`${name} has no number behind it`);
+  if (words.length === 0 || !isValue(words[0])) throw new WrongWords(`${name} has nothing behind it`);
   return words.shift();
 }
 
@@ -101,14 +107,15 @@ function readSome(input, piece) {
 }
 
 // What the engine answers to the words. Options are looked at once the file is opened, and before it is read.
-function answerTo(engine, { name, functions, isOn, texts, isOfFile, values }) {
-  const wanted = functions[Number(isOn)];
+function answerTo(engine, { name, functions, isOn, texts: { lacks, ...texts }, isOfFile, values }) {
+  const wanted = `${functions[Number(isOn)]}${lacks === undefined ? "" : "_lacking"}`;
   if (name === "example") return values.length > 0 ? engine.ask(wanted, values[0]) : engine.ask("listset_examples");
   if (!isOfFile) return engine.ask(wanted, inPage("wordsOf")(values));
   const input = opened(values[0]);
   const options = Buffer.from(inPage("optionWords")(texts));
-  const tried = engine.askBytes(wanted, Buffer.alloc(0), options);
-  return tried.status === WRONG ? tried : engine.askBytes(wanted, bytesOf(input), options);
+  const named = lacks === undefined ? [] : [Buffer.from(lacks)];
+  const tried = engine.askBytes(wanted, ...named, Buffer.alloc(0), options);
+  return tried.status === WRONG ? tried : engine.askBytes(wanted, ...named, bytesOf(input), options);
 }
 
 function answerOrTrouble(engine, words) {

@@ -1,22 +1,16 @@
-"""What docs/CLASSIC.md says of each example, as classics.js: its question, what it turns on, at which events, and what goes wrong
-without it."""
+"""What docs/CLASSIC.md says, as classics.js: of each example its question, what it turns on, at which events, what goes wrong
+without it, and which lists of its kind lack that check; and the kind of each list that lacks one."""
 import re
 
 from make_rows import in_lines, plain
 
-# How a paragraph leads to the report that stands below it, which `check` refuses.
-REPORT_BELOW = re.compile(r"(, [^.(]*)? \(\./listset example --broken [a-z-]+\):$")
+LACKING = re.compile(r"^- `([a-z-]+)` \(([a-z-]+)\): ", re.M)  # a list that lacks a check: its name and its kind
 PARAGRAPHS = {"question": "Question.", "turns_on": "Turns on.", "without": "Without it."}
 
 
 def paragraph(section, title):
     found = re.search(rf"^\*\*{re.escape(title)}\*\* (.*)$", section, re.M)
     return plain(found[1]) if found else None
-
-
-def said_alone(text):
-    """A paragraph without the report below it, which the page has behind a button."""
-    return REPORT_BELOW.sub(lambda found: f"{found[1] + ',' if found[1] else ''} is refused.", text)
 
 
 def turns_of(section):
@@ -27,12 +21,18 @@ def turns_of(section):
 
 def classics_text(page):
     """The text of classics.js for the text of docs/CLASSIC.md."""
+    lacking = dict(LACKING.findall(page))
+    kinds = {kind.replace("-", ""): kind for kind in lacking.values()}
     classics = {}
     for section in page.split("\n## ")[1:]:
-        name = section.split(" ", 1)[0]
+        if "**Question.**" not in section:
+            continue
+        name, kind = re.match(r"([a-z-]+) \((\w+)List\)", section).groups()
         said = {key: paragraph(section, title) for key, title in PARAGRAPHS.items()}
-        classics[name] = {"question": said["question"], "turnsOn": said["turns_on"], "without": said_alone(said["without"]),
-                          "turns": turns_of(section)}
-    return ("// What docs/CLASSIC.md says of each example, by page/build: its question, what it turns on, at which events, and what goes\n"
-            "// wrong without it.\n"
-            f'"use strict";\n\nconst CLASSICS = {in_lines(classics)};\n')
+        named = re.findall(r"\(`([a-z-]+)`\)", section)
+        lacks = [one for one in named if lacking.get(one) == kinds.get(kind.lower())]
+        classics[name] = {"question": said["question"], "turnsOn": said["turns_on"], "without": said["without"],
+                          "turns": turns_of(section), "lacks": lacks}
+    return ("// What docs/CLASSIC.md says, by page/build: of each example its question, what it turns on, at which events, what goes\n"
+            "// wrong without it, and which lists of its kind lack that check; and the kind of each list that lacks one.\n"
+            f'"use strict";\n\nconst CLASSICS = {in_lines(classics)};\n\nconst LACKING = {in_lines(lacking)};\n')

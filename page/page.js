@@ -18,6 +18,7 @@ const CAUSES = {
   NoThread: "there is no such thread",
   Busy: "the thread has a call open",
   Idle: "the thread has no call open",
+  Lost: "the list is broken so far that this step names no word of it",
 };
 const NO_ENGINE = "The engine is not here: no schedule can be run and no report checked. A file of listset trace can be opened.";
 const EMPTY_TRACE = "listset-trace 1\nlist lazy\nthreads 2\nquota 4\nend\n";
@@ -35,6 +36,7 @@ const page = {
   example: "", // whose text that is
   name: "", // under which a work is kept
   begun: "", // the text with which the work began
+  lacks: null, // the name of the list without a check on which it is run (break_it.js), or null
   allThreads: false,
   hides: true, // what is to come
   view: null, // lecture, list or history, where only that is shown
@@ -45,6 +47,7 @@ function show() {
   const { trace, state, count } = page;
   const moment = momentAt(state, count);
   showBar(moment);
+  showBreaking();
   byId("list").innerHTML = drawList(state, moment.event, byId("stage").clientWidth, listHeight());
   scrollToTouched();
   showThreads(moment.event);
@@ -65,7 +68,7 @@ function show() {
 function showBar(moment) {
   const { trace, count } = page;
   const { total } = trace;
-  const { name } = LISTS[trace.kind];
+  const name = `${LISTS[trace.kind].name}${trace.lacks === null ? "" : " without one check"}`;
   byId("title").textContent = `${name}, ${trace.threads} thread${trace.threads > 1 ? "s" : ""}`;
   document.title = `${page.example === "" ? page.name : page.example}, event ${count}: ${name}`;
   byId("source").textContent = page.source;
@@ -88,7 +91,8 @@ function showThreads(event) {
 
 // The table of the list's rows, while it is unfolded.
 function showTable(moment) {
-  byId("table-title").textContent = `The table of ${LISTS[page.trace.kind].name}`;
+  const which = page.lacks === null ? "" : ", which lacks nothing";
+  byId("table-title").textContent = `The table of ${LISTS[page.trace.kind].name}${which}`;
   if (byId("table-box").open) byId("table").innerHTML = drawTable(moment);
 }
 
@@ -184,7 +188,8 @@ function tellLine(text) {
 // Shows a trace at an event, or where a function of it says.
 function takeTrace(trace, at, source) {
   const { refused } = trace;
-  Object.assign(page, { trace, state: new State(trace), source });
+  Object.assign(page, { trace, state: new State(trace), source, lacks: trace.lacks });
+  document.body.classList.toggle("breaking", trace.lacks !== null);
   endJudging();
   if (refused === null) tellFault(null, "", "", false);
   else tellFault(refused.line, refused.cause, `line ${refused.line}: ${refused.cause}`, false);
@@ -206,14 +211,15 @@ function runText(text, at, told = "") {
   byId("opening").value = openingIn(text).join(" ");
   if (page.engine === null) return tellFault(null, "", NO_ENGINE);
   const asked = eventsAsked(text);
-  if (asked >= MANY_EVENTS) return runLong(text, asked, at, told);
+  if (asked >= MANY_EVENTS && page.lacks === null) return runLong(text, asked, at, told);
   stopLong();
-  takeAnswer(askNow("listset_trace", text), text, at, told);
+  takeAnswer(askList(askNow, "listset_trace", page.lacks, text), text, at, told);
 }
 
 // Shows what the engine says of a text.
 function takeAnswer(answer, text, at, told) {
-  if (answer.text.startsWith("listset-trace")) takeTrace(new Trace(answer.text, versionOf(text)), at, "run by the proved replayer");
+  const source = page.lacks === null ? "run by the proved replayer" : "a run of a list that lacks a check";
+  if (answer.text.startsWith("listset-trace")) takeTrace(new Trace(answer.text, versionOf(text)), at, source);
   else tellLine(answer.text.trim());
   tell(works.isKept ? told : `${told} This browser keeps nothing: save the schedule before you leave the page.`);
   showMarks();
@@ -222,9 +228,9 @@ function takeAnswer(answer, text, at, told) {
 }
 
 // What the engine answers at once; a line about the trouble where it stopped.
-function askNow(name, text) {
+function askNow(name, ...texts) {
   try {
-    return page.engine.ask(name, text);
+    return page.engine.ask(name, ...texts);
   } catch (fault) {
     return { status: 1, text: fault.message };
   }

@@ -2,6 +2,7 @@
 "use strict";
 
 const MOST_STEPS = 10000; // of one line
+const MOST_TRIED = 1000; // steps of a thread that does not come to where it is sent, to see for what it waits
 const DRAFT_LINE = /^go \d+ (?:out|to \d+)$/m;
 
 // The first line of a schedule of this version, and the version of one that is no other text.
@@ -64,9 +65,10 @@ function eventsAsked(text) {
 }
 
 // The schedule of a text in which a line may say `go T out` or `go T to ROW`, as the engine writes it; or the engine's line about
-// the first fault. A text without such a line is its own schedule.
-function scheduleOfDraft(ask, text) {
+// the first fault. A text without such a line is its own schedule. The engine knows drafts of whole lists alone.
+function scheduleOfDraft(ask, text, lacks = null) {
   if (!DRAFT_LINE.test(text)) return { text, fault: null };
+  if (lacks !== null) return scheduleOfLackingDraft(ask, lacks, text);
   const made = ask("listset_draft", text.replace(/^listset-(?:schedule|draft) [12]$/m, "listset-draft 2"));
   return made.status === 0 ? { text: made.text, fault: null } : { text: null, fault: made.text.trim() };
 }

@@ -9,14 +9,16 @@ const isFailed = (event) => event.deed === "exchange" && event.saw !== event.fro
 const ownerIn = (word) => word.split(".")[0];
 const isLinkOf = (event) => event.word?.endsWith(".link");
 
-function deedText(event) {
+// What an event did; `row` is the one at which its thread stood before.
+function deedText(event, row) {
   const word = event.word && mono(event.word);
   if (event.deed === "begin") return `begins ${callText(event.call)}.`;
   if (event.deed === "load") return `reads ${word}: ${said(event.saw)}.`;
   if (event.deed === "store") return isLock(event.word) ? `gives ${word} back.` : `writes ${word} := ${said(event.to)}.`;
   const exchange = `${said(event.from)} → ${said(event.to)}`;
   if (event.saw === event.from) return isLock(event.word) ? `takes ${word}.` : `exchanges ${word}: ${exchange}.`;
-  if (isLock(event.word)) return `tries ${word}, which ${event.saw} has: it stays at row ${event.changes.pc}.`;
+  const where = event.changes.pc === row ? `it stays at row ${row}` : `all the same it goes on to row ${event.changes.pc}`;
+  if (isLock(event.word)) return `tries ${word}, which ${event.saw} has: ${where}.`;
   return `tries to exchange ${word}: ${exchange}, but finds ${said(event.saw)}.`;
 }
 
@@ -154,7 +156,8 @@ function effectText({ trace, event }, hidden) {
   const { call } = event;
   if (event.answer === undefined) return "";
   const answers = `<b>${callText(call)} answers ${hidden.includes("reply") ? "… what?" : event.answer}</b>`;
-  if (hidden.includes("effect")) return hidden.includes("reply") ? answers : `${answers}.`;
+  const mayFitNowhere = trace.lacks !== null && !call.changes && call.at === event.number;
+  if (hidden.includes("effect") || mayFitNowhere) return hidden.includes("reply") ? answers : `${answers}.`;
   if (call.at === event.number) return `${answers}, and takes effect here.`;
   const other = trace.event(call.at).thread;
   const whose = other === event.thread ? "" : `, <b>a step of t${other}</b>`;
@@ -186,5 +189,6 @@ function sentenceOf(moment, hidden = []) {
   if (event.deed === "begin") return `${chipOf(event.thread)} ${deedText(event)}`;
   const told = Object.keys(OUTCOMES).filter((name) => !hidden.includes(name));
   const outcomes = told.map((name) => OUTCOMES[name](moment));
-  return [chipOf(event.thread), deedText(event), ...outcomes, effectText(moment, hidden)].filter((text) => text !== "").join(" ");
+  const parts = [chipOf(event.thread), deedText(event, moment.before.pc), ...outcomes, effectText(moment, hidden)];
+  return parts.filter((text) => text !== "").join(" ");
 }

@@ -2,8 +2,6 @@
 // says the engine: the line is that of a draft.
 "use strict";
 
-const MOST_TRIED = 1000; // steps of a thread that does not come to where it is sent, to see for what it waits
-
 const isAtRest = (thread) => page.state.threads[thread].pc === 0;
 const tellRest = (thread) => tell(`${chipOf(thread)} is at rest: let it begin a call first, by its row of "Go on from here".`);
 
@@ -29,14 +27,14 @@ function stepsToRow(thread, row) {
 
 // How many steps a line of a draft stands for, or the engine's line about why it stands for none.
 function stepsOfDraft(line) {
-  const { text, fault } = scheduleOfDraft(askNow, scheduleAndLine(page.trace, page.count, line));
+  const { text, fault } = scheduleOfDraft(askNow, scheduleAndLine(page.trace, page.count, line), page.lacks);
   return fault === null ? { count: Number(text.trimEnd().split(" ").at(-1)), fault } : { count: null, fault };
 }
 
 // Goes on to the lock for which the thread waits; else as far as one deed may lead.
 function stepsToLock(thread, fault, notYet) {
   const text = scheduleAndLine(page.trace, page.count, `go ${thread} ${MOST_TRIED}`);
-  const answer = askNow("listset_trace", text);
+  const answer = askList(askNow, "listset_trace", page.lacks, text);
   if (!fault.endsWith(": Waits") || !answer.text.startsWith("listset-trace")) {
     return tell(`No steps: the engine says "${escaped(fault)}".`);
   }

@@ -11,8 +11,9 @@ const MOST_NUMBER = 4294967295;
 class Trace {
   // The version is that of the schedule's text: the one that is given, and the second where there are opening keys or a ceiling.
   constructor(text, version = 1) {
-    const [, kind, threads, quota] = /^listset-trace 1\nlist (\S+)\nthreads (\d+)\nquota (\d+)\n/.exec(text);
-    Object.assign(this, { text, version, kind, threads: Number(threads), quota: Number(quota) });
+    const [, kind, lacks = null, threads, quota] =
+      /^listset-trace 1\nlist (\S+)\n(?:lacks (\S+)\n)?threads (\d+)\nquota (\d+)\n/.exec(text);
+    Object.assign(this, { text, version, kind, lacks, threads: Number(threads), quota: Number(quota) });
     this.opening = [];
     this.starts = []; // of each event, where its line begins
     this.calls = [];
@@ -110,6 +111,17 @@ function tellIn(event, name, value) {
 
 // The nodes of the opening keys come after the slots of all threads.
 const firstOpeningNode = (trace) => 2 + trace.threads * trace.quota;
+
+// How many events from the first on two traces have in common, where they are of sets that open alike.
+function eventsInCommon(one, other) {
+  const header = ({ kind, threads, quota, opening }) => [kind, threads, quota, ...opening].join();
+  if (header(one) !== header(other)) return 0;
+  const most = Math.min(one.total, other.total);
+  const deedOf = (trace, number) => trace.lineOf(number).replace(/^event \d+ line \d+/, "");
+  let count = 0;
+  while (count < most && deedOf(one, count + 1) === deedOf(other, count + 1)) count++;
+  return count;
+}
 
 // The calls that stand in the order: by their moments, at one moment the call that changes the set first, then by number.
 function orderOf(calls) {

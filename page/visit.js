@@ -5,7 +5,7 @@ const MOMENT = 400; // milliseconds: the bar follows once nothing has moved for 
 const visit = { timer: 0, text: null }; // the schedule whose address stands there
 
 function ownAddress() {
-  const address = page.example === "" ? addressOf(page.text, page.count) : exampleAddress(page.example, page.count);
+  const address = page.example === "" ? addressOf(page.text, page.count, page.lacks) : exampleAddress(page.example, page.count);
   return address === null || page.view === null ? address : `${address}&view=${page.view}`;
 }
 
@@ -27,7 +27,7 @@ function setAddress() {
   const isNew = visit.text !== null && visit.text !== page.text;
   visit.text = page.text;
   if (!isNew && location.hash === (address ?? "")) return;
-  const kept = address === null ? { text: page.text, count: page.count } : null;
+  const kept = address === null ? { text: page.text, count: page.count, lacks: page.lacks } : null;
   const place = address ?? location.pathname + location.search;
   try {
     history[isNew ? "pushState" : "replaceState"](kept, "", place);
@@ -41,7 +41,7 @@ async function followAddress(event) {
   clearTimeout(visit.timer);
   keepWork();
   const { state } = event;
-  if (typeof state?.text === "string") openVisited({ example: null, text: state.text, event: state.count });
+  if (typeof state?.text === "string") openVisited({ example: null, text: state.text, event: state.count, lacks: state.lacks });
   else await openAddress();
   visit.text = page.text;
 }
@@ -64,26 +64,26 @@ async function openAddress() {
   }
 }
 
-function openVisited({ example, text, event }) {
+function openVisited({ example, text, event, lacks }) {
   const wanted = example === null ? text : exampleText(example);
   if (example === null && text === null) return false;
   if (example === null && page.engine === null) throw new AddressFault("the address names a schedule, which cannot be run here");
-  if (wanted === page.text && page.isRun && page.example === (example ?? "")) goTo(event);
+  if (wanted === page.text && page.isRun && page.example === (example ?? "") && page.lacks === lacks) goTo(event);
   else if (example !== null) pickExample(example, event);
-  else openLink(text, event);
+  else openLink(text, event, lacks);
   return true;
 }
 
 // A link opens under a name of its own: that of the reader's work with this very text, or a new one.
-function openLink(text, event) {
-  const own = works.nameOf(text);
+function openLink(text, event, lacks) {
+  const own = works.nameOf(text, lacks);
   const kept = works.byName.size;
   if (own === null) {
     const told = "Opened from a link. What you change of it is kept under a name of its own";
     const others = kept === 0 ? "" : `; your ${kept} other works stay under Open`;
-    openText(text, event, works.newName("from a link"), `${told}${others}.`);
+    openText(text, event, works.newName("from a link"), `${told}${others}.`, lacks);
   } else {
-    openText(text, event, own);
+    openText(text, event, own, "", lacks);
     page.begun = "";
   }
 }

@@ -3,7 +3,10 @@
 
 const work = { before: [], after: [] }; // the schedules before, for Undo, and those that were undone, for Redo
 
-const present = () => ({ text: page.text, count: page.count, example: page.example, name: page.name, begun: page.begun });
+function present() {
+  const { text, count, example, name, begun, lacks } = page;
+  return { text, count, example, name, begun, lacks };
+}
 
 function showUndo() {
   setAble("undo", work.before.length > 0);
@@ -22,7 +25,7 @@ function exchangeWork(from, others) {
   if (wanted === undefined) return;
   others.push(present());
   showUndo();
-  takeName(wanted.name, wanted.begun);
+  takeName(wanted.name, wanted.begun, wanted.lacks);
   chooseExample(wanted.example);
   runText(wanted.text, wanted.count);
 }
@@ -30,24 +33,25 @@ function exchangeWork(from, others) {
 const undo = () => exchangeWork(work.before, work.after);
 const redo = () => exchangeWork(work.after, work.before);
 
-// From now on what the reader makes is kept under this name, once it is another text than the one with which it began.
-function takeName(name, begun) {
+// From now on what the reader makes is kept under this name, once it is another text than the one with which it began; it is run
+// on the whole list, or on one that lacks a check.
+function takeName(name, begun, lacks = null) {
   keepWork();
-  Object.assign(page, { name, begun });
+  Object.assign(page, { name, begun, lacks });
 }
 
 // Opens a text under a name, at this event of it; what was shown before stays, and Undo leads back to it.
-function openText(text, at, name = works.newName("my schedule"), told = "") {
+function openText(text, at, name = works.newName("my schedule"), told = "", lacks = null) {
   keepWork();
   keepBefore();
-  takeName(name, text);
+  takeName(name, text, lacks);
   chooseExample("");
   runText(text, at, told);
 }
 
 function openWork(name) {
-  const { text, box, count } = works.byName.get(name);
-  openText(text, count, name);
+  const { text, box, count, lacks = null } = works.byName.get(name);
+  openText(text, count, name, "", lacks);
   page.begun = "";
   if (box !== text) byId("schedule").value = box;
   showMarks();
@@ -56,22 +60,11 @@ function openWork(name) {
 const newSchedule = (list, threads, quota) =>
   openText(`listset-schedule 1\nlist ${list}\nthreads ${threads}\nquota ${quota}\n`, 0, works.newName("my schedule"));
 
-// How many events from the first on two traces have in common, where they are of one list.
-function eventsInCommon(one, other) {
-  const header = ({ kind, threads, quota, opening }) => [kind, threads, quota, ...opening].join();
-  if (header(one) !== header(other)) return 0;
-  const most = Math.min(one.total, other.total);
-  const deedOf = (trace, number) => trace.lineOf(number).replace(/^event \d+ line \d+/, "");
-  let count = 0;
-  while (count < most && deedOf(one, count + 1) === deedOf(other, count + 1)) count++;
-  return count;
-}
-
 // Runs the text of the box, in which a line may be that of a draft. Its last line gets its newline where it has none. The event
 // stays where the events up to it do; a text with a refused event is shown up to that.
 function runBox() {
   const box = byId("schedule").value;
-  const { text, fault } = scheduleOfDraft(askNow, box === "" || box.endsWith("\n") ? box : `${box}\n`);
+  const { text, fault } = scheduleOfDraft(askNow, box === "" || box.endsWith("\n") ? box : `${box}\n`, page.lacks);
   if (fault !== null) return tellLine(fault);
   const { trace, count } = page;
   if (text !== page.text) keepBefore();

@@ -145,7 +145,7 @@ async function driveHandIn() {
   lessonPart("student").onchange();
   lessonPart("hand-in").click();
   await until(() => lessonText("told") !== "");
-  check(`it tells how many are handed in: ${lessonText("told")}`, /12 solutions and \d+ judged orders/.test(lessonText("told")));
+  check(`it tells how many are handed in: ${lessonText("told")}`, /12 solutions, \d+ judged orders and \d+ broken lists/.test(lessonText("told")));
   const [read] = inPage(`textsIn(${JSON.stringify(lessonPart("text").value)}).map(readHandIn)`);
   const names = read.solutions.map(({ line }) => line.split(" ")[0]).filter((name) => name !== "judge");
   check("the text has them all", read.student === "Ada" && read.faults.length === 0 && names.join() === lessonNames().join());

@@ -8,14 +8,15 @@ const os = require("os");
 const path = require("path");
 const { inPage, loadScripts, startedEngine } = require("../in_node.js");
 
-const SCRIPTS = ["rows", "trace", "schedule_text", "state", "address", "svg", "draw_history", "run", "goal_words", "lesson_text",
-  "judge_lesson", "judge_answer", "hand_in", "book"];
+const SCRIPTS = ["rows", "classics", "trace", "schedule_text", "state", "address", "svg", "draw_history", "run", "goal_words",
+  "lesson_text", "judge_lesson", "judge_answer", "break_it", "hand_in", "book"];
 loadScripts(...SCRIPTS.map((name) => `${name}.js`));
 const [textsIn, readHandIn, handInText, triedCourse] = ["textsIn", "readHandIn", "handInText", "triedCourse"].map(inPage);
 const PAGE = path.join(__dirname, "..");
 const BOOK = path.join(PAGE, "book.course");
 const NAME = inPage("BOOK_NAME");
 const ORDER = "judge read-in-anothers-step replies 0-true,2-true,1-false,3-true";
+const BROKEN = "break last-slot #list=lock-free&threads=1&quota=1&s=b0.add.5,g0.3&event=4";
 const result = { passed: 0, failed: [] };
 
 function check(name, isGood) {
@@ -51,11 +52,11 @@ const MAILED = {
 
 function checkMail(course) {
   const answers = course.lessons.map(({ name, solution }) => ({ name, schedule: solution }));
-  const text = handInText(NAME, "Ada Lovelace", answers, [ORDER]);
+  const text = handInText(NAME, "Ada Lovelace", answers, [ORDER, BROKEN]);
   const wanted = readHandIn(textsIn(text)[0]);
   check(
     "a text that is made is read",
-    wanted.solutions.length === 13 && wanted.student === "Ada Lovelace" && wanted.faults.length === 0,
+    wanted.solutions.length === 14 && wanted.student === "Ada Lovelace" && wanted.faults.length === 0,
   );
   for (const [how, mailed] of Object.entries(MAILED)) {
     const found = textsIn(mailed(text));
@@ -68,7 +69,7 @@ function checkMail(course) {
   const before = textsIn(text.replace("lessons 2", "lessons 1").replace(/^(course|student) .*\n/gm, "").replace("end\n", ""));
   check(
     "a text as the page made it before",
-    readHandIn(before[0]).solutions.length === 13 && readHandIn(before[0]).faults.length === 0,
+    readHandIn(before[0]).solutions.length === 14 && readHandIn(before[0]).faults.length === 0,
   );
   const class_ = textsIn(`${text}${fs.readFileSync(BOOK, "utf8")}${quoted(text)}`);
   check("a class and a course in one file", same(class_.map(({ kind }) => kind), ["hand-in", "course", "hand-in"]));
@@ -93,9 +94,13 @@ function told(...words) {
 function checkTeacher(course, folder) {
   const answers = course.lessons.map(({ name, solution }) => ({ name, schedule: solution }));
   const text = (student, solutions, orders = []) => handInText(NAME, student, solutions, orders);
-  const all = said(folder, text("Ada", answers, [ORDER]));
+  const all = said(folder, text("Ada", answers, [ORDER, BROKEN]));
   const very = "12 by the very schedule of the lesson's answer, which may be its shortest";
-  check(`all: ${all.lines}`, same(all, { status: 0, lines: [`Ada: 12 of 12 solved; 1 order judged right; ${very}`], fault: "" }));
+  const line = `Ada: 12 of 12 solved; 1 order judged right; 1 list broken; ${very}`;
+  check(`all: ${all.lines}`, same(all, { status: 0, lines: [line], fault: "" }));
+  const whole = said(folder, text("Ada", answers, [BROKEN.replace("quota=1", "quota=2")]));
+  const [first] = whole.lines;
+  check(`explained: ${first}`, whole.status === 1 && first.endsWith(": break last-slot: Explained: this schedule does not break it."));
   const two = `${text("Ada", answers)}\n${quoted(text("Bo", answers.slice(1)))}`;
   const group = said(folder, two, text("Cy", [], ["judge snip points none"]));
   check(`a class: ${group.lines.join("; ")}`, group.status === 1 && group.lines.includes("Bo: one-lock: not handed in"));

@@ -45,7 +45,7 @@ function checkClaims(ask, name, report) {
   check(`${name}: there is an order`, claimOf(exerciseOf(report, "claim")).isRight === false);
   const broken = ask("listset_broken_example", name);
   if (broken.status !== 0) return;
-  const exercise = exerciseOf(broken.text, "claim", true);
+  const exercise = exerciseOf(broken.text, "claim", false);
   check(`${name}: none, of the broken report`, claimOf(exercise).isRight === true);
   const refused = verdictOn(ask, answerOfWord(exercise, wordIn(broken.text).join()));
   check(`${name}: its order: ${refused.says}`, refused.isRight === false && !refused.says.startsWith("refused"));

@@ -7,8 +7,8 @@ const fs = require("fs");
 const path = require("path");
 const { inPage, loadScripts, startedEngine } = require("../in_node.js");
 
-const SCRIPTS = ["rows", "trace", "schedule_text", "state", "address", "run", "goal_words", "lesson_text", "judge_lesson", "book",
-  "course_link"];
+const SCRIPTS = ["rows", "trace", "schedule_text", "state", "address", "judge_answer", "break_it", "run", "goal_words", "lesson_text",
+  "judge_lesson", "book", "course_link"];
 loadScripts(...SCRIPTS.map((name) => `${name}.js`));
 const [readCourse, triedCourse, judged] = ["readCourse", "triedCourse", "judged"].map(inPage);
 const [missingIn, lessonText] = ["missingIn", "lessonText"].map(inPage);

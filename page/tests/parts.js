@@ -29,7 +29,8 @@ function checkTurns(engine) {
   check("docs/CLASSIC.md has the examples", Object.keys(classics).join() === names.join());
   for (const name of names) {
     const { question, turnsOn, without, turns: events } = classics[name];
-    check(`${name}: there is a word for each event at which it turns`, Object.keys(turns[name]).join() === events.join());
+    const isTold = events.length > 1 && events.every((event) => event in turns[name]);
+    check(`${name}: there is a word for each event at which it turns`, isTold);
     check(`${name}: it has a question, and what it turns on`, question.endsWith("?") && turnsOn.length > 40);
     check(`${name}: what is said of it leads to nothing below it`, turnsOn.endsWith(".") && without.endsWith("."));
     const trace = traceOf(engine, engine.ask("listset_example", name).text);

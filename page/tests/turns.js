@@ -1,4 +1,4 @@
-// What the sentence of each event says at which docs/CLASSIC.md says that an example turns: words of it, event by event.
+// What sentences of the examples say: words of them, event by event, at least of those at which docs/CLASSIC.md says that they turn.
 "use strict";
 
 const TURNS = {

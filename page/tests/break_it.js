@@ -1,0 +1,194 @@
+// node tests/break_it.js: lists that lack a check, each broken by a schedule of examples/lacks, as docs/CLASSIC.md says; drafts on
+// them, what is handed in, and a lesson that has one. Prints how many checks passed, and what failed, as JSON.
+"use strict";
+
+const fs = require("fs");
+const path = require("path");
+const { inPage, loadScripts, startedEngine } = require("../in_node.js");
+
+const SCRIPTS = ["rows", "classics", "trace", "check_trace", "schedule_text", "state", "address", "svg", "draw_history",
+  "sentences", "draw_list", "judge_answer", "break_it", "run", "goal_words", "lesson_text", "judge_lesson", "hand_in", "files"];
+loadScripts(...SCRIPTS.map((name) => `${name}.js`));
+const LACKING = inPage("LACKING");
+const NAMES = Object.keys(LACKING);
+const TOP = path.join(__dirname, "..", "..");
+const CLASSIC = fs.readFileSync(path.join(TOP, "docs", "CLASSIC.md"), "utf8");
+const [verdictOnLacking, departureOf, Trace] = ["verdictOnLacking", "departureOf", "Trace"].map(inPage);
+const result = { passed: 0, failed: [] };
+
+function check(name, isGood) {
+  if (isGood) result.passed++;
+  else result.failed.push(name);
+}
+
+const plain = (text) => text.replace(/<[^>]*>/g, "");
+const scheduleOf = (name) => fs.readFileSync(path.join(TOP, "examples", "lacks", `${name}.schedule`), "utf8");
+const startOf = inPage("startOfLacking");
+const LOST = /^(\d+) was put in once and never taken out, and the set lacks it$/; // as docs/CLASSIC.md tells it in short
+const isUncounted = (name) => inPage("UNCOUNTED").includes(name);
+
+// The schedule breaks the list, as docs/CLASSIC.md says it, or is refused by its points alone; and never before its last call.
+function checkBroken(ask, name) {
+  const schedule = scheduleOf(name);
+  const { kind, says } = verdictOnLacking(ask, name, schedule);
+  check(`${name} is broken: ${says}`, kind === (isUncounted(name) ? "points" : "broken"));
+  check(`${name}: of a refused order alone it says: ${says}`, says.includes("(proved by counting)") === (kind === "broken"));
+  const line = CLASSIC.split("\n").find((one) => one.startsWith(`- \`${name}\` (${LACKING[name]}): `)) ?? "";
+  const counted = says.slice("Broken: ".length, says.indexOf(". No order")).replace(LOST, "$1 is lost");
+  const told = kind === "broken" ? `${counted}.` : "the order is refused, and counting tells nothing.";
+  check(`docs/CLASSIC.md says of ${name}: ${told}`, line.toLowerCase().endsWith(` ${told}`.toLowerCase()));
+  const begun = verdictOnLacking(ask, name, startOf(name));
+  check(`${name}: nothing breaks it at its start`, begun.kind === "explained" && begun.says === inPage("EXPLAINED"));
+  const whole = ask("listset_trace", schedule).text.replace(/^refused .*\n/m, "end\n");
+  const replayed = ask("listset_replay", inPage("scheduleOfTrace")(new Trace(whole, 2)));
+  check(`${name}: the whole list explains its part of it`, ask("listset_check", replayed.text).text === "ok\n");
+  const ofOther = schedule.replace(/^list .*$/m, `list ${LACKING[name] === "lazy" ? "fine" : "lazy"}`);
+  check(`${name} is a list of one kind`, verdictOnLacking(ask, name, ofOther).kind === "refused");
+}
+
+// Each event has its sentence and its picture, and the whole list departs at one of them: up to it both make the same.
+function checkDeparture(ask, name) {
+  const trace = new Trace(ask("listset_trace_lacking", name, scheduleOf(name)).text, 2);
+  check(`${name} stands in its trace`, trace.lacks === name && trace.kind === LACKING[name]);
+  const state = new (inPage("State"))(trace);
+  for (let count = 0; count <= trace.total; count++) {
+    const moment = inPage("momentAt")(state, count);
+    const isDrawn = inPage("drawList")(state, moment.event, 900).startsWith("<svg");
+    check(`${name}: event ${count} is told and drawn`, inPage("sentenceOf")(moment) !== "" && isDrawn);
+  }
+  const { event, here, whole } = departureOf(ask, trace);
+  check(`${name} departs at ${event}: ${plain(here)} | ${plain(whole)}`, event <= trace.total && here !== whole);
+  const common = new Trace(ask("listset_trace", inPage("scheduleOfTrace")(trace, event - 1)).text, 2);
+  const agree = inPage("eventsInCommon")(trace, common);
+  check(`${name}: up to event ${event} they agree`, agree === event - 1 && common.total === event - 1);
+}
+
+// Its trace as a file: by the grammar, compared with the engine's; and another name in it is none.
+function checkFile(engine, ask, name) {
+  const { text } = ask("listset_trace_lacking", name, scheduleOf(name));
+  check(`${name}: its trace is one: ${inPage("faultOfTrace")(text)}`, inPage("faultOfTrace")(text) === null);
+  const compared = (given) => inPage("comparedTrace")(engine, new Trace(given, 2));
+  check(`${name}: ${compared(text)}`, compared(text) === "a trace from a file, and the engine gives the same for its schedule");
+  const whole = compared(text.replace(/^lacks .*\n/m, "")); // as if the whole list had made it
+  const { event } = departureOf(ask, new Trace(text, 2));
+  check(`${name}: as one of the whole list: ${whole}`, whole.endsWith(`the proved replayer gives another, from its event ${event} on`));
+  check(`${name}: a check that is none`, inPage("faultOfTrace")(text.replace(`lacks ${name}`, "lacks luck"))?.startsWith("line 3: "));
+}
+
+// Counted are the calls that ended before, and of a full add those of its own thread.
+function checkCounts(ask) {
+  const saidOf = (name, schedule, lines) => {
+    const { text } = inPage("scheduleOfDraft")(ask, `${schedule}${lines.join("\n")}\n`, name);
+    return verdictOnLacking(ask, name, text).says;
+  };
+  const later = saidOf("mark-at-key", scheduleOf("mark-at-key"), ["begin 1 add 7", "go 1 out"]);
+  check(`what comes later is not counted: ${later}`, later.includes("before it 7 was there at first, never put in and taken out once."));
+  const adds = ["begin 1 add 9", "go 1 out", "begin 0 add 4", "go 0 out", "begin 0 add 5", "go 0 out"];
+  const other = saidOf("last-slot", startOf("last-slot"), adds);
+  check(`nor that of another thread: ${other}`, other.includes("add(5) of t0 answers full, and its thread had put in 1 of the 2 keys"));
+}
+
+// A draft's line stands for the steps of the list that lacks the check, and is refused as the engine refuses that of a whole list.
+function checkDrafts(ask) {
+  const drafted = (name, lines) => inPage("scheduleOfDraft")(ask, `${startOf(name)}${lines.join("\n")}\n`, name);
+  const lock = drafted("lock", ["begin 0 add 5", "go 0 to 7", "begin 1 add 4", "go 1 out", "go 0 out"]);
+  check(`a draft of a list without its lock: ${lock.text ?? lock.fault}`, lock.text === scheduleOf("lock"));
+  check("a plain text is its own", drafted("lock", ["begin 0 add 5", "go 0 2"]).text.endsWith("begin 0 add 5\ngo 0 2\n"));
+  const faults = [
+    ["lock", "listset: line 7: Idle", ["go 0 out"]],
+    ["lock", "listset: line 8: Idle", ["begin 0 contains 5", "go 0 to 8"]],
+    ["hand-over-hand", "listset: line 10: Waits", ["begin 0 add 5", "go 0 2", "begin 1 remove 3", "go 1 out"]],
+    ["lock", "listset: line 7: Event", ["begin 0 pop 5", "go 0 out"]],
+  ];
+  for (const [name, fault, lines] of faults) {
+    const found = drafted(name, lines).fault;
+    check(`${name}: ${lines.join(", ")}: ${found}`, found === fault);
+  }
+}
+
+// What is handed in is judged by the list that its line names, by counting; an order that is refused alone is no solution.
+function checkHandedIn(ask) {
+  const judge = (line) => inPage("judgedPart")(ask, [], line);
+  for (const name of NAMES) {
+    const address = inPage("addressOf")(scheduleOf(name), 3);
+    const { task, isSolved, says } = judge(`break ${name} ${address}`);
+    check(`break ${name}: ${says}`, task === `break ${name}` && isSolved === (name !== inPage("NO_TASK")));
+    const { text, lacks } = inPage("readAddress")(inPage("addressOf")(scheduleOf(name), 3, name));
+    check(`the address of ${name}`, lacks === name && text === scheduleOf(name));
+    const start = judge(`break ${name} ${inPage("addressOf")(startOf(name), 0)}`);
+    check(`break ${name} by nothing: ${start.says}`, !start.isSolved);
+  }
+  const own = inPage("addressOf")(scheduleOf("mark"), 0);
+  const refused = { "break luck": own, "break mark": "", "break second-walk": own, "break mark-in-add": `${own} more` };
+  for (const [task, link] of Object.entries(refused)) check(`${task} ${link}`.slice(0, 60), !judge(`${task} ${link}`).isSolved);
+  const points = "#list=lock-free&threads=2&quota=2&opening=3.7&s=b1.remove.7,g1.7,b0.contains.7,g0.5,g1.1&event=15";
+  const said = verdictOnLacking(ask, "mark-at-key", inPage("readAddress")(points).text);
+  check(`of two calls that overlap another order may be right: ${said.says}`, said.kind === "points");
+  check("and that is no solution", !judge(`break mark-at-key ${points}`).isSolved);
+}
+
+// The sentences about a claim: right where counting refutes the report, and else nothing is said.
+function checkClaims(ask, name) {
+  const { report } = verdictOnLacking(ask, name, scheduleOf(name));
+  const claim = Object.assign(new (inPage("OwnAnswer"))(inPage("exerciseOf")(report, "claim", false)), { isNone: true });
+  const { isRight, says } = inPage("verdictOn")(ask, claim);
+  check(`${name}, that there is none: ${says}`, isRight === (isUncounted(name) ? null : true));
+}
+
+const LESSON = `listset-course 1
+course One list
+lesson broken
+title A walk without its lock
+list fine
+lacks hand-over-hand
+threads 2
+quota 2
+opening 3 7
+question
+  Break it.
+answer
+  begin 1 add 5
+  go 1 to 6
+  go 1 2
+  begin 0 remove 3
+  go 0 out
+  go 1 out
+`;
+
+// A lesson whose list lacks a check is solved where the list is broken; its goal may ask for more.
+function checkLesson(ask) {
+  const tried = (text) => inPage("triedCourse")(ask, text);
+  const { lessons, faults } = tried(LESSON);
+  check(`a lesson of such a list: ${JSON.stringify(faults)}`, faults.length === 0 && lessons[0].lacks === "hand-over-hand");
+  const judged = inPage("judged")(ask, lessons[0], scheduleOf("hand-over-hand"));
+  check("another schedule solves it", judged.isSolved && judged.conditions.length === 1);
+  const begun = inPage("judged")(ask, lessons[0], lessons[0].begun);
+  const [condition] = begun.conditions;
+  check(`its start does not: ${JSON.stringify(condition)}`, !begun.isSolved && condition.says === inPage("TO_BREAK"));
+  const faultOf = (text) => tried(text).faults[0] ?? { line: 0, fault: "none" };
+  const more = faultOf(`${LESSON}goal\n  call C of 0: add\n  say Thread 0 adds.\n`).fault;
+  check(`a goal beside it: ${more}`, more.endsWith("its answer does not solve it: missing: Thread 0 adds."));
+  const wrong = faultOf(LESSON.replace("lacks hand", "lacks hands"));
+  check("a list that there is not", wrong.line === 6 && wrong.fault.startsWith('there is no fine list that lacks "hands'));
+  check("a goal is due of a whole list", faultOf(LESSON.replace(/^lacks .*\n/m, "")).fault.includes('lacks "goal"'));
+}
+
+async function main() {
+  const engine = await startedEngine();
+  const ask = (name, ...texts) => engine.ask(name, ...texts);
+  const named = ask("listset_replay_lacking", "luck", startOf("lock"));
+  check(`the names: ${named.text}`, named.status === 2 && NAMES.every((name) => named.text.includes(` ${name}`)));
+  for (const name of NAMES) {
+    checkBroken(ask, name);
+    checkDeparture(ask, name);
+    checkFile(engine, ask, name);
+    checkClaims(ask, name);
+  }
+  checkCounts(ask);
+  checkDrafts(ask);
+  checkHandedIn(ask);
+  checkLesson(ask);
+  console.log(JSON.stringify(result));
+}
+
+main();

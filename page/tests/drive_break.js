@@ -1,0 +1,127 @@
+// Drives "Break it" as a student does: each list that lacks a check is broken by the controls alone.
+"use strict";
+
+// What the student does, list by list: B begins a call, R goes on until a row, 1 makes a step, E goes on to the end of the call.
+const DEEDS = {
+  lock: "B0 add 5, R0 7, B1 add 4, E1, E0",
+  "second-lock": "B1 add 5, R1 9, B0 remove 3, E0, E1",
+  "hand-over-hand": "B1 add 5, R1 6, 1 1, 1 1, B0 remove 3, E0, E1",
+  "second-walk": "B0 add 5, R0 4, B1 remove 3, E1, E0",
+  "same-node": "B0 add 5, R0 4, B1 remove 3, E1, B1 add 3, E1, E0",
+  "marks-in-validation": "B0 add 5, R0 4, B1 remove 3, E1, E0",
+  "mark-in-contains": "B0 remove 3, R0 12, B1 contains 3, E1",
+  "mark-in-ceiling": "B0 remove 3, R0 12, B1 contains 3, E1, B1 ceiling 2, E1",
+  mark: "B0 add 5, R0 7, B1 remove 3, E1, E0",
+  "mark-in-add": "B0 add 5, R0 7, B1 remove 3, E1, E0",
+  "mark-in-remove": "B0 remove 3, R0 9, B1 remove 3, R1 9, E0, E1",
+  "mark-at-key": "B0 add 5, R0 7, B1 remove 7, R1 10, E0, E1, B0 contains 7, E0",
+  "new-slot": "B0 add 4, E0, B0 add 5, E0",
+  "last-slot": "B0 add 4, E0, B0 add 5, E0",
+};
+const breakText = (name) => textOf(`break-${name}`);
+const ofThread = (thread, deed) => part("moves").querySelector(`[data-thread="${thread}"] [data-deed="${deed}"]`);
+
+function doDeed(deed) {
+  const [, kind, thread, words = ""] = /^([BRE1]) ?(\d)(?: (.*))?$/.exec(deed);
+  if (kind === "B") beginCall(Number(thread), ...words.split(" "));
+  else if (kind === "R") {
+    ofThread(thread, "row").value = words;
+    ofThread(thread, "row").onchange();
+    ofThread(thread, "until").click();
+  } else ofThread(thread, kind === "E" ? "end" : "one").click();
+}
+
+function driveBreaking() {
+  const names = inPage("Object.keys(LACKING)");
+  check("there is a way to break each", names.length === 14 && [...names].sort().join() === Object.keys(DEEDS).sort().join());
+  for (const name of names) driveBreak(name);
+  driveDoubt();
+  driveBrokenExample();
+  driveKeptBroken();
+  driveLackingLesson();
+  pick("snip");
+  check("a whole list has no such box", part("break-box").hidden && !inPage("document.body.classList.contains('breaking')"));
+}
+
+// Nothing tells what the list lacks before it is broken; then the verdict and the departure do.
+function driveBreak(name) {
+  pick(`break: ${name}`);
+  check(`${name} is opened: ${breakText("title")}`, breakText("title").endsWith(" lacks one check:") && !part("break-box").hidden);
+  const shown = ["break-box", "title", "source", "told"].map((id) => part(id).innerText).join(" ") + inPage("ownAddress()");
+  check(`${name} is not named: ${shown}`, !shown.toLowerCase().split(/[^a-z-]+/).includes(name));
+  check(`${name} begins whole: ${breakText("verdict")}`, breakText("verdict") === "Explained: this schedule does not break it.");
+  check("its departure is not told", part("break-departs").hidden);
+  for (const deed of DEEDS[name].split(", ")) doDeed(deed);
+  const isCounted = !inPage("UNCOUNTED").includes(name);
+  const wanted = isCounted ? "Broken: " : "Not by its points: ";
+  check(`${name}: ${breakText("verdict")}`, breakText("verdict").startsWith(wanted) && textOf("fault") === "");
+  check(`${name} departs: ${textOf("break-departs")}`, !part("break-departs").hidden && breakText("here") !== breakText("whole"));
+  part("break-event").click();
+  check("one can go there", textOf("where").startsWith(`${breakText("event")} of `));
+  const line = breakText("line");
+  check(`${name} is kept: ${line}`, name === "mark-in-contains" ? line === "" : line.includes(`: break ${name} #list=`));
+  part("undo").click();
+  check(`${name}: a deed before it: ${breakText("verdict")}`, !isCounted || !breakText("verdict").startsWith("Not"));
+}
+
+// "Not by its points" opens Judge yourself with this report: another order may be right, and that none is right is not proved.
+function driveDoubt() {
+  pick("break: mark-in-contains");
+  for (const deed of DEEDS["mark-in-contains"].split(", ")) doDeed(deed);
+  part("break-judge").click();
+  check("the report is judged", !part("judge").hidden && part("judge").getClientRects().length > 0);
+  part("judge-none").click();
+  check(`that there is none: ${textOf("judge-verdict")}`, textOf("judge-verdict").startsWith("Counting does not tell: "));
+  dragPoint(1, 10, 10);
+  dragPoint(0, 12, 12);
+  part("judge-ask").click();
+  const verdict = textOf("judge-verdict");
+  check(`another order is right: ${verdict}`, verdict.startsWith("check says ok: this order explains the report"));
+  check("it is not handed in", textOf("judge-line") === "");
+  part("judge-end").click();
+}
+
+// An example whose check is missing opens as a run, as far as that list goes on with its schedule.
+function driveBrokenExample() {
+  pick("stale-pred");
+  part("without-box").open = true;
+  part("see-broken").click();
+  const verdict = breakText("verdict");
+  check(`the run without the check: ${verdict}`, verdict.startsWith("Broken: 5 was put in once and never taken out"));
+  check("it can be stepped", textOf("where") === "event 34 of 34" && inPage("page.trace.lacks") === "second-walk");
+  pick("behind-the-walk");
+  check("an example that shows no check offers none", part("see-broken").hidden);
+}
+
+// A lesson whose list lacks a check is begun and solved like any other.
+function driveLackingLesson() {
+  const head = ["listset-course 1", "course Broken", "lesson one", "title One"];
+  const set = ["list fine", "lacks second-lock", "threads 2", "quota 2", "opening 3 7"];
+  part("lesson-course-text").value = [...head, ...set, "question", "  Which check?", ""].join("\n");
+  part("lesson-try").click();
+  part("lesson-start").click();
+  check("the lesson's list lacks the check", inPage("page.trace.lacks") === "second-lock" && !part("break-box").hidden);
+  check("its condition", textOf("lesson-conditions").startsWith("○ No order explains what the calls answer"));
+  for (const deed of DEEDS["second-lock"].split(", ")) doDeed(deed);
+  check(`it is solved: ${textOf("lesson-verdict")}`, textOf("lesson-verdict") === "Solved.");
+  pick("break: lock");
+  check("another list is not the lesson's", textOf("lesson-verdict").startsWith("Press Start."));
+  typeChoice(part("lesson-course"), inPage("BOOK_NAME"));
+}
+
+// What was broken has a tick, is handed in, and its address opens it again without a name.
+function driveKeptBroken() {
+  const options = [...part("break-options").children].filter((option) => option.textContent.startsWith("✓ "));
+  check(`so many have a tick: ${options.length}`, options.length === 13);
+  part("lesson-hand-in").click();
+  const handed = part("lesson-text").value.split("\n").filter((line) => line.startsWith("break "));
+  check("they are handed in", handed.length === 13);
+  pick("break: mark");
+  for (const deed of DEEDS.mark.split(", ")) doDeed(deed);
+  const address = inPage("ownAddress()");
+  check(`its address tells no name: ${address}`, address.endsWith("&lacks=9"));
+  pick("snip");
+  const { text, event, lacks } = inPage(`readAddress(${JSON.stringify(address)})`);
+  inPage(`openVisited({ example: null, text: ${JSON.stringify(text)}, event: ${event}, lacks: ${JSON.stringify(lacks)} })`);
+  check("and opens it", inPage("page.trace.lacks") === "mark" && breakText("verdict").startsWith("Broken: "));
+}
