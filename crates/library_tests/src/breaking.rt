@@ -67,8 +67,8 @@ impl Drawing {
         let layout = layout_opening(2, 2, 1)?;
         let mut world = WrongWorld::<M>::opened(self.alloc, &layout, &OPENING)?;
         let list = kind_word(self.lacking.kind());
-        let mut text = format!(
-            in self.alloc; "listset-schedule 2\nlist {list}\nthreads 2\nquota 2\nopening 5\n"
+        let mut text = format!(in self.alloc;
+            "listset-schedule 2\nlist {list}\nthreads 2\nquota 2\nopening 5\n"
         )?;
         let mut thread = 0u32;
         for _event in 0..EVENTS {

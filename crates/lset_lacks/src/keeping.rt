@@ -148,12 +148,7 @@ fn close(
 }
 
 /// Follows the event that leads to a moment, and what it told. An event with which no history goes on is `Lost`.
-pub fn follow(
-    recorder: &mut Recorder,
-    event: Event,
-    told: Told,
-    moment: u32,
-) -> Result<(), Unkept>
+pub fn follow(recorder: &mut Recorder, event: Event, told: Told, moment: u32) -> Result<(), Unkept>
     requires counted { 0 < moment }
     requires later { (j : ℕ) → All (λ m. m < moment) (moments_of recorder.old.changes j) }
     ensures trace { OnOk result (trace_of recorder.new ≡ kept_after moment (entry_told event told) (trace_of recorder.old)) }

@@ -109,7 +109,11 @@ impl<M: WrongMachine> Running<M> {
     }
 
     /// The chain after a deed, where it is another than the one told last, in whose place it then comes.
-    fn changed_chain(&mut self, alloc: Global, deed: Deed) -> Result<Option<Vec<ChainKey>>, AllocError>
+    fn changed_chain(
+        &mut self,
+        alloc: Global,
+        deed: Deed,
+    ) -> Result<Option<Vec<ChainKey>>, AllocError>
         ensures chain { IfOk result (λ chain. IfSome chain (λ c. c.items ≡ met self.old.world.state.words)) }
         ensures world { self.new.world ≡ self.old.world }
         ensures recorder { self.new.recorder ≡ self.old.recorder }
@@ -126,7 +130,13 @@ impl<M: WrongMachine> Running<M> {
     }
 
     /// Makes the event that leads to a moment, keeps it, and tells it, with the chain where `chains`.
-    fn make(&mut self, alloc: Global, next: LineEvent, moment: u32, chains: bool) -> Result<TracedEvent, Stop>
+    fn make(
+        &mut self,
+        alloc: Global,
+        next: LineEvent,
+        moment: u32,
+        chains: bool,
+    ) -> Result<TracedEvent, Stop>
         requires counted { 0 < moment }
         requires few { length self.old.recorder.places.items < 2 ^ 32 }
         requires later { (j : ℕ) → All (λ m. m < moment) (moments_of self.old.recorder.changes j) }
@@ -140,7 +150,11 @@ impl<M: WrongMachine> Running<M> {
             return Err(Stop::At(WrongFault::Lost));
         };
         follow(&mut self.recorder, next.event, told, moment)?;
-        let chain = if chains { self.changed_chain(alloc, deed)? } else { None };
+        let chain = if chains {
+            self.changed_chain(alloc, deed)?
+        } else {
+            None
+        };
         Ok(TracedEvent {
             line: next.line,
             thread,

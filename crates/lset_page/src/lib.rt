@@ -165,7 +165,12 @@ pub extern "C" fn listset_trace_lacking(
     ensures { Hands (OfText (λ bytes made. ByName (λ l m. lacks.Traces l bytes m) name.now made) text.now)
         room.old room.new status.new result }
 {
-    hand(alloc, traced_lacking(alloc, name, text, false), room, status)
+    hand(
+        alloc,
+        traced_lacking(alloc, name, text, false),
+        room,
+        status,
+    )
 }
 
 /// What `listset trace --chain --lacks NAME` prints of it: the same, with the chain after each event that changed it.
@@ -197,7 +202,12 @@ pub extern "C" fn listset_show_lacking(
 ) -> usize
     ensures { Hands (OfText (ShowsLackingBy false options.now name.now) text.now) room.old room.new status.new result }
 {
-    hand(alloc, shown_lacking_by(alloc, name, text, false, options), room, status)
+    hand(
+        alloc,
+        shown_lacking_by(alloc, name, text, false, options),
+        room,
+        status,
+    )
 }
 
 /// What `listset show --svg --lacks NAME` prints of it: the same picture as an SVG.
@@ -212,7 +222,12 @@ pub extern "C" fn listset_show_svg_lacking(
 ) -> usize
     ensures { Hands (OfText (ShowsLackingBy true options.now name.now) text.now) room.old room.new status.new result }
 {
-    hand(alloc, shown_lacking_by(alloc, name, text, true, options), room, status)
+    hand(
+        alloc,
+        shown_lacking_by(alloc, name, text, true, options),
+        room,
+        status,
+    )
 }
 
 /// What `listset draft` prints of the draft whose text is given: the schedule, or the line about the first fault of the text or the

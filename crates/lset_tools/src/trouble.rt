@@ -10,7 +10,8 @@ use lset_schedule::{Cause, ScheduleFault};
 use std::alloc::AllocError;
 
 /// The word for the name of a list that lacks a check, with the names that there are.
-const LACKS: &str = "NAME: it is none of lock, second-lock, hand-over-hand, second-walk, same-node, marks-in-validation, mark-in-contains, mark-in-ceiling, mark, mark-in-add, mark-in-remove, mark-at-key, new-slot or last-slot";
+const LACKS: &str =
+    "NAME: it is none of lock, second-lock, hand-over-hand, second-walk, same-node, marks-in-validation, mark-in-contains, mark-in-ceiling, mark, mark-in-add, mark-in-remove, mark-at-key, new-slot or last-slot";
 
 /// Why a line of the keys with which a set is to open is refused.
 #[derive(Clone, Copy)]

@@ -18,19 +18,14 @@ fn head_of(alloc: Global, lacking: Lacking, schedule: &Schedule) -> Result<Strin
     let lacks = lacking.name();
     let threads = schedule.threads;
     let quota = schedule.quota;
-    let mut head = format!(
-        in alloc; "{TITLE}\nlist {list}\nlacks {lacks}\nthreads {threads}\nquota {quota}\n"
+    let mut head = format!(in alloc;
+        "{TITLE}\nlist {list}\nlacks {lacks}\nthreads {threads}\nquota {quota}\n"
     )?;
     put_openings(&mut head, &schedule.opening)?;
     Ok(head)
 }
 
-fn traced_by(
-    alloc: Global,
-    lacking: Lacking,
-    bytes: &[u8],
-    chains: bool,
-) -> Result<Answer, Trouble>
+fn traced_by(alloc: Global, lacking: Lacking, bytes: &[u8], chains: bool) -> Result<Answer, Trouble>
     ensures traces { Traces lacking bytes.now (view result) }
     ensures read { IfErr result (λ t. t ≢ CannotRead) }
 {

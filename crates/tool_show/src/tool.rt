@@ -103,7 +103,12 @@ fn status_of(picture: &Picture) -> u8
 /// A picture as text, with its ending, or as an SVG, of the moments in `window`; the status is 1 where it tells a refusal, of an
 /// order or of an event, and else 0. The error is `Bad(From)` where the window begins past the last moment at which something
 /// happens, and `Memory`.
-pub fn drawn(alloc: Global, picture: &Picture, form: Form, window: Window) -> Result<Answer, Trouble>
+pub fn drawn(
+    alloc: Global,
+    picture: &Picture,
+    form: Form,
+    window: Window,
+) -> Result<Answer, Trouble>
     ensures { IsDrawn window (view picture.now) (tools.view result) }
 {
     if is_past_the_last(picture, window.from) {

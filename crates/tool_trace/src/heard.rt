@@ -48,7 +48,10 @@ fn put_end(chunk: &mut Chunk, end: Option<(u64, &str)>) {
 
 /// Writes how a trace ends: with all events, or at the first that is not enabled.
 pub fn put_last(chunk: &mut Chunk, refused: Option<(u64, StepFault)>) {
-    put_end(chunk, refused.map(|(line, cause)| (line, cause_word(cause))));
+    put_end(
+        chunk,
+        refused.map(|(line, cause)| (line, cause_word(cause))),
+    );
 }
 
 /// A listener that writes the lines of each event that it hears of, as `trace` tells them, at the end of its text.

@@ -71,12 +71,12 @@ loop-done-preserved g c =
       kept = subst (λ m. HasKept g.M.WrongMachine.table c.args.self.now.recorder.history.opening
           (events_from c.args.first c.args.lines.now) m c.make.new.self.world c.make.new.self.recorder) (sym (add-one c.loop-done.moment))
           (kept_more g.M.WrongMachine.table c.args.self.now.recorder.history.opening (events_from c.args.first c.args.lines.now)
-    c.loop-done.moment c.loop-done.self.world c.loop-done.self.recorder c.loop-done.invariant.kept
+          c.loop-done.moment c.loop-done.self.world c.loop-done.self.recorder c.loop-done.invariant.kept
           c.event_of-times.result.0 there.event_is c.make.new.self.world c.make.new.self.recorder c.in-Ok.told made);
       heard = subst (λ m. IsHeard (λ traced. g.L.Listener.has_heard c.args.listener.now traced c.hear.new.self) g.M.WrongMachine.table
           c.args.self.now.recorder.history.opening (events_from c.args.first c.args.lines.now) m) (sym (add-one c.loop-done.moment))
           (heard_more g.M.WrongMachine.table c.args.self.now.recorder.history.opening (events_from c.args.first c.args.lines.now)
-    c.loop-done.moment c.loop-done.self.world c.loop-done.self.recorder c.loop-done.invariant.kept
+          c.loop-done.moment c.loop-done.self.world c.loop-done.self.recorder c.loop-done.invariant.kept
           c.event_of-times.result.0 there.event_is c.make.new.self.world c.make.new.self.recorder c.in-Ok.told made
           (λ traced. g.L.Listener.has_heard c.args.listener.now traced c.loop-done.listener)
           (λ traced. g.L.Listener.has_heard c.args.listener.now traced c.hear.new.self) told
