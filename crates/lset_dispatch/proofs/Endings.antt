@@ -1,5 +1,5 @@
 -- How the program ends, from how what was made was delivered.
-use Rattle.std.proofs.Common.{◌≡◌, ℕ, List, Option, Some, None, Err, refl, ap, ◌∙◌, subst, sym, inl, inr}
+use Rattle.std.proofs.Common.{◌≡◌, ℕ, List, Option, Some, None, Ok, Err, refl, ap, ◌∙◌, subst, sym, inl, inr}
 use Rattle.std.specs.Prelude.{◌≢◌}
 use Rattle.clap.specs.declared.error.kind.ErrorKind.{ErrorKind}
 use Rattle.clap.specs.declared.error.kind.ErrorKind.TheVariants as kind
@@ -12,6 +12,9 @@ use Rattle.lset_tools.specs.declared.trouble.Trouble.TheVariants.{CannotRead, Ba
 use Rattle.tool_show.specs.Asking.{asked_of}
 use Rattle.lset_tools.specs.Tools.{Made, Outcome, Delivers, AppendsFront, Ends, line_of, status_of}
 use Rattle.lset_dispatch.specs.Dispatch.{CommandEnds, Does, DoesBy, DoesOn, DoesOnInput, IsHelp, ServesBy, ShowsBy, ShowsAsked}
+use Rattle.lset_dispatch.specs.Dispatch.{ShowsFor}
+use Rattle.lset_drawing.specs.declared.picture.Window.{Window}
+use Rattle.tool_show.specs.declared.asking.Form.{Form}
 
 pub ends_with : (output_old output_new faults_old faults_new : Option (List ℕ)) (status : ℕ) (IsMade : Made → Type 0)
     (made : Made) → IsMade made
@@ -96,7 +99,18 @@ pub wrong_option : (options : OptionValues) (input : Option (List ℕ)) (from to
     → Err wrong ≡ asked_of options.svg from to width → ShowsBy options input (Err (Bad wrong))
 wrong_option options input from to width wrong first last chars is =
     let asked : Err wrong ≡ asked_of options.svg options.from options.to options.width = cc in
-    subst (λ a. ShowsAsked a input (Err (Bad wrong))) asked refl
+    subst (λ a. ShowsAsked a options.lacks input (Err (Bad wrong))) asked refl
+
+-- what the options of `show` ask for is shown, by the list that lacks what they name, if they do
+pub as_asked : (options : OptionValues) (input output_old output_new faults_old faults_new : Option (List ℕ)) (status : ℕ)
+    (from to width name : Option Text) (asked : Form × Window) → from ≡ options.from → to ≡ options.to → width ≡ options.width
+    → Ok asked ≡ asked_of options.svg from to width → name ≡ options.lacks
+    → Ends (ShowsFor name asked.1 input) output_old output_new faults_old faults_new status
+    → Ends (ShowsBy options input) output_old output_new faults_old faults_new status
+as_asked options input output_old output_new faults_old faults_new status from to width name asked first last chars is named ends =
+    let right : Ok asked ≡ asked_of options.svg options.from options.to options.width = cc in
+    subst (λ a. Ends (ShowsAsked a options.lacks input) output_old output_new faults_old faults_new status) right
+    (subst (λ n. Ends (ShowsFor n asked.1 input) output_old output_new faults_old faults_new status) named ends)
 
 -- what goes to the output asks for help
 pub is_help : (k : ErrorKind) → ¬ ((k ≢ kind.DisplayHelp) × (k ≢ kind.DisplayVersion)) → IsHelp k

@@ -3,7 +3,7 @@ ghost use Rattle.std.specs.Prelude.{◌≡◌, ℕ, ◌<◌, ◌≤◌, All, OnO
 ghost use Rattle.lset_history.specs.Changes.{is_present, moments_of};
 ghost use Rattle.lset_replay.specs.Blocks.{StandUpTo};
 ghost use Rattle.lset_replay.specs.Trace.{begun_on, entry_told, fit, open_call_at, trace_of};
-ghost use Rattle.lset_lacks.specs.Keeping.{closed_on, fit_or, kept_after, noted_on};
+ghost use Rattle.lset_lacks.specs.Keeping.{closed_on, fit_or, kept_after, noted, noted_on};
 
 use lset_history::{Changes, HistoryFault};
 use lset_replay::{Linearized, OpenCall, Recorder};
@@ -63,14 +63,20 @@ fn begin(recorder: &mut Recorder, thread: u32, call: Call, moment: u32) -> Resul
     Ok(())
 }
 
+fn is_there(changes: &Changes, key: u32, moment: u32) -> bool
+    ensures { result ≡ is_present (moments_of changes.now) key moment }
+{
+    changes.first(key, true, moment, moment).0.is_some()
+}
+
 /// Notes that a key was put in (`present`) or taken out, unless it is so already.
 fn note_key(changes: &mut Changes, key: u32, present: bool, moment: u32) -> Result<(), AllocError>
     requires counted { 0 < moment }
     requires later { (j : ℕ) → All (λ m. m < moment) (moments_of changes.old j) }
     ensures { OnOk result ((j : ℕ) → moments_of changes.new j ≡ noted (moments_of changes.old) moment key present j) }
 {
-    let (there, _looked) = changes.first(key, true, moment, moment);
-    if there.is_some() != present {
+    let there = is_there(changes, key, moment);
+    if there != present {
         changes.note(key, present, moment)?;
     }
     Ok(())
@@ -103,12 +109,11 @@ fn note(
 }
 
 /// The moment at which a call stands that changes nothing: the first that its reply fits, or else its end.
-fn moment_of(recorder: &Recorder, open: OpenCall, reply: Reply, end: u32) -> u32
-    requires { open.begun ≤ end }
-    ensures value { result ≡ fit_or end (fit (moments_of recorder.now.changes) open reply end) }
-    ensures inside { result ≤ end }
+fn moment_of(recorder: &Recorder, made: OpenCall, reply: Reply, end: u32) -> u32
+    requires { made.begun ≤ end }
+    ensures { result ≡ fit_or end (fit (moments_of recorder.now.changes) made reply end) }
 {
-    recorder.fit(open, reply, end).unwrap_or(end)
+    recorder.fit(made, reply, end).unwrap_or(end)
 }
 
 /// Ends the call of a thread whose step answered.
@@ -133,6 +138,9 @@ fn close(
     recorder.history.end(open.number, reply, moment)?;
     if recorder.places[number].is_none() {
         let at = moment_of(recorder, open, reply, moment);
+        if at > moment {
+            return Err(Unkept::Lost);
+        }
         recorder.places[number] = Linearized::read(Some(at), reply);
     }
     recorder.under_way[thread as usize] = None;

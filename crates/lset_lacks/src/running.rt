@@ -2,7 +2,7 @@ ghost use Rattle.std.specs.Prelude.{◌≡◌, ℕ, ◌<◌, ◌≤◌, ◌^◌,
 ghost use Rattle.std.specs.List.{sum_by};
 ghost use Rattle.lset_words.specs.Words.{Opens, sizes};
 ghost use Rattle.lset_history.specs.Changes.{moments_of};
-ghost use Rattle.lset_steps.specs.Steps.{opening};
+ghost use Rattle.lset_steps.specs.Steps.{local_of, opening};
 ghost use Rattle.lset_steps.specs.Worlds.{thread_of};
 ghost use Rattle.lset_schedule.specs.declared.TheConstants.{MOST_EVENTS};
 ghost use Rattle.lset_schedule.specs.Plan.{event_count, opening_in, view};
@@ -10,8 +10,9 @@ ghost use Rattle.lset_replay.specs.Events.{IsInLimits, events_from};
 ghost use Rattle.lset_replay.specs.Trace.{no_trace, trace_of};
 ghost use Rattle.lset_replay.specs.Tracer.{deed_ahead};
 ghost use Rattle.lset_lacks.specs.Lackings.{table_of};
-ghost use Rattle.lset_lacks.specs.LackingRuns.{HasKept, MakesEvent, RunsAs, RunsLines};
+ghost use Rattle.lset_lacks.specs.LackingRuns.{HasKept, IsEnd, MakesEvent, RunsAs, RunsLines, stop_of};
 ghost use Rattle.lset_lacks.specs.Meeting.{met};
+ghost use Rattle.lset_lacks.specs.declared.running.Stop.TheVariants as stops;
 
 use crate::keeping::{Unkept, follow};
 use crate::lacking::{Lacking, Task, on_lacking};
@@ -38,7 +39,7 @@ pub enum Stop {
 }
 
 impl From<AllocError> for Stop {
-    ghost from_gives = { λ _ stop. stop ≡ Stop.Memory };
+    ghost from_gives = { λ _ stop. stop ≡ stops.Memory };
 
     fn from(_refused: AllocError) -> Stop {
         Stop::Memory
@@ -46,7 +47,7 @@ impl From<AllocError> for Stop {
 }
 
 impl From<WrongFault> for Stop {
-    ghost from_gives = { λ fault stop. stop ≡ Stop.At fault };
+    ghost from_gives = { λ fault stop. stop ≡ stops.At fault };
 
     fn from(fault: WrongFault) -> Stop {
         Stop::At(fault)
@@ -69,6 +70,16 @@ fn thread_of(event: Event) -> u32
 {
     match event {
         Event::Begin(thread, _) | Event::Go(thread) => thread,
+    }
+}
+
+/// How a run ends that stops at an event of the line.
+fn end_at(line: u64, stop: Stop) -> Result<Option<(u64, WrongFault)>, AllocError>
+    ensures { IfOk result (IsEnd line stop) }
+{
+    match stop {
+        Stop::At(cause) => Ok(Some((line, cause))),
+        Stop::Memory => Err(AllocError),
     }
 }
 
@@ -166,8 +177,7 @@ impl<M: WrongMachine> Running<M> {
                 moment += 1;
                 match self.make(alloc, next, moment, chains) {
                     Ok(told) => listener.hear(moment, told)?,
-                    Err(Stop::At(cause)) => return Ok(Some((next.line, cause))),
-                    Err(Stop::Memory) => return Err(AllocError),
+                    Err(stop) => return end_at(next.line, stop),
                 }
             }
         }
@@ -217,14 +227,20 @@ fn run_on<M: WrongMachine, L: Listener + Drop>(
     if let Some(end) = end {
         return Ok((listener, Err(end)));
     }
-    let ordered = in_order(alloc, &running.recorder.places)?;
-    let met = chain_met(alloc, running.world.words())?;
+    let Running {
+        world,
+        recorder,
+        chain: _told,
+    } = running;
+    let ordered = in_order(alloc, &recorder.places)?;
+    let met = chain_met(alloc, world.words())?;
+    let keys = keys_of(alloc, &met)?;
     let report = Report {
         version: Version::Two,
         kind: schedule.kind,
-        history: running.recorder.history,
+        history: recorder.history,
         order: ordered.order,
-        keys: keys_of(alloc, &met)?,
+        keys,
     };
     Ok((listener, Ok(report)))
 }

@@ -18,7 +18,10 @@ fn asked_by(alloc: Global, svg: bool, options: &[u8]) -> Result<(Form, Window), 
     let from = option_at(&words, 0);
     let to = option_at(&words, 1);
     let width = option_at(&words, 2);
-    Ok(read_asked(svg, from, to, width)?)
+    match read_asked(svg, from, to, width) {
+        Ok(asked) => Ok(asked),
+        Err(wrong) => Err(Trouble::Bad(wrong)),
+    }
 }
 
 /// The picture of the schedule or the report whose text the bytes are, as text or as an SVG (`svg`), within the moments and

@@ -1,7 +1,7 @@
-ghost use Rattle.std.specs.Prelude.{◌≡◌, ◌⊎◌, ⊤, ℕ, IfErr, IfOk};
+ghost use Rattle.std.specs.Prelude.{◌≡◌, ◌≢◌, ◌⊎◌, ⊤, ℕ, IfErr, IfOk};
 ghost use Rattle.lset_schedule.specs.Plan as plan;
 ghost use Rattle.lset_report.specs.Report as report;
-ghost use Rattle.lset_tools.specs.declared.trouble.Trouble.TheVariants.{Bad};
+ghost use Rattle.lset_tools.specs.declared.trouble.Trouble.TheVariants.{Bad, CannotRead};
 ghost use Rattle.lset_tools.specs.declared.trouble.ValueName.TheVariants.{Lacks};
 ghost use Rattle.lset_lacks.specs.Lackings.{name_of};
 ghost use Rattle.tool_lacks.specs.Lacks.{HasNone, IsReported, IsRunTrouble, IsScheduleOf, IsTextTrouble, trouble_at};
@@ -29,6 +29,7 @@ pub fn lacking_of(name: &[u8]) -> Result<Lacking, Trouble>
 pub fn schedule_of(alloc: Global, lacking: Lacking, bytes: &[u8]) -> Result<Schedule, Trouble>
     ensures schedule { IfOk result (λ s. IsScheduleOf lacking bytes.now (plan.view s)) }
     ensures trouble { IfErr result (λ t. IsTextTrouble lacking bytes.now t) }
+    ensures read { IfErr result (λ t. t ≢ CannotRead) }
 {
     if bytes.len() > LONGEST {
         return Err(Trouble::TooLong);
@@ -68,6 +69,7 @@ impl Listener for Silent {
 pub fn report_of(alloc: Global, lacking: Lacking, bytes: &[u8]) -> Result<Report, Trouble>
     ensures report { IfOk result (λ r. IsReported lacking bytes.now (report.view r)) }
     ensures trouble { IfErr result (λ t. IsTextTrouble lacking bytes.now t ⊎ IsRunTrouble lacking bytes.now t) }
+    ensures read { IfErr result (λ t. t ≢ CannotRead) }
 {
     let schedule = schedule_of(alloc, lacking, bytes)?;
     let (_silent, run) = run_lacking(alloc, lacking, &schedule, false, Silent {})?;

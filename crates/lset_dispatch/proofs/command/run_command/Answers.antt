@@ -9,7 +9,7 @@ use Rattle.lset_dispatch.proofs.command.run_command.Goals as goal
 
 pub returns-in-Replay : goal.returns-in-Replay
 returns-in-Replay g c =
-    at_command _ _ _ _ _ _ Replay _ _ _ _ c.in-Replay.is refl (at_once _ _ _ _ _ _ c.tool_replay.ensures)
+    at_command _ _ _ _ _ _ Replay _ _ _ _ c.in-Replay.is refl (at_once _ _ _ _ _ _ c.replay.ensures)
 
 pub returns-in-Report : goal.returns-in-Report
 returns-in-Report g c =
@@ -25,7 +25,7 @@ returns-in-Show g c =
 
 pub returns-in-Trace : goal.returns-in-Trace
 returns-in-Trace g c =
-    at_command _ _ _ _ _ _ Trace _ _ _ _ c.in-Trace.is refl (at_once _ _ _ _ _ _ c.tool_trace.ensures)
+    at_command _ _ _ _ _ _ Trace _ _ _ _ c.in-Trace.is refl (at_once _ _ _ _ _ _ c.trace.ensures)
 
 pub returns-in-Draft : goal.returns-in-Draft
 returns-in-Draft g c =

@@ -1,0 +1,215 @@
+//! Random runs: counting refutes none of the five lists, and `check_order` refuses each list that lacks a check. Counting refutes no
+//! history that was laid round a legal order.
+
+ghost use Rattle.std.specs.Prelude.{⊤};
+
+use lset_coarse::CoarseList;
+use lset_counts::find_miscount;
+use lset_fine::FineList;
+use lset_history::{History, Oracle, check_order};
+use lset_lacks::{ALL, Lacking, Task, on_lacking, run_lacking};
+use lset_lazy::LazyList;
+use lset_lock_free::LockFreeList;
+use lset_optimistic::OptimisticList;
+use lset_replay::{Listener, TracedEvent, replay};
+use lset_report::Report;
+use lset_schedule::{generate, read_schedule};
+use lset_steps::{Event, Machine};
+use lset_text::{call_word, kind_word};
+use lset_words::{Call, Key, Reply, layout_opening};
+use lset_wrong_lists::{WrongMachine, WrongWorld};
+use rand_core::{Rng, SeedableRng};
+use rand_pcg::Pcg32;
+use std::alloc::{AllocError, Global};
+use std::process::Abort;
+use std::test::Fail;
+
+const RUNS: u64 = 2_000;
+
+const EVENTS: u32 = 120;
+
+/// The key with which a list opens.
+const OPENING: [u32; 1] = [5];
+
+/// Hears of events, and keeps nothing.
+#[derive(Drop)]
+struct Silent {}
+
+impl Listener for Silent {
+    ghost has_heard = { λ _ _ _. ⊤ };
+
+    fn hear(&mut self, _number: u32, _event: TracedEvent) -> Result<(), AllocError> {
+        Ok(())
+    }
+}
+
+fn drawn_call(rng: &mut Pcg32) -> Call {
+    let key = Key(3 + 2 * (rng.next_u32() % 3));
+    match rng.next_u32() % 7 {
+        0 | 1 => Call::Add(key),
+        2 | 3 => Call::Remove(key),
+        4 | 5 => Call::Contains(key),
+        _ => Call::Ceiling(key),
+    }
+}
+
+/// Writes a random schedule of two threads, each of which goes on for some steps.
+#[derive(Clone, Copy)]
+struct Drawing {
+    alloc: Global,
+    lacking: Lacking,
+    seed: u64,
+}
+
+impl Drawing {
+    fn draw<M: WrongMachine>(self) -> Result<String, Fail> {
+        let mut rng = Pcg32::seed_from_u64(self.seed);
+        let layout = layout_opening(2, 2, 1)?;
+        let mut world = WrongWorld::<M>::opened(self.alloc, &layout, &OPENING)?;
+        let list = kind_word(self.lacking.kind());
+        let mut text = format!(
+            in self.alloc; "listset-schedule 2\nlist {list}\nthreads 2\nquota 2\nopening 5\n"
+        )?;
+        let mut thread = 0u32;
+        for _event in 0..EVENTS {
+            if rng.next_u32() % 4 == 0 {
+                thread = 1 - thread % 2;
+            }
+            let call = drawn_call(&mut rng);
+            if world.step(Event::Go(thread)).is_ok() {
+                writeln!(&mut text, "go {thread} 1")?;
+            } else if world.step(Event::Begin(thread, call)).is_ok() {
+                let word = call_word(call);
+                let key = call.key().0;
+                writeln!(&mut text, "begin {thread} {word} {key}")?;
+            }
+        }
+        Ok(text)
+    }
+}
+
+impl Task for Drawing {
+    type Out = Result<String, Fail>;
+
+    ghost may = { λ _. ⊤ };
+
+    ghost done = { λ _ _ _. ⊤ };
+
+    fn run<M: WrongMachine>(self) -> Result<String, Fail> {
+        self.draw::<M>()
+    }
+}
+
+/// The report of the run of the schedule with this text, by the list that lacks a check.
+fn report_of(alloc: Global, lacking: Lacking, text: &str) -> Result<Report, Fail> {
+    let schedule = read_schedule(alloc, text.as_bytes())?;
+    let (_silent, run) = run_lacking(alloc, lacking, &schedule, false, Silent {})?;
+    match run {
+        Ok(report) => Ok(report),
+        Err((_line, fault)) => Err(fault.into()),
+    }
+}
+
+/// Whether the order of a report is refused, and whether counting shows that none explains it.
+fn judged(alloc: Global, report: &Report) -> Result<(bool, bool), Fail> {
+    let refused = check_order(alloc, &report.history, &report.order, &report.keys).is_err();
+    let counted = find_miscount(alloc, &report.history, &report.keys)?.is_some();
+    Ok((refused, counted))
+}
+
+/// Whether the order of a random run is refused; one that counting refutes is.
+fn is_refused<R: Abort>(rt: &R, alloc: Global, lacking: Lacking, seed: u64) -> Result<bool, Fail> {
+    let drawing = Drawing {
+        alloc,
+        lacking,
+        seed,
+    };
+    let text = on_lacking(lacking, drawing)?;
+    let report = report_of(alloc, lacking, text.as_str())?;
+    let (refused, counted) = judged(alloc, &report)?;
+    assert!(rt; refused || !counted);
+    Ok(refused)
+}
+
+/// How many random runs are refused.
+fn refused<R: Abort>(rt: &R, alloc: Global, lacking: Lacking) -> Result<u32, Fail> {
+    let mut count = 0u32;
+    for seed in 0..RUNS {
+        if is_refused(rt, alloc, lacking, seed)? {
+            count = count.saturating_add(1);
+        }
+    }
+    Ok(count)
+}
+
+#[test]
+fn each_list_that_lacks_a_check_is_refused(rt: HostRuntime) -> Result<(), Fail> {
+    for lacking in &ALL {
+        let count = refused(&rt, rt.alloc(), *lacking)?;
+        let name = lacking.name();
+        assert!(rt; count > 0, "{name}");
+    }
+    Ok(())
+}
+
+/// Counting refutes no random run of the list `M`.
+fn assert_not_refuted<M: Machine, R: Abort>(rt: &R, alloc: Global) -> Result<(), Fail> {
+    for seed in 0..RUNS {
+        let schedule = generate::<M>(alloc, 3, 2, 12, 4, seed)?;
+        let report = replay(alloc, &schedule)?;
+        let (refused, counted) = judged(alloc, &report)?;
+        assert!(rt; !refused && !counted, "seed {seed}");
+    }
+    Ok(())
+}
+
+#[test]
+fn no_list_is_refuted(rt: HostRuntime) -> Result<(), Fail> {
+    let alloc = rt.alloc();
+    assert_not_refuted::<CoarseList, _>(&rt, alloc)?;
+    assert_not_refuted::<FineList, _>(&rt, alloc)?;
+    assert_not_refuted::<OptimisticList, _>(&rt, alloc)?;
+    assert_not_refuted::<LazyList, _>(&rt, alloc)?;
+    assert_not_refuted::<LockFreeList, _>(&rt, alloc)
+}
+
+/// Where a thread stands: between two calls, in a call that has not taken effect, or in one that has.
+#[derive(Clone, Copy)]
+enum Stand {
+    AtRest,
+    Begun(u32, Call),
+    Done(u32, Reply),
+}
+
+/// Whether counting refutes a history of three threads, each call of which takes effect at once, at some moment of its bar.
+fn is_refuted(alloc: Global, rng: &mut Pcg32) -> Result<bool, Fail> {
+    let mut oracle = Oracle::opened(alloc, 3, 2, &OPENING)?;
+    let mut history = History::opened(alloc, 3, 2, Vec::from_slice(alloc, &OPENING)?);
+    let mut stands = [Stand::AtRest; 3];
+    for moment in 1..60u32 {
+        let thread = rng.next_u32() % 3;
+        let seat = thread as usize;
+        stands[seat] = match stands[seat] {
+            Stand::AtRest => {
+                let call = drawn_call(rng);
+                Stand::Begun(history.begin(thread, call, moment)?, call)
+            }
+            Stand::Begun(number, call) => Stand::Done(number, oracle.apply(thread, call)?),
+            Stand::Done(number, reply) => {
+                history.end(number, reply, moment)?;
+                Stand::AtRest
+            }
+        };
+    }
+    let keys = oracle.keys()?;
+    Ok(find_miscount(alloc, &history, &keys)?.is_some())
+}
+
+#[test]
+fn a_history_with_an_order_is_not_refuted(rt: HostRuntime) -> Result<(), Fail> {
+    for seed in 0..RUNS {
+        let mut rng = Pcg32::seed_from_u64(seed);
+        assert!(rt; !is_refuted(rt.alloc(), &mut rng)?, "seed {seed}");
+    }
+    Ok(())
+}

@@ -1,0 +1,13 @@
+use Rattle.std.proofs.Common.{Some, None}
+use Rattle.lset_dispatch.specs.Dispatch.{TracesFor}
+use Rattle.lset_dispatch.proofs.Endings.{with_argument}
+use Rattle.lset_dispatch.proofs.command.trace.Goals as goal
+
+pub returns-in-None : goal.returns-in-None
+returns-in-None g c =
+    with_argument (λ name. TracesFor name (g.R.Read.remaining c.args.input.now)) _ _ _ _ _ None _ c.in-None.ensures c.tool_trace.ensures
+
+pub returns-in-Some : goal.returns-in-Some
+returns-in-Some g c =
+    with_argument (λ name. TracesFor name (g.R.Read.remaining c.args.input.now)) _ _ _ _ _ (Some c.in-Some.name.now) _ c.in-Some.ensures
+    c.tool_trace_lacking.ensures

@@ -1,0 +1,5 @@
+pub mod KeptLaws
+pub mod KeptRuns
+pub mod KeptTraces
+pub mod Listed
+pub mod MetWalks
