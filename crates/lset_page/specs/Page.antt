@@ -12,6 +12,7 @@ use Rattle.lset_tools.specs.Trouble as trouble
 use Rattle.tool_show.specs.declared.asking.Form.{Form}
 use Rattle.tool_show.specs.Asking.{asked_of}
 use Rattle.tool_show.specs.Showing.{Shows}
+use Rattle.lset_lacks.specs.declared.lacking.Lacking.{Lacking}
 use Rattle.tool_lacks.specs.Lacks as lacks
 
 -- what the program prints of it: the answer's text, or the line about the trouble
@@ -71,6 +72,10 @@ AsksBy svg options (Err t) = (t ≡ Memory) ⊎ ((wrong : ValueName) × (t ≡ B
 abbrev pub ShowsBy : Bool → List ℕ → List ℕ → Made → Type 0
 ShowsBy svg options bytes made =
     OfWords (λ words. AsAsked (asked_in svg words) (λ window. Shows window bytes)) options made
+
+-- What is made of the bytes by the list that lacks the check of a name, or memory is refused.
+abbrev pub MakesLacking : (Lacking → List ℕ → Made → Type 0) → List ℕ → List ℕ → Made → Type 0
+MakesLacking Makes name bytes made = (made ≡ Err Memory) ⊎ lacks.ByName (λ l m. Makes l bytes m) name made
 
 -- the same of `show --lacks NAME`
 abbrev pub ShowsLackingBy : Bool → List ℕ → List ℕ → List ℕ → Made → Type 0

@@ -20,9 +20,8 @@ ghost use Rattle.lset_tools.specs.Generating.{Generates};
 ghost use Rattle.tool_draft.specs.Drafting.{Drafts};
 ghost use Rattle.tool_trace.specs.Tracing.{Traces};
 ghost use Rattle.tool_examples.specs.Exampling.{Exampled};
-ghost use Rattle.tool_lacks.specs.Lacks.{ByName};
 ghost use Rattle.tool_lacks.specs.Lacks as lacks;
-ghost use Rattle.lset_page.specs.Page.{Hands, OfText, OfWords, ShowsBy, ShowsLackingBy};
+ghost use Rattle.lset_page.specs.Page.{Hands, OfText, MakesLacking, OfWords, ShowsBy, ShowsLackingBy};
 
 use generating::generated_by;
 use handing::hand;
@@ -146,7 +145,7 @@ pub extern "C" fn listset_replay_lacking(
     room: &mut [u8],
     status: &mut u8,
 ) -> usize
-    ensures { Hands (OfText (λ bytes made. ByName (λ l m. lacks.Replays l bytes m) name.now made) text.now)
+    ensures { Hands (OfText (MakesLacking lacks.Replays name.now) text.now)
         room.old room.new status.new result }
 {
     hand(alloc, replayed_lacking(alloc, name, text), room, status)
@@ -162,7 +161,7 @@ pub extern "C" fn listset_trace_lacking(
     room: &mut [u8],
     status: &mut u8,
 ) -> usize
-    ensures { Hands (OfText (λ bytes made. ByName (λ l m. lacks.Traces l bytes m) name.now made) text.now)
+    ensures { Hands (OfText (MakesLacking lacks.Traces name.now) text.now)
         room.old room.new status.new result }
 {
     hand(
@@ -182,7 +181,7 @@ pub extern "C" fn listset_trace_with_chains_lacking(
     room: &mut [u8],
     status: &mut u8,
 ) -> usize
-    ensures { Hands (OfText (λ bytes made. ByName (λ l m. lacks.Traces l bytes m) name.now made) text.now)
+    ensures { Hands (OfText (MakesLacking lacks.Traces name.now) text.now)
         room.old room.new status.new result }
 {
     hand(alloc, traced_lacking(alloc, name, text, true), room, status)
