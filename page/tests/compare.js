@@ -6,7 +6,7 @@ const path = require("path");
 const vm = require("vm");
 
 const folder = path.dirname(__dirname);
-const PARTS = ["engine", "rows", "calls", "trace", "check_trace", "schedule_text", "state", "tests/cases"];
+const PARTS = ["engine", "rows", "classics", "calls", "trace", "check_trace", "schedule_text", "state", "tests/cases"];
 for (const file of PARTS.map((part) => `${part}.js`)) {
   vm.runInThisContext(fs.readFileSync(path.join(folder, file), "utf8"), { filename: file });
 }
