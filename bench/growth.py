@@ -14,7 +14,7 @@ MOST = 10.5  # times the time for ten times the events: some of the tools sort
 def growth():
     """The table of replay, check, trace, show and draft. Gives the status: 1 where a time grows by more than it is to."""
     maker, tool = built("bench_schedule"), built("listset")
-    heading("What", *(f"{n:,}" for n in SIZES), "Growth", "Peak memory")
+    heading("What", *(f"{n:,}" for n in SIZES), "Growth", "MB")
     with tempfile.TemporaryDirectory() as room:
         texts = {n: texts_of(maker, n, room) for n in SIZES}
         windows = {n: ["show", "--from", str(n - WINDOW + 1), "--to", str(n)] for n in SIZES}
@@ -22,8 +22,8 @@ def growth():
             "`replay`": {n: (["replay"], texts[n]["schedule"]) for n in SIZES},
             "`check`": {n: (["check"], texts[n]["report"]) for n in SIZES},
             "`trace`": {n: (["trace"], texts[n]["schedule"]) for n in SIZES},
-            f"`show`, a window of {WINDOW} at the end": {n: (windows[n], texts[n]["schedule"]) for n in SIZES},
-            "`show`, all of it": {n: (["show"], texts[n]["schedule"]) for n in SIZES},
+            f"`show`, the last {WINDOW}": {n: (windows[n], texts[n]["schedule"]) for n in SIZES},
+            "`show`, all": {n: (["show"], texts[n]["schedule"]) for n in SIZES},
             "`draft`": {n: (["draft"], texts[n]["draft"]) for n in SIZES},
         }
         return 1 if max([grown(what, tool, runs) for what, runs in rows.items()]) > MOST else 0
@@ -52,6 +52,6 @@ def grown(what, tool, runs):
     least = [min(it) for it in times.values()]
     growths = [more / less for less, more in zip(least, least[1:])]
     words, given = runs[SIZES[-1]]
-    memory = f"{memory_of([tool, *words], given):,} KB" if os.access(TIME, os.X_OK) else ""
-    row(what, *(f"{1000 * it:.1f} ms" for it in least), ", ".join(f"{it:.1f}" for it in growths), memory)
+    memory = f"{memory_of([tool, *words], given) / 1000:.0f}" if os.access(TIME, os.X_OK) else ""
+    row(what, *(f"{1000 * it:.1f}" for it in least), f"{max(growths):.1f}", memory)
     return max(growths)

@@ -51,7 +51,7 @@ def opening():
                 it.writelines(f"opening {100 + 3 * key}\n" for key in range(many))
                 for call in range(CALLS):
                     word = ("add", "remove", "contains")[call % 3]
-                    it.write(f"begin {call % 8} {word} {call % 5}\ngo {call % 8}\n")
+                    it.write(f"begin {call % 8} {word} {call % 5}\ngo {call % 8} out\n")
             seconds_of([tool, "draft"], draft, schedule, 0)
             ours, hand = least([seconds_of(it, schedule, os.devnull, 0) for it in ([tool, "replay"], [peer, "replay"])] for _ in range(RUNS))
             memory = [f"{(memory_of([it, 'replay'], schedule) or 0) / 1000:.0f}" for it in (tool, peer)]
