@@ -161,7 +161,7 @@ impl<'a, M: Machine, O: Origin, P: Pause> Caller<'a, M, O, P> {
         for _ in 0..N::MOST {
             let seen = exchange_on::<M>(self.table, place, word, 0, own);
             if seen == 0 {
-                self.goes_on();
+                self.pause.taken(self.slots.thread);
                 return Some(());
             }
             self.pause.failed(self.slots.thread);

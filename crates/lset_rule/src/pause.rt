@@ -15,6 +15,11 @@ pub trait Pause {
     /// Asked after a step that has failed and does not answer: an exchange that found another value than it looked for, as
     /// at a lock that is taken. `thread` is the number of the caller's thread.
     fn failed(&self, thread: u32);
+
+    /// Asked in place of `moved` after a lock that was waited for is taken at last. `thread` is the number of the caller's thread.
+    fn taken(&self, thread: u32) {
+        self.moved(thread)
+    }
 }
 
 /// The most waits of `Backoff` after a failed step: with 16 of them a thread pauses 1,024 times, in which the holder of a lock
@@ -22,7 +27,7 @@ pub trait Pause {
 const MOST_WAITS: u32 = 16;
 
 /// Backs off after each failed exchange by `Backoff` of `crossbeam_utils`, twice as often each time up to a limit, and from then
-/// on yields the processor too. One is made for each call.
+/// on yields the processor too; at the next lock it begins anew. One is made for each call.
 #[derive(Drop)]
 pub struct Spin {
     backoff: Backoff,
@@ -53,5 +58,10 @@ impl Pause for Spin {
         } else {
             self.backoff.snooze();
         }
+    }
+
+    fn taken(&self, _thread: u32) {
+        self.backoff.reset();
+        self.waits.set(1);
     }
 }
