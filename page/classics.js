@@ -18,9 +18,9 @@ const CLASSICS = {
     "lacks": []
   },
   "hand-over-hand": {
-    "question": "Thread 0 has locked the head and 9, to put 5 between them. How far does thread 1 come, which wants to take out 9?",
-    "turnsOn": "Not even to the head, until thread 0 gives that lock back. Then it goes hand over hand: the head's lock goes back only after it has that of 5.",
-    "without": "A walk with no lock in its hand can stand at a node that is out, and its key is lost behind it (hand-over-hand). So can one beside a remove that locks pred alone (second-lock).",
+    "question": "Thread 0 has locked the head and 9, to put 5 between them. Thread 1 wants to take out 9. How far does it come?",
+    "turnsOn": "Not even to the head, until thread 0 gives that lock back. Then it goes hand over hand: it gives the head's lock back only when it has that of 5.",
+    "without": "A walk that holds no lock can stand at a node that is out, and lose the key that it puts behind it (hand-over-hand). So can a walk beside a remove that locks pred alone (second-lock).",
     "turns": [17, 28],
     "lacks": ["hand-over-hand", "second-lock"]
   },
@@ -41,21 +41,21 @@ const CLASSICS = {
   "marked-in-chain": {
     "question": "Thread 1 has marked the node of 5 and has not yet unlinked it. Thread 0 walks to that node. What does its contains of 5 answer?",
     "turnsOn": "false: the key went out of the set with the mark. That the node is still in the chain is housekeeping. contains reads its link, sees the mark, and takes no lock for it.",
-    "without": "true would fit none of its moments (mark-in-contains). But the remove is still open, and an order with the contains before it explains both. No history of that list is known that no order explains.",
+    "without": "true would fit none of its moments (mark-in-contains). But the remove is still open, and an order with the contains before it explains both. For that list nobody knows a history that no order explains.",
     "turns": [20, 24],
     "lacks": ["mark-in-contains"]
   },
   "marked-pred": {
     "question": "As in stale-pred, but this list has no second walk. What tells thread 0?",
-    "turnsOn": "The mark in the link of pred, which a remove sets before it unlinks. One load does that for which OptimisticList walks the whole list again.",
+    "turnsOn": "The mark in the link of pred, which a remove sets before it unlinks. One load does the work of OptimisticList's second walk.",
     "without": "5 goes in behind the node of 3, which is out (marks-in-validation).",
     "turns": [25, 31],
     "lacks": ["marks-in-validation"]
   },
   "read-in-anothers-step": {
-    "question": "Just after each of thread 0's own events 5 is in the set. Its contains answers false. Is that right?",
+    "question": "Just after each of thread 0's own events, 5 is in the set. Its contains answers false. Is that right?",
     "turnsOn": "Yes: between two of them thread 1 took 5 out, and put it in again with another node. The call stands at event 23, a step of thread 1.",
-    "without": "One who looks for its point among its own steps finds none, and calls a right list wrong. check refuses the order that puts it last.",
+    "without": "Whoever looks for its point among its own steps finds none, and calls a right list wrong. check refuses the order that puts the contains last.",
     "turns": [23, 36, 39],
     "lacks": []
   },

@@ -22,8 +22,7 @@ pub enum CallsCause {
     Line,
     /// A moment is no number from 1 to 4294967295, or another number is none up to 4294967295.
     Number,
-    /// The lines of its section up to and with this one are more than 1,048,576 opening keys, 1,000,000 calls or 2,097,152
-    /// keys.
+    /// With this line there are more than 1,048,576 opening keys, 1,000,000 calls or 2,097,152 keys.
     TooMany,
     /// The key is not above the opening key before.
     Opening,
@@ -82,11 +81,11 @@ impl From<HeaderFault> for CallsFault {
 /// Why calls that were read have no report: the first line whose call cannot stand beside those of the lines above.
 #[derive(Clone, Copy, Debug, PartialEq, Eq, Error)]
 pub enum ClashFault {
-    /// A moment of the call is one of a call of a line above, or such a call is of the same thread and neither has ended
-    /// before the other begins.
+    /// A call of a line above has a moment of this call, or is of the same thread and neither has ended before the other
+    /// begins.
     #[error("line {0}: History")]
     History(u64),
-    /// With this `add` those of its thread that changed the set are more than the quota.
+    /// With this `add` its thread has made more adds that changed the set than the quota.
     #[error("line {0}: Quota")]
     Quota(u64),
     /// There was no memory for the report.

@@ -34,7 +34,7 @@ pub enum OrderFault {
     /// The call stands earlier in the order too.
     #[error("call {0} stands twice")]
     Twice(u32),
-    /// The least number of an ended call that does not stand in the order.
+    /// An ended call does not stand in the order; the least number of such a call is told.
     #[error("call {0} has ended and does not stand in the order")]
     Missing(u32),
     /// The history has another reply of the call, or the sequential set gives another one at this place.

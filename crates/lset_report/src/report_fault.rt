@@ -21,8 +21,8 @@ pub enum ReportCause {
     /// A moment is no number from 1 to 4294967295, or another number is none up to 4294967295, as `05` in the reply
     /// `at-05` of version 2.
     Number,
-    /// The lines of its section up to and with this one are more than 1,048,576 opening keys, `MOST_CALLS` calls,
-    /// `MOST_PLACES` places, or `MOST_KEYS` keys, in version 2 `MOST_KEYS_OPENED`.
+    /// With this line there are more than 1,048,576 opening keys, `MOST_CALLS` calls, `MOST_PLACES` places, or `MOST_KEYS`
+    /// keys (in version 2 `MOST_KEYS_OPENED`).
     TooMany,
     /// The key is not above the opening key before.
     Opening,

@@ -18,12 +18,12 @@ pub enum Cause {
     Threads,
     /// The fourth line is not `quota` and a number from 0 to 16384.
     Quota,
-    /// The line has not the pieces and the words of a `begin` line or a `go` line of the text's version, nor, where no line
-    /// of an event stands above it, those of a line of an opening key.
+    /// The line has not the pieces and the words of a `begin` or `go` line of the text's version; above the first event, in
+    /// version 2, it may have those of an `opening` line.
     Event,
     /// A thread or a key is no number up to 4294967295, or the steps are no number from 1 to 10000.
     Number,
-    /// The events up to and with this line are more than 1,000,000, or the opening keys more than 1,048,576.
+    /// With this line there are more than 1,000,000 events, or more than 1,048,576 opening keys.
     TooMany,
     /// The opening key is not above the one before.
     Opening,

@@ -9,7 +9,7 @@ use thiserror::Error;
 /// Why a line of a draft is no line of a schedule.
 #[derive(Clone, Copy, Debug, PartialEq, Eq)]
 pub enum DraftCause {
-    /// The events up to and with this line are more than 1,000,000.
+    /// With this line there are more than 1,000,000 events.
     TooMany,
     /// An event of the line is not enabled.
     Refused(StepFault),

@@ -1,8 +1,9 @@
 // Records a run of your set: fill in the three calls, and
 //     g++ -O2 -std=c++17 -pthread recorder.cpp -o recorder && ./recorder THREADS CALLS KEYS SEED > run.calls
 #include <atomic>
+#include <charconv>
 #include <cstdio>
-#include <cstdlib>
+#include <cstring>
 #include <mutex>
 #include <random>
 #include <thread>
@@ -35,8 +36,20 @@ void run(std::vector<Row> &rows, unsigned calls, unsigned keys, unsigned seed) {
     }
 }
 
-int main(int, char **words) {
-    unsigned threads = atoi(words[1]), calls = atoi(words[2]), keys = atoi(words[3]), seed = atoi(words[4]);
+bool is_number(const char *word, unsigned &number) {
+    const char *end = word + strlen(word);
+    auto read = std::from_chars(word, end, number);
+    return read.ec == std::errc() && read.ptr == end;
+}
+
+int main(int count, char **words) {
+    unsigned given[4] = {}, &threads = given[0], &calls = given[1], &keys = given[2], &seed = given[3];
+    bool are_numbers = count == 5;
+    for (int i = 0; are_numbers && i < 4; i++) are_numbers = is_number(words[i + 1], given[i]);
+    if (!are_numbers || threads < 1 || threads > 64 || keys < 1) {
+        fputs("recorder: THREADS CALLS KEYS SEED, where THREADS is from 1 to 64, and KEYS not 0\n", stderr);
+        return 2;
+    }
     std::vector<std::vector<Row>> rows(threads);
     std::vector<std::thread> started;
     for (unsigned i = 0; i < threads; i++) started.emplace_back(run, std::ref(rows[i]), calls, keys, 64 * seed + i);

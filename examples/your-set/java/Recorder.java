@@ -37,8 +37,21 @@ final class Recorder {
         }
     }
 
+    /** The numbers that the words are, or none. */
+    static int[] numbersOf(String[] words) {
+        try {
+            return Stream.of(words).mapToInt(Integer::parseInt).toArray();
+        } catch (NumberFormatException notOne) {
+            return new int[0];
+        }
+    }
+
     public static void main(String[] words) throws InterruptedException {
-        int[] given = Stream.of(words).mapToInt(Integer::parseInt).toArray();
+        int[] given = numbersOf(words);
+        if (given.length != 4 || given[0] < 1 || given[0] > 64 || given[1] < 0 || given[2] < 1) {
+            System.err.println("Recorder: THREADS CALLS KEYS SEED, where THREADS is from 1 to 64, and KEYS not 0");
+            System.exit(2);
+        }
         List<List<Row>> rows = Stream.generate(() -> (List<Row>) new ArrayList<Row>()).limit(given[0]).toList();
         List<Thread> started = IntStream.range(0, given[0]).mapToObj(i -> new Thread(() ->
             run(rows.get(i), given[1], given[2], new SplittableRandom(64L * given[3] + i)))).toList();

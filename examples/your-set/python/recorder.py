@@ -48,4 +48,13 @@ def main(threads, calls, keys, seed):
     print(*(f"key {key}" for key in range(keys) if CALLS[CONTAINS](key)), "end", sep="\n")
 
 
-main(*map(int, sys.argv[1:]))
+def numbers_of(words):
+    """THREADS, CALLS, KEYS and SEED, or None."""
+    given = [int(it) for it in words if it.isascii() and it.isdigit()]
+    return given if len(given) == len(words) == 4 and 1 <= given[0] <= 64 and given[2] > 0 else None
+
+
+if not (given := numbers_of(sys.argv[1:])):
+    print("recorder.py: THREADS CALLS KEYS SEED, where THREADS is from 1 to 64, and KEYS not 0", file=sys.stderr)
+    sys.exit(2)
+main(*given)
