@@ -218,7 +218,7 @@ fn show_command<'a>(alloc: Global) -> Result<clap::Command<'a>, AllocError>
         "show",
         "Draws the history of a schedule or a report: a bar for each call, with the point at which it takes effect",
         "The schedule or report; standard input where it is - or left out",
-        "A schedule with an event that is refused is drawn up to it, and the last line tells which; status 1.\n\nExample: listset example read-in-anothers-step | listset show --from 9 --to 38",
+        "A schedule with an event that is refused is drawn up to it, and the last line tells which; status 1. With --lacks a line tells it, and nothing is drawn.\n\nExample: listset example read-in-anothers-step | listset show --from 9 --to 38",
     );
     let command = and_arg(command, flag(alloc, "svg", "Draws an SVG in place of text"));
     let command = and_arg(
