@@ -17,11 +17,12 @@ bool contains(unsigned key) { return set.contains(key); }
 
 enum Call { ADD, REMOVE, CONTAINS };
 struct Row { unsigned thread; Call call; unsigned key, begin, point, end; bool reply; };
-std::atomic<unsigned> tickets{0}, numbers{0};
+std::atomic<unsigned> tickets{0}, numbers{0}, there{0};
 std::mutex locks[1024];  // of the keys; those that are 1024 apart share one
 
-void run(std::vector<Row> &rows, unsigned calls, unsigned keys, unsigned seed) {
+void run(std::vector<Row> &rows, unsigned threads, unsigned calls, unsigned keys, unsigned seed) {
     std::mt19937 draw(seed);
+    for (there++; there < threads;) std::this_thread::yield();  // none begins before all are there
     for (unsigned thread = numbers++, added = 0; rows.size() < calls && thread < 64;) {
         Call call = Call(draw() % 3);
         unsigned key = draw() % keys, begin = ++tickets, point = 0;
@@ -52,7 +53,7 @@ int main(int count, char **words) {
     }
     std::vector<std::vector<Row>> rows(threads);
     std::vector<std::thread> started;
-    for (unsigned i = 0; i < threads; i++) started.emplace_back(run, std::ref(rows[i]), calls, keys, 64 * seed + i);
+    for (unsigned i = 0; i < threads; i++) started.emplace_back(run, std::ref(rows[i]), threads, calls, keys, 64 * seed + i);
     for (auto &thread : started) thread.join();
     printf("listset-calls 2\nlist lazy\nthreads 64\nquota 16384\n");
     for (auto &of_thread : rows)

@@ -14,10 +14,12 @@ final class Recorder {
 
     enum Call { add, remove, contains }
     record Row(int thread, Call call, int key, int begin, int point, int end, boolean reply) { }
-    static final AtomicInteger tickets = new AtomicInteger(), numbers = new AtomicInteger();
+    static final AtomicInteger tickets = new AtomicInteger(), numbers = new AtomicInteger(), there = new AtomicInteger();
     static final Object[] locks = Stream.generate(Object::new).limit(1024).toArray(); // keys that are 1024 apart share one
 
-    static void run(List<Row> rows, int calls, int keys, SplittableRandom draw) {
+    static void run(List<Row> rows, int threads, int calls, int keys, SplittableRandom draw) {
+        there.incrementAndGet();
+        while (there.get() < threads) Thread.yield(); // none begins before all are there
         int thread = numbers.getAndIncrement(), added = 0;
         while (rows.size() < calls && thread < 64) {
             Call call = Call.values()[draw.nextInt(3)];
@@ -54,7 +56,7 @@ final class Recorder {
         }
         List<List<Row>> rows = Stream.generate(() -> (List<Row>) new ArrayList<Row>()).limit(given[0]).toList();
         List<Thread> started = IntStream.range(0, given[0]).mapToObj(i -> new Thread(() ->
-            run(rows.get(i), given[1], given[2], new SplittableRandom(64L * given[3] + i)))).toList();
+            run(rows.get(i), given[0], given[1], given[2], new SplittableRandom(64L * given[3] + i)))).toList();
         started.forEach(Thread::start);
         for (Thread thread : started) thread.join();
         StringBuilder text = new StringBuilder("listset-calls 2\nlist lazy\nthreads 64\nquota 16384\n");

@@ -15,7 +15,8 @@ tickets, numbers = itertools.count(1), itertools.count()  # of each, `next` is o
 locks = [threading.Lock() for _ in range(1024)]  # of the keys; those that are 1024 apart share one
 
 
-def run(rows, calls, keys, draw):
+def run(rows, there, calls, keys, draw):
+    there.wait()  # none begins before all are there
     thread, added = next(numbers), 0
     while len(rows) < calls and thread < 64:
         call, key = draw.choice([*CALLS]), draw.randrange(keys)
@@ -36,8 +37,9 @@ def run(rows, calls, keys, draw):
 
 def main(threads, calls, keys, seed):
     sys.setswitchinterval(1e-6)
-    rows = [[] for _ in range(threads)]
-    started = [threading.Thread(target=run, args=(it, calls, keys, random.Random(64 * seed + i))) for i, it in enumerate(rows)]
+    rows, there = [[] for _ in range(threads)], threading.Barrier(threads)
+    draws = [random.Random(64 * seed + i) for i in range(threads)]
+    started = [threading.Thread(target=run, args=(it, there, calls, keys, draw)) for it, draw in zip(rows, draws)]
     for thread in started:
         thread.start()
     for thread in started:
