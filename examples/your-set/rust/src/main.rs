@@ -38,16 +38,14 @@ fn run(set: &Set, locks: &[Mutex<()>], calls: u32, keys: u32, mut draws: draws::
     rows
 }
 
-/// THREADS, CALLS, KEYS and SEED.
-fn numbers() -> Option<[u32; 4]> {
-    let given: Option<Vec<u32>> = std::env::args().skip(1).map(|it| it.parse().ok()).collect();
-    given?.try_into().ok().filter(|&[threads, _, keys, _]: &[u32; 4]| (1..=64).contains(&threads) && keys > 0)
-}
-
 fn main() {
-    let Some([threads, calls, keys, seed]) = numbers() else {
-        eprintln!("recorder: THREADS CALLS KEYS SEED, where THREADS is from 1 to 64, and KEYS not 0");
-        std::process::exit(2)
+    let words = std::env::args().skip(1).map(|it| it.parse()).collect::<Result<Vec<u32>, _>>().unwrap_or_default();
+    let (threads, calls, keys, seed) = match words[..] {
+        [threads @ 1..=64, calls, keys @ 1..=u32::MAX, seed] => (threads, calls, keys, seed),
+        _ => {
+            eprintln!("recorder: THREADS CALLS KEYS SEED, where THREADS is from 1 to 64, and KEYS not 0");
+            std::process::exit(2)
+        }
     };
     let locks: &Vec<Mutex<()>> = &(0..1024).map(|_| Mutex::new(())).collect(); // of the keys; those that are 1024 apart share one
     let set = &Set::new(threads * calls);
