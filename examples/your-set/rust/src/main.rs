@@ -4,7 +4,7 @@ mod draws;
 mod lazy_list;
 
 use std::sync::atomic::{AtomicU32, Ordering::SeqCst};
-use std::sync::Mutex;
+use std::sync::{Barrier, Mutex};
 
 struct Set(lazy_list::LazyList);
 
@@ -47,11 +47,12 @@ fn main() {
             std::process::exit(2)
         }
     };
+    let there = &Barrier::new(threads as usize); // none begins before all are there
     let locks: &Vec<Mutex<()>> = &(0..1024).map(|_| Mutex::new(())).collect(); // of the keys; those that are 1024 apart share one
     let set = &Set::new(threads * calls);
     let draws = (0..threads).map(|i| draws::Draws(64 * u64::from(seed) + u64::from(i)));
     let rows: Vec<Row> = std::thread::scope(|scope| {
-        let started: Vec<_> = draws.map(|it| scope.spawn(move || run(set, locks, calls, keys, it))).collect();
+        let started: Vec<_> = draws.map(|it| scope.spawn(move || { there.wait(); run(set, locks, calls, keys, it) })).collect();
         started.into_iter().flat_map(|it| it.join().expect("a thread has ended")).collect()
     });
     let mut text = String::from("listset-calls 2\nlist lazy\nthreads 64\nquota 16384\n");
