@@ -5,9 +5,10 @@
 #include <stdio.h>
 #include <string.h>
 
-enum { UNTOUCHED = 77 };
+enum { UNTOUCHED = 77, MOST_KEYS = 1048576 };
 
 static const uint32_t KEYS[] = {1, 7, 63}, FALLING[] = {7, 7};
+static uint32_t many[MOST_KEYS + 1];
 static size_t refused_at, asked, blocks, wrong;
 
 void *__real_malloc(size_t);
@@ -56,6 +57,7 @@ static void refused_openings(void) {
   expect("too many seats", listset_open(LISTSET_LAZY, 65, 1, 0, KEYS, 3, &out), LISTSET_BAD_SEATS);
   expect("too large a quota", listset_open(LISTSET_LAZY, 1, 16385, 0, KEYS, 3, &out), LISTSET_BAD_QUOTA);
   expect("keys that do not rise", listset_open(LISTSET_LAZY, 1, 1, 0, FALLING, 2, &out), LISTSET_BAD_KEYS);
+  expect("too many keys", listset_open(LISTSET_LAZY, 1, 1, 0, many, MOST_KEYS + 1, &out), LISTSET_BAD_KEYS);
   expect("nothing was opened", out.full, false);
 }
 
@@ -100,6 +102,25 @@ static void refused_calls(uint8_t kind) {
   calls_without_a_seat("a dropped seat", &a);
 }
 
+// As many opening keys as there may be, walked to their end, and the greatest key.
+static void most_keys(uint8_t kind) {
+  listset_seat seat = LISTSET_NONE;
+  uint32_t at = 0;
+  static uint32_t room[MOST_KEYS];
+  expect("open with the most keys", listset_open(kind, 1, 1, 1, many, MOST_KEYS, &seat), LISTSET_OK);
+  expect("remove the last", listset_remove(&seat, many[MOST_KEYS - 1]), LISTSET_TRUE);
+  expect("it is away", listset_contains(&seat, many[MOST_KEYS - 1]), LISTSET_FALSE);
+  expect("no ceiling of it", listset_ceiling(&seat, many[MOST_KEYS - 1], &at), LISTSET_NOTHING);
+  expect("add the greatest", listset_add(&seat, UINT32_MAX), LISTSET_TRUE);
+  expect("ceiling", listset_ceiling(&seat, many[MOST_KEYS - 1], &at), LISTSET_AT);
+  expect("the greatest", at, UINT32_MAX);
+  expect("close with the most keys", listset_close(&seat), LISTSET_OK);
+  expect("the most keys", listset_keys(&seat, room, MOST_KEYS), MOST_KEYS);
+  expect("all but the last", memcmp(room, many, sizeof room - sizeof *room), 0);
+  expect("and the greatest", room[MOST_KEYS - 1], UINT32_MAX);
+  listset_drop(&seat);
+}
+
 // A set is opened, split, used, gathered and closed; each refusal is told, and what was there goes on.
 static void one_life(uint8_t kind, size_t refused) {
   listset_seat a = LISTSET_NONE, b = LISTSET_NONE;
@@ -131,12 +152,14 @@ static void one_life(uint8_t kind, size_t refused) {
 
 int main(void) {
   listset_seat none = LISTSET_NONE;
+  for (uint32_t key = 0; key <= MOST_KEYS; key++) many[key] = 4095 * key;
   calls_without_a_seat("an empty seat", &none);
   listset_drop(&none);
   refused_openings();
   for (uint8_t kind = LISTSET_COARSE; kind <= LISTSET_LOCK_FREE; kind++) {
     refused_at = 0;
     refused_calls(kind);
+    most_keys(kind);
     blocks = 0;
     for (size_t refused = 1; refused == 1 || asked >= refused - 1; refused++) {
       one_life(kind, refused);

@@ -12,12 +12,8 @@ use Rattle.lset_c.specs.Sets.{table_in, set_in, seat_in, spare_in, keys_in, Same
 -- The call c was made from the seat and answered; or there is none, or the call did not end, and now there is none.
 abbrev pub HasCalledOf : Table → SetValue → Option SeatValue → Call → Option Reply → Option SeatValue → Type 0
 HasCalledOf T set (Some old) c (Some r) (Some new) = HasAnswered T set old c r new
-HasCalledOf T set (Some old) c (Some r) None = ⊥
-HasCalledOf T set (Some old) c None (Some new) = ⊥
-HasCalledOf T set (Some old) c None None = Unit {0}
-HasCalledOf T set None c (Some r) new = ⊥
-HasCalledOf T set None c None (Some new) = ⊥
-HasCalledOf T set None c None None = Unit {0}
+HasCalledOf T set old c None None = Unit {0}
+HasCalledOf T set old c r new = ⊥
 
 -- the number by which a call is answered
 abbrev pub code_of : Option Reply → ℕ
@@ -30,8 +26,7 @@ code_of None = 255
 
 abbrev pub CallsIn : Option Table → Option SetValue → Option SeatValue → Call → Option Reply → Option SeatValue → Type 0
 CallsIn (Some T) (Some set) old c r new = HasCalledOf T set old c r new
-CallsIn (Some T) None old c r new = r ≡ None
-CallsIn None set old c r new = r ≡ None
+CallsIn T set old c r new = r ≡ None
 
 -- The same of whatever a seat of C holds: it stays a seat of the same list and set, with the same seats to be split off; and no
 -- call is made of a closed set.
@@ -44,24 +39,18 @@ pub record HasCalledHeld (h : Held) (c : Call) (r : Option Reply) (h' : Held) : 
 -- and of a seat of C, whose call is answered by a number
 abbrev pub HasMade : Bool → Held → Call → ℕ → Bool → Held → Type 0
 HasMade true h c n true h' = (r : Option Reply) × (n ≡ code_of r) × HasCalledHeld h c r h'
-HasMade true h c n false h' = ⊥
-HasMade false h c n true h' = ⊥
 HasMade false h c n false h' = n ≡ 255
+HasMade full h c n full' h' = ⊥
 
 -- of a ceiling: at its reply AT, the key is written to `at`
 abbrev pub at_of : Option Reply → ℕ → ℕ
-at_of (Some reply.False) a = a
-at_of (Some reply.True) a = a
-at_of (Some reply.Full) a = a
 at_of (Some (reply.At k)) a = k.0
-at_of (Some reply.Nothing) a = a
-at_of None a = a
+at_of r a = a
 
 abbrev pub HasCeiling : Bool → Held → Call → ℕ → ℕ → ℕ → Bool → Held → Type 0
 HasCeiling true h c n a a' true h' = (r : Option Reply) × (n ≡ code_of r) × HasCalledHeld h c r h' × (a' ≡ at_of r a)
-HasCeiling true h c n a a' false h' = ⊥
-HasCeiling false h c n a a' true h' = ⊥
 HasCeiling false h c n a a' false h' = (n ≡ 255) × (a' ≡ a)
+HasCeiling full h c n a a' full' h' = ⊥
 
 -- A seat that was full stays as it was, and the answer is IS_SEAT; an empty one is full, of a set that was opened so, where the
 -- answer is 0, and else stays empty.
@@ -74,9 +63,8 @@ HasOpened false h IsOpened n false h' = n ≢ 0
 -- A full seat stays full, with all that it held, and an empty one empty.
 abbrev pub KeepsSeat : Bool → Held → Bool → Held → Type 0
 KeepsSeat true h true h' = IsKept h h'
-KeepsSeat true h false h' = ⊥
-KeepsSeat false h true h' = ⊥
 KeepsSeat false h false h' = Unit {0}
+KeepsSeat full h full' h' = ⊥
 
 -- Where the answer is 0, the other, which was empty, is full, with what was in the one, whose calling seat stays; else both are as
 -- they were.
@@ -94,13 +82,11 @@ HasGathered into h from g n into' h' from' g' =
 -- A full seat stays full: with the keys of the set, which is closed, where the answer is 0; and else as it was.
 abbrev pub EndsSet : Bool → Held → ℕ → Bool → Held → Type 0
 EndsSet true h n true h' = (n ≡ 0 → HasClosed h h') × (n ≢ 0 → IsKept h h')
-EndsSet true h n false h' = ⊥
-EndsSet false h n true h' = ⊥
 EndsSet false h n false h' = n ≡ 255
+EndsSet full h n full' h' = ⊥
 
 -- The keys of a closed set, which holds them still; and else the answer is 2^64 - 1, and nothing is written.
 abbrev pub GivesKeys : Bool → Held → List ℕ → List ℕ → ℕ → Bool → Held → Type 0
 GivesKeys true h old new n true h' = AreGiven (keys_in h) old new n × (h' ≡ h)
-GivesKeys true h old new n false h' = ⊥
-GivesKeys false h old new n true h' = ⊥
 GivesKeys false h old new n false h' = (n ≡ 18446744073709551615) × (new ≡ old)
+GivesKeys full h old new n full' h' = ⊥

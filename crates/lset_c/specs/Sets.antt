@@ -1,5 +1,5 @@
 -- What a seat of C holds: its list, its set, the set's number, its seats; and what is done with them.
-use Rattle.std.specs.Prelude.{Bool, true, false, ◌≡◌, ◌≤◌, ◌<◌, ◌⊎◌, ◌+◌, ◌++◌, ℕ, zero, suc, List, [], ◌∷◌, Option, Some, None, drop, length, map, option_to_list}
+use Rattle.std.specs.Prelude.{Bool, true, ◌≡◌, ◌≤◌, ◌<◌, ◌⊎◌, ◌+◌, ◌++◌, ℕ, zero, suc, List, [], ◌∷◌, Option, Some, None, drop, length, map, option_to_list}
 use Rattle.std.specs.List.{range_with_len}
 use Rattle.std.specs.Option.{option_map}
 use Rattle.std.specs.Arc.{arc_value}
@@ -14,7 +14,7 @@ use Rattle.lset_lock_free.specs.LockFree.{lock_free}
 use Rattle.lset_live.specs.Seats.{SetValue, SeatValue, gather_onto, held_in, new_seat}
 use Rattle.lset_live.specs.Explained.{Explains}
 use Rattle.lset_c.specs.declared.held.Held.{Held}
-use Rattle.lset_c.specs.declared.held.Held.TheVariants.{Coarse, Fine, Optimistic, Lazy, LockFree, Closed, Nothing}
+use Rattle.lset_c.specs.declared.held.Held.TheVariants.{Coarse, Fine, Optimistic, Lazy, LockFree, Closed}
 
 abbrev pub table_in : Held → Option Table
 table_in (Coarse o) = Some coarse
@@ -22,8 +22,7 @@ table_in (Fine o) = Some fine
 table_in (Optimistic o) = Some optimistic
 table_in (Lazy o) = Some lazy
 table_in (LockFree o) = Some lock_free
-table_in (Closed keys) = None
-table_in Nothing = None
+table_in h = None
 
 abbrev pub set_in : Held → Option SetValue
 set_in (Coarse o) = Some (arc_value o.set)
@@ -31,8 +30,7 @@ set_in (Fine o) = Some (arc_value o.set)
 set_in (Optimistic o) = Some (arc_value o.set)
 set_in (Lazy o) = Some (arc_value o.set)
 set_in (LockFree o) = Some (arc_value o.set)
-set_in (Closed keys) = None
-set_in Nothing = None
+set_in h = None
 
 abbrev pub number_in : Held → Option ℕ
 number_in (Coarse o) = Some o.number
@@ -40,8 +38,7 @@ number_in (Fine o) = Some o.number
 number_in (Optimistic o) = Some o.number
 number_in (Lazy o) = Some o.number
 number_in (LockFree o) = Some o.number
-number_in (Closed keys) = None
-number_in Nothing = None
+number_in h = None
 
 -- the seat that calls, and those that are to be split off
 abbrev pub seat_in : Held → Option SeatValue
@@ -50,8 +47,7 @@ seat_in (Fine o) = o.seat
 seat_in (Optimistic o) = o.seat
 seat_in (Lazy o) = o.seat
 seat_in (LockFree o) = o.seat
-seat_in (Closed keys) = None
-seat_in Nothing = None
+seat_in h = None
 
 abbrev pub spare_in : Held → List SeatValue
 spare_in (Coarse o) = o.spare.items
@@ -59,17 +55,11 @@ spare_in (Fine o) = o.spare.items
 spare_in (Optimistic o) = o.spare.items
 spare_in (Lazy o) = o.spare.items
 spare_in (LockFree o) = o.spare.items
-spare_in (Closed keys) = []
-spare_in Nothing = []
+spare_in h = []
 
 abbrev pub keys_in : Held → Option (List ℕ)
-keys_in (Coarse o) = None
-keys_in (Fine o) = None
-keys_in (Optimistic o) = None
-keys_in (Lazy o) = None
-keys_in (LockFree o) = None
 keys_in (Closed keys) = Some keys.items
-keys_in Nothing = None
+keys_in h = None
 
 -- HOW MANY SEATS of the set these are, and the record of them all
 abbrev pub count_of : Option SeatValue → List SeatValue → ℕ
@@ -109,8 +99,7 @@ Gathers h h' = number_in h ≡ number_in h' → set_in h ≡ set_in h'
 -- the same of two seats of C, where both are full
 abbrev pub GathersAt : Bool → Held → Bool → Held → Type 0
 GathersAt true h true h' = Gathers h h'
-GathersAt true h false h' = Unit {0}
-GathersAt false h from h' = Unit {0}
+GathersAt into h from h' = Unit {0}
 
 -- the table of the list that the number names
 abbrev pub table_of : ℕ → Option Table
@@ -141,8 +130,7 @@ AreLeft set count None keys = ⊥
 -- The set was closed, and its keys are held.
 abbrev pub Closes : Option SetValue → ℕ → Option Record → Option (List ℕ) → Type 0
 Closes (Some set) count past (Some keys) = AreLeft set count past keys
-Closes (Some set) count past None = ⊥
-Closes None count past keys = ⊥
+Closes set count past keys = ⊥
 
 abbrev pub HasClosed : Held → Held → Type 0
 HasClosed h h' = Closes (set_in h) (count_of (seat_in h) (spare_in h)) (record_of (seat_in h) (spare_in h)) (keys_in h')

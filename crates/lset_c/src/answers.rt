@@ -1,10 +1,9 @@
 //! What is done with seats of C, and the number that C is answered.
 ghost use Rattle.std.specs.Prelude.{◌≡◌, ◌≢◌, true, false};
 ghost use Rattle.lset_c.specs.Calls.{HasMade, code_of};
-ghost use Rattle.lset_c.specs.Sets.{IsBoth, IsKept, seat_in};
 
-use crate::codes::{BAD_KEYS, BAD_QUOTA, BAD_SEATS, DONE, NO_MORE, NO_SEAT, OUT_OF_MEMORY};
-use crate::each::{call_held, split_held};
+use crate::codes::{BAD_KEYS, BAD_QUOTA, BAD_SEATS, DONE, NO_SEAT, OUT_OF_MEMORY};
+use crate::each::call_held;
 use crate::held::Held;
 use crate::seat::{CSeat, put, take};
 use lset_live::OpenFault;
@@ -59,21 +58,4 @@ pub fn put_new(alloc: Global, seat: &mut CSeat, held: Held) -> u8
         }
         Err(_) => OUT_OF_MEMORY,
     }
-}
-
-/// Has the empty seat hold a seat that is split off. Its box is made first, so that no seat is lost where there is none.
-pub fn split_onto(alloc: Global, held: &mut Held, out: &mut CSeat) -> u8
-    requires { out.old.full ≡ false }
-    ensures done { result ≡ 0 → (out.new.full ≡ true) × (seat_in held.new ≡ seat_in held.old) × IsBoth held.new out.new.held held.old }
-    ensures refused { result ≢ 0 → (out.new.full ≡ false) × IsKept held.old held.new }
-{
-    let Ok(mut made) = Box::new(alloc, Held::Nothing) else {
-        return OUT_OF_MEMORY;
-    };
-    let Some(split) = split_held(held, alloc) else {
-        return NO_MORE;
-    };
-    *made = split;
-    put(out, made);
-    DONE
 }

@@ -1,9 +1,10 @@
 //! The same of whatever a seat of C holds, list by list.
-ghost use Rattle.std.specs.Prelude.{◌≡◌, ◌≢◌, IfSome, IfOk, MatchOption, length};
+ghost use Rattle.std.specs.Prelude.{◌≡◌, ◌≢◌, IfSome, IfOk, IfErr, MatchOption, length};
 ghost use Rattle.lset_c.specs.Sets.{AreAtFront, AreGiven, Gathers, HasClosed, IsBoth, IsKept, IsOpenedAs, keys_in, seat_in};
 ghost use Rattle.lset_c.specs.Calls.{HasCalledHeld};
+ghost use Rattle.lset_c.specs.declared.held.Held.TheVariants.{Closed};
 
-use crate::codes::{DONE, NO_SEAT};
+use crate::codes::NO_SEAT;
 use crate::held::Held;
 use crate::holding::open_of;
 use lset_live::OpenFault;
@@ -59,63 +60,41 @@ pub fn split_held(held: &mut Held, alloc: Global) -> Option<Held>
     })
 }
 
-/// Takes a seat of the same set in; gives both back where they are not two seats of one list and number.
-pub fn gather_held(alloc: Global, into: Held, from: Held) -> (Held, Option<Held>)
-    requires { Gathers into from }
-    ensures { MatchOption result.1 (IsBoth into from result.0) (λ back. (result.0 ≡ into) × (back ≡ from)) }
+/// Takes a seat of the same set in; gives it back where they are not two seats of one list and number.
+pub fn gather_held(alloc: Global, into: &mut Held, from: Held) -> Option<Held>
+    requires { Gathers into.old from }
+    ensures { MatchOption result (IsBoth into.old from into.new) (λ back. (into.new ≡ into.old) × (back ≡ from)) }
 {
-    match (into, from) {
-        (Held::Coarse(into), Held::Coarse(from)) => match into.gather(alloc, from) {
-            (into, Some(back)) => (Held::Coarse(into), Some(Held::Coarse(back))),
-            (into, None) => (Held::Coarse(into), None),
-        },
-        (Held::Fine(into), Held::Fine(from)) => match into.gather(alloc, from) {
-            (into, Some(back)) => (Held::Fine(into), Some(Held::Fine(back))),
-            (into, None) => (Held::Fine(into), None),
-        },
-        (Held::Optimistic(into), Held::Optimistic(from)) => match into.gather(alloc, from) {
-            (into, Some(back)) => (Held::Optimistic(into), Some(Held::Optimistic(back))),
-            (into, None) => (Held::Optimistic(into), None),
-        },
-        (Held::Lazy(into), Held::Lazy(from)) => match into.gather(alloc, from) {
-            (into, Some(back)) => (Held::Lazy(into), Some(Held::Lazy(back))),
-            (into, None) => (Held::Lazy(into), None),
-        },
-        (Held::LockFree(into), Held::LockFree(from)) => match into.gather(alloc, from) {
-            (into, Some(back)) => (Held::LockFree(into), Some(Held::LockFree(back))),
-            (into, None) => (Held::LockFree(into), None),
-        },
-        (into, from) => (into, Some(from)),
-    }
+    Some(match (into, from) {
+        (Held::Coarse(into), Held::Coarse(from)) => Held::Coarse(into.gather(alloc, from)?),
+        (Held::Fine(into), Held::Fine(from)) => Held::Fine(into.gather(alloc, from)?),
+        (Held::Optimistic(into), Held::Optimistic(from)) => Held::Optimistic(into.gather(
+            alloc, from,
+        )?),
+        (Held::Lazy(into), Held::Lazy(from)) => Held::Lazy(into.gather(alloc, from)?),
+        (Held::LockFree(into), Held::LockFree(from)) => Held::LockFree(into.gather(alloc, from)?),
+        (_, from) => from,
+    })
 }
 
-/// Closes the set where all its seats are within: what is held afterwards, and `DONE` or why the set is not closed.
-pub fn close_held(alloc: Global, held: Held) -> (Held, u8)
-    ensures closed { result.1 ≡ 0 → HasClosed held result.0 }
-    ensures refused { result.1 ≢ 0 → IsKept held result.0 }
+/// Closes the set where all its seats are within, and gives its keys; else what is held, with the code why not.
+pub fn close_held(alloc: Global, held: Held) -> Result<Vec<u32>, (Held, u8)>
+    ensures closed { IfOk result (λ keys. HasClosed held (Closed keys)) }
+    ensures refused { IfErr result (λ r. (r.1 ≢ 0) × IsKept held r.0) }
 {
     match held {
-        Held::Coarse(of) => match of.close(alloc) {
-            Ok(keys) => (Held::Closed(keys), DONE),
-            Err((of, code)) => (Held::Coarse(of), code),
-        },
-        Held::Fine(of) => match of.close(alloc) {
-            Ok(keys) => (Held::Closed(keys), DONE),
-            Err((of, code)) => (Held::Fine(of), code),
-        },
-        Held::Optimistic(of) => match of.close(alloc) {
-            Ok(keys) => (Held::Closed(keys), DONE),
-            Err((of, code)) => (Held::Optimistic(of), code),
-        },
-        Held::Lazy(of) => match of.close(alloc) {
-            Ok(keys) => (Held::Closed(keys), DONE),
-            Err((of, code)) => (Held::Lazy(of), code),
-        },
-        Held::LockFree(of) => match of.close(alloc) {
-            Ok(keys) => (Held::Closed(keys), DONE),
-            Err((of, code)) => (Held::LockFree(of), code),
-        },
-        other => (other, NO_SEAT),
+        Held::Coarse(of) => of
+            .close(alloc)
+            .map_err(|(of, code)| (Held::Coarse(of), code)),
+        Held::Fine(of) => of.close(alloc).map_err(|(of, code)| (Held::Fine(of), code)),
+        Held::Optimistic(of) => of
+            .close(alloc)
+            .map_err(|(of, code)| (Held::Optimistic(of), code)),
+        Held::Lazy(of) => of.close(alloc).map_err(|(of, code)| (Held::Lazy(of), code)),
+        Held::LockFree(of) => of
+            .close(alloc)
+            .map_err(|(of, code)| (Held::LockFree(of), code)),
+        other => Err((other, NO_SEAT)),
     }
 }
 

@@ -13,6 +13,7 @@ use crate::yielding::Yielding;
 use lset_live::{Bounded, Countless, LiveSet, OpenFault, Seat, open_with};
 use lset_words::{Call, Reply};
 use std::alloc::Global;
+use std::mem::replace;
 use std::sync::Arc;
 
 /// Opens a set, and gives one seat of it, with all others to be split off.
@@ -112,42 +113,32 @@ impl<M: Bounded> Of<M> {
         })
     }
 
-    /// Takes a seat of the same set in, with all that is to be split off either; gives both back where they have two numbers, or
-    /// one has no seat.
-    pub fn gather(self, alloc: Global, from: Of<M>) -> (Of<M>, Option<Of<M>>)
-        requires { self.number ≡ from.number → arc_value self.set ≡ arc_value from.set }
-        ensures { MatchOption result.1 ((arc_value result.0.set ≡ arc_value self.set) × (result.0.number ≡ self.number)
-            × (arc_value result.0.set ≡ arc_value from.set) × (result.0.number ≡ from.number)
-            × AddUp self.seat self.spare.items from.seat from.spare.items result.0.seat result.0.spare.items)
-            (λ back. (result.0 ≡ self) × (back ≡ from)) }
+    /// Takes a seat of the same set in, with all that is to be split off either; gives it back where they have two numbers, or one
+    /// has no seat.
+    pub fn gather(&mut self, alloc: Global, from: Of<M>) -> Option<Of<M>>
+        requires { self.old.number ≡ from.number → arc_value self.old.set ≡ arc_value from.set }
+        ensures { MatchOption result ((arc_value self.new.set ≡ arc_value self.old.set) × (self.new.number ≡ self.old.number)
+            × (arc_value self.new.set ≡ arc_value from.set) × (self.new.number ≡ from.number)
+            × AddUp self.old.seat self.old.spare.items from.seat from.spare.items self.new.seat self.new.spare.items)
+            (λ back. (self.new ≡ self.old) × (back ≡ from)) }
     {
         if self.number != from.number || self.seat.is_none() || from.seat.is_none() {
-            return (self, Some(from));
+            return Some(from);
         }
-        let Of {
-            set,
-            number,
-            seat,
-            spare,
-        } = self;
         let Of {
             set: _other,
             number: _,
             seat: taken,
             spare: left,
         } = from;
-        let (Some(seat), Some(taken)) = (seat, taken) else {
+        let (Some(seat), Some(taken)) = (self.seat.take(), taken) else {
             unreachable!()
         };
-        let mut seat = gathered(&set, seat, spare);
-        set.gather(&mut seat, gathered(&set, taken, left));
-        let kept = Of {
-            set,
-            number,
-            seat: Some(seat),
-            spare: Vec::new(alloc),
-        };
-        (kept, None)
+        let spare = replace(&mut self.spare, Vec::new(alloc));
+        let mut seat = gathered(&self.set, seat, spare);
+        self.set.gather(&mut seat, gathered(&self.set, taken, left));
+        self.seat = Some(seat);
+        None
     }
 
     /// Whether all seats of the set are within.

@@ -19,9 +19,9 @@ ghost use Rattle.lset_c.specs.Calls.{EndsSet, GivesKeys, HasCeiling, HasGathered
 ghost use Rattle.lset_c.specs.Sets.{GathersAt, IsOpenedAs};
 ghost use Rattle.std.specs.Prelude.{◌≡◌, false};
 
-use answers::{fault_code, made, put_new, reply_code, split_onto};
-use codes::{BAD_KIND, DONE, IS_SEAT, NO_GATHER, NO_SEAT};
-use each::{call_held, close_held, gather_held, keys_held, open_held};
+use answers::{fault_code, made, put_new, reply_code};
+use codes::{BAD_KIND, DONE, IS_SEAT, NO_GATHER, NO_MORE, NO_SEAT, OUT_OF_MEMORY};
+use each::{call_held, close_held, gather_held, keys_held, open_held, split_held};
 use held::Held;
 use lset_words::{Call, Key, Reply};
 use seat::{CSeat, put, take};
@@ -65,9 +65,19 @@ pub extern "C" fn listset_split(alloc: Global, seat: &mut CSeat, out: &mut CSeat
     let Some(mut held) = take(alloc, seat) else {
         return NO_SEAT;
     };
-    let code = split_onto(alloc, &mut held, out);
+    // (the box is made first, so that no seat is lost where there is none)
+    let Ok(mut made) = Box::new(alloc, Held::Nothing) else {
+        put(seat, held);
+        return OUT_OF_MEMORY;
+    };
+    let split = split_held(&mut held, alloc);
     put(seat, held);
-    code
+    let Some(split) = split else {
+        return NO_MORE;
+    };
+    *made = split;
+    put(out, made);
+    DONE
 }
 
 /// Puts the key in, if it was not there: 1; 0 where it was, 2 where the seat has used its quota, and 255 of an empty seat or a closed set.
@@ -124,12 +134,7 @@ pub extern "C" fn listset_gather(alloc: Global, into: &mut CSeat, from: &mut CSe
         put(from, other);
         return NO_SEAT;
     };
-    let (kept, back) = gather_held(
-        alloc,
-        replace(&mut *seat, Held::Nothing),
-        replace(&mut *other, Held::Nothing),
-    );
-    *seat = kept;
+    let back = gather_held(alloc, &mut seat, replace(&mut *other, Held::Nothing));
     put(into, seat);
     let Some(back) = back else {
         return DONE;
@@ -148,10 +153,18 @@ pub extern "C" fn listset_close(alloc: Global, seat: &mut CSeat) -> u8
     let Some(mut held) = take(alloc, seat) else {
         return NO_SEAT;
     };
-    let (after, code) = close_held(alloc, replace(&mut *held, Held::Nothing));
-    *held = after;
-    put(seat, held);
-    code
+    match close_held(alloc, replace(&mut *held, Held::Nothing)) {
+        Ok(keys) => {
+            *held = Held::Closed(keys);
+            put(seat, held);
+            DONE
+        }
+        Err((kept, code)) => {
+            *held = kept;
+            put(seat, held);
+            code
+        }
+    }
 }
 
 /// How many keys the closed set has, which are in the room where it is long enough; 2^64 - 1 where it is none.

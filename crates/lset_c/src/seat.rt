@@ -10,7 +10,8 @@ use std::alloc::Global;
 use std::marker::Model;
 use std::mem::replace;
 
-/// A seat as C keeps it. Where it is full it owns a box, whose value is `held`.
+/// A seat as C keeps it. Where it is full it owns a box, whose value is `held`; only an empty one is let go of.
+#[derive(Drop)]
 #[repr(C)]
 pub struct CSeat {
     pub full: bool,
@@ -32,17 +33,6 @@ impl CSeat {
         }
     }
 
-    fn with_full(self) -> (bool, CSeat)
-        ensures { (result.0 ≡ self.full) × (result.1 ≡ self) }
-    {
-        let CSeat { full, at } = self;
-        (full, CSeat { full, at })
-    }
-
-    pub fn discard(self) {
-        let CSeat { full: _, at: _ } = self;
-    }
-
     fn of_loose(held: Loose<Held, Global>) -> CSeat
         ensures { (result.full ≡ true) × (result.held ≡ held.value) }
     {
@@ -53,14 +43,17 @@ impl CSeat {
         }
     }
 
-    fn into_loose(self, alloc: Global) -> Loose<Held, Global>
-        requires { self.full ≡ true }
-        ensures { result.value ≡ self.held }
+    fn into_loose(self, alloc: Global) -> Option<Loose<Held, Global>>
+        ensures { MatchOption result (self.full ≡ false) (λ l. (self.full ≡ true) × (l.value ≡ self.held)) }
     {
-        let CSeat { full: _, at } = self;
-        Loose {
-            at: at as *mut Held,
-            alloc,
+        let CSeat { full, at } = self;
+        if full {
+            Some(Loose {
+                at: at as *mut Held,
+                alloc,
+            })
+        } else {
+            None
         }
     }
 }
@@ -70,12 +63,8 @@ pub fn take(alloc: Global, seat: &mut CSeat) -> Option<Box<Held>>
     ensures told { MatchOption result (seat.old.full ≡ false) (λ b. (seat.old.full ≡ true) × (b.value ≡ seat.old.held)) }
     ensures left { seat.new.full ≡ false }
 {
-    let (full, old) = replace(seat, CSeat::none()).with_full();
-    if !full {
-        old.discard();
-        return None;
-    }
-    Some(old.into_loose(alloc).into_box())
+    let held = replace(seat, CSeat::none()).into_loose(alloc)?;
+    Some(held.into_box())
 }
 
 /// Has the empty seat hold this.
@@ -83,5 +72,5 @@ pub fn put(seat: &mut CSeat, held: Box<Held>)
     requires { seat.old.full ≡ false }
     ensures { (seat.new.full ≡ true) × (seat.new.held ≡ held.value) }
 {
-    replace(seat, CSeat::of_loose(Loose::of(held))).discard();
+    *seat = CSeat::of_loose(Loose::of(held));
 }
