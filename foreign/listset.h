@@ -126,7 +126,7 @@ enum {
 uint8_t listset_open(uint8_t kind, uint32_t seats, uint32_t quota, uint64_t number, const uint32_t *keys, size_t count,
                      listset_seat *out);
 
-/* Takes a seat out of this one. After a gather there is none left in it. */
+/* Takes a seat out of this one. Once it has gathered another, it gives LISTSET_NO_MORE: all seats within it are one then. */
 uint8_t listset_split(listset_seat *seat, listset_seat *out);
 
 /* The calls of the set: their answers are replies. */

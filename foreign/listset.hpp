@@ -101,7 +101,20 @@ enum class added : uint8_t { not_new, is_new, full };
 struct fault : std::runtime_error {
   uint8_t code;
 
-  explicit fault(uint8_t code) : std::runtime_error("listset: fault " + std::to_string(code)), code(code) {}
+  explicit fault(uint8_t code) : std::runtime_error(std::string("listset: ") + sentence(code)), code(code) {}
+
+  static const char *sentence(uint8_t code) {
+    switch (code) {
+    case LISTSET_BAD_SEATS: return "the seats are not 1 to 64";
+    case LISTSET_BAD_QUOTA: return "the quota is above 16384";
+    case LISTSET_BAD_KEYS: return "the keys do not rise or are too many";
+    case LISTSET_OUT_OF_MEMORY: return "out of memory";
+    case LISTSET_SEATS_OUT: return "not all seats are gathered";
+    case LISTSET_NO_MORE: return "no seat is left to be split off";
+    case LISTSET_NO_GATHER: return "not two seats of one set";
+    default: return "there is no seat";
+    }
+  }
 };
 
 // A thread's place in a set, or nothing. It is moved and not copied; one thread uses it at a time.
