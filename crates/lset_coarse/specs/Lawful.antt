@@ -2,8 +2,9 @@
 pub mod Outline
 use Rattle.lset_steps.specs.Laws.{Lawful}
 use Rattle.lset_steps.proofs.Discipline.{lawful_of}
+use Rattle.lset_steps.proofs.Turns.{discipline_of}
 use Rattle.lset_coarse.specs.Coarse.{coarse}
-use Rattle.lset_coarse.specs.Lawful.Outline.{At, coarse_discipline}
+use Rattle.lset_coarse.specs.Lawful.Outline.{At, one_lock, coarse_follows}
 
 pub coarse_lawful : Lawful coarse
-coarse_lawful = lawful_of coarse At coarse_discipline
+coarse_lawful = lawful_of coarse At (discipline_of coarse one_lock At coarse_follows)

@@ -22,6 +22,7 @@ pub mod LockWords
 pub mod RunAccount
 pub mod SmallLocals
 pub mod Held
+pub mod Decision
 pub mod UnlockedWalk
 pub mod SecondWalk
 pub mod Turns

@@ -43,6 +43,16 @@ pub due_on : (done : Bool) (q : ℕ) (vs : ℕ → View) (first now t : ℕ) (ca
 due_on true q vs first now t call r d = d
 due_on false q vs first now t call r d = fitted_on q vs first now (suc now) t call r (omega arith) d
 
+-- what a call that is about to give its locks back is due: none, and then it begins again, or its reply
+abbrev pub Outcome : Bool → ℕ → (ℕ → View) → ℕ → ℕ → ℕ → Call → Option Reply → Type 0
+Outcome done q vs first now t call None = done ≡ false
+Outcome done q vs first now t call (Some reply) = Due done q vs first now t call reply
+
+pub outcome_on : (done : Bool) (q : ℕ) (vs : ℕ → View) (first now t : ℕ) (call : Call) (reply : Option Reply)
+    → Outcome done q vs first now t call reply → Outcome done q vs first (suc now) t call reply
+outcome_on done q vs first now t call None o = o
+outcome_on done q vs first now t call (Some reply) o = due_on done q vs first now t call reply o
+
 -- HOW THREADS SHARE THE WORDS: which steps a thread may make, loads among them, and what such a step leaves to another thread
 pub record Protocol (marks : Bool) : Type 1 where
   pub step : (sz : Sizes) (t : ℕ) (ws : List ℕ) (used : ℕ → ℕ) → Action → List ℕ → (ℕ → ℕ) → Option (Key × Bool) → Type 0

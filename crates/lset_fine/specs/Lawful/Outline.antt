@@ -19,7 +19,8 @@ use Rattle.lset_steps.specs.Rows.{decided_on, goes_to, own_slot}
 use Rattle.lset_steps.proofs.Held.{Held, Behind, Between, Leaves, LockedStep, in_chain, head_held, leaves_of, held_on, below_on}
 use Rattle.lset_steps.proofs.Held.{behind_on, between_on, adding_on, removing_on, own_key_on, own_link_on, reads_word, frees}
 use Rattle.lset_steps.proofs.Held.{writes_own_key, writes_own_link, puts_between, held_from, behind_from, curr_is_not_pred}
-use Rattle.lset_steps.proofs.Held.{found_next, drops_between, decides, leaves_locked, held_past, leaves_own_key, leaves_own_link}
+use Rattle.lset_steps.proofs.Held.{found_next, drops_between, leaves_locked, held_past, leaves_own_key, leaves_own_link}
+use Rattle.lset_steps.proofs.Decision.{decides}
 use Rattle.lset_steps.proofs.Turns.{Turn, Follows, node_locks, due_on, due_now, tries}
 use Rattle.lset_steps.proofs.Turns.Turn.{passes, changes, answers}
 use Rattle.lset_fine.specs.Fine.{fine, targets}
@@ -142,7 +143,8 @@ module _ (sz : Sizes) (t : ℕ) (vs : ℕ → View) (first now : ℕ) (ws : List
         | inr ge ↦
             (let on = if_not_below s k ge (record l0 { pc = 5 }) (decided_on targets s l0) in
             let plain = M.marked l.curr b.walk.next in
-            elim (decides M targets s l0 b.walk plain refl ge regs.low (M.room t tn) th.counts regs.quota) [
+            elim (decides M t targets s l0 b.walk.held.at b.walk.inner b.walk.follows b.walk.below plain refl ge regs.low (M.room t tn)
+            th.counts regs.quota) [
               | inl r ↦ passes a ws (goes_to 12 (Some r.0) l0) (rw e refl) (rw (e, on ∙ r.1) refl) (rw e refl) read
                   (keep_ckey sz t 12 s (Some r.0) l small regs, refl, refl, λ x. omega arith)
                   (at12 refl b.walk.held.mine b.mine (curr_is_not_pred M b.walk) r.0 refl

@@ -1,6 +1,6 @@
 -- What is known at each place of the lazy list.
-use Rattle.std.specs.Prelude.{◌≡◌, ◌≢◌, ℕ, suc, ◌+◌, ◌*◌, ◌/◌, ◌%◌, ◌<◌, ◌≤◌, Bool, true, false, Some, None, List, slice_set}
-use Rattle.std.specs.Prelude.{refl}
+use Rattle.std.specs.Prelude.{◌≡◌, ◌≢◌, ℕ, suc, ◌+◌, ◌*◌, ◌/◌, ◌%◌, ◌<◌, ◌≤◌, Bool, true, false, Option, Some, None, List}
+use Rattle.std.specs.Prelude.{slice_set, refl}
 use Rattle.std.proofs.Common.{arith, inl, inr, sym, ◌∙◌, ap}
 use Rattle.lset_words.proofs.Numbers.{same_or_not, below_or_not, if_below, if_not_below, if_same, if_other}
 use Rattle.lset_words.specs.Words.{key_index, link_index, lock_index, tail_word, node_count, slot_node, target, key_of, Sizes}
@@ -20,16 +20,17 @@ use Rattle.lset_steps.proofs.Replies.{Adding, Removing, removing_kept, registers
 use Rattle.lset_steps.proofs.Replies.{keep_walk}
 use Rattle.lset_steps.specs.Rows.{decided_on, goes_to, own_slot}
 use Rattle.lset_steps.specs.ReadRows.{first_row, read_action, read_fed, continued}
-use Rattle.lset_steps.proofs.ReadTables.{HasReadRows, IsReadRow}
+use Rattle.lset_steps.proofs.ReadTables.{HasReadRows, in_each_read_row}
 use Rattle.lset_steps.proofs.ReadOutline.{Reading, begun_reading_is, reading_on, call_begins, reads_on, even_or_odd}
 use Rattle.lset_steps.proofs.Held.{Between, Leaves, LockedStep, in_chain, leaves_of, between_on, adding_on, removing_on}
 use Rattle.lset_steps.proofs.Held.{own_key_on, own_link_on, reads_word, frees, writes_own_key, writes_own_link, puts_between}
-use Rattle.lset_steps.proofs.Held.{marks_between, cuts_between, curr_is_not_pred, found_no_tail, decides, leaves_own_key}
+use Rattle.lset_steps.proofs.Held.{marks_between, cuts_between, curr_is_not_pred, found_no_tail, leaves_own_key}
 use Rattle.lset_steps.proofs.Held.{leaves_own_link}
 use Rattle.lset_steps.proofs.UnlockedWalk.{Spot, Found, spot_kept, found_kept, found_apart, spot_behind, spot_behind_head}
 use Rattle.lset_steps.proofs.UnlockedWalk.{next_inside, small_key, keeps_locked}
 use Rattle.lset_steps.proofs.ReadWalk.{ShowsReading, low_row}
-use Rattle.lset_steps.proofs.Turns.{Turn, Follows, node_locks, due_on, due_now, tries}
+use Rattle.lset_steps.proofs.Decision.{decides}
+use Rattle.lset_steps.proofs.Turns.{Turn, Follows, Outcome, node_locks, outcome_on, due_now, tries}
 use Rattle.lset_steps.proofs.Turns.Turn.{passes, changes, answers}
 use Rattle.lset_lazy.specs.Lazy.{lazy, targets, next_action, at_key, gives_up, at_pred, at_curr, released, fed_by, effect_of}
 
@@ -43,7 +44,7 @@ pub record Both (v : View) (t pred curr : ℕ) : Type 0 where
   pub curr_mine : v.lock curr ≡ t + 1
   pub distinct : curr ≢ pred
 
--- one line for each place, two where the call has a reply or walks again, and one for those of a contains or a ceiling
+-- one line for each place, and one for those of a contains or a ceiling
 pub data At (q t : ℕ) (vs : ℕ → View) (first now : ℕ) (v : View) (done : Bool) (l : Local) : Type 0 where
   at0 : l.pc ≡ 0 → At q t vs first now v done l
   at1 : l.pc ≡ 1 → done ≡ false → At q t vs first now v done l
@@ -65,12 +66,8 @@ pub data At (q t : ℕ) (vs : ℕ → View) (first now : ℕ) (v : View) (done :
       → At q t vs first now v done l
   at12 : l.pc ≡ 12 → done ≡ true → Window v t l → Removing v l.curr l.call → v.link l.curr ≡ 2 * l.succ + 1
       → At q t vs first now v done l
-  at13 : l.pc ≡ 13 → Both v t l.pred l.curr → (r : Reply) → l.reply ≡ Some r → Due done q vs first now t l.call r
-      → At q t vs first now v done l
-  at13_again : l.pc ≡ 13 → done ≡ false → Both v t l.pred l.curr → l.reply ≡ None → At q t vs first now v done l
-  at14 : l.pc ≡ 14 → v.lock l.pred ≡ t + 1 → (r : Reply) → l.reply ≡ Some r → Due done q vs first now t l.call r
-      → At q t vs first now v done l
-  at14_again : l.pc ≡ 14 → done ≡ false → v.lock l.pred ≡ t + 1 → l.reply ≡ None → At q t vs first now v done l
+  at13 : l.pc ≡ 13 → Both v t l.pred l.curr → Outcome done q vs first now t l.call l.reply → At q t vs first now v done l
+  at14 : l.pc ≡ 14 → v.lock l.pred ≡ t + 1 → Outcome done q vs first now t l.call l.reply → At q t vs first now v done l
   at_read : Reading vs first now done l → At q t vs first now v done l
 
 both_of : {v : View} {t key pred curr : ℕ} → curr ≢ pred → Between v t key pred curr → Both v t pred curr
@@ -107,39 +104,20 @@ module _ (q t : ℕ) (vs : ℕ → View) (first now : ℕ) (v w : View) (done : 
       (own_link_on r (2 * l.curr) a.room y)
   stays (at11 e d b a x) = at11 e d (between_on s b) (removing_on s b.walk.next a) (s.links l.curr b.walk.next b.mine ∙ x)
   stays (at12 e d b a x) = at12 e d (between_on s b) (removing_on s b.walk.next a) (s.links l.curr b.walk.next b.mine ∙ x)
-  stays (at13 e b y z due) = at13 e (both_on b) y z (due_on done q vs first now t l.call y due)
-  stays (at13_again e d b z) = at13_again e d (both_on b) z
-  stays (at14 e p y z due) = at14 e (s.locks l.pred p) y z (due_on done q vs first now t l.call y due)
-  stays (at14_again e d p z) = at14_again e d (s.locks l.pred p) z
+  stays (at13 e b o) = at13 e (both_on b) (outcome_on done q vs first now t l.call l.reply o)
+  stays (at14 e p o) = at14 e (s.locks l.pred p) (outcome_on done q vs first now t l.call l.reply o)
   stays (at_read a) = at_read (reading_on a)
 
 -- its contains and its ceiling have the rows that take no lock
 pub has_read_rows : HasReadRows lazy
-has_read_rows = record { begins = λ call l. refl; acts = acts; feeds = feeds; tells = tells }
-  where
-    acts : (l : Local) → IsReadRow l.pc → next_action l ≡ read_action l
-    acts l (inl e) = rw e refl
-    acts l (inr (inl e)) = rw e refl
-    acts l (inr (inr (inl e))) = rw e refl
-    acts l (inr (inr (inr (inl e)))) = rw e refl
-    acts l (inr (inr (inr (inr (inl e))))) = rw e refl
-    acts l (inr (inr (inr (inr (inr e))))) = rw e refl
-
-    feeds : (l : Local) (seen : ℕ) → IsReadRow l.pc → fed_by l seen ≡ read_fed l seen
-    feeds l seen (inl e) = rw e refl
-    feeds l seen (inr (inl e)) = rw e refl
-    feeds l seen (inr (inr (inl e))) = rw e refl
-    feeds l seen (inr (inr (inr (inl e)))) = rw e refl
-    feeds l seen (inr (inr (inr (inr (inl e))))) = rw e refl
-    feeds l seen (inr (inr (inr (inr (inr e))))) = rw e refl
-
-    tells : (l : Local) (seen : ℕ) → IsReadRow l.pc → effect_of l seen ≡ None
-    tells l seen (inl e) = rw e refl
-    tells l seen (inr (inl e)) = rw e refl
-    tells l seen (inr (inr (inl e))) = rw e refl
-    tells l seen (inr (inr (inr (inl e)))) = rw e refl
-    tells l seen (inr (inr (inr (inr (inl e))))) = rw e refl
-    tells l seen (inr (inr (inr (inr (inr e))))) = rw e refl
+has_read_rows = record {
+  begins = λ call l. refl;
+  acts = λ l. in_each_read_row (λ n. next_action (record l { pc = n }) ≡ read_action (record l { pc = n }))
+      refl refl refl refl refl refl l.pc;
+  feeds = λ l seen. in_each_read_row (λ n. fed_by (record l { pc = n }) seen ≡ read_fed (record l { pc = n }) seen)
+      refl refl refl refl refl refl l.pc;
+  tells = λ l seen. in_each_read_row (λ n. effect_of (record l { pc = n }) seen ≡ None) refl refl refl refl refl refl l.pc;
+}
 
 -- THE ROWS
 module _ (sz : Sizes) (t : ℕ) (vs : ℕ → View) (first now : ℕ) (ws : List ℕ) (used : ℕ → ℕ) (done : Bool) (l : Local)
@@ -243,7 +221,7 @@ module _ (sz : Sizes) (t : ℕ) (vs : ℕ → View) (first now : ℕ) (ws : List
         | inr y ↦ passes (Load (link_index l.pred)) ws (record l { pc = 13; reply = None }) (rw e refl)
             (feeds ∙ ap continued (if_other s (2 * l.curr) y (record l { pc = 7 }) (gives_up l))) (rw e refl) read
             (keep sz t 13 None l regs, refl, refl, λ z. omega arith)
-            (at13_again refl d b refl)
+            (at13 refl b d)
       ]
 
   go_7 : l.pc ≡ 7 → done ≡ false → Found V (target l.call) l.pred l.curr l.ckey → Window V t l → Goal
@@ -260,10 +238,11 @@ module _ (sz : Sizes) (t : ℕ) (vs : ℕ → View) (first now : ℕ) (ws : List
       elim (even_or_odd s) [
         | inl even ↦
             (let on = feeds ∙ ap continued (if_same (s % 2) 0 even (decided_on targets l.ckey l0) (gives_up l)) in
-            elim (decides M targets l.ckey l0 b.walk even is (omega arith) regs.low (M.room t tn) th.counts regs.quota) [
+            elim (decides M t targets l.ckey l0 b.walk.held.at b.walk.inner b.walk.follows b.walk.below even is (omega arith) regs.low
+            (M.room t tn) th.counts regs.quota) [
               | inl r ↦ passes a ws (goes_to 13 (Some r.0) l0) (rw e refl) (on ∙ ap continued r.1) (rw e refl) read
                   (keep_succ sz t 13 (s / 2) (Some r.0) l next regs, refl, refl, λ z. omega arith)
-                  (at13 refl (both_of (found_apart x) b) r.0 refl
+                  (at13 refl (both_of (found_apart x) b)
                   (due_now done sz.quota vs first now t V l.call r.0 d th.begun h.present r.2))
               | inr z ↦ elim z [
                 | inl r ↦ passes a ws (goes_to 8 None l0) (rw e refl) (on ∙ ap continued r.0) (rw e refl) read
@@ -275,7 +254,7 @@ module _ (sz : Sizes) (t : ℕ) (vs : ℕ → View) (first now : ℕ) (ws : List
         | inr odd ↦ passes a ws (record l { pc = 13; reply = None }) (rw e refl)
             (feeds ∙ ap continued (if_other (s % 2) 0 (omega arith) (decided_on targets l.ckey l0) (gives_up l))) (rw e refl) read
             (keep sz t 13 None l regs, refl, refl, λ z. omega arith)
-            (at13_again refl d (both_of (found_apart x) b) refl)
+            (at13 refl (both_of (found_apart x) b) d)
       ]
 
   go_8 : l.pc ≡ 8 → done ≡ false → Window V t l → Adding V t sz.quota l.curr l.call → Goal
@@ -320,7 +299,7 @@ module _ (sz : Sizes) (t : ℕ) (vs : ℕ → View) (first now : ℕ) (ws : List
       (record l { pc = 13; reply = Some True; used = l.used + 1 }) (key_of l.call) true
       (rw (e, own_is) refl) (rw e refl) (rw e refl) (puts_between b a key link) (a.call, d, a.room)
       (keep_more sz t 13 l (rw count a.room) regs) refl (omega arith) (λ x. omega arith)
-      (at13 refl (both_after l.pred x (one_more used t) b) True refl refl)
+      (at13 refl (both_after l.pred x (one_more used t) b) refl)
 
   go_11 : l.pc ≡ 11 → done ≡ false → Window V t l → Removing V l.curr l.call → node_link ws l.curr ≡ 2 * l.succ → Goal
   go_11 e d b a next =
@@ -362,39 +341,29 @@ module _ (sz : Sizes) (t : ℕ) (vs : ℕ → View) (first now : ℕ) (ws : List
       passes (Store (link_index l.pred) x) (slice_set ws (link_index l.pred) x) (record l { pc = 13; reply = Some True })
       (rw e refl) (rw e refl) (rw e refl) (cuts_between M l.succ b a next regs.low)
       (keep sz t 13 (Some True) l regs, refl, refl, λ x. omega arith)
-      (at13 refl (both_after l.pred x used b) True refl due)
+      (at13 refl (both_after l.pred x used b) due)
 
-  freed : Both V t l.pred l.curr → node_lock (slice_set ws (lock_index l.curr) 0) l.pred ≡ t + 1
-  freed b = lock_after_lock ws l.curr 0 l.pred (λ f. b.distinct (sym f)) ∙ b.pred_mine
-
-  go_13 : l.pc ≡ 13 → Both V t l.pred l.curr → (r : Reply) → l.reply ≡ Some r → Due done sz.quota vs first now t l.call r → Goal
-  go_13 e b r ry due =
+  go_13 : l.pc ≡ 13 → Both V t l.pred l.curr → Outcome done sz.quota vs first now t l.call l.reply → Goal
+  go_13 e b o =
       passes (Store (lock_index l.curr) 0) (slice_set ws (lock_index l.curr) 0) (record l { pc = 14 })
       (rw e refl) (rw e refl) (rw e refl) (frees l.curr regs.curr b.curr_mine)
       (keep sz t 14 l.reply l regs, refl, refl, λ x. omega arith)
-      (at14 refl (freed b) r ry (due_on done sz.quota vs first now t l.call r due))
+      (at14 refl (lock_after_lock ws l.curr 0 l.pred (λ f. b.distinct (sym f)) ∙ b.pred_mine)
+      (outcome_on done sz.quota vs first now t l.call l.reply o))
 
-  go_13_again : l.pc ≡ 13 → done ≡ false → Both V t l.pred l.curr → l.reply ≡ None → Goal
-  go_13_again e d b ry =
-      passes (Store (lock_index l.curr) 0) (slice_set ws (lock_index l.curr) 0) (record l { pc = 14 })
-      (rw e refl) (rw e refl) (rw e refl) (frees l.curr regs.curr b.curr_mine)
-      (keep sz t 14 l.reply l regs, refl, refl, λ x. omega arith)
-      (at14_again refl d (freed b) ry)
+  freed : l.pc ≡ 14 → fed_by l 0 ≡ released l.reply l
+  freed e = rw e refl
 
-  go_14 : l.pc ≡ 14 → node_lock ws l.pred ≡ t + 1 → (r : Reply) → l.reply ≡ Some r → Due done sz.quota vs first now t l.call r →
-      Goal
-  go_14 e mine r ry due =
-      let feeds : fed_by l 0 ≡ released l.reply l = rw e refl in
-      answers (Store (lock_index l.pred) 0) (slice_set ws (lock_index l.pred) 0) (record l { pc = 0 }) r
-      (rw e refl) (feeds ∙ ap (λ y. released y l) ry) (rw e refl) (frees l.pred regs.pred mine) due
-      (keep sz t 0 l.reply l regs) refl refl refl (at0 refl)
-
-  go_14_again : l.pc ≡ 14 → done ≡ false → node_lock ws l.pred ≡ t + 1 → l.reply ≡ None → Goal
-  go_14_again e d mine ry =
-      let feeds : fed_by l 0 ≡ released l.reply l = rw e refl in
+  go_14 : l.pc ≡ 14 → node_lock ws l.pred ≡ t + 1 → (r : Option Reply) → l.reply ≡ r
+      → Outcome done sz.quota vs first now t l.call r → Goal
+  go_14 e mine None y o =
       passes (Store (lock_index l.pred) 0) (slice_set ws (lock_index l.pred) 0) (record l { pc = 1 })
-      (rw e refl) (feeds ∙ ap (λ y. released y l) ry) (rw e refl) (frees l.pred regs.pred mine)
-      (keep sz t 1 l.reply l regs, refl, refl, λ x. omega arith) (at1 refl d)
+      (rw e refl) (freed e ∙ ap (λ z. released z l) y) (rw e refl) (frees l.pred regs.pred mine)
+      (keep sz t 1 l.reply l regs, refl, refl, λ x. omega arith) (at1 refl o)
+  go_14 e mine (Some r) y o =
+      answers (Store (lock_index l.pred) 0) (slice_set ws (lock_index l.pred) 0) (record l { pc = 0 }) r
+      (rw e refl) (freed e ∙ ap (λ z. released z l) y) (rw e refl) (frees l.pred regs.pred mine) o
+      (keep sz t 0 l.reply l regs) refl refl refl (at0 refl)
 
   go : At sz.quota t vs first now (view sz ws used) done l → l.pc ≢ 0 → Goal
   go (at0 e) busy = absurd (busy e)
@@ -410,10 +379,8 @@ module _ (sz : Sizes) (t : ℕ) (vs : ℕ → View) (first now : ℕ) (ws : List
   go (at10 e d b a x y) busy = go_10 e d b a x y
   go (at11 e d b a x) busy = go_11 e d b a x
   go (at12 e d b a x) busy = go_12 e d b a x
-  go (at13 e b r ry due) busy = go_13 e b r ry due
-  go (at13_again e d b ry) busy = go_13_again e d b ry
-  go (at14 e p r ry due) busy = go_14 e p r ry due
-  go (at14_again e d p ry) busy = go_14_again e d p ry
+  go (at13 e b o) busy = go_13 e b o
+  go (at14 e p o) busy = go_14 e p l.reply refl o
   go (at_read a) busy =
       reads_on lazy (node_locks true) At sz t vs first now ws used done l h th has_read_rows (λ l' b. at_read b)
       (λ l' b. at0 b) a
@@ -433,10 +400,8 @@ shows_reading q t vs first now v done l row (at9 e a b c d) = low_row l.pc 9 e (
 shows_reading q t vs first now v done l row (at10 e a b c d f) = low_row l.pc 10 e (omega arith) row
 shows_reading q t vs first now v done l row (at11 e a b c d) = low_row l.pc 11 e (omega arith) row
 shows_reading q t vs first now v done l row (at12 e a b c d) = low_row l.pc 12 e (omega arith) row
-shows_reading q t vs first now v done l row (at13 e a b c d) = low_row l.pc 13 e (omega arith) row
-shows_reading q t vs first now v done l row (at13_again e a b c) = low_row l.pc 13 e (omega arith) row
-shows_reading q t vs first now v done l row (at14 e a b c d) = low_row l.pc 14 e (omega arith) row
-shows_reading q t vs first now v done l row (at14_again e a b c) = low_row l.pc 14 e (omega arith) row
+shows_reading q t vs first now v done l row (at13 e a b) = low_row l.pc 13 e (omega arith) row
+shows_reading q t vs first now v done l row (at14 e a b) = low_row l.pc 14 e (omega arith) row
 shows_reading q t vs first now v done l row (at_read a) = a
 
 pub lazy_follows : Follows lazy (node_locks true) At

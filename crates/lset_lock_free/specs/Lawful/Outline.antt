@@ -28,7 +28,7 @@ use Rattle.lset_steps.proofs.Replies.{Adding, Removing, removing_kept, adding_ke
 use Rattle.lset_steps.proofs.Replies.{decided_cases, absent_between, ceiling_fits, keep, keep_succ, keep_walk}
 use Rattle.lset_steps.specs.Rows.{ceiling_at, decided_on, goes_to, own_slot}
 use Rattle.lset_steps.specs.ReadRows.{first_row, read_action, read_fed, continued, leaves_with}
-use Rattle.lset_steps.proofs.ReadTables.{HasReadRows, IsReadRow}
+use Rattle.lset_steps.proofs.ReadTables.{HasReadRows, in_each_read_row}
 use Rattle.lset_steps.proofs.ReadOutline.{Reading, begun_reading_is, reading_on, call_begins, reads_on, even_or_odd}
 use Rattle.lset_steps.proofs.UnlockedWalk.{Spot, spot_kept, spot_behind_head, next_inside}
 use Rattle.lset_steps.proofs.ReadWalk.{ShowsReading, low_row}
@@ -36,25 +36,22 @@ use Rattle.lset_steps.proofs.Turns.{Turn, due_of, Follows, no_locks}
 use Rattle.lset_steps.proofs.Turns.Turn.{passes, changes, answers, ends}
 use Rattle.lset_lock_free.specs.LockFree.{lock_free, targets, decision_of, at_key, at_link, again, next_action, fed_by, effect_of}
 
--- at some moment from first to now pred was in the chain, below the key, and curr came after it
-pub record Link (vs : ℕ → View) (first now key pred curr t count : ℕ) : Type 0 where
+-- at some moment from first to now a was in the chain, b came after it, and P held
+pub record Was (vs : ℕ → View) (first now a b t count : ℕ) (P : View → Type 0) : Type 0 where
   pub at : ℕ
   pub from : first ≤ at
   pub upto : at ≤ now
-  pub in_chain : InChain (vs at) pred
-  pub next : (vs at).link pred / 2 ≡ curr
-  pub below : (vs at).key pred < key
+  pub in_chain : InChain (vs at) a
+  pub next : (vs at).link a / 2 ≡ b
+  pub holds : P (vs at)
   pub same_count : (vs at).used t ≡ count
 
--- at some moment from first to now curr was in the chain, without a mark, and succ came after it
-pub record Open (vs : ℕ → View) (first now curr succ t count : ℕ) : Type 0 where
-  pub at : ℕ
-  pub from : first ≤ at
-  pub upto : at ≤ now
-  pub in_chain : InChain (vs at) curr
-  pub unmarked : (vs at).link curr % 2 ≡ 0
-  pub next : (vs at).link curr / 2 ≡ succ
-  pub same_count : (vs at).used t ≡ count
+-- pred was below the key; curr was without a mark
+abbrev pub Link : (ℕ → View) → ℕ → ℕ → ℕ → ℕ → ℕ → ℕ → ℕ → Type 0
+Link vs first now key pred curr t count = Was vs first now pred curr t count (λ v. v.key pred < key)
+
+abbrev pub Open : (ℕ → View) → ℕ → ℕ → ℕ → ℕ → ℕ → ℕ → Type 0
+Open vs first now curr succ t count = Was vs first now curr succ t count (λ v. v.link curr % 2 ≡ 0)
 
 -- one line for each place, and one for those of a contains or a ceiling
 pub data At (q t : ℕ) (vs : ℕ → View) (first now : ℕ) (v : View) (done : Bool) (l : Local) : Type 0 where
@@ -86,52 +83,28 @@ pub data At (q t : ℕ) (vs : ℕ → View) (first now : ℕ) (v : View) (done :
   at_read : Reading vs first now done l → At q t vs first now v done l
 
 -- WHAT STAYS
-link_on : {vs : ℕ → View} {first now key pred curr t count count' : ℕ} → count' ≡ count → Link vs first now key pred curr t count
-    → Link vs first (suc now) key pred curr t count'
-link_on {now = now} e a = record {
-  at = a.at;
-  from = a.from;
-  upto = (let u : a.at ≤ now = a.upto in omega arith);
-  in_chain = a.in_chain;
-  next = a.next;
-  below = a.below;
-  same_count = a.same_count ∙ sym e;
-}
-
-open_on : {vs : ℕ → View} {first now curr succ t count count' : ℕ} → count' ≡ count → Open vs first now curr succ t count
-    → Open vs first (suc now) curr succ t count'
-open_on {now = now} e a = record {
-  at = a.at;
-  from = a.from;
-  upto = (let u : a.at ≤ now = a.upto in omega arith);
-  in_chain = a.in_chain;
-  unmarked = a.unmarked;
-  next = a.next;
-  same_count = a.same_count ∙ sym e;
+was_on : {vs : ℕ → View} {first now a b t count count' : ℕ} {P : View → Type 0} → count' ≡ count
+    → Was vs first now a b t count P → Was vs first (suc now) a b t count' P
+was_on {now = now} e x = record {
+  at = x.at;
+  from = x.from;
+  upto = (let u : x.at ≤ now = x.upto in omega arith);
+  in_chain = x.in_chain;
+  next = x.next;
+  holds = x.holds;
+  same_count = x.same_count ∙ sym e;
 }
 
 -- the present is a moment of the call
-link_now : {vs : ℕ → View} {first now key pred curr t : ℕ} {v : View} → vs now ≡ v → first ≤ now → InChain v pred
-    → v.link pred / 2 ≡ curr → v.key pred < key → Link vs first now key pred curr t (v.used t)
-link_now {vs} {first} {now} {key} {pred} {curr} {t} {v} e from i next below = record {
+is_now : {vs : ℕ → View} {first now a b t : ℕ} {v : View} (P : View → Type 0) → vs now ≡ v → first ≤ now → InChain v a
+    → v.link a / 2 ≡ b → P v → Was vs first now a b t (v.used t) P
+is_now {vs} {first} {now} {a} {b} {t} {v} P e from i next holds = record {
   at = now;
   from = from;
   upto = omega arith;
-  in_chain = subst (λ x. InChain x pred) (sym e) i;
-  next = ap (λ x. x.link pred / 2) e ∙ next;
-  below = subst (λ x. x.key pred < key) (sym e) below;
-  same_count = ap (λ x. x.used t) e;
-}
-
-open_now : {vs : ℕ → View} {first now curr succ t : ℕ} {v : View} → vs now ≡ v → first ≤ now → InChain v curr
-    → v.link curr % 2 ≡ 0 → v.link curr / 2 ≡ succ → Open vs first now curr succ t (v.used t)
-open_now {vs} {first} {now} {curr} {succ} {t} {v} e from i unmarked next = record {
-  at = now;
-  from = from;
-  upto = omega arith;
-  in_chain = subst (λ x. InChain x curr) (sym e) i;
-  unmarked = ap (λ x. x.link curr % 2) e ∙ unmarked;
-  next = ap (λ x. x.link curr / 2) e ∙ next;
+  in_chain = subst (λ x. InChain x a) (sym e) i;
+  next = ap (λ x. x.link a / 2) e ∙ next;
+  holds = subst P (sym e) holds;
   same_count = ap (λ x. x.used t) e;
 }
 
@@ -152,13 +125,13 @@ module _ (q t : ℕ) (vs : ℕ → View) (first now : ℕ) (v w : View) (done : 
   marked_on p e = r.marked l.curr p (omega arith) ∙ e
 
   stays : At q t vs first now v done l → At q t vs first (suc now) w done l
-  unfolding link_on open_on
+  unfolding was_on
   stays (at0 e) = at0 e
   stays (at1 e d) = at1 e d
-  stays (at2 e d s k) = at2 e d (spot_kept g s) (link_on r.used k)
-  stays (at2_now e d s f i n) = at2 e d (spot_kept g s) (link_on r.used (link_now present f i n s.below))
+  stays (at2 e d s k) = at2 e d (spot_kept g s) (was_on r.used k)
+  stays (at2_now e d s f i n) = at2 e d (spot_kept g s) (was_on r.used (is_now (λ x. x.key l.pred < target l.call) present f i n s.below))
   stays (at3 e d s p m) = at3 e d (spot_kept g s) (g.grows l.succ p) (marked_on s.curr_published m)
-  stays (at4 e d s p k o b) = at4 e d (spot_kept g s) (g.grows l.succ p) (link_on r.used k) (open_on r.used o) b
+  stays (at4 e d s p k o b) = at4 e d (spot_kept g s) (g.grows l.succ p) (was_on r.used k) (was_on r.used o) b
   stays (at5 e d s a) = at5 e d (spot_kept g s) (adding_kept g r.used s.curr_published a)
   stays (at6 e d s a x) = at6 e d (spot_kept g s) (adding_kept g r.used s.curr_published a) (own_key_on a.room x)
   stays (at7 e d s a x y) = at7 e d (spot_kept g s) (adding_kept g r.used s.curr_published a) (own_key_on a.room x)
@@ -170,31 +143,14 @@ module _ (q t : ℕ) (vs : ℕ → View) (first now : ℕ) (v w : View) (done : 
 
 -- its contains and its ceiling have the rows that take no lock
 pub has_read_rows : HasReadRows lock_free
-has_read_rows = record { begins = λ call l. refl; acts = acts; feeds = feeds; tells = tells }
-  where
-    acts : (l : Local) → IsReadRow l.pc → next_action l ≡ read_action l
-    acts l (inl e) = rw e refl
-    acts l (inr (inl e)) = rw e refl
-    acts l (inr (inr (inl e))) = rw e refl
-    acts l (inr (inr (inr (inl e)))) = rw e refl
-    acts l (inr (inr (inr (inr (inl e))))) = rw e refl
-    acts l (inr (inr (inr (inr (inr e))))) = rw e refl
-
-    feeds : (l : Local) (seen : ℕ) → IsReadRow l.pc → fed_by l seen ≡ read_fed l seen
-    feeds l seen (inl e) = rw e refl
-    feeds l seen (inr (inl e)) = rw e refl
-    feeds l seen (inr (inr (inl e))) = rw e refl
-    feeds l seen (inr (inr (inr (inl e)))) = rw e refl
-    feeds l seen (inr (inr (inr (inr (inl e))))) = rw e refl
-    feeds l seen (inr (inr (inr (inr (inr e))))) = rw e refl
-
-    tells : (l : Local) (seen : ℕ) → IsReadRow l.pc → effect_of l seen ≡ None
-    tells l seen (inl e) = rw e refl
-    tells l seen (inr (inl e)) = rw e refl
-    tells l seen (inr (inr (inl e))) = rw e refl
-    tells l seen (inr (inr (inr (inl e)))) = rw e refl
-    tells l seen (inr (inr (inr (inr (inl e))))) = rw e refl
-    tells l seen (inr (inr (inr (inr (inr e))))) = rw e refl
+has_read_rows = record {
+  begins = λ call l. refl;
+  acts = λ l. in_each_read_row (λ n. next_action (record l { pc = n }) ≡ read_action (record l { pc = n }))
+      refl refl refl refl refl refl l.pc;
+  feeds = λ l seen. in_each_read_row (λ n. fed_by (record l { pc = n }) seen ≡ read_fed (record l { pc = n }) seen)
+      refl refl refl refl refl refl l.pc;
+  tells = λ l seen. in_each_read_row (λ n. effect_of (record l { pc = n }) seen ≡ None) refl refl refl refl refl refl l.pc;
+}
 
 -- THE ROWS
 module _ (sz : Sizes) (t : ℕ) (vs : ℕ → View) (first now : ℕ) (ws : List ℕ) (used : ℕ → ℕ) (done : Bool) (l : Local)
@@ -243,11 +199,11 @@ module _ (sz : Sizes) (t : ℕ) (vs : ℕ → View) (first now : ℕ) (ws : List
       passes (Load (link_index 0)) ws (record l { pc = 2; pred = 0; curr = s / 2 })
       (rw e refl) (rw e refl) (rw e refl) (reads (link_index 0) (omega arith))
       (keep_walk sz t 2 0 (s / 2) l (omega arith) (next_inside M 0 M.ordered.head_published) regs, refl, refl, λ y. omega arith)
-      (at2 refl d x (link_on refl (link_now h.present th.begun ([], refl) refl x.below)))
+      (at2 refl d x (was_on refl (is_now (λ y. y.key 0 < target l.call) h.present th.begun ([], refl) refl x.below)))
 
   go_2 : l.pc ≡ 2 → done ≡ false → Spot V (target l.call) l.pred l.curr
       → Link vs first now (target l.call) l.pred l.curr t (used t) → Goal
-  unfolding link_on open_on open_now
+  unfolding was_on is_now
   go_2 e d s k =
       let x : ℕ = node_link ws l.curr in let curr : l.curr < node_count sz = regs.curr in
       let next : V.published (x / 2) = next_published l.curr s.curr_published in
@@ -259,8 +215,8 @@ module _ (sz : Sizes) (t : ℕ) (vs : ℕ → View) (first now : ℕ) (ws : List
         | inl even ↦ passes (Load (link_index l.curr)) ws (record l { pc = 4; succ = x / 2 })
             (rw e refl) (feeds ∙ if_same (x % 2) 0 even open_at marked_at) (rw e refl) read
             (keep_succ sz t 4 (x / 2) l.reply l (next_inside M l.curr s.curr_published) regs, refl, refl, λ y. omega arith)
-            (at4 refl d s next (link_on refl k)
-            (open_on refl (open_now h.present th.begun (live l.curr s.curr_published even) even refl)) k.upto)
+            (at4 refl d s next (was_on refl k)
+            (was_on refl (is_now (λ y. y.link l.curr % 2 ≡ 0) h.present th.begun (live l.curr s.curr_published even) refl even)) k.upto)
         | inr odd ↦ passes (Load (link_index l.curr)) ws (record l { pc = 3; succ = x / 2 })
             (rw e refl) (feeds ∙ if_other (x % 2) 0 (omega arith) open_at marked_at) (rw e refl) read
             (keep_succ sz t 3 (x / 2) l.reply l (next_inside M l.curr s.curr_published) regs, refl, refl, λ y. omega arith)
@@ -364,14 +320,14 @@ module _ (sz : Sizes) (t : ℕ) (vs : ℕ → View) (first now : ℕ) (ws : List
         let c0 : l.curr ≢ 0 = λ f. (let g : node_key ws l.curr ≡ node_key ws 0 = ap (node_key ws) f in omega arith) in
         let c1 : l.curr ≢ 1 = λ f. (let g : node_key ws l.curr ≡ node_key ws 1 = ap (node_key ws) f in omega arith) in
         decided_at s o.at o.from o.upto o.same_count
-        (λ z. (l.curr, o.in_chain, omega arith, sym (key_then l.curr o.at o.upto o.in_chain) ∙ sym is ∙ y, o.unmarked))
+        (λ z. (l.curr, o.in_chain, omega arith, sym (key_then l.curr o.at o.upto o.in_chain) ∙ sym is ∙ y, o.holds))
         (λ z. absurd (other_number s (target l.call) z y))
         (own_ceiling (vs o.at) s y low
-        (l.curr, o.in_chain, omega arith, sym (key_then l.curr o.at o.upto o.in_chain) ∙ sym is ∙ y, o.unmarked)))
+        (l.curr, o.in_chain, omega arith, sym (key_then l.curr o.at o.upto o.in_chain) ∙ sym is ∙ y, o.holds)))
     | inr y ↦
         (let ord : IsOrdered (vs k.at) = h.course.ordered k.at k.upto in
         let pred : node_key ws l.pred ≡ (vs k.at).key l.pred = key_then l.pred k.at k.upto k.in_chain in
-        let below : (vs k.at).key l.pred < target l.call = k.below in
+        let below : (vs k.at).key l.pred < target l.call = k.holds in
         let user : l.pred ≢ 1 = below_tail l.pred (omega arith) in
         let inn : InChain (vs k.at) l.curr = chain_on (vs k.at) l.pred l.curr l.curr [] k.in_chain user k.next refl in
         let curr : node_key ws l.curr ≡ (vs k.at).key l.curr = key_then l.curr k.at k.upto inn in
@@ -382,7 +338,7 @@ module _ (sz : Sizes) (t : ℕ) (vs : ℕ → View) (first now : ℕ) (ws : List
         (end_then 1 k.at k.upto ord.tail_published ∙ M.tail_key) k.in_chain user below
         (is ∙ curr ∙ ap (vs k.at).key (sym k.next)) above
         (λ lt. ap (λ x. (vs k.at).link x % 2) k.next ∙ unmarked_before vs now l.curr k.at o.at h.course before o.upto
-        (in_chain_published (vs k.at) ord l.curr inn) o.unmarked)))
+        (in_chain_published (vs k.at) ord l.curr inn) o.holds)))
   ]
 
   go_4 : l.pc ≡ 4 → done ≡ false → Spot V (target l.call) l.pred l.curr → V.published l.succ
@@ -405,7 +361,7 @@ module _ (sz : Sizes) (t : ℕ) (vs : ℕ → View) (first now : ℕ) (ws : List
               upto = (let u : o.at ≤ now = o.upto in omega arith);
               in_chain = o.in_chain;
               next = o.next;
-              below = (let z : node_key ws l.curr ≡ (vs o.at).key l.curr = key_then l.curr o.at o.upto o.in_chain in omega arith);
+              holds = (let z : node_key ws l.curr ≡ (vs o.at).key l.curr = key_then l.curr o.at o.upto o.in_chain in omega arith);
               same_count = o.same_count;
             }))
         | inr ge ↦ elim (decides x refl ge k o b) [
@@ -529,7 +485,7 @@ module _ (sz : Sizes) (t : ℕ) (vs : ℕ → View) (first now : ℕ) (ws : List
   go (at0 e) busy = absurd (busy e)
   go (at1 e d) busy = go_1 e d
   go (at2 e d s k) busy = go_2 e d s k
-  go (at2_now e d s f i x) busy = go_2 e d s (link_now h.present f i x s.below)
+  go (at2_now e d s f i x) busy = go_2 e d s (is_now (λ y. y.key l.pred < target l.call) h.present f i x s.below)
   go (at3 e d s p m) busy = go_3 e d s p m
   go (at4 e d s p k o b) busy = go_4 e d s p k o b
   go (at5 e d s a) busy = go_5 e d s a

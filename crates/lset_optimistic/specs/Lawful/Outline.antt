@@ -4,14 +4,13 @@ use Rattle.std.specs.Prelude.{if◌then◌else◌, ◌==◌, slice_set, refl}
 use Rattle.std.proofs.Common.{arith, inl, inr, sym, ◌∙◌, ap, subst}
 use Rattle.lset_words.proofs.Numbers.{same_or_not, if_same, if_other, if_below, if_not_below, below_or_not}
 use Rattle.lset_words.specs.Words.{key_index, link_index, lock_index, node_count, slot_node, target, key_of, Sizes}
-use Rattle.lset_words.specs.declared.Call.{Call}
 use Rattle.lset_words.specs.declared.Reply.{Reply}
 use Rattle.lset_words.specs.declared.Reply.TheVariants.{True}
 use Rattle.lset_steps.specs.declared.Local.{Local}
 use Rattle.lset_steps.specs.declared.Action.TheVariants.{Load, Store}
 use Rattle.lset_steps.specs.Chain.{View, view, InChain, FitsIn, node_key, node_link, node_lock}
 use Rattle.lset_steps.proofs.Moves.{KeepsNodes}
-use Rattle.lset_steps.specs.Laws.{Registers, Due}
+use Rattle.lset_steps.specs.Laws.{Registers}
 use Rattle.lset_steps.proofs.Memory.{Memory, own_of, one_more, one_more_same, link_wrote, key_wrote, lock_wrote, own_in, inner}
 use Rattle.lset_steps.proofs.Memory.{inside}
 use Rattle.lset_steps.proofs.AfterWrite.{lock_after_link, lock_after_lock, key_after_link}
@@ -23,11 +22,12 @@ use Rattle.lset_steps.specs.Rows.{decided_on, goes_to, own_slot}
 use Rattle.lset_steps.proofs.Held.{Held, Behind, Between, Leaves, LockedStep, head_held, rely_same, leaves_of, held_on}
 use Rattle.lset_steps.proofs.Held.{between_on, adding_on, removing_on, own_key_on, own_link_on, reads_word, frees, writes_own_key}
 use Rattle.lset_steps.proofs.Held.{writes_own_link, puts_between, held_from, behind_from, curr_is_not_pred, found_next}
-use Rattle.lset_steps.proofs.Held.{drops_between, stays_behind, decides, leaves_locked, leaves_own_key, leaves_own_link}
+use Rattle.lset_steps.proofs.Held.{drops_between, stays_behind, leaves_locked, leaves_own_key, leaves_own_link}
 use Rattle.lset_steps.proofs.UnlockedWalk.{Spot, Found, found_apart, same_key_kept, spot_kept, found_kept, spot_behind}
 use Rattle.lset_steps.proofs.UnlockedWalk.{spot_behind_head, next_inside, small_key, keeps_locked}
 use Rattle.lset_steps.proofs.SecondWalk.{SecondWalk, second_walk_begins, second_walk_on, second_walk_goes, second_walk_arrives}
-use Rattle.lset_steps.proofs.Turns.{Turn, Follows, node_locks, due_on, due_now, tries}
+use Rattle.lset_steps.proofs.Decision.{decides}
+use Rattle.lset_steps.proofs.Turns.{Turn, Follows, Outcome, node_locks, outcome_on, due_now, tries}
 use Rattle.lset_steps.proofs.Turns.Turn.{passes, changes, answers}
 use Rattle.lset_optimistic.specs.Optimistic.{optimistic, targets}
 
@@ -49,11 +49,6 @@ Window v l = Reached v (target l.call) l.pred l.pkey l.curr l.ckey
 -- what the rows after the second walk stand on: pred and curr are locked, neighbours, and the walk has come to pred
 abbrev pub Neighbours : View → ℕ → Local → Type 0
 Neighbours v t l = Between v t (target l.call) l.pred l.curr × (l.node ≡ l.pred)
-
--- what a call that is about to give its locks back is due: none, and then it begins again, or its reply
-abbrev pub Outcome : Bool → ℕ → (ℕ → View) → ℕ → ℕ → ℕ → Call → Option Reply → Type 0
-Outcome done q vs first now t call None = done ≡ false
-Outcome done q vs first now t call (Some reply) = Due done q vs first now t call reply
 
 -- one line for each place
 pub data At (q t : ℕ) (vs : ℕ → View) (first now : ℕ) (v : View) (done : Bool) (l : Local) : Type 0 where
@@ -83,11 +78,6 @@ pub data At (q t : ℕ) (vs : ℕ → View) (first now : ℕ) (v : View) (done :
   at14 : l.pc ≡ 14 → v.lock l.pred ≡ t + 1 → v.lock l.curr ≡ t + 1 → l.curr ≢ l.pred → (l.node ≡ l.pred → InChain v l.pred)
       → Outcome done q vs first now t l.call l.reply → At q t vs first now v done l
   at15 : l.pc ≡ 15 → v.lock l.curr ≡ t + 1 → Outcome done q vs first now t l.call l.reply → At q t vs first now v done l
-
-pub outcome_on : (done : Bool) (q : ℕ) (vs : ℕ → View) (first now t : ℕ) (call : Call) (reply : Option Reply)
-    → Outcome done q vs first now t call reply → Outcome done q vs first (suc now) t call reply
-outcome_on done q vs first now t call None o = o
-outcome_on done q vs first now t call (Some reply) o = due_on done q vs first now t call reply o
 
 -- what the others leave of it
 module _ (q t : ℕ) (vs : ℕ → View) (first now : ℕ) (v w : View) (done : Bool) (l : Local) (present : vs now ≡ v)
@@ -136,9 +126,8 @@ decision {sz} {t} {ws} {used} m l tn regs count f c x leads =
     subst (Behind (view sz ws used) t (target l.call) l.pred) leads
     (behind_from m x (m.marked l.pred x.published) f.found.spot.below regs.low) in (
       record { walk = walk; mine = c },
-      decides m targets l.ckey l walk (m.marked l.curr f.found.spot.curr_published) (sym f.found.is) f.found.above regs.low
-          (m.room t tn)
-          count regs.quota,
+      decides m t targets l.ckey l walk.held.at walk.inner walk.follows walk.below (m.marked l.curr f.found.spot.curr_published)
+          (sym f.found.is) f.found.above regs.low (m.room t tn) count regs.quota,
     )
 
 module _ (sz : Sizes) (t : ℕ) (vs : ℕ → View) (first now : ℕ) (ws : List ℕ) (used : ℕ → ℕ) (done : Bool) (l : Local)
