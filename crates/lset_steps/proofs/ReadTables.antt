@@ -1,5 +1,6 @@
 -- A table whose contains and ceiling have the rows of `ReadRows`.
 use Rattle.std.specs.Prelude.{◌≡◌, ◌⊎◌, ℕ, None}
+use Rattle.std.proofs.Common.{inl, inr, sym, subst}
 use Rattle.lset_words.specs.declared.Call.{Call}
 use Rattle.lset_steps.specs.declared.Local.{Local}
 use Rattle.lset_steps.specs.Steps.{Table}
@@ -13,3 +14,12 @@ pub record HasReadRows (T : Table) : Type 0 where
   pub acts : (l : Local) → IsReadRow l.pc → T.next l ≡ read_action l
   pub feeds : (l : Local) (seen : ℕ) → IsReadRow l.pc → T.feed l seen ≡ read_fed l seen
   pub tells : (l : Local) (seen : ℕ) → IsReadRow l.pc → T.effect l seen ≡ None
+
+-- what is so at each of these rows
+pub each_read_row : (P : ℕ → Type 0) → P 20 → P 21 → P 22 → P 23 → P 24 → P 25 → (pc : ℕ) → IsReadRow pc → P pc
+each_read_row P a b c d e f pc (inl is) = subst P (sym is) a
+each_read_row P a b c d e f pc (inr (inl is)) = subst P (sym is) b
+each_read_row P a b c d e f pc (inr (inr (inl is))) = subst P (sym is) c
+each_read_row P a b c d e f pc (inr (inr (inr (inl is)))) = subst P (sym is) d
+each_read_row P a b c d e f pc (inr (inr (inr (inr (inl is))))) = subst P (sym is) e
+each_read_row P a b c d e f pc (inr (inr (inr (inr (inr is))))) = subst P (sym is) f
