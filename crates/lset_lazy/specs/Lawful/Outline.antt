@@ -20,7 +20,7 @@ use Rattle.lset_steps.proofs.Replies.{Adding, Removing, removing_kept, registers
 use Rattle.lset_steps.proofs.Replies.{keep_walk}
 use Rattle.lset_steps.specs.Rows.{decided_on, goes_to, own_slot}
 use Rattle.lset_steps.specs.ReadRows.{first_row, read_action, read_fed, continued}
-use Rattle.lset_steps.proofs.ReadTables.{HasReadRows, IsReadRow}
+use Rattle.lset_steps.proofs.ReadTables.{HasReadRows, each_read_row}
 use Rattle.lset_steps.proofs.ReadOutline.{Reading, begun_reading_is, reading_on, call_begins, reads_on, even_or_odd}
 use Rattle.lset_steps.proofs.Held.{Between, Leaves, LockedStep, in_chain, leaves_of, between_on, adding_on, removing_on}
 use Rattle.lset_steps.proofs.Held.{own_key_on, own_link_on, reads_word, frees, writes_own_key, writes_own_link, puts_between}
@@ -115,31 +115,14 @@ module _ (q t : ℕ) (vs : ℕ → View) (first now : ℕ) (v w : View) (done : 
 
 -- its contains and its ceiling have the rows that take no lock
 pub has_read_rows : HasReadRows lazy
-has_read_rows = record { begins = λ call l. refl; acts = acts; feeds = feeds; tells = tells }
-  where
-    acts : (l : Local) → IsReadRow l.pc → next_action l ≡ read_action l
-    acts l (inl e) = rw e refl
-    acts l (inr (inl e)) = rw e refl
-    acts l (inr (inr (inl e))) = rw e refl
-    acts l (inr (inr (inr (inl e)))) = rw e refl
-    acts l (inr (inr (inr (inr (inl e))))) = rw e refl
-    acts l (inr (inr (inr (inr (inr e))))) = rw e refl
-
-    feeds : (l : Local) (seen : ℕ) → IsReadRow l.pc → fed_by l seen ≡ read_fed l seen
-    feeds l seen (inl e) = rw e refl
-    feeds l seen (inr (inl e)) = rw e refl
-    feeds l seen (inr (inr (inl e))) = rw e refl
-    feeds l seen (inr (inr (inr (inl e)))) = rw e refl
-    feeds l seen (inr (inr (inr (inr (inl e))))) = rw e refl
-    feeds l seen (inr (inr (inr (inr (inr e))))) = rw e refl
-
-    tells : (l : Local) (seen : ℕ) → IsReadRow l.pc → effect_of l seen ≡ None
-    tells l seen (inl e) = rw e refl
-    tells l seen (inr (inl e)) = rw e refl
-    tells l seen (inr (inr (inl e))) = rw e refl
-    tells l seen (inr (inr (inr (inl e)))) = rw e refl
-    tells l seen (inr (inr (inr (inr (inl e))))) = rw e refl
-    tells l seen (inr (inr (inr (inr (inr e))))) = rw e refl
+has_read_rows = record {
+  begins = λ call l. refl;
+  acts = λ l. each_read_row (λ pc. next_action (record l { pc = pc }) ≡ read_action (record l { pc = pc }))
+      refl refl refl refl refl refl l.pc;
+  feeds = λ l seen. each_read_row (λ pc. fed_by (record l { pc = pc }) seen ≡ read_fed (record l { pc = pc }) seen)
+      refl refl refl refl refl refl l.pc;
+  tells = λ l seen. each_read_row (λ pc. effect_of (record l { pc = pc }) seen ≡ None) refl refl refl refl refl refl l.pc;
+}
 
 -- THE ROWS
 module _ (sz : Sizes) (t : ℕ) (vs : ℕ → View) (first now : ℕ) (ws : List ℕ) (used : ℕ → ℕ) (done : Bool) (l : Local)
