@@ -5,7 +5,6 @@ use Rattle.std.proofs.Common.{arith, inl, inr, sym, ◌∙◌, ap, subst}
 use Rattle.lset_words.proofs.Numbers.{same_or_not, below_or_not, if_same, if_other, if_below, if_not_below, same_number}
 use Rattle.lset_words.proofs.Numbers.{other_number, lower_number, not_lower_number}
 use Rattle.lset_words.specs.Words.{key_index, link_index, tail_word, node_count, word_count, slot_node, target, key_of, Sizes}
-use Rattle.lset_words.specs.declared.Call.{Call}
 use Rattle.lset_words.specs.declared.Key.{Key}
 use Rattle.lset_words.specs.declared.Reply.{Reply}
 use Rattle.lset_words.specs.declared.Reply.TheVariants.{True}
@@ -24,7 +23,8 @@ use Rattle.lset_steps.proofs.AfterWrite.{set_same, key_after_link, list_lock_aft
 use Rattle.lset_steps.proofs.QuietMove.{in_chain_published, quiet_keeps}
 use Rattle.lset_steps.proofs.Discipline.{Discipline, StepOf, Here, Thread}
 use Rattle.lset_steps.proofs.Replies.{Adding, Removing, registers_begun, keep_more, decided_cases, absent_between, ceiling_fits}
-use Rattle.lset_steps.proofs.Replies.{fitted_on, or_false, fed, fed_is, keep, keep_ckey, keep_succ, keep_walk}
+use Rattle.lset_steps.proofs.Turns.{due_on}
+use Rattle.lset_steps.proofs.Replies.{or_false, fed, fed_is, keep, keep_ckey, keep_succ, keep_walk}
 use Rattle.lset_steps.specs.Rows.{decided, goes_to, own_slot}
 use Rattle.lset_coarse.specs.Coarse.{coarse, next_action, local_after, fed_by, effect_of}
 
@@ -56,11 +56,6 @@ pub data At (q t : ℕ) (vs : ℕ → View) (first now : ℕ) (v : View) (done :
       → v.link l.curr / 2 ≡ l.succ → At q t vs first now v done l
   at10 : l.pc ≡ 10 → v.list_lock ≡ t + 1 → (r : Reply) → l.reply ≡ Some r → Due done q vs first now t l.call r
       → At q t vs first now v done l
-
-due_on : (done : Bool) (q : ℕ) (vs : ℕ → View) (first now t : ℕ) (call : Call) (r : Reply)
-    → Due done q vs first now t call r → Due done q vs first (suc now) t call r
-due_on true q vs first now t call r d = d
-due_on false q vs first now t call r d = fitted_on q vs first now (suc now) t call r (omega arith) d
 
 -- time goes on
 pub waits : (q t : ℕ) (vs : ℕ → View) (first now : ℕ) (v : View) (done : Bool) (l : Local)
