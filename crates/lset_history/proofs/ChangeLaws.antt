@@ -1,6 +1,6 @@
 -- What one more change of a key makes of whether keys are there.
 use Rattle.std.proofs.Common.{◌≡◌, ◌≢◌, ℕ, zero, suc, ◌+◌, ◌<◌, ◌≤◌, ◌⊎◌, inl, inr, Bool, true, false, not, List, [], ◌∷◌, ◌++◌}
-use Rattle.std.proofs.Common.{length, get_or, sym, refl, subst, ap, ◌∙◌, arith}
+use Rattle.std.proofs.Common.{length, get_or, sym, refl, ap, ◌∙◌, arith}
 use Rattle.std.specs.Prelude.{All, ◌==◌, nat_lt, if◌then◌else◌}
 use Rattle.std.proofs.lemmas.Bool.{lt-ltb, le-ltb}
 use Rattle.std.proofs.lemmas.List.{get_or_push, get_or_append_left, length_push}
@@ -96,10 +96,6 @@ state_after_change b [] at = refl
 state_after_change b (m ∷ ms) at = state_after_change (not b) ms at
 
 module _ (c d : ChangesValue) (key last at : ℕ) (noted : (k : ℕ) → moments_of d k ≡ with_change (moments_of c) key at k) where
-  pub noted_upto : ((k : ℕ) → All (λ m. m ≤ last) (moments_of c k)) → last ≤ at → (k : ℕ) → All (λ m. m ≤ at) (moments_of d k)
-  noted_upto upto later k = subst (λ ms. All (λ m. m ≤ at) ms) (sym (noted k))
-      (all_upto_change (moments_of c) key last at k (upto k) later)
-
   pub noted_now : (present : Bool) → present ≡ not (is_present_now (moments_of c) key) →
       is_present_now (moments_of d) key ≡ present
   noted_now present turn = ap (λ ms. state_after false ms) (noted key)

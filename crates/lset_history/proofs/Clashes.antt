@@ -13,7 +13,8 @@ use Rattle.lset_words.specs.History.{call_numbered, no_call, IsHistory, Precedes
 use Rattle.lset_history.specs.History.{HistoryValue}
 use Rattle.lset_history.specs.Faults.{Passes, RefusesFirst, IsUnknown, IsTwice, HasWrongReply, place_at, placed_call, set_left_by}
 use Rattle.lset_history.specs.Checks.{HasKnownCalls}
-use Rattle.lset_history.specs.Refusals.{StandsBefore, EndedOtherwise, AnsweredOtherwise, IsOtherEnd, set_before}
+use Rattle.lset_history.specs.Refusals.{StandsBefore, AnsweredOtherwise, set_before}
+use Rattle.lset_history.proofs.Places.{IsWrong}
 use Rattle.lset_history.proofs.Histories.{IsCall, calls_of}
 
 -- no place is refused as unknown, so the calls are known
@@ -47,11 +48,6 @@ known_before calls order i known k d low =
     let short : k < i = omega (arith, length-take i order) in
     subst P (sym (get_or-take i order k d short)) (known k d (omega (arith, length-take i order)))
 
-abbrev IsWrong : ℕ → SetState → List CallRecord → List Placed → Placed → Type 0
-IsWrong quota s calls front p =
-    IsSomeAnd (call_numbered calls p.call).ended (λ (end : ℕ × Reply). end.1 ≢ p.reply)
-    ⊎ (reply_to quota (set_left_by s calls front) (call_numbered calls p.call).thread (call_numbered calls p.call).call ≢ p.reply)
-
 pub replies_before : (quota : ℕ) (s : SetState) (calls : List CallRecord) (order : List Placed) (i : ℕ)
     → ((k : ℕ) → k < i → HasWrongReply quota s calls order k → ⊥)
     → Passes (HasWrongReply quota s calls (take i order)) (take i order)
@@ -77,23 +73,6 @@ wrong_here h order call index once w inside stands first =
 read_call : (h : HistoryValue) (calls : List CallRecord) (call : ℕ) (d : CallRecord) → calls ≡ h.calls → call < length h.calls
     → get_or calls call d ≡ call_numbered h.calls call
 read_call h calls call d e low = ap (λ (xs : List CallRecord). get_or xs call d) e ∙ get_or_default h.calls call d no_call low
-
-pub ended_otherwise : (h : HistoryValue) (order : List Placed) (calls : List CallRecord) (call index : ℕ) (d : CallRecord)
-    (ended : Reply)
-    → calls ≡ h.calls → HasKnownCalls h.calls order → index < length order → (place_at order index).call ≡ call
-    → IsOtherEnd (get_or calls call d) (place_at order index).reply (Some ended)
-    → EndedOtherwise h order call (index + 1) (place_at order index).reply ended
-ended_otherwise h order calls call index d ended e known inside stands (end, is, differ) =
-    let N : ℕ → Type 0 = λ n. n < length h.calls in
-    let low : call < length h.calls = subst N stands (known index (place_at [] 0) inside) in
-    record {
-      index = index;
-      at = record { counted = refl; inside = inside; stands = stands };
-      says_is = refl;
-      end = end;
-      ended_is = sym (ap (λ (x : CallRecord). x.ended) (read_call h calls call d e low)) ∙ is;
-      differ = differ;
-    }
 
 never_other : (o : Option (ℕ × Reply)) (says : Reply) → IfSome o (λ (end : ℕ × Reply). end.1 ≡ says)
     → IsSomeAnd o (λ (end : ℕ × Reply). end.1 ≢ says) → ⊥

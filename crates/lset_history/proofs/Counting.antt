@@ -34,10 +34,6 @@ below_rises ms rise i (suc j) l below = elim (last_or_before i j l) [
     last_or_before : (i j : ℕ) → i ≤ suc j → (i ≡ suc j) ⊎ (i ≤ j)
     last_or_before i j l = grind arith
 
-not_not : (b : Bool) → not (not b) ≡ b
-not_not true = refl
-not_not false = refl
-
 turned_not : (n : ℕ) (b : Bool) → turned n (not b) ≡ not (turned n b)
 turned_not zero b = refl
 turned_not (suc n) b = turned_not n (not b)

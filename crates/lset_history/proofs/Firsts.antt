@@ -3,26 +3,6 @@ use Rattle.std.proofs.Common.{◌≡◌, ℕ, zero, suc, ◌+◌, ◌<◌, ◌�
 use Rattle.std.specs.Prelude.{Option, Some, None, if◌then◌else◌}
 use Rattle.lset_history.specs.Changes.{IsFirst}
 
-module _ (P : ℕ → Type 0) (first : ℕ) where
-  pub first_begins : P first → IsFirst P first first (Some first)
-  first_begins h = (omega arith, omega arith, h, λ m a b i. absurd (omega arith))
-
-  pub none_begins : (P first → ⊥) → IsFirst P first first None
-  none_begins n = λ m a b i. n (let e : m ≡ first = omega arith in subst P e i)
-
-  pub first_stays : (last k : ℕ) → IsFirst P first last (Some k) → IsFirst P first (suc last) (Some k)
-  first_stays last k h = let l : k ≤ last = h.1 in (h.0, omega arith, h.2, h.3)
-
-  pub first_comes : (last : ℕ) → first ≤ suc last → IsFirst P first last None → P (suc last)
-      → IsFirst P first (suc last) (Some (suc last))
-  first_comes last l n h = (l, omega arith, h, λ m a b i. n m a (omega arith) i)
-
-  pub none_stays : (last : ℕ) → IsFirst P first last None → (P (suc last) → ⊥) → IsFirst P first (suc last) None
-  none_stays last n h = λ m a b i. elim (end m last b) [ inl e ↦ h (subst P e i) | inr l ↦ n m a l i ]
-    where
-      end : (m last : ℕ) → m ≤ suc last → (m ≡ suc last) ⊎ (m ≤ last)
-      end m last b = grind arith
-
 -- the first moment from `first` on, among itself and so many after it, at which a test answers as asked
 abbrev pub is_same : Bool → Bool → Bool
 is_same true b = b
@@ -38,21 +18,18 @@ same_or_not true false = inr (refl, λ e. cc)
 same_or_not false true = inr (refl, λ e. cc)
 same_or_not false false = inl (refl, refl)
 
+first_or_after : (first m : ℕ) → first ≤ m → (m ≡ first) ⊎ (suc first ≤ m)
+first_or_after first m a = grind arith
+
 later_first : (P : ℕ → Type 0) (first last : ℕ) (o : Option ℕ) → (P first → ⊥) → IsFirst P (suc first) last o →
     IsFirst P first last o
 later_first P first last None n h = λ m a b i. elim (first_or_after first m a) [ inl e ↦ n (subst P e i) | inr l ↦ h m l b i ]
-  where
-    first_or_after : (first m : ℕ) → first ≤ m → (m ≡ first) ⊎ (suc first ≤ m)
-    first_or_after first m a = grind arith
 later_first P first last (Some k) n h = (
   (let a : suc first ≤ k = h.0 in omega arith),
   h.1,
   h.2,
   λ m a b i. elim (first_or_after first m a) [ inl e ↦ n (subst P e i) | inr l ↦ h.3 m l b i ],
 )
-  where
-    first_or_after : (first m : ℕ) → first ≤ m → (m ≡ first) ⊎ (suc first ≤ m)
-    first_or_after first m a = grind arith
 
 pub first_passing_is : (asked : Bool) (f : ℕ → Bool) (first n last : ℕ) → last ≡ first + n
     → IsFirst (λ m. f m ≡ asked) first last (first_passing asked f first n)

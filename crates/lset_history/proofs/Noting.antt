@@ -136,13 +136,7 @@ module _ (c : ChangesValue) (key at : ℕ) (later : IsLaterThanAll (moments_of c
 
   pub kept_beside : (old new : BTreeMap ℕ ℕ) (now : BTreeSet ℕ) → UpdatesBy nat_cmp (nat_cmp at) old new (Some key)
       → AreKept c old now → AreKept c new now
-  kept_beside old new now up kept = record {
-    opening = kept.opening;
-    rise = kept.rise;
-    bounded = kept.bounded;
-    listed = listed_beside old new up kept.listed;
-    present = kept.present;
-  }
+  kept_beside old new now up kept = assumption (listed_beside old new up kept.listed)
 
   pub kept_noted : (d : ChangesValue) → d.opening ≡ c.opening → (noted : (k : ℕ) → moments_of d k ≡ with_change (moments_of c) key at k)
       (keys_at : BTreeMap ℕ ℕ) (present : Bool) (old new : BTreeSet ℕ) → key < 2 ^ 32 → AreKept c keys_at old
@@ -160,24 +154,18 @@ module _ (c : ChangesValue) (key at : ℕ) (later : IsLaterThanAll (moments_of c
 -- the same of lists that have as much
 pub kept_listed : (c : ChangesValue) (old new : BTreeMap ℕ ℕ) (now : BTreeSet ℕ) → new.entries ≡ old.entries → AreKept c old now →
     AreKept c new now
-kept_listed c old new now e kept = record {
-  opening = kept.opening;
-  rise = kept.rise;
-  bounded = kept.bounded;
-  listed = subst (λ es. (k : ℕ) → All (λ m. 0 < m → lookup (is_at (nat_cmp m)) es ≡ Some k) (moments_of c k)) (sym e) kept.listed;
-  present = kept.present;
-}
+kept_listed c old new now e kept =
+    let listed : (k : ℕ) → All (IsListed new k) (moments_of c k) =
+    subst (λ es. (k : ℕ) → All (λ m. 0 < m → lookup (is_at (nat_cmp m)) es ≡ Some k) (moments_of c k)) (sym e) kept.listed in
+    assumption listed
 
 pub kept_present : (c : ChangesValue) (keys_at : BTreeMap ℕ ℕ) (old new : BTreeSet ℕ)
     → ((k : ℕ) → IsTrue (contains nat_cmp old k) → IsTrue (contains nat_cmp new k)) → AreKept c keys_at old →
     AreKept c keys_at new
-kept_present c keys_at old new more kept = record {
-  opening = kept.opening;
-  rise = kept.rise;
-  bounded = kept.bounded;
-  listed = kept.listed;
-  present = λ k now. more k (kept.present k now);
-}
+kept_present c keys_at old new more kept =
+    let present : (k : ℕ) → is_present_now (moments_of c) k ≡ true → IsTrue (contains nat_cmp new k) =
+    λ k now. more k (kept.present k now) in
+    assumption present
 
 -- what a set has after a key was put in, or taken out
 pub has_after : (key : ℕ) (old new : BTreeSet ℕ) → Updates nat_cmp old new key true → (k : ℕ) → IsTrue (contains nat_cmp old k)

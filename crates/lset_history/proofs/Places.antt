@@ -1,11 +1,10 @@
 -- Places of an order: which calls stand at the earlier ones, and what their replies come to.
 use Rattle.std.proofs.Common.{◌⊎◌, ◌≡◌, ◌≢◌, ℕ, zero, suc, ◌<◌, ◌≤◌, ◌+◌, ◌==◌, ◌||◌, Bool, true, false, List, [], ◌∷◌, length}
 use Rattle.std.proofs.Common.{get_or, take, map, Option, Some, None, refl, sym, ap, ◌∙◌, subst, ⊎_elim, inl, inr, arith, add-one}
-use Rattle.std.specs.List.{All}
 use Rattle.std.specs.Prelude.{set}
-use Rattle.std.proofs.lemmas.List.{take-take, get_or-take, length-take, get_or_past, get_or-set_same, get_or-set_other}
+use Rattle.std.proofs.lemmas.List.{take-take, get_or-take, length-take, get_or-set_same, get_or-set_other}
 use Rattle.std.proofs.lemmas.List.Folds.{list_any_more}
-use Rattle.std.proofs.lemmas.Bool.{cases_eq, cases_lt, eqb-true, eq-eqb, ne_eqb, or_cases, or_parts, or_right, false≢true}
+use Rattle.std.proofs.lemmas.Bool.{cases_eq, eqb-true, eq-eqb, ne_eqb, or_cases, or_parts, or_right, false≢true}
 use Rattle.std.proofs.Math.Bool.{or-false}
 use Rattle.std.specs.Option.{IfSome, IsSomeAnd}
 use Rattle.std.proofs.lemmas.List.Elements.{All-more}
@@ -41,12 +40,6 @@ stands_nowhere (p ∷ ps) (suc i) n h zero low inside = λ e.
     let parts = or_parts (p.call == n) (stands (take i ps) n) h in false≢true (sym parts.0 ∙ eq-eqb p.call n e)
 stands_nowhere (p ∷ ps) (suc i) n h (suc k) low inside =
     let parts = or_parts (p.call == n) (stands (take i ps) n) h in stands_nowhere ps i n parts.1 k (omega arith) (omega arith)
-
--- no place, and no mark
-pub marks_none : (marks : List Bool) (order : List Placed) → All (λ mark. mark ≡ false) marks → MarksCalls marks (take 0 order)
-marks_none marks order none q =
-    ⊎_elim (λ (low : q < length marks). none q false low) (λ (past : length marks ≤ q). get_or_past marks q false past)
-    (cases_lt q (length marks))
 
 -- one more place, whose call gets its mark
 pub marks_more : (marks : List Bool) (order : List Placed) (i : ℕ) → i < length order
@@ -162,12 +155,13 @@ pub passes_replies : (o : OracleValue) (calls : List CallRecord) (order : List P
 passes_replies o calls order h place low (inl w) = other_end _ _ (h.recorded place (place_at [] 0) low) w
 passes_replies o calls order h place low (inr w) = w (legal_at o.quota calls order place o.state low h.legal)
 
--- a wrong reply of an earlier place shows in the first i places alone
-abbrev IsWrong : ℕ → SetState → List CallRecord → List Placed → Placed → Type 0
+-- the reply of a place is wrong behind these
+abbrev pub IsWrong : ℕ → SetState → List CallRecord → List Placed → Placed → Type 0
 IsWrong quota s calls front p =
     IsSomeAnd (call_numbered calls p.call).ended (λ (end : ℕ × Reply). end.1 ≢ p.reply)
     ⊎ (reply_to quota (set_left_by s calls front) (call_numbered calls p.call).thread (call_numbered calls p.call).call ≢ p.reply)
 
+-- a wrong reply of an earlier place shows in the first i places alone
 wrong_in_front : (quota : ℕ) (s : SetState) (calls : List CallRecord) (order : List Placed) (i k : ℕ) → k < i
     → HasWrongReply quota s calls order k → HasWrongReply quota s calls (take i order) k
 wrong_in_front quota s calls order i k low w =

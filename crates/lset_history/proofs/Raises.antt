@@ -44,10 +44,6 @@ not_both : (b : Bool) → b ≡ true → b ≡ false → ⊥
 not_both true e f = cc
 not_both false e f = cc
 
-is_absent : (b : Bool) → (b ≡ true → ⊥) → b ≡ false
-is_absent true n = absurd (n refl)
-is_absent false n = refl
-
 module _ (changes : ℕ → List ℕ) (key : ℕ) (found : Option ℕ) where
   against_same : (o : Option ℕ) (j m n : ℕ) → is_present changes j n ≡ is_present changes j m →
       is_against changes key o j n ≡ is_against changes key o j m
@@ -254,9 +250,6 @@ abbrev pub CameUpTo : (ℕ → List ℕ) → ℕ → Option ℕ → Option ℕ �
 CameUpTo changes key next end moment =
     (j : ℕ) → key ≤ j → IsBelow j next → IsBelow j end → is_present_now changes j ≡ true → is_present changes j moment ≡ false
 
-pub none_looked_at : (changes : ℕ → List ℕ) (key : ℕ) (end : Option ℕ) (moment : ℕ) → CameUpTo changes key (Some key) end moment
-none_looked_at changes key end moment = λ j l u e now. absurd (omega arith)
-
 pub after_is_from : (changes : ℕ → List ℕ) (key k : ℕ) (o : Option ℕ) → key ≤ k → IsNextPresent changes k o → IsFrom key o
 after_is_from changes key k None l a = tt
 after_is_from changes key k (Some n) l a = let b : k < n = a.0 in omega arith
@@ -275,19 +268,6 @@ one_more_came changes key k end next moment after absent came = λ j l u e now. 
     | inr d ↦ absurd (not_both (is_present_now changes j) now (not_now_between changes k j next after (omega arith) u))
   ]
 ]
-
--- at the end of the keys
-reaches : (j k : ℕ) (end : Option ℕ) → (IsBelow k end → ⊥) → IsBelow j end → j < k
-reaches j k None past b = absurd (past tt)
-reaches j k (Some e) past b = elim (below_or_not k e) [ inl l ↦ absurd (past l) | inr g ↦ omega arith ]
-
-pub came_to_the_end : (changes : ℕ → List ℕ) (key k : ℕ) (end : Option ℕ) (moment : ℕ) → (IsBelow k end → ⊥)
-    → CameUpTo changes key (Some k) end moment → CameAfter changes key end moment
-came_to_the_end changes key k end moment past came = λ j l e now. came j l (reaches j k end past e) e now
-
-pub all_came : (changes : ℕ → List ℕ) (key : ℕ) (end : Option ℕ) (moment : ℕ) → CameUpTo changes key None end moment →
-    CameAfter changes key end moment
-all_came changes key end moment came = λ j l e now. came j l tt e now
 
 pub below_unless : (k : ℕ) (end : Option ℕ) (b : Bool) → b ≡ false → ((IsBelow k end → ⊥) → IsTrue b) → IsBelow k end
 below_unless k None b e f = tt

@@ -18,20 +18,15 @@ use Rattle.lset_history.proofs.Keys.{has_true, has_from, has_false, has_none, wi
 
 abbrev key_told : Reply → ℕ
 key_told (reply.At x) = x.0
-key_told True = 0
-key_told False = 0
-key_told Full = 0
-key_told reply.Nothing = 0
+key_told reply = 0
 
 -- a content and a list have the same keys
 abbrev pub SameKeys : Content → List ℕ → Type 0
 SameKeys content keys = (j : ℕ) → (content j → Contains keys j) × (Contains keys j → content j)
 
 pub rises_for : (call : Call) (keys : List ℕ) → RisesFrom 0 keys → RisesFor call keys
-rises_for (call.Add k) keys r = tt
-rises_for (call.Remove k) keys r = tt
-rises_for (call.Contains k) keys r = tt
 rises_for (call.Ceiling k) keys r = increasing_from_rises 0 keys r
+rises_for call keys r = tt
 
 -- the set gives that reply, and stays as it is
 abbrev pub Replies : ℕ → SetState → ℕ → Call → Reply → Type 0
@@ -53,32 +48,19 @@ module _ (quota : ℕ) (content : Content) (s : SetState) (same : SameKeys conte
   -- a reply that fits is the set's
   pub replies_from_fits : (thread count : ℕ) (call : Call) (reply : Reply) → RisesFor call s.keys → count_of s thread ≡ count
       → Fits quota content count call reply → Replies quota s thread call reply
-  replies_from_fits t n (call.Add k) True rising e f = absurd f
   replies_from_fits t n (call.Add k) False rising e f = let a : has_key k.0 s.keys ≡ true = member k.0 f in (rw a refl, refl)
   replies_from_fits t n (call.Add k) Full rising e f =
       let a : has_key k.0 s.keys ≡ false = no_member k.0 f.0 in
       let m : n ≡ quota = f.1 in
       let b : (count_of s t == quota) ≡ true = grind (arith, nat_tests) in
       (rw (a, b) refl, refl)
-  replies_from_fits t n (call.Add k) (reply.At x) rising e f = absurd f
-  replies_from_fits t n (call.Add k) reply.Nothing rising e f = absurd f
-  replies_from_fits t n (call.Remove k) True rising e f = absurd f
   replies_from_fits t n (call.Remove k) False rising e f =
       let a : has_key k.0 s.keys ≡ false = no_member k.0 f in
       (rw a refl, refl)
-  replies_from_fits t n (call.Remove k) Full rising e f = absurd f
-  replies_from_fits t n (call.Remove k) (reply.At x) rising e f = absurd f
-  replies_from_fits t n (call.Remove k) reply.Nothing rising e f = absurd f
   replies_from_fits t n (call.Contains k) True rising e f = let a : has_key k.0 s.keys ≡ true = member k.0 f in (rw a refl, refl)
   replies_from_fits t n (call.Contains k) False rising e f =
       let a : has_key k.0 s.keys ≡ false = no_member k.0 f in
       (rw a refl, refl)
-  replies_from_fits t n (call.Contains k) Full rising e f = absurd f
-  replies_from_fits t n (call.Contains k) (reply.At x) rising e f = absurd f
-  replies_from_fits t n (call.Contains k) reply.Nothing rising e f = absurd f
-  replies_from_fits t n (call.Ceiling k) True rising e f = absurd f
-  replies_from_fits t n (call.Ceiling k) False rising e f = absurd f
-  replies_from_fits t n (call.Ceiling k) Full rising e f = absurd f
   replies_from_fits t n (call.Ceiling k) (reply.At x) rising e f = (
     ceiling_found k.0 0 x s.keys (rises_from_increasing s.keys rising) (
       f.0,
@@ -91,91 +73,40 @@ module _ (quota : ℕ) (content : Content) (s : SetState) (same : SameKeys conte
     ceiling_none k.0 s.keys (λ j lo m. f j lo ((same j).1 m)),
     refl,
   )
+  replies_from_fits t n call reply rising e f = absurd f
 
   -- and the set's reply fits, where the set stays as it is
   pub fits_from_replies : (thread count : ℕ) (call : Call) (reply : Reply) → RisesFor call s.keys → count_of s thread ≡ count
       → Replies quota s thread call reply → Fits quota content count call reply
-  fits_from_replies t n (call.Add k) True rising e f = elim (cases_Bool (has_key k.0 s.keys)) [
-    | inl a ↦ absurd (let g : False ≡ True = rw a at f.0 in cc)
-    | inr a ↦ (let g : with_key k.0 s.keys ≡ s.keys = ap (λ z. z.keys) f.1 in
-        has_none k.0 s.keys a (subst (λ z. Contains z k.0) g (with_keeps k.0 k.0 s.keys (inl refl))))
-  ]
-  fits_from_replies t n (call.Add k) False rising e f = elim (cases_Bool (has_key k.0 s.keys)) [
-    | inl a ↦ is_member k.0 a
+  fits_from_replies t n (call.Add k) y rising e f = elim (cases_Bool (has_key k.0 s.keys)) [
+    | inl a ↦ subst (Fits quota content n (call.Add k)) (let g : False ≡ y = rw a at f.0 in g) (is_member k.0 a)
     | inr a ↦ elim (cases_Bool (count_of s t == quota)) [
-      | inl b ↦ absurd (let g : Full ≡ False = rw (a, b) at f.0 in cc)
-      | inr b ↦ absurd (let g : True ≡ False = rw (a, b) at f.0 in cc)
+      | inl b ↦ subst (Fits quota content n (call.Add k)) (let g : Full ≡ y = rw (a, b) at f.0 in g)
+          (is_none k.0 a, (let g : count_of s t ≡ quota = grind (arith, nat_tests) in sym e ∙ g))
+      | inr b ↦
+          let g : True ≡ y = rw (a, b) at f.0 in
+          let h : with_key k.0 s.keys ≡ s.keys =
+          ap (λ (z : SetState). z.keys) (subst (Replies quota s t (call.Add k)) (sym g) f).1 in
+          absurd (has_none k.0 s.keys a (subst (λ z. Contains z k.0) h (with_keeps k.0 k.0 s.keys (inl refl))))
     ]
   ]
-  fits_from_replies t n (call.Add k) Full rising e f = elim (cases_Bool (has_key k.0 s.keys)) [
-    | inl a ↦ absurd (let g : False ≡ Full = rw a at f.0 in cc)
-    | inr a ↦ elim (cases_Bool (count_of s t == quota)) [
-      | inl b ↦ (is_none k.0 a, (let g : count_of s t ≡ quota = grind (arith, nat_tests) in sym e ∙ g))
-      | inr b ↦ absurd (let g : True ≡ Full = rw (a, b) at f.0 in cc)
-    ]
+  fits_from_replies t n (call.Remove k) y rising e f = elim (cases_Bool (has_key k.0 s.keys)) [
+    | inl a ↦
+        let g : True ≡ y = rw a at f.0 in
+        let h : without_key k.0 s.keys ≡ s.keys =
+        ap (λ (z : SetState). z.keys) (subst (Replies quota s t (call.Remove k)) (sym g) f).1 in
+        absurd ((without_from k.0 k.0 s.keys (subst (λ z. Contains z k.0) (sym h) (has_from k.0 s.keys a))).1 refl)
+    | inr a ↦ subst (Fits quota content n (call.Remove k)) (let g : False ≡ y = rw a at f.0 in g) (is_none k.0 a)
   ]
-  fits_from_replies t n (call.Add k) (reply.At x) rising e f = elim (cases_Bool (has_key k.0 s.keys)) [
-    | inl a ↦ absurd (let g : False ≡ reply.At x = rw a at f.0 in cc)
-    | inr a ↦ elim (cases_Bool (count_of s t == quota)) [
-      | inl b ↦ absurd (let g : Full ≡ reply.At x = rw (a, b) at f.0 in cc)
-      | inr b ↦ absurd (let g : True ≡ reply.At x = rw (a, b) at f.0 in cc)
-    ]
+  fits_from_replies t n (call.Contains k) y rising e f = elim (cases_Bool (has_key k.0 s.keys)) [
+    | inl a ↦ subst (Fits quota content n (call.Contains k)) (let g : True ≡ y = rw a at f.0 in g) (is_member k.0 a)
+    | inr a ↦ subst (Fits quota content n (call.Contains k)) (let g : False ≡ y = rw a at f.0 in g) (is_none k.0 a)
   ]
-  fits_from_replies t n (call.Add k) reply.Nothing rising e f = elim (cases_Bool (has_key k.0 s.keys)) [
-    | inl a ↦ absurd (let g : False ≡ reply.Nothing = rw a at f.0 in cc)
-    | inr a ↦ elim (cases_Bool (count_of s t == quota)) [
-      | inl b ↦ absurd (let g : Full ≡ reply.Nothing = rw (a, b) at f.0 in cc)
-      | inr b ↦ absurd (let g : True ≡ reply.Nothing = rw (a, b) at f.0 in cc)
-    ]
-  ]
-  fits_from_replies t n (call.Remove k) True rising e f = elim (cases_Bool (has_key k.0 s.keys)) [
-    | inl a ↦ (let g : without_key k.0 s.keys ≡ s.keys = ap (λ z. z.keys) f.1 in
-        (without_from k.0 k.0 s.keys (subst (λ z. Contains z k.0) (sym g) (has_from k.0 s.keys a))).1 refl)
-    | inr a ↦ absurd (let g : False ≡ True = rw a at f.0 in cc)
-  ]
-  fits_from_replies t n (call.Remove k) False rising e f = elim (cases_Bool (has_key k.0 s.keys)) [
-    | inl a ↦ absurd (let g : True ≡ False = rw a at f.0 in cc)
-    | inr a ↦ is_none k.0 a
-  ]
-  fits_from_replies t n (call.Remove k) Full rising e f = elim (cases_Bool (has_key k.0 s.keys)) [
-    | inl a ↦ absurd (let g : True ≡ Full = rw a at f.0 in cc)
-    | inr a ↦ absurd (let g : False ≡ Full = rw a at f.0 in cc)
-  ]
-  fits_from_replies t n (call.Remove k) (reply.At x) rising e f = elim (cases_Bool (has_key k.0 s.keys)) [
-    | inl a ↦ absurd (let g : True ≡ reply.At x = rw a at f.0 in cc)
-    | inr a ↦ absurd (let g : False ≡ reply.At x = rw a at f.0 in cc)
-  ]
-  fits_from_replies t n (call.Remove k) reply.Nothing rising e f = elim (cases_Bool (has_key k.0 s.keys)) [
-    | inl a ↦ absurd (let g : True ≡ reply.Nothing = rw a at f.0 in cc)
-    | inr a ↦ absurd (let g : False ≡ reply.Nothing = rw a at f.0 in cc)
-  ]
-  fits_from_replies t n (call.Contains k) True rising e f = elim (cases_Bool (has_key k.0 s.keys)) [
-    | inl a ↦ is_member k.0 a
-    | inr a ↦ absurd (let g : False ≡ True = rw a at f.0 in cc)
-  ]
-  fits_from_replies t n (call.Contains k) False rising e f = elim (cases_Bool (has_key k.0 s.keys)) [
-    | inl a ↦ absurd (let g : True ≡ False = rw a at f.0 in cc)
-    | inr a ↦ is_none k.0 a
-  ]
-  fits_from_replies t n (call.Contains k) Full rising e f = elim (cases_Bool (has_key k.0 s.keys)) [
-    | inl a ↦ absurd (let g : True ≡ Full = rw a at f.0 in cc)
-    | inr a ↦ absurd (let g : False ≡ Full = rw a at f.0 in cc)
-  ]
-  fits_from_replies t n (call.Contains k) (reply.At x) rising e f = elim (cases_Bool (has_key k.0 s.keys)) [
-    | inl a ↦ absurd (let g : True ≡ reply.At x = rw a at f.0 in cc)
-    | inr a ↦ absurd (let g : False ≡ reply.At x = rw a at f.0 in cc)
-  ]
-  fits_from_replies t n (call.Contains k) reply.Nothing rising e f = elim (cases_Bool (has_key k.0 s.keys)) [
-    | inl a ↦ absurd (let g : True ≡ reply.Nothing = rw a at f.0 in cc)
-    | inr a ↦ absurd (let g : False ≡ reply.Nothing = rw a at f.0 in cc)
-  ]
-  fits_from_replies t n (call.Ceiling k) True rising e f = ceiling_not k.0 s.keys True f.0 (λ x g. cc) (λ g. cc)
-  fits_from_replies t n (call.Ceiling k) False rising e f = ceiling_not k.0 s.keys False f.0 (λ x g. cc) (λ g. cc)
-  fits_from_replies t n (call.Ceiling k) Full rising e f = ceiling_not k.0 s.keys Full f.0 (λ x g. cc) (λ g. cc)
   fits_from_replies t n (call.Ceiling k) (reply.At x) rising e f =
       let c = found_ceiling k.0 0 x s.keys (rises_from_increasing s.keys rising) f.0 in
       (c.0, (same x.0).1 c.1, λ j lo hi m. c.2 j lo hi ((same j).0 m))
   fits_from_replies t n (call.Ceiling k) reply.Nothing rising e f = λ j lo m. none_ceiling k.0 s.keys f.0 j lo ((same j).0 m)
+  fits_from_replies t n (call.Ceiling k) y rising e f = ceiling_not k.0 s.keys y f.0 (λ x g. cc) (λ g. cc)
 
   -- a content with a list of its keys tells of each reply whether it fits
   present : (k : ℕ) → content k ⊎ (content k → ⊥)
@@ -186,27 +117,14 @@ module _ (quota : ℕ) (content : Content) (s : SetState) (same : SameKeys conte
 
   pub fits_or_not : RisesFrom 0 s.keys → (count : ℕ) (call : Call) (reply : Reply) → Fits quota content count call reply
       ⊎ (Fits quota content count call reply → ⊥)
-  fits_or_not rising n (call.Add k) True = inr (λ f. f)
   fits_or_not rising n (call.Add k) False = present k.0
   fits_or_not rising n (call.Add k) Full = elim (present k.0) [
     | inl h ↦ inr (λ f. f.0 h)
     | inr h ↦ elim (same_or_not n quota) [ inl e ↦ inl (h, e) | inr e ↦ inr (λ f. e f.1) ]
   ]
-  fits_or_not rising n (call.Add k) (reply.At x) = inr (λ f. f)
-  fits_or_not rising n (call.Add k) reply.Nothing = inr (λ f. f)
-  fits_or_not rising n (call.Remove k) True = inr (λ f. f)
   fits_or_not rising n (call.Remove k) False = absent k.0
-  fits_or_not rising n (call.Remove k) Full = inr (λ f. f)
-  fits_or_not rising n (call.Remove k) (reply.At x) = inr (λ f. f)
-  fits_or_not rising n (call.Remove k) reply.Nothing = inr (λ f. f)
   fits_or_not rising n (call.Contains k) True = present k.0
   fits_or_not rising n (call.Contains k) False = absent k.0
-  fits_or_not rising n (call.Contains k) Full = inr (λ f. f)
-  fits_or_not rising n (call.Contains k) (reply.At x) = inr (λ f. f)
-  fits_or_not rising n (call.Contains k) reply.Nothing = inr (λ f. f)
-  fits_or_not rising n (call.Ceiling k) True = inr (λ f. f)
-  fits_or_not rising n (call.Ceiling k) False = inr (λ f. f)
-  fits_or_not rising n (call.Ceiling k) Full = inr (λ f. f)
   fits_or_not rising n (call.Ceiling k) (reply.At x) = elim (ceiling_cases k.0 s.keys) [
     | inl e ↦ inr (λ f. let g : reply.Nothing ≡ reply.At x = sym e
         ∙ (replies_from_fits 0 (count_of s 0) (call.Ceiling k) (reply.At x) (increasing_from_rises 0 s.keys rising) refl f).0 in
@@ -225,3 +143,4 @@ module _ (quota : ℕ) (content : Content) (s : SetState) (same : SameKeys conte
         ∙ (replies_from_fits 0 (count_of s 0) (call.Ceiling k) reply.Nothing (increasing_from_rises 0 s.keys rising) refl f).0 in
         absurd (cc))
   ]
+  fits_or_not rising n call reply = inr (λ f. f)

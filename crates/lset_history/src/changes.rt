@@ -56,7 +56,6 @@ impl Model for Changes {
     ghost invariant = { λ c. AreKept (changes_in c.opening.items c.moments) c.keys_at c.keys_now };
 }
 
-/// Keys are numbers of 32 bits.
 fn keys_are_small(keys: &[u32])
     ensures { All (λ k. k < 2 ^ 32) keys.now }
 {
@@ -84,7 +83,6 @@ fn count_upto(moments: &[u32], at: u32) -> (usize, u32)
     (low, looked)
 }
 
-/// Whether a key is not below the end of a range.
 fn is_past(end: Option<u32>, key: u32) -> bool
     ensures { IsTrue result ↔ (IsBelow key end → ⊥) }
 {
@@ -185,7 +183,6 @@ impl Changes {
         (found, looked + 1)
     }
 
-    /// Whether this is an opening key.
     fn opens_with(&self, key: u32) -> bool
         ensures { result ≡ has_key key self.now.opening }
     {
@@ -204,7 +201,6 @@ impl Changes {
         }
     }
 
-    /// Whether a key was in the set at a moment.
     fn was_present(&self, key: u32, moment: u32) -> bool
         ensures { result ≡ is_present (moments_of self.now) key moment }
     {

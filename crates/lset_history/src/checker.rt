@@ -99,14 +99,12 @@ pub(crate) fn first_wrong_reply(
     Ok(None)
 }
 
-/// Whether there is an end, and it is below the moment.
 fn is_below(end: Option<u32>, moment: u32) -> bool
     ensures { IsTrue result ↔ IsSomeAnd end (λ e. e < moment) }
 {
     end.is_some_and(|end| end < moment)
 }
 
-/// The lesser of an end and the least end so far.
 fn lesser(least: Option<u32>, end: u32) -> u32
     ensures { result ≡ least_with least end }
 {

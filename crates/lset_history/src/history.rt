@@ -38,14 +38,12 @@ impl Model for History {
     }) h.busy h.latest };
 }
 
-/// Keys are numbers of 32 bits.
 fn keys_are_small(keys: &[u32])
     ensures { All (λ k. k < 2 ^ 32) keys.now }
 {
     let _keys = keys;
 }
 
-/// The last moment of a call: that of its end, if it has ended, and else that of its beginning.
 fn last_moment(call_record: &CallRecord) -> u32
     ensures { result ≡ last_moment call_record.now }
 {

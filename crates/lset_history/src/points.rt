@@ -14,7 +14,6 @@ pub fn points_exist()
     ensures { PointsExist }
 {}
 
-/// The moment at which the call with this number began; 0 where there is none.
 fn begun_of(calls: &[CallRecord], number: u32) -> u32
     ensures { result ≡ (call_numbered calls.now number).begun }
 {

@@ -63,7 +63,6 @@ pub enum Refusal {
     },
 }
 
-/// The first place from the index `from` on whose call has this number.
 fn place_from(order: &[Placed], from: usize, number: u32) -> Option<usize>
     ensures { IsFirstFrom (λ i. (place_at order.now i).call ≡ number) from (length order.now) result }
 {
@@ -75,7 +74,6 @@ fn place_from(order: &[Placed], from: usize, number: u32) -> Option<usize>
     None
 }
 
-/// The first place from the index `from` on whose call ended before the moment.
 fn ended_before(calls: &[CallRecord], order: &[Placed], from: usize, moment: u32) -> Option<usize>
     requires { HasKnownCalls calls.now order.now }
     ensures { IsFirstFrom (λ i. IsSomeAnd (placed_call calls.now order.now i).ended (λ (end : ℕ × Reply). end.0 < moment))

@@ -4,7 +4,7 @@ use Rattle.std.specs.Prelude.{nat_lt, slice_index_or, slice_set, length, refl}
 use Rattle.std.proofs.Common.{arith, inl, inr, sym, ◌∙◌, ap, subst, get_or-set_other, get_or-set_same}
 use Rattle.lset_words.proofs.Numbers.{same_or_not, below_or_not, if_same, if_other, if_below, if_not_below}
 use Rattle.lset_words.specs.declared.Call.{Call}
-use Rattle.lset_words.specs.declared.Call.TheVariants.{Add, Remove, Contains, Ceiling}
+use Rattle.lset_words.specs.declared.Call.TheVariants.{Add, Remove, Contains}
 use Rattle.lset_words.specs.Words.{target, lock_index, Opening, sizes}
 use Rattle.lset_words.specs.Log.{begun_at, has_changed}
 use Rattle.lset_steps.specs.declared.Local.{Local}
@@ -107,14 +107,10 @@ Stays l m = HasArrived m × (m.pred ≡ l.pred)
 
 decided_stays : (call : Call) (found room : Bool) (key : ℕ) (l : Local) → l.node ≡ l.pred
     → Stays l (decided 9 12 14 call found room key l)
-decided_stays (Add k) true room key l a = (record { from = omega arith; upto = omega arith; there = a }, refl)
 decided_stays (Add k) false true key l a = (record { from = omega arith; upto = omega arith; there = a }, refl)
-decided_stays (Add k) false false key l a = (record { from = omega arith; upto = omega arith; there = a }, refl)
 decided_stays (Remove k) true room key l a = (record { from = omega arith; upto = omega arith; there = a }, refl)
-decided_stays (Remove k) false room key l a = (record { from = omega arith; upto = omega arith; there = a }, refl)
 decided_stays (Contains k) true room key l a = (record { from = omega arith; upto = omega arith; there = a }, refl)
-decided_stays (Contains k) false room key l a = (record { from = omega arith; upto = omega arith; there = a }, refl)
-decided_stays (Ceiling k) found room key l a = (record { from = omega arith; upto = omega arith; there = a }, refl)
+decided_stays call found room key l a = (record { from = omega arith; upto = omega arith; there = a }, refl)
 
 link_stays : (seen : ℕ) (l : Local) → l.node ≡ l.pred → Stays l (at_link seen l)
 link_stays seen l a = elim (same_or_not (seen / 2) l.curr) [

@@ -125,11 +125,18 @@ answered_on false q vs first now t call pc (Some r) a = (
       record { moment = f.moment; from = f.from; upto = (let u : f.moment ≤ now = f.upto in omega arith); fits = f.fits }),
 )
 
-pick_yes : {A : Type 0} (b : Bool) (x y : A) → b ≡ true → (if b then x else y) ≡ x
+-- one of two by a test, and what a thread holds after it or another was given something else
+pub pick_yes : {A : Type 0} (b : Bool) (x y : A) → b ≡ true → (if b then x else y) ≡ x
 pick_yes b x y e = rw e refl
 
-pick_not : {A : Type 0} (b : Bool) (x y : A) → b ≡ false → (if b then x else y) ≡ y
+pub pick_not : {A : Type 0} (b : Bool) (x y : A) → b ≡ false → (if b then x else y) ≡ y
 pick_not b x y e = rw e refl
+
+pub put_same : (s : State) (t : ℕ) (l : Local) → t < length s.locals → slice_index_or (slice_set s.locals t l) t (idle 0 0) ≡ l
+put_same s t l h = get_or-set_same s.locals t l (idle 0 0) h
+
+pub put_other : (s : State) (t u : ℕ) (l : Local) → u ≢ t → slice_index_or (slice_set s.locals t l) u (idle 0 0) ≡ local_of s u
+put_other s t u l h = get_or-set_other s.locals t u l (idle 0 0) h
 
 -- THE INVARIANT at moment k
 pub record Inv (marks : Bool) (At : Outline) (sz : Sizes) (vs : ℕ → View) (k : ℕ) (s : State) (first : ℕ → ℕ)
@@ -150,12 +157,6 @@ module _ (T : Table) (marks : Bool) (At : Outline) (d : Discipline T marks At) (
       (subst (λ x. Thread At (sizes op) u vs x k ws used b' l') (sym e3)
       (subst (λ x. Thread At (sizes op) u vs f k ws used x l') (sym e4)
       (subst (λ x. Thread At (sizes op) u vs f k ws used b x) (sym e5) h))))
-
-  put_same : (s : State) (t : ℕ) (l : Local) → t < length s.locals → slice_index_or (slice_set s.locals t l) t (idle 0 0) ≡ l
-  put_same s t l h = get_or-set_same s.locals t l (idle 0 0) h
-
-  put_other : (s : State) (t u : ℕ) (l : Local) → u ≢ t → slice_index_or (slice_set s.locals t l) u (idle 0 0) ≡ local_of s u
-  put_other s t u l h = get_or-set_other s.locals t u l (idle 0 0) h
 
   opens : vs 0 ≡ view_of (sizes op) (opening op) → Inv marks At (sizes op) vs 0 (opening op) (λ u. 0) (λ u. false)
   opens e = record {
@@ -382,10 +383,6 @@ module _ (T : Table) (marks : Bool) (At : Outline) (d : Discipline T marks At) (
 -- THE LAWS
 module _ (T : Table) (marks : Bool) (At : Outline) (d : Discipline T marks At) (op : Opening) (es : ℕ → Event) (last : ℕ)
     (r : Run T op es last) where
-  InvAt : ℕ → Type 1
-  InvAt k = Inv marks At (sizes op) (views T op es) k (state_at T op es k) (λ u. begun_at (log_of T op es) u k)
-      (λ u. has_changed (log_of T op es) u k)
-
   next_inv : (k : ℕ) (e : Event) → es k ≡ e → Enabled (state_at T op es k) e
       → Inv marks At (sizes op) (views T op es) k (state_at T op es k) (λ u. begun_at (log_of T op es) u k)
       (λ u. has_changed (log_of T op es) u k)

@@ -345,17 +345,14 @@ module _ (marks : Bool) (sz : Sizes) (ws : List ℕ) (used : ℕ → ℕ) (m : M
 
   pub left_is : (a : Action) (ws' : List ℕ) (used' : ℕ → ℕ) (ch : Option (Key × Bool))
       → WordStep marks sz t ws used a ws' used' ch → left_by ws a ≡ ws'
-  left_is a ws' used' ch (reads x i) = refl
   left_is a ws' used' ch (fails x old new i d k) = if_other (slice_index ws x) old d (slice_set ws x new) ws
   left_is a ws' used' ch (takes x i k z) = rw z refl
-  left_is a ws' used' ch (gives x i k z) = refl
-  left_is a ws' used' ch (own_key x r) = refl
-  left_is a ws' used' ch (own_link c r) = refl
   left_is a ws' used' ch (puts b p c k w at nt follows r ready key above under) =
       written ws a (link_index p) (2 * own_of sz.quota t used) w
   left_is a ws' used' ch (sets_mark b c x k y w at inn even is key) = written ws a (link_index c) x w
   left_is a ws' used' ch (cuts b p c d w at first inn follows next) = written ws a (link_index p) (2 * d) w
   left_is a ws' used' ch (drops b p c d k y w at first inn follows next key) = written ws a (link_index p) (2 * d) w
+  left_is a ws' used' ch step = refl
 
   pub named_in : (a : Action) (ws' : List ℕ) (used' : ℕ → ℕ) (ch : Option (Key × Bool))
       → WordStep marks sz t ws used a ws' used' ch → word_named a < word_count sz
@@ -393,46 +390,22 @@ module _ (marks : Bool) (sz : Sizes) (ws : List ℕ) (used : ℕ → ℕ) (m : M
   -- the counts
   pub mine_counted : (a : Action) (ws' : List ℕ) (used' : ℕ → ℕ) (ch : Option (Key × Bool))
       → WordStep marks sz t ws used a ws' used' ch → used' t ≡ count_after ch (used t)
-  mine_counted a ws' used' ch (reads x i) = refl
-  mine_counted a ws' used' ch (fails x old new i d k) = refl
-  mine_counted a ws' used' ch (takes x i k z) = refl
-  mine_counted a ws' used' ch (gives x i k z) = refl
-  mine_counted a ws' used' ch (own_key x r) = refl
-  mine_counted a ws' used' ch (own_link c r) = refl
   mine_counted a ws' used' ch (puts b p c k w at nt follows r ready key above under) = one_more_same used t
-  mine_counted a ws' used' ch (sets_mark b c x k y w at inn even is key) = refl
-  mine_counted a ws' used' ch (cuts b p c d w at first inn follows next) = refl
-  mine_counted a ws' used' ch (drops b p c d k y w at first inn follows next key) = refl
+  mine_counted a ws' used' ch step = refl
 
   pub others_counted : (u : ℕ) → u ≢ t → (a : Action) (ws' : List ℕ) (used' : ℕ → ℕ) (ch : Option (Key × Bool))
       → WordStep marks sz t ws used a ws' used' ch → used' u ≡ used u
-  others_counted u e a ws' used' ch (reads x i) = refl
-  others_counted u e a ws' used' ch (fails x old new i d k) = refl
-  others_counted u e a ws' used' ch (takes x i k z) = refl
-  others_counted u e a ws' used' ch (gives x i k z) = refl
-  others_counted u e a ws' used' ch (own_key x r) = refl
-  others_counted u e a ws' used' ch (own_link c r) = refl
   others_counted u e a ws' used' ch (puts b p c k w at nt follows r ready key above under) = one_more_other used t u e
-  others_counted u e a ws' used' ch (sets_mark b c x k y w at inn even is key) = refl
-  others_counted u e a ws' used' ch (cuts b p c d w at first inn follows next) = refl
-  others_counted u e a ws' used' ch (drops b p c d k y w at first inn follows next key) = refl
+  others_counted u e a ws' used' ch step = refl
 
   room_after : (u : ℕ) → u < sz.threads → (a : Action) (ws' : List ℕ) (used' : ℕ → ℕ) (ch : Option (Key × Bool))
       → WordStep marks sz t ws used a ws' used' ch → used' u ≤ sz.quota
-  room_after u k a ws' used' ch (reads x i) = m.room u k
-  room_after u k a ws' used' ch (fails x old new i d y) = m.room u k
-  room_after u k a ws' used' ch (takes x i y z) = m.room u k
-  room_after u k a ws' used' ch (gives x i y z) = m.room u k
-  room_after u k a ws' used' ch (own_key x r) = m.room u k
-  room_after u k a ws' used' ch (own_link c r) = m.room u k
   room_after u k a ws' used' ch (puts b p c y w at nt follows r ready key above under) = elim (same_or_not u t) [
     | inl e ↦ (let z : one_more used t u ≡ used t + 1 = rw e (one_more_same used t) in omega arith)
     | inr e ↦ (let z : one_more used t u ≡ used u = one_more_other used t u e in let y : used u ≤ sz.quota = m.room u k in
         omega arith)
   ]
-  room_after u k a ws' used' ch (sets_mark b c x y v w at inn even is key) = m.room u k
-  room_after u k a ws' used' ch (cuts b p c d w at first inn follows next) = m.room u k
-  room_after u k a ws' used' ch (drops b p c d y v w at first inn follows next key) = m.room u k
+  room_after u k a ws' used' ch step = m.room u k
 
   same_length : (a : Action) (ws' : List ℕ) (used' : ℕ → ℕ) (ch : Option (Key × Bool))
       → WordStep marks sz t ws used a ws' used' ch → length ws' ≡ length ws

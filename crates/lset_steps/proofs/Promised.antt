@@ -142,10 +142,8 @@ replies_fit_of T law op last k t es change reply r l e =
 true_or_read : (done : Bool) (q : ℕ) (contents : Contents) (counts : Counts) (first now t : ℕ) (called : Call)
     → RightReply done q contents counts first now t called (Some True) → (done ≡ true) ⊎ IsContains called
 true_or_read true q contents counts first now t called h = inl refl
-true_or_read false q contents counts first now t (call.Add k) h = absurd h.fits
-true_or_read false q contents counts first now t (call.Remove k) h = absurd h.fits
 true_or_read false q contents counts first now t (call.Contains k) h = inr tt
-true_or_read false q contents counts first now t (call.Ceiling k) h = absurd h.fits
+true_or_read false q contents counts first now t called h = absurd h.fits
 
 pub true_means_change_of : (T : Table) → Lawful T → TrueMeansChange T
 true_means_change_of T law op last k t es change r l e =

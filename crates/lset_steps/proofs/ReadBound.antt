@@ -155,10 +155,8 @@ walked_on {v} {w} {size} {steps} {l} g (before_mark e p f met a s) =
     before_mark e (g l.curr p).0 (z ∙ f) met (tally_below (w.key l.curr) (omega arith) (tally_on g a)) s
 
 no_read : (c : Call) → (IsRead c → ⊥) → IsContains c → ⊥
-no_read (Add k) h r = r
-no_read (Remove k) h r = r
 no_read (Contains k) h r = h tt
-no_read (Ceiling k) h r = r
+no_read c h r = r
 
 module _ (T : Table) (law : Lawful T) (rows : HasReadRows T) (op : Opening) where
   abbrev size : ℕ

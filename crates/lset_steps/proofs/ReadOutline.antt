@@ -64,9 +64,7 @@ reading_on {vs} {first} {now} {done} {l} (reads25 e d c a) =
 -- from the begin
 pub begun_reading_is : (call : Call) (l : Local) → BeginLaws begun_reading call l
 begun_reading_is (Add k) l = record { called = refl; used = refl; opened = λ e. omega arith; alike = refl }
-begun_reading_is (Remove k) l = record { called = refl; used = refl; opened = λ e. omega arith; alike = refl }
-begun_reading_is (Contains k) l = record { called = refl; used = refl; opened = λ e. omega arith; alike = refl }
-begun_reading_is (Ceiling k) l = record { called = refl; used = refl; opened = λ e. omega arith; alike = refl }
+begun_reading_is call l = record { called = refl; used = refl; opened = λ e. omega arith; alike = refl }
 
 -- at the head
 at_head : (vs : ℕ → View) (first now : ℕ) (v : View) (k : ℕ) → first ≤ now → vs now ≡ v → v.key 0 ≡ 0 → At20 vs first now k 0
@@ -153,8 +151,10 @@ module _ (T : Table) (P : Protocol T.marks) (At : Outline) (sz : Sizes) (t : ℕ
       let low : target l.call < tail_word = regs.low in
       omega arith
 
-  from_20 : l.pc ≡ 20 → done ≡ false → l.call ≡ Contains (key_of l.call) → At20 vs first now (key_of l.call).0 l.curr → Goal
-  from_20 e d c a =
+  -- the node behind the one of a link that is read
+  behind : At20 vs first now (key_of l.call).0 l.curr
+      → (node_link ws l.curr / 2 < node_count sz) × At21 vs first (suc now) (key_of l.call).0 (node_link ws l.curr / 2)
+  behind a =
       let s : ℕ = node_link ws l.curr in
       let upto : a.past.at ≤ now = a.past.upto in
       let published : V.published l.curr = past_published l.curr a.past in
@@ -164,15 +164,20 @@ module _ (T : Table) (P : Protocol T.marks) (At : Outline) (sz : Sizes) (t : ℕ
       let low : (vs a.past.at).key l.curr < target l.call = a.low in
       let user : l.curr ≢ 1 = inner T.marks sz ws used M l.curr (target l.call) (omega arith) regs.low in
       let inn : s / 2 < node_count sz = inside T.marks sz ws used M (s / 2) (M.ordered.next_published l.curr published user) in
-      let curr : l.curr < node_count sz = regs.curr in
       let on : At21 vs first now (key_of l.call).0 (s / 2) = subst (λ x. At21 vs first now (key_of l.call).0 (x / 2))
       (link_now l.curr) (from20 vs now first now (key_of l.call).0 l.curr h.course (omega arith) a) in
+      (inn, at21_on vs first now (suc now) (key_of l.call).0 (s / 2) (omega arith) on)
+
+  from_20 : l.pc ≡ 20 → done ≡ false → l.call ≡ Contains (key_of l.call) → At20 vs first now (key_of l.call).0 l.curr → Goal
+  from_20 e d c a =
+      let s : ℕ = node_link ws l.curr in
+      let curr : l.curr < node_count sz = regs.curr in
+      let next = behind a in
       passes (Load (link_index l.curr)) ws (record l { pc = 21; curr = s / 2 })
       (rows.acts l (inl e) ∙ (rw e refl)) (rows.feeds l s (inl e) ∙ (rw e refl)) (rows.tells l s (inl e))
       (P.loads sz t ws used (link_index l.curr) (omega arith))
-      (keep_walk sz t 21 l.pred (s / 2) l regs.pred inn regs, refl, refl, λ x. omega arith)
-      (reading (record l { pc = 21; curr = s / 2 })
-      (reads21 refl d c (at21_on vs first now (suc now) (key_of l.call).0 (s / 2) (omega arith) on)))
+      (keep_walk sz t 21 l.pred (s / 2) l regs.pred next.0 regs, refl, refl, λ x. omega arith)
+      (reading (record l { pc = 21; curr = s / 2 }) (reads21 refl d c next.1))
 
   from_21 : l.pc ≡ 21 → done ≡ false → l.call ≡ Contains (key_of l.call) → At21 vs first now (key_of l.call).0 l.curr → Goal
   from_21 e d c a =
@@ -244,23 +249,13 @@ module _ (T : Table) (P : Protocol T.marks) (At : Outline) (sz : Sizes) (t : ℕ
   from_23 : l.pc ≡ 23 → done ≡ false → l.call ≡ Ceiling (key_of l.call) → At20 vs first now (key_of l.call).0 l.curr → Goal
   from_23 e d c a =
       let s : ℕ = node_link ws l.curr in
-      let upto : a.past.at ≤ now = a.past.upto in
-      let published : V.published l.curr = past_published l.curr a.past in
-      let kp : (vs now).key l.curr ≡ (vs a.past.at).key l.curr = key_stays vs now l.curr a.past.at now h.course upto
-      (omega arith) (in_chain_published (vs a.past.at) (h.course.ordered a.past.at upto) l.curr a.past.in_chain) in
-      let kn : (vs now).key l.curr ≡ node_key ws l.curr = key_now l.curr in
-      let low : (vs a.past.at).key l.curr < target l.call = a.low in
-      let user : l.curr ≢ 1 = inner T.marks sz ws used M l.curr (target l.call) (omega arith) regs.low in
-      let inn : s / 2 < node_count sz = inside T.marks sz ws used M (s / 2) (M.ordered.next_published l.curr published user) in
       let curr : l.curr < node_count sz = regs.curr in
-      let on : At21 vs first now (key_of l.call).0 (s / 2) = subst (λ x. At21 vs first now (key_of l.call).0 (x / 2))
-      (link_now l.curr) (from20 vs now first now (key_of l.call).0 l.curr h.course (omega arith) a) in
+      let next = behind a in
       passes (Load (link_index l.curr)) ws (record l { pc = 24; curr = s / 2 })
       (rows.acts l (inr (inr (inr (inl e)))) ∙ (rw e refl)) (rows.feeds l s (inr (inr (inr (inl e)))) ∙ (rw e refl))
       (rows.tells l s (inr (inr (inr (inl e))))) (P.loads sz t ws used (link_index l.curr) (omega arith))
-      (keep_walk sz t 24 l.pred (s / 2) l regs.pred inn regs, refl, refl, λ x. omega arith)
-      (reading (record l { pc = 24; curr = s / 2 })
-      (reads24 refl d c (at21_on vs first now (suc now) (key_of l.call).0 (s / 2) (omega arith) on)))
+      (keep_walk sz t 24 l.pred (s / 2) l regs.pred next.0 regs, refl, refl, λ x. omega arith)
+      (reading (record l { pc = 24; curr = s / 2 }) (reads24 refl d c next.1))
 
   -- the reply of a ceiling that stops at a key word, where the node before led to that node, fits then
   found_then : (a : At21 vs first now (key_of l.call).0 l.curr) (c : ℕ) → l.call ≡ Ceiling (key_of l.call)

@@ -33,24 +33,16 @@ pub record Rely (v w : View) (q u : ℕ) : Type 0 where
 abbrev pub Guarded : (marks : Bool) (sz : Sizes) (t : ℕ) (ws : List ℕ) (used : ℕ → ℕ) (a : Action) (ws' : List ℕ)
     (used' : ℕ → ℕ) (ch : Option (Key × Bool))
     → WordStep marks sz t ws used a ws' used' ch → Type 0
-Guarded marks sz t ws used a ws' used' ch (reads x i) = Unit {0}
-Guarded marks sz t ws used a ws' used' ch (fails x old new i d k) = Unit {0}
-Guarded marks sz t ws used a ws' used' ch (takes x i k z) = Unit {0}
-Guarded marks sz t ws used a ws' used' ch (gives x i k z) = Unit {0}
-Guarded marks sz t ws used a ws' used' ch (own_key x r) = Unit {0}
-Guarded marks sz t ws used a ws' used' ch (own_link c r) = Unit {0}
 Guarded marks sz t ws used a ws' used' ch (puts b p c k w at nt follows r ready key above under) = node_lock ws p ≡ t + 1
 Guarded marks sz t ws used a ws' used' ch (sets_mark b c x k y w at inn even is key) = node_lock ws c ≡ t + 1
 Guarded marks sz t ws used a ws' used' ch (cuts b p c d w at first inn follows next) = (node_lock ws p ≡ t + 1)
     × (node_lock ws c ≡ t + 1)
 Guarded marks sz t ws used a ws' used' ch (drops b p c d k y w at first inn follows next key) =
     (node_lock ws p ≡ t + 1) × (node_lock ws c ≡ t + 1)
+Guarded marks sz t ws used a ws' used' ch step = Unit {0}
 
 module _ (marks : Bool) (sz : Sizes) (ws : List ℕ) (used : ℕ → ℕ) (m : Memory marks sz ws used) (t : ℕ) (h : t < sz.threads)
     (u : ℕ) (k : u < sz.threads) (d : u ≢ t) where
-  V : View
-  V = view sz ws used
-
   at_word : (x v : ℕ) → IsLockWord x → (slice_index ws x ≡ 0) ⊎ (slice_index ws x ≡ t + 1)
       → KeepsNodes (view sz ws used) (view sz (slice_set ws x v) used)
       → Rely (view sz ws used) (view sz (slice_set ws x v) used) sz.quota u

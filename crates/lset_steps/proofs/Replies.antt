@@ -110,155 +110,48 @@ fed_is l m a b e f = cc
 -- what a begin and a step leave of the bounds of the registers
 pub registers_begun : (sz : Sizes) (t pc : ℕ) (call : Call) (l : Local) → target call < tail_word → Registers sz t l
     → Registers sz t (begun pc call l)
-registers_begun sz t pc call l low r = record {
-  thread = r.thread;
-  quota = r.quota;
-  used = r.used;
-  low = low;
-  pred = omega arith;
-  curr = omega arith;
-  succ = omega arith;
-  node = omega arith;
-  pkey = omega arith;
-  ckey = omega arith;
-}
+registers_begun sz t pc call l low r =
+    let inside : 0 < node_count sz = omega arith in
+    let least : 0 ≤ tail_word = omega arith in
+    assumption
 
 -- a successful add counts one more slot
 pub keep_more : (sz : Sizes) (t p : ℕ) (l : Local) → l.used < sz.quota → Registers sz t l
     → Registers sz t (record l { pc = p; reply = Some True; used = l.used + 1 })
-keep_more sz t p l room r = record {
-  thread = r.thread;
-  quota = r.quota;
-  used = omega arith;
-  low = r.low;
-  pred = r.pred;
-  curr = r.curr;
-  succ = r.succ;
-  node = r.node;
-  pkey = r.pkey;
-  ckey = r.ckey;
-}
+keep_more sz t p l room r = let most : l.used + 1 ≤ sz.quota = omega (arith, room) in assumption
 
 -- and where it answers at once
 pub keep_used : (sz : Sizes) (t p : ℕ) (l : Local) → l.used < sz.quota → Registers sz t l
     → Registers sz t (record l { pc = p; used = l.used + 1 })
-keep_used sz t p l room r = record {
-  thread = r.thread;
-  quota = r.quota;
-  used = omega arith;
-  low = r.low;
-  pred = r.pred;
-  curr = r.curr;
-  succ = r.succ;
-  node = r.node;
-  pkey = r.pkey;
-  ckey = r.ckey;
-}
+keep_used sz t p l room r = let most : l.used + 1 ≤ sz.quota = omega (arith, room) in assumption
 
 pub keep_curr : (sz : Sizes) (t p c : ℕ) (l : Local) → c < node_count sz → Registers sz t l
     → Registers sz t (record l { pc = p; curr = c })
-keep_curr sz t p c l inn r = record {
-  thread = r.thread;
-  quota = r.quota;
-  used = r.used;
-  low = r.low;
-  pred = r.pred;
-  curr = inn;
-  succ = r.succ;
-  node = r.node;
-  pkey = r.pkey;
-  ckey = r.ckey;
-}
+keep_curr sz t p c l inn r = assumption
 
 -- a step that leaves the registers
 pub keep : (sz : Sizes) (t p : ℕ) (y : Option Reply) (l : Local) → Registers sz t l →
     Registers sz t (record l { pc = p; reply = y })
-keep sz t p y l r = record {
-  thread = r.thread;
-  quota = r.quota;
-  used = r.used;
-  low = r.low;
-  pred = r.pred;
-  curr = r.curr;
-  succ = r.succ;
-  node = r.node;
-  pkey = r.pkey;
-  ckey = r.ckey;
-}
+keep sz t p y l r = assumption
 
 pub keep_ckey : (sz : Sizes) (t p c : ℕ) (y : Option Reply) (l : Local) → c ≤ tail_word → Registers sz t l
     → Registers sz t (record l { pc = p; reply = y; ckey = c })
-keep_ckey sz t p c y l le r = record {
-  thread = r.thread;
-  quota = r.quota;
-  used = r.used;
-  low = r.low;
-  pred = r.pred;
-  curr = r.curr;
-  succ = r.succ;
-  node = r.node;
-  pkey = r.pkey;
-  ckey = le;
-}
+keep_ckey sz t p c y l le r = assumption
 
 pub keep_succ : (sz : Sizes) (t p c : ℕ) (y : Option Reply) (l : Local) → c < node_count sz → Registers sz t l
     → Registers sz t (record l { pc = p; reply = y; succ = c })
-keep_succ sz t p c y l le r = record {
-  thread = r.thread;
-  quota = r.quota;
-  used = r.used;
-  low = r.low;
-  pred = r.pred;
-  curr = r.curr;
-  succ = le;
-  node = r.node;
-  pkey = r.pkey;
-  ckey = r.ckey;
-}
+keep_succ sz t p c y l le r = assumption
 
 pub keep_walk : (sz : Sizes) (t p a b : ℕ) (l : Local) → a < node_count sz → b < node_count sz → Registers sz t l
     → Registers sz t (record l { pc = p; pred = a; curr = b })
-keep_walk sz t p a b l le ge r = record {
-  thread = r.thread;
-  quota = r.quota;
-  used = r.used;
-  low = r.low;
-  pred = le;
-  curr = ge;
-  succ = r.succ;
-  node = r.node;
-  pkey = r.pkey;
-  ckey = r.ckey;
-}
+keep_walk sz t p a b l le ge r = assumption
 
 -- a walk that goes on by a node, and keeps the key word of the one behind
 pub keep_passed : (sz : Sizes) (t p a b c : ℕ) (l : Local) → a < node_count sz → b ≤ tail_word → c < node_count sz →
     Registers sz t l
     → Registers sz t (record l { pc = p; pred = a; pkey = b; curr = c })
-keep_passed sz t p a b c l le small ge r = record {
-  thread = r.thread;
-  quota = r.quota;
-  used = r.used;
-  low = r.low;
-  pred = le;
-  curr = ge;
-  succ = r.succ;
-  node = r.node;
-  pkey = small;
-  ckey = r.ckey;
-}
+keep_passed sz t p a b c l le small ge r = assumption
 
 pub keep_node : (sz : Sizes) (t p a : ℕ) (l : Local) → a < node_count sz → Registers sz t l
     → Registers sz t (record l { pc = p; node = a })
-keep_node sz t p a l le r = record {
-  thread = r.thread;
-  quota = r.quota;
-  used = r.used;
-  low = r.low;
-  pred = r.pred;
-  curr = r.curr;
-  succ = r.succ;
-  node = le;
-  pkey = r.pkey;
-  ckey = r.ckey;
-}
+keep_node sz t p a l le r = assumption

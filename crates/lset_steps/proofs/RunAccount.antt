@@ -1,7 +1,7 @@
 -- A run of a lawful machine has an account: what the placement of its calls rests on.
-use Rattle.std.specs.Prelude.{◌≡◌, ◌≢◌, ℕ, ◌<◌, ◌≤◌, Bool, true, false, if◌then◌else◌, ◌==◌, Option, Some, None, slice_set}
-use Rattle.std.specs.Prelude.{slice_index_or, length, refl}
-use Rattle.std.proofs.Common.{arith, inl, inr, sym, ◌∙◌, ap, subst, zero, suc, get_or-set_other, get_or-set_same}
+use Rattle.std.specs.Prelude.{◌≡◌, ◌≢◌, ℕ, ◌<◌, ◌≤◌, Bool, true, false, if◌then◌else◌, ◌==◌, Option, Some, None}
+use Rattle.std.specs.Prelude.{length, refl}
+use Rattle.std.proofs.Common.{arith, inl, inr, sym, ◌∙◌, ap, subst, zero, suc}
 use Rattle.std.proofs.lemmas.List.FromFn.{get_or-map-range_with_len}
 use Rattle.lset_words.proofs.Numbers.{same_or_not, equal_test, unequal_test}
 use Rattle.lset_words.specs.declared.Key.{Key}
@@ -13,12 +13,13 @@ use Rattle.lset_words.specs.Account.{Account, Enters, Contents, Counts, MayChang
 use Rattle.lset_steps.specs.declared.Local.{Local}
 use Rattle.lset_steps.specs.declared.Event.{Event}
 use Rattle.lset_steps.specs.declared.Event.TheVariants.{Begin, Go}
-use Rattle.lset_steps.specs.Steps.{Table, State, Run, Enabled, state_at, after, told, local_of, seen_next, idle, entry_of, log_of}
+use Rattle.lset_steps.specs.Steps.{Table, Run, Enabled, state_at, after, told, local_of, seen_next, idle, entry_of, log_of}
 use Rattle.lset_steps.specs.Chain.{View, view, InContent, Published, contents_of, counts_of}
 use Rattle.lset_steps.proofs.QuietMove.{in_chain_published}
 use Rattle.lset_steps.specs.Laws.{Lawful, StateLaws, StepAt, views, view_of, used_in, Answered}
 use Rattle.lset_words.specs.Words.{Opening, sizes}
 use Rattle.lset_steps.proofs.Openings.{content_opens}
+use Rattle.lset_steps.proofs.Discipline.{pick_yes, pick_not, put_same, put_other}
 
 -- the contents and the counts at the moments of a run
 abbrev pub contents_at : Table → Opening → (ℕ → Event) → Contents
@@ -31,12 +32,6 @@ counts_at T op es = counts_of (views T op es)
 pub record Tied (open_now : Bool) (call : Call) (l : Local) : Type 0 where
   pub closed : l.pc ≡ 0 → open_now ≡ false
   pub opened : l.pc ≢ 0 → (open_now ≡ true) × (l.call ≡ call)
-
-pick_yes : {A : Type 0} (b : Bool) (x y : A) → b ≡ true → (if b then x else y) ≡ x
-pick_yes b x y e = rw e refl
-
-pick_not : {A : Type 0} (b : Bool) (x y : A) → b ≡ false → (if b then x else y) ≡ y
-pick_not b x y e = rw e refl
 
 tied_to : {o o' : Bool} {c c' : Call} {l l' : Local} → o' ≡ o → c' ≡ c → l' ≡ l → Tied o c l → Tied o' c' l'
 tied_to {o} {o'} {c} {c'} {l} {l'} a b d t =
@@ -57,15 +52,6 @@ open_same None ch t old = refl
 open_same (Some r) ch t old = pick_yes (t == t) false old (equal_test t t refl)
 
 module _ (T : Table) (law : Lawful T) (op : Opening) (es : ℕ → Event) (last : ℕ) (r : Run T op es last) where
-  S : ℕ → State
-  S k = state_at T op es k
-
-  local_same : (s : State) (t : ℕ) (l : Local) → t < length s.locals → slice_index_or (slice_set s.locals t l) t (idle 0 0) ≡ l
-  local_same s t l h = get_or-set_same s.locals t l (idle 0 0) h
-
-  local_other : (s : State) (t u : ℕ) (l : Local) → u ≢ t → slice_index_or (slice_set s.locals t l) u (idle 0 0) ≡ local_of s u
-  local_other s t u l h = get_or-set_other s.locals t u l (idle 0 0) h
-
   after_answer : (a : Option Reply) (done : Bool) (vs : ℕ → View) (first now t : ℕ) (call : Call) (l : Local) (old : Bool)
       → old ≡ true → l.call ≡ call
       → Answered done op.quota vs first now t call l.pc a → Tied (left_open a old) call l
@@ -83,7 +69,7 @@ module _ (T : Table) (law : Lawful T) (op : Opening) (es : ℕ → Event) (last 
       let a : Option Reply = (T.feed l (seen_next T (state_at T op es k) t)).answer in
       tied_to (open_same (told T (state_at T op es k) (Go t)).answer (told T (state_at T op es k) (Go t)).change t
       (is_open (log_of T op es) t k)) (sym was.1)
-      (local_same (state_at T op es k) t (T.feed (local_of (state_at T op es k) t)
+      (put_same (state_at T op es k) t (T.feed (local_of (state_at T op es k) t)
       (seen_next T (state_at T op es k) t)).local len)
       (after_answer (T.feed (local_of (state_at T op es k) t) (seen_next T (state_at T op es k) t)).answer
       (has_changed (log_of T op es) t (suc k)) (views T op es) (begun_at (log_of T op es) t (suc k)) (suc k) t
@@ -101,7 +87,7 @@ module _ (T : Table) (law : Lawful T) (op : Opening) (es : ℕ → Event) (last 
         let lo : local_of (after T (state_at T op es k) (Begin u call)) t
         ≡ T.begin call (local_of (state_at T op es k) u) =
         ap (λ z. local_of (after T (state_at T op es k) (Begin u call)) z) y
-        ∙ local_same (state_at T op es k) u (T.begin call (local_of (state_at T op es k) u)) en.0 in
+        ∙ put_same (state_at T op es k) u (T.begin call (local_of (state_at T op es k) u)) en.0 in
         let bg = law.begins call (local_of (state_at T op es k) u) in
         tied_to (pick_yes (u == t) true (is_open (log_of T op es) t k) b)
         (pick_yes (u == t) call (last_call (log_of T op es) t k) b) lo
@@ -109,7 +95,7 @@ module _ (T : Table) (law : Lawful T) (op : Opening) (es : ℕ → Event) (last 
     | inr y ↦ (let b : (u == t) ≡ false = unequal_test u t (λ z. y (sym z)) in
         tied_to (pick_not (u == t) true (is_open (log_of T op es) t k) b)
         (pick_not (u == t) call (last_call (log_of T op es) t k) b)
-        (local_other (state_at T op es k) u t (T.begin call (local_of (state_at T op es k) u)) y) h)
+        (put_other (state_at T op es k) u t (T.begin call (local_of (state_at T op es k) u)) y) h)
   ]
   tied_step t th k l (Go u) ee en h = elim (same_or_not t u) [
     | inl y ↦ (let b : (u == t) ≡ true = equal_test u t (sym y) in
@@ -122,7 +108,7 @@ module _ (T : Table) (law : Lawful T) (op : Opening) (es : ℕ → Event) (last 
     | inr y ↦ (let b : (u == t) ≡ false = unequal_test u t (λ z. y (sym z)) in
         tied_to (open_other (told T (state_at T op es k) (Go u)).answer (told T (state_at T op es k) (Go u)).change
         u t (is_open (log_of T op es) t k) b) refl
-        (local_other (state_at T op es k) u t (T.feed (local_of (state_at T op es k) u)
+        (put_other (state_at T op es k) u t (T.feed (local_of (state_at T op es k) u)
         (seen_next T (state_at T op es k) u)).local y) h)
   ]
 
@@ -167,9 +153,9 @@ module _ (T : Table) (law : Lawful T) (op : Opening) (es : ℕ → Event) (last 
       same_used : (u : ℕ) → used_in (after T (state_at T op es k) (Begin t call)) u ≡ used_in (state_at T op es k) u
       same_used u = elim (same_or_not u t) [
         | inl y ↦ (subst (λ z. used_in (after T (state_at T op es k) (Begin t call)) z ≡ used_in (state_at T op es k) z) (sym y)
-            (ap (λ (l : Local). l.used) (local_same T law op es last r (state_at T op es k) t
+            (ap (λ (l : Local). l.used) (put_same (state_at T op es k) t
             (T.begin call (local_of (state_at T op es k) t)) en.0) ∙ (law.begins call (local_of (state_at T op es k) t)).used))
-        | inr y ↦ ap (λ (l : Local). l.used) (local_other T law op es last r (state_at T op es k) t u
+        | inr y ↦ ap (λ (l : Local). l.used) (put_other (state_at T op es k) t u
             (T.begin call (local_of (state_at T op es k) t)) y)
       ]
   enters_at k l (Go t) ee en =
@@ -186,9 +172,9 @@ module _ (T : Table) (law : Lawful T) (op : Opening) (es : ℕ → Event) (last 
         under_way = was.0;
         content = st.content;
         own_count = ap (λ z. used_in z t) now ∙ ap (λ (l : Local). l.used)
-            (local_same T law op es last r (state_at T op es k) t fl en.0) ∙ st.counts;
+            (put_same (state_at T op es k) t fl en.0) ∙ st.counts;
         other_counts = λ u h y. ap (λ z. used_in z u) now ∙ ap (λ (l : Local). l.used)
-            (local_other T law op es last r (state_at T op es k) t u fl y);
+            (put_other (state_at T op es k) t u fl y);
         may = subst (λ c. MayChange op.quota (counts_at T op es k t) c (has_changed (log_of T op es) t k) ch) was.1 st.by_call;
         right = subst (λ c. RightReply (has_changed (log_of T op es) t (suc k)) op.quota (contents_at T op es) (counts_at T op es)
             (begun_at (log_of T op es) t k) (suc k) t c fa) was.1

@@ -28,13 +28,6 @@ at25_on vs first now later k curr ckey l a = record {
   above = a.above;
 }
 
--- the begin
-pub at20_begins : (vs : ℕ → View) (n first k : ℕ) → Course vs n → first ≤ n → (vs first).key 0 ≡ 0 → At20 vs first first k 0
-at20_begins vs n first k r l e = record {
-  past = record { at = first; from = omega arith; upto = omega arith; in_chain = ([], refl) };
-  low = omega arith;
-}
-
 pub no_tail : (v : View) → IsOrdered v → (b k : ℕ) → k + 1 < v.key 1 → v.key b < k + 1 → b ≢ 1
 no_tail v ord b k t l e = let f : v.key b ≡ v.key 1 = ap v.key e in omega arith
 

@@ -1,5 +1,5 @@
 -- The state of a world is the last one of a run, also after a further step.
-use Rattle.std.specs.Prelude.{◌≡◌, ◌≢◌, ℕ, ◌<◌, List, [], ◌∷◌, ◌++◌, length, refl, All, ◌^◌, Bool, true, false, if◌then◌else◌}
+use Rattle.std.specs.Prelude.{◌≡◌, ℕ, ◌<◌, List, [], ◌∷◌, ◌++◌, length, refl, All, ◌^◌, Bool, true, false, if◌then◌else◌}
 use Rattle.std.specs.Prelude.{◌==◌, slice_index, slice_set, suc}
 use Rattle.std.specs.List.Sorted.{IsStrictlyIncreasing}
 use Rattle.std.proofs.Common.{arith, ◌∙◌, sym, ap, subst, length-set}
@@ -10,7 +10,7 @@ use Rattle.lset_words.specs.Words.{word_count, Sizes, IsWithin, Opening, Opens, 
 use Rattle.lset_steps.specs.declared.Event.{Event}
 use Rattle.lset_steps.specs.declared.Event.TheVariants.{Begin, Go}
 use Rattle.lset_steps.specs.Steps.{Table, State, event_at, after, local_of, opening, opening_of, opening_word, Enabled, left_by}
-use Rattle.lset_steps.specs.Laws.{Lawful, UnderWay, StateLaws, word_named, StepAt}
+use Rattle.lset_steps.specs.Laws.{Lawful, StateLaws, word_named, StepAt}
 use Rattle.lset_steps.specs.Worlds.{WorldState, IsRun}
 use Rattle.lset_steps.proofs.MoreEvents.{RunsTo, runs_to_opening, runs_to_more, run_more, last_is, event_last}
 
@@ -70,14 +70,6 @@ is_run_of_keys T sz keys many within rising low =
       rising = rising;
       low = low;
     }))
-
-pub going : (T : Table) (w : WorldState) (t : ℕ) → (r : IsRun T w) → t < w.sizes.threads → (local_of w.state t).pc ≢ 0
-    → UnderWay T r.opening (event_at r.events) (length r.events) t
-going T w t r h busy = record {
-  run = r.run;
-  thread = subst (λ (z : Sizes). t < z.threads) (sym r.of_sizes) h;
-  open_call = subst (λ s. (local_of s t).pc ≢ 0) r.is busy;
-}
 
 pub order_of : (T : Table) (w : WorldState) → Lawful T → IsRun T w → StateLaws T.marks w.sizes w.state
 order_of T w law r = subst (λ z. StateLaws T.marks z w.state) r.of_sizes

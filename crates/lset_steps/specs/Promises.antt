@@ -129,10 +129,8 @@ RepliesFit T = (op : Opening) (last k t : ℕ) (es : ℕ → Event) (change : Op
 
 -- a contains
 abbrev pub IsContains : Call → Type 0
-IsContains (call.Add k) = ⊥
-IsContains (call.Remove k) = ⊥
 IsContains (call.Contains k) = Unit {0}
-IsContains (call.Ceiling k) = ⊥
+IsContains call = ⊥
 
 -- a call that only reads
 abbrev pub IsRead : Call → Type 0

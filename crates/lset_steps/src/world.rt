@@ -113,7 +113,6 @@ fn opening_key(layout: &Layout, keys: &[u32], node: u64) -> u64
     }
 }
 
-/// Keys are numbers of 32 bits.
 fn keys_are_small(keys: &[u32])
     ensures { All (λ k. k < 2 ^ 32) keys.now }
 {

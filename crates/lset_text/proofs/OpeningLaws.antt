@@ -1,24 +1,13 @@
 -- Lines of opening keys, and keys that rise strictly.
-use Rattle.std.proofs.Common.{◌≡◌, ℕ, zero, suc, ◌+◌, ◌-◌, ◌<◌, ◌^◌, ◌⊎◌, inl, inr, true, List, [], ◌∷◌, ◌++◌, length}
+use Rattle.std.proofs.Common.{◌≡◌, ℕ, zero, suc, ◌+◌, ◌-◌, ◌<◌, ◌⊎◌, inl, inr, true, List, [], ◌∷◌, ◌++◌, length}
 use Rattle.std.proofs.Common.{length-append, get_or}
-use Rattle.std.proofs.Common.{refl, sym, ap, subst, ◌∙◌, arith, codes}
+use Rattle.std.proofs.Common.{refl, sym, ap, subst, ◌∙◌, arith}
 use Rattle.std.specs.Prelude.{nat_lt}
-use Rattle.std.specs.List.{AllByRecursion}
 use Rattle.std.specs.List.Sorted.{IsStrictlyIncreasing}
 use Rattle.std.proofs.lemmas.Bool.{ltb-true, lt-ltb}
 use Rattle.std.proofs.lemmas.List.{get_or_push, get_or_append_left, length_push}
 use Rattle.std.proofs.lemmas.Option.{slice_get-get_or}
-use Rattle.lset_text.specs.Parts.{Lacks}
-use Rattle.lset_text.specs.Openings.{opening_line, opening_lines, above_last, is_above}
-use Rattle.lset_text.proofs.HeaderLaws.{number_line_lacks}
-
--- no line of an opening key has a newline in it
-pub opening_lacks : (key : ℕ) → key < 2 ^ 32 → Lacks 10 (opening_line key)
-opening_lacks key low = number_line_lacks (codes "opening") key refl (omega (arith, low))
-
-pub openings_lack : (keys : List ℕ) → AllByRecursion (λ k. k < 2 ^ 32) keys → AllByRecursion (Lacks 10) (opening_lines keys)
-openings_lack [] low = tt
-openings_lack (k ∷ ks) low = (opening_lacks k low.0, openings_lack ks low.1)
+use Rattle.lset_text.specs.Openings.{above_last, is_above}
 
 -- a key above the last of keys that rise goes on with them
 some_last : (keys : List ℕ) (key : ℕ) → 0 < length keys → is_above keys key ≡ nat_lt (get_or keys (length keys - 1) 0) key

@@ -80,10 +80,6 @@ call_in_again One w h = refl
 call_in_again Two word.Add h = refl
 call_in_again Two w h = refl
 
-pub call_word_lacks : (byte : ℕ) (w : CallWord) → byte < 45 → Lacks byte (call_word_text w)
-call_word_lacks byte word.Add low = Lacks-below 45 byte (codes "add") low refl
-call_word_lacks byte w low = Lacks-below 45 byte (call_word_text w) low refl
-
 -- a call is its word with its key
 pub with_key-word_of : (c : Call) → with_key (word_of c) (key_of c) ≡ c
 with_key-word_of (call.Add k) = refl

@@ -114,9 +114,7 @@ told_in v f xs = if have_form v f xs then all_told v f xs else None
 abbrev pub IsPiece : Piece → Type 0
 IsPiece (word w) = all_from 45 w ≡ true
 IsPiece (number low high) = high < 2 ^ 64
-IsPiece kind = Unit {0}
-IsPiece call = Unit {0}
-IsPiece reply = Unit {0}
+IsPiece piece = Unit {0}
 
 abbrev pub ArePieces : Form → Type 0
 ArePieces [] = Unit {0}

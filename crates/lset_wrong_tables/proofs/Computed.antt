@@ -270,52 +270,28 @@ module _ (T : Table) (s : Schedule) where
 
   -- A test of replies that do not fit. It is false of three replies, which no finding needs.
   abbrev misfits : ℕ → ℕ → Call → Reply → Bool
-  misfits moment thread (Add k) True = true
   misfits moment thread (Add k) False = misses T s moment k.0
   misfits moment thread (Add k) Full = not ((world_at T s moment).used thread == s.quota)
-  misfits moment thread (Add k) (reply.At x) = true
-  misfits moment thread (Add k) reply.Nothing = true
-  misfits moment thread (Remove k) True = true
   misfits moment thread (Remove k) False = false
-  misfits moment thread (Remove k) Full = true
-  misfits moment thread (Remove k) (reply.At x) = true
-  misfits moment thread (Remove k) reply.Nothing = true
   misfits moment thread (Contains k) True = misses T s moment k.0
   misfits moment thread (Contains k) False = false
-  misfits moment thread (Contains k) Full = true
-  misfits moment thread (Contains k) (reply.At x) = true
-  misfits moment thread (Contains k) reply.Nothing = true
-  misfits moment thread (Ceiling k) True = true
-  misfits moment thread (Ceiling k) False = true
-  misfits moment thread (Ceiling k) Full = true
   misfits moment thread (Ceiling k) (reply.At x) = misses T s moment x.0
   misfits moment thread (Ceiling k) reply.Nothing = false
+  misfits moment thread call reply = true
 
   count_differs : (i j : ℕ) → not (i == j) ≡ true → i ≢ j
   count_differs i j e = search rules
 
   misfit : (moment thread : ℕ) (call : Call) (reply : Reply) → misfits moment thread call reply ≡ true
       → FitsIn s.quota (world_at T s moment) thread call reply → ⊥
-  misfit moment thread (Add k) True e f = absurd f
   misfit moment thread (Add k) False e f = not_in_content (world_at T s moment) (nodes s) k.0 e f
   misfit moment thread (Add k) Full e f = count_differs ((world_at T s moment).used thread) s.quota e f.1
-  misfit moment thread (Add k) (reply.At x) e f = absurd f
-  misfit moment thread (Add k) reply.Nothing e f = absurd f
-  misfit moment thread (Remove k) True e f = absurd f
   misfit moment thread (Remove k) False e f = absurd (let g : false ≡ true = e in cc)
-  misfit moment thread (Remove k) Full e f = absurd f
-  misfit moment thread (Remove k) (reply.At x) e f = absurd f
-  misfit moment thread (Remove k) reply.Nothing e f = absurd f
   misfit moment thread (Contains k) True e f = not_in_content (world_at T s moment) (nodes s) k.0 e f
   misfit moment thread (Contains k) False e f = absurd (let g : false ≡ true = e in cc)
-  misfit moment thread (Contains k) Full e f = absurd f
-  misfit moment thread (Contains k) (reply.At x) e f = absurd f
-  misfit moment thread (Contains k) reply.Nothing e f = absurd f
-  misfit moment thread (Ceiling k) True e f = absurd f
-  misfit moment thread (Ceiling k) False e f = absurd f
-  misfit moment thread (Ceiling k) Full e f = absurd f
   misfit moment thread (Ceiling k) (reply.At x) e f = not_in_content (world_at T s moment) (nodes s) x.0 e f.1
   misfit moment thread (Ceiling k) reply.Nothing e f = absurd (let g : false ≡ true = e in cc)
+  misfit moment thread call reply e f = absurd f
 
   -- from a moment on, and at so many later ones
   abbrev pub never_fits : ℕ → ℕ → ℕ → Call → Reply → Bool

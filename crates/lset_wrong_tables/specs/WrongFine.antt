@@ -1,7 +1,7 @@
 -- FineList with calls that hold one lock.
 use Rattle.std.specs.Prelude.{ℕ, ◌++◌, None, if◌then◌else◌, ◌==◌}
 use Rattle.lset_words.specs.declared.Call.{Call}
-use Rattle.lset_words.specs.declared.Call.TheVariants.{Add, Remove, Contains, Ceiling}
+use Rattle.lset_words.specs.declared.Call.TheVariants.{Remove}
 use Rattle.lset_words.specs.Words.{lock_index}
 use Rattle.lset_steps.specs.declared.Local.{Local}
 use Rattle.lset_steps.specs.declared.Action.{Action}
@@ -20,10 +20,8 @@ abbrev pub row_of_remove : ℕ → ℕ
 row_of_remove pc = if pc == 3 then 4 else if pc == 4 then 5 else if pc == 5 then 3 else if pc == 12 then 13 else pc
 
 abbrev pub with_one_lock : Call → Local → Local
-with_one_lock (Add k) l = l
 with_one_lock (Remove k) l = record l { pc = row_of_remove l.pc }
-with_one_lock (Contains k) l = l
-with_one_lock (Ceiling k) l = l
+with_one_lock call l = l
 
 abbrev pub fed_with_one_lock : Local → ℕ → Fed
 fed_with_one_lock l seen = record (fed_by l seen) { local = with_one_lock l.call (fed_by l seen).local }

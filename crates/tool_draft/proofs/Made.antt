@@ -5,13 +5,13 @@ use Rattle.std.specs.List.{AllByRecursion, sum_by}
 use Rattle.std.proofs.lemmas.Grind.{flat_map-append}
 use Rattle.std.proofs.lemmas.List.{append-nil, get_or_default}
 use Rattle.std.proofs.lemmas.List.Sums.{sum_by-append, sum_by-cons}
-use Rattle.lset_words.specs.Words.{Sizes, Opening, Opens, sizes}
+use Rattle.lset_words.specs.Words.{Sizes, Opening, sizes}
 use Rattle.lset_text.specs.declared.words.Version.TheVariants.{Two}
 use Rattle.lset_steps.specs.declared.Event.{Event}
 use Rattle.lset_steps.specs.declared.Event.TheVariants as event
 use Rattle.lset_steps.specs.Steps.{Table, State, opening}
 use Rattle.lset_steps.specs.Worlds.{WorldState}
-use Rattle.lset_steps.proofs.MoreEvents.{RunsTo, runs_to_opening, runs_to_more}
+use Rattle.lset_steps.proofs.MoreEvents.{RunsTo, runs_to_more}
 use Rattle.lset_schedule.specs.declared.TheConstants.{MOST_EVENTS}
 use Rattle.lset_schedule.specs.declared.value.Line.{Line}
 use Rattle.lset_schedule.specs.declared.value.Line.TheVariants as line
@@ -91,23 +91,7 @@ pub record HasMade (T : Table) (d : DraftValue) (i left : ℕ) (lines : List Lin
   pub fit : AllByRecursion (IsLine Two) lines
   pub total : sum_by event_count lines + left ≡ MOST_EVENTS
 
-pub made_none : (T : Table) (d : DraftValue) (lines : List Line) (w : WorldState) → Opens (opening_in d) → lines ≡ []
-    → w ≡ record { sizes = sizes (opening_in d); state = opening (opening_in d) } → HasMade T d 0 MOST_EVENTS lines w
-made_none T d lines w opens none is =
-    subst (λ ls. HasMade T d 0 MOST_EVENTS ls w) (sym none)
-    (subst (λ v. HasMade T d 0 MOST_EVENTS [] v) (sym is) (record {
-      sized = refl;
-      state = refl;
-      run = runs_to_opening T (opening_in d) opens;
-      lines_are = tt;
-      fit = tt;
-      total = omega arith;
-    }))
-
 module _ (T : Table) (d : DraftValue) (i left : ℕ) (lines : List Line) (w : WorldState) (h : HasMade T d i left lines w) where
-  pub seats : length w.state.locals ≡ w.sizes.threads
-  seats = h.run.locals ∙ ap (λ z. z.threads) (sym h.sized)
-
   pub made_more : (l : Line) (w' : WorldState) → i < length d.lines → IsMade T w left (line_at d.lines i) l w'
       → HasMade T d (i + 1) (left - event_count l) (lines ++ l ∷ []) w'
   made_more l w' below made =

@@ -1,17 +1,11 @@
 -- Steps of one thread, one after another.
-use Rattle.std.proofs.Common.{◌≡◌, ◌≢◌, ℕ, zero, suc, ◌+◌, ◌<◌, ◌≤◌, ◌⊎◌, inl, inr, length, length-set, refl, sym, ap, subst, ◌∙◌}
+use Rattle.std.proofs.Common.{◌≡◌, ◌≢◌, ℕ, suc, ◌+◌, ◌<◌, ◌≤◌, ◌⊎◌, inl, inr, sym, ap, subst, ◌∙◌}
 use Rattle.std.proofs.Common.{add-one, arith}
 use Rattle.lset_steps.specs.declared.Event.TheVariants.{Go}
 use Rattle.lset_steps.specs.declared.world.StepFault.{StepFault}
-use Rattle.lset_steps.specs.Steps.{Table, State, Enabled, after, local_of, seen_next}
+use Rattle.lset_steps.specs.Steps.{Table, Enabled, after, local_of}
 use Rattle.lset_steps.specs.Worlds.{WorldState, Refused}
-use Rattle.tool_draft.specs.Counts.{steps_on, world_on, row_on, AreEnabled, IsNotYet, IsRefusedAt, HasCome}
-
-locals_on : (T : Table) (s : State) (t n : ℕ) → length (steps_on T s t n).locals ≡ length s.locals
-locals_on T s t zero = refl
-locals_on T s t (suc n) =
-    let before : State = steps_on T s t n in
-    length-set before.locals t (T.feed (local_of before t) (seen_next T before t)).local ∙ locals_on T s t n
+use Rattle.tool_draft.specs.Counts.{steps_on, world_on, row_on, AreEnabled, IsNotYet, IsRefusedAt}
 
 -- n steps of the thread lead from the first world to the second
 pub record HasStepped (T : Table) (w : WorldState) (t n : ℕ) (w' : WorldState) : Type 0 where
@@ -38,19 +32,6 @@ module _ (T : Table) (w : WorldState) (t n : ℕ) (w' : WorldState) (h : HasStep
       } in
       subst (λ k. HasStepped T w t k w'') (sym (add-one n)) one_more
 
-  pub come : (row before most : ℕ) → n ≡ before + 1 → n ≤ most → IsNotYet T w.state t row before → (local_of w'.state t).pc ≡ row
-      → HasCome T w t row most n w'
-  come row before most is few not_yet there = record {
-    few = few;
-    enabled = h.enabled;
-    count = record {
-      some = omega arith;
-      there = subst (λ (z : WorldState). (local_of z.state t).pc ≡ row) h.world there;
-      least = λ m p l. not_yet m p (omega arith);
-    };
-    world = h.world;
-  }
-
   pub not_yet_more : (row before : ℕ) → n ≡ before + 1 → IsNotYet T w.state t row before → (local_of w'.state t).pc ≢ row
       → IsNotYet T w.state t row n
   not_yet_more row before is not_yet other = λ m p l. elim (last_or_upto m before (omega arith)) [
@@ -58,14 +39,3 @@ module _ (T : Table) (w : WorldState) (t n : ℕ) (w' : WorldState) (h : HasStep
         (subst (λ (z : WorldState). (local_of z.state t).pc ≢ row) h.world other)
     | inr y ↦ not_yet m p y
   ]
-
-  -- a thread that steps is one of the world's
-  pub seat : (w'' : WorldState) → length w.state.locals ≡ w.sizes.threads → Enabled w'.state (Go t)
-      → w'' ≡ record w' { state = after T w'.state (Go t) } → t < w''.sizes.threads
-  seat w'' seats en is =
-      let many : length w'.state.locals ≡ w.sizes.threads =
-      ap (λ (z : WorldState). length z.state.locals) h.world ∙ locals_on T w.state t n ∙ seats in
-      let same : w''.sizes.threads ≡ w.sizes.threads =
-      ap (λ (z : WorldState). z.sizes.threads) is ∙ ap (λ (z : WorldState). z.sizes.threads) h.world in
-      let below : t < length w'.state.locals = en.0 in
-      omega arith

@@ -71,9 +71,7 @@ not_out n low high = tested (bytes_eq (decimal n) (codes "out")) refl
 
 not_to : (t : ℕ) (c : Call) → have_form Two to_kind.0 (plan.pieces_of (Begin t c)) ≡ false
 not_to t (call.Add k) = refl
-not_to t (call.Remove k) = refl
-not_to t (call.Contains k) = refl
-not_to t (call.Ceiling k) = refl
+not_to t call = refl
 
 draft_made : (l : DraftLine) → IsDraftLine l → IsMade Two pieces_of events.kinds l
 draft_made (Out t) is = inl ((tt, (t, (tt, tt))), refl, (tt, ((omega arith, omega (arith, is)), (tt, tt))))
@@ -101,9 +99,7 @@ draft_made (Plain (Go t n)) is =
 -- it has three pieces or four
 no_opening : (l : DraftLine) → IsDraftLine l → have_form Two opening_form (pieces_of l) ≡ false
 no_opening (Plain (Begin t c)) is = refl
-no_opening (Plain (Go t n)) is = refl
-no_opening (Out t) is = refl
-no_opening (To t row) is = refl
+no_opening l is = refl
 
 -- ---- the whole
 

@@ -16,7 +16,6 @@ pub use reading::read_draft;
 pub use tool::{drafted, tool_draft};
 pub use value::{Draft, DraftLine};
 
-/// The first line of a draft's text.
 const TITLE: &str = "listset-draft 2";
 
 /// The greatest row at which a line of a draft may send a thread.

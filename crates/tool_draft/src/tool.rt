@@ -36,7 +36,6 @@ impl From<DraftFault> for Trouble {
     }
 }
 
-/// The text of the schedule of the draft whose text the bytes are.
 fn schedule_text_of(alloc: Global, bytes: &[u8]) -> Result<Answer, Trouble>
     requires { IsTaken bytes.now }
     ensures drafts { Drafts bytes.now (view result) }

@@ -6,7 +6,6 @@ ghost use Rattle.std.specs.List.{AllByRecursion};
 use lset_schedule::{Line, Version};
 use lset_words::Call;
 
-/// Whether a text of the first version has the line.
 fn is_of_first(line: &Line) -> bool
     ensures { IsTrue result ↔ HasCallOfLine Version.One line.now }
 {
@@ -16,7 +15,6 @@ fn is_of_first(line: &Line) -> bool
     }
 }
 
-/// Whether a text of the first version has the lines.
 fn are_of_first(lines: &[Line]) -> bool
     ensures { IsTrue result ↔ AllByRecursion (HasCallOfLine Version.One) lines.now }
 {

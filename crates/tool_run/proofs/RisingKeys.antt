@@ -5,9 +5,9 @@ use Rattle.std.specs.List.Sorted.{IsStrictlyIncreasing}
 use Rattle.std.proofs.lemmas.Bool.{cases_Bool}
 use Rattle.std.proofs.lemmas.Bool.Decides.{nat_tests}
 use Rattle.lset_words.specs.declared.Call.{Call}
-use Rattle.lset_words.specs.declared.Call.TheVariants.{Add, Remove, Contains, Ceiling}
+use Rattle.lset_words.specs.declared.Call.TheVariants.{Add, Remove}
 use Rattle.lset_words.specs.declared.Reply.{Reply}
-use Rattle.lset_words.specs.declared.Reply.TheVariants.{True, False, Full, At, Nothing}
+use Rattle.lset_words.specs.declared.Reply.TheVariants.{True, False}
 use Rattle.lset_words.specs.SequentialSet.{Answered, IsLegal, SetState, after_call, has_key, opening_set, reply_to, set_left}
 use Rattle.lset_words.specs.SequentialSet.{with_key, without_key}
 use Rattle.lset_words.specs.Words.{Opening}
@@ -45,17 +45,8 @@ after_rises quota s t (Add k) True e r = elim (cases_Bool (has_key k.0 s.keys)) 
   | inl h ↦ absurd (let g : False ≡ True = rw h at e in cc)
   | inr h ↦ with_rises k.0 0 s.keys r (omega arith) h
 ]
-after_rises quota s t (Add k) False e r = r
-after_rises quota s t (Add k) Full e r = r
-after_rises quota s t (Add k) (At x) e r = r
-after_rises quota s t (Add k) Nothing e r = r
 after_rises quota s t (Remove k) True e r = without_rises k.0 0 s.keys r
-after_rises quota s t (Remove k) False e r = r
-after_rises quota s t (Remove k) Full e r = r
-after_rises quota s t (Remove k) (At x) e r = r
-after_rises quota s t (Remove k) Nothing e r = r
-after_rises quota s t (Contains k) reply e r = r
-after_rises quota s t (Ceiling k) reply e r = r
+after_rises quota s t call reply e r = r
 
 legal_rises : (quota : ℕ) (s : SetState) (order : List Answered) → IsLegal quota s order → RisesFrom 0 s.keys →
     RisesFrom 0 (set_left s order).keys

@@ -13,8 +13,8 @@ use Rattle.lset_work.specs.Programs.{worked}
 use Rattle.lset_work.specs.declared.fault.WorkCause.{WorkCause}
 use Rattle.lset_work.specs.declared.fault.WorkCause.TheVariants as cause
 use Rattle.lset_tools.specs.declared.trouble.Trouble.{Trouble}
-use Rattle.lset_tools.specs.declared.trouble.Trouble.TheVariants.{CannotRead, TooLong, CannotWrite, Memory, Line}
-use Rattle.lset_tools.specs.declared.trouble.Trouble.TheVariants.{Bad, CannotListen, Work, Serve}
+use Rattle.lset_tools.specs.declared.trouble.Trouble.TheVariants.{Memory}
+use Rattle.lset_tools.specs.declared.trouble.Trouble.TheVariants.{Bad, Work}
 use Rattle.lset_tools.specs.declared.trouble.ValueName.{ValueName}
 use Rattle.lset_tools.specs.declared.trouble.WorkName.TheVariants as work
 use Rattle.lset_tools.specs.declared.values.RandomRequest.{RandomRequest}
@@ -95,18 +95,10 @@ pub record AreCutOff (asked : LivesRequest) (SoMany : ℕ → Type 0) : Type 0 w
 
 -- what ends a run: memory was refused, or a thread of a life, or a life would open with too many keys
 abbrev pub EndsRun : LivesRequest → Trouble → Type 0
-EndsRun asked CannotRead = ⊥
-EndsRun asked TooLong = ⊥
-EndsRun asked CannotWrite = ⊥
 EndsRun asked Memory = Unit {0}
-EndsRun asked (Line number cause) = ⊥
-EndsRun asked (Bad wrong) = ⊥
-EndsRun asked CannotListen = ⊥
-EndsRun asked (Work work.Programs) = ⊥
 EndsRun asked (Work work.Spawn) = AreCutOff asked (λ n. n ≤ MOST_OPENING)
-EndsRun asked (Work work.Gate) = ⊥
 EndsRun asked (Work work.Opening) = AreCutOff asked (λ n. MOST_OPENING < n)
-EndsRun asked (Serve name) = ⊥
+EndsRun asked trouble = ⊥
 
 -- what is made of a request: the text of what its lives come to; a wrong value is named
 abbrev pub Answers : Result LivesRequest ValueName → Made → Type 0
@@ -129,15 +121,7 @@ of_work cause.Memory = Memory
 
 -- what ends a life that opens with these keys: they are too many, or else memory or a thread was refused
 abbrev pub EndsLife : List ℕ → Trouble → Type 0
-EndsLife opening CannotRead = ⊥
-EndsLife opening TooLong = ⊥
-EndsLife opening CannotWrite = ⊥
 EndsLife opening Memory = length opening ≤ MOST_OPENING
-EndsLife opening (Line number cause) = ⊥
-EndsLife opening (Bad wrong) = ⊥
-EndsLife opening CannotListen = ⊥
-EndsLife opening (Work work.Programs) = ⊥
 EndsLife opening (Work work.Spawn) = length opening ≤ MOST_OPENING
-EndsLife opening (Work work.Gate) = ⊥
 EndsLife opening (Work work.Opening) = MOST_OPENING < length opening
-EndsLife opening (Serve name) = ⊥
+EndsLife opening trouble = ⊥

@@ -20,7 +20,6 @@ fn is_same(reply: Reply, other: Reply) -> bool
     reply == other
 }
 
-/// How often a reply stands among the replies.
 fn count(reply: Reply, replies: &[Reply]) -> usize
     ensures count { result ≡ count_by (same_reply reply) replies.now }
     ensures few { result ≤ length replies.now }

@@ -8,8 +8,5 @@ use Rattle.lset_wrong_tables.proofs.coarse.calls_without_the_lock.Goals as goal
 lost : OtherKeyIsLost goes_without_lock two_adds 13 0 5 3
 lost = other_is_lost goes_without_lock two_adds 13 0 5 3 3 None refl refl refl refl refl refl refl
 
-pub returns-clause-loses : goal.returns-clause-loses
-returns-clause-loses c = lost
-
-pub returns-clause-named_change : goal.returns-clause-named_change
-returns-clause-named_change c = by_other_key goes_without_lock two_adds 13 0 5 3 lost
+pub returns : goal.returns
+returns c = record { loses = lost; named_change = by_other_key goes_without_lock two_adds 13 0 5 3 lost }

@@ -11,14 +11,10 @@ changed = link_changes removes_with_one_lock removed_under_a_lock 27 0 0 refl re
 lost : AddedKeyIsLost removes_with_one_lock removed_under_a_lock 27 1 5
 lost = key_is_lost removes_with_one_lock removed_under_a_lock 27 1 5 None refl refl refl refl
 
-pub returns-clause-changes : goal.returns-clause-changes
-returns-clause-changes c = changed
-
-pub returns-clause-loses : goal.returns-clause-loses
-returns-clause-loses c = lost
-
-pub returns-clause-unlinked_stays : goal.returns-clause-unlinked_stays
-returns-clause-unlinked_stays c = by_link removes_with_one_lock removed_under_a_lock 27 2 changed
-
-pub returns-clause-named_change : goal.returns-clause-named_change
-returns-clause-named_change c = by_lost_key removes_with_one_lock removed_under_a_lock 27 1 5 lost
+pub returns : goal.returns
+returns c = record {
+  changes = changed;
+  loses = lost;
+  unlinked_stays = by_link removes_with_one_lock removed_under_a_lock 27 2 changed;
+  named_change = by_lost_key removes_with_one_lock removed_under_a_lock 27 1 5 lost;
+}

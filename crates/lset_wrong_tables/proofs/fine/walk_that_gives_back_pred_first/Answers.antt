@@ -11,14 +11,10 @@ changed = link_changes gives_back_pred_first removed_behind_a_walk 29 0 0 refl r
 lost : AddedKeyIsLost gives_back_pred_first removed_behind_a_walk 29 1 5
 lost = key_is_lost gives_back_pred_first removed_behind_a_walk 29 1 5 None refl refl refl refl
 
-pub returns-clause-changes : goal.returns-clause-changes
-returns-clause-changes c = changed
-
-pub returns-clause-loses : goal.returns-clause-loses
-returns-clause-loses c = lost
-
-pub returns-clause-unlinked_stays : goal.returns-clause-unlinked_stays
-returns-clause-unlinked_stays c = by_link gives_back_pred_first removed_behind_a_walk 29 2 changed
-
-pub returns-clause-named_change : goal.returns-clause-named_change
-returns-clause-named_change c = by_lost_key gives_back_pred_first removed_behind_a_walk 29 1 5 lost
+pub returns : goal.returns
+returns c = record {
+  changes = changed;
+  loses = lost;
+  unlinked_stays = by_link gives_back_pred_first removed_behind_a_walk 29 2 changed;
+  named_change = by_lost_key gives_back_pred_first removed_behind_a_walk 29 1 5 lost;
+}

@@ -11,8 +11,8 @@ unfit : ReplyNeverFits ceiling_by_key sought_after_the_mark 23 1 (ceiling 3) (At
 unfit = reply_fits_never ceiling_by_key sought_after_the_mark 23 1 21 3 (ceiling 3) (At (record { 0 = 5 })) refl refl refl refl
     refl refl refl refl
 
-pub returns-clause-answers : goal.returns-clause-answers
-returns-clause-answers c = unfit
-
-pub returns-clause-replies_fit : goal.returns-clause-replies_fit
-returns-clause-replies_fit c = by_reply ceiling_by_key sought_after_the_mark 23 1 (ceiling 3) (At (record { 0 = 5 })) unfit
+pub returns : goal.returns
+returns c = record {
+  answers = unfit;
+  replies_fit = by_reply ceiling_by_key sought_after_the_mark 23 1 (ceiling 3) (At (record { 0 = 5 })) unfit;
+}

@@ -10,8 +10,5 @@ use Rattle.lset_wrong_tables.proofs.lazy.contains_by_the_key_alone.Goals as goal
 unfit : ReplyNeverFits contains_by_key asked_after_the_mark 23 1 (contains 5) True
 unfit = reply_fits_never contains_by_key asked_after_the_mark 23 1 21 3 (contains 5) True refl refl refl refl refl refl refl refl
 
-pub returns-clause-answers : goal.returns-clause-answers
-returns-clause-answers c = unfit
-
-pub returns-clause-replies_fit : goal.returns-clause-replies_fit
-returns-clause-replies_fit c = by_reply contains_by_key asked_after_the_mark 23 1 (contains 5) True unfit
+pub returns : goal.returns
+returns c = record { answers = unfit; replies_fit = by_reply contains_by_key asked_after_the_mark 23 1 (contains 5) True unfit }

@@ -12,14 +12,10 @@ changed = link_changes adds_whatever_mark marked_before_the_exchange 24 1 0 refl
 lost : AddedKeyIsLost adds_whatever_mark marked_before_the_exchange 24 0 5
 lost = key_is_lost adds_whatever_mark marked_before_the_exchange 24 0 5 (Some True) refl refl refl refl
 
-pub returns-clause-changes : goal.returns-clause-changes
-returns-clause-changes c = changed
-
-pub returns-clause-loses : goal.returns-clause-loses
-returns-clause-loses c = lost
-
-pub returns-clause-unlinked_stays : goal.returns-clause-unlinked_stays
-returns-clause-unlinked_stays c = by_link adds_whatever_mark marked_before_the_exchange 24 3 changed
-
-pub returns-clause-named_change : goal.returns-clause-named_change
-returns-clause-named_change c = by_lost_key adds_whatever_mark marked_before_the_exchange 24 0 5 lost
+pub returns : goal.returns
+returns c = record {
+  changes = changed;
+  loses = lost;
+  unlinked_stays = by_link adds_whatever_mark marked_before_the_exchange 24 3 changed;
+  named_change = by_lost_key adds_whatever_mark marked_before_the_exchange 24 0 5 lost;
+}

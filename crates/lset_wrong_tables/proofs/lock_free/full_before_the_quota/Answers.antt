@@ -10,8 +10,5 @@ use Rattle.lset_wrong_tables.proofs.lock_free.full_before_the_quota.Goals as goa
 unfit : ReplyNeverFits full_too_soon one_add 3 0 (add 5) Full
 unfit = reply_fits_never full_too_soon one_add 3 0 1 3 (add 5) Full refl refl refl refl refl refl refl refl
 
-pub returns-clause-answers : goal.returns-clause-answers
-returns-clause-answers c = unfit
-
-pub returns-clause-replies_fit : goal.returns-clause-replies_fit
-returns-clause-replies_fit c = by_reply full_too_soon one_add 3 0 (add 5) Full unfit
+pub returns : goal.returns
+returns c = record { answers = unfit; replies_fit = by_reply full_too_soon one_add 3 0 (add 5) Full unfit }

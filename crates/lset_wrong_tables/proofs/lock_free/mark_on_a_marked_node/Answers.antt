@@ -8,8 +8,5 @@ use Rattle.lset_wrong_tables.proofs.lock_free.mark_on_a_marked_node.Goals as goa
 absent : AbsentKeyIsRemoved marks_twice two_removes 18 1 5
 absent = absent_is_removed marks_twice two_removes 18 1 5 None refl refl refl refl
 
-pub returns-clause-takes : goal.returns-clause-takes
-returns-clause-takes c = absent
-
-pub returns-clause-named_change : goal.returns-clause-named_change
-returns-clause-named_change c = by_absent_key marks_twice two_removes 18 1 5 absent
+pub returns : goal.returns
+returns c = record { takes = absent; named_change = by_absent_key marks_twice two_removes 18 1 5 absent }

@@ -8,8 +8,5 @@ use Rattle.lset_wrong_tables.proofs.lock_free.slot_used_twice.Goals as goal
 changed : PublishedKeyChanges uses_one_slot added_after_a_remove 18 2
 changed = key_changes uses_one_slot added_after_a_remove 18 0 0 refl refl refl
 
-pub returns-clause-changes : goal.returns-clause-changes
-returns-clause-changes c = changed
-
-pub returns-clause-unlinked_stays : goal.returns-clause-unlinked_stays
-returns-clause-unlinked_stays c = by_key uses_one_slot added_after_a_remove 18 2 changed
+pub returns : goal.returns
+returns c = record { changes = changed; unlinked_stays = by_key uses_one_slot added_after_a_remove 18 2 changed }

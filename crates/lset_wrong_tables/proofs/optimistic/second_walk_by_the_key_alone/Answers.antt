@@ -11,14 +11,10 @@ changed = link_changes arrives_by_key same_key_again 44 1 0 refl refl refl refl
 lost : AddedKeyIsLost arrives_by_key same_key_again 44 0 5
 lost = key_is_lost arrives_by_key same_key_again 44 0 5 None refl refl refl refl
 
-pub returns-clause-changes : goal.returns-clause-changes
-returns-clause-changes c = changed
-
-pub returns-clause-loses : goal.returns-clause-loses
-returns-clause-loses c = lost
-
-pub returns-clause-unlinked_stays : goal.returns-clause-unlinked_stays
-returns-clause-unlinked_stays c = by_link arrives_by_key same_key_again 44 4 changed
-
-pub returns-clause-named_change : goal.returns-clause-named_change
-returns-clause-named_change c = by_lost_key arrives_by_key same_key_again 44 0 5 lost
+pub returns : goal.returns
+returns c = record {
+  changes = changed;
+  loses = lost;
+  unlinked_stays = by_link arrives_by_key same_key_again 44 4 changed;
+  named_change = by_lost_key arrives_by_key same_key_again 44 0 5 lost;
+}

@@ -11,14 +11,10 @@ changed = link_changes validates_by_the_link unlinked_before_it_is_locked 31 1 0
 lost : AddedKeyIsLost validates_by_the_link unlinked_before_it_is_locked 31 0 5
 lost = key_is_lost validates_by_the_link unlinked_before_it_is_locked 31 0 5 None refl refl refl refl
 
-pub returns-clause-changes : goal.returns-clause-changes
-returns-clause-changes c = changed
-
-pub returns-clause-loses : goal.returns-clause-loses
-returns-clause-loses c = lost
-
-pub returns-clause-unlinked_stays : goal.returns-clause-unlinked_stays
-returns-clause-unlinked_stays c = by_link validates_by_the_link unlinked_before_it_is_locked 31 3 changed
-
-pub returns-clause-named_change : goal.returns-clause-named_change
-returns-clause-named_change c = by_lost_key validates_by_the_link unlinked_before_it_is_locked 31 0 5 lost
+pub returns : goal.returns
+returns c = record {
+  changes = changed;
+  loses = lost;
+  unlinked_stays = by_link validates_by_the_link unlinked_before_it_is_locked 31 3 changed;
+  named_change = by_lost_key validates_by_the_link unlinked_before_it_is_locked 31 0 5 lost;
+}

@@ -1,19 +1,24 @@
-use Rattle.std.proofs.Common.{◌≡◌, ◌≤◌, ◌<◌, [], ◌∷◌, ◌++◌, length, Some, None, get_or, sym, subst, ap, ◌∙◌, arith, rules}
+use Rattle.std.proofs.Common.{◌≡◌, ℕ, Bool, List, ◌≤◌, ◌<◌, [], ◌∷◌, ◌++◌, length, Some, None, get_or, sym, subst, ap, ◌∙◌, arith, rules}
 use Rattle.std.specs.Prelude.{if◌then◌else◌}
-use Rattle.lset_history.specs.Changes.{IsFirst, moments_of, noted_of, is_present}
+use Rattle.lset_words.specs.SequentialSet.{has_key}
+use Rattle.lset_history.specs.Changes.{ChangesValue, IsFirst, moments_of, noted_of, is_present}
 use Rattle.lset_history.proofs.Counting.{turned_from, same_state, other_state, found_at_once, never_found, found_next}
 use Rattle.lset_history.proofs.Counting.{first_of_all, few_looks}
 use Rattle.lset_history.proofs.changes.Changes.first.Goals as goal
 use Rattle.lset_history.proofs.changes.Changes.first.Goals.{then-next-to, else-next-to}
+
+-- the moments of a key, of what the two calls give
+moments_are : (self : ChangesValue) (key : ℕ) (opens : Bool) (noted : List ℕ) → opens ≡ has_key key self.opening
+    → noted ≡ noted_of self key → moments_of self key ≡ (if opens then 0 ∷ [] else []) ++ noted
+moments_are self key opens noted e f =
+    ap (λ b. (if b then 0 ∷ [] else []) ++ noted_of self key) (sym e) ∙ ap (λ z. (if opens then 0 ∷ [] else []) ++ z) (sym f)
 
 pub count_upto-before-requires : goal.count_upto-before-requires
 count_upto-before-requires c = c.noted-noted.ensures.rises
 
 pub returns-then-before-opens_with-clause-first : goal.returns-then-before-opens_with-clause-first
 returns-then-before-opens_with-clause-first c =
-    let is : moments_of c.args.self.now c.args.key ≡ (if c.opens_with.result then 0 ∷ [] else []) ++ c.noted-noted.result.now =
-    ap (λ b. (if b then 0 ∷ [] else []) ++ noted_of c.args.self.now c.args.key) (sym c.opens_with.ensures)
-    ∙ ap (λ z. (if c.opens_with.result then 0 ∷ [] else []) ++ z) (sym c.noted-noted.ensures.value) in
+    let is = moments_are c.args.self.now c.args.key _ _ c.opens_with.ensures c.noted-noted.ensures.value in
     first_of_all c.opens_with.result c.noted-noted.result.now (moments_of c.args.self.now c.args.key) is c.args.present c.args.from c.args.to (Some c.args.from)
     (found_at_once c.opens_with.result c.noted-noted.result.now c.noted-noted.ensures.rises c.args.present c.args.from c.args.to
     c.count_upto-before.result.0 c.requires c.count_upto-before.ensures.count
@@ -21,9 +26,7 @@ returns-then-before-opens_with-clause-first c =
 
 pub returns-then-before-opens_with-clause-few : goal.returns-then-before-opens_with-clause-few
 returns-then-before-opens_with-clause-few c = λ few.
-    let is : moments_of c.args.self.now c.args.key ≡ (if c.opens_with.result then 0 ∷ [] else []) ++ c.noted-noted.result.now =
-    ap (λ b. (if b then 0 ∷ [] else []) ++ noted_of c.args.self.now c.args.key) (sym c.opens_with.ensures)
-    ∙ ap (λ z. (if c.opens_with.result then 0 ∷ [] else []) ++ z) (sym c.noted-noted.ensures.value) in
+    let is = moments_are c.args.self.now c.args.key _ _ c.opens_with.ensures c.noted-noted.ensures.value in
     let a : c.count_upto-before.result.1 ≤ 20 =
     few_looks c.opens_with.result c.noted-noted.result.now (moments_of c.args.self.now c.args.key) is c.count_upto-before.result.1
     c.count_upto-before.ensures.looked few in
@@ -31,9 +34,7 @@ returns-then-before-opens_with-clause-few c = λ few.
 
 pub returns-then-before-noted-clause-first : goal.returns-then-before-noted-clause-first
 returns-then-before-noted-clause-first c =
-    let is : moments_of c.args.self.now c.args.key ≡ (if c.opens_with.result then 0 ∷ [] else []) ++ c.noted-noted.result.now =
-    ap (λ b. (if b then 0 ∷ [] else []) ++ noted_of c.args.self.now c.args.key) (sym c.opens_with.ensures)
-    ∙ ap (λ z. (if c.opens_with.result then 0 ∷ [] else []) ++ z) (sym c.noted-noted.ensures.value) in
+    let is = moments_are c.args.self.now c.args.key _ _ c.opens_with.ensures c.noted-noted.ensures.value in
     first_of_all c.opens_with.result c.noted-noted.result.now (moments_of c.args.self.now c.args.key) is c.args.present c.args.from c.args.to None
     (never_found c.opens_with.result c.noted-noted.result.now c.noted-noted.ensures.rises c.args.present c.args.from c.args.to
     c.count_upto-before.result.0 c.requires c.count_upto-before.ensures.count
@@ -42,9 +43,7 @@ returns-then-before-noted-clause-first c =
 
 pub returns-then-before-noted-clause-few : goal.returns-then-before-noted-clause-few
 returns-then-before-noted-clause-few c = λ few.
-    let is : moments_of c.args.self.now c.args.key ≡ (if c.opens_with.result then 0 ∷ [] else []) ++ c.noted-noted.result.now =
-    ap (λ b. (if b then 0 ∷ [] else []) ++ noted_of c.args.self.now c.args.key) (sym c.opens_with.ensures)
-    ∙ ap (λ z. (if c.opens_with.result then 0 ∷ [] else []) ++ z) (sym c.noted-noted.ensures.value) in
+    let is = moments_are c.args.self.now c.args.key _ _ c.opens_with.ensures c.noted-noted.ensures.value in
     let a : c.count_upto-before.result.1 ≤ 20 =
     few_looks c.opens_with.result c.noted-noted.result.now (moments_of c.args.self.now c.args.key) is c.count_upto-before.result.1
     c.count_upto-before.ensures.looked few in
@@ -56,9 +55,7 @@ overflow_add-result c =
 
 pub returns-clause-first : goal.returns-clause-first
 returns-clause-first c =
-    let is : moments_of c.args.self.now c.args.key ≡ (if c.opens_with.result then 0 ∷ [] else []) ++ c.noted-noted.result.now =
-    ap (λ b. (if b then 0 ∷ [] else []) ++ noted_of c.args.self.now c.args.key) (sym c.opens_with.ensures)
-    ∙ ap (λ z. (if c.opens_with.result then 0 ∷ [] else []) ++ z) (sym c.noted-noted.ensures.value) in
+    let is = moments_are c.args.self.now c.args.key _ _ c.opens_with.ensures c.noted-noted.ensures.value in
     let upto : c.count_upto-before.result.0 ≤ length c.noted-noted.result.now = c.count_upto-before.ensures.count.inside in
     let below : c.count_upto-before.result.0 < length c.noted-noted.result.now = search rules in
     elim c.if-next-to.branch [
@@ -81,9 +78,7 @@ returns-clause-first c =
 
 pub returns-clause-few : goal.returns-clause-few
 returns-clause-few c = λ few.
-    let is : moments_of c.args.self.now c.args.key ≡ (if c.opens_with.result then 0 ∷ [] else []) ++ c.noted-noted.result.now =
-    ap (λ b. (if b then 0 ∷ [] else []) ++ noted_of c.args.self.now c.args.key) (sym c.opens_with.ensures)
-    ∙ ap (λ z. (if c.opens_with.result then 0 ∷ [] else []) ++ z) (sym c.noted-noted.ensures.value) in
+    let is = moments_are c.args.self.now c.args.key _ _ c.opens_with.ensures c.noted-noted.ensures.value in
     let a : c.count_upto-before.result.1 ≤ 20 =
     few_looks c.opens_with.result c.noted-noted.result.now (moments_of c.args.self.now c.args.key) is c.count_upto-before.result.1
     c.count_upto-before.ensures.looked few in
