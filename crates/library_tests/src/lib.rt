@@ -5,27 +5,17 @@
 #[cfg(test)]
 mod breaking;
 #[cfg(test)]
-mod ceilings;
-#[cfg(test)]
-mod coarse;
-#[cfg(test)]
-mod fine;
-#[cfg(test)]
 mod history;
 #[cfg(test)]
 mod laws;
 #[cfg(test)]
-mod lazy;
-#[cfg(test)]
-mod lock_free;
-#[cfg(test)]
-mod marked;
-#[cfg(test)]
 mod openings;
 #[cfg(test)]
-mod optimistic;
+mod runs;
 #[cfg(test)]
 mod schedule;
+#[cfg(test)]
+mod steps;
 #[cfg(test)]
 mod tables;
 #[cfg(test)]

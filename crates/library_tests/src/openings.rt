@@ -12,12 +12,6 @@ use std::alloc::{AllocError, Global};
 use std::process::Abort;
 use std::test::Fail;
 
-/// A world of one thread with one slot, and the keys 0, 7 and 4294967295.
-fn with_three_keys<M: Machine>(alloc: Global) -> Result<World<M>, Fail> {
-    let layout = layout_opening(1, 1, 3)?;
-    Ok(World::opened(alloc, layout, &[0, 7, u32::MAX])?)
-}
-
 /// An opening key goes out as any other and comes in again in a slot; the head's first key and the last before the tail too.
 const COME_AND_GO: [(Call, Reply); 6] = [
     (Call::Add(Key(7)), Reply::False),
@@ -28,8 +22,9 @@ const COME_AND_GO: [(Call, Reply); 6] = [
     (Call::Add(Key(8)), Reply::Full),
 ];
 
-fn keys_come_and_go<M: Machine, R: Abort>(rt: &R, alloc: Global) -> Result<(), Fail> {
-    let mut world = with_three_keys::<M>(alloc)?;
+fn keys_come_and_go<M: Machine, R: Abort + AllocGlobal>(rt: &R) -> Result<(), Fail> {
+    let layout = layout_opening(1, 1, 3)?;
+    let mut world = World::<M>::opened(rt.alloc(), layout, &[0, 7, u32::MAX])?;
     assert_content(rt, &world, &[0, 7, u32::MAX])?;
     worlds::assert_replies(rt, &mut world, &COME_AND_GO)?;
     assert_content(rt, &world, &[0, 7])
@@ -37,8 +32,8 @@ fn keys_come_and_go<M: Machine, R: Abort>(rt: &R, alloc: Global) -> Result<(), F
 
 #[test]
 fn opening_keys_come_and_go(rt: HostRuntime) -> Result<(), Fail> {
-    keys_come_and_go::<CoarseList, HostRuntime>(&rt, rt.alloc())?;
-    keys_come_and_go::<LockFreeList, HostRuntime>(&rt, rt.alloc())
+    keys_come_and_go::<CoarseList, HostRuntime>(&rt)?;
+    keys_come_and_go::<LockFreeList, HostRuntime>(&rt)
 }
 
 #[test]

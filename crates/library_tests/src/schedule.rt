@@ -1,7 +1,5 @@
 use lset_coarse::CoarseList;
 use lset_schedule::*;
-use std::alloc::Global;
-use std::process::Abort;
 use std::test::Fail;
 
 #[test]
@@ -16,14 +14,7 @@ fn a_fault_shows_its_line_and_its_cause(rt: HostRuntime) -> Result<(), Fail> {
 }
 
 /// Threads, a quota and keys that are refused, and why.
-type Refused = (u32, u32, u32, GenFault);
-
-fn assert_refused<R: Abort>(rt: &R, alloc: Global, &(threads, quota, keys, fault): &Refused) {
-    let found = generate::<CoarseList>(alloc, threads, quota, 0, keys, 1).err();
-    assert!(rt; found == Some(fault));
-}
-
-const REFUSED: [Refused; 4] = [
+const REFUSED: [(u32, u32, u32, GenFault); 4] = [
     (0, 16_385, 0, GenFault::Threads),
     (65, 16_385, 0, GenFault::Threads),
     (64, 16_385, 0, GenFault::Quota),
@@ -32,8 +23,9 @@ const REFUSED: [Refused; 4] = [
 
 #[test]
 fn refused_numbers_in_their_order(rt: HostRuntime) {
-    for row in &REFUSED {
-        assert_refused(&rt, rt.alloc(), row);
+    for &(threads, quota, keys, fault) in &REFUSED {
+        let found = generate::<CoarseList>(rt.alloc(), threads, quota, 0, keys, 1).err();
+        assert!(rt; found == Some(fault));
     }
     assert!(rt; programs(rt.alloc(), 65, 0, 0, 1).err() == Some(GenFault::Threads));
     assert!(rt; programs(rt.alloc(), 64, 0, 0, 1).err() == Some(GenFault::Keys));

@@ -1,7 +1,6 @@
 //! Events and calls on a world, and what is seen of them.
 use lset_steps::{Event, Machine, StepFault, World};
-use lset_words::{Call, Key, Reply, layout};
-use std::alloc::Global;
+use lset_words::{Call, Reply, layout};
 use std::process::Abort;
 use std::test::Fail;
 
@@ -48,6 +47,19 @@ pub fn assert_lines<M: Machine, R: Abort>(
     Ok(())
 }
 
+/// The same on a new world of so many threads and slots, which then has these keys.
+pub fn assert_run<M: Machine, R: Abort + AllocGlobal>(
+    rt: &R,
+    threads: u32,
+    quota: u32,
+    lines: &[Line],
+    keys: &[u32],
+) -> Result<(), Fail> {
+    let mut world = World::<M>::new(rt.alloc(), layout(threads, quota)?)?;
+    assert_lines(rt, &mut world, lines)?;
+    assert_content(rt, &world, keys)
+}
+
 /// Makes the calls of thread 0 in turn: each has its reply after so many steps.
 pub fn assert_calls<M: Machine, R: Abort>(
     rt: &R,
@@ -85,26 +97,4 @@ pub fn assert_content<M: Machine, R: Abort>(
 ) -> Result<(), Fail> {
     assert_eq!(rt; world.content()?.as_slice(), keys);
     Ok(())
-}
-
-/// The least key and the greatest are put in, found and taken out: each call answers true, after so many steps.
-pub fn assert_ends<M: Machine, R: Abort>(
-    rt: &R,
-    alloc: Global,
-    adds: [u64; 2],
-    finds: [u64; 2],
-    removes: [u64; 2],
-) -> Result<(), Fail> {
-    let (least, most) = (Key(0), Key(u32::MAX));
-    let calls = [
-        (Call::Add(least), Reply::True, adds[0]),
-        (Call::Add(most), Reply::True, adds[1]),
-        (Call::Contains(least), Reply::True, finds[0]),
-        (Call::Contains(most), Reply::True, finds[1]),
-        (Call::Remove(least), Reply::True, removes[0]),
-        (Call::Remove(most), Reply::True, removes[1]),
-    ];
-    let mut world = World::<M>::new(alloc, layout(1, 2)?)?;
-    assert_calls(rt, &mut world, &calls)?;
-    assert_content(rt, &world, &[])
 }

@@ -1,10 +1,57 @@
-use crate::worlds::{Line, assert_content, assert_lines, make};
+//! Runs step by step: what each step tells, and the words of the locks after it.
+use crate::worlds::{assert_content, make};
+use lset_coarse::CoarseList;
 use lset_optimistic::OptimisticList;
-use lset_steps::{Event, World};
+use lset_steps::{Event, StepFault, Told, World};
 use lset_words::{Call, Key, Reply, layout};
-use std::alloc::Global;
 use std::process::Abort;
 use std::test::Fail;
+
+const ADD: Event = Event::Begin(0, Call::Add(Key(5)));
+
+const QUIET: Told = Told {
+    answer: None,
+    change: None,
+};
+
+const CHANGING: Told = Told {
+    answer: None,
+    change: Some((Key(5), true)),
+};
+
+const ANSWERING: Told = Told {
+    answer: Some(Reply::True),
+    change: None,
+};
+
+#[test]
+fn an_add_changes_the_set_one_step_before_its_answer(rt: HostRuntime) -> Result<(), Fail> {
+    let mut world = World::<CoarseList>::new(rt.alloc(), layout(1, 4)?)?;
+    assert_eq!(rt; world.step(ADD)?, QUIET);
+    for _ in 0..5 {
+        assert_eq!(rt; world.step(Event::Go(0))?, QUIET);
+    }
+    assert_eq!(rt; world.step(Event::Go(0))?, CHANGING);
+    assert_content(&rt, &world, &[5])?;
+    assert_eq!(rt; world.step(Event::Go(0))?, ANSWERING);
+    Ok(())
+}
+
+#[test]
+fn a_refused_event_changes_nothing(rt: HostRuntime) -> Result<(), Fail> {
+    let mut world = World::<CoarseList>::new(rt.alloc(), layout(1, 4)?)?;
+    let of_no_thread = Event::Begin(1, Call::Add(Key(5)));
+    assert!(rt; world.step(Event::Go(1)).err() == Some(StepFault::NoThread));
+    assert!(rt; world.step(of_no_thread).err() == Some(StepFault::NoThread));
+    assert!(rt; world.step(Event::Go(0)).err() == Some(StepFault::Idle));
+    assert!(rt; !world.busy(0));
+    world.step(ADD)?;
+    world.step(Event::Go(0))?;
+    assert!(rt; world.step(ADD).err() == Some(StepFault::Busy));
+    assert!(rt; world.busy(0));
+    assert_eq!(rt; world.word(0), 1);
+    assert_content(&rt, &world, &[])
+}
 
 /// The lock words of the head and of the tail.
 const HEAD: u64 = 5;
@@ -32,39 +79,12 @@ fn an_add_locks_its_two_nodes_in_order_and_gives_them_back(rt: HostRuntime) -> R
         let told = world.step(Event::Go(1))?;
         let (changed, answered) = (told.change.is_some(), told.answer.is_some());
         assert!(rt;
-            world.word(HEAD) == *head && world.word(TAIL) == *tail,
+            (world.word(HEAD), world.word(TAIL)) == (*head, *tail),
             "{row}"
         );
         assert!(rt; changed == *changes && answered == (*row == 15), "{row}");
     }
     Ok(())
-}
-
-const FAILED_TRIES: [Line; 13] = [
-    (Event::Begin(1, Call::Add(Key(5))), 1, None),
-    (Event::Go(1), 10, Some(Reply::True)),
-    // thread 0 has locked the node of 5
-    (Event::Begin(0, Call::Contains(Key(9))), 1, None),
-    (Event::Go(0), 5, None),
-    (Event::Begin(1, Call::Contains(Key(4))), 1, None),
-    // thread 1 has locked the head, and tries the node of 5 in vain
-    (Event::Go(1), 3, None),
-    (Event::Go(1), 20, None),
-    // thread 2 tries the head in vain
-    (Event::Begin(2, Call::Add(Key(3))), 1, None),
-    (Event::Go(2), 2, None),
-    (Event::Go(2), 20, None),
-    // each goes on from where it stood
-    (Event::Go(0), 6, Some(Reply::False)),
-    (Event::Go(1), 4, Some(Reply::False)),
-    (Event::Go(2), 8, Some(Reply::True)),
-];
-
-#[test]
-fn a_failed_try_leaves_the_thread_where_it_was(rt: HostRuntime) -> Result<(), Fail> {
-    let mut world = World::<OptimisticList>::new(rt.alloc(), layout(3, 1)?)?;
-    assert_lines(&rt, &mut world, &FAILED_TRIES)?;
-    assert_content(&rt, &world, &[3, 5])
 }
 
 /// An event, how often it is made, the lock word of the tail after it, and the answer of the last one.
@@ -98,8 +118,8 @@ const PARTED: [LockedLine; 7] = [
     (Event::Go(0), 14, 0, Some(Reply::True)),
 ];
 
-fn assert_locked_lines<R: Abort>(rt: &R, alloc: Global, lines: &[LockedLine]) -> Result<(), Fail> {
-    let mut world = World::<OptimisticList>::new(alloc, layout(2, 4)?)?;
+fn assert_locked_lines<R: Abort + AllocGlobal>(rt: &R, lines: &[LockedLine]) -> Result<(), Fail> {
+    let mut world = World::<OptimisticList>::new(rt.alloc(), layout(2, 4)?)?;
     for (event, times, tail, answer) in lines {
         let made = make(&mut world, *event, *times)?;
         assert!(rt; world.word(TAIL) == *tail && made == *answer, "{event:?}");
@@ -109,6 +129,6 @@ fn assert_locked_lines<R: Abort>(rt: &R, alloc: Global, lines: &[LockedLine]) ->
 
 #[test]
 fn a_failed_validation_gives_the_locks_back_and_begins_again(rt: HostRuntime) -> Result<(), Fail> {
-    assert_locked_lines(&rt, rt.alloc(), &UNLINKED)?;
-    assert_locked_lines(&rt, rt.alloc(), &PARTED)
+    assert_locked_lines(&rt, &UNLINKED)?;
+    assert_locked_lines(&rt, &PARTED)
 }
