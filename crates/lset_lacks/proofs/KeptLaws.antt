@@ -1,5 +1,5 @@
 -- What is kept after k events: of no more than k calls, and of changes up to moment k.
-use Rattle.std.proofs.Common.{◌≡◌, ℕ, zero, suc, ◌+◌, ◌<◌, ◌≤◌, not, Bool, get_or, sym, ap, ◌∙◌, true, false, List, length, arith, refl, subst}
+use Rattle.std.proofs.Common.{◌≡◌, ℕ, zero, suc, ◌+◌, ◌<◌, ◌≤◌, not, Bool, get_or, ap, ◌∙◌, true, false, List, length, arith, refl}
 use mathlib.Core.Bool.{beq}
 use Rattle.std.specs.Prelude.{All, Option, Some, None, if◌then◌else◌}
 use Rattle.std.proofs.Math.ListN.{length-set}
@@ -12,9 +12,9 @@ use Rattle.std.proofs.lemmas.List.Elements.{All-get_or, All-from_get_or}
 use Rattle.lset_history.specs.Changes.{is_present, is_present_now, with_change}
 use Rattle.lset_history.proofs.ChangeLaws.{all_upto_later, all_upto_change, all_below, present_past}
 use Rattle.lset_replay.specs.Blocks.{is_same}
-use Rattle.lset_replay.specs.Trace.{Trace}
+use Rattle.lset_replay.specs.Trace.{Trace, kept_by}
 use Rattle.lset_replay.proofs.OpenedChanges.{opened_upto}
-use Rattle.lset_lacks.specs.Keeping.{closed_on, kept_after, kept_at, noted, noted_on}
+use Rattle.lset_lacks.specs.Keeping.{closed_on, kept_after, noted_on}
 
 -- ---- how many calls
 few_noted : (m t : ℕ) (c : Option Change) (s : Trace) → length (noted_on m t c s).places ≡ length s.places
@@ -33,12 +33,12 @@ few_after m (stepped t change reply) s =
     let b : length (noted_on m t change s).places ≡ length s.places = few_noted m t change s in
     omega arith
 
-pub few_kept : (op : Opening) (log : Log) (k : ℕ) → length (kept_at op log k).places ≤ k
+pub few_kept : (op : Opening) (log : Log) (k : ℕ) → length (kept_by kept_after op log k).places ≤ k
 few_kept op log zero = omega arith
 few_kept op log (suc k) =
-    let a : length (kept_after (suc k) (log k) (kept_at op log k)).places ≤ length (kept_at op log k).places + 1 =
-    few_after (suc k) (log k) (kept_at op log k) in
-    let b : length (kept_at op log k).places ≤ k = few_kept op log k in
+    let a : length (kept_after (suc k) (log k) (kept_by kept_after op log k)).places ≤ length (kept_by kept_after op log k).places + 1 =
+    few_after (suc k) (log k) (kept_by kept_after op log k) in
+    let b : length (kept_by kept_after op log k).places ≤ k = few_kept op log k in
     omega arith
 
 -- ---- the changes
@@ -66,12 +66,12 @@ upto_after k (began t call) s h = λ j. all_upto_later (s.changes j) k (suc k) (
 upto_after k (stepped t change reply) s h =
     upto_closed (suc k) t reply (noted_on (suc k) t change s) (upto_noted k t change s h)
 
-pub upto_kept : (op : Opening) (log : Log) (k : ℕ) → UpTo k (kept_at op log k)
+pub upto_kept : (op : Opening) (log : Log) (k : ℕ) → UpTo k (kept_by kept_after op log k)
 upto_kept op log zero = opened_upto op.keys
-upto_kept op log (suc k) = upto_after k (log k) (kept_at op log k) (upto_kept op log k)
+upto_kept op log (suc k) = upto_after k (log k) (kept_by kept_after op log k) (upto_kept op log k)
 
-pub later_kept : (op : Opening) (log : Log) (k : ℕ) (j : ℕ) → All (λ x. x < suc k) ((kept_at op log k).changes j)
-later_kept op log k j = all_below ((kept_at op log k).changes j) k (suc k) (omega arith) (upto_kept op log k j)
+pub later_kept : (op : Opening) (log : Log) (k : ℕ) (j : ℕ) → All (λ x. x < suc k) ((kept_by kept_after op log k).changes j)
+later_kept op log k j = all_below ((kept_by kept_after op log k).changes j) k (suc k) (omega arith) (upto_kept op log k j)
 
 -- ---- a change of a key that is not so already
 below_upto : (ms : List ℕ) (m : ℕ) → All (λ x. x < m) ms → All (λ x. x ≤ m) ms

@@ -1,17 +1,17 @@
 -- What is kept of a run of a list that keeps no promise, as a function of what its events tell: as a replay keeps it
 -- (Rattle.lset_replay.specs.Trace), but that a change of a key that is so already is none, and that a call whose reply fits at no
 -- moment stands at its end.
-use Rattle.std.specs.Prelude.{◌≡◌, ℕ, zero, suc, Bool, true, false, not, List, Option, Some, None, slice_set, if◌then◌else◌}
+use Rattle.std.specs.Prelude.{ℕ, ◌<◌, Bool, List, length, Option, Some, None, slice_set, if◌then◌else◌}
 use Rattle.lset_words.specs.declared.Reply.{Reply}
 use Rattle.lset_words.specs.History.{call_numbered}
-use Rattle.lset_words.specs.Log.{Log, Entry, Change}
+use Rattle.lset_words.specs.Log.{Entry, Change}
 use Rattle.lset_words.specs.Log.Entry.{began, stepped}
 use Rattle.lset_words.specs.Words.{Opening}
-use Rattle.lset_history.specs.History.{ended_with}
+use Rattle.lset_history.specs.History.{MayBegin, ended_with}
 use Rattle.lset_history.specs.Changes.{is_present, with_change}
 use Rattle.lset_replay.specs.declared.places.OpenCall.{OpenCall}
 use Rattle.lset_replay.specs.Blocks.{is_same}
-use Rattle.lset_replay.specs.Trace.{Trace, begun_on, changed_at, fit_of, no_trace, number_of, open_call_at, place_at, settled}
+use Rattle.lset_replay.specs.Trace.{MayStep, Trace, begun_on, changed_at, fit_of, number_of, open_call_at, place_at, settled}
 
 -- a key is put in or taken out at a moment, unless it is so then
 abbrev pub noted : (ℕ → List ℕ) → ℕ → ℕ → Bool → ℕ → List ℕ
@@ -48,7 +48,13 @@ abbrev pub kept_after : ℕ → Entry → Trace → Trace
 kept_after moment (began thread call) s = begun_on moment thread call s
 kept_after moment (stepped thread change reply) s = closed_on moment thread reply (noted_on moment thread change s)
 
--- AFTER THE FIRST k EVENTS
-abbrev pub kept_at : Opening → Log → ℕ → Trace
-kept_at op log zero = no_trace op
-kept_at op log (suc k) = kept_after (suc k) (log k) (kept_at op log k)
+-- A HISTORY GOES ON with what an event tells: a call begins that may, or the thread that changes something or answers has a call
+-- that may end.
+abbrev pub CanKeep : Opening → ℕ → Entry → Trace → Type 0
+CanKeep op moment (began thread call) s =
+    MayBegin (record { opening = op; calls = s.calls }) thread moment × (thread < length s.under_way)
+CanKeep op moment (stepped thread None None) s = Unit {0}
+CanKeep op moment (stepped thread None (Some reply)) s =
+    MayStep (record { opening = op; calls = s.calls }) s.under_way s.places thread moment
+CanKeep op moment (stepped thread (Some change) reply) s =
+    MayStep (record { opening = op; calls = s.calls }) s.under_way s.places thread moment

@@ -1,9 +1,12 @@
 //! What is kept of a run of a list that keeps no promise: each event is tried before it is noted.
-ghost use Rattle.std.specs.Prelude.{◌≡◌, ℕ, ◌<◌, ◌≤◌, All, OnOk};
+ghost use Rattle.std.specs.Prelude.{◌≡◌, ◌≢◌, ℕ, ◌<◌, ◌≤◌, All, IfErr, IfOk, OnOk, Some, None, length};
+ghost use Rattle.lset_words.specs.Log.Entry.{began, stepped};
 ghost use Rattle.lset_history.specs.Changes.{is_present, moments_of};
+ghost use Rattle.lset_history.specs.declared.fault.HistoryFault.TheVariants as faults;
 ghost use Rattle.lset_replay.specs.Blocks.{StandUpTo};
-ghost use Rattle.lset_replay.specs.Trace.{begun_on, entry_told, fit, open_call_at, trace_of};
-ghost use Rattle.lset_lacks.specs.Keeping.{closed_on, fit_or, kept_after, noted, noted_on};
+ghost use Rattle.lset_replay.specs.Trace.{MayStep, begun_on, entry_told, fit, open_call_at, trace_of};
+ghost use Rattle.lset_lacks.specs.Keeping.{CanKeep, closed_on, fit_or, kept_after, noted, noted_on};
+ghost use Rattle.lset_lacks.specs.declared.keeping.Unkept.TheVariants.{Lost, Memory};
 
 use lset_history::{Changes, HistoryFault};
 use lset_replay::{Linearized, OpenCall, Recorder};
@@ -19,12 +22,16 @@ pub enum Unkept {
 }
 
 impl From<AllocError> for Unkept {
+    ghost from_gives = { λ _ unkept. unkept ≡ Memory };
+
     fn from(_refused: AllocError) -> Unkept {
         Unkept::Memory
     }
 }
 
 impl From<HistoryFault> for Unkept {
+    ghost from_gives = { λ fault unkept. unkept ≡ Lost → fault ≢ faults.Memory };
+
     fn from(fault: HistoryFault) -> Unkept {
         match fault {
             HistoryFault::Memory => Unkept::Memory,
@@ -42,10 +49,27 @@ fn open_call(recorder: &Recorder, thread: u32) -> Option<OpenCall>
     *recorder.under_way.get(thread as usize)?
 }
 
+/// The open call of a thread, which may change something or end.
+fn stepping(recorder: &Recorder, thread: u32, moment: u32) -> Result<OpenCall, Unkept>
+    ensures open { IfOk result (λ o. open_call_at recorder.now.under_way.items thread ≡ Some o) }
+    ensures known { IfOk result (λ o. o.number < length recorder.now.places.items) }
+    ensures begun { IfOk result (λ o. o.begun ≤ moment) }
+    ensures lost { IfErr result (λ _. MayStep recorder.now.history recorder.now.under_way.items recorder.now.places.items thread
+        moment → ⊥) }
+{
+    let open = open_call(recorder, thread).ok_or(Unkept::Lost)?;
+    if open.number as usize >= recorder.places.len() || moment < open.begun {
+        return Err(Unkept::Lost);
+    }
+    Ok(open)
+}
+
 fn begin(recorder: &mut Recorder, thread: u32, call: Call, moment: u32) -> Result<(), Unkept>
     ensures trace { OnOk result (trace_of recorder.new ≡ begun_on moment thread call (trace_of recorder.old)) }
     ensures opening { OnOk result (recorder.new.history.opening ≡ recorder.old.history.opening) }
     ensures inside { OnOk result (StandUpTo moment recorder.old.places.items → StandUpTo moment recorder.new.places.items) }
+    ensures lost { IfErr result (λ cause. cause ≡ Lost
+        → CanKeep recorder.old.history.opening moment (began thread call) (trace_of recorder.old) → ⊥) }
 {
     let seat = thread as usize;
     if seat >= recorder.under_way.len() {
@@ -94,24 +118,23 @@ fn note(
     ensures trace { OnOk result (trace_of recorder.new ≡ noted_on moment thread change (trace_of recorder.old)) }
     ensures opening { OnOk result (recorder.new.history.opening ≡ recorder.old.history.opening) }
     ensures inside { OnOk result (StandUpTo moment recorder.old.places.items → StandUpTo moment recorder.new.places.items) }
+    ensures lost { IfErr result (λ cause. cause ≡ Lost
+        → CanKeep recorder.old.history.opening moment (stepped thread change None) (trace_of recorder.old) → ⊥) }
 {
     let Some((key, present)) = change else {
         return Ok(());
     };
-    let open = open_call(recorder, thread).ok_or(Unkept::Lost)?;
-    let number = open.number as usize;
-    if number >= recorder.places.len() {
-        return Err(Unkept::Lost);
-    }
+    let open = stepping(recorder, thread, moment)?;
     note_key(&mut recorder.changes, key.0, present, moment)?;
-    recorder.places[number] = Some(Linearized::changed(moment));
+    recorder.places[open.number as usize] = Some(Linearized::changed(moment));
     Ok(())
 }
 
 /// The moment at which a call stands that changes nothing: the first that its reply fits, or else its end.
 fn moment_of(recorder: &Recorder, made: OpenCall, reply: Reply, end: u32) -> u32
     requires { made.begun ≤ end }
-    ensures { result ≡ fit_or end (fit (moments_of recorder.now.changes) made reply end) }
+    ensures fit { result ≡ fit_or end (fit (moments_of recorder.now.changes) made reply end) }
+    ensures upto { result ≤ end }
 {
     recorder.fit(made, reply, end).unwrap_or(end)
 }
@@ -126,34 +149,32 @@ fn close(
     ensures trace { OnOk result (trace_of recorder.new ≡ closed_on moment thread answer (trace_of recorder.old)) }
     ensures opening { OnOk result (recorder.new.history.opening ≡ recorder.old.history.opening) }
     ensures inside { OnOk result (StandUpTo moment recorder.old.places.items → StandUpTo moment recorder.new.places.items) }
+    ensures lost { IfErr result (λ cause. cause ≡ Lost
+        → CanKeep recorder.old.history.opening moment (stepped thread None answer) (trace_of recorder.old) → ⊥) }
 {
     let Some(reply) = answer else {
         return Ok(());
     };
-    let open = open_call(recorder, thread).ok_or(Unkept::Lost)?;
-    let number = open.number as usize;
-    if number >= recorder.places.len() || moment < open.begun {
-        return Err(Unkept::Lost);
-    }
+    let open = stepping(recorder, thread, moment)?;
     recorder.history.end(open.number, reply, moment)?;
+    let number = open.number as usize;
     if recorder.places[number].is_none() {
         let at = moment_of(recorder, open, reply, moment);
-        if at > moment {
-            return Err(Unkept::Lost);
-        }
         recorder.places[number] = Linearized::read(Some(at), reply);
     }
     recorder.under_way[thread as usize] = None;
     Ok(())
 }
 
-/// Follows the event that leads to a moment, and what it told. An event with which no history goes on is `Lost`.
+/// Follows the event that leads to a moment, and what it told. It is `Lost` where no history goes on with that.
 pub fn follow(recorder: &mut Recorder, event: Event, told: Told, moment: u32) -> Result<(), Unkept>
     requires counted { 0 < moment }
     requires later { (j : ℕ) → All (λ m. m < moment) (moments_of recorder.old.changes j) }
     ensures trace { OnOk result (trace_of recorder.new ≡ kept_after moment (entry_told event told) (trace_of recorder.old)) }
     ensures opening { OnOk result (recorder.new.history.opening ≡ recorder.old.history.opening) }
     ensures inside { OnOk result (StandUpTo moment recorder.old.places.items → StandUpTo moment recorder.new.places.items) }
+    ensures lost { IfErr result (λ cause. cause ≡ Lost
+        → CanKeep recorder.old.history.opening moment (entry_told event told) (trace_of recorder.old) → ⊥) }
 {
     match event {
         Event::Begin(thread, call) => begin(recorder, thread, call, moment),

@@ -1,28 +1,29 @@
-ghost use Rattle.std.specs.Prelude.{◌≡◌, ℕ, ◌<◌, ◌≤◌, ◌^◌, All, IfOk, IfSome, MatchOption, [], length};
-ghost use Rattle.std.specs.List.{sum_by};
+ghost use Rattle.std.specs.Prelude.{◌≡◌, ℕ, ◌<◌, ◌^◌, All, IfOk, IfSome, Some, [], length};
 ghost use Rattle.lset_words.specs.Words.{Opens, sizes};
 ghost use Rattle.lset_history.specs.Changes.{moments_of};
 ghost use Rattle.lset_steps.specs.Steps.{local_of, opening};
 ghost use Rattle.lset_steps.specs.Worlds.{thread_of};
-ghost use Rattle.lset_schedule.specs.declared.TheConstants.{MOST_EVENTS};
-ghost use Rattle.lset_schedule.specs.Plan.{event_count, opening_in, view};
-ghost use Rattle.lset_replay.specs.Events.{IsInLimits, events_from};
+ghost use Rattle.lset_schedule.specs.Plan.{opening_in, view};
+ghost use Rattle.lset_replay.specs.Blocks.{StandUpTo};
+ghost use Rattle.lset_replay.specs.Events.{IsInLimits};
+ghost use Rattle.lset_replay.specs.Follows.{HasKept};
 ghost use Rattle.lset_replay.specs.Trace.{no_trace, trace_of};
 ghost use Rattle.lset_replay.specs.Tracer.{deed_ahead};
+ghost use Rattle.lset_wrong_lists.specs.WrongSteps.{CanMake};
+ghost use Rattle.lset_lacks.specs.Keeping.{kept_after};
 ghost use Rattle.lset_lacks.specs.Lackings.{table_of};
-ghost use Rattle.lset_lacks.specs.LackingRuns.{HasKept, IsEnd, MakesEvent, RunsAs, RunsLines, stop_of};
+ghost use Rattle.lset_lacks.specs.LackingRuns.{EndsAt, MakesEvent, RunsAs, TellsEvent};
 ghost use Rattle.lset_lacks.specs.Meeting.{met};
-ghost use Rattle.lset_lacks.specs.declared.running.Stop.TheVariants as stops;
 
 use crate::keeping::{Unkept, follow};
 use crate::lacking::{Lacking, Task, on_lacking};
 use crate::meeting::{chain_met, keys_of};
 use lset_replay::{
-    Deed, LineEvent, Listener, Recorder, TracedEvent, call_end, event_of, in_order, open_number,
-    writes_node,
+    Deed, LineEvent, Listener, Recorder, Runner, TracedEvent, call_end, in_order, open_number,
+    run_lines, thread_of, writes_node,
 };
 use lset_report::Report;
-use lset_schedule::{Line, Schedule, Version};
+use lset_schedule::{Schedule, Version};
 use lset_steps::{ChainKey, Event, Local};
 use lset_words::layout_opening;
 use lset_wrong_lists::{WrongFault, WrongMachine, WrongWorld};
@@ -31,72 +32,24 @@ use std::alloc::{AllocError, Global};
 /// How the run of a schedule ended: with the report of all its events, or at the event of a line.
 pub type LackingRun = Result<Report, (u64, WrongFault)>;
 
-/// Why an event is not made and kept.
-#[derive(Clone, Copy)]
-pub enum Stop {
-    At(WrongFault),
-    Memory,
-}
-
-impl From<AllocError> for Stop {
-    ghost from_gives = { λ _ stop. stop ≡ stops.Memory };
-
-    fn from(_refused: AllocError) -> Stop {
-        Stop::Memory
-    }
-}
-
-impl From<WrongFault> for Stop {
-    ghost from_gives = { λ fault stop. stop ≡ stops.At fault };
-
-    fn from(fault: WrongFault) -> Stop {
-        Stop::At(fault)
-    }
-}
-
-impl From<Unkept> for Stop {
-    ghost from_gives = { λ unkept stop. stop ≡ stop_of unkept };
-
-    fn from(unkept: Unkept) -> Stop {
-        match unkept {
-            Unkept::Lost => Stop::At(WrongFault::Lost),
-            Unkept::Memory => Stop::Memory,
-        }
-    }
-}
-
-fn thread_of(event: Event) -> u32
-    ensures { result ≡ thread_of event }
-{
-    match event {
-        Event::Begin(thread, _) | Event::Go(thread) => thread,
-    }
-}
-
-/// How a run ends that stops at an event of the line.
-fn end_at(line: u64, stop: Stop) -> Result<Option<(u64, WrongFault)>, AllocError>
-    ensures { IfOk result (IsEnd line stop) }
-{
-    match stop {
-        Stop::At(cause) => Ok(Some((line, cause))),
-        Stop::Memory => Err(AllocError),
-    }
-}
-
 /// A run under way: the world, what is kept of its events, and the chain that was told last.
 #[derive(Drop)]
 struct Running<M: WrongMachine> {
+    alloc: Global,
+    chains: bool,
     world: WrongWorld<M>,
     recorder: Recorder,
     chain: Vec<ChainKey>,
 }
 
 impl<M: WrongMachine> Running<M> {
-    /// What a thread holds before an event, and what the event will do, where it can be made.
+    /// What a thread holds before an event that can be made, and what the event will do.
     fn look(&self, event: Event) -> Option<(Local, Deed)>
         requires { length self.now.recorder.places.items < 2 ^ 32 }
-        ensures { IfSome result (λ r. (r.0 ≡ local_of self.now.world.state (thread_of event))
-            × (r.1 ≡ deed_ahead M.table self.now.world.state (length self.now.recorder.places.items) event)) }
+        ensures { CanMake M.table self.now.world event → result ≡ Some (
+          local_of self.now.world.state (thread_of event),
+          deed_ahead M.table self.now.world.state (length self.now.recorder.places.items) event,
+        ) }
     {
         let deed = match event {
             Event::Begin(_, call) => Deed::Begin(call, self.recorder.places.len() as u32),
@@ -108,54 +61,52 @@ impl<M: WrongMachine> Running<M> {
         Some((self.world.holds(thread_of(event))?, deed))
     }
 
-    /// The chain after a deed, where it is another than the one told last, in whose place it then comes.
-    fn changed_chain(
-        &mut self,
-        alloc: Global,
-        deed: Deed,
-    ) -> Result<Option<Vec<ChainKey>>, AllocError>
+    /// The chain after a deed, where chains are asked for and it is another than the one told last, in whose place it then comes.
+    fn changed_chain(&mut self, deed: Deed) -> Result<Option<Vec<ChainKey>>, AllocError>
         ensures chain { IfOk result (λ chain. IfSome chain (λ c. c.items ≡ met self.old.world.state.words)) }
         ensures world { self.new.world ≡ self.old.world }
         ensures recorder { self.new.recorder ≡ self.old.recorder }
     {
-        if !writes_node(deed) {
+        if !self.chains || !writes_node(deed) {
             return Ok(None);
         }
-        let chain = chain_met(alloc, self.world.words())?;
+        let chain = chain_met(self.alloc, self.world.words())?;
         if chain.as_slice() == self.chain.as_slice() {
             return Ok(None);
         }
-        self.chain = chain.iter().copied().collect(alloc)?;
+        self.chain = chain.iter().copied().collect(self.alloc)?;
         Ok(Some(chain))
     }
 
-    /// Makes the event that leads to a moment, keeps it, and tells it, with the chain where `chains`.
-    fn make(
+    /// Makes the event that leads to a moment, keeps it, and tells it.
+    fn make_event(
         &mut self,
-        alloc: Global,
         next: LineEvent,
         moment: u32,
-        chains: bool,
-    ) -> Result<TracedEvent, Stop>
+    ) -> Result<Result<TracedEvent, WrongFault>, AllocError>
         requires counted { 0 < moment }
         requires few { length self.old.recorder.places.items < 2 ^ 32 }
         requires later { (j : ℕ) → All (λ m. m < moment) (moments_of self.old.recorder.changes j) }
-        ensures { MakesEvent M.table next moment self.old.world self.old.recorder result self.new.world self.new.recorder }
+        ensures { IfOk result (λ made. MakesEvent M.table next moment self.old.world self.old.recorder made self.new.world
+            self.new.recorder) }
     {
         let thread = thread_of(next.event);
         let ahead = self.look(next.event);
         let number = open_number(&self.recorder, thread);
-        let told = self.world.step(next.event)?;
+        let told = match self.world.step(next.event) {
+            Ok(told) => told,
+            Err(cause) => return Ok(Err(cause)),
+        };
         let (Some((before, deed)), Some(after)) = (ahead, self.world.holds(thread)) else {
-            return Err(Stop::At(WrongFault::Lost));
+            unreachable!();
         };
-        follow(&mut self.recorder, next.event, told, moment)?;
-        let chain = if chains {
-            self.changed_chain(alloc, deed)?
-        } else {
-            None
-        };
-        Ok(TracedEvent {
+        match follow(&mut self.recorder, next.event, told, moment) {
+            Ok(()) => {}
+            Err(Unkept::Lost) => return Ok(Err(WrongFault::Lost)),
+            Err(Unkept::Memory) => return Err(AllocError),
+        }
+        let chain = self.changed_chain(deed)?;
+        Ok(Ok(TracedEvent {
             line: next.line,
             thread,
             deed,
@@ -164,43 +115,35 @@ impl<M: WrongMachine> Running<M> {
             change: told.change,
             end: call_end(&self.recorder, number, told.answer),
             chain,
-        })
+        }))
     }
+}
 
-    /// Makes the events of the lines, one after another, up to one that is not made; the first line has the number `first`.
-    fn make_lines<L: Listener>(
+impl<M: WrongMachine> Runner for Running<M> {
+    type Fault = WrongFault;
+
+    ghost has_made = { λ first events k now. HasKept kept_after M.table first.recorder.history.opening events k now.world
+        now.recorder × StandUpTo k now.recorder.places.items };
+
+    ghost tells = { λ first events k told. TellsEvent M.table first.recorder.history.opening events k told };
+
+    ghost stops = { λ first events k end. EndsAt M.table first.recorder.history.opening events k end.0 end.1 };
+
+    fn make(
         &mut self,
-        alloc: Global,
-        listener: &mut L,
-        first: u64,
-        lines: &[Line],
-        chains: bool,
-    ) -> Result<Option<(u64, WrongFault)>, AllocError>
-        requires header { first ≤ 2 ^ 32 }
-        requires few { sum_by event_count lines.now ≤ MOST_EVENTS }
-        requires start { HasKept M.table self.old.recorder.history.opening (events_from first lines.now) 0
-            self.old.world self.old.recorder }
-        requires silence { L.has_heard listener.old [] listener.old }
-        ensures { IfOk result (λ end. RunsLines (λ events. L.has_heard listener.old events listener.new) M.table
-            self.old.recorder.history.opening (events_from first lines.now) end self.new.world self.new.recorder) }
-    {
-        let mut moment = 0u32;
-        for (index, line) in lines.iter().enumerate() {
-            let (next, times) = event_of(first + index as u64, *line);
-            for _done in 0..times {
-                moment += 1;
-                match self.make(alloc, next, moment, chains) {
-                    Ok(told) => listener.hear(moment, told)?,
-                    Err(stop) => return end_at(next.line, stop),
-                }
-            }
-        }
-        Ok(None)
+        next: LineEvent,
+        moment: u32,
+    ) -> Result<Result<TracedEvent, WrongFault>, AllocError> {
+        self.make_event(next, moment)
     }
 }
 
 /// A run before any event of a schedule.
-fn start_of<M: WrongMachine>(alloc: Global, schedule: &Schedule) -> Result<Running<M>, AllocError>
+fn start_of<M: WrongMachine>(
+    alloc: Global,
+    schedule: &Schedule,
+    chains: bool,
+) -> Result<Running<M>, AllocError>
     requires { Opens (opening_in (view schedule.now)) }
     ensures world { IfOk result (λ r. r.world ≡ record {
       sizes = sizes (opening_in (view schedule.now));
@@ -217,6 +160,8 @@ fn start_of<M: WrongMachine>(alloc: Global, schedule: &Schedule) -> Result<Runni
     let chain = chain_met(alloc, world.words())?;
     let recorder = Recorder::new(alloc, schedule.threads, schedule.quota, keys.to_vec(alloc)?)?;
     Ok(Running {
+        alloc,
+        chains,
         world,
         recorder,
         chain,
@@ -235,16 +180,16 @@ fn run_on<M: WrongMachine, L: Listener + Drop>(
     ensures { IfOk result (λ r. RunsAs (λ events. L.has_heard listener events r.0) M.table (view schedule.now) r.1) }
 {
     let mut listener = listener;
-    let mut running = start_of::<M>(alloc, schedule)?;
+    let mut running = start_of::<M>(alloc, schedule, chains)?;
     let first = schedule.first_event_line();
-    let end = running.make_lines(alloc, &mut listener, first, &schedule.lines, chains)?;
+    let end = run_lines(&mut running, &mut listener, first, &schedule.lines)?;
     if let Some(end) = end {
         return Ok((listener, Err(end)));
     }
     let Running {
         world,
         recorder,
-        chain: _told,
+        ..
     } = running;
     let ordered = in_order(alloc, &recorder.places)?;
     let met = chain_met(alloc, world.words())?;

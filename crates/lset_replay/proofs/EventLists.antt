@@ -1,10 +1,11 @@
 -- The events of a schedule's lines: one line after another, and how many there are.
 use Rattle.std.proofs.Common.{◌≡◌, ℕ, zero, suc, take, arith, ◌-◌, ◌+◌, ◌<◌, ◌≤◌, List, [], ◌∷◌, ◌++◌, replicate, length, get_or}
-use Rattle.std.proofs.Common.{refl, sym, ap, ◌∙◌, length-append}
+use Rattle.std.proofs.Common.{refl, sym, subst, ap, ◌∙◌, ◌⊎◌, inl, inr, length-append}
 use Rattle.std.specs.List.{sum_by}
 use Rattle.std.proofs.lemmas.List.Sums.{sum_by-cons}
 use Rattle.std.proofs.lemmas.List.{length-replicate, get_or-replicate, get_or_append_left, get_or-append_right, get_or-map}
-use Rattle.std.proofs.lemmas.List.{get_or_default, length-map}
+use Rattle.std.proofs.lemmas.List.{get_or_default, get_or_push, length-map, length_push}
+use Rattle.lset_schedule.specs.declared.TheConstants.{MOST_EVENTS}
 use Rattle.lset_schedule.specs.declared.value.Line.{Line}
 use Rattle.lset_schedule.specs.declared.value.Line.TheVariants as line
 use Rattle.lset_schedule.specs.Plan.{event_count}
@@ -12,7 +13,9 @@ use Rattle.lset_words.specs.declared.Call.TheVariants as call
 use Rattle.lset_steps.specs.declared.Event.TheVariants as event
 use Rattle.lset_steps.specs.Steps.{event_at}
 use Rattle.lset_replay.specs.declared.events.LineEvent.{LineEvent}
+use Rattle.lset_replay.specs.declared.traced.TracedEvent.{TracedEvent}
 use Rattle.lset_replay.specs.Events.{events_of_line, events_from, only_events, event_in, line_at}
+use Rattle.lset_replay.specs.Lines.{ComesNext, IsHeard}
 
 length_of_line : (n : ℕ) (l : Line) → length (events_of_line n l) ≡ event_count l
 length_of_line n (line.Begin t call) = refl
@@ -24,6 +27,10 @@ length_of_events n (l ∷ ls) = length-append (events_of_line n l) (events_from 
     ∙ ap (λ x. x + length (events_from (n + 1) ls)) (length_of_line n l)
     ∙ ap (λ x. event_count l + x) (length_of_events (n + 1) ls)
     ∙ sym (sum_by-cons event_count l ls)
+
+-- as many events as may be
+pub most_events : (n : ℕ) (ls : List Line) → sum_by event_count ls ≤ MOST_EVENTS → length (events_from n ls) ≤ MOST_EVENTS
+most_events n ls few = let e : length (events_from n ls) ≡ sum_by event_count ls = length_of_events n ls in omega arith
 
 pub same_events : (n m : ℕ) (ls ks : List Line) → n ≡ m → ls ≡ ks → events_from n ls ≡ events_from m ks
 same_events n m ls ks e f = ap (λ z. events_from z ls) e ∙ ap (λ zs. events_from m zs) f
@@ -119,11 +126,6 @@ abbrev pub AreBehind : ℕ → List Line → ℕ → ℕ → ℕ → Type 0
 AreBehind n ls i j k = k ≡ length (events_from n (take i ls)) + j
 
 -- the next event, where k events are behind
-pub record ComesNext (es : List LineEvent) (k : ℕ) (next : LineEvent) : Type 0 where
-  pub known : k < length es
-  pub event_is : event_at (only_events es) k ≡ next.event
-  pub line_is : next.line ≡ line_at es k
-
 pub comes_next : (n : ℕ) (ls : List Line) (i j k times : ℕ) (next : LineEvent) → i < length ls
     → events_of_line (n + i) (get_or ls i no_line) ≡ replicate times next → j < times → AreBehind n ls i j k
     → ComesNext (events_from n ls) k next
@@ -157,3 +159,24 @@ line_done n ls i j k times next below line past end behind =
     one_line_more n i ls l below is in
     let e : k ≡ length (events_from n (take (suc i) ls)) = omega arith in
     e ∙ ap (λ z. length (events_from n (take z ls))) (let f : suc i ≡ i + 1 = omega arith in f)
+
+-- ---- WHO HEARS OF THEM
+-- one more
+pub heard_more : (P Q : List TracedEvent → Type 0) (Tells : ℕ → TracedEvent → Type 0) (k : ℕ) (h : IsHeard P Tells k)
+    (x : TracedEvent) → Q (h.traced ++ x ∷ []) → Tells k x → IsHeard Q Tells (k + 1)
+heard_more P Q Tells k h x now told =
+    let count : length h.traced ≡ k = h.count in
+    let long : length (h.traced ++ x ∷ []) ≡ length h.traced + 1 = length_push h.traced x in
+    record {
+      traced = h.traced ++ x ∷ [];
+      heard = now;
+      count = omega arith;
+      each = λ i d l. elim (before_or_last i (length h.traced) (omega arith)) [
+        | inl below ↦ subst (λ z. Tells i z) (sym (get_or_append_left h.traced (x ∷ []) d i below)) (h.each i d below)
+        | inr e ↦ subst (λ z. Tells i z) (sym (get_or_push h.traced x d i (sym e)))
+            (subst (λ j. Tells j x) (sym (e ∙ count)) told)
+      ];
+    }
+  where
+    before_or_last : (i k : ℕ) → i < suc k → (i < k) ⊎ (i ≡ k)
+    before_or_last i k l = grind arith

@@ -1,8 +1,8 @@
 -- From event to event of a trace: what the tracer tells of each is what the run has there.
-use Rattle.std.proofs.Common.{◌≡◌, ℕ, suc, ◌+◌, ◌<◌, ◌≤◌, ◌⊎◌, inl, inr, Bool, true, false, List, [], ◌∷◌, ◌++◌, length, map, sym}
+use Rattle.std.proofs.Common.{◌≡◌, ℕ, suc, ◌<◌, Bool, true, false, List, [], ◌∷◌, ◌++◌, length, map, sym}
 use Rattle.std.proofs.Common.{refl, subst, ap, ◌∙◌, arith, get_or-set_same}
 use Rattle.std.specs.Prelude.{Option, Some, None, IsSomeAnd}
-use Rattle.std.proofs.lemmas.List.{length_push, get_or_push, get_or_append_left}
+use Rattle.std.proofs.lemmas.List.{get_or_push}
 use Rattle.lset_words.specs.declared.Reply.{Reply}
 use Rattle.lset_words.specs.Log.{Change, TracedCall, traced_on, calls_at, record_of}
 use Rattle.lset_words.specs.Log.Entry.{began, stepped}
@@ -17,9 +17,10 @@ use Rattle.lset_steps.specs.declared.Event.{Event}
 use Rattle.lset_steps.specs.declared.Event.TheVariants.{Begin, Go}
 use Rattle.lset_steps.specs.declared.world.ChainKey.{ChainKey}
 use Rattle.lset_steps.specs.declared.world.StepFault.{StepFault}
-use Rattle.lset_steps.specs.Steps.{Table, Run, Enabled, state_at, event_at, entry_of, told, local_of, seen_next}
-use Rattle.lset_steps.specs.Laws.{Lawful, views, view_of}
-use Rattle.lset_steps.specs.Worlds.{WorldState, AreChainKeys, Refused, thread_of}
+use Rattle.lset_steps.specs.Chain.{View}
+use Rattle.lset_steps.specs.Steps.{Table, Run, state_at, event_at, entry_of, told, local_of, seen_next}
+use Rattle.lset_steps.specs.Laws.{views, view_of}
+use Rattle.lset_steps.specs.Worlds.{WorldState, AreChainKeys, thread_of}
 use Rattle.lset_replay.specs.declared.events.LineEvent.{LineEvent}
 use Rattle.lset_replay.specs.declared.places.OpenCall.{OpenCall}
 use Rattle.lset_replay.specs.declared.places.Linearized.{Linearized}
@@ -31,16 +32,15 @@ use Rattle.lset_replay.specs.declared.traced.Trace.{Trace}
 use Rattle.lset_replay.specs.declared.traced.TracedEvent.{TracedEvent}
 use Rattle.lset_schedule.specs.Plan.{Plan, opening_in}
 use Rattle.lset_replay.specs.Events.{only_events, events_of, line_at}
-use Rattle.lset_replay.specs.Trace.{trace_of, MayFollow, open_call_at, place_at, changed_at}
+use Rattle.lset_replay.specs.Trace.{trace_of, trace_after, open_call_at, place_at, changed_at}
 use Rattle.lset_replay.specs.Follows.{HasFollowed}
-use Rattle.lset_replay.specs.Tracing.{IsDeedAt, EndsCall, TellsEnd, TellsChain, TellsEvent, TellsEvents, HearsEvents, IsTraceOf}
+use Rattle.lset_replay.specs.Lines.{ComesNext, IsHeard, RunsLines}
+use Rattle.lset_replay.specs.Tracing.{IsDeedAt, EndsCall, EndsTrace, TellsEnd, TellsChain, TellsEvent, TellsEvents, HearsEvents, IsTraceOf}
 use Rattle.lset_replay.specs.Tracer.{deed_ahead, open_number_of, end_there, end_with, NotesChain, MadeEvent, KeepsChain}
-use Rattle.lset_replay.specs.Tracer.{HasTraced}
-use Rattle.lset_replay.proofs.EventSteps.{ready, followed, stopped}
+use Rattle.lset_replay.proofs.EventSteps.{followed}
 use Rattle.lset_replay.proofs.Following.{Follows, IsWatched, PlaceBy, PlaceOf, calls_are}
 use Rattle.lset_replay.proofs.Ordered.{moment_of, stands_there}
 use Rattle.lset_replay.proofs.Followed.{TellsKeys, shown, account_then, kept_then}
-use Rattle.lset_replay.proofs.Reported.{few_places}
 
 -- a call that has ended has a place
 has_place : (q : ℕ) (contents : Contents) (counts : Counts) (x : TracedCall) (changed : Option ℕ) (ended : Option (ℕ × Reply))
@@ -54,7 +54,7 @@ has_place q contents counts x None (Some d) end p e h = (record { moment = h.0; 
 module _ (T : Table) (accounts : TellsKeys T) (op : Opening) (events : List LineEvent) (chains : Bool) (k : ℕ) (w w' : WorldState)
     (r r' : Recorder) (kept kept' : List ChainKey) (next : LineEvent) (x : TracedEvent)
     (h : HasFollowed T op events k w r) (h' : HasFollowed T op events (suc k) w' r')
-    (made : MadeEvent T next (suc k) chains w r kept x w' r' kept')
+    (made : MadeEvent trace_after T next (suc k) w r x w' r') (notes : NotesChain chains (view_of w'.sizes w'.state) kept x.chain kept')
     (is : event_at (only_events events) k ≡ next.event) (line_there : next.line ≡ line_at events k) where
   abbrev es : ℕ → Event
   es = event_at (only_events events)
@@ -188,90 +188,58 @@ module _ (T : Table) (accounts : TellsKeys T) (op : Opening) (events : List Line
         ∙ ap (λ e. (told T (state_at T op es k) e).change) (sym is);
     end_is = subst (λ e. TellsEnd T op es k (thread_of e) (told T (state_at T op es k) e).answer x.end) (sym is)
         (end_there_is next.event is x.end made.end);
-    chain_is = chain_there chains c made.chain;
+    chain_is = chain_there chains c notes;
   }
 
--- AND ALL so far
+-- AND WHAT COMES OF IT
 module _ (T : Table) (accounts : TellsKeys T) (op : Opening) (events : List LineEvent) (chains : Bool) (k : ℕ) (w : WorldState)
-    (r : Recorder) (kept : List ChainKey) (traced : List TracedEvent)
-    (h : HasTraced T op events chains k w r kept traced) where
-  pub seats : Lawful T → length w.state.locals ≡ w.sizes.threads
-  seats law = subst (λ (z : WorldState). length z.state.locals ≡ z.sizes.threads) (sym h.followed.world)
-      (law.states op k k (event_at (only_events events)) h.followed.run (omega arith)).locals
-
-  pub few_begun : length r.places.items ≤ k
-  few_begun = few_places T accounts op events k w r h.followed
-
-  module _ (next : LineEvent) (is : event_at (only_events events) k ≡ next.event) where
-    pub may_follow : Enabled w.state next.event → MayFollow r (suc k) next.event (told T w.state next.event)
-    may_follow en = ready T accounts op events k w r h.followed next.event is en (told T w.state next.event) refl
-
-    pub traced_more : (w' : WorldState) (r' : Recorder) (kept' : List ChainKey) (x : TracedEvent) → next.line ≡ line_at events k
-        → MadeEvent T next (suc k) chains w r kept x w' r' kept'
-        → HasTraced T op events chains (suc k) w' r' kept' (traced ++ x ∷ [])
-    traced_more w' r' kept' x line made =
+    (r : Recorder) (kept : List ChainKey) (h : HasFollowed T op events k w r) (next : LineEvent) (comes : ComesNext events k next)
+  where
+    pub traced_more : (w' : WorldState) (r' : Recorder) (kept' : List ChainKey) (x : TracedEvent)
+        → MadeEvent trace_after T next (suc k) w r x w' r' → NotesChain chains (view_of w'.sizes w'.state) kept x.chain kept'
+        → KeepsChain chains (view_of w.sizes w.state) kept
+        → HasFollowed T op events (suc k) w' r' × KeepsChain chains (view_of w'.sizes w'.state) kept'
+        × TellsEvent T op events (event_at (only_events events)) chains k x
+    traced_more w' r' kept' x made notes c =
         let more : HasFollowed T op events (suc k) w' r' =
-        followed T accounts op events k w r h.followed next.event is w' r' (told T w.state next.event) made.enabled made.world
-        refl
-        made.trace made.opening in
-        let count : length traced ≡ k = h.count in
-        let long : length (traced ++ x ∷ []) ≡ length traced + 1 = length_push traced x in
-        record {
-          followed = more;
-          count = omega arith;
-          chain = keeps chains made.chain;
-          each = λ i d l. elim (before_or_last i (length traced) (omega arith)) [
-            | inl below ↦ subst (λ z. TellsEvent T op events (event_at (only_events events)) chains i z)
-                (sym (get_or_append_left traced (x ∷ []) d i below)) (h.each i d below)
-            | inr e ↦ subst (λ z. TellsEvent T op events (event_at (only_events events)) chains i z)
-                (sym (get_or_push traced x d i (sym e)))
-                (subst (λ j. TellsEvent T op events (event_at (only_events events)) chains j x) (sym (e ∙ count))
-                (event_told T accounts op events chains k w w' r r' kept kept' next x h.followed more made is line h.chain))
-          ];
-        }
+        followed trace_after T op events k w r h next.event comes.event_is w' r' (told T w.state next.event) made.enabled made.world
+        refl made.trace made.opening in (
+          more,
+          keeps chains notes,
+          event_told T accounts op events chains k w w' r r' kept kept' next x h more made notes comes.event_is comes.line_is c,
+        )
       where
-        before_or_last : (i k : ℕ) → i < suc k → (i < k) ⊎ (i ≡ k)
-        before_or_last i k l = grind arith
-
         keeps : (c : Bool) → NotesChain c (view_of w'.sizes w'.state) kept x.chain kept'
             → KeepsChain c (view_of w'.sizes w'.state) kept'
         keeps false b = tt
         keeps true b = b.0
 
-    pub told_to_refused : (cause : StepFault) → k < length events → next.line ≡ line_at events k → Refused w next.event cause
-        → TellsEvents T op events chains traced (Some (next.line, cause))
-    told_to_refused cause below line refused = record {
-      run = subst (λ z. Run T op (event_at (only_events events)) z) (sym h.count) h.followed.run;
-      each = h.each;
-      ends =
-          let first = stopped T accounts op events k w r h.followed next.event is cause next.line below line refused in
-          (first.0, first.1 ∙ sym h.count);
-    }
+pub keeps_first : (chains : Bool) (v : View) (kept : List ChainKey) → AreChainKeys v kept → KeepsChain chains v kept
+keeps_first false v kept c = tt
+keeps_first true v kept c = c
 
-  pub told_all : k ≡ length events → TellsEvents T op events chains traced None
-  told_all e = record {
-    run = subst (λ z. Run T op (event_at (only_events events)) z) (sym h.count) h.followed.run;
-    each = h.each;
-    ends = h.count ∙ e;
+-- somebody has heard of them all, or up to one that is refused
+module _ (P : List TracedEvent → Type 0) (T : Table) (op : Opening) (events : List LineEvent) (chains : Bool) where
+  heard_to : (k : ℕ) (refused : Option (ℕ × StepFault))
+      → IsHeard P (TellsEvent T op events (event_at (only_events events)) chains) k → Run T op (event_at (only_events events)) k
+      → EndsTrace T op events k refused → HearsEvents P T op events chains refused
+  heard_to k refused h run ends = record {
+    traced = h.traced;
+    heard = h.heard;
+    tells = record {
+      run = subst (λ z. Run T op (event_at (only_events events)) z) (sym h.count) run;
+      each = h.each;
+      ends = subst (λ z. EndsTrace T op events z refused) (sym h.count) ends;
+    };
   }
 
--- nothing has been told
-pub traced_none : (T : Table) (op : Opening) (events : List LineEvent) (chains : Bool) (w : WorldState) (r : Recorder)
-    (kept : List ChainKey) (traced : List TracedEvent) → HasFollowed T op events 0 w r → traced ≡ []
-    → AreChainKeys (view_of w.sizes w.state) kept
-    → HasTraced T op events chains 0 w r kept traced
-traced_none T op events chains w r kept traced followed none chain =
-    let count : length traced ≡ 0 = ap (λ (xs : List TracedEvent). length xs) none in
-    record {
-      followed = followed;
-      count = count;
-      chain = keeps chains;
-      each = λ i d l. absurd (omega arith);
-    }
-  where
-    keeps : (c : Bool) → KeepsChain c (view_of w.sizes w.state) kept
-    keeps false = tt
-    keeps true = chain
+  pub heard_lines : {A : Type 0} (HasMade : ℕ → A → Type 0) (now : A)
+      → ((k : ℕ) → HasMade k now → Run T op (event_at (only_events events)) k) → (refused : Option (ℕ × StepFault))
+      → RunsLines P HasMade (TellsEvent T op events (event_at (only_events events)) chains)
+      (λ k end. EndsTrace T op events k (Some end)) events refused now → HearsEvents P T op events chains refused
+  heard_lines HasMade now run None h = heard_to h.made None h.heard (run h.made h.ends.1) h.ends.0
+  heard_lines HasMade now run (Some (line, cause)) h = heard_to h.made (Some (line, cause)) h.heard
+      (subst (λ z. Run T op (event_at (only_events events)) z) h.ends.1 h.ends.0.before) h.ends
 
 -- the trace of a schedule
 pub trace_is : (T : Table) (p : Plan) (chains : Bool) (op : Opening) (events : List LineEvent) (t : Trace)

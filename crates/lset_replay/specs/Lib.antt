@@ -1,4 +1,5 @@
 pub mod Events
+pub mod Lines
 pub mod Reports
 pub mod PlacedReports
 pub mod Trace

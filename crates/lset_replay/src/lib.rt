@@ -4,6 +4,7 @@
 
 mod events;
 mod fault;
+mod lines;
 mod listener;
 mod order;
 mod placed_report;
@@ -18,6 +19,7 @@ mod upto;
 
 pub use events::{LineEvent, event_of};
 pub use fault::ReplayFault;
+pub use lines::{Runner, run_lines};
 pub use listener::Listener;
 pub use order::in_order;
 pub use placed_report::PlacedReport;
@@ -26,5 +28,5 @@ pub use recorder::Recorder;
 pub use replaying::{replay, replay_with_points};
 pub use told::traces_tell_reports;
 pub use traced::{CallEnd, Deed, Trace, TracedEvent};
-pub use tracing::{call_end, open_number, trace, trace_to, writes_node};
+pub use tracing::{call_end, open_number, thread_of, trace, trace_to, writes_node};
 pub use upto::{FrontReport, replay_upto};

@@ -1,17 +1,15 @@
-ghost use Rattle.std.specs.Prelude.{◌≡◌, ℕ, ◌<◌, ◌≤◌, ◌^◌, ◌↔◌, IsTrue, false, [], ◌++◌, length, IfOk, Some};
-ghost use Rattle.std.specs.List.{sum_by};
+ghost use Rattle.std.specs.Prelude.{◌≡◌, ◌<◌, ◌^◌, ◌↔◌, IsTrue, false, [], ◌++◌, length, IfOk, MatchResult, Some};
 ghost use Rattle.lset_lists.specs.Tables.{table_of};
-ghost use Rattle.lset_steps.specs.Steps.{Enabled, local_of, told};
+ghost use Rattle.lset_steps.specs.Steps.{Enabled, event_at, local_of, told};
 ghost use Rattle.lset_steps.specs.Laws.{view_of};
-ghost use Rattle.lset_steps.specs.Worlds.{thread_of};
-ghost use Rattle.lset_schedule.specs.declared.TheConstants.{MOST_EVENTS};
-ghost use Rattle.lset_schedule.specs.Plan.{IsSchedule, view, event_count, opening_in};
-ghost use Rattle.lset_replay.specs.Events.{events_of, events_from};
-ghost use Rattle.lset_replay.specs.Trace.{MayFollow, open_call_at};
-ghost use Rattle.lset_replay.specs.Tracing.{IsTraceOf, HearsEvents};
+ghost use Rattle.lset_steps.specs.Worlds.{Refused, thread_of};
+ghost use Rattle.lset_schedule.specs.Plan.{IsSchedule, view, opening_in};
+ghost use Rattle.lset_replay.specs.Events.{events_of, only_events};
+ghost use Rattle.lset_replay.specs.Follows.{HasFollowed};
+ghost use Rattle.lset_replay.specs.Trace.{MayFollow, open_call_at, trace_after};
+ghost use Rattle.lset_replay.specs.Tracing.{EndsTrace, IsTraceOf, HearsEvents, TellsEvent};
 ghost use Rattle.lset_replay.specs.Tracer.{
-  HasTraced,
-  MakesEvent,
+  MadeEvent,
   KeepsChain,
   NotesChain,
   deed_ahead,
@@ -20,35 +18,21 @@ ghost use Rattle.lset_replay.specs.Tracer.{
   open_number_of,
   writes_node,
 };
-ghost use Rattle.lset_replay.specs.declared.tracing.Stop.TheVariants.{Memory};
 
-use crate::events::{LineEvent, event_of};
+use crate::events::LineEvent;
+use crate::lines::{Runner, run_lines};
 use crate::recorder::Recorder;
 use crate::start::start_of;
 use crate::{CallEnd, Deed, Listener, Trace, TracedEvent};
 use lset_lists::{List, Task, on_list};
-use lset_schedule::{Line, Schedule};
+use lset_schedule::Schedule;
 use lset_steps::laws::{has_account, listed_content};
 use lset_steps::{Action, ChainKey, Event, Local, Machine, StepFault, World};
 use lset_words::Reply;
 use std::alloc::{AllocError, Global};
 
-/// Why an event is not told.
-#[derive(Clone, Copy)]
-pub enum Stop {
-    Refused(StepFault),
-    Memory,
-}
-
-impl From<AllocError> for Stop {
-    ghost from_gives = { λ _ stop. stop ≡ Memory };
-
-    fn from(_refused: AllocError) -> Stop {
-        Stop::Memory
-    }
-}
-
-fn thread_of(event: Event) -> u32
+/// The thread of an event.
+pub fn thread_of(event: Event) -> u32
     ensures { result ≡ thread_of event }
 {
     match event {
@@ -155,6 +139,8 @@ fn changed_chain<M: Machine>(
 /// What a trace has come to: the world, its recorder, and the chain that was told last, where chains are told.
 #[derive(Drop)]
 struct Tracer<M: Machine> {
+    alloc: Global,
+    chains: bool,
     world: World<M>,
     recorder: Recorder,
     kept: Vec<ChainKey>,
@@ -164,32 +150,33 @@ impl<M: Machine> Tracer<M> {
     /// Makes an event in the world, follows it to the moment, and tells it.
     fn trace_event(
         &mut self,
-        alloc: Global,
         next: LineEvent,
         moment: u32,
-        chains: bool,
-    ) -> Result<TracedEvent, Stop>
+    ) -> Result<Result<TracedEvent, StepFault>, AllocError>
         requires seats { length self.old.world.state.locals ≡ self.old.world.sizes.threads }
         requires few { length self.old.recorder.places.items < 2 ^ 32 }
         requires may { Enabled self.old.world.state next.event
             → MayFollow self.old.recorder moment next.event (told M.table self.old.world.state next.event) }
-        requires chain { KeepsChain chains (view_of self.old.world.sizes self.old.world.state) self.old.kept.items }
-        ensures { MakesEvent M.table next moment chains self.old.world self.old.recorder self.old.kept.items result
-            self.new.world self.new.recorder self.new.kept.items }
+        requires chain { KeepsChain self.old.chains (view_of self.old.world.sizes self.old.world.state) self.old.kept.items }
+        ensures told { IfOk result (λ made. MatchResult made (λ told. MadeEvent trace_after M.table next moment self.old.world
+            self.old.recorder told self.new.world self.new.recorder
+            × NotesChain self.old.chains (view_of self.new.world.sizes self.new.world.state) self.old.kept.items told.chain
+            self.new.kept.items) (λ cause. Refused self.old.world next.event cause)) }
+        ensures chains { self.new.chains ≡ self.old.chains }
     {
         let thread = thread_of(next.event);
         let ahead = look(&self.world, &self.recorder, next.event);
         let number = open_number(&self.recorder, thread);
         let told = match self.world.step(next.event) {
             Ok(told) => told,
-            Err(cause) => return Err(Stop::Refused(cause)),
+            Err(cause) => return Ok(Err(cause)),
         };
         self.recorder.follow(next.event, told, moment)?;
         let (Some((before, deed)), Some(after)) = (ahead, self.world.holds(thread)) else {
             unreachable!();
         };
-        let chain = changed_chain(alloc, &self.world, &mut self.kept, deed, chains)?;
-        Ok(TracedEvent {
+        let chain = changed_chain(self.alloc, &self.world, &mut self.kept, deed, self.chains)?;
+        Ok(Ok(TracedEvent {
             line: next.line,
             thread,
             deed,
@@ -198,42 +185,30 @@ impl<M: Machine> Tracer<M> {
             change: told.change,
             end: call_end(&self.recorder, number, told.answer),
             chain,
-        })
+        }))
     }
+}
 
-    /// Makes the events of the lines, the first of which has the number `first`, and tells the listener of them, one after
-    /// another, up to the first that is not enabled, whose line and cause it answers.
-    fn trace_lines<L: Listener>(
+impl<M: Machine> Runner for Tracer<M> {
+    type Fault = StepFault;
+
+    ghost has_made = { λ first events k now. (now.chains ≡ first.chains)
+        × HasFollowed M.table first.recorder.history.opening events k now.world now.recorder
+        × KeepsChain now.chains (view_of now.world.sizes now.world.state) now.kept.items };
+
+    ghost tells = { λ first events k told. TellsEvent M.table first.recorder.history.opening events
+        (event_at (only_events events)) first.chains k told };
+
+    ghost stops = { λ first events k end. EndsTrace M.table first.recorder.history.opening events k (Some end) };
+
+    fn make(
         &mut self,
-        alloc: Global,
-        listener: &mut L,
-        first: u64,
-        lines: &[Line],
-        chains: bool,
-    ) -> Result<Option<(u64, StepFault)>, AllocError>
-        requires header { first ≤ 2 ^ 32 }
-        requires few { sum_by event_count lines.now ≤ MOST_EVENTS }
-        requires start { HasTraced M.table self.old.recorder.history.opening (events_from first lines.now) chains 0
-            self.old.world self.old.recorder self.old.kept.items [] }
-        requires silence { L.has_heard listener.old [] listener.old }
-        ensures { IfOk result (λ refused. HearsEvents (λ events. L.has_heard listener.old events listener.new) M.table
-            self.old.recorder.history.opening (events_from first lines.now) chains refused) }
-    {
+        next: LineEvent,
+        moment: u32,
+    ) -> Result<Result<TracedEvent, StepFault>, AllocError> {
         has_account::<M>();
         listed_content::<M>();
-        let mut moment = 0u32;
-        for (index, line) in lines.iter().enumerate() {
-            let (next, times) = event_of(first + index as u64, *line);
-            for _done in 0..times {
-                moment += 1;
-                match self.trace_event(alloc, next, moment, chains) {
-                    Ok(told) => listener.hear(moment, told)?,
-                    Err(Stop::Refused(cause)) => return Ok(Some((next.line, cause))),
-                    Err(Stop::Memory) => return Err(AllocError),
-                }
-            }
-        }
-        Ok(None)
+        self.trace_event(next, moment)
     }
 }
 
@@ -253,12 +228,14 @@ fn trace_on<M: Machine, L: Listener + Drop>(
     let (world, recorder) = start_of::<M>(alloc, schedule)?;
     let kept = world.chain()?;
     let mut tracer = Tracer {
+        alloc,
+        chains,
         world,
         recorder,
         kept,
     };
     let first = schedule.first_event_line();
-    let refused = tracer.trace_lines(alloc, &mut listener, first, &schedule.lines, chains)?;
+    let refused = run_lines(&mut tracer, &mut listener, first, &schedule.lines)?;
     Ok((listener, refused))
 }
 

@@ -1,6 +1,6 @@
 -- What a step of a wrong list answers: the event is the table's, or it is refused and changes nothing.
 use Rattle.std.specs.Prelude.{◌≡◌, ◌<◌, ◌^◌, ℕ, length, Result, Ok, Err}
-use Rattle.lset_words.specs.Words.{IsWithin, word_count, sizes}
+use Rattle.lset_words.specs.Words.{IsWithin, word_count}
 use Rattle.lset_steps.specs.declared.Event.{Event}
 use Rattle.lset_steps.specs.declared.Event.TheVariants.{Begin, Go}
 use Rattle.lset_steps.specs.declared.Local.{Local}
@@ -9,7 +9,7 @@ use Rattle.lset_steps.specs.declared.world.StepFault.TheVariants as step
 use Rattle.lset_steps.specs.Rows.{IsSmall}
 use Rattle.lset_steps.specs.Laws.{word_named}
 use Rattle.lset_steps.specs.Steps.{Table, after, local_of, told, Enabled}
-use Rattle.lset_steps.specs.Worlds.{WorldState, Refused}
+use Rattle.lset_steps.specs.Worlds.{WorldState, Refused, thread_of}
 use Rattle.lset_wrong_lists.specs.declared.world.WrongFault.{WrongFault}
 use Rattle.lset_wrong_lists.specs.declared.world.WrongFault.TheVariants as fault
 
@@ -37,7 +37,18 @@ IsRefusedFor T w e fault.Idle = Refused w e step.Idle
 IsRefusedFor T w (Begin t call) fault.Lost = ⊥
 IsRefusedFor T w (Go t) fault.Lost = Enabled w.state (Go t) × (CanGo T w t → ⊥)
 
+-- where the thread of a step can go on
+abbrev pub Goes : Table → WorldState → Event → Type 0
+Goes T w (Begin t call) = Unit {0}
+Goes T w (Go t) = CanGo T w t
+
+-- an event can be made
+pub record CanMake (T : Table) (w : WorldState) (e : Event) : Type 0 where
+  pub of_a_thread : thread_of e < w.sizes.threads
+  pub enabled : Enabled w.state e
+  pub goes : Goes T w e
+
 -- A STEP OF A WRONG LIST
 abbrev pub WrongStep : Table → WorldState → Event → Result Told WrongFault → WorldState → Type 0
-WrongStep T w e (Ok answer) w' = Enabled w.state e × (w' ≡ record w { state = after T w.state e }) × (answer ≡ told T w.state e)
+WrongStep T w e (Ok answer) w' = CanMake T w e × (w' ≡ record w { state = after T w.state e }) × (answer ≡ told T w.state e)
 WrongStep T w e (Err cause) w' = IsRefusedFor T w e cause × (w' ≡ w)

@@ -1,9 +1,9 @@
-ghost use Rattle.std.specs.Prelude.{◌≡◌, ◌≢◌, ◌<◌, ◌≤◌, ◌↔◌, IfOk, IfSome, IsTrue, MatchOption, length, map};
+ghost use Rattle.std.specs.Prelude.{◌≡◌, ◌≢◌, ◌<◌, ◌≤◌, ◌↔◌, IfOk, IsTrue, MatchOption, length, map};
 ghost use Rattle.std.specs.List.{range_with_len};
 ghost use Rattle.lset_steps.specs.Steps.{Enabled, idle, opening, opening_of, after, told, local_of, seen_by, seen_next, left_by};
 ghost use Rattle.lset_steps.specs.Laws.{word_named};
 ghost use Rattle.lset_steps.specs.Worlds.{WorldState};
-ghost use Rattle.lset_wrong_lists.specs.WrongSteps.{IsRunnable, IsSized, WrongStep};
+ghost use Rattle.lset_wrong_lists.specs.WrongSteps.{CanGo, IsRunnable, IsSized, WrongStep};
 
 use crate::WrongMachine;
 use lset_steps::{Action, Event, Local, Told, opening_words};
@@ -158,10 +158,13 @@ impl<M: WrongMachine> WrongWorld<M> {
 
     /// The next access of thread `t`, and the value that it will see; `None` where `step` refuses it.
     pub fn next(&self, t: u32) -> Option<(Action, u64)>
-        ensures { IfSome result (λ s. (s.0 ≡ M.table.next (local_of self.now.state t))
-            × (s.1 ≡ seen_next M.table self.now.state t)) }
+        ensures { MatchOption result (Enabled self.now.state (Event.Go t) → CanGo M.table self.now t → ⊥) (λ s.
+            (s.0 ≡ M.table.next (local_of self.now.state t)) × (s.1 ≡ seen_next M.table self.now.state t)) }
     {
-        let local = self.holds(t)?;
+        if t >= self.threads {
+            return None;
+        }
+        let local = self.local(t);
         if local.pc == 0 || !is_runnable(&local) {
             return None;
         }

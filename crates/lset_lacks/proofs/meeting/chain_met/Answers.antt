@@ -1,4 +1,4 @@
-use Rattle.std.proofs.Common.{◌≡◌, ◌++◌, ◌∷◌, [], ◌-◌, ◌+◌, ◌<◌, ◌/◌, length, List, sym, ap, ◌∙◌, append_assoc, append-nil, arith}
+use Rattle.std.proofs.Common.{◌++◌, ◌∷◌, [], ◌-◌, ◌+◌, ◌<◌, ◌/◌, length, List, sym, ap, ◌∙◌, append_assoc, append-nil, arith}
 use Rattle.lset_steps.specs.declared.world.ChainKey.{ChainKey}
 use Rattle.lset_lacks.specs.Meeting.{met_from}
 use Rattle.lset_lacks.proofs.MetWalks.{met_stop, met_step}

@@ -46,7 +46,7 @@ returns-in-Err g c =
       followed = subst (λ w. HasFollowed g.M.Machine.table c.args.recorder.now.history.opening
           (events_from c.args.first c.args.lines.now) c.loop-done.events w c.loop-done.recorder) (sym c.in-Err.ensures.1)
           c.loop-done.invariant.followed;
-      ends = stopped g.M.Machine.table (tells_keys g.M.Machine.table c.has_account.ensures c.listed_content.ensures)
+      ends = stopped trace_after g.M.Machine.table
           c.args.recorder.now.history.opening (events_from c.args.first c.args.lines.now)
           c.loop-done.events c.loop-done.world c.loop-done.recorder c.loop-done.invariant.followed c.event_of-times.result.0.event
           there.event_is c.in-Err.cause c.event_of-times.result.0.line there.known there.line_is c.in-Err.ensures.0;
@@ -61,7 +61,7 @@ loop-done-preserved g c =
       count = omega (arith, c.loop-done.invariant.count);
       followed = subst (λ m. HasFollowed g.M.Machine.table c.args.recorder.now.history.opening
           (events_from c.args.first c.args.lines.now) m c.step.new.self c.follow.new.self) (sym (add-one c.loop-done.events))
-          (followed g.M.Machine.table (tells_keys g.M.Machine.table c.has_account.ensures c.listed_content.ensures)
+          (followed trace_after g.M.Machine.table
           c.args.recorder.now.history.opening
           (events_from c.args.first c.args.lines.now) c.loop-done.events c.loop-done.world c.loop-done.recorder
           c.loop-done.invariant.followed

@@ -17,4 +17,4 @@ changed_chain-requires g c = λ quiet.
     let is : deed_ahead g.M.Machine.table c.args.self.now.world.state (length c.args.self.now.recorder.places.items) c.args.next.event
     ≡ c.in-Some-Some.deed = same_second (c.look-ahead.ensures c.in-Ok.ensures.0) c.in-Some-Some.is-0 in
     chain_kept g.M.Machine.table c.args.self.now.world c.step.new.self (length c.args.self.now.recorder.places.items) c.args.next.event
-    c.args.chains c.args.self.now.kept.items c.in-Ok.ensures.1 (ap (λ (d : Deed). writes_node d) is ∙ quiet) c.requires.chain
+    c.args.self.now.chains c.args.self.now.kept.items c.in-Ok.ensures.1 (ap (λ (d : Deed). writes_node d) is ∙ quiet) c.requires.chain
