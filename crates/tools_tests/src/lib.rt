@@ -3,8 +3,6 @@
 #![tactic(auto)]
 
 #[cfg(test)]
-mod commands;
-#[cfg(test)]
 mod devices;
 #[cfg(test)]
 mod examples;
@@ -14,8 +12,6 @@ mod failures;
 mod opening_keys;
 #[cfg(test)]
 mod pictures;
-#[cfg(test)]
-mod programs;
 #[cfg(test)]
 mod row_texts;
 #[cfg(test)]
