@@ -1,16 +1,18 @@
 use lset_words::{Call, Reply};
 
-/// How much oftener each key below 50 was put in than taken out, and how many calls were made.
+/// How often each key below 50 was put in and taken out, and how many calls were made.
 #[derive(Drop)]
 pub struct Balance {
-    left: [u32; 50],
+    put_in: [u32; 50],
+    taken_out: [u32; 50],
     calls: u32,
 }
 
 impl Balance {
     pub fn new() -> Balance {
         Balance {
-            left: [0; 50],
+            put_in: [0; 50],
+            taken_out: [0; 50],
             calls: 0,
         }
     }
@@ -18,10 +20,13 @@ impl Balance {
     fn note(&mut self, call: Call, reply: Reply) {
         self.calls = self.calls.saturating_add(1);
         let at = (call.key().0 % 50) as usize;
-        match (call, reply) {
-            (Call::Add(_), Reply::True) => self.left[at] = self.left[at].wrapping_add(1),
-            (Call::Remove(_), Reply::True) => self.left[at] = self.left[at].wrapping_sub(1),
-            _ => {}
+        if reply != Reply::True {
+            return;
+        }
+        match call {
+            Call::Add(_) => self.put_in[at] = self.put_in[at].saturating_add(1),
+            Call::Remove(_) => self.taken_out[at] = self.taken_out[at].saturating_add(1),
+            Call::Contains(_) | Call::Ceiling(_) => {}
         }
     }
 
@@ -48,8 +53,10 @@ impl Balance {
 
     /// Whether just these keys are left: each was put in once more than it was taken out, the others as often.
     pub fn leaves(&self, keys: &[u32]) -> bool {
-        (0..)
-            .zip(self.left.iter())
-            .all(|(key, left)| *left == u32::from(keys.contains(&key)))
+        (0..50u32).all(|key| {
+            let left = u32::from(keys.contains(&key));
+            let at = (key % 50) as usize;
+            self.put_in[at] == self.taken_out[at].saturating_add(left)
+        })
     }
 }

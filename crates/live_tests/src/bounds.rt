@@ -1,66 +1,112 @@
 //! Calls with few rounds: the walk of each loop is as long as is known here, and a lock that is held is not waited for.
-use crate::opened::{Host, two_seats};
+ghost use Rattle.std.specs.Prelude.{◌≡◌};
+
+use crate::opened::last_seat;
 use lset_coarse::CoarseList;
 use lset_fine::FineList;
-use lset_live::{Bounded, Countless, Rounds, Spin};
+use lset_lazy::LazyList;
+use lset_live::{Bounded, Countless, LiveSet, Rounds, Seat, Spin, open_with};
+use lset_lock_free::LockFreeList;
+use lset_optimistic::OptimisticList;
 use lset_words::{Call, Key, Reply};
+use std::alloc::Global;
+use std::process::Abort;
 
-/// So many rounds.
-struct Most<const N: u64>;
+struct One;
 
-impl<const N: u64> Rounds for Most<N> {
-    const MOST: u64 = N;
+struct Two;
+
+struct Three;
+
+struct Hundred;
+
+impl Rounds for One {
+    const MOST: u64 = 1;
+}
+
+impl Rounds for Two {
+    const MOST: u64 = 2;
+}
+
+impl Rounds for Three {
+    const MOST: u64 = 3;
+}
+
+impl Rounds for Hundred {
+    const MOST: u64 = 100;
 }
 
 /// The keys that a set opens with. A walk to a key looks at each key below it and at the first that is not.
 const KEYS: [u32; 5] = [10, 20, 30, 40, 50];
 
+/// A set with two seats, and these.
+fn opened<M: Bounded, R: Abort>(rt: &R, alloc: Global) -> (LiveSet<M>, Seat<M>, Seat<M>)
+    ensures { (result.1.set ≡ result.0) × (result.2.set ≡ result.0) }
+{
+    let (set, mut seats) = open_with::<M>(alloc, 2, 4, &KEYS).expect(rt, "not opened");
+    let one = last_seat(rt, &set, &mut seats);
+    let zero = last_seat(rt, &set, &mut seats);
+    (set, zero, one)
+}
+
 /// The reply of a call in a set that was just opened, in so many rounds.
-fn first_reply<M: Bounded, R: Host, N: Rounds>(rt: &R, call: Call) -> Option<Reply> {
-    let (set, zero, _one) = two_seats::<M, R>(rt, &KEYS);
+fn first_reply<M: Bounded, R: Abort, N: Rounds>(
+    rt: &R,
+    alloc: Global,
+    call: Call,
+) -> Option<Reply> {
+    let (set, zero, _one) = opened::<M, R>(rt, alloc);
     let (_zero, reply) = set.call_within::<Spin, N>(zero, call, &Spin::new())?;
     Some(reply)
 }
 
 /// The walks to 25 and to 30 have three rounds: two are too few.
-fn has_rounds<M: Bounded, R: Host>(rt: &R) {
+fn has_rounds<M: Bounded, R: Abort>(rt: &R, alloc: Global) {
     for call in [Call::Add(Key(25)), Call::Remove(Key(30))] {
-        assert!(rt; first_reply::<M, R, Most<1>>(rt, call).is_none());
-        assert!(rt; first_reply::<M, R, Most<2>>(rt, call).is_none());
-        assert!(rt; first_reply::<M, R, Most<3>>(rt, call) == Some(Reply::True));
-        assert!(rt; first_reply::<M, R, Countless>(rt, call) == Some(Reply::True));
+        assert!(rt; first_reply::<M, R, One>(rt, alloc, call).is_none());
+        assert!(rt; first_reply::<M, R, Two>(rt, alloc, call).is_none());
+        assert!(rt; first_reply::<M, R, Three>(rt, alloc, call) == Some(Reply::True));
+        assert!(rt; first_reply::<M, R, Countless>(rt, alloc, call) == Some(Reply::True));
     }
 }
 
 #[test]
 fn a_call_has_rounds(rt: HostRuntime) {
-    at_each_list!(has_rounds(&rt));
+    has_rounds::<CoarseList, HostRuntime>(&rt, rt.alloc());
+    has_rounds::<FineList, HostRuntime>(&rt, rt.alloc());
+    has_rounds::<OptimisticList, HostRuntime>(&rt, rt.alloc());
+    has_rounds::<LazyList, HostRuntime>(&rt, rt.alloc());
+    has_rounds::<LockFreeList, HostRuntime>(&rt, rt.alloc());
 }
 
 /// A ceiling, which the lists that mark make by the interpreter, and a contains.
-fn reads_in_rounds<M: Bounded, R: Host>(rt: &R) {
+fn reads_in_rounds<M: Bounded, R: Abort>(rt: &R, alloc: Global) {
     let (sought, asked) = (Call::Ceiling(Key(25)), Call::Contains(Key(30)));
-    assert!(rt; first_reply::<M, R, Most<1>>(rt, sought).is_none());
-    assert!(rt; first_reply::<M, R, Most<100>>(rt, sought) == Some(Reply::At(Key(30))));
-    assert!(rt; first_reply::<M, R, Most<100>>(rt, asked) == Some(Reply::True));
+    assert!(rt; first_reply::<M, R, One>(rt, alloc, sought).is_none());
+    assert!(rt; first_reply::<M, R, Hundred>(rt, alloc, sought) == Some(Reply::At(Key(30))));
+    assert!(rt; first_reply::<M, R, Hundred>(rt, alloc, asked) == Some(Reply::True));
 }
 
 #[test]
 fn a_read_has_rounds(rt: HostRuntime) {
-    at_each_list!(reads_in_rounds(&rt));
+    reads_in_rounds::<CoarseList, HostRuntime>(&rt, rt.alloc());
+    reads_in_rounds::<FineList, HostRuntime>(&rt, rt.alloc());
+    reads_in_rounds::<OptimisticList, HostRuntime>(&rt, rt.alloc());
+    reads_in_rounds::<LazyList, HostRuntime>(&rt, rt.alloc());
+    reads_in_rounds::<LockFreeList, HostRuntime>(&rt, rt.alloc());
 }
 
 /// A call that had too few rounds keeps its locks: another that comes to one gives up too.
-fn gives_up_at_a_lock<M: Bounded, R: Host>(rt: &R, call: Call) {
-    let (set, zero, one) = two_seats::<M, R>(rt, &KEYS);
-    let stuck = set.call_within::<Spin, Most<2>>(one, Call::Add(Key(25)), &Spin::new());
+fn gives_up_at_a_lock<M: Bounded, R: Abort>(rt: &R, alloc: Global, call: Call) {
+    let (set, zero, one) = opened::<M, R>(rt, alloc);
+    let stuck = set.call_within::<Spin, Two>(one, Call::Add(Key(25)), &Spin::new());
     assert!(rt; stuck.is_none());
-    let found = set.call_within::<Spin, Most<100>>(zero, call, &Spin::new());
+    let found = set.call_within::<Spin, Hundred>(zero, call, &Spin::new());
     assert!(rt; found.is_none());
 }
 
 #[test]
 fn a_lock_is_not_waited_for(rt: HostRuntime) {
-    gives_up_at_a_lock::<CoarseList, HostRuntime>(&rt, Call::Contains(Key(10)));
-    gives_up_at_a_lock::<FineList, HostRuntime>(&rt, Call::Contains(Key(30)));
+    gives_up_at_a_lock::<CoarseList, HostRuntime>(&rt, rt.alloc(), Call::Contains(Key(10)));
+    gives_up_at_a_lock::<FineList, HostRuntime>(&rt, rt.alloc(), Call::Contains(Key(30)));
 }

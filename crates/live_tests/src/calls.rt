@@ -1,8 +1,16 @@
-use crate::opened::{Host, answers, close_with, two_seats};
+ghost use Rattle.std.specs.Prelude.{◌≡◌};
+
+use crate::opened::{add, contains, two_seats};
+use lset_coarse::CoarseList;
+use lset_fine::FineList;
 use lset_lazy::LazyList;
-use lset_live::{OpenFault, Running, RunningReads, open};
+use lset_live::{LiveSet, OpenFault, Running, RunningReads, Seat, open};
 use lset_lock_free::LockFreeList;
-use lset_words::{Call, Key, Reply};
+use lset_optimistic::OptimisticList;
+use lset_words::{Key, Reply};
+use std::alloc::Global;
+use std::process::Abort;
+use std::sync::Wait;
 
 /// Seats, a quota, and why no set is opened with them.
 const LIMITS: [(u32, u32, Option<OpenFault>); 5] = [
@@ -21,64 +29,81 @@ fn a_set_has_limits(rt: HostRuntime) {
     }
 }
 
-const ADD: Call = Call::Add(Key(0));
-
-const REMOVE: Call = Call::Remove(Key(0));
-
-const CONTAINS: Call = Call::Contains(Key(9));
-
-/// Calls of the seat 0, of the seat 1, of the seat 0 once more, and of it when it has taken the other in.
-const FIRST: [(Call, Reply); 2] = [(CONTAINS, Reply::False), (ADD, Reply::True)];
-
-const SECOND: [(Call, Reply); 3] = [
-    (ADD, Reply::False),
-    (REMOVE, Reply::True),
-    (Call::Add(Key(9)), Reply::True),
-];
-
-const THIRD: [(Call, Reply); 2] = [(REMOVE, Reply::False), (CONTAINS, Reply::True)];
-
-const GATHERED: [(Call, Reply); 4] = [
-    (CONTAINS, Reply::True),
-    (Call::Ceiling(Key(0)), Reply::At(Key(9))),
-    (Call::Ceiling(Key(9)), Reply::At(Key(9))),
-    (Call::Ceiling(Key(10)), Reply::Nothing),
-];
-
-/// Seats are numbered as threads. A key is seen by a seat that met nobody. A set that one seat does not close goes on.
-fn call_in_turn<M: Running, R: Host>(rt: &R) {
-    let (set, mut zero, mut one) = two_seats::<M, R>(rt, &[]);
-    assert!(rt; set.seats() == 2 && set.quota() == 4);
-    assert!(rt; zero.thread() == 0 && one.thread() == 1 && one.held() == 1);
-    answers(rt, &set, &mut zero, &FIRST);
-    answers(rt, &set, &mut one, &SECOND);
-    answers(rt, &set, &mut zero, &THIRD);
-    let Err(out) = set.close(zero) else {
-        panic!(rt; "a set is closed by one seat of two")
-    };
-    assert!(rt; out.seat.held() == 1 && out.seat.thread() == 0);
-    let (set, mut both) = (out.set, out.seat);
-    set.gather(&mut both, one);
-    assert!(rt; both.held() == 2);
-    answers(rt, &set, &mut both, &GATHERED);
-    close_with(rt, set, both, &[9]);
+fn has_its_numbers<M: Running, R: Abort>(rt: &R, alloc: Global) {
+    let (set, zero, one) = two_seats::<M, R>(rt, alloc);
+    assert!(rt; set.seats() == 2);
+    assert!(rt; set.quota() == 4);
+    assert!(rt; zero.thread() == 0);
+    assert!(rt; one.thread() == 1);
+    assert!(rt; one.held() == 1);
 }
 
 #[test]
-fn two_seats_call_in_turn(rt: HostRuntime) {
-    at_each_list!(call_in_turn(&rt));
+fn seats_are_numbered_as_threads(rt: HostRuntime) {
+    has_its_numbers::<CoarseList, HostRuntime>(&rt, rt.alloc());
+    has_its_numbers::<FineList, HostRuntime>(&rt, rt.alloc());
+    has_its_numbers::<OptimisticList, HostRuntime>(&rt, rt.alloc());
+    has_its_numbers::<LazyList, HostRuntime>(&rt, rt.alloc());
+    has_its_numbers::<LockFreeList, HostRuntime>(&rt, rt.alloc());
 }
 
-fn reads_now<M: RunningReads, R: Host>(rt: &R) {
-    let (set, mut zero, mut one) = two_seats::<M, R>(rt, &[]);
+fn is_seen_by_another_seat<M: Running, R: Wait + Abort>(rt: &R, alloc: Global) {
+    let (set, mut zero, mut one) = two_seats::<M, R>(rt, alloc);
+    contains(rt, &set, &mut zero, 9, Reply::False);
+    add(rt, &set, &mut one, 9, Reply::True);
+    contains(rt, &set, &mut zero, 9, Reply::True);
+}
+
+#[test]
+fn a_key_is_seen_by_a_seat_that_met_nobody(rt: HostRuntime) {
+    is_seen_by_another_seat::<CoarseList, HostRuntime>(&rt, rt.alloc());
+    is_seen_by_another_seat::<FineList, HostRuntime>(&rt, rt.alloc());
+    is_seen_by_another_seat::<OptimisticList, HostRuntime>(&rt, rt.alloc());
+    is_seen_by_another_seat::<LazyList, HostRuntime>(&rt, rt.alloc());
+    is_seen_by_another_seat::<LockFreeList, HostRuntime>(&rt, rt.alloc());
+}
+
+/// A seat takes a key out, which has this reply.
+fn remove<M: Running, R: Wait + Abort>(
+    rt: &R,
+    set: &LiveSet<M>,
+    seat: &mut Seat<M>,
+    key: u32,
+    reply: Reply,
+)
+    requires { seat.old.set ≡ set.now }
+    ensures { seat.new.set ≡ set.now }
+{
+    assert_eq!(rt; set.remove(rt, seat, Key(key)), reply, "{key}");
+}
+
+fn answers_in_turn<M: Running, R: Wait + Abort>(rt: &R, alloc: Global) {
+    let (set, mut zero, mut one) = two_seats::<M, R>(rt, alloc);
+    add(rt, &set, &mut zero, 0, Reply::True);
+    add(rt, &set, &mut one, 0, Reply::False);
+    remove(rt, &set, &mut one, 0, Reply::True);
+    remove(rt, &set, &mut zero, 0, Reply::False);
+}
+
+#[test]
+fn seats_call_in_turn(rt: HostRuntime) {
+    answers_in_turn::<CoarseList, HostRuntime>(&rt, rt.alloc());
+    answers_in_turn::<FineList, HostRuntime>(&rt, rt.alloc());
+    answers_in_turn::<OptimisticList, HostRuntime>(&rt, rt.alloc());
+    answers_in_turn::<LazyList, HostRuntime>(&rt, rt.alloc());
+    answers_in_turn::<LockFreeList, HostRuntime>(&rt, rt.alloc());
+}
+
+fn reads_now<M: RunningReads, R: Wait + Abort>(rt: &R, alloc: Global) {
+    let (set, mut zero, mut one) = two_seats::<M, R>(rt, alloc);
     assert!(rt; !set.contains_now(&mut zero, Key(9)));
-    answers(rt, &set, &mut one, &[(Call::Add(Key(9)), Reply::True)]);
+    add(rt, &set, &mut one, 9, Reply::True);
     assert!(rt; set.contains_now(&mut zero, Key(9)));
     assert!(rt; !set.contains_now(&mut zero, Key(u32::MAX)));
 }
 
 #[test]
 fn a_read_waits_for_nobody(rt: HostRuntime) {
-    reads_now::<LazyList, HostRuntime>(&rt);
-    reads_now::<LockFreeList, HostRuntime>(&rt);
+    reads_now::<LazyList, HostRuntime>(&rt, rt.alloc());
+    reads_now::<LockFreeList, HostRuntime>(&rt, rt.alloc());
 }

@@ -1,71 +1,122 @@
 ghost use Rattle.std.specs.Prelude.{◌≡◌};
 
-use crate::many::{KEYS, drawn_call, next_number};
-use crate::opened::{Host, closed, last_seat};
+use crate::opened::last_seat;
 use crate::pauses::Count;
+use lset_coarse::CoarseList;
+use lset_fine::FineList;
 use lset_lazy::LazyList;
 use lset_live::{LiveSet, Running, RunningReads, Seat, open};
 use lset_lock_free::LockFreeList;
-use lset_words::{Key, Reply};
+use lset_optimistic::OptimisticList;
+use lset_words::{Call, Key, Reply};
+use std::alloc::Global;
+use std::process::Abort;
+use std::sync::Wait;
 use stepped_lists::Stepped;
 
+/// The call number `i` of a program over 12 keys.
+fn call_of(i: u32) -> Call {
+    let mixed = u64::from(i)
+        .wrapping_mul(6_364_136_223_846_793_005)
+        .wrapping_add(1_442_695_040_888_963_407);
+    let key = Key(((mixed >> 33) % 12) as u32);
+    match (mixed >> 21) % 4 {
+        0 => Call::Add(key),
+        1 => Call::Remove(key),
+        2 => Call::Contains(key),
+        _ => Call::Ceiling(key),
+    }
+}
+
 /// The replies to 400 calls on one seat, each with the number of its steps before the last.
-fn replies<M: Running, R: Host>(rt: &R, set: &LiveSet<M>, seat: &mut Seat<M>) -> Vec<(Reply, u64)>
+fn replies<M: Running, R: Wait + Abort>(
+    rt: &R,
+    alloc: Global,
+    set: &LiveSet<M>,
+    seat: &mut Seat<M>,
+) -> Vec<(Reply, u64)>
     requires { seat.old.set ≡ set.now }
     ensures { seat.new.set ≡ set.now }
 {
-    let mut told = Vec::with_capacity(rt.alloc(), 400).expect(rt, "room");
-    for i in 0..400u64 {
+    let mut told = Vec::with_capacity(alloc, 400).expect(rt, "room");
+    for i in 0..400u32 {
         let count = Count::new(0);
-        let reply = set.call(rt, seat, drawn_call(next_number(i)), &count);
+        let reply = set.call(rt, seat, call_of(i), &count);
         told.push((reply, count.steps.get())).expect(rt, "room");
     }
     told
 }
 
+type Ran = (Vec<(Reply, u64)>, Vec<u32>);
+
 /// The program on one seat with room for so many adds: the replies with their steps, and the closing keys.
-fn ran<M: Running, R: Host>(rt: &R, quota: u32) -> (Vec<(Reply, u64)>, Vec<u32>) {
-    let (set, mut seats) = open::<M>(rt.alloc(), 1, quota).expect(rt, "not opened");
+fn ran<M: Running, R: Wait + Abort>(rt: &R, alloc: Global, quota: u32) -> Ran {
+    let (set, mut seats) = open::<M>(alloc, 1, quota).expect(rt, "not opened");
     let mut seat = last_seat(rt, &set, &mut seats);
-    let told = replies(rt, &set, &mut seat);
-    (told, closed(rt, set, seat))
+    let told = replies(rt, alloc, &set, &mut seat);
+    let Ok(closed) = set.close(seat) else {
+        panic!(rt; "a seat is out")
+    };
+    (told, closed.keys().expect(rt, "the keys"))
 }
 
-/// The list and its table alone, with room for all adds and with room for few.
-fn runs_by_its_table<M: Running, R: Host>(rt: &R) {
-    for quota in [100, 8] {
-        let (told, keys) = ran::<M, R>(rt, quota);
-        let (told_by_steps, keys_by_steps) = ran::<Stepped<M>, R>(rt, quota);
-        assert!(rt; told == told_by_steps && keys == keys_by_steps, "{quota}");
-    }
+/// The list and its table alone.
+fn runs_alike<M: Running, R: Wait + Abort>(rt: &R, alloc: Global, quota: u32) {
+    let (told, keys) = ran::<M, R>(rt, alloc, quota);
+    let (told_by_steps, keys_by_steps) = ran::<Stepped<M>, R>(rt, alloc, quota);
+    assert!(rt; told == told_by_steps, "{quota}");
+    assert!(rt; keys == keys_by_steps, "{quota}");
+}
+
+/// With room for all adds and with room for few.
+fn runs_by_its_table<M: Running, R: Wait + Abort>(rt: &R, alloc: Global) {
+    runs_alike::<M, R>(rt, alloc, 100);
+    runs_alike::<M, R>(rt, alloc, 8);
 }
 
 #[test]
 fn each_list_makes_the_steps_of_its_table(rt: HostRuntime) {
-    at_each_list!(runs_by_its_table(&rt));
+    runs_by_its_table::<CoarseList, HostRuntime>(&rt, rt.alloc());
+    runs_by_its_table::<FineList, HostRuntime>(&rt, rt.alloc());
+    runs_by_its_table::<OptimisticList, HostRuntime>(&rt, rt.alloc());
+    runs_by_its_table::<LazyList, HostRuntime>(&rt, rt.alloc());
+    runs_by_its_table::<LockFreeList, HostRuntime>(&rt, rt.alloc());
 }
 
-/// Which keys a read that waits for nobody finds, once the program has run.
-fn found_now<M: RunningReads, R: Host>(rt: &R) -> Vec<bool> {
-    let (set, mut seats) = open::<M>(rt.alloc(), 1, 100).expect(rt, "not opened");
-    let mut seat = last_seat(rt, &set, &mut seats);
-    let _told = replies(rt, &set, &mut seat);
-    let mut found = Vec::new(rt.alloc());
-    for key in 0..KEYS as u32 {
-        let is_found = set.contains_now(&mut seat, Key(key));
+/// Which of 12 keys a read that waits for nobody finds.
+fn keys_found<M: RunningReads, R: Abort>(
+    rt: &R,
+    alloc: Global,
+    set: &LiveSet<M>,
+    seat: &mut Seat<M>,
+) -> Vec<bool>
+    requires { seat.old.set ≡ set.now }
+    ensures { seat.new.set ≡ set.now }
+{
+    let mut found = Vec::new(alloc);
+    for key in 0..12u32 {
+        let is_found = set.contains_now(seat, Key(key));
         found.push(is_found).expect(rt, "room");
     }
     found
 }
 
-fn reads_by_its_table<M: RunningReads, R: Host>(rt: &R) {
-    let found = found_now::<M, R>(rt);
-    let found_by_steps = found_now::<Stepped<M>, R>(rt);
+/// The same once the program has run.
+fn found_now<M: RunningReads, R: Wait + Abort>(rt: &R, alloc: Global) -> Vec<bool> {
+    let (set, mut seats) = open::<M>(alloc, 1, 100).expect(rt, "not opened");
+    let mut seat = last_seat(rt, &set, &mut seats);
+    let _told = replies(rt, alloc, &set, &mut seat);
+    keys_found(rt, alloc, &set, &mut seat)
+}
+
+fn reads_by_its_table<M: RunningReads, R: Wait + Abort>(rt: &R, alloc: Global) {
+    let found = found_now::<M, R>(rt, alloc);
+    let found_by_steps = found_now::<Stepped<M>, R>(rt, alloc);
     assert!(rt; found == found_by_steps);
 }
 
 #[test]
 fn each_read_finds_what_its_table_finds(rt: HostRuntime) {
-    reads_by_its_table::<LazyList, HostRuntime>(&rt);
-    reads_by_its_table::<LockFreeList, HostRuntime>(&rt);
+    reads_by_its_table::<LazyList, HostRuntime>(&rt, rt.alloc());
+    reads_by_its_table::<LockFreeList, HostRuntime>(&rt, rt.alloc());
 }

@@ -1,14 +1,22 @@
-ghost use Rattle.std.specs.Prelude.{◌≡◌, All};
+ghost use Rattle.std.specs.Prelude.{◌≡◌, All, IfSome};
 
-use crate::opened::{Host, closed, gathered};
+use lset_coarse::CoarseList;
+use lset_fine::FineList;
+use lset_lazy::LazyList;
 use lset_live::{LiveSet, Running, Seat, open};
+use lset_lock_free::LockFreeList;
+use lset_optimistic::OptimisticList;
 use lset_rule::Spin;
 use lset_words::{Call, Key, Reply};
+use std::alloc::Global;
+use std::process::Abort;
+use std::sync::Wait;
 use std::sync::atomic::{AtomicU64, Ordering};
 use std::thread;
+use std::thread::Threads;
 
 /// How many keys there are.
-pub const KEYS: usize = 24;
+const KEYS: usize = 24;
 
 /// How many calls each seat makes.
 const CALLS: u32 = 1000;
@@ -32,18 +40,26 @@ pub fn drawn_call(number: u64) -> Call {
 
 /// Counts how often a key was put in and not taken out.
 fn note(counts: &[AtomicU64], call: Call, reply: Reply) {
-    let Some(count) = counts.get(call.key().0 as usize) else {
+    if reply != Reply::True {
         return;
-    };
-    let _before = match (call, reply) {
-        (Call::Add(_), Reply::True) => count.fetch_add(1, Ordering::SeqCst),
-        (Call::Remove(_), Reply::True) => count.fetch_sub(1, Ordering::SeqCst),
-        _ => 0,
-    };
+    }
+    match call {
+        Call::Add(key) => {
+            if let Some(count) = counts.get(key.0 as usize) {
+                count.fetch_add(1, Ordering::SeqCst);
+            }
+        }
+        Call::Remove(key) => {
+            if let Some(count) = counts.get(key.0 as usize) {
+                count.fetch_sub(1, Ordering::SeqCst);
+            }
+        }
+        Call::Contains(_) | Call::Ceiling(_) => {}
+    }
 }
 
 /// A seat makes its calls.
-fn make_calls<M: Running, R: Host>(
+fn make_calls<M: Running, R: Wait>(
     rt: &R,
     set: &LiveSet<M>,
     counts: &[AtomicU64],
@@ -62,7 +78,7 @@ fn make_calls<M: Running, R: Host>(
 }
 
 /// The seats make their calls, each in a thread.
-fn make_all_calls<M: Running + Send + Sync, R: Host>(
+fn make_all_calls<M: Running + Send + Sync, R: Threads + Wait + Sync>(
     rt: &R,
     set: &LiveSet<M>,
     counts: &[AtomicU64],
@@ -82,23 +98,48 @@ fn make_all_calls<M: Running + Send + Sync, R: Host>(
     );
 }
 
+pub fn gathered<M: Running>(set: &LiveSet<M>, mut seats: Vec<Seat<M>>) -> Option<Seat<M>>
+    requires { All (λ s. s.set ≡ set.now) seats.items }
+    ensures { IfSome result (λ s. s.set ≡ set.now) }
+{
+    let mut all = None;
+    while let Some(seat) = seats.pop() {
+        all = Some(set.gather_onto(all, seat));
+    }
+    all
+}
+
+fn no_counts() -> [AtomicU64; KEYS] {
+    [0; KEYS].map(AtomicU64::new)
+}
+
 /// Whether each key is left exactly where it was put in once more than it was taken out.
 fn add_up(counts: &[AtomicU64], keys: &[u32]) -> bool {
     (0..).zip(counts).all(|(key, count)| count.load(Ordering::SeqCst)
         == u64::from(keys.contains(&key)))
 }
 
-fn leaves_what_was_added<M: Running + Send + Sync, R: Host>(rt: &R) {
-    let (set, mut seats) = open::<M>(rt.alloc(), 8, CALLS).expect(rt, "not opened");
-    let counts = [0; KEYS].map(AtomicU64::new);
+fn leaves_what_was_added<M: Running + Send + Sync, R: Threads + Wait + Abort + Sync>(
+    rt: &R,
+    alloc: Global,
+) {
+    let (set, mut seats) = open::<M>(alloc, 8, CALLS).expect(rt, "not opened");
+    let counts = no_counts();
     make_all_calls(rt, &set, &counts, seats.as_mut_slice());
-    let all = gathered(rt, &set, seats);
+    let all = gathered(&set, seats).expect(rt, "no seat");
     assert!(rt; all.held() == 8);
-    let keys = closed(rt, set, all);
+    let Ok(closed) = set.close(all) else {
+        panic!(rt; "the set is not closed")
+    };
+    let keys = closed.keys().expect(rt, "the keys");
     assert!(rt; add_up(&counts, &keys));
 }
 
 #[test]
 fn a_thousand_calls_of_each_of_eight_seats(rt: HostRuntime) {
-    at_each_list!(leaves_what_was_added(&rt));
+    leaves_what_was_added::<CoarseList, HostRuntime>(&rt, rt.alloc());
+    leaves_what_was_added::<FineList, HostRuntime>(&rt, rt.alloc());
+    leaves_what_was_added::<OptimisticList, HostRuntime>(&rt, rt.alloc());
+    leaves_what_was_added::<LazyList, HostRuntime>(&rt, rt.alloc());
+    leaves_what_was_added::<LockFreeList, HostRuntime>(&rt, rt.alloc());
 }

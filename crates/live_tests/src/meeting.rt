@@ -1,12 +1,20 @@
-//! Two calls at once, each of which waits after its first step for the other.
 ghost use Rattle.std.specs.Prelude.{◌≡◌};
 
-use crate::opened::{Host, answers, close_with, two_seats};
-use crate::waiting::Meeting;
+use crate::opened::two_seats;
+use crate::waiting::{Meeting, comes};
+use lset_coarse::CoarseList;
+use lset_fine::FineList;
+use lset_lazy::LazyList;
 use lset_live::{LiveSet, Running, Seat};
+use lset_lock_free::LockFreeList;
+use lset_optimistic::OptimisticList;
 use lset_rule::Pause;
 use lset_words::{Call, Key, Reply};
-use std::thread::join;
+use std::alloc::Global;
+use std::process::Abort;
+use std::sync::Wait;
+use std::sync::atomic::AtomicBool;
+use std::thread::{Threads, join};
 use std::time::Clock;
 
 /// Holds each of two threads at its first step until the other has made one too.
@@ -20,77 +28,62 @@ impl<'a, R: Clock> Pause for Meeting<'a, R> {
     }
 }
 
-/// A seat makes a call, and comes back with the reply.
-fn called<M: Running, R: Host>(
+/// A seat adds a key once the flag is set.
+fn has_added<M: Running, R: Wait + Clock, P: Pause>(
     rt: &R,
     set: &LiveSet<M>,
     mut seat: Seat<M>,
-    call: Call,
-    meeting: &Meeting<'_, R>,
-) -> (Seat<M>, Reply)
+    key: u32,
+    pause: &P,
+    start: &AtomicBool,
+) -> Reply
     requires { seat.set ≡ set.now }
-    ensures { result.0.set ≡ set.now }
 {
-    let reply = set.call(rt, &mut seat, call, meeting);
-    (seat, reply)
+    let _came = comes(rt, start);
+    set.call(rt, &mut seat, Call::Add(Key(key)), pause)
 }
 
-/// Two seats make a call each, in two threads.
-fn at_once<M: Running + Send + Sync, R: Host>(
+/// Two seats add a key each, in two threads, the second once the flag is set.
+fn at_once<M: Running + Send + Sync, R: Threads + Wait + Clock + Sync, P: Pause + Sync>(
     rt: &R,
     set: &LiveSet<M>,
-    seats: (Seat<M>, Seat<M>),
-    both: (Call, Call),
-    meeting: &Meeting<'_, R>,
-) -> ((Seat<M>, Reply), (Seat<M>, Reply))
-    requires { (seats.0.set ≡ set.now) × (seats.1.set ≡ set.now) }
-    ensures { (result.0.0.set ≡ set.now) × (result.1.0.set ≡ set.now) }
+    zero: Seat<M>,
+    one: Seat<M>,
+    pause: &P,
+    start_of_one: &AtomicBool,
+) -> (Reply, Reply)
+    requires { (zero.set ≡ set.now) × (one.set ≡ set.now) }
 {
-    let (zero, one) = seats;
+    let start = AtomicBool::new(true);
     join(
         rt,
-        move || called(rt, set, zero, both.0, meeting),
-        move || called(rt, set, one, both.1, meeting),
+        move || has_added(rt, set, zero, 1, pause, &start),
+        move || has_added(rt, set, one, 2, pause, start_of_one),
     )
 }
 
-/// Two calls meet in an empty set: the first has one of these replies, and the second adds. Gathered, they leave these keys.
-fn meet<M: Running + Send + Sync, R: Host>(
-    rt: &R,
-    both: (Call, Call),
-    first: [Reply; 2],
-    keys: &[u32],
-) {
-    let (set, zero, one) = two_seats::<M, R>(rt, &[]);
-    let meeting = Meeting::new(rt);
-    let ((mut zero, reply), (one, added)) = at_once(rt, &set, (zero, one), both, &meeting);
-    assert!(rt; meeting.was_held());
-    assert!(rt; first.contains(&reply) && added == Reply::True);
-    set.gather(&mut zero, one);
-    assert!(rt; zero.held() == 2);
-    answers(
-        rt,
-        &set,
-        &mut zero,
-        &[(Call::Contains(both.1.key()), Reply::True)],
-    );
-    close_with(rt, set, zero, keys);
+/// Both keys came in.
+fn are_added<R: Abort>(rt: &R, replies: (Reply, Reply)) {
+    assert!(rt; replies.0 == Reply::True);
+    assert!(rt; replies.1 == Reply::True);
 }
 
-fn calls_meet<M: Running + Send + Sync, R: Host>(rt: &R) {
-    let add = Call::Add(Key(9));
-    let ceilings = [Reply::Nothing, Reply::At(Key(9))];
-    meet::<M, R>(rt, (Call::Add(Key(1)), add), [Reply::True; 2], &[1, 9]);
-    meet::<M, R>(
-        rt,
-        (Call::Contains(Key(9)), add),
-        [Reply::True, Reply::False],
-        &[9],
-    );
-    meet::<M, R>(rt, (Call::Ceiling(Key(4)), add), ceilings, &[9]);
+fn calls_meet<M: Running + Send + Sync, R: Threads + Wait + Clock + Abort + Sync>(
+    rt: &R,
+    alloc: Global,
+) {
+    let (set, zero, one) = two_seats::<M, R>(rt, alloc);
+    let meeting = Meeting::new(rt);
+    let replies = at_once(rt, &set, zero, one, &meeting, &AtomicBool::new(true));
+    assert!(rt; meeting.was_held());
+    are_added(rt, replies);
 }
 
 #[test]
 fn two_calls_meet(rt: HostRuntime) {
-    at_each_list!(calls_meet(&rt));
+    calls_meet::<CoarseList, HostRuntime>(&rt, rt.alloc());
+    calls_meet::<FineList, HostRuntime>(&rt, rt.alloc());
+    calls_meet::<OptimisticList, HostRuntime>(&rt, rt.alloc());
+    calls_meet::<LazyList, HostRuntime>(&rt, rt.alloc());
+    calls_meet::<LockFreeList, HostRuntime>(&rt, rt.alloc());
 }

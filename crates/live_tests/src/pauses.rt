@@ -1,4 +1,4 @@
-use crate::opened::{Host, two_seats};
+use crate::opened::two_seats;
 use lset_coarse::CoarseList;
 use lset_fine::FineList;
 use lset_lazy::LazyList;
@@ -7,7 +7,10 @@ use lset_lock_free::LockFreeList;
 use lset_optimistic::OptimisticList;
 use lset_rule::Pause;
 use lset_words::{Call, Key, Reply};
+use std::alloc::Global;
 use std::cell::Cell;
+use std::process::Abort;
+use std::sync::Wait;
 use stepped_lists::Stepped;
 
 /// Counts the steps that do not answer, and those of them that are told of another thread or as failed.
@@ -15,7 +18,7 @@ use stepped_lists::Stepped;
 pub struct Count {
     thread: u32,
     pub steps: Cell<u64>,
-    wrong: Cell<u64>,
+    pub wrong: Cell<u64>,
 }
 
 impl Count {
@@ -27,7 +30,9 @@ impl Count {
             wrong: Cell::new(0),
         }
     }
+}
 
+impl Count {
     fn count(&self, is_wrong: bool) {
         self.steps.set(self.steps.get().wrapping_add(1));
         if is_wrong {
@@ -47,31 +52,29 @@ impl Pause for Count {
 }
 
 /// An add on the empty list, of seat 1, asks its pause so many times.
-fn asks<M: Running, R: Host>(rt: &R, pauses: u64) {
-    let (set, _zero, mut one) = two_seats::<M, R>(rt, &[]);
+fn asks<M: Running, R: Wait + Abort>(rt: &R, alloc: Global, pauses: u64) {
+    let (set, _zero, mut one) = two_seats::<M, R>(rt, alloc);
     let count = Count::new(1);
     let reply = set.call(rt, &mut one, Call::Add(Key(5)), &count);
     assert!(rt; reply == Reply::True);
-    assert!(rt;
-        count.steps.get() == pauses && count.wrong.get() == 0,
-        "{pauses}"
-    );
+    assert!(rt; count.steps.get() == pauses, "{pauses}");
+    assert!(rt; count.wrong.get() == 0, "{pauses}");
 }
 
 /// So does the same add by the interpreter.
-fn both_ask<M: Running, R: Host>(rt: &R, pauses: u64) {
-    asks::<M, R>(rt, pauses);
-    asks::<Stepped<M>, R>(rt, pauses);
+fn both_ask<M: Running, R: Wait + Abort>(rt: &R, alloc: Global, pauses: u64) {
+    asks::<M, R>(rt, alloc, pauses);
+    asks::<Stepped<M>, R>(rt, alloc, pauses);
 }
 
 /// The steps of `docs/TABLES.md`, less the one that answers.
 #[test]
 fn a_pause_is_asked_after_each_step_but_the_last(rt: HostRuntime) {
-    both_ask::<CoarseList, HostRuntime>(&rt, 6);
-    both_ask::<FineList, HostRuntime>(&rt, 8);
-    both_ask::<OptimisticList, HostRuntime>(&rt, 9);
-    both_ask::<LazyList, HostRuntime>(&rt, 10);
-    both_ask::<LockFreeList, HostRuntime>(&rt, 5);
+    both_ask::<CoarseList, HostRuntime>(&rt, rt.alloc(), 6);
+    both_ask::<FineList, HostRuntime>(&rt, rt.alloc(), 8);
+    both_ask::<OptimisticList, HostRuntime>(&rt, rt.alloc(), 9);
+    both_ask::<LazyList, HostRuntime>(&rt, rt.alloc(), 10);
+    both_ask::<LockFreeList, HostRuntime>(&rt, rt.alloc(), 5);
 }
 
 /// Calls of each kind on a set that opens empty, with keys whose words are even and odd.
@@ -87,8 +90,8 @@ const OF_EACH_KIND: [Call; 8] = [
 ];
 
 /// Each of these calls of seat 1 is told of thread 1, and of no failure.
-fn tells_its_thread<M: Running, R: Host>(rt: &R) {
-    let (set, _zero, mut one) = two_seats::<M, R>(rt, &[]);
+fn tells_its_thread<M: Running, R: Wait + Abort>(rt: &R, alloc: Global) {
+    let (set, _zero, mut one) = two_seats::<M, R>(rt, alloc);
     for call in &OF_EACH_KIND {
         let count = Count::new(1);
         let _reply = set.call(rt, &mut one, *call, &count);
@@ -98,6 +101,10 @@ fn tells_its_thread<M: Running, R: Host>(rt: &R) {
 
 #[test]
 fn a_pause_is_told_the_thread_in_each_kind_of_call(rt: HostRuntime) {
-    at_each_list!(tells_its_thread(&rt));
-    tells_its_thread::<Stepped<LazyList>, HostRuntime>(&rt);
+    tells_its_thread::<CoarseList, HostRuntime>(&rt, rt.alloc());
+    tells_its_thread::<FineList, HostRuntime>(&rt, rt.alloc());
+    tells_its_thread::<OptimisticList, HostRuntime>(&rt, rt.alloc());
+    tells_its_thread::<LazyList, HostRuntime>(&rt, rt.alloc());
+    tells_its_thread::<LockFreeList, HostRuntime>(&rt, rt.alloc());
+    tells_its_thread::<Stepped<LazyList>, HostRuntime>(&rt, rt.alloc());
 }

@@ -1,12 +1,22 @@
 ghost use Rattle.std.specs.Prelude.{◌≡◌, ◌<◌, ◌^◌, IsTrue, All, length};
 
-use crate::opened::{Host, answers, two_seats};
+use crate::balance::Balance;
+use crate::opened::{add, two_seats};
 use crate::waiting::Meeting;
+use lset_coarse::CoarseList;
+use lset_fine::FineList;
 use lset_lazy::LazyList;
 use lset_live::{LiveSet, Running, Seat, open};
+use lset_lock_free::LockFreeList;
+use lset_optimistic::OptimisticList;
+use lset_schedule::programs;
 use lset_words::{Call, Key, Reply};
 use lset_work::{Always, Gate, Outcome, WorkCause, WorkFault, work};
+use std::alloc::Global;
+use std::process::Abort;
+use std::sync::Wait;
 use std::sync::atomic::{AtomicU32, Ordering};
+use std::thread::Threads;
 use std::time::Clock;
 
 fn are_short(programs: &[Vec<Call>]) -> bool
@@ -20,8 +30,9 @@ fn are_short(programs: &[Vec<Call>]) -> bool
 }
 
 /// `work`, once it is seen that the programs are short.
-fn tried<M: Running + Send + Sync, R: Host, G: Gate + Sync>(
+fn tried<M: Running + Send + Sync, R: Threads + Wait + Abort + Sync, G: Gate + Sync>(
     rt: &R,
+    alloc: Global,
     set: LiveSet<M>,
     seats: Vec<Seat<M>>,
     programs: Vec<Vec<Call>>,
@@ -30,12 +41,13 @@ fn tried<M: Running + Send + Sync, R: Host, G: Gate + Sync>(
     requires { All (λ s. s.set ≡ set) seats.items }
 {
     assert!(rt; are_short(&programs));
-    work(rt, rt.alloc(), set, seats, programs, gate)
+    work(rt, alloc, set, seats, programs, gate)
 }
 
 /// The same, where it is not refused.
-pub fn worked<M: Running + Send + Sync, R: Host, G: Gate + Sync>(
+pub fn worked<M: Running + Send + Sync, R: Threads + Wait + Abort + Sync, G: Gate + Sync>(
     rt: &R,
+    alloc: Global,
     set: LiveSet<M>,
     seats: Vec<Seat<M>>,
     programs: Vec<Vec<Call>>,
@@ -43,39 +55,54 @@ pub fn worked<M: Running + Send + Sync, R: Host, G: Gate + Sync>(
 ) -> Outcome
     requires { All (λ s. s.set ≡ set) seats.items }
 {
-    match tried(rt, set, seats, programs, gate) {
+    match tried(rt, alloc, set, seats, programs, gate) {
         Ok(outcome) => outcome,
         Err(fault) => panic!(rt; "refused: {}", fault.cause),
     }
 }
 
-/// Why the programs are refused on both seats of a new set.
-fn fault_of<R: Host, G: Gate + Sync>(
+/// Both seats of a new set.
+fn two_in_a_row<M: Running, R: Abort>(rt: &R, alloc: Global) -> (LiveSet<M>, Vec<Seat<M>>)
+    ensures { All (λ s. s.set ≡ result.0) result.1.items }
+{
+    open::<M>(alloc, 2, 4).expect(rt, "not opened")
+}
+
+/// Why the programs are refused on these seats.
+fn fault_of<M: Running + Send + Sync, R: Threads + Wait + Abort + Sync, G: Gate + Sync>(
     rt: &R,
+    alloc: Global,
     programs: Vec<Vec<Call>>,
     gate: &G,
-) -> WorkFault<LazyList> {
-    let (set, seats) = open::<LazyList>(rt.alloc(), 2, 4).expect(rt, "not opened");
-    match tried(rt, set, seats, programs, gate) {
+) -> WorkFault<M> {
+    let (set, seats) = two_in_a_row::<M, R>(rt, alloc);
+    match tried(rt, alloc, set, seats, programs, gate) {
         Ok(_) => panic!(rt; "not refused"),
         Err(fault) => fault,
     }
 }
 
 /// Two programs.
-pub fn pair<R: Host>(rt: &R, first: &[Call], second: &[Call]) -> Vec<Vec<Call>> {
-    let first = Vec::from_slice(rt.alloc(), first).expect(rt, "room");
-    let second = Vec::from_slice(rt.alloc(), second).expect(rt, "room");
-    vec![in rt.alloc(); first, second].expect(rt, "room")
+pub fn pair<R: Abort>(rt: &R, alloc: Global, first: &[Call], second: &[Call]) -> Vec<Vec<Call>> {
+    let first = Vec::from_slice(alloc, first).expect(rt, "room");
+    let second = Vec::from_slice(alloc, second).expect(rt, "room");
+    vec![in alloc; first, second].expect(rt, "room")
 }
 
+/// Add 1, Contains 1, Remove 1.
 const FIRST: [Call; 3] = [
     Call::Add(Key(1)),
     Call::Contains(Key(1)),
     Call::Remove(Key(1)),
 ];
 
+/// Add 2, Add 2.
 const SECOND: [Call; 2] = [Call::Add(Key(2)), Call::Add(Key(2))];
+
+/// These two.
+fn two_programs<R: Abort>(rt: &R, alloc: Global) -> Vec<Vec<Call>> {
+    pair(rt, alloc, &FIRST, &SECOND)
+}
 
 /// The programs have these replies.
 pub fn are_answered(outcome: &Outcome, replies: &[&[Reply]]) -> bool {
@@ -87,38 +114,29 @@ pub fn are_answered(outcome: &Outcome, replies: &[&[Reply]]) -> bool {
             .all(|pair| pair.0.as_slice() == *pair.1)
 }
 
-/// The programs run on the two seats of a new set, with these replies, and leave these keys.
-fn run<M: Running + Send + Sync, R: Host, G: Gate + Sync>(
-    rt: &R,
-    programs: Vec<Vec<Call>>,
-    gate: &G,
-    replies: &[&[Reply]],
-    keys: &[u32],
-) {
-    let (set, seats) = open::<M>(rt.alloc(), 2, 4).expect(rt, "not opened");
-    let outcome = worked(rt, set, seats, programs, gate);
-    assert!(rt; are_answered(&outcome, replies) && outcome.keys.as_slice() == keys);
+fn are_as_wanted(outcome: &Outcome, replies: &[&[Reply]], keys: &[u32]) -> bool {
+    outcome.keys.as_slice() == keys && are_answered(outcome, replies)
 }
 
-fn are_run<M: Running + Send + Sync, R: Host>(rt: &R) {
+fn answers<M: Running + Send + Sync, R: Threads + Wait + Abort + Sync>(rt: &R, alloc: Global) {
+    let (set, seats) = two_in_a_row::<M, R>(rt, alloc);
+    let outcome = worked(rt, alloc, set, seats, two_programs(rt, alloc), &Always);
     let first: &[Reply] = &[Reply::True, Reply::True, Reply::True];
     let second: &[Reply] = &[Reply::True, Reply::False];
-    run::<M, R, Always>(
-        rt,
-        pair(rt, &FIRST, &SECOND),
-        &Always,
-        &[first, second],
-        &[2],
-    );
+    assert!(rt; are_as_wanted(&outcome, &[first, second], &[2]));
 }
 
 #[test]
 fn programs_are_answered(rt: HostRuntime) {
-    at_each_list!(are_run(&rt));
+    answers::<CoarseList, HostRuntime>(&rt, rt.alloc());
+    answers::<FineList, HostRuntime>(&rt, rt.alloc());
+    answers::<OptimisticList, HostRuntime>(&rt, rt.alloc());
+    answers::<LazyList, HostRuntime>(&rt, rt.alloc());
+    answers::<LockFreeList, HostRuntime>(&rt, rt.alloc());
 }
 
 /// The programs did not fit the seats, and so many seats came back with the set, which has two.
-fn gave_all_back<R: Host>(rt: &R, fault: WorkFault<LazyList>, seats: usize) {
+fn gave_all_back<R: Abort>(rt: &R, fault: WorkFault<LazyList>, seats: usize) {
     assert!(rt; fault.cause == WorkCause::Programs);
     let (set, back) = fault.back.expect(rt, "nothing came back");
     assert!(rt; set.seats() == 2);
@@ -127,9 +145,10 @@ fn gave_all_back<R: Host>(rt: &R, fault: WorkFault<LazyList>, seats: usize) {
 
 #[test]
 fn one_program_for_two_seats_gives_all_back(rt: HostRuntime) {
-    let mut programs = pair(&rt, &FIRST, &SECOND);
+    let mut programs = two_programs(&rt, rt.alloc());
     let _ = programs.pop();
-    gave_all_back(&rt, fault_of(&rt, programs, &Always), 2);
+    let fault = fault_of::<LazyList, HostRuntime, Always>(&rt, rt.alloc(), programs, &Always);
+    gave_all_back(&rt, fault, 2);
 }
 
 /// Answers false at one call.
@@ -145,13 +164,18 @@ impl Gate for Shut {
     }
 }
 
+fn ends_a_program<R: Threads + Wait + Abort + Sync>(rt: &R, alloc: Global, shut: &Shut) {
+    let programs = two_programs(rt, alloc);
+    let fault = fault_of::<LazyList, R, Shut>(rt, alloc, programs, shut);
+    assert!(rt; fault.cause == WorkCause::Gate);
+    assert!(rt; fault.back.is_none());
+}
+
 /// At the first, a middle and the last call of either seat.
 #[test]
 fn a_gate_ends_a_program(rt: HostRuntime) {
     for &(seat, call) in &[(0, 0), (0, 1), (0, 2), (1, 0), (1, 1)] {
-        let programs = pair(&rt, &FIRST, &SECOND);
-        let fault = fault_of(&rt, programs, &Shut { seat, call });
-        assert!(rt; fault.cause == WorkCause::Gate && fault.back.is_none());
+        ends_a_program(&rt, rt.alloc(), &Shut { seat, call });
     }
 }
 
@@ -187,8 +211,9 @@ fn a_gate_is_asked_once_for_each_call(rt: HostRuntime) {
     let asked = Asked {
         counts: [0; 7].map(AtomicU32::new),
     };
-    let (set, seats) = open::<LazyList>(rt.alloc(), 2, 4).expect(&rt, "not opened");
-    let _outcome = worked(&rt, set, seats, pair(&rt, &FIRST, &SECOND), &asked);
+    let programs = two_programs(&rt, rt.alloc());
+    let (set, seats) = two_in_a_row::<LazyList, HostRuntime>(&rt, rt.alloc());
+    let _outcome = worked(&rt, rt.alloc(), set, seats, programs, &asked);
     assert!(rt; asked.are(&[1, 1, 1, 1, 1, 0, 0]));
 }
 
@@ -199,57 +224,91 @@ impl<'a, R: Clock> Gate for Meeting<'a, R> {
     }
 }
 
+/// Adds 1 and 3; and 2 and 4.
 const ODD: [Call; 2] = [Call::Add(Key(1)), Call::Add(Key(3))];
 
 const EVEN: [Call; 2] = [Call::Add(Key(2)), Call::Add(Key(4))];
 
-fn meet<M: Running + Send + Sync, R: Host>(rt: &R) {
-    let (programs, meeting) = (pair(rt, &ODD, &EVEN), Meeting::new(rt));
+fn meet<M: Running + Send + Sync, R: Threads + Wait + Abort + Sync + Clock>(rt: &R, alloc: Global) {
+    let programs = pair(rt, alloc, &ODD, &EVEN);
+    let (set, seats) = two_in_a_row::<M, R>(rt, alloc);
+    let outcome = worked(rt, alloc, set, seats, programs, &Meeting::new(rt));
     let both: &[Reply] = &[Reply::True, Reply::True];
-    run::<M, R, _>(rt, programs, &meeting, &[both, both], &[1, 2, 3, 4]);
+    assert!(rt; are_as_wanted(&outcome, &[both, both], &[1, 2, 3, 4]));
 }
 
 #[test]
 fn two_workers_meet(rt: HostRuntime) {
-    at_each_list!(meet(&rt));
+    meet::<CoarseList, HostRuntime>(&rt, rt.alloc());
+    meet::<FineList, HostRuntime>(&rt, rt.alloc());
+    meet::<OptimisticList, HostRuntime>(&rt, rt.alloc());
+    meet::<LazyList, HostRuntime>(&rt, rt.alloc());
+    meet::<LockFreeList, HostRuntime>(&rt, rt.alloc());
 }
 
 /// One program for one seat.
-fn alone<M: Running, R: Host>(
+fn alone<M: Running, R: Abort>(
     rt: &R,
+    alloc: Global,
     seat: Seat<M>,
     program: &[Call],
 ) -> (Vec<Seat<M>>, Vec<Vec<Call>>)
     ensures { All (λ s. s.set ≡ seat.set) result.0.items }
 {
-    let calls = Vec::from_slice(rt.alloc(), program).expect(rt, "room");
-    let seats = vec![in rt.alloc(); seat].expect(rt, "room");
-    (seats, vec![in rt.alloc(); calls].expect(rt, "room"))
+    let calls = Vec::from_slice(alloc, program).expect(rt, "room");
+    let seats = vec![in alloc; seat].expect(rt, "room");
+    (seats, vec![in alloc; calls].expect(rt, "room"))
 }
 
-fn works_when_gathered<M: Running + Send + Sync, R: Host>(rt: &R) {
-    let (set, mut zero, mut one) = two_seats::<M, R>(rt, &[]);
-    answers(rt, &set, &mut one, &[(Call::Add(Key(9)), Reply::True)]);
+fn works_when_gathered<M: Running + Send + Sync, R: Threads + Wait + Abort + Sync>(
+    rt: &R,
+    alloc: Global,
+) {
+    let (set, mut zero, mut one) = two_seats::<M, R>(rt, alloc);
+    add(rt, &set, &mut one, 9, Reply::True);
     set.gather(&mut zero, one);
     let program = [Call::Contains(Key(9)), Call::Add(Key(3))];
-    let (seats, programs) = alone(rt, zero, &program);
-    let outcome = worked(rt, set, seats, programs, &Always);
+    let (seats, programs) = alone(rt, alloc, zero, &program);
+    let outcome = worked(rt, alloc, set, seats, programs, &Always);
     let both: &[Reply] = &[Reply::True, Reply::True];
-    assert!(rt; are_answered(&outcome, &[both]));
-    assert!(rt; outcome.keys.as_slice() == [3, 9].as_slice());
+    assert!(rt; are_as_wanted(&outcome, &[both], &[3, 9]));
 }
 
 #[test]
 fn a_gathered_seat_works(rt: HostRuntime) {
-    at_each_list!(works_when_gathered(&rt));
+    works_when_gathered::<CoarseList, HostRuntime>(&rt, rt.alloc());
+    works_when_gathered::<FineList, HostRuntime>(&rt, rt.alloc());
+    works_when_gathered::<OptimisticList, HostRuntime>(&rt, rt.alloc());
+    works_when_gathered::<LazyList, HostRuntime>(&rt, rt.alloc());
+    works_when_gathered::<LockFreeList, HostRuntime>(&rt, rt.alloc());
 }
 
 #[test]
 fn all_seats_are_wanted(rt: HostRuntime) {
-    let (set, zero, _one) = two_seats::<LazyList, HostRuntime>(&rt, &[]);
-    let (seats, programs) = alone(&rt, zero, &[Call::Add(Key(3))]);
-    match tried(&rt, set, seats, programs, &Always) {
+    let (set, zero, _one) = two_seats::<LazyList, HostRuntime>(&rt, rt.alloc());
+    let (seats, programs) = alone(&rt, rt.alloc(), zero, &[Call::Add(Key(3))]);
+    match tried(&rt, rt.alloc(), set, seats, programs, &Always) {
         Ok(_) => panic!(rt; "a seat is missing"),
         Err(fault) => gave_all_back(&rt, fault, 1),
     }
+}
+
+fn add_up<M: Running + Send + Sync, R: Threads + Wait + Abort + Sync>(rt: &R, alloc: Global) {
+    let (set, seats) = open::<M>(alloc, 4, 2_000).expect(rt, "not opened");
+    let drawn = programs(alloc, 4, 2_000, 50, 7).expect(rt, "not drawn");
+    let again = programs(alloc, 4, 2_000, 50, 7).expect(rt, "not drawn");
+    let outcome = worked(rt, alloc, set, seats, drawn, &Always);
+    let mut balance = Balance::new();
+    assert!(rt; balance.note_all(&again, &outcome.replies));
+    assert!(rt; balance.calls() == 8_000);
+    assert!(rt; balance.leaves(&outcome.keys));
+}
+
+#[test]
+fn each_key_left_was_put_in_once_more_than_taken_out(rt: HostRuntime) {
+    add_up::<CoarseList, HostRuntime>(&rt, rt.alloc());
+    add_up::<FineList, HostRuntime>(&rt, rt.alloc());
+    add_up::<OptimisticList, HostRuntime>(&rt, rt.alloc());
+    add_up::<LazyList, HostRuntime>(&rt, rt.alloc());
+    add_up::<LockFreeList, HostRuntime>(&rt, rt.alloc());
 }

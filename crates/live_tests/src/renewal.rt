@@ -2,8 +2,8 @@
 ghost use Rattle.std.specs.Prelude.{◌≡◌, ◌<◌, All};
 ghost use Rattle.std.specs.List.Sorted.{IsStrictlyIncreasing};
 
-use crate::many::{drawn_call, next_number};
-use crate::opened::{Host, answers, close_with, closed, gathered, last_seat};
+use crate::many::{drawn_call, gathered, next_number};
+use crate::opened::{close_with, last_seat};
 use crate::programs::{are_answered, pair, worked};
 use lset_coarse::CoarseList;
 use lset_fine::FineList;
@@ -15,6 +15,37 @@ use lset_optimistic::OptimisticList;
 use lset_rule::Spin;
 use lset_words::{Call, Key, Kind, MOST_OPENING, Reply};
 use lset_work::Always;
+use std::alloc::Global;
+use std::process::Abort;
+use std::sync::Wait;
+
+/// A seat makes calls, each of which has its reply.
+fn make_calls<M: Running, R: Wait + Abort>(
+    rt: &R,
+    set: &LiveSet<M>,
+    seat: &mut Seat<M>,
+    rows: &[(Call, Reply)],
+)
+    requires { seat.old.set ≡ set.now }
+    ensures { seat.new.set ≡ set.now }
+{
+    for (call, reply) in rows {
+        assert_eq!(rt; set.call(rt, seat, *call, &Spin::new()), *reply);
+    }
+}
+
+/// All seats are gathered, and the set is closed with just these keys.
+fn gather_and_close<M: Running, R: Abort>(
+    rt: &R,
+    set: LiveSet<M>,
+    seats: Vec<Seat<M>>,
+    keys: &[u32],
+)
+    requires { All (λ s. s.set ≡ set) seats.items }
+{
+    let seat = gathered(&set, seats).expect(rt, "no seat");
+    close_with(rt, set, seat, keys);
+}
 
 /// Calls on a set that opened with the key 9 and without a slot.
 const CALLS_ON_A_KEY: [(Call, Reply); 3] = [
@@ -24,13 +55,12 @@ const CALLS_ON_A_KEY: [(Call, Reply); 3] = [
 ];
 
 /// Three seats without a slot, and the key 9: it takes no slot, and goes out as any other.
-fn opens_with_a_key<M: Running, R: Host>(rt: &R) {
-    let (set, mut seats) = open_with::<M>(rt.alloc(), 3, 0, &[9]).expect(rt, "not opened");
+fn opens_with_a_key<M: Running, R: Wait + Abort>(rt: &R, alloc: Global) {
+    let (set, mut seats) = open_with::<M>(alloc, 3, 0, &[9]).expect(rt, "not opened");
     let mut last = last_seat(rt, &set, &mut seats);
-    answers(rt, &set, &mut last, &CALLS_ON_A_KEY);
+    make_calls(rt, &set, &mut last, &CALLS_ON_A_KEY);
     seats.push(last).expect(rt, "room");
-    let seat = gathered(rt, &set, seats);
-    close_with(rt, set, seat, &[]);
+    gather_and_close(rt, set, seats, &[]);
 }
 
 /// Calls on a set that opened with the keys 0, 7 and the greatest, and has two slots.
@@ -45,22 +75,30 @@ const CALLS_ON_KEYS: [(Call, Reply); 7] = [
 ];
 
 /// The least and the greatest key are opening keys too; one that went out comes in again, in a slot.
-fn keeps_its_keys<M: Running, R: Host>(rt: &R) {
-    let opened = open_with::<M>(rt.alloc(), 1, 2, &[0, 7, u32::MAX]);
+fn keeps_its_keys<M: Running, R: Wait + Abort>(rt: &R, alloc: Global) {
+    let opened = open_with::<M>(alloc, 1, 2, &[0, 7, u32::MAX]);
     let (set, mut seats) = opened.expect(rt, "not opened");
     let mut seat = last_seat(rt, &set, &mut seats);
-    answers(rt, &set, &mut seat, &CALLS_ON_KEYS);
+    make_calls(rt, &set, &mut seat, &CALLS_ON_KEYS);
     close_with(rt, set, seat, &[0, 7, 8]);
+}
+
+fn opens_again<M: Running, R: Wait + Abort>(rt: &R, alloc: Global) {
+    opens_with_a_key::<M, R>(rt, alloc);
+    keeps_its_keys::<M, R>(rt, alloc);
 }
 
 #[test]
 fn a_closed_set_opens_again(rt: HostRuntime) {
-    at_each_list!(opens_with_a_key(&rt));
-    at_each_list!(keeps_its_keys(&rt));
+    opens_again::<CoarseList, HostRuntime>(&rt, rt.alloc());
+    opens_again::<FineList, HostRuntime>(&rt, rt.alloc());
+    opens_again::<OptimisticList, HostRuntime>(&rt, rt.alloc());
+    opens_again::<LazyList, HostRuntime>(&rt, rt.alloc());
+    opens_again::<LockFreeList, HostRuntime>(&rt, rt.alloc());
 }
 
 /// A call, answered as the sequential set answers it.
-fn call_beside<M: Running, R: Host>(
+fn call_beside<M: Running, R: Wait + Abort>(
     rt: &R,
     set: &LiveSet<M>,
     seat: &mut Seat<M>,
@@ -79,7 +117,7 @@ fn call_beside<M: Running, R: Host>(
 }
 
 /// Fifty calls of a thread.
-fn calls_beside<M: Running, R: Host>(
+fn calls_beside<M: Running, R: Wait + Abort>(
     rt: &R,
     set: &LiveSet<M>,
     seat: &mut Seat<M>,
@@ -99,7 +137,7 @@ fn calls_beside<M: Running, R: Host>(
 }
 
 /// Each of the seats makes its calls beside the sequential set; all are gathered.
-fn all_calls_beside<M: Running, R: Host>(
+fn all_calls_beside<M: Running, R: Wait + Abort>(
     rt: &R,
     set: &LiveSet<M>,
     mut seats: Vec<Seat<M>>,
@@ -119,32 +157,61 @@ fn all_calls_beside<M: Running, R: Host>(
     gathered.expect(rt, "no seat")
 }
 
-/// A life of a set, beside the sequential set: it opens with these keys, each seat makes its calls, and it is closed. The keys
-/// that are left.
-fn life<M: Running, R: Host>(rt: &R, count: u32, quota: u32, keys: &[u32]) -> Vec<u32>
-    requires { IsStrictlyIncreasing keys.now }
+/// The keys that are left in a set, which are those of the sequential one.
+fn keys_beside<M: Running, R: Abort>(
+    rt: &R,
+    set: LiveSet<M>,
+    seat: Seat<M>,
+    oracle: &Oracle,
+) -> Vec<u32>
+    requires { seat.set ≡ set }
     ensures { IsStrictlyIncreasing result.items }
 {
-    let (set, seats) = open_with::<M>(rt.alloc(), count, quota, keys).expect(rt, "not opened");
-    let mut oracle = Oracle::opened(rt.alloc(), count, quota, keys).expect(rt, "room");
-    let seat = all_calls_beside(rt, &set, seats, &mut oracle, count);
-    let left = closed(rt, set, seat);
+    let Ok(closed) = set.close(seat) else {
+        panic!(rt; "a seat is out")
+    };
+    let left = closed.keys().expect(rt, "the keys");
     let wanted = oracle.keys().expect(rt, "the keys");
     assert!(rt; left == wanted);
     left
 }
 
+/// A life of a set, beside the sequential set: it opens with these keys, each seat makes its calls, and it is closed. The keys
+/// that are left.
+fn life<M: Running, R: Wait + Abort>(
+    rt: &R,
+    alloc: Global,
+    count: u32,
+    quota: u32,
+    keys: &[u32],
+) -> Vec<u32>
+    requires { IsStrictlyIncreasing keys.now }
+    ensures { IsStrictlyIncreasing result.items }
+{
+    let (set, seats) = open_with::<M>(alloc, count, quota, keys).expect(rt, "not opened");
+    let mut oracle = Oracle::opened(alloc, count, quota, keys).expect(rt, "room");
+    let seat = all_calls_beside(rt, &set, seats, &mut oracle, count);
+    keys_beside(rt, set, seat, &oracle)
+}
+
 /// A life of the list of that kind.
-fn life_as<R: Host>(rt: &R, kind: Kind, seats: u32, quota: u32, keys: &[u32]) -> Vec<u32>
+fn life_as<R: Wait + Abort>(
+    rt: &R,
+    alloc: Global,
+    kind: Kind,
+    seats: u32,
+    quota: u32,
+    keys: &[u32],
+) -> Vec<u32>
     requires { IsStrictlyIncreasing keys.now }
     ensures { IsStrictlyIncreasing result.items }
 {
     match kind {
-        Kind::Coarse => life::<CoarseList, R>(rt, seats, quota, keys),
-        Kind::Fine => life::<FineList, R>(rt, seats, quota, keys),
-        Kind::Optimistic => life::<OptimisticList, R>(rt, seats, quota, keys),
-        Kind::Lazy => life::<LazyList, R>(rt, seats, quota, keys),
-        Kind::LockFree => life::<LockFreeList, R>(rt, seats, quota, keys),
+        Kind::Coarse => life::<CoarseList, R>(rt, alloc, seats, quota, keys),
+        Kind::Fine => life::<FineList, R>(rt, alloc, seats, quota, keys),
+        Kind::Optimistic => life::<OptimisticList, R>(rt, alloc, seats, quota, keys),
+        Kind::Lazy => life::<LazyList, R>(rt, alloc, seats, quota, keys),
+        Kind::LockFree => life::<LockFreeList, R>(rt, alloc, seats, quota, keys),
     }
 }
 
@@ -159,12 +226,12 @@ const NEXT: [(Kind, u32, u32); 5] = [
 
 /// A set is closed as one list, and its keys open each of the four others, with fewer seats and another quota. So many keys
 /// were left in all.
-fn next_lives<R: Host>(rt: &R, first: Kind) -> usize {
-    let keys = life_as(rt, first, 8, 40, &[]);
+fn next_lives<R: Wait + Abort>(rt: &R, alloc: Global, first: Kind) -> usize {
+    let keys = life_as(rt, alloc, first, 6, 40, &[]);
     let mut left = 0usize;
     for &(kind, seats, quota) in &NEXT {
         if kind != first {
-            left = left.wrapping_add(life_as(rt, kind, seats, quota, &keys).len());
+            left = left.wrapping_add(life_as(rt, alloc, kind, seats, quota, &keys).len());
         }
     }
     left
@@ -173,8 +240,24 @@ fn next_lives<R: Host>(rt: &R, first: Kind) -> usize {
 #[test]
 fn each_list_opens_as_each_other(rt: HostRuntime) {
     for &(first, _, _) in &NEXT {
-        assert!(rt; next_lives(&rt, first) > 0);
+        assert!(rt; next_lives(&rt, rt.alloc(), first) > 0);
     }
+}
+
+/// Five lives, each of another list, with fewer seats and another quota, from the keys of the life before. So many keys are
+/// left at the end.
+fn five_lives<R: Wait + Abort>(rt: &R, alloc: Global) -> usize {
+    let first = life::<CoarseList, R>(rt, alloc, 8, 40, &[]);
+    let second = life::<FineList, R>(rt, alloc, 6, 3, &first);
+    let third = life::<OptimisticList, R>(rt, alloc, 4, 30, &second);
+    let fourth = life::<LazyList, R>(rt, alloc, 2, 0, &third);
+    let fifth = life::<LockFreeList, R>(rt, alloc, 1, 16, &fourth);
+    fifth.len()
+}
+
+#[test]
+fn a_set_has_five_lives(rt: HostRuntime) {
+    assert!(rt; five_lives(&rt, rt.alloc()) > 0);
 }
 
 /// Seats, a quota, keys, and why no set is opened with them.
@@ -194,10 +277,10 @@ fn opening_keys_are_refused_in_turn(rt: HostRuntime) {
 }
 
 /// The even keys from 0 on, so many.
-fn even_keys<R: Host>(rt: &R, count: u32) -> Vec<u32>
+fn even_keys<R: Abort>(rt: &R, alloc: Global, count: u32) -> Vec<u32>
     requires { count < 2147483648 }
 {
-    let mut keys = Vec::with_capacity(rt.alloc(), count as usize).expect(rt, "room");
+    let mut keys = Vec::with_capacity(alloc, count as usize).expect(rt, "room");
     for i in 0..count {
         keys.push(2 * i).expect(rt, "room");
     }
@@ -212,33 +295,37 @@ const CALLS_ON_A_MILLION: [(Call, Reply); 3] = [
 ];
 
 /// The keys of that set after these calls.
-fn a_million_and_one<R: Host>(rt: &R) -> Vec<u32>
+fn a_million_and_one<R: Wait + Abort>(rt: &R, alloc: Global) -> Vec<u32>
     ensures { IsStrictlyIncreasing result.items }
 {
-    let opened = open_with::<LockFreeList>(rt.alloc(), 1, 1, &even_keys(rt, MOST_OPENING));
+    let keys = even_keys(rt, alloc, MOST_OPENING);
+    let opened = open_with::<LockFreeList>(alloc, 1, 1, &keys);
     let (set, mut seats) = opened.expect(rt, "not opened");
     let mut seat = last_seat(rt, &set, &mut seats);
-    answers(rt, &set, &mut seat, &CALLS_ON_A_MILLION);
-    closed(rt, set, seat)
+    make_calls(rt, &set, &mut seat, &CALLS_ON_A_MILLION);
+    let Ok(closed) = set.close(seat) else {
+        panic!(rt; "a seat is out")
+    };
+    closed.keys().expect(rt, "the keys")
 }
 
 /// The sequential set and the changes open with these keys.
-fn open_others<R: Host>(rt: &R, keys: &[u32])
+fn open_others<R: Abort>(rt: &R, alloc: Global, keys: &[u32])
     requires { IsStrictlyIncreasing keys.now }
 {
-    let oracle = Oracle::opened(rt.alloc(), 1, 0, keys).expect(rt, "room");
+    let oracle = Oracle::opened(alloc, 1, 0, keys).expect(rt, "room");
     let found = oracle.keys().expect(rt, "the keys");
     assert!(rt; found.len() == 1_048_577);
-    let changes = Changes::opened(rt.alloc(), keys).expect(rt, "room");
+    let changes = Changes::opened(alloc, keys).expect(rt, "room");
     assert!(rt; changes.first(2_097_150, true, 0, 5).0 == Some(0));
 }
 
 #[test]
 fn a_million_keys_open_a_set_and_no_more(rt: HostRuntime) {
-    let left = a_million_and_one(&rt);
+    let left = a_million_and_one(&rt, rt.alloc());
     assert!(rt; left.len() == 1_048_577);
-    open_others(&rt, &left);
-    let one_more = even_keys(&rt, MOST_OPENING + 1);
+    open_others(&rt, rt.alloc(), &left);
+    let one_more = even_keys(&rt, rt.alloc(), MOST_OPENING + 1);
     let found = open_with::<LazyList>(rt.alloc(), 1, 1, &one_more).err();
     assert!(rt; found == Some(OpenFault::Opening));
 }
@@ -251,11 +338,11 @@ const PAST_ALL: [Call; 2] = [Call::Ceiling(Key(2_097_151)), Call::Add(Key(2_097_
 /// On two seats of a set that opened with so many keys as may be.
 #[test]
 fn programs_run_on_a_million_keys(rt: HostRuntime) {
-    let keys = even_keys(&rt, MOST_OPENING);
+    let keys = even_keys(&rt, rt.alloc(), MOST_OPENING);
     let opened = open_with::<LockFreeList>(rt.alloc(), 2, 2, &keys);
     let (set, seats) = opened.expect(&rt, "not opened");
-    let programs = pair(&rt, &AT_THE_HEAD, &PAST_ALL);
-    let outcome = worked(&rt, set, seats, programs, &Always);
+    let programs = pair(&rt, rt.alloc(), &AT_THE_HEAD, &PAST_ALL);
+    let outcome = worked(&rt, rt.alloc(), set, seats, programs, &Always);
     let first: &[Reply] = &[Reply::True, Reply::At(Key(1))];
     let second: &[Reply] = &[Reply::Nothing, Reply::True];
     assert!(&rt; are_answered(&outcome, &[first, second]));

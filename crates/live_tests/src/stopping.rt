@@ -1,7 +1,7 @@
 //! Two calls, of which one stops between two of its steps until the other has ended or waits.
 ghost use Rattle.std.specs.Prelude.{◌≡◌};
 
-use crate::opened::{Host, answers, two_seats};
+use crate::opened::{add, two_seats};
 use crate::waiting::comes;
 use lset_coarse::CoarseList;
 use lset_fine::FineList;
@@ -10,12 +10,13 @@ use lset_live::{LiveSet, Running, Seat};
 use lset_lock_free::LockFreeList;
 use lset_optimistic::OptimisticList;
 use lset_rule::Pause;
-use lset_words::Call::{self, Add, Ceiling, Contains, Remove};
-use lset_words::{Key, Reply};
-use std::sync::atomic::Ordering::SeqCst;
-use std::sync::atomic::{AtomicBool, AtomicU64};
+use lset_words::{Call, Key, Reply};
+use std::alloc::Global;
+use std::process::Abort;
+use std::sync::Wait;
+use std::sync::atomic::{AtomicBool, AtomicU64, Ordering};
 use std::thread;
-use std::thread::join;
+use std::thread::{Threads, join};
 use std::time::{Clock, Duration};
 use stepped_lists::Stepped;
 
@@ -46,17 +47,17 @@ impl Told {
     /// A step was made: whether the thread stops after it.
     fn stops(&self, failed: bool) -> bool {
         if failed {
-            self.failed.fetch_add(1, SeqCst);
+            self.failed.fetch_add(1, Ordering::SeqCst);
         }
-        let stops = self.steps.fetch_add(1, SeqCst) == self.stops_at;
+        let stops = self.steps.fetch_add(1, Ordering::SeqCst) == self.stops_at;
         if stops {
-            self.has_stopped.store(true, SeqCst);
+            self.has_stopped.store(true, Ordering::SeqCst);
         }
         stops
     }
 
     fn has_failed_thrice(&self) -> bool {
-        self.failed.load(SeqCst) >= 3
+        self.failed.load(Ordering::SeqCst) >= 3
     }
 }
 
@@ -81,8 +82,8 @@ impl<'a, R: Clock> Stopping<'a, R> {
 
     fn goes_on(&self, thread: u32) -> bool {
         match thread {
-            0 => self.one.has_stopped.load(SeqCst),
-            _ => self.zero.has_ended.load(SeqCst) || self.zero.has_failed_thrice(),
+            0 => self.one.has_stopped.load(Ordering::SeqCst),
+            _ => self.zero.has_ended.load(Ordering::SeqCst) || self.zero.has_failed_thrice(),
         }
     }
 
@@ -94,7 +95,7 @@ impl<'a, R: Clock> Stopping<'a, R> {
             }
             thread::sleep(self.rt, Duration::from_millis(1));
         }
-        self.missed.store(true, SeqCst);
+        self.missed.store(true, Ordering::SeqCst);
     }
 
     fn asked(&self, thread: u32, failed: bool) {
@@ -106,8 +107,8 @@ impl<'a, R: Clock> Stopping<'a, R> {
 
     /// Each thread that was to stop did, and none waited in vain.
     fn was_held(&self) -> bool {
-        let zero = self.zero.stops_at == NEVER || self.zero.has_stopped.load(SeqCst);
-        zero && self.one.has_stopped.load(SeqCst) && !self.missed.load(SeqCst)
+        let zero = self.zero.stops_at == NEVER || self.zero.has_stopped.load(Ordering::SeqCst);
+        zero && self.one.has_stopped.load(Ordering::SeqCst) && !self.missed.load(Ordering::SeqCst)
     }
 }
 
@@ -122,7 +123,7 @@ impl<'a, R: Clock> Pause for Stopping<'a, R> {
 }
 
 /// A seat makes a call once a flag is set, and sets another.
-fn calls<M: Running, R: Host, P: Pause>(
+fn calls<M: Running, R: Wait + Clock, P: Pause>(
     rt: &R,
     set: &LiveSet<M>,
     mut seat: Seat<M>,
@@ -134,12 +135,12 @@ fn calls<M: Running, R: Host, P: Pause>(
 {
     let _came = comes(rt, flags.0);
     let reply = set.call(rt, &mut seat, call, pause);
-    flags.1.store(true, SeqCst);
+    flags.1.store(true, Ordering::SeqCst);
     reply
 }
 
 /// Seats 0 and 1 make a call each, in two threads: the thread that stops first begins, and the other once it has stopped.
-fn both_call<M: Running + Send + Sync, R: Host>(
+fn both_call<M: Running + Send + Sync, R: Threads + Wait + Clock + Sync>(
     rt: &R,
     set: &LiveSet<M>,
     seats: (Seat<M>, Seat<M>),
@@ -164,91 +165,147 @@ fn both_call<M: Running + Send + Sync, R: Host>(
     )
 }
 
-/// Both calls answer true.
-const BOTH: (Reply, Reply) = (Reply::True, Reply::True);
-
 /// Seat 1 has a lock that seat 0 tries, three times at least: its step `locks_at` takes that of the list or of the head.
-fn waits_at_a_lock<M: Running + Send + Sync, R: Host>(rt: &R, locks_at: u64) {
-    let (set, zero, one) = two_seats::<M, R>(rt, &[]);
+fn waits_at_a_lock<M: Running + Send + Sync, R: Threads + Wait + Clock + Abort + Sync>(
+    rt: &R,
+    alloc: Global,
+    locks_at: u64,
+) {
+    let (set, zero, one) = two_seats::<M, R>(rt, alloc);
     let stopping = Stopping::new(rt, NEVER, locks_at);
-    let replies = both_call(rt, &set, (zero, one), (Add(Key(2)), Add(Key(1))), &stopping);
-    assert!(rt; replies == BOTH);
+    let adds = (Call::Add(Key(2)), Call::Add(Key(1)));
+    let seats = (zero, one);
+    let replies = both_call(rt, &set, seats, adds, &stopping);
+    assert!(rt; replies.0 == Reply::True && replies.1 == Reply::True);
     assert!(rt; stopping.was_held() && stopping.zero.has_failed_thrice());
-    assert!(rt; stopping.one.failed.load(SeqCst) == 0);
+    assert!(rt; stopping.one.failed.load(Ordering::SeqCst) == 0);
 }
 
 #[test]
 fn a_pause_is_told_of_each_try_at_a_lock_that_another_seat_has(rt: HostRuntime) {
-    waits_at_a_lock::<CoarseList, HostRuntime>(&rt, 0);
-    waits_at_a_lock::<FineList, HostRuntime>(&rt, 0);
-    waits_at_a_lock::<OptimisticList, HostRuntime>(&rt, 2);
-    waits_at_a_lock::<LazyList, HostRuntime>(&rt, 2);
+    waits_at_a_lock::<CoarseList, HostRuntime>(&rt, rt.alloc(), 0);
+    waits_at_a_lock::<FineList, HostRuntime>(&rt, rt.alloc(), 0);
+    waits_at_a_lock::<OptimisticList, HostRuntime>(&rt, rt.alloc(), 2);
+    waits_at_a_lock::<LazyList, HostRuntime>(&rt, rt.alloc(), 2);
 }
 
 /// A key that is there before, the calls of seats 0 and 1, the steps after which they stop, their replies, and of the call of
 /// seat 1 the steps that do not answer, and how many of them have failed.
-type Row = (u32, Call, Call, (u64, u64), (Reply, Reply), (u64, u64));
+#[derive(Clone, Copy)]
+struct Row {
+    before: u32,
+    calls: (Call, Call),
+    stops_at: (u64, u64),
+    replies: (Reply, Reply),
+    steps: u64,
+    failed: u64,
+}
 
-fn is_told<M: Running + Send + Sync, R: Host>(
+fn is_told<M: Running + Send + Sync, R: Threads + Wait + Clock + Abort + Sync>(
     rt: &R,
-    &(before, zero_call, one_call, stops_at, replies, (steps, failed)): &Row,
+    alloc: Global,
+    row: &Row,
 ) {
-    let (set, mut zero, one) = two_seats::<M, R>(rt, &[]);
-    answers(rt, &set, &mut zero, &[(Add(Key(before)), Reply::True)]);
-    let stopping = Stopping::new(rt, stops_at.0, stops_at.1);
-    let found = both_call(rt, &set, (zero, one), (zero_call, one_call), &stopping);
-    assert!(rt; stopping.was_held() && found == replies, "{steps}");
-    assert!(rt; stopping.zero.failed.load(SeqCst) == 0);
-    assert!(rt; stopping.one.failed.load(SeqCst) == failed, "{steps}");
-    assert_eq!(rt; stopping.one.steps.load(SeqCst), steps);
+    let (set, mut zero, one) = two_seats::<M, R>(rt, alloc);
+    add(rt, &set, &mut zero, row.before, Reply::True);
+    let stopping = Stopping::new(rt, row.stops_at.0, row.stops_at.1);
+    let replies = both_call(rt, &set, (zero, one), row.calls, &stopping);
+    assert!(rt; stopping.was_held(), "{}", row.steps);
+    assert!(rt; replies == row.replies, "{}", row.steps);
+    assert!(rt; stopping.zero.failed.load(Ordering::SeqCst) == 0);
+    assert!(rt;
+        stopping.one.failed.load(Ordering::SeqCst) == row.failed,
+        "{}",
+        row.steps
+    );
+    assert_eq!(rt; stopping.one.steps.load(Ordering::SeqCst), row.steps);
 }
 
 /// Another seat changes the link that a call has read: before its key goes in (row 7), before a node is marked (row 9), and
 /// before a marked node is taken out on the way (row 3), by the seat that marked it.
 const CHANGED: [Row; 3] = [
-    (9, Add(Key(2)), Add(Key(1)), (NEVER, 4), BOTH, (11, 1)),
-    (9, Add(Key(10)), Remove(Key(9)), (NEVER, 3), BOTH, (10, 1)),
-    (5, Remove(Key(5)), Add(Key(7)), (4, 1), BOTH, (8, 1)),
+    Row {
+        before: 9,
+        calls: (Call::Add(Key(2)), Call::Add(Key(1))),
+        stops_at: (NEVER, 4),
+        replies: (Reply::True, Reply::True),
+        steps: 11,
+        failed: 1,
+    },
+    Row {
+        before: 9,
+        calls: (Call::Add(Key(10)), Call::Remove(Key(9))),
+        stops_at: (NEVER, 3),
+        replies: (Reply::True, Reply::True),
+        steps: 10,
+        failed: 1,
+    },
+    Row {
+        before: 5,
+        calls: (Call::Remove(Key(5)), Call::Add(Key(7))),
+        stops_at: (4, 1),
+        replies: (Reply::True, Reply::True),
+        steps: 8,
+        failed: 1,
+    },
 ];
 
 #[test]
 fn a_pause_is_told_of_a_link_that_another_seat_has_changed(rt: HostRuntime) {
     for row in &CHANGED {
-        is_told::<LockFreeList, HostRuntime>(&rt, row);
+        is_told::<LockFreeList, HostRuntime>(&rt, rt.alloc(), row);
     }
 }
-
-/// The call of the seat 0 finds that its key went out.
-const OUT: (Reply, Reply) = (Reply::False, Reply::True);
 
 /// Another seat finds what a LazyList's call has stored by then: a link to a new key, and a mark. And it changes a link that
 /// the call has loaded, so that the validation fails.
 const STEPPED: [Row; 3] = [
-    (9, Contains(Key(1)), Add(Key(1)), (NEVER, 8), BOTH, (10, 0)),
-    (9, Contains(Key(9)), Remove(Key(9)), (NEVER, 6), OUT, (9, 0)),
-    (3, Add(Key(4)), Add(Key(5)), (NEVER, 2), BOTH, (23, 0)),
+    Row {
+        before: 9,
+        calls: (Call::Contains(Key(1)), Call::Add(Key(1))),
+        stops_at: (NEVER, 8),
+        replies: (Reply::True, Reply::True),
+        steps: 10,
+        failed: 0,
+    },
+    Row {
+        before: 9,
+        calls: (Call::Contains(Key(9)), Call::Remove(Key(9))),
+        stops_at: (NEVER, 6),
+        replies: (Reply::False, Reply::True),
+        steps: 9,
+        failed: 0,
+    },
+    Row {
+        before: 3,
+        calls: (Call::Add(Key(4)), Call::Add(Key(5))),
+        stops_at: (NEVER, 2),
+        replies: (Reply::True, Reply::True),
+        steps: 23,
+        failed: 0,
+    },
 ];
 
 #[test]
 fn a_pause_is_asked_after_its_step(rt: HostRuntime) {
     for row in &STEPPED {
-        is_told::<LazyList, HostRuntime>(&rt, row);
+        is_told::<LazyList, HostRuntime>(&rt, rt.alloc(), row);
     }
 }
 
 /// A ceiling stops before it looks at the mark of the one key, which goes out.
+const MARKED: Row = Row {
+    before: 9,
+    calls: (Call::Remove(Key(9)), Call::Ceiling(Key(3))),
+    stops_at: (NEVER, 1),
+    replies: (Reply::True, Reply::Nothing),
+    steps: 4,
+    failed: 0,
+};
+
 #[test]
 fn a_mark_is_no_failure(rt: HostRuntime) {
-    let replies = (Reply::True, Reply::Nothing);
-    let row = (
-        9,
-        Remove(Key(9)),
-        Ceiling(Key(3)),
-        (NEVER, 1),
-        replies,
-        (4, 0),
-    );
-    is_told::<LazyList, HostRuntime>(&rt, &row);
-    is_told::<LockFreeList, HostRuntime>(&rt, &row);
-    is_told::<Stepped<LazyList>, HostRuntime>(&rt, &row);
+    is_told::<LazyList, HostRuntime>(&rt, rt.alloc(), &MARKED);
+    is_told::<LockFreeList, HostRuntime>(&rt, rt.alloc(), &MARKED);
+    is_told::<Stepped<LazyList>, HostRuntime>(&rt, rt.alloc(), &MARKED);
 }

@@ -1,10 +1,13 @@
 //! Sessions whose answers wait.
 use crate::failing::{FailingReader, FailingWriter};
 use crate::opened::{
-    ANSWERS, CEILINGS, Host, LINES, held, held_buffered, one_seat, stopped_at, was_held,
+    ANSWERS, CEILINGS, LINES, held, held_buffered, one_seat, stopped_at, was_held,
 };
 use lset_server::{Device, Ended, Sink, Source, Why, buffered_session};
+use std::alloc::Global;
 use std::cell::Cell;
+use std::process::Abort;
+use std::sync::Wait;
 
 /// How many bytes of answers were written, and whether each read came after all of them.
 #[derive(Drop)]
@@ -61,7 +64,7 @@ impl Sink for Counting<'_> {
 
 #[test]
 fn answers_leave_before_each_read(rt: HostRuntime) {
-    let (set, mut seat) = one_seat(&rt);
+    let (set, mut seat) = one_seat(&rt, rt.alloc());
     let seen = Seen {
         written: Cell::new(0),
         in_time: Cell::new(true),
@@ -73,19 +76,20 @@ fn answers_leave_before_each_read(rt: HostRuntime) {
     let ended = buffered_session(&rt, asking, Counting { seen: &seen }, &set, &mut seat);
     let (why, calls) = (Why::End, 0);
     assert!(&rt; ended == Ended { why, calls });
-    assert!(&rt; seen.in_time.get() && seen.written.get() == 12);
+    assert!(&rt; seen.in_time.get());
+    assert!(&rt; seen.written.get() == 12);
 }
 
 /// The text is answered as without waiting, and the session ends so too.
-fn is_answered_alike<R: Host>(rt: &R, text: &[u8]) {
-    let (plain, ended) = held(rt, &mut Device::new(text));
-    let session = held_buffered(rt, Device::new(text));
+fn is_answered_alike<R: Wait + Abort>(rt: &R, alloc: Global, text: &[u8]) {
+    let (plain, ended) = held(rt, alloc, &mut Device::new(text));
+    let session = held_buffered(rt, alloc, Device::new(text));
     was_held(rt, &session, &plain, ended);
 }
 
 /// So many empty lines, and then these bytes.
-fn lines_then<R: Host>(rt: &R, empty: usize, last: &[u8]) -> Vec<u8> {
-    let mut text = vec![in rt.alloc(); b'\n'; empty].expect(rt, "room");
+fn lines_then<R: Abort>(rt: &R, alloc: Global, empty: usize, last: &[u8]) -> Vec<u8> {
+    let mut text = vec![in alloc; b'\n'; empty].expect(rt, "room");
     text.extend_from_slice(last).expect(rt, "room");
     text
 }
@@ -94,7 +98,7 @@ fn lines_then<R: Host>(rt: &R, empty: usize, last: &[u8]) -> Vec<u8> {
 fn all_answers_leave_as_a_session_ends(rt: HostRuntime) {
     let texts: &[&[u8]] = &[LINES, CEILINGS, b"", b"ADD 7", b"ADD 7\nCONTAINS 7\n"];
     for text in texts {
-        is_answered_alike(&rt, text);
+        is_answered_alike(&rt, rt.alloc(), text);
     }
 }
 
@@ -103,15 +107,15 @@ fn all_answers_leave_as_a_session_ends(rt: HostRuntime) {
 fn answers_that_have_no_room_leave(rt: HostRuntime) {
     let lasts: &[&[u8]] = &[b"".as_slice(), b"QUIT\n", &[b'A'; 65]];
     for last in lasts {
-        let text = lines_then(&rt, 5000, last);
-        is_answered_alike(&rt, &text);
+        let text = lines_then(&rt, rt.alloc(), 5000, last);
+        is_answered_alike(&rt, rt.alloc(), &text);
     }
 }
 
 /// All lines come in one read, and of their answers the write with this number fails: all calls are made.
-fn write_fails<R: Host>(rt: &R, at: u64) {
-    let (set, mut seat) = one_seat(rt);
-    let mut writer = FailingWriter::new(rt.alloc(), at);
+fn write_fails<R: Wait + Abort>(rt: &R, alloc: Global, at: u64) {
+    let (set, mut seat) = one_seat(rt, alloc);
+    let mut writer = FailingWriter::new(alloc, at);
     let (lines, answers) = (Device::new(LINES), Device::new(&mut writer));
     let ended = buffered_session(rt, lines, answers, &set, &mut seat);
     let (why, calls) = (Why::WriteFault, 4);
@@ -122,22 +126,20 @@ fn write_fails<R: Host>(rt: &R, at: u64) {
 #[test]
 fn a_write_of_answers_that_fails_is_the_last(rt: HostRuntime) {
     for at in 1..=29u64 {
-        write_fails(&rt, at);
+        write_fails(&rt, rt.alloc(), at);
     }
 }
 
 /// Each read gives one byte, and the write with this number fails: no read follows.
-fn write_fails_between<R: Host>(rt: &R, at: u64, reads: u64, calls: u64) {
-    let (set, mut seat) = one_seat(rt);
+fn write_fails_between<R: Wait + Abort>(rt: &R, alloc: Global, at: u64, reads: u64, calls: u64) {
+    let (set, mut seat) = one_seat(rt, alloc);
     let mut reader = FailingReader::new(LINES, 0);
-    let mut writer = FailingWriter::new(rt.alloc(), at);
+    let mut writer = FailingWriter::new(alloc, at);
     let (lines, answers) = (Device::new(&mut reader), Device::new(&mut writer));
     let ended = buffered_session(rt, lines, answers, &set, &mut seat);
     let why = Why::WriteFault;
-    assert!(rt;
-        ended == Ended { why, calls } && reader.reads == reads,
-        "{at}"
-    );
+    assert!(rt; ended == Ended { why, calls }, "{at}");
+    assert!(rt; reader.reads() == reads, "{at}");
     stopped_at(rt, &writer, ANSWERS, at);
 }
 
@@ -154,6 +156,6 @@ const WRITES: [(u64, u64, u64); 6] = [
 #[test]
 fn no_line_is_read_after_a_write_that_failed(rt: HostRuntime) {
     for &(at, reads, calls) in &WRITES {
-        write_fails_between(&rt, at, reads, calls);
+        write_fails_between(&rt, rt.alloc(), at, reads, calls);
     }
 }

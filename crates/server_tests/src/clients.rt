@@ -14,7 +14,12 @@ fn is_answered(stream: &mut TcpStream, text: &[u8], answers: &[u8]) -> bool {
 }
 
 /// Sends the text and reads its answers, and then the end.
-pub fn asks<R: Net<Listener = TcpListener, Stream = TcpStream>>(rt: &R, port: u16, text: &[u8], answers: &[u8]) -> bool {
+pub fn asks<R: Net<Listener = TcpListener, Stream = TcpStream>>(
+    rt: &R,
+    port: u16,
+    text: &[u8],
+    answers: &[u8],
+) -> bool {
     let Ok(mut stream) = TcpStream::connect(rt, ("127.0.0.1", port)) else {
         return false;
     };
@@ -33,7 +38,12 @@ fn both_come<R: Clock>(rt: &R, met: &AtomicU64) -> bool {
 }
 
 /// Sends a line, reads its answer, waits until the other client has done so too, and says good-bye.
-pub fn meets<R: Net<Listener = TcpListener, Stream = TcpStream> + Clock>(rt: &R, port: u16, line: &[u8], met: &AtomicU64) -> bool {
+pub fn meets<R: Net<Listener = TcpListener, Stream = TcpStream> + Clock>(
+    rt: &R,
+    port: u16,
+    line: &[u8],
+    met: &AtomicU64,
+) -> bool {
     let Ok(mut stream) = TcpStream::connect(rt, ("127.0.0.1", port)) else {
         return false;
     };
@@ -45,7 +55,11 @@ pub fn meets<R: Net<Listener = TcpListener, Stream = TcpStream> + Clock>(rt: &R,
 }
 
 /// Sends the text and goes away.
-pub fn leaves<R: Net<Listener = TcpListener, Stream = TcpStream>>(rt: &R, port: u16, text: &[u8]) -> bool {
+pub fn leaves<R: Net<Listener = TcpListener, Stream = TcpStream>>(
+    rt: &R,
+    port: u16,
+    text: &[u8],
+) -> bool {
     match TcpStream::connect(rt, ("127.0.0.1", port)) {
         Ok(mut stream) => stream.write_all(text).is_ok(),
         Err(_) => false,

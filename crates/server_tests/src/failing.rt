@@ -1,26 +1,32 @@
-//! A reader and a writer of the standard library. The call with the number `fails_at`, counted from 1, fails, none where it is 0,
-//! and the calls after it go on.
+//! A reader and a writer of the standard library that fail once and then go on.
 
 use std::alloc::Global;
 use std::io;
 use std::io::{ErrorKind, Read, Write};
 
-/// Gives the bytes of a text one by one.
+/// Gives the bytes of a text one by one. Its read with the number `fails_at`, counted from 1, fails, and
+/// the reads after it go on.
 #[derive(Drop)]
 pub struct FailingReader<'a> {
     text: &'a [u8],
-    /// How many reads were asked for, the failing one included.
-    pub reads: u64,
+    reads: u64,
     fails_at: u64,
 }
 
 impl<'a> FailingReader<'a> {
+    /// A reader of `text`, of which no byte was read. `fails_at` is the number of the read that fails, counted from 1; none
+    /// fails where it is 0.
     pub fn new(text: &'a [u8], fails_at: u64) -> FailingReader<'a> {
         FailingReader {
             text,
             reads: 0,
             fails_at,
         }
+    }
+
+    /// How many reads were asked for, the failing one included.
+    pub fn reads(&self) -> u64 {
+        self.reads
     }
 }
 
@@ -39,23 +45,34 @@ impl Read for FailingReader<'_> {
     }
 }
 
-/// Takes a text byte by byte. A write also fails where memory for its byte is refused.
+/// Takes a text byte by byte. Its write with the number `fails_at`, counted from 1, fails, and the writes
+/// after it go on.
 #[derive(Drop)]
 pub struct FailingWriter {
-    /// The bytes that were taken.
-    pub text: Vec<u8>,
-    /// How many writes were asked for, the failing one included.
-    pub writes: u64,
+    text: Vec<u8>,
+    writes: u64,
     fails_at: u64,
 }
 
 impl FailingWriter {
+    /// A writer that has taken no byte. `fails_at` is the number of the write that fails, counted from 1; none fails where it
+    /// is 0. A write also fails where memory for its byte is refused.
     pub fn new(alloc: Global, fails_at: u64) -> FailingWriter {
         FailingWriter {
             text: Vec::new(alloc),
             writes: 0,
             fails_at,
         }
+    }
+
+    /// The bytes that were taken.
+    pub fn text(&self) -> &[u8] {
+        &self.text
+    }
+
+    /// How many writes were asked for, the failing one included.
+    pub fn writes(&self) -> u64 {
+        self.writes
     }
 }
 
@@ -68,7 +85,9 @@ impl Write for FailingWriter {
         if text.is_empty() {
             return Ok(0);
         }
-        self.text.extend_from_slice(&text[..1])?;
+        if self.text.push(text[0]).is_err() {
+            return Err(io::Error::from(ErrorKind::OutOfMemory));
+        }
         Ok(1)
     }
 

@@ -1,25 +1,46 @@
 use crate::failing::{FailingReader, FailingWriter};
 use crate::opened::{
-    ANSWERS, CEILINGS, Host, LINES, held, held_buffered, one_seat, stopped_at, was_held,
+    ANSWERS, CEILINGS, LINES, held, held_buffered, one_seat, stopped_at, was_held,
 };
 use lset_server::{Device, Ended, Why, session};
+use std::alloc::Global;
+use std::process::Abort;
+use std::sync::Wait;
 
 /// Of the answers to these lines the write with this number fails.
-fn write_fails<R: Host>(rt: &R, lines: &[u8], answers: &[u8], at: u64, calls: u64) {
-    let (set, mut seat) = one_seat(rt);
-    let mut from = Device::new(lines);
-    let mut text = FailingWriter::new(rt.alloc(), at);
-    let ended = session(rt, &mut from, &mut Device::new(&mut text), &set, &mut seat);
+fn write_fails<R: Wait + Abort>(
+    rt: &R,
+    alloc: Global,
+    lines: &[u8],
+    answers: &[u8],
+    at: u64,
+    calls: u64,
+) {
+    let (set, mut seat) = one_seat(rt, alloc);
+    let mut writer = FailingWriter::new(alloc, at);
+    let ended = session(
+        rt,
+        &mut Device::new(lines),
+        &mut Device::new(&mut writer),
+        &set,
+        &mut seat,
+    );
     let why = Why::WriteFault;
     assert!(rt; ended == Ended { why, calls }, "{at}");
-    stopped_at(rt, &text, answers, at);
+    stopped_at(rt, &writer, answers, at);
 }
 
 /// So do all writes of these rows in turn: the first and the last of some, and the calls before each of them.
-fn writes_fail<R: Host>(rt: &R, lines: &[u8], answers: &[u8], rows: &[(u64, u64, u64)]) {
+fn writes_fail<R: Wait + Abort>(
+    rt: &R,
+    alloc: Global,
+    lines: &[u8],
+    answers: &[u8],
+    rows: &[(u64, u64, u64)],
+) {
     for &(from, to, calls) in rows {
         for at in from..=to {
-            write_fails(rt, lines, answers, at, calls);
+            write_fails(rt, alloc, lines, answers, at, calls);
         }
     }
 }
@@ -27,7 +48,7 @@ fn writes_fail<R: Host>(rt: &R, lines: &[u8], answers: &[u8], rows: &[(u64, u64,
 #[test]
 fn a_write_that_fails_is_the_last(rt: HostRuntime) {
     let rows = [(1, 5, 1), (6, 11, 2), (12, 20, 3), (21, 29, 4)];
-    writes_fail(&rt, LINES, ANSWERS, &rows);
+    writes_fail(&rt, rt.alloc(), LINES, ANSWERS, &rows);
 }
 
 /// The longest answer, between two others.
@@ -36,25 +57,52 @@ fn a_ceiling_is_written_up_to_the_write_that_fails(rt: HostRuntime) {
     let lines = b"ADD 4294967295\nCEILING 0\nQUIT\n".as_slice();
     let answers = b"TRUE\nAT 4294967295\nBYE\n".as_slice();
     let rows = [(1, 5, 1), (6, 19, 2), (20, 23, 2)];
-    writes_fail(&rt, lines, answers, &rows);
+    writes_fail(&rt, rt.alloc(), lines, answers, &rows);
 }
 
-/// The read with this number fails, also where answers wait: they have left before.
-fn read_fails<R: Host>(rt: &R, lines: &[u8], at: u64, answers: &[u8], calls: u64) {
+/// The read with this number fails.
+fn read_fails<R: Wait + Abort>(
+    rt: &R,
+    alloc: Global,
+    lines: &[u8],
+    at: u64,
+    answers: &[u8],
+    calls: u64,
+) {
     let why = Why::ReadFault;
-    let (mut reader, mut other) = (FailingReader::new(lines, at), FailingReader::new(lines, at));
-    let session = held(rt, &mut Device::new(&mut reader));
+    let mut reader = FailingReader::new(lines, at);
+    let session = held(rt, alloc, &mut Device::new(&mut reader));
     was_held(rt, &session, answers, Ended { why, calls });
-    let buffered = held_buffered(rt, Device::new(&mut other));
-    was_held(rt, &buffered, answers, Ended { why, calls });
-    assert!(rt; reader.reads == at && other.reads == at, "{at}");
+    assert!(rt; reader.reads() == at, "{at}");
+}
+
+/// The same where answers wait: they have left before.
+fn read_fails_buffered<R: Wait + Abort>(
+    rt: &R,
+    alloc: Global,
+    lines: &[u8],
+    at: u64,
+    answers: &[u8],
+    calls: u64,
+) {
+    let why = Why::ReadFault;
+    let mut reader = FailingReader::new(lines, at);
+    let session = held_buffered(rt, alloc, Device::new(&mut reader));
+    was_held(rt, &session, answers, Ended { why, calls });
+    assert!(rt; reader.reads() == at, "{at}");
 }
 
 /// So do all reads of these rows in turn: the first and the last of some, the answers before each of them, and the calls.
-fn reads_fail<R: Host>(rt: &R, lines: &[u8], rows: &[(u64, u64, &[u8], u64)]) {
+fn reads_fail<R: Wait + Abort>(
+    rt: &R,
+    alloc: Global,
+    lines: &[u8],
+    rows: &[(u64, u64, &[u8], u64)],
+) {
     for &(from, to, answers, calls) in rows {
         for at in from..=to {
-            read_fails(rt, lines, at, answers, calls);
+            read_fails(rt, alloc, lines, at, answers, calls);
+            read_fails_buffered(rt, alloc, lines, at, answers, calls);
         }
     }
 }
@@ -69,7 +117,7 @@ fn a_read_that_fails_is_the_last(rt: HostRuntime) {
         (31, 39, b"TRUE\nFALSE\nTRUE\nBAD\n", 3),
         (40, 44, b"TRUE\nFALSE\nTRUE\nBAD\nTRUE\n", 4),
     ];
-    reads_fail(&rt, LINES, &rows);
+    reads_fail(&rt, rt.alloc(), LINES, &rows);
 }
 
 #[test]
@@ -80,5 +128,5 @@ fn a_ceiling_is_made_where_its_line_has_ended(rt: HostRuntime) {
         (17, 26, b"NONE\nTRUE\n", 2),
         (27, 31, b"NONE\nTRUE\nAT 9\n", 3),
     ];
-    reads_fail(&rt, CEILINGS, &rows);
+    reads_fail(&rt, rt.alloc(), CEILINGS, &rows);
 }

@@ -1,14 +1,17 @@
 use crate::failing::FailingReader;
-use crate::opened::{Host, held, held_buffered, was_held};
+use crate::opened::{held, held_buffered, was_held};
 use lset_server::{Device, Ended, Source, Why};
+use std::alloc::Global;
+use std::process::Abort;
+use std::sync::Wait;
 
 /// These bytes are answered so, also where each read gives one byte.
-fn is_answered<R: Host>(rt: &R, line: &[u8], answers: &[u8], why: Why) {
+fn is_answered<R: Wait + Abort>(rt: &R, alloc: Global, line: &[u8], answers: &[u8], why: Why) {
     let ended = Ended { why, calls: 0 };
-    let session = held(rt, &mut Device::new(line));
+    let session = held(rt, alloc, &mut Device::new(line));
     was_held(rt, &session, answers, ended);
     let mut reader = FailingReader::new(line, 0);
-    let session = held(rt, &mut Device::new(&mut reader));
+    let session = held(rt, alloc, &mut Device::new(&mut reader));
     was_held(rt, &session, answers, ended);
 }
 
@@ -18,10 +21,10 @@ const LONG: &[u8; 66] = b"AAAAAAAAAAAAAAAAAAAAAAAAAAAAAAAAAAAAAAAAAAAAAAAAAAAAAA
 #[test]
 fn a_long_line_ends_a_session(rt: HostRuntime) {
     let long = LONG.as_slice();
-    is_answered(&rt, &long[1..65], b"", Why::End);
-    is_answered(&rt, &long[1..], b"BAD\n", Why::End);
-    is_answered(&rt, &long[..65], b"LONG\n", Why::Long);
-    is_answered(&rt, long, b"LONG\n", Why::Long);
+    is_answered(&rt, rt.alloc(), &long[1..65], b"", Why::End);
+    is_answered(&rt, rt.alloc(), &long[1..], b"BAD\n", Why::End);
+    is_answered(&rt, rt.alloc(), &long[..65], b"LONG\n", Why::Long);
+    is_answered(&rt, rt.alloc(), long, b"LONG\n", Why::Long);
 }
 
 /// Gives empty lines, and then the last bytes.
@@ -63,19 +66,21 @@ impl Source for Lines {
 
 /// So many empty lines and then these bytes: `BAD` to each of the lines, and then these answers, also of a session whose
 /// answers wait.
-fn is_answered_after<R: Host>(
+fn is_answered_after<R: Wait + Abort>(
     rt: &R,
+    alloc: Global,
     empty: u32,
     last: &'static [u8],
     answers: &[u8],
     ended: Ended,
 ) {
-    let (written, how) = held(rt, &mut Lines { empty, last });
-    let buffered = held_buffered(rt, Lines { empty, last });
+    let (written, how) = held(rt, alloc, &mut Lines { empty, last });
+    let buffered = held_buffered(rt, alloc, Lines { empty, last });
     was_held(rt, &buffered, &written, how);
     assert!(rt; how == ended);
     assert!(rt; written.len() as u64 == 4 * u64::from(empty) + answers.len() as u64);
-    assert!(rt; written.starts_with(b"BAD\nBAD\n") && written.ends_with(answers));
+    assert!(rt; written.starts_with(b"BAD\nBAD\n"));
+    assert!(rt; written.ends_with(answers));
 }
 
 /// The end of a session that made so many calls.
@@ -86,9 +91,9 @@ fn end(why: Why, calls: u64) -> Ended {
 #[test]
 fn a_session_has_a_million_lines(rt: HostRuntime) {
     let (limit, one) = (end(Why::Limit, 0), end(Why::Limit, 1));
-    is_answered_after(&rt, 1_000_000, b"", b"LIMIT\n", limit);
+    is_answered_after(&rt, rt.alloc(), 1_000_000, b"", b"LIMIT\n", limit);
     let quit = end(Why::Quit, 0);
-    is_answered_after(&rt, 999_999, b"QUIT\n", b"BYE\n", quit);
+    is_answered_after(&rt, rt.alloc(), 999_999, b"QUIT\n", b"BYE\n", quit);
     let (adds, answers) = (b"ADD 1\nADD 2\n", b"TRUE\nLIMIT\n");
-    is_answered_after(&rt, 999_999, adds, answers, one);
+    is_answered_after(&rt, rt.alloc(), 999_999, adds, answers, one);
 }

@@ -4,15 +4,9 @@ use crate::failing::FailingWriter;
 use lset_lazy::LazyList;
 use lset_live::{LiveSet, Seat, open};
 use lset_server::{Device, Ended, Source, buffered_session, session};
+use std::alloc::Global;
 use std::process::Abort;
 use std::sync::Wait;
-use std::thread::Threads;
-use std::time::Clock;
-
-/// What the tests ask of the runtime.
-pub trait Host: Threads + Wait + Clock + Abort + AllocGlobal + Sync {}
-
-impl<R: Threads + Wait + Clock + Abort + AllocGlobal + Sync> Host for R {}
 
 /// The list on which the tests hold sessions.
 pub type Set = LiveSet<LazyList>;
@@ -28,14 +22,14 @@ pub const CEILINGS: &[u8] = b"CEILING 7\nADD 9\nCEILING 7\nQUIT\n";
 pub const FOUND: &[u8] = b"NONE\nTRUE\nAT 9\nBYE\n";
 
 /// A set with a quota of 4 that was just opened, and its seats.
-pub fn opened<R: Host>(rt: &R, seats: u32) -> (Set, Vec<Seat<LazyList>>)
+pub fn opened<R: Abort>(rt: &R, alloc: Global, seats: u32) -> (Set, Vec<Seat<LazyList>>)
     ensures { All (λ s. s.set ≡ result.0) result.1.items }
 {
-    open::<LazyList>(rt.alloc(), seats, 4).expect(rt, "not opened")
+    open::<LazyList>(alloc, seats, 4).expect(rt, "not opened")
 }
 
 /// The last of the seats.
-pub fn last_seat<R: Host>(rt: &R, set: &Set, seats: &mut Vec<Seat<LazyList>>) -> Seat<LazyList>
+pub fn last_seat<R: Abort>(rt: &R, set: &Set, seats: &mut Vec<Seat<LazyList>>) -> Seat<LazyList>
     requires { All (λ s. s.set ≡ set.now) seats.old.items }
     ensures seat { result.set ≡ set.now }
     ensures rest { All (λ s. s.set ≡ set.now) seats.new.items }
@@ -44,45 +38,47 @@ pub fn last_seat<R: Host>(rt: &R, set: &Set, seats: &mut Vec<Seat<LazyList>>) ->
 }
 
 /// A set with one seat.
-pub fn one_seat<R: Host>(rt: &R) -> (Set, Seat<LazyList>)
+pub fn one_seat<R: Abort>(rt: &R, alloc: Global) -> (Set, Seat<LazyList>)
     ensures { result.1.set ≡ result.0 }
 {
-    let (set, mut seats) = opened(rt, 1);
+    let (set, mut seats) = opened(rt, alloc, 1);
     let seat = last_seat(rt, &set, &mut seats);
     (set, seat)
 }
 
 /// What a session on a fresh set writes, and how it ends.
-pub fn held<R: Host, I: Source>(rt: &R, reader: &mut I) -> (Vec<u8>, Ended)
+pub fn held<R: Wait + Abort, I: Source>(rt: &R, alloc: Global, reader: &mut I) -> (Vec<u8>, Ended)
     requires { I.has_failed reader.old ≡ false }
 {
-    let (set, mut seat) = one_seat(rt);
-    let mut written = Vec::new(rt.alloc());
+    let (set, mut seat) = one_seat(rt, alloc);
+    let mut written = Vec::new(alloc);
     let ended = session(rt, reader, &mut Device::new(&mut written), &set, &mut seat);
     (written, ended)
 }
 
 /// The same of a session whose answers wait.
-pub fn held_buffered<R: Host, I: Source + Drop>(rt: &R, reader: I) -> (Vec<u8>, Ended)
+pub fn held_buffered<R: Wait + Abort, I: Source + Drop>(
+    rt: &R,
+    alloc: Global,
+    reader: I,
+) -> (Vec<u8>, Ended)
     requires { I.has_failed reader ≡ false }
 {
-    let (set, mut seat) = one_seat(rt);
-    let mut written = Vec::new(rt.alloc());
+    let (set, mut seat) = one_seat(rt, alloc);
+    let mut written = Vec::new(alloc);
     let ended = buffered_session(rt, reader, Device::new(&mut written), &set, &mut seat);
     (written, ended)
 }
 
 /// A session wrote these answers, and ended so.
-pub fn was_held<R: Host>(rt: &R, session: &(Vec<u8>, Ended), answers: &[u8], ended: Ended) {
+pub fn was_held<R: Abort>(rt: &R, session: &(Vec<u8>, Ended), answers: &[u8], ended: Ended) {
     assert!(rt; session.0.as_slice() == answers);
     assert_eq!(rt; session.1, ended);
 }
 
 /// Of these answers the writer took all up to the write with this number, which failed and was the last.
-pub fn stopped_at<R: Host>(rt: &R, writer: &FailingWriter, answers: &[u8], at: u64) {
-    assert!(rt;
-        writer.text.len() as u64 + 1 == at && writer.writes == at,
-        "{at}"
-    );
-    assert!(rt; answers.starts_with(&writer.text), "{at}");
+pub fn stopped_at<R: Abort>(rt: &R, writer: &FailingWriter, answers: &[u8], at: u64) {
+    assert!(rt; writer.text().len() as u64 + 1 == at, "{at}");
+    assert!(rt; answers.starts_with(writer.text()), "{at}");
+    assert!(rt; writer.writes() == at, "{at}");
 }

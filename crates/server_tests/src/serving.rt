@@ -1,33 +1,35 @@
 ghost use Rattle.std.specs.Prelude.{◌≡◌, All};
 
 use crate::clients::{asks, leaves, meets};
-use crate::opened::{ANSWERS, CEILINGS, FOUND, Host, LINES, opened};
+use crate::opened::{ANSWERS, CEILINGS, FOUND, LINES, opened};
 use lset_server::{ServeCause, Served, serve};
+use std::alloc::Global;
 use std::net::{Net, TcpListener, TcpStream};
+use std::process::Abort;
+use std::sync::Wait;
 use std::sync::atomic::AtomicU64;
-use std::thread::join;
+use std::thread::{Threads, join};
+use std::time::Clock;
 
-fn listening<R: Host + Net<Listener = TcpListener, Stream = TcpStream>>(rt: &R) -> TcpListener {
+fn listening<R: Net<Listener = TcpListener, Stream = TcpStream> + Abort>(rt: &R) -> TcpListener {
     TcpListener::bind(rt, "127.0.0.1:0").expect(rt, "no port")
 }
 
 /// What a server with so many seats makes of so many sessions, while clients ask at its port, and find what they want.
-fn served_while<R: Host + Net<Listener = TcpListener, Stream = TcpStream>, F: FnOnce(u16) -> bool + Send>(
-    rt: &R,
-    seats: u32,
-    sessions: u32,
-    ask: F,
-) -> Served
+fn served_while<
+    R: Net<Listener = TcpListener, Stream = TcpStream> + Threads + Wait + Clock + Abort + Sync,
+    F: FnOnce(u16) -> bool + Send,
+>(rt: &R, alloc: Global, seats: u32, sessions: u32, ask: F) -> Served
     requires { F.IsAlwaysCallable ask }
 {
     let listener = listening(rt);
     let port = listener.local_addr().expect(rt, "no port").port();
-    let (set, seats) = opened(rt, seats);
+    let (set, seats) = opened(rt, alloc, seats);
     let (served, asked) = join(
         rt,
         move ||
             requires { All (λ s. s.set ≡ set) seats.items }
-        { serve(rt, rt.alloc(), listener, set, seats, sessions) },
+        { serve(rt, alloc, listener, set, seats, sessions) },
         move || ask(port),
     );
     assert!(rt; asked);
@@ -37,27 +39,28 @@ fn served_while<R: Host + Net<Listener = TcpListener, Stream = TcpStream>, F: Fn
     }
 }
 
-fn made<R: Host>(rt: &R, served: &Served, sessions: u64, calls: u64, keys: &[u32]) {
-    assert!(rt; served.sessions == sessions && served.calls == calls);
+fn made<R: Abort>(rt: &R, served: &Served, sessions: u64, calls: u64, keys: &[u32]) {
+    assert!(rt; served.sessions == sessions);
+    assert!(rt; served.calls == calls);
     assert!(rt; served.keys.as_slice() == keys);
 }
 
 #[test]
 fn a_connection_is_served(rt: HostRuntime) {
     let ask = |port: u16| asks(&rt, port, LINES, ANSWERS);
-    let served = served_while(&rt, 1, 1, ask);
+    let served = served_while(&rt, rt.alloc(), 1, 1, ask);
     made(&rt, &served, 1, 4, &[]);
 }
 
 #[test]
 fn no_connection_is_served(rt: HostRuntime) {
-    let served = served_while(&rt, 2, 0, |_port: u16| true);
+    let served = served_while(&rt, rt.alloc(), 2, 0, |_port: u16| true);
     made(&rt, &served, 0, 0, &[]);
 }
 
 #[test]
 fn all_seats_are_wanted(rt: HostRuntime) {
-    let (set, mut seats) = opened(&rt, 2);
+    let (set, mut seats) = opened(&rt, rt.alloc(), 2);
     let _ = seats.pop();
     let Err(fault) = serve(&rt, rt.alloc(), listening(&rt), set, seats, 1) else {
         panic!(rt; "a seat is missing")
@@ -77,7 +80,7 @@ fn two_sessions_meet(rt: HostRuntime) {
         );
         both.0 && both.1
     };
-    let served = served_while(&rt, 2, 2, ask);
+    let served = served_while(&rt, rt.alloc(), 2, 2, ask);
     made(&rt, &served, 2, 2, &[1, 2]);
 }
 
@@ -86,7 +89,7 @@ fn a_client_that_leaves_ends_its_session_alone(rt: HostRuntime) {
     let ask = |port: u16| {
         leaves(&rt, port, b"ADD 7\nADD") && asks(&rt, port, b"CONTAINS 7\nQUIT\n", b"TRUE\nBYE\n")
     };
-    let served = served_while(&rt, 1, 2, ask);
+    let served = served_while(&rt, rt.alloc(), 1, 2, ask);
     made(&rt, &served, 2, 2, &[7]);
 }
 
@@ -94,6 +97,6 @@ fn a_client_that_leaves_ends_its_session_alone(rt: HostRuntime) {
 fn a_ceiling_finds_the_key_of_another_session(rt: HostRuntime) {
     let (lines, answers) = (b"CEILING 9\nCEILING 10\nQUIT\n", b"AT 9\nNONE\nBYE\n");
     let ask = |port: u16| asks(&rt, port, CEILINGS, FOUND) && asks(&rt, port, lines, answers);
-    let served = served_while(&rt, 1, 2, ask);
+    let served = served_while(&rt, rt.alloc(), 1, 2, ask);
     made(&rt, &served, 2, 5, &[9]);
 }

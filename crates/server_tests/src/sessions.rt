@@ -1,15 +1,18 @@
 use crate::failing::FailingReader;
-use crate::opened::{ANSWERS, CEILINGS, FOUND, Host, LINES, held, last_seat, opened, was_held};
+use crate::opened::{ANSWERS, CEILINGS, FOUND, LINES, held, last_seat, opened, was_held};
 use lset_server::{Device, Ended, Request, Why, read_request, session};
 use lset_words::{Call, Key, Reply};
+use std::alloc::Global;
+use std::process::Abort;
+use std::sync::Wait;
 
 /// A text, its answers, and how the session ends.
 type Row = (&'static [u8], &'static [u8], Why, u64);
 
 /// The texts are answered so, each on a set of its own.
-fn are_answered<R: Host>(rt: &R, rows: &[Row]) {
+fn are_answered<R: Wait + Abort>(rt: &R, alloc: Global, rows: &[Row]) {
     for &(text, answers, why, calls) in rows {
-        let session = held(rt, &mut Device::new(text));
+        let session = held(rt, alloc, &mut Device::new(text));
         was_held(rt, &session, answers, Ended { why, calls });
     }
 }
@@ -34,7 +37,7 @@ const FIRST_ROWS: [Row; 5] = [
 
 #[test]
 fn lines_are_answered(rt: HostRuntime) {
-    are_answered(&rt, &FIRST_ROWS);
+    are_answered(&rt, rt.alloc(), &FIRST_ROWS);
 }
 
 const ROWS_OF_CEILINGS: [Row; 3] = [
@@ -55,7 +58,7 @@ const ROWS_OF_CEILINGS: [Row; 3] = [
 
 #[test]
 fn ceilings_are_answered(rt: HostRuntime) {
-    are_answered(&rt, &ROWS_OF_CEILINGS);
+    are_answered(&rt, rt.alloc(), &ROWS_OF_CEILINGS);
 }
 
 const BAD_ROWS: [Row; 2] = [
@@ -82,7 +85,7 @@ const REQUESTS: [(&[u8], Request); 4] = [
 
 #[test]
 fn other_lines_are_bad(rt: HostRuntime) {
-    are_answered(&rt, &BAD_ROWS);
+    are_answered(&rt, rt.alloc(), &BAD_ROWS);
     for (line, request) in &REQUESTS {
         assert!(rt; read_request(line) == *request);
     }
@@ -91,22 +94,27 @@ fn other_lines_are_bad(rt: HostRuntime) {
 #[test]
 fn pieces_have_no_part_in_it(rt: HostRuntime) {
     let mut reader = FailingReader::new(LINES, 0);
-    let session = held(&rt, &mut Device::new(&mut reader));
+    let session = held(&rt, rt.alloc(), &mut Device::new(&mut reader));
     let (why, calls) = (Why::Quit, 4);
     was_held(&rt, &session, ANSWERS, Ended { why, calls });
-    assert!(rt; reader.reads == 44);
+    assert!(rt; reader.reads() == 44);
 }
 
 #[test]
 fn a_gathered_seat_is_asked(rt: HostRuntime) {
-    let (set, mut seats) = opened(&rt, 2);
+    let (set, mut seats) = opened(&rt, rt.alloc(), 2);
     let mut one = last_seat(&rt, &set, &mut seats);
     let mut zero = last_seat(&rt, &set, &mut seats);
     assert!(rt; set.add(&rt, &mut one, Key(9)) == Reply::True);
     set.gather(&mut zero, one);
-    let mut from = Device::new(b"CONTAINS 9\nQUIT\n".as_slice());
-    let mut text = Vec::new(rt.alloc());
-    let ended = session(&rt, &mut from, &mut Device::new(&mut text), &set, &mut zero);
+    let mut written = Vec::new(rt.alloc());
+    let ended = session(
+        &rt,
+        &mut Device::new(b"CONTAINS 9\nQUIT\n".as_slice()),
+        &mut Device::new(&mut written),
+        &set,
+        &mut zero,
+    );
     let (why, calls) = (Why::Quit, 1);
-    was_held(&rt, &(text, ended), b"TRUE\nBYE\n", Ended { why, calls });
+    was_held(&rt, &(written, ended), b"TRUE\nBYE\n", Ended { why, calls });
 }

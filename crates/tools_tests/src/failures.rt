@@ -1,11 +1,15 @@
 //! Each read and each write of each run of the tools, in turn.
-use crate::devices::{Failure, Host, Plan, WHOLE, WRITES, Way, Writer, planned};
+use crate::devices::{Failure, Plan, WHOLE};
 use crate::row_texts::{CANNOT_READ, CANNOT_WRITE};
 use crate::rows::{Row, Run, example_rows, first_row, ran, row_of, rows};
-use lset_command::is_out_of_memory;
-use lset_dispatch::run_words;
-use std::alloc::AllocError;
+use std::alloc::Global;
+use std::process::Abort;
+use std::sync::Wait;
 use std::test::Fail;
+use std::thread::Threads;
+
+/// How a device fails, and how many bytes it moves at a call.
+type Way = (Failure, usize);
 
 const READS: [Way; 6] = [
     (Failure::Interrupted, 1),
@@ -16,8 +20,22 @@ const READS: [Way; 6] = [
     (Failure::BrokenPipe, 4096),
 ];
 
+const WRITES: [Way; 3] = [
+    (Failure::Interrupted, 1),
+    (Failure::BrokenPipe, 3),
+    (Failure::Nothing, 7),
+];
+
 /// More calls than a run makes on one of its devices.
 const MOST_CALLS: usize = 10_000;
+
+fn planned((failure, most): Way, fails_at: usize) -> Plan {
+    Plan {
+        most,
+        fails_at,
+        failure,
+    }
+}
 
 #[derive(Clone, Copy)]
 enum Device {
@@ -45,38 +63,36 @@ impl Device {
         }
     }
 
-    /// The line about its failure.
-    fn line(self) -> &'static str {
-        match self {
-            Device::Input => CANNOT_READ,
-            Device::Output => CANNOT_WRITE,
-            Device::Faults => "",
-        }
-    }
-
-    /// Whether nothing is written on the output, or a front of the text where a write on it failed.
-    fn has_stopped(self, row: Row, run: &Run) -> bool {
-        match self {
-            Device::Output => run.output.stopped_within(row.output),
-            Device::Input | Device::Faults => run.output.calls == 0,
-        }
-    }
-
-    /// Whether a run in which it failed did as it is to: also, where the line about a trouble fails, the status stays.
+    /// Whether a run in which it failed did as it is to: nothing is written on the output after a failing read; after a
+    /// failing write a front of the text stands there; where the line about a trouble fails, the status stays.
     fn is_met(self, row: Row, run: &Run) -> bool {
-        let is_told = match self {
-            Device::Faults => run.status == row.status && run.faults.stopped_within(row.faults),
-            _ => run.status == 1 && run.faults.taken.as_slice() == self.line().as_bytes(),
-        };
-        is_told && self.has_stopped(row, run)
+        match self {
+            Device::Input => run.status == 1 && run.told(CANNOT_READ),
+            Device::Output => {
+                run.status == 1
+                    && run.output.stopped_within(row.output)
+                    && run.faults.taken.as_slice() == CANNOT_WRITE.as_bytes()
+            }
+            Device::Faults => {
+                run.status == row.status
+                    && run.faults.stopped_within(row.faults)
+                    && run.output.calls == 0
+            }
+        }
     }
 }
 
 /// How many runs of a row there are in which the device fails, at each of its calls in turn, until a run ends without a
 /// failure.
-fn each_call_fails<R: Host>(rt: &R, row: Row, device: Device, way: Way) -> Result<usize, Fail> {
+fn each_call_fails<R: Threads + Wait + Sync + Abort>(
+    rt: &R,
+    alloc: Global,
+    row: Row,
+    device: Device,
+    way: Way,
+) -> Result<usize, Fail> {
     for fails_at in 0..MOST_CALLS {
-        let run = ran(rt, row, device.plans(planned(way, fails_at)))?;
+        let run = ran(rt, alloc, row, device.plans(planned(way, fails_at)))?;
         if device.calls(&run) <= fails_at {
             assert!(rt; run.is_unharmed(row));
             return Ok(fails_at);
@@ -87,55 +103,68 @@ fn each_call_fails<R: Host>(rt: &R, row: Row, device: Device, way: Way) -> Resul
 }
 
 /// How many runs of all rows there are.
-fn each_row_fails<R: Host>(rt: &R, device: Device, way: Way) -> Result<usize, Fail> {
+fn each_row_fails<R: Threads + Wait + Sync + Abort>(
+    rt: &R,
+    alloc: Global,
+    device: Device,
+    way: Way,
+) -> Result<usize, Fail> {
     let [example, broken] = example_rows();
-    let of_example = each_call_fails(rt, example, device, way)?;
-    let mut runs = each_call_fails(rt, broken, device, way)?.saturating_add(of_example);
+    let of_example = each_call_fails(rt, alloc, example, device, way)?;
+    let mut runs = each_call_fails(rt, alloc, broken, device, way)?.saturating_add(of_example);
     for row in rows() {
-        runs = runs.saturating_add(each_call_fails(rt, row_of(row), device, way)?);
+        runs = runs.saturating_add(each_call_fails(rt, alloc, row_of(row), device, way)?);
     }
     Ok(runs)
 }
 
 /// How many runs there are in all ways.
-fn each_way_fails<R: Host>(rt: &R, device: Device, ways: &[Way]) -> Result<usize, Fail> {
+fn each_way_fails<R: Threads + Wait + Sync + Abort>(
+    rt: &R,
+    alloc: Global,
+    device: Device,
+    ways: &[Way],
+) -> Result<usize, Fail> {
     let mut runs = 0usize;
     for way in ways {
-        runs = runs.saturating_add(each_row_fails(rt, device, *way)?);
+        runs = runs.saturating_add(each_row_fails(rt, alloc, device, *way)?);
     }
     Ok(runs)
 }
 
 #[test]
 fn each_read_fails_in_turn(rt: HostRuntime) -> Result<(), Fail> {
-    assert!(rt; each_way_fails(&rt, Device::Input, &READS)? == 4_244);
+    assert!(rt; each_way_fails(&rt, rt.alloc(), Device::Input, &READS)? == 4_244);
     Ok(())
 }
 
 #[test]
 fn each_write_on_the_output_fails_in_turn(rt: HostRuntime) -> Result<(), Fail> {
-    assert!(rt; each_way_fails(&rt, Device::Output, &WRITES)? == 7_982);
+    assert!(rt; each_way_fails(&rt, rt.alloc(), Device::Output, &WRITES)? == 7_982);
     Ok(())
 }
 
 #[test]
 fn each_write_of_a_line_fails_in_turn(rt: HostRuntime) -> Result<(), Fail> {
-    assert!(rt; each_way_fails(&rt, Device::Faults, &WRITES)? == 252);
+    assert!(rt; each_way_fails(&rt, rt.alloc(), Device::Faults, &WRITES)? == 252);
     Ok(())
 }
 
 /// How the two devices fail that fail in one run.
 const BOTH: Way = (Failure::Interrupted, 1);
 
-/// This call of a device of the row fails, and beside it each write of the line about it.
-fn both_fail<R: Host>(rt: &R, row: Row, device: Device, call: usize) -> Result<(), Fail> {
-    let line = device.line();
-    let [input, output, _] = device.plans(planned(BOTH, call));
-    for write in 0..line.len() {
-        let run = ran(rt, row, [input, output, planned(BOTH, write)])?;
-        assert!(rt; run.status == 1 && run.faults.stopped_within(line));
-        assert!(rt; device.has_stopped(row, &run));
-        assert!(rt; device.calls(&run) == call.saturating_add(1));
+/// This read of the row fails, and beside it each write of the line about it.
+fn both_fail_at_read<R: Threads + Wait + Sync + Abort>(
+    rt: &R,
+    alloc: Global,
+    row: Row,
+    read: usize,
+) -> Result<(), Fail> {
+    for write in 0..CANNOT_READ.len() {
+        let plans = [planned(BOTH, read), WHOLE, planned(BOTH, write)];
+        let run = ran(rt, alloc, row, plans)?;
+        assert!(rt; run.status == 1 && run.faults.stopped_within(CANNOT_READ));
+        assert!(rt; run.input.calls == read.saturating_add(1) && run.output.calls == 0);
     }
     Ok(())
 }
@@ -145,7 +174,23 @@ fn both_fail<R: Host>(rt: &R, row: Row, device: Device, call: usize) -> Result<(
 fn a_read_and_the_line_about_it_fail(rt: HostRuntime) -> Result<(), Fail> {
     let row = first_row();
     for read in 0..row.input.len().saturating_add(1) {
-        both_fail(&rt, row, Device::Input, read)?;
+        both_fail_at_read(&rt, rt.alloc(), row, read)?;
+    }
+    Ok(())
+}
+
+/// This write on the output of the row fails, and beside it each write of the line about it.
+fn both_fail_at_write<R: Threads + Wait + Sync + Abort>(
+    rt: &R,
+    alloc: Global,
+    row: Row,
+    call: usize,
+) -> Result<(), Fail> {
+    for write in 0..CANNOT_WRITE.len() {
+        let plans = [WHOLE, planned(BOTH, call), planned(BOTH, write)];
+        let run = ran(rt, alloc, row, plans)?;
+        assert!(rt; run.status == 1 && run.output.stopped_within(row.output));
+        assert!(rt; run.faults.stopped_within(CANNOT_WRITE));
     }
     Ok(())
 }
@@ -154,23 +199,8 @@ fn a_read_and_the_line_about_it_fail(rt: HostRuntime) -> Result<(), Fail> {
 #[test]
 fn a_write_and_the_line_about_it_fail(rt: HostRuntime) -> Result<(), Fail> {
     let row = first_row();
-    for write in 0..row.output.len() {
-        both_fail(&rt, row, Device::Output, write)?;
+    for call in 0..row.output.len() {
+        both_fail_at_write(&rt, rt.alloc(), row, call)?;
     }
     Ok(())
-}
-
-#[test]
-fn a_help_that_is_not_written_is_a_failing_write(rt: HostRuntime) {
-    let mut output = Writer::new(rt.alloc(), planned(BOTH, 3));
-    let (mut input, mut faults) = ("".as_bytes(), Vec::new(rt.alloc()));
-    let words = &["--help"];
-    let status = run_words(&rt, rt.alloc(), words, &mut input, &mut output, &mut faults);
-    assert!(rt; status == 1 && output.calls == 4);
-    assert!(rt; faults.as_slice() == CANNOT_WRITE.as_bytes());
-}
-
-#[test]
-fn want_of_memory_is_told_from_mistakes(rt: HostRuntime) {
-    assert!(rt; is_out_of_memory(&clap::Error::from(AllocError)));
 }

@@ -3,6 +3,8 @@
 #![tactic(auto)]
 
 #[cfg(test)]
+mod commands;
+#[cfg(test)]
 mod devices;
 #[cfg(test)]
 mod examples;
@@ -12,6 +14,8 @@ mod failures;
 mod opening_keys;
 #[cfg(test)]
 mod pictures;
+#[cfg(test)]
+mod programs;
 #[cfg(test)]
 mod row_texts;
 #[cfg(test)]

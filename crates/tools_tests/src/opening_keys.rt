@@ -1,10 +1,14 @@
 //! Inputs that fail, of keys with which a server's set is to open.
-use crate::devices::{Failure, Host, NEVER, Reader, planned};
+use crate::devices::{Failure, NEVER, Plan, Reader};
 use crate::row_texts::CANNOT_READ;
 use crate::rows::texts_of;
-use std::alloc::AllocError;
+use std::alloc::{AllocError, Global};
 use std::net::{Net, TcpListener, TcpStream};
+use std::process::Abort;
+use std::sync::Wait;
 use std::test::Fail;
+use std::thread::Threads;
+use std::time::Clock;
 use tool_serve::tool_serve_with;
 
 /// What a server printed that left one key.
@@ -25,10 +29,19 @@ struct Run {
     faults: Vec<u8>,
 }
 
-fn ran<R: Host + Net<Listener = TcpListener, Stream = TcpStream>>(rt: &R, seats: &str, fails_at: usize) -> Result<Run, AllocError> {
-    let alloc = rt.alloc();
+fn ran<R: Net<Listener = TcpListener, Stream = TcpStream> + Threads + Wait + Clock + Sync>(
+    rt: &R,
+    alloc: Global,
+    seats: &str,
+    fails_at: usize,
+) -> Result<Run, AllocError> {
     let values = texts_of(alloc, &["lazy", seats, "4", "0", "0"])?;
-    let mut input = Reader::new(PRINTED, planned((Failure::Interrupted, 7), fails_at));
+    let plan = Plan {
+        most: 7,
+        fails_at,
+        failure: Failure::Interrupted,
+    };
+    let mut input = Reader::new(PRINTED, plan);
     let mut output = Vec::new(alloc);
     let mut faults = Vec::new(alloc);
     let status = tool_serve_with(rt, alloc, &values, &mut input, &mut output, &mut faults);
@@ -40,26 +53,40 @@ fn ran<R: Host + Net<Listener = TcpListener, Stream = TcpStream>>(rt: &R, seats:
     })
 }
 
+/// A run in which no read failed.
+fn assert_unharmed<R: Abort>(rt: &R, run: &Run, fails_at: usize) {
+    assert!(rt; run.output.ends_with(LEFT.as_bytes()));
+    assert!(rt; run.faults.is_empty());
+    assert!(rt; fails_at.saturating_mul(7) > PRINTED.len());
+}
+
+/// A run in which this read failed: nothing is written on the output.
+fn assert_stopped<R: Abort>(rt: &R, run: &Run, fails_at: usize) {
+    assert!(rt; run.status == 1);
+    assert!(rt; run.calls == fails_at.saturating_add(1));
+    assert!(rt; run.output.is_empty());
+    assert!(rt; run.faults.as_slice() == CANNOT_READ.as_bytes());
+}
+
 /// Each read in turn, until a run ends without a failure.
 #[test]
 fn each_read_of_the_keys_fails_in_turn(rt: HostRuntime) -> Result<(), Fail> {
     for fails_at in 0..MOST_CALLS {
-        let run = ran(&rt, "1", fails_at)?;
+        let run = ran(&rt, rt.alloc(), "1", fails_at)?;
         if run.status == 0 {
-            assert!(rt; run.output.ends_with(LEFT.as_bytes()) && run.faults.is_empty());
-            assert!(rt; fails_at.saturating_mul(7) > PRINTED.len());
+            assert_unharmed(&rt, &run, fails_at);
             return Ok(());
         }
-        assert!(rt; run.status == 1 && run.calls == fails_at.saturating_add(1));
-        assert!(rt; run.output.is_empty() && run.faults.as_slice() == CANNOT_READ.as_bytes());
+        assert_stopped(&rt, &run, fails_at);
     }
     Err(Fail::new("no run ends without a failure"))
 }
 
 #[test]
 fn a_wrong_value_is_named_before_the_keys_are_read(rt: HostRuntime) -> Result<(), Fail> {
-    let run = ran(&rt, "0", NEVER)?;
-    assert!(rt; run.status == 2 && run.calls == 0 && run.output.is_empty());
+    let run = ran(&rt, rt.alloc(), "0", NEVER)?;
+    assert!(rt; run.status == 2 && run.calls == 0);
+    assert!(rt; run.output.is_empty());
     assert!(rt; run.faults.as_slice() == b"listset: bad SEATS\n".as_slice());
     Ok(())
 }

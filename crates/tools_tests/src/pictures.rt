@@ -1,12 +1,17 @@
 //! Pictures that no schedule and no report has: calls that end where a list's do not, points where they do not stand, and refusals
 //! of other orders.
-use crate::devices::Host;
-use crate::rows::ALL;
 use lset_drawing::{Picture, Refusal, Window, write_picture};
 use lset_report::{Report, read_report};
 use lset_words::{Point, Reply};
 use std::alloc::Global;
+use std::process::Abort;
 use std::test::Fail;
+
+/// Every moment.
+const ALL: Window = Window {
+    from: 1,
+    to: 4_294_967_295,
+};
 
 /// The width of no row.
 const WIDE: u32 = 4_294_967_295;
@@ -43,8 +48,8 @@ fn picture_of(
 }
 
 /// The text of a picture is as it should be.
-fn assert_text<R: Host>(rt: &R, picture: &Picture, text: &str) -> Result<(), Fail> {
-    let written = write_picture(rt.alloc(), picture, ALL, WIDE)?;
+fn assert_text<R: Abort>(rt: &R, alloc: Global, picture: &Picture, text: &str) -> Result<(), Fail> {
+    let written = write_picture(alloc, picture, ALL, WIDE)?;
     assert_eq!(rt; std::str::from_utf8(&written)?, text);
     Ok(())
 }
@@ -81,7 +86,7 @@ keys
 fn a_call_that_begins_in_the_last_event(rt: HostRuntime) -> Result<(), Fail> {
     let points = [(1, false), (9, false)];
     let picture = picture_of(rt.alloc(), BEGUN_LAST, Some(10), &points)?;
-    assert_text(&rt, &picture, BEGUN_LAST_PICTURE)
+    assert_text(&rt, rt.alloc(), &picture, BEGUN_LAST_PICTURE)
 }
 
 /// A `contains`, and a `remove` of an opening key.
@@ -120,7 +125,7 @@ fn opened(alloc: Global) -> Result<Picture, Fail> {
 #[test]
 fn the_first_column_has_the_opening_keys(rt: HostRuntime) -> Result<(), Fail> {
     let picture = opened(rt.alloc())?;
-    assert_text(&rt, &picture, OPENED_PICTURE)
+    assert_text(&rt, rt.alloc(), &picture, OPENED_PICTURE)
 }
 
 /// First moments, and the rows from there: before the change of a later moment, and after it.
@@ -132,12 +137,25 @@ const WINDOWS: [(u32, &str); 2] = [
     (10, "moment    12\nthread 0  true]\nset       {9}\n"),
 ];
 
+/// The text of a picture in this window has these rows.
+fn assert_rows<R: Abort>(
+    rt: &R,
+    alloc: Global,
+    picture: &Picture,
+    window: Window,
+    rows: &str,
+) -> Result<(), Fail> {
+    let written = write_picture(alloc, picture, window, WIDE)?;
+    assert!(rt; std::str::from_utf8(&written)?.contains(rows), "{rows}");
+    Ok(())
+}
+
 #[test]
 fn a_window_begins_with_the_set_at_its_first_moment(rt: HostRuntime) -> Result<(), Fail> {
     let picture = opened(rt.alloc())?;
     for &(from, rows) in &WINDOWS {
-        let written = write_picture(rt.alloc(), &picture, Window { from, to: 12 }, WIDE)?;
-        assert!(rt; std::str::from_utf8(&written)?.contains(rows), "{rows}");
+        let window = Window { from, to: 12 };
+        assert_rows(&rt, rt.alloc(), &picture, window, rows)?;
     }
     Ok(())
 }
@@ -197,11 +215,16 @@ keys  5
 ";
 
 /// The picture of this refusal has this line below its heading.
-fn assert_sentence<R: Host>(rt: &R, refusal: Refusal, line: &str) -> Result<(), Fail> {
-    let mut picture = picture_of(rt.alloc(), EARLY, None, &[])?;
+fn assert_sentence<R: Abort>(
+    rt: &R,
+    alloc: Global,
+    refusal: Refusal,
+    line: &str,
+) -> Result<(), Fail> {
+    let mut picture = picture_of(alloc, EARLY, None, &[])?;
     picture.refusal = Some(refusal);
-    let text = format!(in rt.alloc(); "{EARLY_HEADING}\n{line}\n\n{EARLY_ROWS}")?;
-    assert_text(rt, &picture, &text)
+    let text = format!(in alloc; "{EARLY_HEADING}\n{line}\n\n{EARLY_ROWS}")?;
+    assert_text(rt, alloc, &picture, &text)
 }
 
 /// The second line of each fault.
@@ -216,11 +239,11 @@ fn each_fault_has_its_sentence(rt: HostRuntime) -> Result<(), Fail> {
     };
     let line =
         "refused WrongReply 2: place 3 says true, and after places 1 and 2 the set is {} and answers false";
-    assert_sentence(&rt, refusal, line)?;
+    assert_sentence(&rt, rt.alloc(), refusal, line)?;
     let left = [1, 2, 3, 4, 5, 6, 7, 8, 9, 10].to_vec(rt.alloc())?;
     let line = "refused WrongSet: the order leaves {1,2,3,4,5,6,7,8,..+2}, and the keys are {5}";
-    assert_sentence(&rt, Refusal::WrongSet { left }, line)?;
+    assert_sentence(&rt, rt.alloc(), Refusal::WrongSet { left }, line)?;
     let refusal = Refusal::Unknown { call: 7, calls: 4 };
     let line = "refused Unknown 7: the history has calls 0 to 3";
-    assert_sentence(&rt, refusal, line)
+    assert_sentence(&rt, rt.alloc(), refusal, line)
 }

@@ -1,5 +1,5 @@
 //! Runs of the tools, on devices that fail as planned.
-use crate::devices::{Host, Plan, Reader, Writer};
+use crate::devices::{Plan, Reader, Writer};
 use crate::row_texts::{
     CEILING, CEILING_REPORT, DRAWN, IDLE, IDLE_PICTURE, IDLE_TRACE, LEFT_OUT, NO_TITLE, OUTCOME,
     PICTURE, REFUSED_PICTURE, REPORT, SCHEDULE, SHEET, TRACE,
@@ -7,13 +7,15 @@ use crate::row_texts::{
 use lset_drawing::Window;
 use lset_tools::{tool_check, tool_gen, tool_replay};
 use std::alloc::{AllocError, Global};
+use std::sync::Wait;
+use std::thread::Threads;
 use tool_examples::{Example, tool_example};
 use tool_run::tool_run;
 use tool_show::{Form, tool_show};
 use tool_trace::tool_trace;
 
 /// Every moment.
-pub const ALL: Window = Window {
+const ALL: Window = Window {
     from: 1,
     to: 4_294_967_295,
 };
@@ -123,22 +125,29 @@ impl Run {
             && self.output.taken.as_slice() == row.output.as_bytes()
             && self.faults.taken.as_slice() == row.faults.as_bytes()
     }
+
+    /// Whether the tool told nothing but one line about a trouble.
+    pub fn told(&self, line: &str) -> bool {
+        self.output.calls == 0 && self.faults.taken.as_slice() == line.as_bytes()
+    }
 }
 
 pub fn texts_of(alloc: Global, words: &[&str]) -> Result<Vec<String>, AllocError> {
-    words
-        .iter()
-        .map(|word| String::from_str(alloc, word))
-        .try_collect(alloc)
+    let mut values = Vec::new(alloc);
+    for word in words {
+        values.push(String::from_str(alloc, word)?)?;
+    }
+    Ok(values)
 }
 
 /// Runs the tool of a row on devices of these plans: of its input, its output and `faults`.
-pub fn ran<R: Host>(
+pub fn ran<R: Threads + Wait + Sync>(
     rt: &R,
+    alloc: Global,
     row: Row,
-    [input, output, faults]: [Plan; 3],
+    plans: [Plan; 3],
 ) -> Result<Run, AllocError> {
-    let alloc = rt.alloc();
+    let [input, output, faults] = plans;
     let mut input = Reader::new(row.input, input);
     let mut output = Writer::new(alloc, output);
     let mut faults = Writer::new(alloc, faults);

@@ -1,11 +1,15 @@
 //! A server whose output fails. Its port is another in each run, so its first line is compared but for the port's digits.
-use crate::devices::{Failure, Host, Plan, WHOLE, WRITES, Way, Writer, planned};
+use crate::devices::{Failure, Plan, WHOLE, Writer};
 use crate::row_texts::CANNOT_WRITE;
 use crate::rows::texts_of;
 use std::alloc::{AllocError, Global};
 use std::io::{self, Read, Write};
 use std::net::{Net, Shutdown, TcpListener, TcpStream};
+use std::process::Abort;
+use std::sync::Wait;
 use std::test::Fail;
+use std::thread::Threads;
+use std::time::Clock;
 use tool_serve::tool_serve;
 
 const LISTENING: &str = "listening 127.0.0.1:";
@@ -19,8 +23,18 @@ const ONE_SESSION: &str = "sessions 1\ncalls 1\nkey 7\n";
 /// More calls than a run makes on its output.
 const MOST_CALLS: usize = 100;
 
+/// How the output fails, and how many bytes it takes at a call.
+const WAYS: [(Failure, usize); 3] = [
+    (Failure::Interrupted, 1),
+    (Failure::BrokenPipe, 3),
+    (Failure::Nothing, 7),
+];
+
 /// A client that asks for a call and takes its leave before the server accepts it, so that it needs no thread of its own.
-fn client<R: Net<Listener = TcpListener, Stream = TcpStream>>(rt: &R, port: u16) -> io::Result<TcpStream> {
+fn client<R: Net<Listener = TcpListener, Stream = TcpStream>>(
+    rt: &R,
+    port: u16,
+) -> io::Result<TcpStream> {
     let mut stream = TcpStream::connect(rt, ("127.0.0.1", port))?;
     stream.write_all(b"ADD 7\nQUIT\n")?;
     stream.shutdown(Shutdown::Write)?;
@@ -123,61 +137,84 @@ fn is_whole(bytes: &[u8], after: &str) -> Option<bool> {
 
 /// What a server did with its devices.
 #[derive(Drop)]
-struct Run<'r, R> {
+struct Run {
     status: u8,
-    door: Door<'r, R>,
+    output: Writer,
     faults: Writer,
+    client: Option<TcpStream>,
+    is_open: bool,
 }
 
 /// Runs the tool on the values of KIND, PORT and SESSIONS, on devices of these plans: of its output and of `faults`.
-fn ran<'r, R: Host + Net<Listener = TcpListener, Stream = TcpStream>>(
-    rt: &'r R,
+fn ran<R: Net<Listener = TcpListener, Stream = TcpStream> + Threads + Wait + Clock + Sync>(
+    rt: &R,
+    alloc: Global,
     [kind, port, sessions]: [&str; 3],
     [output, faults]: [Plan; 2],
-) -> Result<Run<'r, R>, AllocError> {
-    let values = texts_of(rt.alloc(), &[kind, "1", "4", port, sessions])?;
-    let mut door = Door::new(rt, rt.alloc(), output);
-    let mut faults = Writer::new(rt.alloc(), faults);
-    let status = tool_serve(rt, rt.alloc(), &values, &mut door, &mut faults);
+) -> Result<Run, AllocError> {
+    let values = texts_of(alloc, &[kind, "1", "4", port, sessions])?;
+    let mut door = Door::new(rt, alloc, output);
+    let mut faults = Writer::new(alloc, faults);
+    let status = tool_serve(rt, alloc, &values, &mut door, &mut faults);
+    let Door {
+        rt: _,
+        writer,
+        client,
+        is_open,
+    } = door;
     Ok(Run {
         status,
-        door,
+        output: writer,
         faults,
+        client,
+        is_open,
     })
 }
 
-/// The output of a run of as many sessions as this text tells of failed as planned, or did not fail at all: whether it did.
-fn has_failed<R: Host + Net<Listener = TcpListener, Stream = TcpStream>>(rt: &R, run: &Run<'_, R>, plan: Plan, after: &str) -> bool {
-    let output = &run.door.writer;
-    if run.status == 0 {
-        assert!(rt; is_whole(&output.taken, after) == Some(true));
-        assert!(rt; output.calls <= plan.fails_at);
-        return false;
+/// A run of one session whose output did not fail.
+fn assert_served<R: Abort>(rt: &R, run: Run, plan: Plan) {
+    assert!(rt; is_whole(&run.output.taken, ONE_SESSION) == Some(true));
+    assert!(rt; run.faults.taken.is_empty() && run.output.calls <= plan.fails_at);
+    assert!(rt; is_answered(run.client));
+}
+
+/// One whose output failed.
+fn assert_harmed<R: Abort>(rt: &R, run: Run, plan: Plan) {
+    assert!(rt; run.status == 1 && run.faults.taken.as_slice() == CANNOT_WRITE.as_bytes());
+    assert!(rt; is_front(&run.output.taken, ONE_SESSION) == Some(true));
+    assert!(rt; run.output.calls == plan.fails_at.saturating_add(1));
+    if run.is_open {
+        assert!(rt; is_answered(run.client));
+    } else {
+        assert!(rt; is_turned_away(run.client));
     }
-    assert!(rt; run.status == 1 && is_front(&output.taken, after) == Some(true));
-    assert!(rt; output.calls == plan.fails_at.saturating_add(1));
-    true
 }
 
 /// A server of one session whose output fails as planned, and whether it did.
-fn output_fails<R: Host + Net<Listener = TcpListener, Stream = TcpStream>>(rt: &R, plan: Plan) -> Result<bool, Fail> {
-    let mut run = ran(rt, ["lazy", "0", "1"], [plan, WHOLE])?;
-    let is_harmed = has_failed(rt, &run, plan, ONE_SESSION);
-    let line = if is_harmed { CANNOT_WRITE } else { "" };
-    assert!(rt; run.faults.taken.as_slice() == line.as_bytes());
-    let client = run.door.client.take();
-    if run.door.is_open {
-        assert!(rt; is_answered(client));
+fn output_fails<
+    R: Net<Listener = TcpListener, Stream = TcpStream> + Threads + Wait + Clock + Sync + Abort,
+>(rt: &R, alloc: Global, plan: Plan) -> Result<bool, Fail> {
+    let run = ran(rt, alloc, ["lazy", "0", "1"], [plan, WHOLE])?;
+    let is_harmed = run.status != 0;
+    if is_harmed {
+        assert_harmed(rt, run, plan);
     } else {
-        assert!(rt; is_harmed && is_turned_away(client));
+        assert_served(rt, run, plan);
     }
     Ok(is_harmed)
 }
 
 /// How many runs there are in which the output fails, at each of its calls in turn, until a run ends without a failure.
-fn each_call_fails<R: Host + Net<Listener = TcpListener, Stream = TcpStream>>(rt: &R, way: Way) -> Result<usize, Fail> {
+fn each_call_fails<
+    R: Net<Listener = TcpListener, Stream = TcpStream> + Threads + Wait + Clock + Sync + Abort,
+>(rt: &R, alloc: Global, (failure, most): (Failure, usize)) -> Result<usize, Fail> {
     for fails_at in 0..MOST_CALLS {
-        if !output_fails(rt, planned(way, fails_at))? {
+        let plan = Plan {
+            most,
+            fails_at,
+            failure,
+        };
+        if !output_fails(rt, alloc, plan)? {
             return Ok(fails_at);
         }
     }
@@ -188,8 +225,8 @@ fn each_call_fails<R: Host + Net<Listener = TcpListener, Stream = TcpStream>>(rt
 /// no client is accepted.
 #[test]
 fn each_call_on_the_output_fails_in_turn(rt: HostRuntime) -> Result<(), Fail> {
-    for way in &WRITES {
-        let runs = each_call_fails(&rt, *way)?;
+    for way in &WAYS {
+        let runs = each_call_fails(&rt, rt.alloc(), *way)?;
         assert!(rt; runs.saturating_mul(way.1) > LISTENING.len());
     }
     Ok(())
@@ -197,18 +234,24 @@ fn each_call_on_the_output_fails_in_turn(rt: HostRuntime) -> Result<(), Fail> {
 
 /// A server of no session whose output fails as planned, and beside it each write of the line about it; and whether the
 /// output did.
-fn both_fail<R: Host + Net<Listener = TcpListener, Stream = TcpStream>>(rt: &R, plan: Plan) -> Result<bool, Fail> {
+fn both_fail<
+    R: Net<Listener = TcpListener, Stream = TcpStream> + Threads + Wait + Clock + Sync + Abort,
+>(rt: &R, alloc: Global, plan: Plan) -> Result<bool, Fail> {
     for write in 0..CANNOT_WRITE.len() {
         let faults = Plan {
             fails_at: write,
             ..plan
         };
-        let mut run = ran(rt, ["lazy", "0", "0"], [plan, faults])?;
-        assert!(rt; is_turned_away(run.door.client.take()));
-        if !has_failed(rt, &run, plan, NO_SESSION) {
+        let run = ran(rt, alloc, ["lazy", "0", "0"], [plan, faults])?;
+        assert!(rt; is_turned_away(run.client));
+        if run.status == 0 {
+            assert!(rt; is_whole(&run.output.taken, NO_SESSION) == Some(true));
+            assert!(rt; run.output.calls <= plan.fails_at);
             return Ok(false);
         }
-        assert!(rt; run.faults.stopped_within(CANNOT_WRITE));
+        assert!(rt; run.status == 1 && run.faults.stopped_within(CANNOT_WRITE));
+        assert!(rt; is_front(&run.output.taken, NO_SESSION) == Some(true));
+        assert!(rt; run.output.calls == plan.fails_at.saturating_add(1));
     }
     Ok(true)
 }
@@ -217,7 +260,12 @@ fn both_fail<R: Host + Net<Listener = TcpListener, Stream = TcpStream>>(rt: &R, 
 #[test]
 fn a_call_and_the_line_about_it_fail(rt: HostRuntime) -> Result<(), Fail> {
     for fails_at in 0..MOST_CALLS {
-        if !both_fail(&rt, planned((Failure::Interrupted, 1), fails_at))? {
+        let plan = Plan {
+            most: 1,
+            fails_at,
+            failure: Failure::Interrupted,
+        };
+        if !both_fail(&rt, rt.alloc(), plan)? {
             assert!(rt; fails_at > LISTENING.len());
             return Ok(());
         }
@@ -226,15 +274,17 @@ fn a_call_and_the_line_about_it_fail(rt: HostRuntime) -> Result<(), Fail> {
 }
 
 /// A server that does not begin, where the write with a number of the line about it fails: the status stays.
-fn line_fails<R: Host + Net<Listener = TcpListener, Stream = TcpStream>>(
-    rt: &R,
-    [kind, port]: [&str; 2],
-    (status, line): (u8, &str),
-) -> Result<(), Fail> {
+fn line_fails<
+    R: Net<Listener = TcpListener, Stream = TcpStream> + Threads + Wait + Clock + Sync + Abort,
+>(rt: &R, alloc: Global, [kind, port]: [&str; 2], (status, line): (u8, &str)) -> Result<(), Fail> {
     for write in 0..=line.len() {
-        let faults = planned((Failure::BrokenPipe, 1), write);
-        let run = ran(rt, [kind, port, "1"], [WHOLE, faults])?;
-        assert!(rt; run.status == status && run.door.writer.calls == 0);
+        let faults = Plan {
+            most: 1,
+            fails_at: write,
+            failure: Failure::BrokenPipe,
+        };
+        let run = ran(rt, alloc, [kind, port, "1"], [WHOLE, faults])?;
+        assert!(rt; run.status == status && run.output.calls == 0);
         if write < line.len() {
             assert!(rt; run.faults.stopped_within(line));
         } else {
@@ -250,6 +300,6 @@ fn each_write_of_a_line_fails_in_turn(rt: HostRuntime) -> Result<(), Fail> {
     let listener = TcpListener::bind(&rt, "127.0.0.1:0")?;
     let port = listener.local_addr()?.port().to_string(rt.alloc())?;
     let (bad, taken) = ((2, "listset: bad KIND\n"), (1, "listset: cannot listen\n"));
-    line_fails(&rt, ["skip", "0"], bad)?;
-    line_fails(&rt, ["lazy", port.as_str()], taken)
+    line_fails(&rt, rt.alloc(), ["skip", "0"], bad)?;
+    line_fails(&rt, rt.alloc(), ["lazy", port.as_str()], taken)
 }
