@@ -4,8 +4,8 @@ import statistics
 import subprocess
 import tempfile
 
-from measuring import BENCH, RUNS, SEED, TOP, built, heading, kinds, row
-from threads import MANY_CALLS, MOST_QUOTA, SIZES, THREADS, medians, named, nanoseconds
+from measuring import BENCH, SEED, TOP, built, heading, kinds, row
+from threads import MANY_CALLS, MANY_RUNS, MOST_QUOTA, SIZES, THREADS, medians, named, nanoseconds
 
 ENDS = (SIZES[0], SIZES[-1])
 
@@ -30,8 +30,8 @@ def foreign():
             for many, size in heads:
                 values = [str(many), MOST_QUOTA, MANY_CALLS, str(size), SEED]
                 programs = [timer, kind, "whole", *values], [program, str(number), *values]
-                loop, c = medians([nanoseconds(it)["all"] for it in programs] for _ in range(RUNS))
+                loop, c = medians([nanoseconds(it)["all"] for it in programs] for _ in range(MANY_RUNS))
                 cells += f"{loop:.0f}", f"{c - loop:.1f}"
             row(kind, *cells)
-        border = statistics.median(nanoseconds([program, "none", "1000000"])["all"] for _ in range(RUNS))
+        border = statistics.median(nanoseconds([program, "none", "1000000"])["all"] for _ in range(MANY_RUNS))
         row("an empty seat", "", f"{border:.1f}", *[""] * (2 * len(heads) - 2))
