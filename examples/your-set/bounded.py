@@ -8,6 +8,9 @@ import sys
 import threading
 
 
+ENDING = (signal.SIGINT, signal.SIGTERM, signal.SIGHUP)
+
+
 class Wrong(Exception):
     """A program did not end well."""
 
@@ -22,16 +25,23 @@ def end(process):
 def begun(words, seconds, **how):
     """The program, in a session of its own, which ends after so many seconds, and however this is left."""
     how = {"stdin": subprocess.DEVNULL, "stdout": subprocess.PIPE, "stderr": subprocess.PIPE, "text": True, **how}
-    process = subprocess.Popen([str(word) for word in words], start_new_session=True, **how)
-    watch = threading.Timer(seconds, end, [process])
-    watch.start()
+    # (a signal that comes while the program is started waits until it can be ended)
+    before = signal.pthread_sigmask(signal.SIG_BLOCK, ENDING)
     try:
-        yield process
-        process.wait()
+        how |= {"start_new_session": True, "preexec_fn": lambda: signal.pthread_sigmask(signal.SIG_SETMASK, before)}
+        process = subprocess.Popen([str(word) for word in words], **how)
+        watch = threading.Timer(seconds, end, [process])
+        try:
+            watch.start()
+            signal.pthread_sigmask(signal.SIG_SETMASK, before)
+            yield process
+            process.wait()
+        finally:
+            watch.cancel()
+            end(process)
+            process.wait()
     finally:
-        watch.cancel()
-        end(process)
-        process.wait()
+        signal.pthread_sigmask(signal.SIG_SETMASK, before)
     if process.returncode < 0:
         raise Wrong(f"{words[0]} was ended by signal {-process.returncode}, which is 9 after {seconds} s")
 
