@@ -1,5 +1,5 @@
 -- From step to step of a call under way.
-use Rattle.std.proofs.Common.{◌≡◌, ◌≢◌, ℕ, ◌+◌, ◌*◌, ◌<◌, ◌≤◌, false, Option, Some, None, IfSome, MatchOption, refl, sym, ap, ◌∙◌, subst, arith}
+use Rattle.std.proofs.Common.{◌≡◌, ◌≢◌, ℕ, ◌+◌, ◌<◌, ◌≤◌, Option, Some, None, IfSome, MatchOption, refl, sym, ap, ◌∙◌, subst, arith}
 use Rattle.atomic_table.specs.Seated.{TableId}
 use Rattle.lset_words.specs.declared.Call.{Call}
 use Rattle.lset_words.specs.declared.Reply.{Reply}
@@ -33,9 +33,6 @@ module _ (m : Table) (b : Begun) where
 
   pub open_now : (l : Local) (s : TableSeat) → Holds m b l s → IsOpen s.me.0 × Stands m s.me.0
   open_now l s h = (mid_open b.call b.me.0 s.me.0 h.used h.mid, h.stands)
-
-  pub row_now : (a : Action) (s : TableSeat) → (h : MayStep m b a s) → a ≡ m.next s.me.0.local
-  row_now a s h = h.acts ∙ ap m.next (sym h.holds.local)
 
   pub onward : (l : Local) (s : TableSeat) (n : ℕ) (s' : TableSeat) → IsSeat s s' → Goes m s.me.0 n s'.me.0 → (m.feed l n).answer ≡ None
       → Holds m b l s → Holds m b (m.feed l n).local s'
@@ -78,9 +75,6 @@ module _ (m : Table) (b : Begun) where
 
   pub few_asks : Lawful m → (a : Action) (s : TableSeat) → MayAnswer m b a s → word_named a < MOST_WORDS
   few_asks law a s h = few_held law h.held a s h.holds h.acts
-
-  pub row_asked : (a : Action) (s : TableSeat) → (h : MayAnswer m b a s) → a ≡ m.next s.me.0.local
-  row_asked a s h = h.acts ∙ ap m.next (sym h.holds.local)
 
   -- a thread holds what its seat's view says
   pub itself : (l : Local) (s : TableSeat) → Holds m b l s → Holds m b s.me.0.local s

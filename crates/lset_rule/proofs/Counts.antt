@@ -69,10 +69,6 @@ in_has : (os : List Aside) (t : ℕ) → In (threads_of os) t → HasAside os t
 in_has [] t i = i
 in_has (o ∷ os) t i = ⊎_elim inl (λ j. inr (in_has os t j)) i
 
-has_in : (os : List Aside) (t : ℕ) → HasAside os t → In (threads_of os) t
-has_in [] t i = i
-has_in (o ∷ os) t i = ⊎_elim inl (λ j. inr (has_in os t j)) i
-
 apart : (w : ℕ → Here) (t : ℕ) (r : Past) (os : List Aside) → AreIdle w t r os → Distinct (threads_of os)
 apart w t r [] a = tt
 apart w t r (o ∷ os) a = ((λ i. a.2 (in_has os o.thread i)), apart w t r os a.3)

@@ -1,5 +1,5 @@
 -- The rule holds as a set is opened.
-use Rattle.std.proofs.Common.{◌≡◌, ◌≢◌, inl, inr, ⊎_elim, ℕ, zero, suc, ◌+◌, ◌-◌, ◌<◌, ◌≤◌, List, [], ◌∷◌, ◌++◌, length, None}
+use Rattle.std.proofs.Common.{◌≡◌, ◌≢◌, inl, inr, ⊎_elim, ℕ, zero, suc, ◌+◌, ◌-◌, ◌<◌, ◌≤◌, List, [], ◌∷◌, length, None}
 use Rattle.std.proofs.Common.{refl, sym, ap, ◌∙◌, subst, arith}
 use mathlib.Core.Option.{some, some-injective, some-ne-none}
 use mathlib.Core.Logic.{dite}
@@ -16,7 +16,6 @@ use Rattle.lset_words.specs.Words.{word_count, Opening, sizes, Opens}
 use Rattle.lset_steps.specs.Steps.{Table, opening, opening_word, idle}
 use Rattle.atomic_table.specs.declared.shared.Seat.{Seat}
 use Rattle.atomic_table.specs.Seated.{TableId}
-use Rattle.lset_rule.proofs.Joins.{at_tail}
 use Rattle.lset_steps.proofs.MoreEvents.{runs_to_opening}
 use Rattle.lset_rule.specs.Runs.{here, at_end, IsRunOf}
 use Rattle.lset_rule.specs.Rule.{Holds, Fits, opener, asides_from, left_view, right_view}
@@ -154,15 +153,6 @@ new_seat m k t me lim lt is slots l = (
   ap (λ z. length z.0.others + 1) (sym is),
   ap (λ z. z.1) is,
 )
-
--- one seat more
-pub each_more : (z : TableId) (k : Opening) (seats : List (Seat (Unit {0}) View)) (s : Seat (Unit {0}) View) (t : ℕ) →
-    length seats ≡ t
-    → ((i : ℕ) (x : Seat (Unit {0}) View) → get_elem? seats i ≡ some x → IsNew z k i x) → IsNew z k t s
-    → (i : ℕ) (x : Seat (Unit {0}) View) → get_elem? (seats ++ s ∷ []) i ≡ some x → IsNew z k i x
-each_more z k seats s t len each new i x at = ⊎_elim (λ old. each i x old)
-    (λ e. subst (λ (y : ℕ × Seat (Unit {0}) View). IsNew z k y.0 y.1) (λ j. (sym (e.0 ∙ len) j, e.1 j)) new)
-    (at_tail seats s x i at)
 
 pub opening_length : (op : Opening) → length (opening op).words ≡ word_count (sizes op)
 opening_length op = length-map-range_with_len (opening_word op) 0 (word_count (sizes op))

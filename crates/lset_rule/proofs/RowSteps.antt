@@ -1,15 +1,17 @@
 -- What a call of the interpreter knows before each of its further steps, and after it.
-use Rattle.std.proofs.Common.{◌≡◌, None, sym, ◌∙◌}
+use Rattle.std.proofs.Common.{◌≡◌, Some, None, sym, ap, ◌∙◌}
 use Rattle.atomic_table.specs.Seated.{TableId}
 use Rattle.lset_words.specs.declared.Call.{Call}
+use Rattle.lset_words.specs.declared.Reply.{Reply}
 use Rattle.lset_words.specs.Words.{Opening}
 use Rattle.lset_steps.specs.declared.Fed.{Fed}
 use Rattle.lset_steps.specs.Steps.{Table}
 use Rattle.lset_steps.specs.Laws.{Lawful}
 use Rattle.lset_rule.specs.declared.slots.OwnSlots.{OwnSlots}
-use Rattle.lset_rule.specs.Seats.{TableSeat, IsOf, IsSeat, MayCall}
+use Rattle.lset_rule.specs.OwnSlots.{slots_of}
+use Rattle.lset_rule.specs.Seats.{TableSeat, IsOf, IsSeat, MayCall, HasCalled}
 use Rattle.lset_rule.specs.RowSteps.{MayStep, HasStepped}
-use Rattle.lset_rule.proofs.Calls.{Comes, is_mid, mid_open, reached, comes_next}
+use Rattle.lset_rule.proofs.Calls.{Comes, is_mid, mid_open, reached, comes_next, made}
 
 -- the call c of the seat s has come to f, and the seat to s'
 abbrev pub Reached : Table → Call → TableSeat → Fed → TableSeat → Type 0
@@ -33,3 +35,12 @@ stepped m c s s' s'' f f' (come, seat) none step = (
   comes_next m c s.me.0 s'.me.0 f step.seen s''.me.0 f' come none step.goes step.fed,
   (step.place.0 ∙ seat.0, step.place.1 ∙ seat.1, step.place.2 ∙ seat.2),
 )
+
+-- and where that has answered, the call was made
+pub answered : (m : Table) (c : Call) (s s' : TableSeat) (f : Fed) (own : OwnSlots) (r : Reply) → Reached m c s f s' →
+    f.answer ≡ Some r → own ≡ slots_of f.local → HasCalled m c s (own, r) s'
+answered m c s s' f own r (come, seat) is slots = record {
+  place = seat;
+  slots = slots ∙ ap slots_of (sym come.0);
+  made = made m c s.me.0 s'.me.0 f r come is;
+}

@@ -13,7 +13,22 @@ use lset_words::{Call, Key, Reply};
 use std::marker::Brand;
 use std::sync::Wait;
 
-/// Makes a whole call, step by step, in at most `N::MOST` rounds of two steps each; `None` where it has not answered then.
+/// What stands between two steps: the answer where there is one, and else the pause. (It is no function: after a call of one that
+/// may wait, as one that asks a pause, the compiler leads nowhere straight.)
+macro_rules! ends_or_pauses {
+    ($last:expr, $pause:expr) => {
+        if let Some(reply) = $last.fed.answer {
+            return Some((OwnSlots::of(&$last.fed.local), reply));
+        }
+        if $last.failed {
+            $pause.failed($last.fed.local.thread);
+        } else {
+            $pause.moved($last.fed.local.thread);
+        }
+    };
+}
+
+/// Makes a whole call, step by step, in at most `N::MOST` rounds of four steps each; `None` where it has not answered then.
 ///
 /// `place` is the place of an idle seat of these words, and `slots` are those of its thread, as the last call left them.
 /// `pause` is asked after each step that does not answer.
@@ -38,28 +53,17 @@ pub fn interpret_within<M: Machine, P: Pause, N: Rounds>(
         fed: M::feed(&begun, seen),
         failed: has_failed(action, seen),
     };
-    // Two steps in a round: within a round the compiler leads from the code of a row straight to that of the next one, and
-    // at its end to a search for the row. What is between them stands here and not in a function: after a call that may
-    // wait, as one that asks a pause, it leads nowhere straight.
+    // Four steps in a round: within a round the compiler leads from the code of a row straight to that of the next one, and
+    // at its end to a search for the row.
     for _ in 0..N::MOST {
-        if let Some(reply) = last.fed.answer {
-            return Some((OwnSlots::of(&last.fed.local), reply));
-        }
-        if last.failed {
-            pause.failed(last.fed.local.thread);
-        } else {
-            pause.moved(last.fed.local.thread);
-        }
-        let next = one_step::<M, 1>(table, place, &last.fed.local);
-        if let Some(reply) = next.fed.answer {
-            return Some((OwnSlots::of(&next.fed.local), reply));
-        }
-        if next.failed {
-            pause.failed(next.fed.local.thread);
-        } else {
-            pause.moved(next.fed.local.thread);
-        }
-        last = one_step::<M, 2>(table, place, &next.fed.local);
+        ends_or_pauses!(last, pause);
+        let second = one_step::<M, 1>(table, place, &last.fed.local);
+        ends_or_pauses!(second, pause);
+        let third = one_step::<M, 2>(table, place, &second.fed.local);
+        ends_or_pauses!(third, pause);
+        let fourth = one_step::<M, 3>(table, place, &third.fed.local);
+        ends_or_pauses!(fourth, pause);
+        last = one_step::<M, 4>(table, place, &fourth.fed.local);
     }
     None
 }
@@ -102,6 +106,6 @@ pub fn interpret_read<M: OpenReads>(
         if let Some(reply) = fed.answer {
             return (OwnSlots::of(&fed.local), reply);
         }
-        fed = one_step::<M, 3>(table, place, &fed.local).fed;
+        fed = one_step::<M, 5>(table, place, &fed.local).fed;
     }
 }

@@ -1,8 +1,9 @@
-use Rattle.std.proofs.Common.{rules, ◌≡◌, ◌<◌, sym, ap, ◌∙◌}
+use Rattle.std.proofs.Common.{rules, ◌<◌}
 use Rattle.lset_words.specs.Words.{target, tail_word}
-use Rattle.lset_rule.specs.OwnSlots.{slots_of}
-use Rattle.lset_rule.proofs.Calls.{first_comes, first_reached, made}
-use Rattle.lset_rule.proofs.RowSteps.{Reached, may_step, stepped}
+use Rattle.lset_rule.proofs.Calls.{first_comes, first_reached}
+use Rattle.lset_rule.proofs.RowSteps.{Reached, may_step, stepped, answered}
+use Rattle.lset_rule.proofs.interpreter.interpret_within.Given.{Over}
+use Rattle.lset_rule.proofs.interpreter.interpret_within.Goals.{After-one_step-second, After-one_step-third, After-one_step-fourth}
 use Rattle.lset_rule.proofs.interpreter.interpret_within.Goals as goal
 
 pub next-action-requires : goal.next-action-requires
@@ -18,33 +19,67 @@ loop-init g c = (
   c.start_on-seen.ensures.place,
 )
 
-pub returns-in-Some-answer : goal.returns-in-Some-answer
-returns-in-Some-answer g c = let T = g.M.Machine.table in let s = c.args.place.now in
-    let next : Reached T c.args.call s c.one_step-next.result.fed c.one_step-next.new.place =
-    stepped T c.args.call s c.loop.place c.one_step-next.new.place c.loop.last.fed c.one_step-next.result.fed c.loop.invariant
-    c.in_default.is c.one_step-next.ensures in record {
-      place = next.1;
-      slots = c.of-in-Some-answer.ensures ∙ ap slots_of (sym next.0.0);
-      made = made T c.args.call s.me.0 c.one_step-next.new.place.me.0 c.one_step-next.result.fed c.in-Some-answer.reply next.0
-          c.in-Some-answer.is;
-    }
+-- where the call has come to after each step of the round but the last
+second : (g : Over) (c : After-one_step-second g) →
+    Reached g.M.Machine.table c.args.call c.args.place.now c.one_step-second.result.fed c.one_step-second.new.place
+second g c =
+    stepped g.M.Machine.table c.args.call c.args.place.now c.loop.place c.one_step-second.new.place
+    c.loop.last.fed c.one_step-second.result.fed c.loop.invariant c.in_default.is c.one_step-second.ensures
 
-pub one_step-next-requires : goal.one_step-next-requires
-one_step-next-requires g c = may_step g.M.Machine.table g.met.M.Machine.lawful c.args.call c.args.table.now.table_id
-    c.args.table.now.key c.args.slots c.args.place.now c.loop.place c.loop.last.fed c.requires c.loop.invariant (search rules)
+third : (g : Over) (c : After-one_step-third g) →
+    Reached g.M.Machine.table c.args.call c.args.place.now c.one_step-third.result.fed c.one_step-third.new.place
+third g c =
+    let second : Reached g.M.Machine.table c.args.call c.args.place.now c.one_step-second.result.fed c.one_step-second.new.place = stepped g.M.Machine.table c.args.call c.args.place.now c.loop.place c.one_step-second.new.place
+    c.loop.last.fed c.one_step-second.result.fed c.loop.invariant c.in_default.is c.one_step-second.ensures in
+    stepped g.M.Machine.table c.args.call c.args.place.now c.one_step-second.new.place c.one_step-third.new.place
+    c.one_step-second.result.fed c.one_step-third.result.fed second c.in_default-answer.is c.one_step-third.ensures
+
+fourth : (g : Over) (c : After-one_step-fourth g) →
+    Reached g.M.Machine.table c.args.call c.args.place.now c.one_step-fourth.result.fed c.one_step-fourth.new.place
+fourth g c =
+    let second : Reached g.M.Machine.table c.args.call c.args.place.now c.one_step-second.result.fed c.one_step-second.new.place = stepped g.M.Machine.table c.args.call c.args.place.now c.loop.place c.one_step-second.new.place
+    c.loop.last.fed c.one_step-second.result.fed c.loop.invariant c.in_default.is c.one_step-second.ensures in
+    let third : Reached g.M.Machine.table c.args.call c.args.place.now c.one_step-third.result.fed c.one_step-third.new.place = stepped g.M.Machine.table c.args.call c.args.place.now c.one_step-second.new.place c.one_step-third.new.place
+    c.one_step-second.result.fed c.one_step-third.result.fed second c.in_default-answer.is c.one_step-third.ensures in
+    stepped g.M.Machine.table c.args.call c.args.place.now c.one_step-third.new.place c.one_step-fourth.new.place
+    c.one_step-third.result.fed c.one_step-fourth.result.fed third c.in_default-answer-2.is c.one_step-fourth.ensures
+
+pub one_step-second-requires : goal.one_step-second-requires
+one_step-second-requires g c = may_step g.M.Machine.table g.met.M.Machine.lawful c.args.call c.args.table.now.table_id
+    c.args.table.now.key c.args.slots c.args.place.now c.loop.place c.loop.last.fed c.requires
+    c.loop.invariant (search rules)
+
+pub one_step-third-requires : goal.one_step-third-requires
+one_step-third-requires g c = may_step g.M.Machine.table g.met.M.Machine.lawful c.args.call c.args.table.now.table_id
+    c.args.table.now.key c.args.slots c.args.place.now c.one_step-second.new.place c.one_step-second.result.fed c.requires
+    (second g (goal.at.one_step-third-requires g c).After-one_step-second) c.in_default-answer.is
+
+pub one_step-fourth-requires : goal.one_step-fourth-requires
+one_step-fourth-requires g c = may_step g.M.Machine.table g.met.M.Machine.lawful c.args.call c.args.table.now.table_id
+    c.args.table.now.key c.args.slots c.args.place.now c.one_step-third.new.place c.one_step-third.result.fed c.requires
+    (third g (goal.at.one_step-fourth-requires g c).After-one_step-third) c.in_default-answer-2.is
 
 pub one_step-last-requires : goal.one_step-last-requires
-one_step-last-requires g c = let T = g.M.Machine.table in let s = c.args.place.now in
-    let next : Reached T c.args.call s c.one_step-next.result.fed c.one_step-next.new.place =
-    stepped T c.args.call s c.loop.place c.one_step-next.new.place c.loop.last.fed c.one_step-next.result.fed c.loop.invariant
-    c.in_default.is c.one_step-next.ensures in
-    may_step T g.met.M.Machine.lawful c.args.call c.args.table.now.table_id c.args.table.now.key c.args.slots s
-    c.one_step-next.new.place c.one_step-next.result.fed c.requires next c.in_default-answer.is
+one_step-last-requires g c = may_step g.M.Machine.table g.met.M.Machine.lawful c.args.call c.args.table.now.table_id
+    c.args.table.now.key c.args.slots c.args.place.now c.one_step-fourth.new.place c.one_step-fourth.result.fed c.requires
+    (fourth g (goal.at.one_step-last-requires g c).After-one_step-fourth) c.in_default-answer-3.is
+
+pub returns-in-Some-answer : goal.returns-in-Some-answer
+returns-in-Some-answer g c = answered g.M.Machine.table c.args.call c.args.place.now c.one_step-second.new.place
+    c.one_step-second.result.fed c.of-in-Some-answer.result c.in-Some-answer.reply
+    (second g (goal.at.returns-in-Some-answer g c).After-one_step-second) c.in-Some-answer.is c.of-in-Some-answer.ensures
+
+pub returns-in-Some-answer-2 : goal.returns-in-Some-answer-2
+returns-in-Some-answer-2 g c = answered g.M.Machine.table c.args.call c.args.place.now c.one_step-third.new.place
+    c.one_step-third.result.fed c.of-in-Some-answer-2.result c.in-Some-answer-2.reply
+    (third g (goal.at.returns-in-Some-answer-2 g c).After-one_step-third) c.in-Some-answer-2.is c.of-in-Some-answer-2.ensures
+
+pub returns-in-Some-answer-3 : goal.returns-in-Some-answer-3
+returns-in-Some-answer-3 g c = answered g.M.Machine.table c.args.call c.args.place.now c.one_step-fourth.new.place
+    c.one_step-fourth.result.fed c.of-in-Some-answer-3.result c.in-Some-answer-3.reply
+    (fourth g (goal.at.returns-in-Some-answer-3 g c).After-one_step-fourth) c.in-Some-answer-3.is c.of-in-Some-answer-3.ensures
 
 pub loop-preserved : goal.loop-preserved
-loop-preserved g c = let T = g.M.Machine.table in let s = c.args.place.now in
-    let next : Reached T c.args.call s c.one_step-next.result.fed c.one_step-next.new.place =
-    stepped T c.args.call s c.loop.place c.one_step-next.new.place c.loop.last.fed c.one_step-next.result.fed c.loop.invariant
-    c.in_default.is c.one_step-next.ensures in
-    stepped T c.args.call s c.one_step-next.new.place c.one_step-last.new.place c.one_step-next.result.fed
-    c.one_step-last.result.fed next c.in_default-answer.is c.one_step-last.ensures
+loop-preserved g c = stepped g.M.Machine.table c.args.call c.args.place.now c.one_step-fourth.new.place c.one_step-last.new.place
+    c.one_step-fourth.result.fed c.one_step-last.result.fed (fourth g (goal.at.loop-preserved g c).After-one_step-fourth) c.in_default-answer-3.is
+    c.one_step-last.ensures
