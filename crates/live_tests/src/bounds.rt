@@ -4,10 +4,7 @@ ghost use Rattle.std.specs.Prelude.{◌≡◌};
 use crate::opened::last_seat;
 use lset_coarse::CoarseList;
 use lset_fine::FineList;
-use lset_lazy::LazyList;
 use lset_live::{Bounded, Countless, LiveSet, Rounds, Seat, Spin, open_with};
-use lset_lock_free::LockFreeList;
-use lset_optimistic::OptimisticList;
 use lset_words::{Call, Key, Reply};
 use std::alloc::Global;
 use std::process::Abort;
@@ -72,11 +69,7 @@ fn has_rounds<M: Bounded, R: Abort>(rt: &R, alloc: Global) {
 
 #[test]
 fn a_call_has_rounds(rt: HostRuntime) {
-    has_rounds::<CoarseList, HostRuntime>(&rt, rt.alloc());
-    has_rounds::<FineList, HostRuntime>(&rt, rt.alloc());
-    has_rounds::<OptimisticList, HostRuntime>(&rt, rt.alloc());
-    has_rounds::<LazyList, HostRuntime>(&rt, rt.alloc());
-    has_rounds::<LockFreeList, HostRuntime>(&rt, rt.alloc());
+    at_each_list!(has_rounds, rt);
 }
 
 /// A ceiling, which the lists that mark make by the interpreter, and a contains.
@@ -89,11 +82,7 @@ fn reads_in_rounds<M: Bounded, R: Abort>(rt: &R, alloc: Global) {
 
 #[test]
 fn a_read_has_rounds(rt: HostRuntime) {
-    reads_in_rounds::<CoarseList, HostRuntime>(&rt, rt.alloc());
-    reads_in_rounds::<FineList, HostRuntime>(&rt, rt.alloc());
-    reads_in_rounds::<OptimisticList, HostRuntime>(&rt, rt.alloc());
-    reads_in_rounds::<LazyList, HostRuntime>(&rt, rt.alloc());
-    reads_in_rounds::<LockFreeList, HostRuntime>(&rt, rt.alloc());
+    at_each_list!(reads_in_rounds, rt);
 }
 
 /// A call that had too few rounds keeps its locks: another that comes to one gives up too.

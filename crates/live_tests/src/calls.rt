@@ -1,12 +1,9 @@
 ghost use Rattle.std.specs.Prelude.{◌≡◌};
 
 use crate::opened::{add, contains, two_seats};
-use lset_coarse::CoarseList;
-use lset_fine::FineList;
 use lset_lazy::LazyList;
 use lset_live::{LiveSet, OpenFault, Running, RunningReads, Seat, open};
 use lset_lock_free::LockFreeList;
-use lset_optimistic::OptimisticList;
 use lset_words::{Key, Reply};
 use std::alloc::Global;
 use std::process::Abort;
@@ -40,11 +37,7 @@ fn has_its_numbers<M: Running, R: Abort>(rt: &R, alloc: Global) {
 
 #[test]
 fn seats_are_numbered_as_threads(rt: HostRuntime) {
-    has_its_numbers::<CoarseList, HostRuntime>(&rt, rt.alloc());
-    has_its_numbers::<FineList, HostRuntime>(&rt, rt.alloc());
-    has_its_numbers::<OptimisticList, HostRuntime>(&rt, rt.alloc());
-    has_its_numbers::<LazyList, HostRuntime>(&rt, rt.alloc());
-    has_its_numbers::<LockFreeList, HostRuntime>(&rt, rt.alloc());
+    at_each_list!(has_its_numbers, rt);
 }
 
 fn is_seen_by_another_seat<M: Running, R: Wait + Abort>(rt: &R, alloc: Global) {
@@ -56,11 +49,7 @@ fn is_seen_by_another_seat<M: Running, R: Wait + Abort>(rt: &R, alloc: Global) {
 
 #[test]
 fn a_key_is_seen_by_a_seat_that_met_nobody(rt: HostRuntime) {
-    is_seen_by_another_seat::<CoarseList, HostRuntime>(&rt, rt.alloc());
-    is_seen_by_another_seat::<FineList, HostRuntime>(&rt, rt.alloc());
-    is_seen_by_another_seat::<OptimisticList, HostRuntime>(&rt, rt.alloc());
-    is_seen_by_another_seat::<LazyList, HostRuntime>(&rt, rt.alloc());
-    is_seen_by_another_seat::<LockFreeList, HostRuntime>(&rt, rt.alloc());
+    at_each_list!(is_seen_by_another_seat, rt);
 }
 
 /// A seat takes a key out, which has this reply.
@@ -87,11 +76,7 @@ fn answers_in_turn<M: Running, R: Wait + Abort>(rt: &R, alloc: Global) {
 
 #[test]
 fn seats_call_in_turn(rt: HostRuntime) {
-    answers_in_turn::<CoarseList, HostRuntime>(&rt, rt.alloc());
-    answers_in_turn::<FineList, HostRuntime>(&rt, rt.alloc());
-    answers_in_turn::<OptimisticList, HostRuntime>(&rt, rt.alloc());
-    answers_in_turn::<LazyList, HostRuntime>(&rt, rt.alloc());
-    answers_in_turn::<LockFreeList, HostRuntime>(&rt, rt.alloc());
+    at_each_list!(answers_in_turn, rt);
 }
 
 fn reads_now<M: RunningReads, R: Wait + Abort>(rt: &R, alloc: Global) {

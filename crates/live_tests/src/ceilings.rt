@@ -2,12 +2,7 @@ ghost use Rattle.std.specs.Prelude.{◌≡◌};
 
 use crate::gathering::has_added;
 use crate::opened::two_seats;
-use lset_coarse::CoarseList;
-use lset_fine::FineList;
-use lset_lazy::LazyList;
 use lset_live::{LiveSet, Running, Seat};
-use lset_lock_free::LockFreeList;
-use lset_optimistic::OptimisticList;
 use lset_words::{Key, Reply};
 use std::alloc::Global;
 use std::process::Abort;
@@ -69,9 +64,5 @@ fn finds_what_is_added<M: Running + Send + Sync, R: Threads + Wait + Abort + Syn
 
 #[test]
 fn a_ceiling_while_a_key_is_added(rt: HostRuntime) {
-    finds_what_is_added::<CoarseList, HostRuntime>(&rt, rt.alloc());
-    finds_what_is_added::<FineList, HostRuntime>(&rt, rt.alloc());
-    finds_what_is_added::<OptimisticList, HostRuntime>(&rt, rt.alloc());
-    finds_what_is_added::<LazyList, HostRuntime>(&rt, rt.alloc());
-    finds_what_is_added::<LockFreeList, HostRuntime>(&rt, rt.alloc());
+    at_each_list!(finds_what_is_added, rt);
 }

@@ -2,12 +2,9 @@ ghost use Rattle.std.specs.Prelude.{◌≡◌};
 
 use crate::opened::last_seat;
 use crate::pauses::Count;
-use lset_coarse::CoarseList;
-use lset_fine::FineList;
 use lset_lazy::LazyList;
 use lset_live::{LiveSet, Running, RunningReads, Seat, open};
 use lset_lock_free::LockFreeList;
-use lset_optimistic::OptimisticList;
 use lset_words::{Call, Key, Reply};
 use std::alloc::Global;
 use std::process::Abort;
@@ -76,11 +73,7 @@ fn runs_by_its_table<M: Running, R: Wait + Abort>(rt: &R, alloc: Global) {
 
 #[test]
 fn each_list_makes_the_steps_of_its_table(rt: HostRuntime) {
-    runs_by_its_table::<CoarseList, HostRuntime>(&rt, rt.alloc());
-    runs_by_its_table::<FineList, HostRuntime>(&rt, rt.alloc());
-    runs_by_its_table::<OptimisticList, HostRuntime>(&rt, rt.alloc());
-    runs_by_its_table::<LazyList, HostRuntime>(&rt, rt.alloc());
-    runs_by_its_table::<LockFreeList, HostRuntime>(&rt, rt.alloc());
+    at_each_list!(runs_by_its_table, rt);
 }
 
 /// Which of 12 keys a read that waits for nobody finds.

@@ -1,12 +1,7 @@
 ghost use Rattle.std.specs.Prelude.{◌≡◌};
 
 use crate::opened::{add, close_with, contains, two_seats};
-use lset_coarse::CoarseList;
-use lset_fine::FineList;
-use lset_lazy::LazyList;
 use lset_live::{LiveSet, Running, Seat};
-use lset_lock_free::LockFreeList;
-use lset_optimistic::OptimisticList;
 use lset_words::{Key, Reply};
 use std::alloc::Global;
 use std::process::Abort;
@@ -37,11 +32,7 @@ fn goes_the_whole_way<M: Running, R: Wait + Abort>(rt: &R, alloc: Global) {
 
 #[test]
 fn two_seats_go_the_whole_way(rt: HostRuntime) {
-    goes_the_whole_way::<CoarseList, HostRuntime>(&rt, rt.alloc());
-    goes_the_whole_way::<FineList, HostRuntime>(&rt, rt.alloc());
-    goes_the_whole_way::<OptimisticList, HostRuntime>(&rt, rt.alloc());
-    goes_the_whole_way::<LazyList, HostRuntime>(&rt, rt.alloc());
-    goes_the_whole_way::<LockFreeList, HostRuntime>(&rt, rt.alloc());
+    at_each_list!(goes_the_whole_way, rt);
 }
 
 fn goes_on_where_it_is_not_closed<M: Running, R: Wait + Abort>(rt: &R, alloc: Global) {
@@ -57,11 +48,7 @@ fn goes_on_where_it_is_not_closed<M: Running, R: Wait + Abort>(rt: &R, alloc: Gl
 
 #[test]
 fn a_set_that_is_not_closed_goes_on(rt: HostRuntime) {
-    goes_on_where_it_is_not_closed::<CoarseList, HostRuntime>(&rt, rt.alloc());
-    goes_on_where_it_is_not_closed::<FineList, HostRuntime>(&rt, rt.alloc());
-    goes_on_where_it_is_not_closed::<OptimisticList, HostRuntime>(&rt, rt.alloc());
-    goes_on_where_it_is_not_closed::<LazyList, HostRuntime>(&rt, rt.alloc());
-    goes_on_where_it_is_not_closed::<LockFreeList, HostRuntime>(&rt, rt.alloc());
+    at_each_list!(goes_on_where_it_is_not_closed, rt);
 }
 
 /// A seat adds 9.
@@ -115,9 +102,5 @@ fn goes_the_way_in_threads<M: Running + Send + Sync, R: Threads + Wait + Abort +
 
 #[test]
 fn two_threads_go_the_whole_way(rt: HostRuntime) {
-    goes_the_way_in_threads::<CoarseList, HostRuntime>(&rt, rt.alloc());
-    goes_the_way_in_threads::<FineList, HostRuntime>(&rt, rt.alloc());
-    goes_the_way_in_threads::<OptimisticList, HostRuntime>(&rt, rt.alloc());
-    goes_the_way_in_threads::<LazyList, HostRuntime>(&rt, rt.alloc());
-    goes_the_way_in_threads::<LockFreeList, HostRuntime>(&rt, rt.alloc());
+    at_each_list!(goes_the_way_in_threads, rt);
 }

@@ -1,6 +1,17 @@
 //! The tests of running sets, of plain loops beside the interpreter, and of programs on threads.
 #![tactic(auto)]
 
+/// Makes a check of each of the five lists.
+macro_rules! at_each_list {
+    ($check:ident, $rt:ident $(, $value:expr)*) => {
+        $check::<lset_coarse::CoarseList, HostRuntime>(&$rt, $rt.alloc() $(, $value)*);
+        $check::<lset_fine::FineList, HostRuntime>(&$rt, $rt.alloc() $(, $value)*);
+        $check::<lset_optimistic::OptimisticList, HostRuntime>(&$rt, $rt.alloc() $(, $value)*);
+        $check::<lset_lazy::LazyList, HostRuntime>(&$rt, $rt.alloc() $(, $value)*);
+        $check::<lset_lock_free::LockFreeList, HostRuntime>(&$rt, $rt.alloc() $(, $value)*);
+    };
+}
+
 #[cfg(test)]
 mod balance;
 #[cfg(test)]

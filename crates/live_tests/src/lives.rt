@@ -1,11 +1,6 @@
 use crate::balance::Balance;
 use crate::programs::worked;
-use lset_coarse::CoarseList;
-use lset_fine::FineList;
-use lset_lazy::LazyList;
 use lset_live::{Running, open_with};
-use lset_lock_free::LockFreeList;
-use lset_optimistic::OptimisticList;
 use lset_schedule::programs;
 use lset_work::Always;
 use std::alloc::Global;
@@ -50,9 +45,5 @@ fn has_ten_lives<M: Running + Send + Sync, R: Threads + Wait + Abort + Sync>(
 
 #[test]
 fn over_ten_lives_each_key_left_was_put_in_once_more_than_taken_out(rt: HostRuntime) {
-    has_ten_lives::<CoarseList, HostRuntime>(&rt, rt.alloc());
-    has_ten_lives::<FineList, HostRuntime>(&rt, rt.alloc());
-    has_ten_lives::<OptimisticList, HostRuntime>(&rt, rt.alloc());
-    has_ten_lives::<LazyList, HostRuntime>(&rt, rt.alloc());
-    has_ten_lives::<LockFreeList, HostRuntime>(&rt, rt.alloc());
+    at_each_list!(has_ten_lives, rt);
 }

@@ -1,11 +1,6 @@
 ghost use Rattle.std.specs.Prelude.{◌≡◌, All, IfSome};
 
-use lset_coarse::CoarseList;
-use lset_fine::FineList;
-use lset_lazy::LazyList;
 use lset_live::{LiveSet, Running, Seat, open};
-use lset_lock_free::LockFreeList;
-use lset_optimistic::OptimisticList;
 use lset_rule::Spin;
 use lset_words::{Call, Key, Reply};
 use std::alloc::Global;
@@ -137,9 +132,5 @@ fn leaves_what_was_added<M: Running + Send + Sync, R: Threads + Wait + Abort + S
 
 #[test]
 fn a_thousand_calls_of_each_of_eight_seats(rt: HostRuntime) {
-    leaves_what_was_added::<CoarseList, HostRuntime>(&rt, rt.alloc());
-    leaves_what_was_added::<FineList, HostRuntime>(&rt, rt.alloc());
-    leaves_what_was_added::<OptimisticList, HostRuntime>(&rt, rt.alloc());
-    leaves_what_was_added::<LazyList, HostRuntime>(&rt, rt.alloc());
-    leaves_what_was_added::<LockFreeList, HostRuntime>(&rt, rt.alloc());
+    at_each_list!(leaves_what_was_added, rt);
 }

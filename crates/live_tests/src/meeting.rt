@@ -13,7 +13,7 @@ use lset_words::{Call, Key, Reply};
 use std::alloc::Global;
 use std::process::Abort;
 use std::sync::Wait;
-use std::sync::atomic::AtomicBool;
+use std::sync::atomic::{AtomicBool, Ordering};
 use std::thread::{Threads, join};
 use std::time::Clock;
 
@@ -25,6 +25,10 @@ impl<'a, R: Clock> Pause for Meeting<'a, R> {
 
     fn failed(&self, thread: u32) {
         let _has_met = self.come(thread);
+    }
+
+    fn taken(&self, _thread: u32) {
+        self.took.store(true, Ordering::SeqCst);
     }
 }
 
@@ -68,22 +72,25 @@ fn are_added<R: Abort>(rt: &R, replies: (Reply, Reply)) {
     assert!(rt; replies.1 == Reply::True);
 }
 
+/// Two calls meet at their first step: whether one of them told its pause that it took a lock for which it had waited.
 fn calls_meet<M: Running + Send + Sync, R: Threads + Wait + Clock + Abort + Sync>(
     rt: &R,
     alloc: Global,
-) {
+) -> bool {
     let (set, zero, one) = two_seats::<M, R>(rt, alloc);
     let meeting = Meeting::new(rt);
     let replies = at_once(rt, &set, zero, one, &meeting, &AtomicBool::new(true));
     assert!(rt; meeting.was_held());
     are_added(rt, replies);
+    meeting.took.load(Ordering::SeqCst)
 }
 
+/// Where the first step takes a lock, one of two threads waits for it.
 #[test]
 fn two_calls_meet(rt: HostRuntime) {
-    calls_meet::<CoarseList, HostRuntime>(&rt, rt.alloc());
-    calls_meet::<FineList, HostRuntime>(&rt, rt.alloc());
-    calls_meet::<OptimisticList, HostRuntime>(&rt, rt.alloc());
-    calls_meet::<LazyList, HostRuntime>(&rt, rt.alloc());
-    calls_meet::<LockFreeList, HostRuntime>(&rt, rt.alloc());
+    assert!(rt; calls_meet::<CoarseList, HostRuntime>(&rt, rt.alloc()));
+    assert!(rt; calls_meet::<FineList, HostRuntime>(&rt, rt.alloc()));
+    let _optimistic = calls_meet::<OptimisticList, HostRuntime>(&rt, rt.alloc());
+    let _lazy = calls_meet::<LazyList, HostRuntime>(&rt, rt.alloc());
+    assert!(rt; !calls_meet::<LockFreeList, HostRuntime>(&rt, rt.alloc()));
 }

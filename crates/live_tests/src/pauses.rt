@@ -101,10 +101,6 @@ fn tells_its_thread<M: Running, R: Wait + Abort>(rt: &R, alloc: Global) {
 
 #[test]
 fn a_pause_is_told_the_thread_in_each_kind_of_call(rt: HostRuntime) {
-    tells_its_thread::<CoarseList, HostRuntime>(&rt, rt.alloc());
-    tells_its_thread::<FineList, HostRuntime>(&rt, rt.alloc());
-    tells_its_thread::<OptimisticList, HostRuntime>(&rt, rt.alloc());
-    tells_its_thread::<LazyList, HostRuntime>(&rt, rt.alloc());
-    tells_its_thread::<LockFreeList, HostRuntime>(&rt, rt.alloc());
+    at_each_list!(tells_its_thread, rt);
     tells_its_thread::<Stepped<LazyList>, HostRuntime>(&rt, rt.alloc());
 }

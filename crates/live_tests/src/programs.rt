@@ -3,12 +3,8 @@ ghost use Rattle.std.specs.Prelude.{◌≡◌, ◌<◌, ◌^◌, IsTrue, All, le
 use crate::balance::Balance;
 use crate::opened::{add, two_seats};
 use crate::waiting::Meeting;
-use lset_coarse::CoarseList;
-use lset_fine::FineList;
 use lset_lazy::LazyList;
 use lset_live::{LiveSet, Running, Seat, open};
-use lset_lock_free::LockFreeList;
-use lset_optimistic::OptimisticList;
 use lset_schedule::programs;
 use lset_words::{Call, Key, Reply};
 use lset_work::{Always, Gate, Outcome, WorkCause, WorkFault, work};
@@ -128,11 +124,7 @@ fn answers<M: Running + Send + Sync, R: Threads + Wait + Abort + Sync>(rt: &R, a
 
 #[test]
 fn programs_are_answered(rt: HostRuntime) {
-    answers::<CoarseList, HostRuntime>(&rt, rt.alloc());
-    answers::<FineList, HostRuntime>(&rt, rt.alloc());
-    answers::<OptimisticList, HostRuntime>(&rt, rt.alloc());
-    answers::<LazyList, HostRuntime>(&rt, rt.alloc());
-    answers::<LockFreeList, HostRuntime>(&rt, rt.alloc());
+    at_each_list!(answers, rt);
 }
 
 /// The programs did not fit the seats, and so many seats came back with the set, which has two.
@@ -239,11 +231,7 @@ fn meet<M: Running + Send + Sync, R: Threads + Wait + Abort + Sync + Clock>(rt: 
 
 #[test]
 fn two_workers_meet(rt: HostRuntime) {
-    meet::<CoarseList, HostRuntime>(&rt, rt.alloc());
-    meet::<FineList, HostRuntime>(&rt, rt.alloc());
-    meet::<OptimisticList, HostRuntime>(&rt, rt.alloc());
-    meet::<LazyList, HostRuntime>(&rt, rt.alloc());
-    meet::<LockFreeList, HostRuntime>(&rt, rt.alloc());
+    at_each_list!(meet, rt);
 }
 
 /// One program for one seat.
@@ -276,11 +264,7 @@ fn works_when_gathered<M: Running + Send + Sync, R: Threads + Wait + Abort + Syn
 
 #[test]
 fn a_gathered_seat_works(rt: HostRuntime) {
-    works_when_gathered::<CoarseList, HostRuntime>(&rt, rt.alloc());
-    works_when_gathered::<FineList, HostRuntime>(&rt, rt.alloc());
-    works_when_gathered::<OptimisticList, HostRuntime>(&rt, rt.alloc());
-    works_when_gathered::<LazyList, HostRuntime>(&rt, rt.alloc());
-    works_when_gathered::<LockFreeList, HostRuntime>(&rt, rt.alloc());
+    at_each_list!(works_when_gathered, rt);
 }
 
 #[test]
@@ -306,9 +290,5 @@ fn add_up<M: Running + Send + Sync, R: Threads + Wait + Abort + Sync>(rt: &R, al
 
 #[test]
 fn each_key_left_was_put_in_once_more_than_taken_out(rt: HostRuntime) {
-    add_up::<CoarseList, HostRuntime>(&rt, rt.alloc());
-    add_up::<FineList, HostRuntime>(&rt, rt.alloc());
-    add_up::<OptimisticList, HostRuntime>(&rt, rt.alloc());
-    add_up::<LazyList, HostRuntime>(&rt, rt.alloc());
-    add_up::<LockFreeList, HostRuntime>(&rt, rt.alloc());
+    at_each_list!(add_up, rt);
 }

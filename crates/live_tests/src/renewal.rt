@@ -90,11 +90,7 @@ fn opens_again<M: Running, R: Wait + Abort>(rt: &R, alloc: Global) {
 
 #[test]
 fn a_closed_set_opens_again(rt: HostRuntime) {
-    opens_again::<CoarseList, HostRuntime>(&rt, rt.alloc());
-    opens_again::<FineList, HostRuntime>(&rt, rt.alloc());
-    opens_again::<OptimisticList, HostRuntime>(&rt, rt.alloc());
-    opens_again::<LazyList, HostRuntime>(&rt, rt.alloc());
-    opens_again::<LockFreeList, HostRuntime>(&rt, rt.alloc());
+    at_each_list!(opens_again, rt);
 }
 
 /// A call, answered as the sequential set answers it.

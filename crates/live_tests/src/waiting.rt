@@ -13,13 +13,15 @@ pub fn comes<R: Clock>(rt: &R, flag: &AtomicBool) -> bool {
     false
 }
 
-/// Two threads, 0 and 1, each of which waits for the other where it comes for the first time.
+/// Two threads, 0 and 1, each of which waits for the other where it comes for the first time; and whether one of them has taken a
+/// lock that it waited for.
 #[derive(Drop)]
 pub struct Meeting<'a, R> {
     rt: &'a R,
     zero_came: AtomicBool,
     one_came: AtomicBool,
     missed: AtomicBool,
+    pub took: AtomicBool,
 }
 
 impl<'a, R: Clock> Meeting<'a, R> {
@@ -30,6 +32,7 @@ impl<'a, R: Clock> Meeting<'a, R> {
             zero_came: AtomicBool::new(false),
             one_came: AtomicBool::new(false),
             missed: AtomicBool::new(false),
+            took: AtomicBool::new(false),
         }
     }
 
