@@ -8,7 +8,7 @@ use Rattle.lset_text.specs.declared.headers.Header.{Header}
 use Rattle.lset_text.specs.declared.words.Version.TheVariants.{Two}
 use Rattle.lset_text.specs.Parts.{cut_at}
 use Rattle.lset_text.specs.Kinds.{made, line_in}
-use Rattle.lset_text.specs.Lines.{lines_from, IsFaultlessTo, IsGoodLine, Stands}
+use Rattle.lset_text.specs.Lines.{lines_from, IsGoodLine, Stands}
 use Rattle.lset_text.specs.Results.{◌>>=◌}
 use Rattle.lset_text.specs.Headers.{header_of}
 use Rattle.lset_text.specs.Openings.{is_above}
@@ -31,7 +31,7 @@ use Rattle.lset_calls.specs.Texts.{title}
 use Rattle.lset_calls.specs.Reading.{fault, causes, kinds, judged, line_after, SoFar, with_told, step, grammar, nothing_told}
 use Rattle.lset_calls.specs.declared.reading.lines.Section.{Section}
 use Rattle.lset_calls.specs.declared.reading.lines.Section.TheVariants as section
-use Rattle.lset_calls.specs.Reading.{is_done, cause_of, in_calls, text, calls_told, reading, line_number, IsGoodAfterHeader, Gives, state, Takes}
+use Rattle.lset_calls.specs.Reading.{is_done, cause_of, in_calls, text, line_number, IsGoodAfterHeader, Gives, state, Takes}
 
 -- ---- no check fails by want of memory
 
@@ -124,19 +124,6 @@ module _ (bytes rest : List ℕ) (h : Header) (is : header_of title (cut_at 10 b
       let line = good memory in (omega (arith, line.0), good_in_text text line_number bytes rest h e.line is line)
 
 -- ---- the calls of what was told
-
-pub given_calls : (e : CallsFault) (read : Result SoFar CallsFault) → (e.cause ≢ wrong.Memory → read ≡ Err e)
-    → e.cause ≢ wrong.Memory → (read >>= calls_told) ≡ Err e
-given_calls e read gives other = rw (gives other) refl
-
-still_faultless : (line : ℕ) (read : Result SoFar CallsFault) → IsFaultlessTo line_number line read
-    → IsFaultlessTo line_number line (read >>= calls_told)
-still_faultless line (Ok y) good = tt
-still_faultless line (Err e) good = good
-
-pub good_calls : (bytes : List ℕ) (line : ℕ) → IsGoodAfterHeader bytes (text_from text (cut_at 10 bytes)) line
-    → IsGoodAfterHeader bytes (reading bytes) line
-good_calls bytes line good = (good.0, (good.1.0, good.1.1, still_faultless line (text_from text (cut_at 10 bytes)) good.1.2))
 
 -- ---- a text that ends
 

@@ -51,9 +51,6 @@ module _ (x : TracedCall) (at : ℕ) (before : ℕ → List ℕ) (late : IsLate 
   stays : ((j : ℕ) → is_present_now before j ≡ there_after (change_of x.call) j (is_present_now before j)) → IsNoted x before before at
   stays h = record { upto = upto_at; earlier = λ m j l. refl; now = h }
 
-  pub changes_nothing : change_of x.call ≡ None → IsNoted x before before at
-  changes_nothing e = stays (λ j. sym (ap (λ c. there_after c j (is_present_now before j)) e))
-
   pub is_already : (k : Key) (present : Bool) → change_of x.call ≡ Some (k, present) → is_present before k.0 at ≡ present
       → IsNoted x before before at
   is_already k present e h = stays (λ j. sym (ap (λ c. there_after c j (is_present_now before j)) e

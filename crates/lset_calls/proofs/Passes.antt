@@ -4,9 +4,9 @@ use Rattle.std.proofs.Common.{length, get_or, take, replicate, refl, sym, subst,
 use Rattle.std.specs.Prelude.{Option, Some, None, All, IfSome, IsSomeAnd, ◌==◌, slice_index_or, slice_set, count_by}
 use Rattle.std.specs.List.Sorted.{IsNonDecreasingBy}
 use Rattle.std.proofs.lemmas.Bool.{cases_order, ltb-true, ltb-false, lt-ltb, true≢false, and_right, and_from, and_left}
-use Rattle.std.proofs.lemmas.List.{get_or_default, get_or-set_same, get_or-set_other, length-set, length-take-le, get_or-replicate}
+use Rattle.std.proofs.lemmas.List.{get_or_default, get_or-set_same, get_or-set_other, length-set, get_or-replicate}
 use Rattle.std.proofs.lemmas.List.Elements.{All-get_or}
-use Rattle.std.proofs.lemmas.List.Sums.{count_by-le-length, count_by_more_yes, count_by_more_no}
+use Rattle.std.proofs.lemmas.List.Sums.{count_by_more_yes, count_by_more_no}
 use Rattle.lset_words.proofs.Numbers.{same_or_not, equal_test, unequal_test}
 use Rattle.lset_words.specs.declared.TheConstants.{MOST_THREADS}
 use Rattle.lset_words.specs.declared.Reply.{Reply}
@@ -42,26 +42,6 @@ module _ (limit : ℕ) (ms : List Moment) where
     pub apart : ApartUpTo IsSameMoment limit ms k
     pub upto : (i : ℕ) → i < k → (moment_at ms i).line < limit → (moment_at ms i).at ≤ last
     pub is_one : (last ≡ 0) ⊎ ((i : ℕ) × (i < k) × ((moment_at ms i).line < limit) × ((moment_at ms i).at ≡ last))
-
-  pub shared_none : SharedUpTo 0 0
-  shared_none = record {
-    apart = λ i j a b. absurd (omega arith);
-    upto = λ i l. absurd (omega arith);
-    is_one = inl refl;
-  }
-
-  pub shared_skip : (k last : ℕ) → SharedUpTo k last → limit ≤ (moment_at ms k).line → SharedUpTo (k + 1) last
-  shared_skip k last h l = record {
-    apart = apart_more IsSameMoment limit ms k h.apart (λ i a b c e. omega arith);
-    upto = λ i a b. elim (last_or_before i k a) [
-      | inl e ↦ absurd (let g : (moment_at ms i).line ≡ (moment_at ms k).line = ap (λ z. (moment_at ms z).line) e in omega arith)
-      | inr g ↦ h.upto i g b
-    ];
-    is_one = elim h.is_one [
-      | inl e ↦ inl e
-      | inr o ↦ inr (o.0, (let a : o.0 < k = o.1 in omega arith), o.2, o.3)
-    ];
-  }
 
   module _ (sorted : IsNonDecreasingBy (λ (m : Moment). m.at) ms) (counted : All (λ (m : Moment). 0 < m.at) ms) (k last : ℕ)
       (inside : k < length ms) (h : SharedUpTo k last) (low : (moment_at ms k).line < limit) where
@@ -255,13 +235,6 @@ module _ (calls : List TimedCall) where
 
   pub counts_none : CountsUpTo 0 (replicate MOST_THREADS 0)
   counts_none = record { long = refl; each = λ t l. get_or-replicate MOST_THREADS t 0 0 l }
-
-  pub counts_few : (k : ℕ) (counts : List ℕ) (t : ℕ) → t < MOST_THREADS → k ≤ length calls → CountsUpTo k counts
-      → slice_index_or counts t 0 ≤ k
-  counts_few k counts t l m h =
-      let a : slice_index_or counts t 0 ≡ count_by (is_add_of t) (take k calls) = h.each t l in
-      let b : count_by (is_add_of t) (take k calls) ≤ length (take k calls) = count_by-le-length (is_add_of t) (take k calls) in
-      let c : length (take k calls) ≡ k = length-take-le k calls m in omega arith
 
   module _ (k : ℕ) (counts : List ℕ) (inside : k < length calls) (h : CountsUpTo k counts) where
     pub counts_skip : puts_in (call_at calls k) ≡ false → CountsUpTo (k + 1) counts

@@ -1,20 +1,17 @@
 -- Where a call stands, by the changes that were noted and by the count at its beginning, is where it stands by its set.
-use Rattle.std.proofs.Common.{◌≡◌, ℕ, ◌≤◌, inl, inr, Bool, true, false, List, refl, sym, subst, ◌∙◌, arith}
-use Rattle.std.specs.Prelude.{Option, Some, None, IfSome, if◌then◌else◌, ◌==◌}
-use Rattle.std.proofs.lemmas.Bool.{true≢false, false_from_ne_true}
-use Rattle.lset_words.proofs.Numbers.{same_number, equal_test}
+use Rattle.std.proofs.Common.{◌≡◌, ℕ, ◌≤◌, inl, inr, Bool, true, List, refl, sym, subst, arith}
+use Rattle.std.specs.Prelude.{Option, Some, None, IfSome}
 use Rattle.lset_words.specs.declared.Call.{Call}
-use Rattle.lset_words.specs.declared.Call.TheVariants.{Add, Remove, Contains, Ceiling}
+use Rattle.lset_words.specs.declared.Call.TheVariants.{Ceiling}
 use Rattle.lset_words.specs.declared.Key.{Key}
 use Rattle.lset_words.specs.declared.Reply.{Reply}
 use Rattle.lset_words.specs.declared.Reply.TheVariants.{True, False, Full, At, Nothing}
-use Rattle.lset_words.specs.Words.{key_of}
 use Rattle.lset_words.specs.Log.{TracedCall}
 use Rattle.lset_words.specs.Account.{Contents, Counts, Fits}
 use Rattle.lset_words.specs.Placement.{IsLeastFit, StandsBy}
-use Rattle.lset_history.specs.Changes.{is_present, IsFirst}
+use Rattle.lset_history.specs.Changes.{IsFirst}
 use Rattle.lset_calls.specs.Reports.{StandsGiven, IsUpTo}
-use Rattle.lset_calls.specs.Placing.{present_at, sought}
+use Rattle.lset_calls.specs.Placing.{present_at}
 
 -- ---- what the key alone decides
 module _ (P Q : ℕ → Type 0) (from to : ℕ) where
@@ -25,78 +22,6 @@ module _ (P Q : ℕ → Type 0) (from to : ℕ) where
 module _ (changes : ℕ → List ℕ) (quota count : ℕ) where
   abbrev FitsAt : Call → Reply → ℕ → Type 0
   FitsAt call reply m = Fits quota (present_at changes m) count call reply
-
-  not_there : (b : Bool) → b ≡ false → b ≡ true → ⊥
-  not_there b e f = true≢false (sym f ∙ e)
-
-  full_first : (k : Key) (from to : ℕ) (present : Bool) (o : Option ℕ) (b : Bool) → (count == quota) ≡ b
-      → (if b then Some false else None) ≡ Some present
-      → IsFirst (λ m. is_present changes k.0 m ≡ present) from to o → IsFirst (FitsAt (Add k) Full) from to o
-  full_first k from to present o true e f h =
-      let p : false ≡ present = cc in
-      first_same (λ m. is_present changes k.0 m ≡ present) (FitsAt (Add k) Full) from to
-      (λ m q. ((λ r. not_there (is_present changes k.0 m) (q ∙ sym p) r), same_number count quota e))
-      (λ m q. false_from_ne_true (is_present changes k.0 m) q.0 ∙ p) o h
-  full_first k from to present o false e f h = absurd (cc)
-
-  pub sought_first : (call : Call) (reply : Reply) (from to : ℕ) (present : Bool) (o : Option ℕ)
-      → sought call reply (count == quota) ≡ Some present
-      → IsFirst (λ m. is_present changes (key_of call).0 m ≡ present) from to o → IsFirst (FitsAt call reply) from to o
-  sought_first (Add k) True from to present o e h = absurd (cc)
-  sought_first (Add k) False from to present o e h =
-      let p : true ≡ present = cc in
-      first_same (λ m. is_present changes k.0 m ≡ present) (FitsAt (Add k) False) from to (λ m q. q ∙ sym p) (λ m q. q ∙ p) o h
-  sought_first (Add k) Full from to present o e h = full_first k from to present o (count == quota) refl e h
-  sought_first (Add k) (At x) from to present o e h = absurd (cc)
-  sought_first (Add k) Nothing from to present o e h = absurd (cc)
-  sought_first (Remove k) True from to present o e h = absurd (cc)
-  sought_first (Remove k) False from to present o e h =
-      let p : false ≡ present = cc in
-      first_same (λ m. is_present changes k.0 m ≡ present) (FitsAt (Remove k) False) from to
-      (λ m q r. not_there (is_present changes k.0 m) (q ∙ sym p) r)
-      (λ m q. false_from_ne_true (is_present changes k.0 m) q ∙ p) o h
-  sought_first (Remove k) Full from to present o e h = absurd (cc)
-  sought_first (Remove k) (At x) from to present o e h = absurd (cc)
-  sought_first (Remove k) Nothing from to present o e h = absurd (cc)
-  sought_first (Contains k) True from to present o e h =
-      let p : true ≡ present = cc in
-      first_same (λ m. is_present changes k.0 m ≡ present) (FitsAt (Contains k) True) from to (λ m q. q ∙ sym p) (λ m q. q ∙ p) o h
-  sought_first (Contains k) False from to present o e h =
-      let p : false ≡ present = cc in
-      first_same (λ m. is_present changes k.0 m ≡ present) (FitsAt (Contains k) False) from to
-      (λ m q r. not_there (is_present changes k.0 m) (q ∙ sym p) r)
-      (λ m q. false_from_ne_true (is_present changes k.0 m) q ∙ p) o h
-  sought_first (Contains k) Full from to present o e h = absurd (cc)
-  sought_first (Contains k) (At x) from to present o e h = absurd (cc)
-  sought_first (Contains k) Nothing from to present o e h = absurd (cc)
-  sought_first (Ceiling k) r from to present o e h = absurd (cc)
-
-  abbrev of_full : Bool → Option Bool
-  of_full b = if b then Some false else None
-
-  full_none : (k : Key) (m : ℕ) (b : Bool) → (count == quota) ≡ b → of_full b ≡ None → FitsAt (Add k) Full m → ⊥
-  full_none k m true e f h = absurd (cc)
-  full_none k m false e f h = true≢false (sym (equal_test count quota h.1) ∙ e)
-
-  -- where nothing is sought, the reply fits no moment
-  pub none_fits : (call : Call) (reply : Reply) → ((k : Key) → call ≡ Ceiling k → ⊥) → sought call reply (count == quota) ≡ None
-      → (m : ℕ) → FitsAt call reply m → ⊥
-  none_fits (Add k) True n e m h = h
-  none_fits (Add k) False n e m h = absurd (cc)
-  none_fits (Add k) Full n e m h = full_none k m (count == quota) refl e h
-  none_fits (Add k) (At x) n e m h = h
-  none_fits (Add k) Nothing n e m h = h
-  none_fits (Remove k) True n e m h = h
-  none_fits (Remove k) False n e m h = absurd (cc)
-  none_fits (Remove k) Full n e m h = h
-  none_fits (Remove k) (At x) n e m h = h
-  none_fits (Remove k) Nothing n e m h = h
-  none_fits (Contains k) True n e m h = absurd (cc)
-  none_fits (Contains k) False n e m h = absurd (cc)
-  none_fits (Contains k) Full n e m h = h
-  none_fits (Contains k) (At x) n e m h = h
-  none_fits (Contains k) Nothing n e m h = h
-  none_fits (Ceiling k) r n e m h = absurd (n k refl)
 
   -- a ceiling asks for no count
   ceiling_same : (k : Key) (reply : Reply) (m : ℕ) → Fits 0 (present_at changes m) 0 (Ceiling k) reply → FitsAt (Ceiling k) reply m
@@ -121,24 +46,9 @@ module _ (changes : ℕ → List ℕ) (quota count : ℕ) where
 
 -- ---- where a call stands
 module _ (quota : ℕ) (contents : Contents) (counts : Counts) (x : TracedCall) where
-  pub stands_changed : (at : ℕ) → x.changed ≡ Some at → StandsGiven quota contents counts x (Some at)
-  stands_changed at e = inl (subst (λ o. StandsBy quota contents counts x o x.ended (Some at)) (sym e) refl)
-
   pub stands_nowhere : x.changed ≡ None → x.ended ≡ None → StandsGiven quota contents counts x None
   stands_nowhere e f = inl (subst (λ o. StandsBy quota contents counts x o x.ended None) (sym e)
       (subst (λ o. StandsBy quota contents counts x None o None) (sym f) refl))
-
-  pub stands_first : (end : ℕ × Reply) (at : ℕ) → x.changed ≡ None → x.ended ≡ Some end
-      → IsFirst (λ m. Fits quota (contents m) (counts m x.thread) x.call end.1) x.begun end.0 (Some at)
-      → StandsGiven quota contents counts x (Some at)
-  stands_first end at e f h = inl (subst (λ o. StandsBy quota contents counts x o x.ended (Some at)) (sym e)
-      (subst (λ o. StandsBy quota contents counts x None o (Some at)) (sym f)
-      (at, refl, record { from = h.0; upto = h.1; fits = h.2; least = h.3 })))
-
-  pub stands_last : (end : ℕ × Reply) → x.changed ≡ None → x.ended ≡ Some end
-      → IsFirst (λ m. Fits quota (contents m) (counts m x.thread) x.call end.1) x.begun end.0 None
-      → StandsGiven quota contents counts x (Some end.0)
-  stands_last end e f h = inr (record { end = end; ended = f; unchanged = e; fits_nowhere = h; place_is = refl })
 
 -- ---- the same with a count that is as at each moment of the call
 module _ (quota : ℕ) (contents : Contents) (n k : Counts) (x : TracedCall) where

@@ -45,10 +45,6 @@ few_kept op log (suc k) =
 abbrev UpTo : ℕ → Trace → Type 0
 UpTo k s = (j : ℕ) → All (λ x. x ≤ k) (s.changes j)
 
-upto_if : (b : Bool) (m : ℕ) (xs ys : List ℕ) → All (λ x. x ≤ m) xs → All (λ x. x ≤ m) ys → All (λ x. x ≤ m) (if b then xs else ys)
-upto_if true m xs ys f g = f
-upto_if false m xs ys f g = g
-
 upto_noted : (k t : ℕ) (c : Option Change) (s : Trace) → UpTo k s → UpTo (suc k) (noted_on (suc k) t c s)
 upto_noted k t None s h = λ j. all_upto_later (s.changes j) k (suc k) (omega arith) (h j)
 upto_noted k t (Some (x, present)) s h = λ j. by_test (is_same present (is_present s.changes x.0 (suc k))) j
