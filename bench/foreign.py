@@ -7,7 +7,7 @@ import tempfile
 from measuring import BENCH, SEED, TOP, built, heading, kinds, row
 from threads import MANY_CALLS, MANY_RUNS, MOST_QUOTA, SIZES, THREADS, medians, named, nanoseconds
 
-ENDS = (SIZES[0], SIZES[-1])
+FEW = str(SIZES[0])
 
 
 def from_c(room):
@@ -19,19 +19,19 @@ def from_c(room):
 
 
 def foreign():
-    """Nanoseconds of a call by the loops from Rattle, and how many more from C; the median of some runs in turn."""
+    """Nanoseconds of a call by the loops from Rattle, and how many more from C, on few keys, since the noise of a long walk is greater
+    than the border; the median of some runs in turn."""
     timer, tool = built("bench_calls"), built("listset")
-    heads = [(many, size) for many in THREADS for size in ENDS]
-    heading("List", *(cell for many, size in heads for cell in (f"{named(many)}, {size:,} keys", "more from C")))
+    heading("List", *(cell for many in THREADS for cell in (named(many), "more from C")))
     with tempfile.TemporaryDirectory() as room:
         program = from_c(room)
         for number, kind in enumerate(kinds(tool)):
             cells = []
-            for many, size in heads:
-                values = [str(many), MOST_QUOTA, MANY_CALLS, str(size), SEED]
+            for many in THREADS:
+                values = [str(many), MOST_QUOTA, MANY_CALLS, FEW, SEED]
                 programs = [timer, kind, "whole", *values], [program, str(number), *values]
                 loop, c = medians([nanoseconds(it)["all"] for it in programs] for _ in range(MANY_RUNS))
                 cells += f"{loop:.0f}", f"{c - loop:.1f}"
             row(kind, *cells)
         border = statistics.median(nanoseconds([program, "none", "1000000"])["all"] for _ in range(MANY_RUNS))
-        row("an empty seat", "", f"{border:.1f}", *[""] * (2 * len(heads) - 2))
+        row("an empty seat", "", f"{border:.1f}", *[""] * (2 * len(THREADS) - 2))

@@ -87,7 +87,8 @@ size_t listset_broken_example(const char *name, size_t length, char *room, size_
 /* Each line about a fault, and each cause in a sentence. */
 size_t listset_faults(char *room, size_t size, uint8_t *status);
 
-/* A seat of a set, or the keys of one that is closed, or nothing. */
+/* A seat of a set, or the keys of one that is closed, or nothing. A call writes to its seat: calls of two threads are faster where
+   their seats stand 128 bytes apart. */
 typedef struct {
   bool full;
   void *at;

@@ -117,8 +117,9 @@ struct fault : std::runtime_error {
   }
 };
 
-// A thread's place in a set, or nothing. It is moved and not copied; one thread uses it at a time.
-class seat {
+// A thread's place in a set, or nothing. It is moved and not copied; one thread uses it at a time. A call writes to it, so each has
+// lines of the cache of its own.
+class alignas(128) seat {
 public:
   seat() = default;
   seat(seat &&other) noexcept : raw(std::exchange(other.raw, listset_seat LISTSET_NONE)) {}

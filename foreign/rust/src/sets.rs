@@ -119,6 +119,7 @@ fn told(code: u8) -> Result<(), Fault> {
 /// # Ok::<(), listset::Fault>(())
 /// ```
 #[derive(Debug)]
+#[repr(align(128))] // a call writes to it, so each has lines of the cache of its own
 pub struct Seat {
     raw: Raw,
 }
