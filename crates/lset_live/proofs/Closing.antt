@@ -104,10 +104,6 @@ module _ (T : Table) (law : Lawful T) (v : View) (st : Stands T v) (sp : v.spent
   last : ws ≡ (end_of T v.shape v.seen).words
   last = closes T law k id v ws xs shape sp full final ∙ ap (λ (z : Opening). (end_of T z v.seen).words) (sym shape)
 
-  pub last_words : IsLast (record { sizes = sizes k; words = ws })
-  last_words = subst (λ (z : Opening). IsLast (record { sizes = sizes z; words = ws })) shape
-      (record { opening = v.shape; of_sizes = refl; machine = T; law = law; events = v.seen; run = st.ran; words = last })
-
   pub last_explains : RunsAreLinearizable T → (keys : List ℕ) → HasKeys (record { sizes = sizes k; words = ws }) keys →
       Explains k (record_of v.past ∷ []) keys
   last_explains linear = subst (λ (z : Opening). (keys : List ℕ) → HasKeys (record { sizes = sizes z; words = ws }) keys →

@@ -1,7 +1,7 @@
 -- The first events of a schedule: a run of more events is theirs too, and what is told of it.
 use Rattle.std.proofs.Common.{◌≡◌, ℕ, zero, suc, ◌<◌, ◌≤◌, List, [], ◌∷◌, length, take, sym, refl, subst, ap, ◌∙◌, arith}
 use Rattle.std.specs.Prelude.{Option, Some, None}
-use Rattle.std.proofs.lemmas.List.{length-take-le, take_all}
+use Rattle.std.proofs.lemmas.List.{length-take-le}
 use Rattle.lset_words.specs.declared.history.Placed.{Placed}
 use Rattle.lset_words.specs.declared.history.Point.{Point}
 use Rattle.lset_words.specs.Words.{Opening, sizes}
@@ -15,13 +15,13 @@ use Rattle.lset_report.specs.Report.{ReportValue}
 use Rattle.lset_replay.specs.declared.events.LineEvent.{LineEvent}
 use Rattle.lset_replay.specs.declared.recorder.Recorder.{Recorder}
 use Rattle.lset_replay.specs.Events.{events_of, only_events}
-use Rattle.lset_replay.specs.Reports.{IsReplay, IsReplayOf}
+use Rattle.lset_replay.specs.Reports.{IsReplayOf}
 use Rattle.lset_replay.specs.PlacedReports.{ArePointsOf}
 use Rattle.lset_replay.specs.Trace.{trace_after, trace_at}
 use Rattle.lset_replay.specs.Tracing.{EndsTrace}
 use Rattle.lset_replay.specs.Blocks.{ArePointsAt, blocks_upto}
 use Rattle.lset_replay.specs.Follows.{HasFollowed, FollowsUpto}
-use Rattle.lset_replay.specs.Fronts.{IsReplayUpto, first_events}
+use Rattle.lset_replay.specs.Fronts.{IsReplayUpto}
 use Rattle.lset_replay.proofs.Followed.{TellsKeys}
 use Rattle.lset_replay.proofs.Reported.{replay_is}
 use Rattle.lset_replay.proofs.Pointed.{points_then}
@@ -112,15 +112,3 @@ front_is T accounts p op events k refused w r order points keys h a d o at c =
           (subst (λ z. ArePointsOf T z (only_events (take k events)) r.history.calls order points) a
           (points_then T accounts op (take k events) w r front order points at));
     }
-
--- THE WHOLE of a schedule, where no event is refused
-module _ (T : Table) (p : Plan) (k : ℕ) (r : ReportValue) (points : List Point) (h : IsReplayUpto T p k None r points) where
-  all_events : first_events p k ≡ only_events (events_of p)
-  all_events = let many : k ≡ length (events_of p) = h.ends in
-      ap (λ es. only_events es) (take_all k (events_of p) (omega arith))
-
-  pub whole_replay : IsReplay T p r
-  whole_replay = subst (λ es. IsReplayOf T p es r) all_events h.report
-
-  pub whole_points : ArePointsOf T (opening_in p) (only_events (events_of p)) r.history.calls r.order points
-  whole_points = subst (λ es. ArePointsOf T (opening_in p) es r.history.calls r.order points) all_events h.points_are

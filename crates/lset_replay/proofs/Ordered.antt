@@ -79,10 +79,6 @@ one_more c false true m s ss x rest e f h g = rw e h
 one_more c false false m s ss x rest e f h g = rw e h
 
 module _ (q : ℕ) (contents : Contents) (counts : Counts) where
-  AllPlaced : List TracedCall → List (Option Linearized) → Type 0
-  AllPlaced xs ps = (length ps ≡ length xs) × ((i : ℕ) → i < length xs → PlaceOf q contents counts (traced_at xs i)
-      (place_at ps i))
-
   kind_placed : (c : Bool) (m number : ℕ) (xs : List TracedCall) (ps : List (Option Linearized)) → length ps ≡ length xs
       → ((i : ℕ) → i < length xs → PlaceOf q contents counts (traced_at xs i) (place_at ps i))
       → map placed_of (filter (of_kind c) (at_moment m (standing number xs (map moment_of ps)))) ≡ placed_at c m number ps

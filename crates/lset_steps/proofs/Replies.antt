@@ -104,9 +104,6 @@ or_false false = refl
 abbrev pub fed : Local → Option Reply → Fed
 fed l a = record { local = l; answer = a }
 
-pub fed_is : (l m : Local) (a b : Option Reply) → l ≡ m → a ≡ b → fed l a ≡ fed m b
-fed_is l m a b e f = cc
-
 -- what a begin and a step leave of the bounds of the registers
 pub registers_begun : (sz : Sizes) (t pc : ℕ) (call : Call) (l : Local) → target call < tail_word → Registers sz t l
     → Registers sz t (begun pc call l)

@@ -2,7 +2,7 @@
 use Rattle.std.specs.Prelude.{◌≡◌, ℕ, ◌+◌, ◌*◌, ◌<◌, ◌≤◌}
 use Rattle.std.proofs.Common.{arith, ap}
 use Rattle.lset_words.specs.declared.TheConstants.{MOST_THREADS, MOST_QUOTA, MOST_OPENING, MOST_NODES}
-use Rattle.lset_words.specs.Words.{Sizes, IsWithin, Opens, sizes, empty, node_count, slot_node}
+use Rattle.lset_words.specs.Words.{Sizes, IsWithin, Opens, sizes, empty, node_count}
 
 pub few_nodes : (threads quota opening : ℕ) → threads ≤ MOST_THREADS → quota ≤ MOST_QUOTA → opening ≤ MOST_OPENING
     → 2 + threads * quota + opening ≤ MOST_NODES
@@ -11,12 +11,6 @@ few_nodes threads quota opening few small opens =
 
 pub nodes_within : (s : Sizes) → IsWithin s → node_count s ≤ MOST_NODES
 nodes_within s w = few_nodes s.threads s.quota s.opening w.few w.small w.opens
-
--- a slot is among the nodes
-pub slot_inside : (threads quota opening thread slot : ℕ) → thread < threads → slot < quota
-    → slot_node quota thread slot < 2 + threads * quota + opening
-slot_inside threads quota opening thread slot below j =
-    let row : thread * quota + slot < threads * quota = grind arith in omega arith
 
 -- a number has one row and one place in it
 pub row_once : (quota t u i j : ℕ) → i < quota → j < quota → t * quota + i ≡ u * quota + j → (t ≡ u) × (i ≡ j)
