@@ -3,8 +3,8 @@
 how many lines of them each promise stands on, and the crates.
 
 A contract is public where a library's root file gives its function, type or trait to other crates. From the names in its clauses the
-definitions of specs/ (and of proofs/, where a definition stands there) are followed, name by name. Lemmas are not followed: the check
-proves them.
+definitions of specs/ are followed, name by name. Lemmas are not followed: the check proves them. One of proofs/ that is reached is a
+fault: what is to be believed stands in specs/.
 
     .ci/made_believe.py --list    prints each file with the names in it that are to be believed, and those that are not
 """
@@ -356,6 +356,9 @@ def file_faults():
     told = {file for _, file, *_ in entries()}
     for file in sorted(set(names) - told):
         few = ", ".join(names[file][:6]) + (" .." if len(names[file]) > 6 else "")
+        if "/proofs/" in file:
+            yield f"would have to name {file}, where public contracts reach {few}: move that to specs/"
+            continue
         yield f"does not say that {file} is to be believed, where public contracts reach {few}: give it a line in .ci/believed.txt"
     for file in sorted(told):
         if not (TOP / "crates" / file).exists():

@@ -18,8 +18,8 @@ use Rattle.lset_rule.specs.Seats.{TableSeat, IsOf, IsSeat, MayCall, HasCalled}
 use Rattle.lset_rule.specs.declared.slots.OwnSlots.{OwnSlots}
 use Rattle.lset_rule.specs.OwnSlots.{slots_of, resting}
 use Rattle.lset_rule.specs.Views.{IsOpen, Stands}
-use Rattle.lset_rule.specs.Calls.{Goes, Starts, Makes}
-use Rattle.lset_rule.proofs.Calls.{IsMid, comes_first, comes_next, is_mid, mid_open}
+use Rattle.lset_rule.specs.Calls.{Goes, Starts, IsMid, Makes}
+use Rattle.lset_rule.proofs.Calls.{comes_first, comes_next, is_mid, mid_open}
 use Rattle.lset_rule.proofs.Keeps.{stands_at, in_words}
 use Rattle.lset_caller.specs.Begun.{Begun, begun_at, IsCall}
 use Rattle.lset_caller.specs.Calling.{Holds, MayStep, HasStepped, MayLock, MayAnswer, Answered, HasTold, MayBegin, first, Rest, row}

@@ -17,8 +17,7 @@ use Rattle.lset_rule.specs.declared.slots.OwnSlots.{OwnSlots}
 use Rattle.lset_rule.specs.Seats.{TableSeat, MayCall}
 use Rattle.lset_rule.specs.OwnSlots.{slots_of, resting}
 use Rattle.lset_rule.specs.Views.{Stands}
-use Rattle.lset_rule.specs.Calls.{Makes}
-use Rattle.lset_rule.proofs.Calls.{IsMid}
+use Rattle.lset_rule.specs.Calls.{IsMid, Makes}
 use Rattle.lset_caller.specs.Begun.{Begun, begun_at}
 
 -- THE THREAD HOLDS l: a call of the machine m has begun so, has not answered yet, and its seat is s now.

@@ -4,15 +4,9 @@ use Rattle.std.proofs.Common.{arith}
 use Rattle.std.specs.Prelude.{Option, Some, None, ◌==◌}
 use Rattle.lset_words.proofs.Numbers.{below_or_not, same_number, equal_test}
 use Rattle.lset_words.specs.Account.{Content, IsCeiling}
-use Rattle.lset_history.specs.Changes.{IsFirst, is_present, state_at, IsBounded}
-use Rattle.lset_history.proofs.Firsts.{first_passing, first_passing_is, one_first}
+use Rattle.lset_history.specs.Changes.{IsFirst, is_present, state_at, IsBounded, first_passing, same_key, least_present, has_ceiling}
+use Rattle.lset_history.proofs.Firsts.{first_passing_is, one_first}
 use Rattle.lset_history.proofs.Raises.{CeilingAt}
-
-abbrev pub same_key : Option ℕ → Option ℕ → Bool
-same_key None None = true
-same_key None (Some b) = false
-same_key (Some a) None = false
-same_key (Some a) (Some b) = a == b
 
 same_key_is : (a b : Option ℕ) → same_key a b ≡ true → a ≡ b
 same_key_is None None e = refl
@@ -28,13 +22,6 @@ same_key_same (Some a) (Some b) e = equal_test a b (some_is a b e)
   where
     some_is : (a b : ℕ) → Some a ≡ Some b → a ≡ b
     some_is a b e = cc
-
--- the least key at or above one that is there at a moment
-abbrev pub least_present : (ℕ → List ℕ) → ℕ → ℕ → Option ℕ
-least_present changes key m = first_passing true (λ j. is_present changes j m) key (4294967295 - key)
-
-abbrev pub has_ceiling : (ℕ → List ℕ) → ℕ → Option ℕ → ℕ → Bool
-has_ceiling changes key found m = same_key (least_present changes key m) found
 
 module _ (changes : ℕ → List ℕ) (bounded : IsBounded changes) (key : ℕ) where
   from_first : (m : ℕ) (o : Option ℕ) → IsFirst (λ j. is_present changes j m ≡ true) key (key + (4294967295 - key)) o →

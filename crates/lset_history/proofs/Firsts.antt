@@ -1,16 +1,7 @@
 -- The first moment of a call at which a fact holds, kept from moment to moment.
-use Rattle.std.proofs.Common.{◌≡◌, ℕ, zero, suc, ◌+◌, ◌<◌, ◌≤◌, ◌⊎◌, inl, inr, Bool, true, false, not, refl, ap, subst, arith}
-use Rattle.std.specs.Prelude.{Option, Some, None, if◌then◌else◌}
-use Rattle.lset_history.specs.Changes.{IsFirst}
-
--- the first moment from `first` on, among itself and so many after it, at which a test answers as asked
-abbrev pub is_same : Bool → Bool → Bool
-is_same true b = b
-is_same false b = not b
-
-abbrev pub first_passing : Bool → (ℕ → Bool) → ℕ → ℕ → Option ℕ
-first_passing asked f first zero = if is_same asked (f first) then Some first else None
-first_passing asked f first (suc n) = if is_same asked (f first) then Some first else first_passing asked f (suc first) n
+use Rattle.std.proofs.Common.{◌≡◌, ℕ, zero, suc, ◌+◌, ◌<◌, ◌≤◌, ◌⊎◌, inl, inr, Bool, true, false, refl, ap, subst, arith}
+use Rattle.std.specs.Prelude.{Option, Some, None}
+use Rattle.lset_history.specs.Changes.{IsFirst, is_same, first_passing}
 
 same_or_not : (asked b : Bool) → ((is_same asked b ≡ true) × (b ≡ asked)) ⊎ ((is_same asked b ≡ false) × (b ≡ asked → ⊥))
 same_or_not true true = inl (refl, refl)

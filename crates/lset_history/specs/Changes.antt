@@ -1,5 +1,5 @@
 -- When keys were put in and taken out, and the first moment at which a key is there, or is not.
-use Rattle.std.specs.Prelude.{◌≡◌, ◌^◌, ℕ, ◌<◌, ◌≤◌, ◌==◌, length, map, slice_index, nat_lt, Bool, true, false, IsTrue, not}
+use Rattle.std.specs.Prelude.{◌≡◌, ◌^◌, ℕ, zero, suc, ◌-◌, ◌<◌, ◌≤◌, ◌==◌, length, map, slice_index, nat_lt, Bool, true, false, IsTrue, not}
 use Rattle.std.specs.Prelude.{if◌then◌else◌, List, [], ◌∷◌, ◌++◌, All, Option, Some, None, Vec}
 use Rattle.std.specs.declared.alloc.Global.{Global}
 use Rattle.std.specs.List.Sorted.{IsStrictlyIncreasing}
@@ -62,6 +62,28 @@ with_change changes key moment k = if k == key then changes k ++ moment ∷ [] e
 abbrev pub IsFirst : (ℕ → Type 0) → ℕ → ℕ → Option ℕ → Type 0
 IsFirst P first last None = (m : ℕ) → first ≤ m → m ≤ last → P m → ⊥
 IsFirst P first last (Some k) = (first ≤ k) × (k ≤ last) × P k × ((m : ℕ) → first ≤ m → m < k → P m → ⊥)
+
+-- the same by a test: the first moment from one on, among itself and so many after it, at which the test answers as asked
+abbrev pub is_same : Bool → Bool → Bool
+is_same true b = b
+is_same false b = not b
+
+abbrev pub first_passing : Bool → (ℕ → Bool) → ℕ → ℕ → Option ℕ
+first_passing asked f first zero = if is_same asked (f first) then Some first else None
+first_passing asked f first (suc n) = if is_same asked (f first) then Some first else first_passing asked f (suc first) n
+
+-- whether a key, or none, is the least one at or above another that is there at a moment, where all keys are below 2^32
+abbrev pub same_key : Option ℕ → Option ℕ → Bool
+same_key None None = true
+same_key None (Some b) = false
+same_key (Some a) None = false
+same_key (Some a) (Some b) = a == b
+
+abbrev pub least_present : (ℕ → List ℕ) → ℕ → ℕ → Option ℕ
+least_present changes key m = first_passing true (λ j. is_present changes j m) key (4294967295 - key)
+
+abbrev pub has_ceiling : (ℕ → List ℕ) → ℕ → Option ℕ → ℕ → Bool
+has_ceiling changes key found m = same_key (least_present changes key m) found
 
 -- what is kept
 abbrev pub changes_in : List ℕ → BTreeMap ℕ (Vec ℕ Global) → ChangesValue

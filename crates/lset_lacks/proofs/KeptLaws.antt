@@ -9,9 +9,8 @@ use Rattle.lset_words.specs.Log.{Log, Entry, Change}
 use Rattle.lset_words.specs.Log.Entry.{began, stepped}
 use Rattle.lset_words.specs.Words.{Opening}
 use Rattle.std.proofs.lemmas.List.Elements.{All-get_or, All-from_get_or}
-use Rattle.lset_history.specs.Changes.{is_present, is_present_now, with_change}
+use Rattle.lset_history.specs.Changes.{is_present, is_present_now, is_same, with_change}
 use Rattle.lset_history.proofs.ChangeLaws.{all_upto_later, all_upto_change, all_below, present_past}
-use Rattle.lset_replay.specs.Blocks.{is_same}
 use Rattle.lset_replay.specs.Trace.{Trace, kept_by}
 use Rattle.lset_replay.proofs.OpenedChanges.{opened_upto}
 use Rattle.lset_lacks.specs.Keeping.{closed_on, kept_after, noted_on}

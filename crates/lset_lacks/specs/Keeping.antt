@@ -8,9 +8,8 @@ use Rattle.lset_words.specs.Log.{Entry, Change}
 use Rattle.lset_words.specs.Log.Entry.{began, stepped}
 use Rattle.lset_words.specs.Words.{Opening}
 use Rattle.lset_history.specs.History.{MayBegin, ended_with}
-use Rattle.lset_history.specs.Changes.{is_present, with_change}
+use Rattle.lset_history.specs.Changes.{is_present, is_same, with_change}
 use Rattle.lset_replay.specs.declared.places.OpenCall.{OpenCall}
-use Rattle.lset_replay.specs.Blocks.{is_same}
 use Rattle.lset_replay.specs.Trace.{MayStep, Trace, begun_on, changed_at, fit_of, number_of, open_call_at, place_at, settled}
 
 -- a key is put in or taken out at a moment, unless it is so then

@@ -9,9 +9,9 @@ use Rattle.lset_words.specs.Words.{key_of}
 use Rattle.lset_words.specs.Log.{TracedCall}
 use Rattle.lset_words.specs.Account.{Contents, Counts, Fits, FitsSometime, IsCeiling}
 use Rattle.lset_words.specs.Placement.{IsLeastFit}
-use Rattle.lset_history.specs.Changes.{IsFirst, is_present, IsBounded}
-use Rattle.lset_history.proofs.Firsts.{first_passing, first_passing_is}
-use Rattle.lset_history.proofs.CeilingTests.{has_ceiling, tested, passes_test, ceiling_by}
+use Rattle.lset_history.specs.Changes.{IsFirst, first_passing, has_ceiling, is_present, IsBounded}
+use Rattle.lset_history.proofs.Firsts.{first_passing_is}
+use Rattle.lset_history.proofs.CeilingTests.{tested, passes_test, ceiling_by}
 use Rattle.lset_words.specs.declared.Key.{Key}
 use Rattle.lset_replay.specs.Trace.{needs_key, found_in, fit_by}
 use Rattle.lset_replay.proofs.KeyChanges.{Tells, told_yes, told_no}

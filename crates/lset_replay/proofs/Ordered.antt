@@ -15,7 +15,8 @@ use Rattle.lset_history.proofs.Calls.{Traced, ChangedBy, EndedBy}
 use Rattle.lset_history.proofs.CallSteps.{run_of, calls_of}
 use Rattle.lset_replay.specs.declared.places.Linearized.{Linearized}
 use Rattle.lset_replay.specs.Trace.{trace_at, place_at}
-use Rattle.lset_replay.specs.Blocks.{placed_at, block_at, blocks_upto, is_same, StandUpTo}
+use Rattle.lset_history.specs.Changes.{is_same}
+use Rattle.lset_replay.specs.Blocks.{placed_at, block_at, blocks_upto, StandUpTo}
 use Rattle.lset_replay.proofs.KeyChanges.{HoldsKeys}
 use Rattle.lset_replay.proofs.Following.{Follows, PlaceBy, PlaceOf}
 use Rattle.lset_replay.proofs.Ready.{follows}

@@ -13,7 +13,8 @@ use Rattle.lset_words.proofs.Numbers.{same_or_not, equal_test, unequal_test}
 use Rattle.lset_words.specs.declared.history.Placed.{Placed}
 use Rattle.lset_replay.specs.declared.order.Ranked.{Ranked}
 use Rattle.lset_replay.specs.declared.places.Linearized.{Linearized}
-use Rattle.lset_replay.specs.Blocks.{placed_at, block_at, blocks_upto, is_same, rank_at, ranked_from, StandUpTo}
+use Rattle.lset_history.specs.Changes.{is_same}
+use Rattle.lset_replay.specs.Blocks.{placed_at, block_at, blocks_upto, rank_at, ranked_from, StandUpTo}
 use Rattle.lset_replay.specs.Trace.{place_at}
 
 abbrev pub placed_in : List Ranked → List Placed

@@ -1,17 +1,14 @@
 -- The order of placement, from the place of each call.
-use Rattle.std.specs.Prelude.{◌≡◌, ℕ, zero, suc, ◌+◌, ◌*◌, ◌/◌, ◌%◌, ◌<◌, ◌≤◌, ◌==◌, ◌&&◌, Bool, true, false, not, if◌then◌else◌}
+use Rattle.std.specs.Prelude.{◌≡◌, ℕ, zero, suc, ◌+◌, ◌*◌, ◌/◌, ◌%◌, ◌<◌, ◌≤◌, ◌==◌, ◌&&◌, Bool, true, false, if◌then◌else◌}
 use Rattle.std.specs.Prelude.{List, [], ◌∷◌, ◌++◌, length, Option, Some, None, IfSome}
 use Rattle.std.specs.List.Sorted.{IsNonDecreasingBy}
 use Rattle.lset_words.specs.declared.history.Placed.{Placed}
 use Rattle.lset_words.specs.declared.history.Point.{Point}
 use Rattle.lset_words.specs.Points.{place_numbered, point_numbered, moment_of}
+use Rattle.lset_history.specs.Changes.{is_same}
 use Rattle.lset_replay.specs.declared.order.Ranked.{Ranked}
 use Rattle.lset_replay.specs.declared.places.Linearized.{Linearized}
 use Rattle.lset_replay.specs.Trace.{place_at}
-
-abbrev pub is_same : Bool → Bool → Bool
-is_same true b = b
-is_same false b = not b
 
 -- the calls that stand at a moment, those that change something there or the others, by their numbers
 abbrev pub placed_at : Bool → ℕ → ℕ → List (Option Linearized) → List Placed

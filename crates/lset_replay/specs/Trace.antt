@@ -12,8 +12,7 @@ use Rattle.lset_words.specs.Log.Entry.{began, stepped}
 use Rattle.lset_words.specs.Words.{Opening}
 use Rattle.lset_history.specs.History.{HistoryValue, MayBegin, MayEnd, ended_with}
 use Rattle.lset_history.specs.Changes.{moments_of, opened_moments, is_present, is_present_now, with_change, IsLaterThanAll}
-use Rattle.lset_history.proofs.Firsts.{first_passing}
-use Rattle.lset_history.proofs.CeilingTests.{has_ceiling}
+use Rattle.lset_history.specs.Changes.{first_passing, has_ceiling}
 use Rattle.lset_steps.specs.declared.Event.{Event}
 use Rattle.lset_steps.specs.declared.Event.TheVariants as event
 use Rattle.lset_steps.specs.declared.Told.{Told}

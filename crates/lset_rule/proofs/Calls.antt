@@ -17,21 +17,11 @@ use Rattle.lset_words.specs.Words.{target, tail_word}
 use Rattle.lset_rule.specs.Pasts.{called}
 use Rattle.lset_rule.specs.Runs.{own, under_after}
 use Rattle.lset_rule.specs.Views.{Stands, IsIdle, IsOpen}
-use Rattle.lset_rule.specs.Calls.{Same, Makes, Goes, Starts, gone_view, begun_view, record_after}
+use Rattle.lset_rule.specs.Calls.{Same, IsMid, Makes, Goes, Starts, gone_view, begun_view, record_after}
 use Rattle.lset_rule.specs.Runs.{StartsWith}
 use Rattle.lset_rule.proofs.Keeps.{IsAt}
 use Rattle.lset_rule.proofs.Runs.{starts_more}
 use Rattle.lset_rule.proofs.Keeps.{begun_at, stands_at}
-
--- from the view v on, the call c has begun, after all that v had seen, and goes on
-pub record IsMid (c : Call) (v w : View) : Type 0 where
-  pub log : List Event
-  pub before : StartsWith log v.seen
-  pub since : StartsWith w.seen (log ++ Begin v.thread c ∷ [])
-  pub steps : ℕ
-  pub under : w.under ≡ Some (record { call = c; begun = length log + 1; steps = steps })
-  pub past : w.past ≡ v.past
-  pub same : Same v w
 
 -- what a call knows after each of its steps
 abbrev pub Comes : Table → Call → View → Fed → View → Type 0

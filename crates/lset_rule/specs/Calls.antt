@@ -62,6 +62,16 @@ abbrev pub Same : View → View → Type 0
 Same v w = (w.spent ≡ v.spent) × (w.shape ≡ v.shape) × (w.thread ≡ v.thread) × (w.others ≡ v.others)
     × (w.ours ≡ v.ours) × (w.theirs ≡ v.theirs)
 
+-- A CALL UNDER WAY: from the view v on c has begun, after all that v had seen, and goes on.
+pub record IsMid (c : Call) (v w : View) : Type 0 where
+  pub log : List Event
+  pub before : StartsWith log v.seen
+  pub since : StartsWith w.seen (log ++ Begin v.thread c ∷ [])
+  pub steps : ℕ
+  pub under : w.under ≡ Some (record { call = c; begun = length log + 1; steps = steps })
+  pub past : w.past ≡ v.past
+  pub same : Same v w
+
 -- A WHOLE CALL: c was made, and answered r. It began after all that v had seen, its last step is the last event, and the record
 -- grew by just this call.
 pub record Makes (m : Table) (c : Call) (v : View) (r : Reply) (w : View) : Type 0 where

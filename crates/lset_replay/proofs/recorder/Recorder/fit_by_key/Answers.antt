@@ -1,7 +1,7 @@
 use Rattle.std.proofs.Common.{◌≡◌, ◌-◌, arith, rules, sym, ◌∙◌}
 use Rattle.lset_words.specs.Words.{key_of}
-use Rattle.lset_history.specs.Changes.{is_present, moments_of}
-use Rattle.lset_history.proofs.Firsts.{first_passing, one_first, first_passing_is}
+use Rattle.lset_history.specs.Changes.{first_passing, is_present, moments_of}
+use Rattle.lset_history.proofs.Firsts.{one_first, first_passing_is}
 use Rattle.lset_replay.specs.Trace.{needs_key}
 use Rattle.lset_replay.proofs.LeastFits.{plain_fit}
 use Rattle.lset_replay.proofs.recorder.Recorder.fit_by_key.Goals as goal
