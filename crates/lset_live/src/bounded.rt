@@ -78,11 +78,8 @@ impl Bounded for LazyList {
         pause: &P,
     ) -> Option<(OwnSlots, Reply)> {
         match call {
-            Call::Add(key) => {
-                lset_loops::lazy_add_within::<P, N>(table, place, slots, key, pause)
-            }
-            Call::Remove(key) => {
-                lset_loops::lazy_remove_within::<P, N>(table, place, slots, key, pause)
+            Call::Add(_) | Call::Remove(_) => {
+                lset_loops::lazy_change_within::<P, N>(table, place, slots, call, pause)
             }
             Call::Contains(key) => Some(lset_loops::contains_on::<Self, P>(
                 table, place, slots, key, pause,
@@ -101,11 +98,8 @@ impl Bounded for LockFreeList {
         pause: &P,
     ) -> Option<(OwnSlots, Reply)> {
         match call {
-            Call::Add(key) => {
-                lset_loops::lock_free_add_within::<P, N>(table, place, slots, key, pause)
-            }
-            Call::Remove(key) => {
-                lset_loops::lock_free_remove_within::<P, N>(table, place, slots, key, pause)
+            Call::Add(_) | Call::Remove(_) => {
+                lset_loops::lock_free_change_within::<P, N>(table, place, slots, call, pause)
             }
             Call::Contains(key) => Some(lset_loops::contains_on::<Self, P>(
                 table, place, slots, key, pause,

@@ -168,82 +168,30 @@ impl Running for OptimisticList {
 }
 
 impl Running for LazyList {
-    fn add_on<R: Wait, P: Pause>(
+    fn make_on<R: Wait, P: Pause>(
         rt: &R,
         table: &Words<Self>,
         place: &mut TableSeat,
         slots: OwnSlots,
-        key: Key,
+        call: Call,
         pause: &P,
     ) -> (OwnSlots, Reply) {
-        let answer = lset_loops::lazy_add_within::<P, Countless>(table, place, slots, key, pause);
+        let answer = Self::make_within::<P, Countless>(table, place, slots, call, pause);
         or_wait_forever(rt, answer)
-    }
-
-    fn remove_on<R: Wait, P: Pause>(
-        rt: &R,
-        table: &Words<Self>,
-        place: &mut TableSeat,
-        slots: OwnSlots,
-        key: Key,
-        pause: &P,
-    ) -> (OwnSlots, Reply) {
-        let answer = lset_loops::lazy_remove_within::<P, Countless>(
-            table, place, slots, key, pause,
-        );
-        or_wait_forever(rt, answer)
-    }
-
-    fn contains_on<R: Wait, P: Pause>(
-        _rt: &R,
-        table: &Words<Self>,
-        place: &mut TableSeat,
-        slots: OwnSlots,
-        key: Key,
-        pause: &P,
-    ) -> (OwnSlots, Reply) {
-        lset_loops::contains_on::<Self, P>(table, place, slots, key, pause)
     }
 }
 
 impl Running for LockFreeList {
-    fn add_on<R: Wait, P: Pause>(
+    fn make_on<R: Wait, P: Pause>(
         rt: &R,
         table: &Words<Self>,
         place: &mut TableSeat,
         slots: OwnSlots,
-        key: Key,
+        call: Call,
         pause: &P,
     ) -> (OwnSlots, Reply) {
-        let answer = lset_loops::lock_free_add_within::<P, Countless>(
-            table, place, slots, key, pause,
-        );
+        let answer = Self::make_within::<P, Countless>(table, place, slots, call, pause);
         or_wait_forever(rt, answer)
-    }
-
-    fn remove_on<R: Wait, P: Pause>(
-        rt: &R,
-        table: &Words<Self>,
-        place: &mut TableSeat,
-        slots: OwnSlots,
-        key: Key,
-        pause: &P,
-    ) -> (OwnSlots, Reply) {
-        let answer = lset_loops::lock_free_remove_within::<P, Countless>(
-            table, place, slots, key, pause,
-        );
-        or_wait_forever(rt, answer)
-    }
-
-    fn contains_on<R: Wait, P: Pause>(
-        _rt: &R,
-        table: &Words<Self>,
-        place: &mut TableSeat,
-        slots: OwnSlots,
-        key: Key,
-        pause: &P,
-    ) -> (OwnSlots, Reply) {
-        lset_loops::contains_on::<Self, P>(table, place, slots, key, pause)
     }
 }
 

@@ -1,6 +1,5 @@
 //! LazyList: a node is marked before it is taken out, so a walk takes no lock, and a call looks at its two nodes once it has
 //! locked them.
-ghost use Rattle.lset_words.specs.declared.Call.TheVariants.{Add, Remove};
 ghost use Rattle.lset_steps.specs.ReadRows.{first_row};
 ghost use Rattle.std.specs.Prelude.{◌≡◌, IfSome};
 ghost use Rattle.lset_lazy.specs.Lazy.{lazy};
@@ -12,7 +11,7 @@ ghost use Rattle.lset_loops.specs.Lazy.{AreNeighbours, AtKey, HasLocked, HasVali
 use lset_caller::{Caller, Decision, Found, Node, Origin, decide, one_more};
 use lset_lazy::LazyList;
 use lset_rule::{OwnSlots, Pause, Rounds, TableSeat, Words};
-use lset_words::{Call, Key, Reply};
+use lset_words::{Call, Reply};
 use std::marker::{Brand, PhantomData};
 
 /// Walks from the head, whose link led to `first`, to the first key that is not below that of the call.
@@ -126,32 +125,19 @@ fn make<O: Origin, P: Pause, N: Rounds>(
     None
 }
 
-/// Makes a whole `add` of `key` to a LazyList: it walks to its place without a lock, locks the two nodes there, looks
+/// Makes a whole `add` or `remove` on a LazyList: it walks to its place without a lock, locks the two nodes there, looks
 /// whether they are still neighbours in the list, and acts, or gives them back and starts over. (Herlihy and Shavit's lazy
 /// list, after Heller and others.) `None` where a loop of it has made `N::MOST` rounds.
-pub fn lazy_add_within<P: Pause, N: Rounds>(
+pub fn lazy_change_within<P: Pause, N: Rounds>(
     table: &Words<LazyList>,
     place: &mut TableSeat,
     slots: OwnSlots,
-    key: Key,
+    call: Call,
     pause: &P,
 ) -> Option<(OwnSlots, Reply)>
-    requires { MayCall lazy table.now.table_id table.now.key slots place.old }
-    ensures { IfSome result (λ r. HasCalled lazy (Add key) place.old r place.new) }
+    requires may { MayCall lazy table.now.table_id table.now.key slots place.old }
+    requires changes { first_row call ≡ 1 }
+    ensures { IfSome result (λ r. HasCalled lazy call place.old r place.new) }
 {
-    make::<Brand, P, N>(table, place, slots, Call::Add(key), pause)
-}
-
-/// Makes a whole `remove` of `key`, as [`lazy_add_within`] an `add`.
-pub fn lazy_remove_within<P: Pause, N: Rounds>(
-    table: &Words<LazyList>,
-    place: &mut TableSeat,
-    slots: OwnSlots,
-    key: Key,
-    pause: &P,
-) -> Option<(OwnSlots, Reply)>
-    requires { MayCall lazy table.now.table_id table.now.key slots place.old }
-    ensures { IfSome result (λ r. HasCalled lazy (Remove key) place.old r place.new) }
-{
-    make::<Brand, P, N>(table, place, slots, Call::Remove(key), pause)
+    make::<Brand, P, N>(table, place, slots, call, pause)
 }

@@ -10,6 +10,6 @@ mod lazy;
 mod lock_free;
 mod reads;
 
-pub use lazy::{lazy_add_within, lazy_remove_within};
-pub use lock_free::{lock_free_add_within, lock_free_remove_within};
+pub use lazy::lazy_change_within;
+pub use lock_free::lock_free_change_within;
 pub use reads::{ReadsByRows, contains_now_on, contains_on};

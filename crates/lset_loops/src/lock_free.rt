@@ -1,6 +1,5 @@
 //! LockFreeList: no locks. A node is marked by an exchange of its link, and walks take marked nodes out.
 ghost use Rattle.std.specs.Prelude.{◌≡◌, IfSome};
-ghost use Rattle.lset_words.specs.declared.Call.TheVariants.{Add, Remove};
 ghost use Rattle.lset_steps.specs.ReadRows.{first_row};
 ghost use Rattle.lset_lock_free.specs.LockFree.{lock_free};
 ghost use Rattle.lset_rule.specs.Seats.{HasCalled, MayCall};
@@ -11,7 +10,7 @@ ghost use Rattle.lset_loops.specs.LockFree.{AtLink, HasTried, StopsAt};
 use lset_caller::{Caller, Decision, Found, Node, Origin, decide, one_more};
 use lset_lock_free::LockFreeList;
 use lset_rule::{OwnSlots, Pause, Rounds, TableSeat, Words};
-use lset_words::{Call, Key, Reply};
+use lset_words::{Call, Reply};
 use std::marker::{Brand, PhantomData};
 
 /// Walks from the head, whose link led to `first`, to the first key that is not below that of the call, and takes marked
@@ -114,32 +113,19 @@ fn make<O: Origin, P: Pause, N: Rounds>(
     None
 }
 
-/// Makes a whole `add` of `key` to a LockFreeList: it walks to its place and puts its next slot in there, or starts over
-/// where the link has changed. (Herlihy and Shavit's lock-free list.) `None` where a loop of it has made `N::MOST` rounds.
-pub fn lock_free_add_within<P: Pause, N: Rounds>(
+/// Makes a whole `add` or `remove` on a LockFreeList: it walks to its place, and puts its next slot in there, or marks the
+/// node and tries once to take it out; or starts over where a link has changed. (Herlihy and Shavit's lock-free list.)
+/// `None` where a loop of it has made `N::MOST` rounds.
+pub fn lock_free_change_within<P: Pause, N: Rounds>(
     table: &Words<LockFreeList>,
     place: &mut TableSeat,
     slots: OwnSlots,
-    key: Key,
+    call: Call,
     pause: &P,
 ) -> Option<(OwnSlots, Reply)>
-    requires { MayCall lock_free table.now.table_id table.now.key slots place.old }
-    ensures { IfSome result (λ r. HasCalled lock_free (Add key) place.old r place.new) }
+    requires may { MayCall lock_free table.now.table_id table.now.key slots place.old }
+    requires changes { first_row call ≡ 1 }
+    ensures { IfSome result (λ r. HasCalled lock_free call place.old r place.new) }
 {
-    make::<Brand, P, N>(table, place, slots, Call::Add(key), pause)
-}
-
-/// Makes a whole `remove` of `key`: it marks the node, or starts over where its link has changed, and tries once to take it
-/// out. `None` as that of [`lock_free_add_within`].
-pub fn lock_free_remove_within<P: Pause, N: Rounds>(
-    table: &Words<LockFreeList>,
-    place: &mut TableSeat,
-    slots: OwnSlots,
-    key: Key,
-    pause: &P,
-) -> Option<(OwnSlots, Reply)>
-    requires { MayCall lock_free table.now.table_id table.now.key slots place.old }
-    ensures { IfSome result (λ r. HasCalled lock_free (Remove key) place.old r place.new) }
-{
-    make::<Brand, P, N>(table, place, slots, Call::Remove(key), pause)
+    make::<Brand, P, N>(table, place, slots, call, pause)
 }

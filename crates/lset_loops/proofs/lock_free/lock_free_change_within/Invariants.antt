@@ -1,5 +1,5 @@
 use Rattle.lset_caller.specs.Begun.{begun_at}
-use Rattle.lset_loops.proofs.lock_free.lock_free_add_within.Given as goal
+use Rattle.lset_loops.proofs.lock_free.lock_free_change_within.Given as goal
 
 abbrev pub ghosts-make : goal.ghosts-make
 ghosts-make g a = record { begun = begun_at a.call a.place.now }
