@@ -297,7 +297,7 @@ fn make<O: Origin, P: Pause, N: Rounds>(
 }` },
   ],
   "crates/lset_loops/src/lazy.rt": [
-    { name: "walk", first: 18, steps: [{"line": 32, "rows": [2]}, {"line": 36, "rows": [3]}], calls: [], text: `
+    { name: "walk", first: 17, steps: [{"line": 31, "rows": [2]}, {"line": 35, "rows": [3]}], calls: [], text: `
 /// Walks from the head, whose link led to \`first\`, to the first key that is not below that of the call.
 #[inline(always)]
 fn walk<O: Origin, P: Pause, N: Rounds>(
@@ -322,7 +322,7 @@ fn walk<O: Origin, P: Pause, N: Rounds>(
     }
     None
 }` },
-    { name: "validate", first: 43, steps: [{"line": 52, "rows": [6]}, {"line": 56, "rows": [7]}], calls: [], text: `
+    { name: "validate", first: 42, steps: [{"line": 51, "rows": [6]}, {"line": 55, "rows": [7]}], calls: [], text: `
 /// Whether \`pred\` leads to \`curr\`, and neither has a mark: then the answer is the node behind \`curr\`.
 fn validate<O: Origin, P: Pause>(
     caller: &Caller<LazyList, O, P>,
@@ -342,7 +342,7 @@ fn validate<O: Origin, P: Pause>(
     }
     Some(Node::behind(after))
 }` },
-    { name: "act", first: 63, steps: [{"line": 75, "rows": [8, 9, 10]}, {"line": 79, "rows": [11]}, {"line": 80, "rows": [12]}], calls: [], text: `
+    { name: "act", first: 62, steps: [{"line": 74, "rows": [8, 9, 10]}, {"line": 78, "rows": [11]}, {"line": 79, "rows": [12]}], calls: [], text: `
 /// Does what the call does at the key that was found, between two nodes that it has locked.
 fn act<O: Origin, P: Pause>(
     caller: &Caller<LazyList, O, P>,
@@ -366,7 +366,7 @@ fn act<O: Origin, P: Pause>(
         Decision::Answer(reply) => (caller.slots, reply),
     }
 }` },
-    { name: "make", first: 87, steps: [{"line": 107, "rows": [1], "begins": true, "answers": false}, {"line": 110, "rows": [4]}, {"line": 111, "rows": [5]}, {"line": 115, "rows": [13], "begins": false, "answers": true}, {"line": 116, "rows": [14], "begins": false, "answers": true}, {"line": 120, "rows": [13], "begins": false, "answers": false}, {"line": 121, "rows": [14], "begins": false, "answers": false}, {"line": 122, "rows": [1], "begins": false, "answers": false}], calls: [[109, "walk"], [112, "validate"], [114, "act"]], text: `
+    { name: "make", first: 86, steps: [{"line": 106, "rows": [1], "begins": true, "answers": false}, {"line": 109, "rows": [4]}, {"line": 110, "rows": [5]}, {"line": 114, "rows": [13], "begins": false, "answers": true}, {"line": 115, "rows": [14], "begins": false, "answers": true}, {"line": 119, "rows": [13], "begins": false, "answers": false}, {"line": 120, "rows": [14], "begins": false, "answers": false}, {"line": 121, "rows": [1], "begins": false, "answers": false}], calls: [[108, "walk"], [111, "validate"], [113, "act"]], text: `
 fn make<O: Origin, P: Pause, N: Rounds>(
     table: &Words<LazyList>,
     place: &mut TableSeat,
@@ -449,7 +449,7 @@ fn make<M: ReadsByRows, O: Origin, P: Pause>(
 }` },
   ],
   "crates/lset_loops/src/lock_free.rt": [
-    { name: "find", first: 17, steps: [{"line": 31, "rows": [2]}, {"line": 34, "rows": [3]}, {"line": 40, "rows": [1], "begins": false, "answers": false}, {"line": 43, "rows": [4]}], calls: [], text: `
+    { name: "find", first: 16, steps: [{"line": 30, "rows": [2]}, {"line": 33, "rows": [3]}, {"line": 39, "rows": [1], "begins": false, "answers": false}, {"line": 42, "rows": [4]}], calls: [], text: `
 /// Walks from the head, whose link led to \`first\`, to the first key that is not below that of the call, and takes marked
 /// nodes out on its way (Herlihy and Shavit's \`find\`).
 fn find<O: Origin, P: Pause, N: Rounds>(
@@ -486,7 +486,7 @@ fn find<O: Origin, P: Pause, N: Rounds>(
     }
     None
 }` },
-    { name: "attempt", first: 54, steps: [{"line": 66, "rows": [5, 6]}, {"line": 67, "rows": [7]}, {"line": 74, "rows": [8]}, {"line": 75, "rows": [9]}, {"line": 79, "rows": [10]}], calls: [], text: `
+    { name: "attempt", first: 53, steps: [{"line": 65, "rows": [5, 6]}, {"line": 66, "rows": [7]}, {"line": 73, "rows": [8]}, {"line": 74, "rows": [9]}, {"line": 78, "rows": [10]}], calls: [], text: `
 /// Does what the call does at the key that was found. \`None\` where a link was another by then.
 fn attempt<O: Origin, P: Pause>(
     caller: &Caller<LockFreeList, O, P>,
@@ -518,7 +518,7 @@ fn attempt<O: Origin, P: Pause>(
         Decision::Answer(reply) => Some((caller.slots, reply)),
     }
 }` },
-    { name: "make", first: 86, steps: [{"line": 106, "rows": [1], "begins": true, "answers": false}, {"line": 111, "rows": [1], "begins": false, "answers": false}], calls: [[108, "find"], [109, "attempt"]], text: `
+    { name: "make", first: 85, steps: [{"line": 105, "rows": [1], "begins": true, "answers": false}, {"line": 110, "rows": [1], "begins": false, "answers": false}], calls: [[107, "find"], [108, "attempt"]], text: `
 fn make<O: Origin, P: Pause, N: Rounds>(
     table: &Words<LockFreeList>,
     place: &mut TableSeat,
