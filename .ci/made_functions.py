@@ -73,7 +73,7 @@ SHOWN = {
         "lset_words": ["layout"],
         "lset_steps": ["World::opened", "World::step", "World::content"],
         "lset_lists": ["on_list"],
-        "lset_headline": [],
+        "lset_linearizable": [],
     },
     "functions-texts": {
         "lset_schedule": ["read_schedule", "write_schedule", "generate"],
@@ -82,7 +82,7 @@ SHOWN = {
         "lset_replay": ["replay", "replay_with_points", "trace"],
         "tool_draft": ["read_draft", "schedule_of"],
         "tool_show": ["picture_of_report"],
-        "lset_drawing": ["write_picture"],
+        "tool_drawing": ["write_picture"],
         "tool_examples": [],
     },
     "functions-running": {

@@ -6,7 +6,7 @@ CAUSES = [
     ("lset_schedule/src/fault.rt", "Cause", "schedule"),
     ("lset_report/src/report_fault.rt", "ReportCause", "report"),
     ("lset_calls/src/fault.rt", "CallsCause", "calls"),
-    ("lset_tools/src/trouble.rt", "KeyCause", "keys"),
+    ("tool_base/src/trouble.rt", "KeyCause", "keys"),
     ("lset_steps/src/world.rt", "StepFault", "schedule"),
     ("tool_draft/src/fault.rt", "DraftCause", "draft"),
     ("lset_calls/src/fault.rt", "ClashFault", "calls"),
@@ -46,7 +46,7 @@ LIMITS = [
     ("lset_report/src/report.rt", "MOST_PLACES", "`TooMany`"),
     ("lset_report/src/report.rt", "MOST_KEYS", "`TooMany`"),
     ("lset_report/src/report.rt", "MOST_KEYS_OPENED", "`TooMany`"),
-    ("lset_tools/src/streams.rt", "LONGEST", "`too long`"),
+    ("tool_base/src/streams.rt", "LONGEST", "`too long`"),
 ]
 VERSIONS = {"One": 1, "Two": 2}
 

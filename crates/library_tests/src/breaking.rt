@@ -3,6 +3,7 @@
 
 ghost use Rattle.std.specs.Prelude.{⊤};
 
+use broken_lists::{WrongMachine, WrongWorld};
 use lset_coarse::CoarseList;
 use lset_counts::find_miscount;
 use lset_fine::FineList;
@@ -17,7 +18,6 @@ use lset_schedule::{generate, read_schedule};
 use lset_steps::{Event, Machine};
 use lset_text::{call_word, kind_word};
 use lset_words::{Call, Key, Reply, layout_opening};
-use lset_wrong_lists::{WrongMachine, WrongWorld};
 use rand_core::{Rng, SeedableRng};
 use rand_pcg::Pcg32;
 use std::alloc::{AllocError, Global};

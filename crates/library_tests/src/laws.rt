@@ -1,4 +1,5 @@
 //! The laws that no code calls, each called once, of lists of which it is said.
+use broken_tables::{coarse, fine, lazy, lock_free, optimistic};
 use lset_history::{
     every_call_has_a_place, fits_are_replies, logs_tell_histories, placement_is_one_order,
     placement_linearizes,
@@ -15,7 +16,6 @@ use lset_steps::laws::{
 };
 use lset_text::{headers_read_back, numbers_read_back, words_read_back};
 use lset_words::{Kind, words_are_apart};
-use lset_wrong_tables::{coarse, fine, lazy, lock_free, optimistic};
 
 /// Those of machines.
 fn kept_by<M: OpenReads>() -> Kind {

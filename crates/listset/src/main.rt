@@ -2,10 +2,10 @@
 #![tactic(auto)]
 
 use lset_dispatch::run_words;
-use lset_tools::{Trouble, deliver};
 use std::alloc::{AllocError, Global};
 use std::io;
 use std::process::ExitCode;
+use tool_base::{Trouble, deliver};
 
 /// The words after the program's name.
 fn words_given(rt: &HostRuntime) -> io::Result<Vec<String>> {

@@ -7,13 +7,13 @@ use Rattle.clap.specs.Words.{Text}
 use Rattle.lset_command.specs.CommandLine.{Choice, OptionValues, file_by, path_of}
 use Rattle.lset_command.specs.declared.command_line.Command.{Command}
 use Rattle.lset_command.specs.declared.command_line.Command.TheVariants.{Serve}
-use Rattle.lset_tools.specs.declared.trouble.ValueName.{ValueName}
-use Rattle.lset_tools.specs.declared.trouble.Trouble.TheVariants.{CannotRead, Bad}
+use Rattle.tool_base.specs.declared.trouble.ValueName.{ValueName}
+use Rattle.tool_base.specs.declared.trouble.Trouble.TheVariants.{CannotRead, Bad}
 use Rattle.tool_show.specs.Asking.{asked_of}
-use Rattle.lset_tools.specs.Tools.{Made, Outcome, Delivers, AppendsFront, Ends, line_of, status_of}
+use Rattle.tool_base.specs.Tools.{Made, Outcome, Delivers, AppendsFront, Ends, line_of, status_of}
 use Rattle.lset_dispatch.specs.Dispatch.{CommandEnds, Does, DoesBy, DoesOn, DoesOnInput, IsHelp, ServesBy, ShowsBy, ShowsAsked}
 use Rattle.lset_dispatch.specs.Dispatch.{ShowsFor}
-use Rattle.lset_drawing.specs.declared.picture.Window.{Window}
+use Rattle.tool_drawing.specs.declared.picture.Window.{Window}
 use Rattle.tool_show.specs.declared.asking.Form.{Form}
 
 pub ends_with : (output_old output_new faults_old faults_new : Option (List ℕ)) (status : ℕ) (IsMade : Made → Type 0)

@@ -9,20 +9,20 @@ use Rattle.lset_command.specs.CommandLine.{Choice, OptionValues, choice_of, file
 use Rattle.lset_command.specs.declared.command_line.Command.{Command}
 use Rattle.lset_command.specs.declared.command_line.Command.TheVariants.{Replay, Report, Check, Show, Trace, Draft, Example, Gen}
 use Rattle.lset_command.specs.declared.command_line.Command.TheVariants.{Run, Serve, Faults}
-use Rattle.lset_tools.specs.declared.trouble.ValueName.{ValueName}
-use Rattle.lset_tools.specs.declared.trouble.Trouble.TheVariants.{CannotRead, Memory, Bad}
-use Rattle.lset_tools.specs.Tools.{Made, Ends, AppendsFront}
-use Rattle.lset_tools.specs.Replaying.{Replays}
-use Rattle.lset_tools.specs.Reporting.{Reports}
-use Rattle.lset_tools.specs.Checking.{Checks}
-use Rattle.lset_tools.specs.Generating.{Generates}
-use Rattle.lset_tools.specs.Faults.{TellsFaults}
-use Rattle.lset_drawing.specs.declared.picture.Window.{Window}
+use Rattle.tool_base.specs.declared.trouble.ValueName.{ValueName}
+use Rattle.tool_base.specs.declared.trouble.Trouble.TheVariants.{CannotRead, Memory, Bad}
+use Rattle.tool_base.specs.Tools.{Made, Ends, AppendsFront}
+use Rattle.tool_base.specs.Replaying.{Replays}
+use Rattle.tool_base.specs.Reporting.{Reports}
+use Rattle.tool_base.specs.Checking.{Checks}
+use Rattle.tool_base.specs.Generating.{Generates}
+use Rattle.tool_base.specs.Faults.{TellsFaults}
+use Rattle.tool_drawing.specs.declared.picture.Window.{Window}
 use Rattle.tool_show.specs.declared.asking.Form.{Form}
 use Rattle.tool_show.specs.Asking.{asked_of}
 use Rattle.tool_show.specs.Showing.{Shows}
 use Rattle.tool_trace.specs.Tracing.{Traces}
-use Rattle.tool_lacks.specs.Lacks as lacks
+use Rattle.tool_broken.specs.Lacks as lacks
 use Rattle.tool_draft.specs.Drafting.{Drafts}
 use Rattle.tool_examples.specs.Exampling.{Exampled}
 use Rattle.tool_run.specs.Running as run

@@ -1,20 +1,20 @@
 ghost use Rattle.std.specs.Prelude.{◌≡◌, option_map, string_bytes};
 ghost use Rattle.std.specs.Option.{option_copied};
 ghost use Rattle.lset_command.specs.CommandLine.{choice_in, options_of};
-ghost use Rattle.lset_tools.specs.Tools.{Ends};
+ghost use Rattle.tool_base.specs.Tools.{Ends};
 ghost use Rattle.lset_dispatch.specs.Dispatch.{CommandEnds, Does, ReplaysBy, ShowsBy, TracesBy};
 
 use lset_command::{Command, Options, Words};
-use lset_tools::{Trouble, deliver, tool_check, tool_faults, tool_gen, tool_replay, tool_report};
 use std::alloc::Global;
 use std::io::{Read, Write};
 use std::net::{Net, TcpListener, TcpStream};
 use std::sync::Wait;
 use std::thread::Threads;
 use std::time::Clock;
+use tool_base::{Trouble, deliver, tool_check, tool_faults, tool_gen, tool_replay, tool_report};
+use tool_broken::{tool_replay_lacking, tool_show_lacking, tool_trace_lacking};
 use tool_draft::tool_draft;
 use tool_examples::tool_example;
-use tool_lacks::{tool_replay_lacking, tool_show_lacking, tool_trace_lacking};
 use tool_run::tool_run;
 use tool_serve::{tool_serve, tool_serve_with};
 use tool_show::{read_asked, tool_show};

@@ -7,7 +7,6 @@ ghost use Rattle.lset_dispatch.specs.Dispatch.{CommandEnds, Declines, DoesOnInpu
 use crate::command::run_command;
 use clap::Error;
 use lset_command::{Words, is_out_of_memory, words_given};
-use lset_tools::{Answer, FAULTS, Trouble, deliver, put};
 use std::alloc::Global;
 use std::fs::File;
 use std::io::{Read, Write};
@@ -16,6 +15,7 @@ use std::rt::Files;
 use std::sync::Wait;
 use std::thread::Threads;
 use std::time::Clock;
+use tool_base::{Answer, FAULTS, Trouble, deliver, put};
 
 /// Ends a run whose words are not taken: writes the help or the version that was asked for on `output`, status 0, or what
 /// is wrong with the words on `faults`, status 2. Where memory was refused, before or now, it writes the line about that on

@@ -22,7 +22,7 @@ use Rattle.lset_replay.specs.Trace.{Trace, trace_of}
 use Rattle.lset_replay.specs.Tracer.{MadeEvent}
 use Rattle.lset_replay.proofs.EventSteps.{followed}
 use Rattle.lset_replay.proofs.Ranks.{stand_upto_later}
-use Rattle.lset_wrong_lists.specs.declared.world.WrongFault.{WrongFault}
+use Rattle.broken_lists.specs.declared.world.WrongFault.{WrongFault}
 use Rattle.lset_lacks.specs.Keeping.{kept_after}
 use Rattle.lset_lacks.specs.LackingRuns.{EndsAt, EndsFor, RunsAs, TellsEvent, kept_of}
 use Rattle.lset_lacks.specs.Meeting.{keys_met, met}

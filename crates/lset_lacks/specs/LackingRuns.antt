@@ -18,9 +18,9 @@ use Rattle.lset_replay.specs.Lines.{ComesNext, IsHeard}
 use Rattle.lset_replay.specs.Reports.{world_after}
 use Rattle.lset_replay.specs.Trace.{Trace, entry_told, kept_by, trace_of}
 use Rattle.lset_replay.specs.Tracer.{MadeEvent}
-use Rattle.lset_wrong_lists.specs.declared.world.WrongFault.{WrongFault}
-use Rattle.lset_wrong_lists.specs.declared.world.WrongFault.TheVariants as fault
-use Rattle.lset_wrong_lists.specs.WrongSteps.{IsRefusedFor}
+use Rattle.broken_lists.specs.declared.world.WrongFault.{WrongFault}
+use Rattle.broken_lists.specs.declared.world.WrongFault.TheVariants as fault
+use Rattle.broken_lists.specs.WrongSteps.{IsRefusedFor}
 use Rattle.lset_lacks.specs.Keeping.{CanKeep, kept_after}
 use Rattle.lset_lacks.specs.Meeting.{keys_met, met}
 

@@ -3,11 +3,11 @@ use Rattle.std.specs.Prelude.{ℕ, List, codes}
 use Rattle.lset_words.specs.declared.Kind.{Kind}
 use Rattle.lset_words.specs.declared.Kind.TheVariants.{Coarse, Fine, Optimistic, Lazy, LockFree}
 use Rattle.lset_steps.specs.Steps.{Table}
-use Rattle.lset_wrong_tables.specs.WrongCoarse.{goes_without_lock}
-use Rattle.lset_wrong_tables.specs.WrongFine.{removes_with_one_lock, gives_back_pred_first}
-use Rattle.lset_wrong_tables.specs.WrongOptimistic.{validates_by_the_link, arrives_by_key}
-use Rattle.lset_wrong_tables.specs.WrongLazy as lazy
-use Rattle.lset_wrong_tables.specs.WrongLockFree as free
+use Rattle.broken_tables.specs.WrongCoarse.{goes_without_lock}
+use Rattle.broken_tables.specs.WrongFine.{removes_with_one_lock, gives_back_pred_first}
+use Rattle.broken_tables.specs.WrongOptimistic.{validates_by_the_link, arrives_by_key}
+use Rattle.broken_tables.specs.WrongLazy as lazy
+use Rattle.broken_tables.specs.WrongLockFree as free
 use Rattle.lset_lacks.specs.declared.lacking.Lacking.{Lacking}
 use Rattle.lset_lacks.specs.declared.lacking.Lacking.TheVariants.{Lock, SecondLock, HandOverHand, SecondWalk, SameNode}
 use Rattle.lset_lacks.specs.declared.lacking.Lacking.TheVariants.{MarksInValidation, MarkInContains, MarkInCeiling, Mark}

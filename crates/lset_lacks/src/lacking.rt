@@ -3,8 +3,8 @@ ghost use Rattle.lset_words.specs.declared.Kind.{Kind};
 ghost use Rattle.lset_steps.specs.Steps.{Table};
 ghost use Rattle.lset_lacks.specs.Lackings.{kind_of, name_of, table_of};
 
+use broken_lists::{WrongMachine, coarse, fine, lazy, lock_free, optimistic};
 use lset_words::Kind;
-use lset_wrong_lists::{WrongMachine, coarse, fine, lazy, lock_free, optimistic};
 
 /// A list that lacks a check, by what it lacks.
 #[derive(Clone, Copy, Debug, PartialEq, Eq)]

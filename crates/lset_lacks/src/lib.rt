@@ -1,5 +1,5 @@
 //! The runs of the lists that lack a check: of a schedule what such a list told, event after event, and a report of it, which
-//! no order may explain. Each list has a name, and steps as its table in `lset_wrong_tables` says.
+//! no order may explain. Each list has a name, and steps as its table in `broken_tables` says.
 #![tactic(auto)]
 
 mod keeping;

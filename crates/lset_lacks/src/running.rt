@@ -9,7 +9,7 @@ ghost use Rattle.lset_replay.specs.Events.{IsInLimits};
 ghost use Rattle.lset_replay.specs.Follows.{HasKept};
 ghost use Rattle.lset_replay.specs.Trace.{no_trace, trace_of};
 ghost use Rattle.lset_replay.specs.Tracer.{deed_ahead};
-ghost use Rattle.lset_wrong_lists.specs.WrongSteps.{CanMake};
+ghost use Rattle.broken_lists.specs.WrongSteps.{CanMake};
 ghost use Rattle.lset_lacks.specs.Keeping.{kept_after};
 ghost use Rattle.lset_lacks.specs.Lackings.{table_of};
 ghost use Rattle.lset_lacks.specs.LackingRuns.{EndsAt, MakesEvent, RunsAs, TellsEvent};
@@ -18,6 +18,7 @@ ghost use Rattle.lset_lacks.specs.Meeting.{met};
 use crate::keeping::{Unkept, follow};
 use crate::lacking::{Lacking, Task, on_lacking};
 use crate::meeting::{chain_met, keys_of};
+use broken_lists::{WrongFault, WrongMachine, WrongWorld};
 use lset_replay::{
     Deed, LineEvent, Listener, Recorder, Runner, TracedEvent, call_end, in_order, open_number,
     run_lines, thread_of, writes_node,
@@ -26,7 +27,6 @@ use lset_report::Report;
 use lset_schedule::{Schedule, Version};
 use lset_steps::{ChainKey, Event, Local};
 use lset_words::layout_opening;
-use lset_wrong_lists::{WrongFault, WrongMachine, WrongWorld};
 use std::alloc::{AllocError, Global};
 
 /// How the run of a schedule ended: with the report of all its events, or at the event of a line.

@@ -17,7 +17,7 @@ use Rattle.lset_words.specs.declared.history.Placed.{Placed}
 use Rattle.lset_words.specs.History.{Precedes, answered, call_numbered, no_call}
 use Rattle.lset_words.specs.SequentialSet.{SetState, Answered, IsLegal, opening_set, reply_to, after_call, has_key}
 use Rattle.lset_history.proofs.Histories.{IsPart, part_of}
-use Rattle.lset_headline.specs.Headline.{ExplainsRun, RunsAreLinearizable}
+use Rattle.lset_linearizable.specs.Headline.{ExplainsRun, RunsAreLinearizable}
 use Rattle.lset_steps.specs.declared.Event.{Event}
 use Rattle.lset_steps.specs.declared.Event.TheVariants.{Begin, Go}
 use Rattle.lset_steps.specs.Steps.{Table, State, Enabled, state_at, event_at, local_of, entry_of}

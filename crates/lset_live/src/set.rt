@@ -18,7 +18,7 @@ use crate::closed::Closed;
 use crate::running::{Running, RunningReads, call_on};
 use crate::seat::Seat;
 use atomic_table::Table;
-use lset_headline::runs_are_linearizable;
+use lset_linearizable::runs_are_linearizable;
 use lset_rule::{Cutting, Follows, Learning, Opened, Pause, Rounds, Spin, TableSeat, Taking, View};
 use lset_steps::Machine;
 use lset_words::{Call, Key, Reply};

@@ -13,7 +13,7 @@ use Rattle.lset_steps.specs.Chain.{View}
 use Rattle.lset_steps.specs.Laws.{view_of, views}
 use Rattle.lset_steps.specs.Worlds.{WorldState, IsContent, keys_in}
 use Rattle.lset_steps.proofs.Segments.{chain_once}
-use Rattle.lset_headline.specs.Headline.{history_of, keys_left, ExplainsRun, RunsAreLinearizable}
+use Rattle.lset_linearizable.specs.Headline.{history_of, keys_left, ExplainsRun, RunsAreLinearizable}
 use Rattle.lset_replay.specs.declared.events.LineEvent.{LineEvent}
 use Rattle.lset_replay.specs.declared.recorder.Recorder.{Recorder}
 use Rattle.lset_replay.specs.Events.{only_events}

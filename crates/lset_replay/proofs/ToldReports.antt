@@ -24,7 +24,7 @@ use Rattle.lset_steps.specs.Chain.{contents_of, counts_of}
 use Rattle.lset_steps.specs.Laws.{views}
 use Rattle.lset_steps.specs.Worlds.{thread_of}
 use Rattle.lset_steps.specs.Promises.{HasAccount}
-use Rattle.lset_headline.specs.Headline.{RunsAreLinearizable}
+use Rattle.lset_linearizable.specs.Headline.{RunsAreLinearizable}
 use Rattle.lset_schedule.specs.Plan.{Plan, opening_in}
 use Rattle.lset_replay.specs.declared.traced.CallEnd.{CallEnd}
 use Rattle.lset_replay.specs.declared.traced.TracedEvent.{TracedEvent}

@@ -15,7 +15,7 @@ use Rattle.lset_steps.specs.Steps.{Table, Run, event_at, state_at, local_of, see
 use Rattle.lset_steps.specs.Chain.{View, contents_of, counts_of}
 use Rattle.lset_steps.specs.Laws.{views}
 use Rattle.lset_steps.specs.Worlds.{AreChainKeys, thread_of}
-use Rattle.lset_headline.specs.Headline.{history_of}
+use Rattle.lset_linearizable.specs.Headline.{history_of}
 use Rattle.lset_schedule.specs.Plan.{Plan, opening_in}
 use Rattle.lset_replay.specs.declared.events.LineEvent.{LineEvent}
 use Rattle.lset_replay.specs.declared.traced.CallEnd.{CallEnd}

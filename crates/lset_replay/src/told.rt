@@ -1,6 +1,6 @@
 ghost use Rattle.lset_replay.specs.TracedReports.{TracesTellReports};
 
-use lset_headline::runs_are_linearizable;
+use lset_linearizable::runs_are_linearizable;
 use lset_steps::Machine;
 use lset_steps::laws::has_account;
 

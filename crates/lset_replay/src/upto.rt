@@ -16,7 +16,7 @@ use crate::events::event_of;
 use crate::order::in_order;
 use crate::recorder::Recorder;
 use crate::start::start_of;
-use lset_headline::runs_are_linearizable;
+use lset_linearizable::runs_are_linearizable;
 use lset_lists::{List, Task, on_list};
 use lset_report::Report;
 use lset_schedule::{Line, Schedule};

@@ -5,12 +5,12 @@ use Rattle.lset_steps.specs.declared.world.StepFault.TheVariants as step
 use Rattle.lset_schedule.specs.declared.fault.Cause.TheVariants as schedule
 use Rattle.lset_schedule.specs.declared.fault.ScheduleFault.{ScheduleFault}
 use Rattle.lset_schedule.specs.Plan.{Plan, schedule_text}
-use Rattle.lset_tools.specs.declared.trouble.LineCause.{LineCause}
-use Rattle.lset_tools.specs.declared.trouble.LineCause.TheVariants as line
-use Rattle.lset_tools.specs.declared.trouble.Trouble.{Trouble}
-use Rattle.lset_tools.specs.declared.trouble.Trouble.TheVariants.{Memory, Line}
-use Rattle.lset_tools.specs.Trouble.{of_schedule}
-use Rattle.lset_tools.specs.Tools.{Made, IsTaken, IsInputTrouble}
+use Rattle.tool_base.specs.declared.trouble.LineCause.{LineCause}
+use Rattle.tool_base.specs.declared.trouble.LineCause.TheVariants as line
+use Rattle.tool_base.specs.declared.trouble.Trouble.{Trouble}
+use Rattle.tool_base.specs.declared.trouble.Trouble.TheVariants.{Memory, Line}
+use Rattle.tool_base.specs.Trouble.{of_schedule}
+use Rattle.tool_base.specs.Tools.{Made, IsTaken, IsInputTrouble}
 use Rattle.tool_draft.specs.declared.fault.DraftCause.{DraftCause}
 use Rattle.tool_draft.specs.declared.fault.DraftCause.TheVariants as cause
 use Rattle.tool_draft.specs.declared.fault.DraftFault.{DraftFault}

@@ -1,6 +1,6 @@
 ghost use Rattle.std.specs.Prelude.{◌≡◌, ◌≢◌, ◌⊎◌, IfErr, IfSome};
-ghost use Rattle.lset_tools.specs.Tools.{Ends, IsTaken, view};
-ghost use Rattle.lset_tools.specs.declared.trouble.Trouble.TheVariants.{CannotRead, Memory};
+ghost use Rattle.tool_base.specs.Tools.{Ends, IsTaken, view};
+ghost use Rattle.tool_base.specs.declared.trouble.Trouble.TheVariants.{CannotRead, Memory};
 ghost use Rattle.tool_draft.specs.DraftReading.{reading};
 ghost use Rattle.tool_draft.specs.Drafting.{Drafts, IsFirstFault, line_cause, of_draft};
 
@@ -9,9 +9,9 @@ use crate::fault::{DraftCause, DraftFault};
 use crate::reading::read_draft;
 use lset_schedule::{Cause, write_schedule};
 use lset_steps::StepFault;
-use lset_tools::{Answer, LONGEST, LineCause, Trouble, deliver, input_of};
 use std::alloc::Global;
 use std::io::{Read, Write};
+use tool_base::{Answer, LONGEST, LineCause, Trouble, deliver, input_of};
 
 fn line_cause(cause: DraftCause) -> LineCause
     ensures { result ≡ line_cause cause }

@@ -1,8 +1,8 @@
 -- What `example` makes of its words.
 use Rattle.std.specs.Prelude.{◌≡◌, ℕ, ◌⊎◌, ⊤, List, Bool, true, false, Option, Some, None, Ok, Err}
-use Rattle.lset_tools.specs.declared.trouble.Trouble.TheVariants.{Memory, Bad}
-use Rattle.lset_tools.specs.declared.trouble.ValueName.TheVariants.{Name}
-use Rattle.lset_tools.specs.Tools.{Made}
+use Rattle.tool_base.specs.declared.trouble.Trouble.TheVariants.{Memory, Bad}
+use Rattle.tool_base.specs.declared.trouble.ValueName.TheVariants.{Name}
+use Rattle.tool_base.specs.Tools.{Made}
 use Rattle.tool_examples.specs.declared.example.Example.{Example}
 use Rattle.tool_examples.specs.Examples as examples
 

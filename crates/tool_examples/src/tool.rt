@@ -1,13 +1,13 @@
 ghost use Rattle.std.specs.Prelude.{Some, IfSome, IfNone};
 ghost use Rattle.std.specs.Option.{option_copied};
-ghost use Rattle.lset_tools.specs.Tools.{Ends, view};
+ghost use Rattle.tool_base.specs.Tools.{Ends, view};
 ghost use Rattle.tool_examples.specs.Exampling.{Exampled, IsShown, IsUnknown};
 
 use crate::example::{ALL, named};
 use lset_text::kind_word;
-use lset_tools::{Answer, Trouble, ValueName, deliver};
 use std::alloc::{AllocError, Global};
 use std::io::Write;
+use tool_base::{Answer, Trouble, ValueName, deliver};
 
 /// A line for each example: its name, its list and what happens in it.
 fn write_names(alloc: Global) -> Result<Vec<u8>, AllocError> {

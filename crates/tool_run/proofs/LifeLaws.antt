@@ -14,7 +14,7 @@ use Rattle.lset_words.specs.Records.{fresh}
 use Rattle.lset_live.specs.Seats.{SeatValue, SetValue, IsOpened, new_seat}
 use Rattle.lset_work.specs.declared.fault.WorkCause.{WorkCause}
 use Rattle.lset_work.specs.declared.fault.WorkCause.TheVariants as cause
-use Rattle.lset_tools.specs.declared.trouble.Trouble.{Trouble}
+use Rattle.tool_base.specs.declared.trouble.Trouble.{Trouble}
 use Rattle.tool_run.specs.Running.{EndsLife, of_work}
 use Rattle.lset_schedule.specs.Draws.{drawn_call, drawn_calls, program_of, programs_of, seeded}
 

@@ -8,7 +8,7 @@ use Rattle.std.proofs.lemmas.Nat.{mul-le}
 use Rattle.lset_words.specs.declared.Call.{Call}
 use Rattle.lset_words.specs.declared.Reply.{Reply}
 use Rattle.lset_schedule.specs.Draws.{program_of}
-use Rattle.lset_tools.specs.declared.values.RandomRequest.{RandomRequest}
+use Rattle.tool_base.specs.declared.values.RandomRequest.{RandomRequest}
 use Rattle.tool_run.specs.declared.counts.Counts.{Counts}
 use Rattle.tool_run.specs.Asked.{life_of}
 use Rattle.tool_run.specs.Counting.{HasRoom, counts_of, counts_with}

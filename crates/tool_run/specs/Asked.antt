@@ -2,10 +2,10 @@
 use Rattle.std.specs.Prelude.{ℕ, ◌+◌, ◌*◌, ◌%◌, ◌^◌, List, slice_get, Option, Some, None, Result, Ok}
 use Rattle.lset_text.specs.Numbers.{number_in}
 use Rattle.lset_text.specs.Results.{◌>>=◌, or_fail}
-use Rattle.lset_tools.specs.declared.trouble.ValueName.{ValueName}
-use Rattle.lset_tools.specs.declared.trouble.ValueName.TheVariants as name
-use Rattle.lset_tools.specs.declared.values.RandomRequest.{RandomRequest}
-use Rattle.lset_tools.specs.Generating.{random_request_of}
+use Rattle.tool_base.specs.declared.trouble.ValueName.{ValueName}
+use Rattle.tool_base.specs.declared.trouble.ValueName.TheVariants as name
+use Rattle.tool_base.specs.declared.values.RandomRequest.{RandomRequest}
+use Rattle.tool_base.specs.Generating.{random_request_of}
 use Rattle.tool_run.specs.declared.request.LivesRequest.{LivesRequest}
 use Rattle.tool_run.specs.declared.request.TheConstants.{MOST_LIVES}
 

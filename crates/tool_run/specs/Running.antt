@@ -12,13 +12,13 @@ use Rattle.lset_live.specs.Explained.{Explains}
 use Rattle.lset_work.specs.Programs.{worked}
 use Rattle.lset_work.specs.declared.fault.WorkCause.{WorkCause}
 use Rattle.lset_work.specs.declared.fault.WorkCause.TheVariants as cause
-use Rattle.lset_tools.specs.declared.trouble.Trouble.{Trouble}
-use Rattle.lset_tools.specs.declared.trouble.Trouble.TheVariants.{Memory}
-use Rattle.lset_tools.specs.declared.trouble.Trouble.TheVariants.{Bad, Work}
-use Rattle.lset_tools.specs.declared.trouble.ValueName.{ValueName}
-use Rattle.lset_tools.specs.declared.trouble.WorkName.TheVariants as work
-use Rattle.lset_tools.specs.declared.values.RandomRequest.{RandomRequest}
-use Rattle.lset_tools.specs.Tools.{Made}
+use Rattle.tool_base.specs.declared.trouble.Trouble.{Trouble}
+use Rattle.tool_base.specs.declared.trouble.Trouble.TheVariants.{Memory}
+use Rattle.tool_base.specs.declared.trouble.Trouble.TheVariants.{Bad, Work}
+use Rattle.tool_base.specs.declared.trouble.ValueName.{ValueName}
+use Rattle.tool_base.specs.declared.trouble.WorkName.TheVariants as work
+use Rattle.tool_base.specs.declared.values.RandomRequest.{RandomRequest}
+use Rattle.tool_base.specs.Tools.{Made}
 use Rattle.tool_run.specs.declared.counts.Counts.{Counts}
 use Rattle.tool_run.specs.declared.request.LivesRequest.{LivesRequest}
 use Rattle.tool_run.specs.Asked.{life_of, lives_request_of}

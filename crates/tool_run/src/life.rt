@@ -6,12 +6,12 @@ ghost use Rattle.tool_run.specs.Running.{IsOutcome, EndsLife, of_work};
 
 use lset_live::{OpenFault, Running, open_with};
 use lset_schedule::programs;
-use lset_tools::{RandomRequest, Trouble, WorkName};
 use lset_words::MOST_OPENING;
 use lset_work::{Always, Outcome, WorkCause, work};
 use std::alloc::Global;
 use std::sync::Wait;
 use std::thread::Threads;
+use tool_base::{RandomRequest, Trouble, WorkName};
 
 fn trouble_of(cause: WorkCause) -> Trouble
     ensures { result ≡ of_work cause }

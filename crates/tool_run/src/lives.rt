@@ -12,12 +12,12 @@ use lset_lazy::LazyList;
 use lset_live::Running;
 use lset_lock_free::LockFreeList;
 use lset_optimistic::OptimisticList;
-use lset_tools::Trouble;
 use lset_words::Kind;
 use lset_work::Outcome;
 use std::alloc::Global;
 use std::sync::Wait;
 use std::thread::Threads;
+use tool_base::Trouble;
 
 /// What is left of lives: counts over all of them, and the keys of the last one.
 #[derive(Drop)]

@@ -4,7 +4,7 @@ ghost use Rattle.lset_schedule.specs.Generating.{IsAccepted};
 ghost use Rattle.tool_run.specs.Asked.{life_of, lives_in, lives_request_of};
 
 use lset_text::number;
-use lset_tools::{RandomRequest, ValueName, read_random_request};
+use tool_base::{RandomRequest, ValueName, read_random_request};
 
 /// The most lives of a run. (This project's own limit.)
 pub const MOST_LIVES: u32 = 100;

@@ -1,17 +1,17 @@
 //! The tool.
 ghost use Rattle.std.specs.Prelude.{map, string_bytes};
-ghost use Rattle.lset_tools.specs.Tools.{Ends};
-ghost use Rattle.lset_tools.specs.Tools as tools;
+ghost use Rattle.tool_base.specs.Tools.{Ends};
+ghost use Rattle.tool_base.specs.Tools as tools;
 ghost use Rattle.tool_run.specs.Running.{Runs};
 
 use crate::lives::summary_of;
 use crate::request::read_lives_request;
 use crate::text::summary_text;
-use lset_tools::{Answer, Trouble, deliver};
 use std::alloc::Global;
 use std::io::Write;
 use std::sync::Wait;
 use std::thread::Threads;
+use tool_base::{Answer, Trouble, deliver};
 
 fn run_text<R: Threads + Wait + Sync>(
     rt: &R,

@@ -5,10 +5,10 @@ use Rattle.std.specs.Io.KnownBytes.{Appends}
 use Rattle.std.specs.Result.{IsErrAnd}
 use Rattle.lset_server.specs.declared.serving.ServeCause.{ServeCause}
 use Rattle.lset_server.specs.declared.serving.ServeCause.TheVariants as cause
-use Rattle.lset_tools.specs.declared.answer.Answer.{Answer}
-use Rattle.lset_tools.specs.declared.trouble.Trouble.{Trouble}
-use Rattle.lset_tools.specs.declared.trouble.Trouble.TheVariants.{Memory}
-use Rattle.lset_tools.specs.Tools.{view}
+use Rattle.tool_base.specs.declared.answer.Answer.{Answer}
+use Rattle.tool_base.specs.declared.trouble.Trouble.{Trouble}
+use Rattle.tool_base.specs.declared.trouble.Trouble.TheVariants.{Memory}
+use Rattle.tool_base.specs.Tools.{view}
 use Rattle.tool_serve.specs.Serving.{Announces, EndsServer, first_line, of_server}
 
 -- where the whole first line was written, a server may end by each of its causes

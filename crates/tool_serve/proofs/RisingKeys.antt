@@ -9,8 +9,8 @@ use Rattle.lset_text.specs.Openings.{is_above}
 use Rattle.lset_text.proofs.OpeningLaws.{rises_more}
 use Rattle.lset_text.proofs.ReadingLaws.{bind_ok, ok_is}
 use Rattle.lset_text.proofs.LineLaws.{lines_keep}
-use Rattle.lset_tools.specs.declared.trouble.KeyCause.{KeyCause}
-use Rattle.lset_tools.specs.declared.trouble.KeyCause.TheVariants as cause
+use Rattle.tool_base.specs.declared.trouble.KeyCause.{KeyCause}
+use Rattle.tool_base.specs.declared.trouble.KeyCause.TheVariants as cause
 use Rattle.tool_serve.specs.declared.keys.KeysFault.{KeysFault}
 use Rattle.tool_serve.specs.Keys.{AreKeys, Gives, with_key, key_in, key_grammar, keys_in, after_head}
 

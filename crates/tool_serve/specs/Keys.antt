@@ -12,11 +12,11 @@ use Rattle.lset_text.specs.Forms.{have_form}
 use Rattle.lset_text.specs.Kinds.{LineKind, LineCauses, line_in}
 use Rattle.lset_text.specs.Lines.{Grammar, lines_from}
 use Rattle.lset_text.specs.Results.{◌>>=◌}
-use Rattle.lset_tools.specs.declared.trouble.KeyCause.{KeyCause}
-use Rattle.lset_tools.specs.declared.trouble.KeyCause.TheVariants as cause
-use Rattle.lset_tools.specs.declared.trouble.LineCause.TheVariants.{Keys}
-use Rattle.lset_tools.specs.declared.trouble.Trouble.{Trouble}
-use Rattle.lset_tools.specs.declared.trouble.Trouble.TheVariants as trouble
+use Rattle.tool_base.specs.declared.trouble.KeyCause.{KeyCause}
+use Rattle.tool_base.specs.declared.trouble.KeyCause.TheVariants as cause
+use Rattle.tool_base.specs.declared.trouble.LineCause.TheVariants.{Keys}
+use Rattle.tool_base.specs.declared.trouble.Trouble.{Trouble}
+use Rattle.tool_base.specs.declared.trouble.Trouble.TheVariants as trouble
 use Rattle.tool_serve.specs.declared.keys.KeysFault.{KeysFault}
 use Rattle.tool_serve.specs.declared.keys.KeysFault.TheVariants.{Line, Memory}
 use Rattle.tool_serve.specs.declared.keys.Left.{Left}

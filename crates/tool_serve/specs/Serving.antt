@@ -11,15 +11,15 @@ use Rattle.lset_words.specs.Records.{fresh}
 use Rattle.lset_server.specs.Serving.{IsServed}
 use Rattle.lset_server.specs.declared.serving.ServeCause.{ServeCause}
 use Rattle.lset_server.specs.declared.serving.ServeCause.TheVariants as cause
-use Rattle.lset_tools.specs.declared.trouble.Trouble.{Trouble}
-use Rattle.lset_tools.specs.declared.trouble.Trouble.TheVariants.{CannotRead, TooLong, CannotWrite, Memory, Line, Bad}
-use Rattle.lset_tools.specs.declared.trouble.Trouble.TheVariants.{CannotListen, Work, Serve}
-use Rattle.lset_tools.specs.declared.trouble.ValueName.{ValueName}
-use Rattle.lset_tools.specs.declared.trouble.ValueName.TheVariants as name
-use Rattle.lset_tools.specs.declared.trouble.ServeName.TheVariants as serve
+use Rattle.tool_base.specs.declared.trouble.Trouble.{Trouble}
+use Rattle.tool_base.specs.declared.trouble.Trouble.TheVariants.{CannotRead, TooLong, CannotWrite, Memory, Line, Bad}
+use Rattle.tool_base.specs.declared.trouble.Trouble.TheVariants.{CannotListen, Work, Serve}
+use Rattle.tool_base.specs.declared.trouble.ValueName.{ValueName}
+use Rattle.tool_base.specs.declared.trouble.ValueName.TheVariants as name
+use Rattle.tool_base.specs.declared.trouble.ServeName.TheVariants as serve
 use Rattle.lset_text.specs.Results.{◌>>=◌, or_fail}
-use Rattle.lset_tools.specs.Generating.{kind_at, number_at}
-use Rattle.lset_tools.specs.Tools.{AnswerValue, Made, AppendsFront, Ends, IsInputTrouble, IsTaken}
+use Rattle.tool_base.specs.Generating.{kind_at, number_at}
+use Rattle.tool_base.specs.Tools.{AnswerValue, Made, AppendsFront, Ends, IsInputTrouble, IsTaken}
 use Rattle.tool_serve.specs.declared.keys.KeysFault.{KeysFault}
 use Rattle.tool_serve.specs.declared.request.TheConstants.{MOST_SESSIONS_ASKED, MOST_PORT}
 use Rattle.tool_serve.specs.declared.request.ServeRequest.{ServeRequest}

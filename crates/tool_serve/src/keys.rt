@@ -6,9 +6,9 @@ ghost use Rattle.tool_serve.specs.Keys.{AreKeys, Gives, after_head, is_word_and_
 ghost use Rattle.tool_serve.specs.Printed.{PrintedKeysAreRead};
 
 use lset_text::{cut, is_above, number};
-use lset_tools::{KeyCause, LineCause, Trouble};
 use lset_words::MOST_OPENING;
 use std::alloc::Global;
+use tool_base::{KeyCause, LineCause, Trouble};
 
 /// Why a text gives no keys.
 #[derive(Clone, Copy)]

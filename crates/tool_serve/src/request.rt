@@ -2,8 +2,8 @@
 ghost use Rattle.std.specs.Prelude.{◌≡◌, IfOk, map, string_bytes};
 ghost use Rattle.tool_serve.specs.Serving.{IsWithinLimits, serve_request_of};
 
-use lset_tools::{ValueName, kind_at, number_at};
 use lset_words::{Kind, MOST_QUOTA, MOST_THREADS};
+use tool_base::{ValueName, kind_at, number_at};
 
 /// The most sessions that the command asks for. (This project's own limit.)
 pub const MOST_SESSIONS_ASKED: u32 = 10_000;

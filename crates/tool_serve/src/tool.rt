@@ -1,7 +1,7 @@
 //! The tool.
 ghost use Rattle.std.specs.Prelude.{◌≡◌, ◌≤◌, ℕ, [], IfErr, IfOk, OnOk, map, string_bytes};
 ghost use Rattle.std.specs.Io.KnownBytes.{Appends};
-ghost use Rattle.lset_tools.specs.Tools as tools;
+ghost use Rattle.tool_base.specs.Tools as tools;
 ghost use Rattle.tool_serve.specs.declared.request.TheConstants.{MOST_PORT};
 ghost use Rattle.tool_serve.specs.Keys.{AreKeys};
 ghost use Rattle.tool_serve.specs.Serving.{AreKeysOf, IsTroubleOf, IsWithinLimits};
@@ -17,7 +17,6 @@ use lset_live::{OpenFault, Running, open_with};
 use lset_lock_free::LockFreeList;
 use lset_optimistic::OptimisticList;
 use lset_server::{ServeCause, serve};
-use lset_tools::{Answer, ServeName, Trouble, deliver, input_of, put};
 use lset_words::Kind;
 use std::alloc::Global;
 use std::io::{Read, Write};
@@ -25,6 +24,7 @@ use std::net::{Ipv4Addr, Net, TcpListener, TcpStream};
 use std::sync::Wait;
 use std::thread::Threads;
 use std::time::Clock;
+use tool_base::{Answer, ServeName, Trouble, deliver, input_of, put};
 
 fn trouble_of(cause: ServeCause) -> Trouble
     ensures { result ≡ of_server cause }

@@ -20,7 +20,7 @@ use Rattle.lset_history.proofs.Lists.{get_or_mapped}
 use Rattle.tool_show.specs.Bars.{BarsAreApart}
 use Rattle.lset_report.specs.Report.{ReportValue}
 use Rattle.tool_show.specs.ReportPictures.{point_at, first_marked, drawn_points, IsJudgement, IsPictureOfReport}
-use Rattle.lset_drawing.specs.Pictures.{PictureValue}
+use Rattle.tool_drawing.specs.Pictures.{PictureValue}
 
 -- THE BARS of one thread
 pub bars_are_apart : (threads : ℕ) (calls : List CallRecord) → IsHistory threads calls → BarsAreApart calls

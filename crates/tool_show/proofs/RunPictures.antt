@@ -8,9 +8,9 @@ use Rattle.lset_steps.specs.declared.world.StepFault.{StepFault}
 use Rattle.lset_report.specs.Report.{ReportValue}
 use Rattle.lset_replay.specs.Fronts.{IsReplayUpto}
 use Rattle.lset_replay.specs.Reports.{IsExplained}
-use Rattle.lset_drawing.specs.declared.picture.Window.{Window}
-use Rattle.lset_drawing.specs.Pictures.{PictureValue}
-use Rattle.lset_tools.specs.Tools.{Made}
+use Rattle.tool_drawing.specs.declared.picture.Window.{Window}
+use Rattle.tool_drawing.specs.Pictures.{PictureValue}
+use Rattle.tool_base.specs.Tools.{Made}
 use Rattle.tool_show.specs.Bars.{BarsAreApart}
 use Rattle.tool_show.specs.ReportPictures.{report_in}
 use Rattle.tool_show.specs.SchedulePictures.{IsPictureOfSchedule}

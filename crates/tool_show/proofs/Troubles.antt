@@ -11,13 +11,13 @@ use Rattle.lset_report.specs.declared.report_fault.ReportCause.{ReportCause}
 use Rattle.lset_report.specs.declared.report_fault.ReportCause.TheVariants as report
 use Rattle.lset_report.specs.declared.report_fault.ReportFault.{ReportFault}
 use Rattle.lset_report.specs.ReportReading as reports
-use Rattle.lset_tools.specs.declared.answer.Answer.{Answer}
-use Rattle.lset_tools.specs.declared.trouble.Trouble.{Trouble}
-use Rattle.lset_tools.specs.declared.trouble.Trouble.TheVariants.{CannotRead, TooLong, CannotWrite, Memory, Line, Bad}
-use Rattle.lset_tools.specs.declared.trouble.Trouble.TheVariants.{CannotListen, Work, Serve}
-use Rattle.lset_tools.specs.Trouble.{of_schedule_line, of_report_line}
-use Rattle.lset_tools.specs.Checking as checking
-use Rattle.lset_drawing.specs.declared.picture.Window.{Window}
+use Rattle.tool_base.specs.declared.answer.Answer.{Answer}
+use Rattle.tool_base.specs.declared.trouble.Trouble.{Trouble}
+use Rattle.tool_base.specs.declared.trouble.Trouble.TheVariants.{CannotRead, TooLong, CannotWrite, Memory, Line, Bad}
+use Rattle.tool_base.specs.declared.trouble.Trouble.TheVariants.{CannotListen, Work, Serve}
+use Rattle.tool_base.specs.Trouble.{of_schedule_line, of_report_line}
+use Rattle.tool_base.specs.Checking as checking
+use Rattle.tool_drawing.specs.declared.picture.Window.{Window}
 use Rattle.tool_show.specs.Showing.{IsWrong, IsScheduleFault}
 
 -- 0 of an input that cannot be read, and 1 of every other trouble

@@ -1,9 +1,9 @@
 -- What the options of `show` ask for.
 use Rattle.std.specs.Prelude.{ℕ, Bool, List, Option, Result, Ok, if◌then◌else◌}
 use Rattle.lset_text.specs.Results.{◌>>=◌}
-use Rattle.lset_drawing.specs.declared.picture.Window.{Window}
-use Rattle.lset_tools.specs.declared.trouble.ValueName.{ValueName}
-use Rattle.lset_tools.specs.Moments.{moments_of, width_of}
+use Rattle.tool_drawing.specs.declared.picture.Window.{Window}
+use Rattle.tool_base.specs.declared.trouble.ValueName.{ValueName}
+use Rattle.tool_base.specs.Moments.{moments_of, width_of}
 use Rattle.tool_show.specs.declared.asking.Form.{Form}
 use Rattle.tool_show.specs.declared.asking.Form.TheVariants.{Text, Svg}
 

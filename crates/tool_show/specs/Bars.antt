@@ -4,7 +4,7 @@ use Rattle.lset_words.specs.declared.history.CallRecord.{CallRecord}
 use Rattle.lset_words.specs.History.{Precedes}
 use Rattle.lset_words.specs.Points.{moment_of}
 use Rattle.lset_history.specs.Points.{HasPoints}
-use Rattle.lset_drawing.specs.Pictures.{PictureValue}
+use Rattle.tool_drawing.specs.Pictures.{PictureValue}
 
 -- no two bars of one thread overlap: of two of its calls the one with the lesser number ended before the other began
 abbrev pub BarsAreApart : List CallRecord → Type 0

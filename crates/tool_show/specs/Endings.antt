@@ -4,7 +4,7 @@ use Rattle.std.specs.Fmt.{decimal}
 use Rattle.lset_counts.specs.Unexplained.{IsUnexplained}
 use Rattle.lset_counts.specs.declared.refuting.Miscount.{Miscount}
 use Rattle.lset_counts.specs.declared.refuting.Miscount.TheVariants.{Left, Read, Full}
-use Rattle.lset_drawing.specs.Pictures.{PictureValue}
+use Rattle.tool_drawing.specs.Pictures.{PictureValue}
 
 -- after an empty line what to count, to see that no order explains the report
 abbrev pub miscount_line : Miscount → List ℕ

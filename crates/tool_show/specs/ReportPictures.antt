@@ -14,7 +14,7 @@ use Rattle.lset_history.specs.Points.{first_points}
 use Rattle.lset_history.specs.Refusals.{IsRefusalOf}
 use Rattle.lset_report.specs.Report.{ReportValue}
 use Rattle.lset_text.specs.declared.words.Version.{Version}
-use Rattle.lset_drawing.specs.Pictures.{PictureValue}
+use Rattle.tool_drawing.specs.Pictures.{PictureValue}
 use Rattle.tool_show.specs.Bars.{IsInBars}
 
 -- an add or a remove changes the set where its reply is True, and no other call does

@@ -4,7 +4,7 @@ use Rattle.lset_lists.specs.Tables.{table_of}
 use Rattle.lset_schedule.specs.Plan.{Plan}
 use Rattle.lset_replay.specs.Fronts.{IsReplayUpto}
 use Rattle.lset_replay.specs.Reports.{IsExplained}
-use Rattle.lset_drawing.specs.Pictures.{PictureValue}
+use Rattle.tool_drawing.specs.Pictures.{PictureValue}
 use Rattle.tool_show.specs.Bars.{IsInBars}
 use Rattle.tool_show.specs.ReportPictures.{report_in}
 

@@ -10,15 +10,15 @@ use Rattle.lset_report.specs.ReportReading as report
 use Rattle.lset_report.specs.Texts.{title, report_text}
 use Rattle.lset_text.specs.Parts.{ended}
 use Rattle.lset_text.specs.declared.words.Version.TheVariants.{One, Two}
-use Rattle.lset_drawing.specs.declared.picture.Window.{Window}
-use Rattle.lset_drawing.specs.Pictures.{PictureValue}
-use Rattle.lset_drawing.specs.Moments.{is_past_the_last}
-use Rattle.lset_tools.specs.declared.trouble.Trouble.{Trouble}
-use Rattle.lset_tools.specs.declared.trouble.Trouble.TheVariants.{Bad, Memory}
-use Rattle.lset_tools.specs.declared.trouble.ValueName.TheVariants.{From}
-use Rattle.lset_tools.specs.Tools.{Made, IsTaken, IsInputTrouble}
-use Rattle.lset_tools.specs.Trouble.{of_schedule}
-use Rattle.lset_tools.specs.Checking as checking
+use Rattle.tool_drawing.specs.declared.picture.Window.{Window}
+use Rattle.tool_drawing.specs.Pictures.{PictureValue}
+use Rattle.tool_drawing.specs.Moments.{is_past_the_last}
+use Rattle.tool_base.specs.declared.trouble.Trouble.{Trouble}
+use Rattle.tool_base.specs.declared.trouble.Trouble.TheVariants.{Bad, Memory}
+use Rattle.tool_base.specs.declared.trouble.ValueName.TheVariants.{From}
+use Rattle.tool_base.specs.Tools.{Made, IsTaken, IsInputTrouble}
+use Rattle.tool_base.specs.Trouble.{of_schedule}
+use Rattle.tool_base.specs.Checking as checking
 use Rattle.tool_show.specs.ReportPictures.{IsPictureOfReport}
 use Rattle.tool_show.specs.SchedulePictures.{IsPictureOfSchedule}
 

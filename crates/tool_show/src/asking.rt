@@ -1,8 +1,8 @@
 ghost use Rattle.std.specs.Prelude.{◌≡◌, option_map};
 ghost use Rattle.tool_show.specs.Asking.{form_of, asked_of};
 
-use lset_drawing::Window;
-use lset_tools::{ValueName, read_moments, read_width};
+use tool_base::{ValueName, read_moments, read_width};
+use tool_drawing::Window;
 
 /// How a picture is drawn.
 #[derive(Clone, Copy)]

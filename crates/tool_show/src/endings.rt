@@ -1,10 +1,10 @@
 ghost use Rattle.std.specs.Prelude.{◌≡◌, ◌++◌, IfOk, OnOk, string_bytes};
-ghost use Rattle.lset_drawing.specs.Pictures.{view};
+ghost use Rattle.tool_drawing.specs.Pictures.{view};
 ghost use Rattle.tool_show.specs.Endings.{miscount_line, IsEnding};
 
 use lset_counts::{Miscount, find_miscount};
-use lset_drawing::Picture;
 use std::alloc::{AllocError, Global};
+use tool_drawing::Picture;
 
 fn put_miscount(out: &mut String, miscount: Miscount) -> Result<(), AllocError>
     ensures { OnOk result (string_bytes out.new ≡ string_bytes out.old ++ miscount_line miscount) }

@@ -1,14 +1,14 @@
 ghost use Rattle.std.specs.Prelude.{◌≡◌, IfOk};
 ghost use Rattle.lset_report.specs.Report as reports;
-ghost use Rattle.lset_drawing.specs.Pictures.{view};
+ghost use Rattle.tool_drawing.specs.Pictures.{view};
 ghost use Rattle.tool_show.specs.ReportPictures.{IsPictureOfReport, changes_set, point_at, first_marked, drawn_points};
 
 use crate::bars::{bars_are_apart, order_has_its_points};
-use lset_drawing::Picture;
 use lset_history::{CallRecord, History, Placed, Refusal, first_points, why_refused};
 use lset_report::Report;
 use lset_words::{Call, Point, Reply};
 use std::alloc::{AllocError, Global};
+use tool_drawing::Picture;
 
 /// Whether a call with this reply changes the set.
 fn changes_set(call: Call, reply: Reply) -> bool

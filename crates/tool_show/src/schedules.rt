@@ -1,15 +1,15 @@
 ghost use Rattle.std.specs.Prelude.{IfOk};
 ghost use Rattle.lset_schedule.specs.Plan.{IsSchedule};
 ghost use Rattle.lset_schedule.specs.Plan as plan;
-ghost use Rattle.lset_drawing.specs.Pictures.{view};
+ghost use Rattle.tool_drawing.specs.Pictures.{view};
 ghost use Rattle.tool_show.specs.SchedulePictures.{IsPictureOfSchedule};
 
 use crate::bars::bars_are_apart;
-use lset_drawing::Picture;
 use lset_replay::{FrontReport, PlacedReport, replay_upto};
 use lset_report::Report;
 use lset_schedule::Schedule;
 use std::alloc::{AllocError, Global};
+use tool_drawing::Picture;
 
 /// The picture of a schedule's replay: the calls of its history, the order that explains it, with the points at which the
 /// calls of the run stand (`replay_upto`), and the keys that are left. The schedule is within its limits, as what

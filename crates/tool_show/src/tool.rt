@@ -1,11 +1,11 @@
 ghost use Rattle.std.specs.Prelude.{◌≡◌, ◌≢◌, ◌⊎◌, IfOk, IfErr, IfSome, IsTrue};
 ghost use Rattle.lset_schedule.specs.ScheduleReading as schedules;
 ghost use Rattle.lset_report.specs.ReportReading as reports;
-ghost use Rattle.lset_drawing.specs.Pictures.{view};
-ghost use Rattle.lset_tools.specs.Tools.{Ends, IsTaken};
-ghost use Rattle.lset_tools.specs.Tools as tools;
-ghost use Rattle.lset_tools.specs.Checking as checking;
-ghost use Rattle.lset_tools.specs.declared.trouble.Trouble.TheVariants.{Memory};
+ghost use Rattle.tool_drawing.specs.Pictures.{view};
+ghost use Rattle.tool_base.specs.Tools.{Ends, IsTaken};
+ghost use Rattle.tool_base.specs.Tools as tools;
+ghost use Rattle.tool_base.specs.Checking as checking;
+ghost use Rattle.tool_base.specs.declared.trouble.Trouble.TheVariants.{Memory};
 ghost use Rattle.tool_show.specs.Showing.{
   ShowsSchedule,
   ShowsReport,
@@ -20,12 +20,12 @@ ghost use Rattle.tool_show.specs.Showing.{
 };
 
 use crate::{Form, ending, picture_of_replay, picture_of_report};
-use lset_drawing::{Picture, Window, is_past_the_last, write_picture, write_svg};
 use lset_report::read_report;
 use lset_schedule::read_schedule;
-use lset_tools::{Answer, LONGEST, Trouble, ValueName, deliver, input_of};
 use std::alloc::{AllocError, Global};
 use std::io::{Read, Write};
+use tool_base::{Answer, LONGEST, Trouble, ValueName, deliver, input_of};
+use tool_drawing::{Picture, Window, is_past_the_last, write_picture, write_svg};
 
 /// The first line of a report's text of version 1.
 const TITLE_ONE: &[u8] = b"listset-report 1\n";

@@ -5,8 +5,8 @@ use Rattle.std.specs.declared.alloc.AllocError.{AllocError}
 use Rattle.std.specs.Io.KnownBytes.{Keeps}
 use Rattle.std.proofs.Common.{append-nil}
 use Rattle.std.proofs.KnownBytes.{Appends-nil, Appends-trans, Appends-kept, Keeps-trans}
-use Rattle.lset_tools.specs.declared.trouble.Trouble.TheVariants.{CannotWrite, Memory}
-use Rattle.lset_tools.specs.Tools.{Made, Ends, IsTaken}
+use Rattle.tool_base.specs.declared.trouble.Trouble.TheVariants.{CannotWrite, Memory}
+use Rattle.tool_base.specs.Tools.{Made, Ends, IsTaken}
 use Rattle.lset_steps.specs.declared.world.StepFault.{StepFault}
 use Rattle.lset_schedule.specs.Plan.{Plan, IsSchedule, schedule_text}
 use Rattle.tool_trace.specs.Tracing.{Grows, HowItEnds, IsHeard, IsTraced, Traces, made_for}

@@ -9,11 +9,11 @@ use Rattle.lset_schedule.specs.ScheduleReading.{reading}
 use Rattle.lset_replay.specs.declared.traced.TracedEvent.{TracedEvent}
 use Rattle.lset_replay.specs.Events.{events_of}
 use Rattle.lset_replay.specs.Tracing.{HearsEvents, TellsEvents}
-use Rattle.lset_tools.specs.declared.trouble.Trouble.{Trouble}
-use Rattle.lset_tools.specs.Trouble.{of_schedule}
-use Rattle.lset_tools.specs.Tools.{Made, Outcome, Delivers, AppendsFront, IsTaken, IsInputTrouble, line_of}
-use Rattle.lset_tools.specs.Tools as tools
-use Rattle.lset_tools.specs.declared.trouble.Trouble.TheVariants.{CannotWrite, Memory}
+use Rattle.tool_base.specs.declared.trouble.Trouble.{Trouble}
+use Rattle.tool_base.specs.Trouble.{of_schedule}
+use Rattle.tool_base.specs.Tools.{Made, Outcome, Delivers, AppendsFront, IsTaken, IsInputTrouble, line_of}
+use Rattle.tool_base.specs.Tools as tools
+use Rattle.tool_base.specs.declared.trouble.Trouble.TheVariants.{CannotWrite, Memory}
 use Rattle.std.specs.declared.alloc.AllocError.{AllocError}
 
 -- The bytes are the text of a schedule, and these are its events, each told, up to the first that is not enabled.

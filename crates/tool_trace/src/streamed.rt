@@ -16,10 +16,10 @@ use lset_optimistic::OptimisticList;
 use lset_replay::{CallEnd, Deed, Listener, TracedEvent, trace_to};
 use lset_schedule::{Line, Schedule};
 use lset_steps::{Event, Machine, StepFault, World};
-use lset_tools::put as put_out;
 use lset_words::{Kind, layout_opening};
 use std::alloc::{AllocError, Global};
 use std::io::Write;
+use tool_base::put as put_out;
 
 /// The most threads of a list.
 const MOST_THREADS: usize = 64;

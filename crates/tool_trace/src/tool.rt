@@ -1,17 +1,17 @@
 ghost use Rattle.std.specs.Prelude.{◌≡◌, ◌≢◌, ◌⊎◌, Err, IfErr, IfOk, IfSome};
 ghost use Rattle.lset_schedule.specs.Plan as plan;
 ghost use Rattle.lset_schedule.specs.ScheduleReading.{reading};
-ghost use Rattle.lset_tools.specs.Tools.{Ends, IsTaken, view};
-ghost use Rattle.lset_tools.specs.declared.trouble.Trouble.TheVariants.{Memory};
+ghost use Rattle.tool_base.specs.Tools.{Ends, IsTaken, view};
+ghost use Rattle.tool_base.specs.declared.trouble.Trouble.TheVariants.{Memory};
 ghost use Rattle.tool_trace.specs.Tracing.{HowItEnds, IsFirstFault, IsTraced, Traces, made_for, status_of};
 
 use crate::heard::text_of_run;
 use crate::streamed::{Known, known_of, write_run};
 use lset_schedule::{Schedule, read_schedule};
 use lset_steps::StepFault;
-use lset_tools::{Answer, LONGEST, Trouble, deliver, input_of};
 use std::alloc::{AllocError, Global};
 use std::io::{Read, Write};
+use tool_base::{Answer, LONGEST, Trouble, deliver, input_of};
 
 fn status_of(refused: Option<(u64, StepFault)>) -> u8
     ensures { result ≡ status_of refused }

@@ -1,11 +1,11 @@
 //! Pictures that no schedule and no report has: calls that end where a list's do not, points where they do not stand, and refusals
 //! of other orders.
-use lset_drawing::{Picture, Refusal, Window, write_picture};
 use lset_report::{Report, read_report};
 use lset_words::{Point, Reply};
 use std::alloc::Global;
 use std::process::Abort;
 use std::test::Fail;
+use tool_drawing::{Picture, Refusal, Window, write_picture};
 
 /// Every moment.
 const ALL: Window = Window {

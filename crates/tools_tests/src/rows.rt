@@ -4,11 +4,11 @@ use crate::row_texts::{
     CEILING, CEILING_REPORT, DRAWN, IDLE, IDLE_PICTURE, IDLE_TRACE, LEFT_OUT, NO_TITLE, OUTCOME,
     PICTURE, REFUSED_PICTURE, REPORT, SCHEDULE, SHEET, TRACE,
 };
-use lset_drawing::Window;
-use lset_tools::{tool_check, tool_gen, tool_replay};
 use std::alloc::{AllocError, Global};
 use std::sync::Wait;
 use std::thread::Threads;
+use tool_base::{tool_check, tool_gen, tool_replay};
+use tool_drawing::Window;
 use tool_examples::{Example, tool_example};
 use tool_run::tool_run;
 use tool_show::{Form, tool_show};

@@ -1,6 +1,6 @@
 use Rattle.std.proofs.Common.{Err, Some, None}
 use Rattle.lset_command.specs.CommandLine.{options_of}
-use Rattle.lset_tools.specs.declared.trouble.Trouble.TheVariants.{Bad}
+use Rattle.tool_base.specs.declared.trouble.Trouble.TheVariants.{Bad}
 use Rattle.lset_dispatch.specs.Dispatch.{ShowsBy}
 use Rattle.lset_dispatch.proofs.Endings.{as_asked, ends_with, wrong_option}
 use Rattle.lset_dispatch.proofs.command.show.Goals as goal

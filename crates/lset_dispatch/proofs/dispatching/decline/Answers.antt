@@ -1,7 +1,7 @@
 use Rattle.std.proofs.Common.{refl, inl, inr, Ok, Err}
 use Rattle.std.proofs.lemmas.Bool.{both_ways}
 use Rattle.clap.specs.Words.{kind_of}
-use Rattle.lset_tools.specs.declared.trouble.Trouble.TheVariants.{Memory}
+use Rattle.tool_base.specs.declared.trouble.Trouble.TheVariants.{Memory}
 use Rattle.lset_dispatch.specs.Dispatch.{Helps}
 use Rattle.lset_dispatch.proofs.Endings.{ends_with, is_help}
 use Rattle.lset_dispatch.proofs.dispatching.decline.Goals as goal

@@ -1,6 +1,6 @@
 use Rattle.std.proofs.Common.{Err, refl}
 use Rattle.lset_command.specs.CommandLine.{choice_in}
-use Rattle.lset_tools.specs.declared.trouble.Trouble.TheVariants.{CannotRead}
+use Rattle.tool_base.specs.declared.trouble.Trouble.TheVariants.{CannotRead}
 use Rattle.lset_dispatch.proofs.Endings.{ends_with, not_opened, on_file, on_input}
 use Rattle.lset_dispatch.proofs.dispatching.run_taken.Goals as goal
 

@@ -1,4 +1,4 @@
-use Rattle.lset_tools.specs.Tools.{view}
+use Rattle.tool_base.specs.Tools.{view}
 use Rattle.tool_show.proofs.RunPictures.{shown_of}
 use Rattle.tool_show.proofs.tool.drawn_of.Goals as goal
 

@@ -1,6 +1,6 @@
 use Rattle.std.proofs.Common.{Err}
 use Rattle.std.specs.Option.{IfSome}
-use Rattle.lset_tools.specs.Tools.{view}
+use Rattle.tool_base.specs.Tools.{view}
 use Rattle.tool_trace.specs.Tracing.{Traces, status_of}
 use Rattle.tool_trace.proofs.Written.{ended_as, ends_with, known_bytes, known_memory}
 use Rattle.tool_trace.proofs.tool.trace_through.Goals as goal

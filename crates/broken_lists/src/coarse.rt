@@ -1,0 +1,39 @@
+//! CoarseList without its lock.
+
+ghost use Rattle.std.specs.Prelude.{◌≡◌};
+ghost use Rattle.broken_tables.specs.WrongCoarse.{goes_without_lock};
+
+use crate::WrongMachine;
+use lset_coarse::{effect_of, fed_by, next_action};
+use lset_steps::rows::begun;
+use lset_steps::{Action, Fed, Local};
+use lset_words::{Call, Key, Kind};
+
+/// A call goes on from its try of the list's lock as if it had found it free.
+pub struct CallsWithoutTheLock;
+
+impl WrongMachine for CallsWithoutTheLock {
+    const KIND: Kind = Kind::Coarse;
+
+    ghost table = { goes_without_lock };
+
+    fn begin(call: Call, local: &Local) -> Local {
+        begun(1, call, local)
+    }
+
+    fn next(local: &Local) -> Action {
+        next_action(local)
+    }
+
+    fn feed(local: &Local, seen: u64) -> Fed {
+        if local.pc == 1 {
+            fed_by(local, 0)
+        } else {
+            fed_by(local, seen)
+        }
+    }
+
+    fn effect(local: &Local, seen: u64) -> Option<(Key, bool)> {
+        effect_of(local, seen)
+    }
+}

@@ -1,0 +1,88 @@
+//! LockFreeList: why a remove marks, why its exchange compares the mark and that of an add does too, why a `contains`
+//! looks at the mark, why a slot is used once, and why an add is not full too soon.
+
+ghost use Rattle.lset_steps.specs.Promises.{NamedChange, RepliesFit, UnlinkedNodesStay};
+ghost use Rattle.broken_tables.specs.Schedules.{add, contains};
+ghost use Rattle.broken_tables.specs.Findings.{
+  AbsentKeyIsRemoved,
+  AddedKeyIsLost,
+  PublishedKeyChanges,
+  Breaks,
+  ReplyNeverFits,
+  UnlinkedNodeChanges,
+};
+ghost use Rattle.broken_tables.specs.WrongLockFree.{
+  added_after_a_remove,
+  adds_whatever_mark,
+  asked_after_the_mark,
+  contains_by_key,
+  full_too_soon,
+  marked_before_the_exchange,
+  marks_twice,
+  one_add,
+  removes_without_mark,
+  two_removes,
+  unlinked_before_the_exchange,
+  uses_one_slot,
+};
+ghost use Rattle.lset_words.specs.declared.Reply.TheVariants.{True, Full};
+
+/// A `remove` that takes its node out and does not mark it first: an `add` that has found the node before puts its key in
+/// behind it, since the link is as it was. The key is lost. (Harris, whose marks are there for this.)
+///
+/// `threads 2 | quota 1 | begin 1 add 3 | go 1 6 | begin 0 add 5 | go 0 7 | begin 1 remove 3 | go 1 5 | go 0 1`
+pub fn remove_without_a_mark()
+    ensures changes { UnlinkedNodeChanges removes_without_mark unlinked_before_the_exchange 21 3 }
+    ensures loses { AddedKeyIsLost removes_without_mark unlinked_before_the_exchange 21 0 5 }
+    ensures unlinked_stays { Breaks removes_without_mark UnlinkedNodesStay }
+    ensures named_change { Breaks removes_without_mark NamedChange }
+{}
+
+/// An `add` whose exchange compares the next node and takes any mark puts its key in behind a node that was marked and
+/// taken out. The key is lost. (Harris.) Since an exchange of a table compares whole words, this `add` loads the link of
+/// `pred` first, and exchanges just the word that it saw.
+///
+/// `threads 2 | quota 1 | begin 1 add 3 | go 1 7 | begin 0 add 5 | go 0 7 | begin 1 remove 3 | go 1 6 | go 0 2`
+pub fn add_that_ignores_the_mark()
+    ensures changes { UnlinkedNodeChanges adds_whatever_mark marked_before_the_exchange 24 3 }
+    ensures loses { AddedKeyIsLost adds_whatever_mark marked_before_the_exchange 24 0 5 }
+    ensures unlinked_stays { Breaks adds_whatever_mark UnlinkedNodesStay }
+    ensures named_change { Breaks adds_whatever_mark NamedChange }
+{}
+
+/// A `remove` whose marking succeeds on a node that is marked already tells a second time that it has taken the key out:
+/// two removes of one key are on their way to answer `True`. (This project's own table, whose exchange fails there.)
+///
+/// `threads 2 | quota 1 | begin 0 add 5 | go 0 6 | begin 0 remove 5 | begin 1 remove 5 | go 0 4 | go 1 4 | go 0 1 |
+/// go 1 1`
+pub fn mark_on_a_marked_node()
+    ensures takes { AbsentKeyIsRemoved marks_twice two_removes 18 1 5 }
+    ensures named_change { Breaks marks_twice NamedChange }
+{}
+
+/// A `contains` that finds the node of its key and does not look at its mark answers `True` for a key that was taken out
+/// before the call began. (Herlihy and Shavit's wait-free `contains`.)
+///
+/// `threads 2 | quota 1 | begin 0 add 5 | go 0 6 | begin 0 remove 5 | go 0 5 | begin 1 contains 5 | go 1 3`
+pub fn contains_by_the_key_alone()
+    ensures answers { ReplyNeverFits contains_by_key asked_after_the_mark 16 1 (contains 5) True }
+    ensures replies_fit { Breaks contains_by_key RepliesFit }
+{}
+
+/// An `add` that takes the slot of a removed node writes another key into a node at which other threads may stand. (This
+/// project's profile, in which a slot is used once.)
+///
+/// `threads 1 | quota 2 | begin 0 add 3 | go 0 6 | begin 0 remove 3 | go 0 6 | begin 0 add 5 | go 0 4`
+pub fn slot_used_twice()
+    ensures changes { PublishedKeyChanges uses_one_slot added_after_a_remove 18 2 }
+    ensures unlinked_stays { Breaks uses_one_slot UnlinkedNodesStay }
+{}
+
+/// An `add` that answers `Full` one slot too soon: its thread has a free slot at each moment of the call. (This project's
+/// profile.)
+///
+/// `threads 1 | quota 1 | begin 0 add 5 | go 0 3`
+pub fn full_before_the_quota()
+    ensures answers { ReplyNeverFits full_too_soon one_add 3 0 (add 5) Full }
+    ensures replies_fit { Breaks full_too_soon RepliesFit }
+{}

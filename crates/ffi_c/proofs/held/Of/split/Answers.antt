@@ -1,0 +1,12 @@
+use Rattle.std.proofs.Common.{rules, Some, refl, sym, subst}
+use Rattle.std.specs.Arc.{arc_value}
+use Rattle.ffi_c.specs.Sets.{AddUp}
+use Rattle.ffi_c.proofs.Adding.{split_adds}
+use Rattle.ffi_c.proofs.held.Of.split.Goals as goal
+
+pub returns-clause-split : goal.returns-clause-split
+returns-clause-split g c =
+    let own = c.args.self.now in
+    let rest = c.pop.new.self.items in
+    let adds = split_adds (arc_value own.set) own.seat own.spare.items rest c.in_ok-seat.seat c.in_ok-seat.ensures.items own.spare_of in
+    (search rules, refl, subst (λ l. AddUp own.seat rest (Some c.in_ok-seat.seat) l own.seat own.spare.items) (sym c.new-spare.ensures.items) adds)

@@ -1,0 +1,92 @@
+-- What a function of C has done with what its seats held, by its answer.
+use Rattle.std.specs.Prelude.{◌≡◌, ◌≢◌, ◌⊎◌, ℕ, List, Bool, true, false, Option, Some, None}
+use Rattle.lset_words.specs.declared.Call.{Call}
+use Rattle.lset_words.specs.declared.Reply.{Reply}
+use Rattle.lset_words.specs.declared.Reply.TheVariants as reply
+use Rattle.lset_steps.specs.Steps.{Table}
+use Rattle.lset_live.specs.Seats.{SetValue, SeatValue}
+use Rattle.lset_live.specs.Explained.{HasAnswered}
+use Rattle.ffi_c.specs.declared.held.Held.{Held}
+use Rattle.ffi_c.specs.Sets.{table_in, set_in, seat_in, spare_in, keys_in, SameSet, IsKept, IsBoth, HasClosed, AreGiven}
+
+-- The call c was made from the seat and answered; or there is none, or the call did not end, and now there is none.
+abbrev pub HasCalledOf : Table → SetValue → Option SeatValue → Call → Option Reply → Option SeatValue → Type 0
+HasCalledOf T set (Some old) c (Some r) (Some new) = HasAnswered T set old c r new
+HasCalledOf T set old c None None = Unit {0}
+HasCalledOf T set old c r new = ⊥
+
+-- the number by which a call is answered
+abbrev pub code_of : Option Reply → ℕ
+code_of (Some reply.False) = 0
+code_of (Some reply.True) = 1
+code_of (Some reply.Full) = 2
+code_of (Some (reply.At k)) = 3
+code_of (Some reply.Nothing) = 4
+code_of None = 255
+
+abbrev pub CallsIn : Option Table → Option SetValue → Option SeatValue → Call → Option Reply → Option SeatValue → Type 0
+CallsIn (Some T) (Some set) old c r new = HasCalledOf T set old c r new
+CallsIn T set old c r new = r ≡ None
+
+-- The same of whatever a seat of C holds: it stays a seat of the same list and set, with the same seats to be split off; and no
+-- call is made of a closed set.
+pub record HasCalledHeld (h : Held) (c : Call) (r : Option Reply) (h' : Held) : Type 0 where
+  pub same : SameSet h h'
+  pub spare : spare_in h' ≡ spare_in h
+  pub keys : keys_in h' ≡ keys_in h
+  pub called : CallsIn (table_in h) (set_in h) (seat_in h) c r (seat_in h')
+
+-- and of a seat of C, whose call is answered by a number
+abbrev pub HasMade : Bool → Held → Call → ℕ → Bool → Held → Type 0
+HasMade true h c n true h' = (r : Option Reply) × (n ≡ code_of r) × HasCalledHeld h c r h'
+HasMade false h c n false h' = n ≡ 255
+HasMade full h c n full' h' = ⊥
+
+-- of a ceiling: at its reply AT, the key is written to `at`
+abbrev pub at_of : Option Reply → ℕ → ℕ
+at_of (Some (reply.At k)) a = k.0
+at_of r a = a
+
+abbrev pub HasCeiling : Bool → Held → Call → ℕ → ℕ → ℕ → Bool → Held → Type 0
+HasCeiling true h c n a a' true h' = (r : Option Reply) × (n ≡ code_of r) × HasCalledHeld h c r h' × (a' ≡ at_of r a)
+HasCeiling false h c n a a' false h' = (n ≡ 255) × (a' ≡ a)
+HasCeiling full h c n a a' full' h' = ⊥
+
+-- A seat that was full stays as it was, and the answer is IS_SEAT; an empty one is full, of a set that was opened so, where the
+-- answer is 0, and else stays empty.
+abbrev pub HasOpened : Bool → Held → (Held → Type 0) → ℕ → Bool → Held → Type 0
+HasOpened true h IsOpened n true h' = (n ≡ 15) × (h' ≡ h)
+HasOpened true h IsOpened n false h' = ⊥
+HasOpened false h IsOpened n true h' = (n ≡ 0) × IsOpened h'
+HasOpened false h IsOpened n false h' = n ≢ 0
+
+-- A full seat stays full, with all that it held, and an empty one empty.
+abbrev pub KeepsSeat : Bool → Held → Bool → Held → Type 0
+KeepsSeat true h true h' = IsKept h h'
+KeepsSeat false h false h' = Unit {0}
+KeepsSeat full h full' h' = ⊥
+
+-- Where the answer is 0, the other, which was empty, is full, with what was in the one, whose calling seat stays; else both are as
+-- they were.
+abbrev pub HasSplit : Bool → Held → Bool → Held → ℕ → Bool → Held → Bool → Held → Type 0
+HasSplit full h out g n full' h' out' g' =
+    ((n ≡ 0) × (full ≡ true) × (out ≡ false) × (full' ≡ true) × (out' ≡ true) × (seat_in h' ≡ seat_in h) × IsBoth h' g' h)
+    ⊎ ((n ≢ 0) × KeepsSeat full h full' h' × KeepsSeat out g out' g')
+
+-- Where the answer is 0, the one, full, has all seats of both, and the other, which was full, is empty; else both are as they were.
+abbrev pub HasGathered : Bool → Held → Bool → Held → ℕ → Bool → Held → Bool → Held → Type 0
+HasGathered into h from g n into' h' from' g' =
+    ((n ≡ 0) × (into ≡ true) × (from ≡ true) × (into' ≡ true) × (from' ≡ false) × IsBoth h g h')
+    ⊎ ((n ≢ 0) × KeepsSeat into h into' h' × KeepsSeat from g from' g')
+
+-- A full seat stays full: with the keys of the set, which is closed, where the answer is 0; and else as it was.
+abbrev pub EndsSet : Bool → Held → ℕ → Bool → Held → Type 0
+EndsSet true h n true h' = (n ≡ 0 → HasClosed h h') × (n ≢ 0 → IsKept h h')
+EndsSet false h n false h' = n ≡ 255
+EndsSet full h n full' h' = ⊥
+
+-- The keys of a closed set, which holds them still; and else the answer is 2^64 - 1, and nothing is written.
+abbrev pub GivesKeys : Bool → Held → List ℕ → List ℕ → ℕ → Bool → Held → Type 0
+GivesKeys true h old new n true h' = AreGiven (keys_in h) old new n × (h' ≡ h)
+GivesKeys false h old new n false h' = (n ≡ 18446744073709551615) × (new ≡ old)
+GivesKeys full h old new n full' h' = ⊥

@@ -1,0 +1,15 @@
+ghost use Rattle.tool_base.specs.Generating.{Generates};
+ghost use Rattle.tool_base.specs.Tools.{view};
+ghost use Rattle.ffi_page.specs.Page.{OfWords};
+
+use crate::words::words_in;
+use std::alloc::Global;
+use tool_base::{Answer, Trouble, generated};
+
+/// The schedule for which the values ask that the bytes hold.
+pub fn generated_by(alloc: Global, bytes: &[u8]) -> Result<Answer, Trouble>
+    ensures { OfWords Generates bytes.now (view result) }
+{
+    let values = words_in(alloc, bytes)?;
+    generated(alloc, &values)
+}

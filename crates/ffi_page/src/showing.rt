@@ -1,0 +1,51 @@
+ghost use Rattle.std.specs.Prelude.{◌≢◌, IfErr};
+ghost use Rattle.tool_base.specs.Tools.{view};
+ghost use Rattle.tool_base.specs.declared.trouble.Trouble.TheVariants.{CannotRead};
+ghost use Rattle.ffi_page.specs.Page.{AsksBy, ShowsBy, ShowsLackingBy};
+
+use crate::words::{option_at, words_in};
+use std::alloc::Global;
+use tool_base::{Answer, Trouble};
+use tool_broken::shown_lacking;
+use tool_drawing::Window;
+use tool_show::{Form, read_asked, shown};
+
+/// The form and the window for which the options ask. The errors are `Bad` where an option is wrong, and `Memory`.
+fn asked_by(alloc: Global, svg: bool, options: &[u8]) -> Result<(Form, Window), Trouble>
+    ensures { AsksBy svg options.now result }
+{
+    let words = words_in(alloc, options)?;
+    let from = option_at(&words, 0);
+    let to = option_at(&words, 1);
+    let width = option_at(&words, 2);
+    match read_asked(svg, from, to, width) {
+        Ok(asked) => Ok(asked),
+        Err(wrong) => Err(Trouble::Bad(wrong)),
+    }
+}
+
+/// The picture of the schedule or the report whose text the bytes are, as text or as an SVG (`svg`), within the moments and
+/// the width for which the options ask. The errors are those of `shown`, and `Bad` where an option is wrong.
+pub fn shown_by(alloc: Global, bytes: &[u8], svg: bool, options: &[u8]) -> Result<Answer, Trouble>
+    ensures shows { ShowsBy svg options.now bytes.now (view result) }
+    ensures read { IfErr result (λ t. t ≢ CannotRead) }
+{
+    let (form, window) = asked_by(alloc, svg, options)?;
+    shown(alloc, bytes, form, window)
+}
+
+/// The picture of the report of the run of the schedule whose text the bytes are, by the list that lacks the check of this name. The
+/// errors are those of `shown_lacking`, and `Bad` where an option is wrong.
+pub fn shown_lacking_by(
+    alloc: Global,
+    name: &[u8],
+    bytes: &[u8],
+    svg: bool,
+    options: &[u8],
+) -> Result<Answer, Trouble>
+    ensures shows { ShowsLackingBy svg options.now name.now bytes.now (view result) }
+    ensures read { IfErr result (λ t. t ≢ CannotRead) }
+{
+    let (form, window) = asked_by(alloc, svg, options)?;
+    shown_lacking(alloc, name, bytes, form, window)
+}

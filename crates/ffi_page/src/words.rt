@@ -1,0 +1,32 @@
+ghost use Rattle.std.specs.Prelude.{◌≡◌, IfOk, map, option_map, string_bytes};
+ghost use Rattle.ffi_page.specs.Page.{given_in, option_at, words_in};
+
+use std::alloc::{AllocError, Global};
+
+/// The words that the bytes hold, with a zero byte between two, as no word of a command line has one.
+pub fn words_in(alloc: Global, bytes: &[u8]) -> Result<Vec<String>, AllocError>
+    ensures { IfOk result (λ words. map string_bytes words.items ≡ words_in bytes.now) }
+{
+    let text = String::from_utf8_lossy(alloc, bytes)?;
+    let pieces: Vec<&str> = text.split('\0').collect(alloc)?;
+    let mut words = Vec::new(alloc);
+    for piece in &pieces {
+        words.push(String::from_str(alloc, piece)?)?;
+    }
+    Ok(words)
+}
+
+/// The text behind the `=` of a word; `None` where it begins otherwise, as an empty one.
+fn given(word: &str) -> Option<&str>
+    ensures { option_map (λ text. text.now) result ≡ given_in word.now }
+{
+    word.strip_prefix('=')
+}
+
+/// The text of the option whose word has this index, from 0. `None` where that word is missing, or has no `=` before a text: the
+/// option is not given.
+pub fn option_at(words: &[String], index: usize) -> Option<&str>
+    ensures { option_map (λ text. text.now) result ≡ option_at (map string_bytes words.now) index }
+{
+    given(words.get(index)?.as_str())
+}

@@ -1,0 +1,55 @@
+-- What `check` makes of an input.
+use Rattle.std.specs.Prelude.{◌≡◌, ◌≢◌, ℕ, ◌⊎◌, List, [], ◌++◌, codes, Option, Some, None, Result, Ok, Err}
+use Rattle.std.specs.Fmt.{decimal}
+use Rattle.lset_history.specs.declared.fault.OrderFault.{OrderFault}
+use Rattle.lset_history.specs.declared.fault.OrderFault.TheVariants.{Unknown, Twice, Missing, WrongReply, TooEarly, WrongSet}
+use Rattle.lset_history.specs.declared.fault.OrderFault.TheVariants.{Memory}
+use Rattle.lset_history.specs.Faults.{Explains, IsFault}
+use Rattle.lset_report.specs.declared.report_fault.ReportFault.{ReportFault}
+use Rattle.lset_report.specs.Report.{ReportValue}
+use Rattle.lset_report.specs.Texts.{report_text}
+use Rattle.lset_report.specs.ReportReading.{IsReport, reading}
+use Rattle.tool_base.specs.declared.trouble.Trouble.{Trouble}
+use Rattle.tool_base.specs.Trouble.{of_report}
+use Rattle.tool_base.specs.Tools.{AnswerValue, Made, IsTaken, IsInputTrouble}
+
+-- The order of a report has this first fault, and so it does not explain the history. Want of memory is no fault of an order.
+pub record IsRefused (r : ReportValue) (fault : OrderFault) : Type 0 where
+  pub first_fault : IsFault r.history r.order r.keys fault
+  pub of_the_order : fault ≢ Memory
+  pub not_explained : Explains r.history r.order r.keys → ⊥
+
+-- what is wrong with it, if anything: it explains the history and leaves just the keys, or has this first fault
+abbrev pub IsVerdict : ReportValue → Option OrderFault → Type 0
+IsVerdict r None = Explains r.history r.order r.keys
+IsVerdict r (Some fault) = IsRefused r fault
+
+-- the line about a refused order; there is none about want of memory
+abbrev pub refusal_text : OrderFault → List ℕ
+refusal_text (Unknown number) = codes "refused Unknown " ++ decimal number ++ codes "\n"
+refusal_text (Twice number) = codes "refused Twice " ++ decimal number ++ codes "\n"
+refusal_text (Missing number) = codes "refused Missing " ++ decimal number ++ codes "\n"
+refusal_text (WrongReply number) = codes "refused WrongReply " ++ decimal number ++ codes "\n"
+refusal_text (TooEarly number) = codes "refused TooEarly " ++ decimal number ++ codes "\n"
+refusal_text WrongSet = codes "refused WrongSet\n"
+refusal_text Memory = []
+
+-- what is written of a verdict, and the status
+abbrev pub answer_of : Option OrderFault → AnswerValue
+answer_of None = record { text = codes "ok\n"; status = 0 }
+answer_of (Some fault) = record { text = refusal_text fault; status = 1 }
+
+-- the answer on a report
+abbrev pub IsAnswerOn : ReportValue → AnswerValue → Type 0
+IsAnswerOn r answer = (verdict : Option OrderFault) × IsVerdict r verdict × (answer ≡ answer_of verdict)
+
+-- the first fault of the text
+abbrev pub IsFirstFault : Result ReportValue ReportFault → Trouble → Type 0
+IsFirstFault (Err fault) t = t ≡ of_report fault
+IsFirstFault (Ok r) t = ⊥
+
+-- what is made of the bytes of an input: the answer on the report whose text they are, or a trouble with the input, or its first
+-- fault
+abbrev pub Checks : List ℕ → Made → Type 0
+Checks bytes (Ok answer) = IsTaken bytes × (r : ReportValue) × IsReport r × (bytes ≡ report_text r) × IsAnswerOn r answer
+Checks bytes (Err t) = IsInputTrouble bytes t ⊎ (IsTaken bytes × IsFirstFault (reading bytes) t)

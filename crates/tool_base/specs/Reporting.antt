@@ -1,0 +1,31 @@
+-- What `report` makes of an input.
+use Rattle.std.specs.Prelude.{◌≡◌, ℕ, ◌⊎◌, List, Result, Ok, Err}
+use Rattle.lset_report.specs.Report.{ReportValue}
+use Rattle.lset_report.specs.Texts.{report_text}
+use Rattle.lset_calls.specs.declared.fault.CallsFault.{CallsFault}
+use Rattle.lset_calls.specs.declared.fault.ClashFault.{ClashFault}
+use Rattle.lset_calls.specs.Calls.{CallsValue, AreCalls}
+use Rattle.lset_calls.specs.Texts.{calls_text}
+use Rattle.lset_calls.specs.Reading.{reading}
+use Rattle.lset_calls.specs.Clashes.{IsRefusal}
+use Rattle.lset_calls.specs.Reports.{IsReportOf}
+use Rattle.tool_base.specs.declared.trouble.Trouble.{Trouble}
+use Rattle.tool_base.specs.Trouble.{of_calls, of_clash}
+use Rattle.tool_base.specs.Tools.{Made, IsTaken, IsInputTrouble}
+
+-- The bytes are the text of calls, and this is their report.
+pub record IsReported (bytes : List ℕ) (c : CallsValue) (r : ReportValue) : Type 0 where
+  pub calls : AreCalls c
+  pub text : bytes ≡ calls_text c
+  pub report : IsReportOf c r
+
+-- the first fault of the text, or of its calls beside each other
+abbrev pub IsFirstFault : Result CallsValue CallsFault → Trouble → Type 0
+IsFirstFault (Err fault) t = t ≡ of_calls fault
+IsFirstFault (Ok c) t = (refusal : ClashFault) × (t ≡ of_clash refusal) × IsRefusal c refusal
+
+-- what is made of the bytes of an input: the text of the report, or a trouble with the input, or its first fault
+abbrev pub Reports : List ℕ → Made → Type 0
+Reports bytes (Ok answer) =
+    IsTaken bytes × (c : CallsValue) × (r : ReportValue) × IsReported bytes c r × (answer ≡ record { text = report_text r; status = 0 })
+Reports bytes (Err t) = IsInputTrouble bytes t ⊎ (IsTaken bytes × IsFirstFault (reading bytes) t)

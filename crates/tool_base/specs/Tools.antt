@@ -1,0 +1,74 @@
+-- How a tool ends, whatever it makes of its input.
+use Rattle.std.specs.Prelude.{◌≡◌, ℕ, ◌<◌, ◌≤◌, List, [], ◌++◌, length, Option, Result, Ok, Err}
+use Rattle.std.specs.Io.KnownBytes.{Appends, Keeps}
+use Rattle.tool_base.specs.declared.answer.Answer.{Answer}
+use Rattle.tool_base.specs.declared.streams.TheConstants.{LONGEST}
+use Rattle.tool_base.specs.declared.trouble.Trouble.{Trouble}
+use Rattle.tool_base.specs.declared.trouble.Trouble.TheVariants.{CannotRead, TooLong, CannotWrite, Memory, Line, Bad}
+use Rattle.tool_base.specs.declared.trouble.Trouble.TheVariants.{CannotListen, Work, Serve}
+use Rattle.tool_base.specs.Trouble.{trouble_text}
+use Rattle.tool_base.specs.Trouble as trouble
+
+-- an answer without where its text lies in memory
+pub record AnswerValue : Type 0 where
+  pub text : List ℕ
+  pub status : ℕ
+
+-- what a tool makes of its input: a text for the output with an exit status, or a trouble
+abbrev pub Made : Type 0
+Made = Result AnswerValue Trouble
+
+abbrev pub view : Result Answer Trouble → Made
+view (Ok answer) = Ok (record { text = answer.text.items; status = answer.status })
+view (Err t) = Err t
+
+-- What comes of that: the answer's text was written, and the status is the answer's, or a line about a trouble is due.
+abbrev pub Outcome : Type 0
+Outcome = Result ℕ Trouble
+
+-- How what was made reaches an output:
+abbrev pub Delivers : Made → Option (List ℕ) → Option (List ℕ) → Outcome → Type 0
+-- the text of an answer is written whole,
+Delivers (Ok answer) old new (Ok status) = (status ≡ answer.status) × Appends old new answer.text
+-- or a front of it, where a write failed;
+Delivers (Ok answer) old new (Err t) =
+    (t ≡ CannotWrite) × (front : List ℕ) × (rest : List ℕ) × (answer.text ≡ front ++ rest) × Appends old new front
+-- a trouble writes nothing.
+Delivers (Err made) old new (Ok status) = ⊥
+Delivers (Err made) old new (Err t) = (t ≡ made) × Keeps old new
+
+abbrev pub status_of : Outcome → ℕ
+status_of (Ok status) = status
+status_of (Err t) = trouble.status_of t
+
+-- the line on standard error, of which a front is written where a write fails
+abbrev pub line_of : Outcome → List ℕ
+line_of (Ok status) = []
+line_of (Err t) = trouble_text t
+
+abbrev pub AppendsFront : Option (List ℕ) → Option (List ℕ) → List ℕ → Type 0
+AppendsFront old new text = (front : List ℕ) × (rest : List ℕ) × (text ≡ front ++ rest) × Appends old new front
+
+-- A tool that makes something of its input ends so: what it made reaches the output, a trouble gets its line, and the exit
+-- status is
+-- that of the outcome.
+abbrev pub Ends : (Made → Type 0) → Option (List ℕ) → Option (List ℕ) → Option (List ℕ) → Option (List ℕ) → ℕ → Type 0
+Ends IsMade output_old output_new faults_old faults_new status =
+    (made : Made) × (outcome : Outcome) × IsMade made × Delivers made output_old output_new outcome
+    × AppendsFront faults_old faults_new (line_of outcome) × (status ≡ status_of outcome)
+
+-- an input that is not too long
+abbrev pub IsTaken : List ℕ → Type 0
+IsTaken bytes = length bytes ≤ LONGEST
+
+-- a trouble with an input of these bytes that is no trouble with what they say
+abbrev pub IsInputTrouble : List ℕ → Trouble → Type 0
+IsInputTrouble bytes CannotRead = Unit {0}
+IsInputTrouble bytes TooLong = LONGEST < length bytes
+IsInputTrouble bytes CannotWrite = ⊥
+IsInputTrouble bytes Memory = Unit {0}
+IsInputTrouble bytes (Line number cause) = ⊥
+IsInputTrouble bytes (Bad wrong) = ⊥
+IsInputTrouble bytes CannotListen = ⊥
+IsInputTrouble bytes (Work name) = ⊥
+IsInputTrouble bytes (Serve name) = ⊥

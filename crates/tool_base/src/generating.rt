@@ -1,0 +1,106 @@
+ghost use Rattle.std.specs.Prelude.{◌≡◌, map, string_bytes, MatchResult};
+ghost use Rattle.lset_schedule.specs.Generating.{IsAccepted};
+ghost use Rattle.lset_schedule.specs.Plan.{view};
+ghost use Rattle.lset_lists.specs.Tables.{table_of};
+ghost use Rattle.lset_schedule.specs.declared.fault.GenFault.TheVariants.{Memory};
+ghost use Rattle.tool_base.specs.Generating.{of_generator, Generates, IsRequested};
+ghost use Rattle.tool_base.specs.Tools.{Ends};
+ghost use Rattle.tool_base.specs.Tools as tools;
+ghost use Rattle.tool_base.specs.declared.trouble.Trouble.TheVariants.{Bad};
+
+use crate::answer::{Answer, deliver};
+use crate::trouble::{Trouble, ValueName};
+use crate::values::{RandomRequest, read_random_request};
+use lset_lists::{List, Task, on_list};
+use lset_schedule::{GenFault, Schedule, generate, write_schedule};
+use std::alloc::Global;
+use std::io::Write;
+
+impl From<ValueName> for Trouble {
+    ghost from_gives = { λ name t. t ≡ Bad name };
+
+    fn from(name: ValueName) -> Trouble {
+        Trouble::Bad(name)
+    }
+}
+
+impl From<GenFault> for Trouble {
+    ghost from_gives = { λ e t. t ≡ of_generator e };
+
+    fn from(fault: GenFault) -> Trouble {
+        match fault {
+            GenFault::Threads => Trouble::Bad(ValueName::Threads),
+            GenFault::Quota => Trouble::Bad(ValueName::Quota),
+            GenFault::Keys => Trouble::Bad(ValueName::Keys),
+            GenFault::Memory => Trouble::Memory,
+        }
+    }
+}
+
+/// The generating of a schedule, whatever its list.
+#[derive(Clone, Copy)]
+struct Generating {
+    alloc: Global,
+    request: RandomRequest,
+}
+
+impl Task for Generating {
+    type Out = Result<Schedule, GenFault>;
+
+    ghost may = { λ task kind. (kind ≡ task.request.kind)
+        × IsAccepted task.request.threads task.request.quota task.request.keys };
+
+    ghost done = { λ task table result. MatchResult result (λ s. IsRequested table task.request (view s)) (λ fault. fault ≡ Memory) };
+
+    fn run<M: List>(self) -> Result<Schedule, GenFault> {
+        let RandomRequest {
+            threads,
+            quota,
+            calls,
+            keys,
+            seed,
+            ..
+        } = self.request;
+        generate::<M>(self.alloc, threads, quota, calls, keys, seed)
+    }
+}
+
+/// A schedule of the list that the request names.
+fn schedule_for(alloc: Global, request: RandomRequest) -> Result<Schedule, GenFault>
+    requires { IsAccepted request.threads request.quota request.keys }
+    ensures { MatchResult result (λ s. IsRequested (table_of request.kind) request (view s)) (λ fault. fault ≡ Memory) }
+{
+    on_list(request.kind, Generating { alloc, request })
+}
+
+/// The schedule that the values ask for, which are those of `tool_gen`: its text, with status 0. The error is `Bad` with the
+/// first value that is missing or wrong, and `Memory` where memory was refused.
+pub fn generated(alloc: Global, values: &[String]) -> Result<Answer, Trouble>
+    ensures { Generates (map string_bytes values.now) (tools.view result) }
+{
+    let request = read_random_request(values)?;
+    let schedule = schedule_for(alloc, request)?;
+    let text = write_schedule(alloc, &schedule)?;
+    Ok(Answer { text, status: 0 })
+}
+
+/// Writes a random schedule, of version 1, on the output.
+///
+/// `values` are KIND THREADS QUOTA CALLS KEYS SEED in this order; those past the last are not looked at. KIND is the word
+/// for a list, the rest are decimals without leading zeros: THREADS 1 to 64, QUOTA 0 to 16,384, CALLS 0 to 10,000, KEYS 1
+/// to 4,294,967,295, SEED 0 to 2^64 - 1. The schedule ends at 10,000 events, so it may begin fewer calls.
+///
+/// The exit status is 0 where it was written. Else one line on `faults` says why, where it can be written: 2 for the first
+/// wrong value or one that is missing, 3 where memory was refused, 1 for anything else.
+pub fn tool_gen<W: Write, F: Write>(
+    alloc: Global,
+    values: &[String],
+    output: &mut W,
+    faults: &mut F,
+) -> u8
+    ensures { Ends (Generates (map string_bytes values.now))
+        (W.contents output.old) (W.contents output.new) (F.contents faults.old) (F.contents faults.new) result }
+{
+    let made = generated(alloc, values);
+    deliver(alloc, made, output, faults)
+}

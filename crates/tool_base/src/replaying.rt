@@ -1,0 +1,62 @@
+ghost use Rattle.std.specs.Prelude.{◌≡◌, ◌≢◌, ◌⊎◌, IfErr, IfSome};
+ghost use Rattle.lset_schedule.specs.ScheduleReading.{reading};
+ghost use Rattle.tool_base.specs.Tools.{Ends, IsTaken, view};
+ghost use Rattle.tool_base.specs.Replaying.{IsFirstFault, Replays};
+ghost use Rattle.tool_base.specs.declared.trouble.Trouble.TheVariants.{CannotRead, Memory};
+
+use crate::answer::{Answer, deliver};
+use crate::streams::{LONGEST, input_of};
+use crate::trouble::Trouble;
+use lset_replay::replay;
+use lset_report::write_report;
+use lset_schedule::read_schedule;
+use std::alloc::Global;
+use std::io::{Read, Write};
+
+/// The text of the report of the schedule whose text the bytes are.
+fn report_of(alloc: Global, bytes: &[u8]) -> Result<Answer, Trouble>
+    requires { IsTaken bytes.now }
+    ensures replays { Replays bytes.now (view result) }
+    ensures trouble { IfErr result (λ t. (t ≡ Memory) ⊎ IsFirstFault (reading bytes.now) t) }
+{
+    let schedule = read_schedule(alloc, bytes)?;
+    let report = replay(alloc, &schedule)?;
+    let text = write_report(alloc, &report)?;
+    Ok(Answer { text, status: 0 })
+}
+
+/// Replays the schedule whose text the bytes are: the text of its report, with status 0. The error is `TooLong` where there
+/// are more than `LONGEST` bytes, `Line` with the first fault of the text, or with the first event that is not enabled,
+/// and `Memory` where memory was refused.
+pub fn replayed(alloc: Global, bytes: &[u8]) -> Result<Answer, Trouble>
+    ensures replays { Replays bytes.now (view result) }
+    ensures read { IfErr result (λ t. t ≢ CannotRead) }
+{
+    if bytes.len() > LONGEST {
+        return Err(Trouble::TooLong);
+    }
+    report_of(alloc, bytes)
+}
+
+fn replayed_input<R: Read>(alloc: Global, input: &mut R) -> Result<Answer, Trouble>
+    ensures { IfSome (R.remaining input.old) (λ bytes. Replays bytes (view result)) }
+{
+    let bytes = input_of(alloc, input)?;
+    replayed(alloc, &bytes)
+}
+
+/// Replays the schedule on the input: writes its report on the output, or one line about what is wrong on
+/// `faults`, and gives the exit status: 0 where the report was written, 3 where memory was refused, else 1.
+/// A failing write on `faults` leaves the status as it is.
+pub fn tool_replay<R: Read, W: Write, F: Write>(
+    alloc: Global,
+    input: &mut R,
+    output: &mut W,
+    faults: &mut F,
+) -> u8
+    ensures { Ends (λ made. IfSome (R.remaining input.old) (λ bytes. Replays bytes made))
+        (W.contents output.old) (W.contents output.new) (F.contents faults.old) (F.contents faults.new) result }
+{
+    let made = replayed_input(alloc, input);
+    deliver(alloc, made, output, faults)
+}

@@ -1,0 +1,107 @@
+//! The moments at which something happens in a picture.
+ghost use Rattle.std.specs.Prelude.{◌≡◌};
+ghost use Rattle.tool_drawing.specs.Pictures.{view};
+ghost use Rattle.std.specs.List.{list_any};
+ghost use Rattle.tool_drawing.specs.Moments.{ends_from, reaches, stands_from, is_told, is_past, is_past_the_last};
+
+use crate::picture::points_of;
+use crate::{MOST_COLUMNS, Picture, Window};
+use lset_words::{CallRecord, Point, Reply};
+use std::alloc::{AllocError, Global};
+
+fn ends_from(ended: Option<(u32, Reply)>, moment: u32) -> bool
+    ensures { result ≡ ends_from moment ended }
+{
+    match ended {
+        None => false,
+        Some((end, _)) => moment <= end,
+    }
+}
+
+fn reaches(made: &CallRecord, moment: u32) -> bool
+    ensures { result ≡ reaches moment made.now }
+{
+    moment <= made.begun || ends_from(made.ended, moment)
+}
+
+fn stands_from(point: &Point, moment: u32) -> bool
+    ensures { result ≡ stands_from moment point.now }
+{
+    moment <= point.moment
+}
+
+fn any_reaches(calls: &[CallRecord], moment: u32) -> bool
+    ensures { result ≡ list_any (reaches moment) calls.now }
+{
+    calls.iter().any(|made| reaches(made, moment))
+}
+
+fn any_stands(points: &[Point], moment: u32) -> bool
+    ensures { result ≡ list_any (stands_from moment) points.now }
+{
+    points.iter().any(|point| stands_from(point, moment))
+}
+
+fn is_told(calls: &[CallRecord], points: &[Point]) -> bool
+    ensures { result ≡ is_told calls.now points.now }
+{
+    !(calls.is_empty() && points.is_empty())
+}
+
+fn is_past(calls: &[CallRecord], points: &[Point], from: u32) -> bool
+    ensures { result ≡ is_past calls.now points.now from }
+{
+    is_told(calls, points) && !(any_reaches(calls, from) || any_stands(points, from))
+}
+
+/// Whether a moment, counted from 1, comes after the last one at which a call of the picture begins, stands or ends, so that a
+/// window from there has no column. Of a picture without calls no moment does.
+pub fn is_past_the_last(picture: &Picture, from: u32) -> bool
+    ensures { result ≡ is_past_the_last (view picture.now) from }
+{
+    is_past(picture.history.calls(), points_of(picture), from)
+}
+
+/// The earlier of two moments, where the second counts if it is not before `from`.
+fn sooner(best: Option<u32>, from: u64, moment: u32) -> Option<u32> {
+    match best {
+        _ if u64::from(moment) < from => best,
+        Some(other) if other < moment => best,
+        _ => Some(moment),
+    }
+}
+
+/// The first moment, not before `from`, at which a call begins, stands or ends.
+pub fn next_moment(picture: &Picture, from: u64) -> Option<u32> {
+    let mut best = None;
+    for made in picture.history.calls() {
+        best = sooner(best, from, made.begun);
+        if let Some((end, _)) = made.ended {
+            best = sooner(best, from, end);
+        }
+    }
+    for point in points_of(picture) {
+        best = sooner(best, from, point.moment);
+    }
+    best
+}
+
+/// The moments of a window that have a column.
+pub fn moments_shown(
+    alloc: Global,
+    picture: &Picture,
+    window: Window,
+) -> Result<Vec<u32>, AllocError> {
+    let mut moments = Vec::new(alloc);
+    let mut from = u64::from(window.from);
+    for _shown in 0..MOST_COLUMNS {
+        match next_moment(picture, from) {
+            Some(moment) if moment <= window.to => {
+                moments.push(moment)?;
+                from = u64::from(moment) + 1;
+            }
+            _ => return Ok(moments),
+        }
+    }
+    Ok(moments)
+}

@@ -1,0 +1,78 @@
+ghost use Rattle.std.specs.Prelude.{◌≡◌};
+ghost use Rattle.tool_drawing.specs.Pictures.{are_known, points_of, view};
+
+use lset_history::{History, Refusal};
+use lset_steps::StepFault;
+use lset_words::{CallRecord, Kind, Placed, Point};
+
+/// The picture of a history: its bars are the calls, by number; the order of the calls, with the point of each place where
+/// they are known; the keys that are left; of a refused order, why; and of a schedule, which event is refused. The points never
+/// fall along the order; they are drawn where there is one for each place and no refusal.
+#[derive(Drop)]
+pub struct Picture {
+    pub kind: Kind,
+    pub history: History,
+    /// Of a schedule: how many events were made.
+    pub events: Option<u32>,
+    pub order: Vec<Placed>,
+    /// One for each place of the order, or none where the order is refused.
+    pub points: Vec<Point>,
+    pub keys: Vec<u32>,
+    pub refusal: Option<Refusal>,
+    /// Of a schedule: the number of the line of its first event that is not enabled, and the cause.
+    pub refused: Option<(u64, StepFault)>,
+}
+
+/// The moments that are drawn, from the first to the last; of those only the first 64 at which something happens.
+#[derive(Clone, Copy)]
+pub struct Window {
+    pub from: u32,
+    pub to: u32,
+}
+
+impl Window {
+    /// Whether it holds each moment.
+    pub fn is_whole(self) -> bool {
+        self.from <= 1 && self.to == u32::MAX
+    }
+}
+
+/// Whether there is a point for each place of the order, and no refusal.
+pub fn are_known(picture: &Picture) -> bool
+    ensures { result ≡ are_known (view picture.now) }
+{
+    picture.refusal.is_none() && picture.points.len() == picture.order.len()
+}
+
+/// The points that are drawn.
+pub fn points_of(picture: &Picture) -> &[Point]
+    ensures { result.now ≡ points_of (view picture.now) }
+{
+    if are_known(picture) {
+        &picture.points
+    } else {
+        &[]
+    }
+}
+
+/// A place of the order with its call, where the history has it, and its point, where it is known.
+#[derive(Clone, Copy)]
+pub struct Standing {
+    pub placed: Placed,
+    pub made: Option<CallRecord>,
+    pub point: Option<Point>,
+}
+
+fn standing_of(picture: &Picture, index: usize, placed: Placed) -> Standing {
+    Standing {
+        placed,
+        made: picture.history.calls().get(placed.call as usize).copied(),
+        point: points_of(picture).get(index).copied(),
+    }
+}
+
+/// The place of the order with this index, from 0.
+pub fn standing_at(picture: &Picture, index: usize) -> Option<Standing> {
+    let placed = picture.order.get(index)?;
+    Some(standing_of(picture, index, *placed))
+}
