@@ -127,7 +127,7 @@ def write_seconds(kind, steps, tasks):
 
 def edits_of(name):
     """How many must-fail edits a crate has, in brackets."""
-    folder = f"{TOP}/must-fail/{name}"
+    folder = f"{TOP}/mutants/gate/{name}"
     return f" ({sum(it.endswith('.edit') for it in os.listdir(folder))})" if os.path.isdir(folder) else ""
 
 

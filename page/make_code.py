@@ -1,5 +1,5 @@
 """The plain loops of the proved crates as code.js: the functions that make the steps of calls, as they stand in the source, with
-the rows of its list's table that each line makes (.ci/rows), so that the page shows each thread at its line."""
+the rows of its list's table that each line makes (docs/make/rows), so that the page shows each thread at its line."""
 import json
 import re
 import sys
@@ -76,7 +76,7 @@ def function_text(code):
 
 
 def code_text(place):
-    """The text of code.js, of the sources that .ci/rows, which stands at this place, knows."""
+    """The text of code.js, of the sources that docs/make/rows, which stands at this place, knows."""
     rows = module_at(place)
     files = dict.fromkeys(file for some in rows.LISTS.values() for file in some)
     functions = [f'  "crates/{file}": [\n{"".join(map(function_text, code_of(rows, file)))}  ],\n' for file in files]

@@ -1,6 +1,6 @@
 """Pages of docs/ as HTML, to be read beside the page: each picture leads into its run, moment by moment, each line of a trace to its
 event, each row of a table to an event of an example that makes it (traces.js), where one does, and each list that lacks a check into
-the schedule that breaks it (examples/lacks).
+the schedule that breaks it (examples/schedules/lacks).
 
 Of Markdown they have what those pages use: headings, paragraphs, lists, tables, blocks of code, and in a line code, bold, italic,
 links.
@@ -14,7 +14,7 @@ KINDS = {"CoarseList": "coarse", "FineList": "fine", "OptimisticList": "optimist
 SPAN = re.compile(r"(`[^`]+`)|\[([^\]]+)\]\(([^)\s]+)\)|\*\*(.+?)\*\*|(?<![\w*])\*([^*]+)\*(?![\w*])")
 PICTURE = re.compile(r"[a-z-]+ list, \d+ threads?, quota \d+: \d+ calls? in (\d+) events?$")
 EVENT = re.compile(r"event \d+ line \d+ thread (\d+) (begin )?.*? pc (\d+)(?: |$)")
-FILE = re.compile(r"`examples/([a-z-]+)\.schedule`")
+FILE = re.compile(r"`examples/schedules/([a-z-]+)\.schedule`")
 LACKING = re.compile(r"`([a-z-]+)` \([a-z-]+\): ")  # how an item of CLASSIC.md begins that is of a list which lacks a check
 NUMBER = re.compile(r"\d+")
 HEAD = """<!doctype html>
@@ -260,9 +260,9 @@ def page_of(source, text, runs, broken):
 
 
 def docs_made(top):
-    """The pages by name, from docs/, page/traces.js and examples/lacks; and of each the rows that no example makes."""
+    """The pages by name, from docs/, page/traces.js and examples/schedules/lacks; and of each the rows that no example makes."""
     runs = Runs((top / "page" / "traces.js").read_text(encoding="utf-8"))
-    broken = {it.stem: it.read_text(encoding="utf-8") for it in (top / "examples" / "lacks").glob("*.schedule")}
+    broken = {it.stem: it.read_text(encoding="utf-8") for it in (top / "examples" / "schedules" / "lacks").glob("*.schedule")}
     made = {name: page_of(it, (top / "docs" / it).read_text(encoding="utf-8"), runs, broken) for it, name in PAGES.items()}
     for name, (text, _) in made.items():
         for page, heading in re.findall(r'href="([a-z-]+\.html)?#([\w-]+)"', text):

@@ -1,4 +1,4 @@
-// node tests/break_it.js: lists that lack a check, each broken by a schedule of examples/lacks, as docs/CLASSIC.md says; drafts on
+// node tests/break_it.js: lists that lack a check, each broken by a schedule of examples/schedules/lacks, as docs/CLASSIC.md says; drafts on
 // them, what is handed in, and a lesson that has one. Prints how many checks passed, and what failed, as JSON.
 "use strict";
 
@@ -22,7 +22,7 @@ function check(name, isGood) {
 }
 
 const plain = (text) => text.replace(/<[^>]*>/g, "");
-const scheduleOf = (name) => fs.readFileSync(path.join(TOP, "examples", "lacks", `${name}.schedule`), "utf8");
+const scheduleOf = (name) => fs.readFileSync(path.join(TOP, "examples", "schedules", "lacks", `${name}.schedule`), "utf8");
 const startOf = inPage("startOfLacking");
 const LOST = /^(\d+) was put in once and never taken out, and the set lacks it$/; // as docs/CLASSIC.md tells it in short
 const isUncounted = (name) => inPage("UNCOUNTED").includes(name);

@@ -8,7 +8,7 @@ import subprocess
 from concurrent.futures import ThreadPoolExecutor
 
 TOP = pathlib.Path(__file__).resolve().parent.parent.parent
-DATA = TOP / "transcripts" / "data"
+DATA = TOP / "tests" / "transcripts" / "data"
 GENERATED = 2  # of each list
 REFUSED = 20
 SECONDS = 120
@@ -118,7 +118,7 @@ def asked(program, names, folder):
     yield from (([*words, name], b"") for name in names for words in (["example"], ["example", "--broken"]))
     drawn = [*filter(None, broken), *refused(dice, reports)]
     yield from ((["show", *words], text) for text in drawn for words in ([], ["--svg"]))
-    for file in sorted((TOP / "examples" / "lacks").glob("*.schedule")):
+    for file in sorted((TOP / "examples" / "schedules" / "lacks").glob("*.schedule")):
         lacks = [str(file), "--lacks", file.stem]
         yield from (([*words, *lacks], b"") for words in (["replay"], ["trace", "--chain"], ["show"], ["show", "--svg"]))
     for word, files in (("draft", "drafts/*.draft"), ("report", "recorded/*.calls")):

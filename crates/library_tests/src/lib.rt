@@ -1,4 +1,4 @@
-//! The tests of the libraries that the program's output does not show: `transcripts`, `.ci/examples` and `.ci/beside_a_set` have
+//! The tests of the libraries that the program's output does not show: `transcripts`, `tests/examples.py` and `tests/random_runs.py` have
 //! what it does.
 #![tactic(auto)]
 

@@ -1,4 +1,4 @@
-//! The texts of the examples, as they lie in `examples/`; `.ci/examples` compares the two.
+//! The texts of the examples, as they lie in `examples/`; `tests/examples.py` compares the two.
 
 pub const FAILED_TRIES: &str = "\
 listset-schedule 1

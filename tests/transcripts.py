@@ -1,0 +1,205 @@
+#!/usr/bin/env python3
+"""Runs the commands of tests/transcripts/*.md, and those that README and the other pages show, with the built program, and compares what
+they print with what the pages have, to the byte.
+
+    tests/transcripts.py [--show] [--program PROGRAM] [PAGE[/TEST] ..]     PROGRAM is the proved one of crates/listset where it is left out
+
+A heading `## NAME` begins a test. Its lines that are indented by four spaces are commands and what they print:
+
+    $ COMMAND     bash is given it, in a room of its own with the files of tests/transcripts/data; `listset` is the program there
+    > LINE        the command goes on (as of a here-document)
+    ! LINE        a line of standard error; ! alone is an empty one
+    ? N           the status; 0 where it is not told
+    .             at the end of a command: its output has no newline at its end
+    LINE          any other: a line of the output
+
+All other lines are prose. The commands of one test run in turn, in one room; tests run side by side. A command that runs for
+60 seconds fails.
+
+In any other page a test is a block of lines that are indented by four spaces, or stand below ```sh, and of which the first is a command.
+Its room has the files of the repository, and ./listset is the program there. Output and then standard error are compared, without the
+status, and a line .. stands for any lines, also none.
+
+`--show` prints what the commands of these tests print now, as a page has it. The last line is 'N passed, M failed'.
+"""
+
+import argparse
+import concurrent.futures
+import os
+import re
+import shutil
+import subprocess
+import sys
+import tempfile
+
+sys.dont_write_bytecode = True
+
+from harness.program import TOP, add_program
+
+PAGES = TOP / "tests" / "transcripts"
+DATA = PAGES / "data"
+OTHER_PAGES = [TOP / "README.md", TOP / "page" / "README.md", TOP / "examples" / "README.md", *sorted((TOP / "docs").glob("*.md"))]
+SHOWN = re.compile(r"(?:^    .*\n|^\n(?=    ))+|^```sh\n(?:.*\n)*?```$", re.MULTILINE)
+LEFT_OUT = ".."
+INDENT = "    "
+SECONDS = 60
+
+
+class Step:
+    """A command, and the lines that the page has of it."""
+
+    def __init__(self, command, number):
+        self.command, self.number, self.lines = [command], number, []
+
+    def told(self):
+        """What the command prints, as the page has it."""
+        while self.lines and not self.lines[-1]:
+            self.lines.pop()
+        return self.lines
+
+
+def tests_of(page):
+    """The tests of a page: of each its name and its steps."""
+    tests, name = {}, None
+    for number, line in enumerate(page.read_text(encoding="utf-8").split("\n"), 1):
+        if line.startswith("## "):
+            name = line.removeprefix("## ")
+            if name in tests:
+                sys.exit(f"transcripts: {page.name}:{number}: a second {name}")
+            tests[name] = []
+        elif line.startswith(INDENT + "$ ") and name:
+            tests[name].append(Step(line.removeprefix(INDENT + "$ "), number))
+        elif line.startswith(INDENT) and name and tests[name]:
+            step, text = tests[name][-1], line.removeprefix(INDENT)
+            if text.startswith("> ") and not step.lines:
+                step.command.append(text.removeprefix("> "))
+            else:
+                step.lines.append(text)
+        elif not line and name and tests[name]:
+            tests[name][-1].lines.append("")
+        elif line.startswith(INDENT):
+            sys.exit(f"transcripts: {page.name}:{number}: it belongs to no command")
+    for name, steps in tests.items():
+        if not steps:
+            sys.exit(f"transcripts: {page.name}: {name} has no command")
+    return tests
+
+
+def tests_shown(page):
+    """The tests of a page that shows commands for a reader: of each its line and its steps."""
+    text = page.read_text(encoding="utf-8")
+    for block in SHOWN.finditer(text):
+        shown = re.sub("^```(?:sh)?$|^    ", "", block[0], flags=re.MULTILINE).strip("\n").split("\n")
+        number, steps = text.count("\n", 0, block.start()) + 1, []
+        for at, line in enumerate(shown):
+            if line.startswith("$ "):
+                steps.append(Step(line.removeprefix("$ "), number + at))
+            elif steps:
+                steps[-1].lines.append(line)
+        if shown[0].startswith("$ "):
+            yield f"line {number}", steps
+
+
+def as_lines(run):
+    """What a run printed, as a page has it."""
+    output, faults = (text.decode("utf-8", "backslashreplace") for text in (run.stdout, run.stderr))
+    lines = output.split("\n")
+    lines = lines[:-1] if lines[-1] == "" else [*lines, "."]
+    lines += [f"! {line}" if line else "!" for line in faults.splitlines()]
+    return [*lines, f"? {run.returncode}"] if run.returncode else lines
+
+
+def as_shown(run):
+    """What a run printed, as a reader sees it."""
+    return (run.stdout + run.stderr).decode("utf-8", "backslashreplace").splitlines()
+
+
+def repository_in(work, program):
+    """A folder with the files of the repository, in which ./listset is the program."""
+    os.mkdir(work)
+    for it in TOP.iterdir():
+        os.symlink(program if it.name == "listset" else it, f"{work}/{it.name}")
+    return work
+
+
+def answers(page, steps, program):
+    """What each of the steps prints, in one room."""
+    is_shown = page.parent != PAGES
+    with tempfile.TemporaryDirectory(prefix="transcripts-") as room:
+        os.mkdir(f"{room}/bin")
+        os.symlink(program, f"{room}/bin/listset")
+        work = repository_in(f"{room}/work", program) if is_shown else shutil.copytree(DATA, f"{room}/work")
+        environment = {**os.environ, "PATH": f"{room}/bin:{os.environ['PATH']}", "LC_ALL": "C.UTF-8"}
+        how = {"cwd": work, "env": environment, "stdin": subprocess.DEVNULL, "capture_output": True, "timeout": SECONDS}
+        for step in steps:
+            yield (as_shown if is_shown else as_lines)(subprocess.run(["bash", "-c", "\n".join(step.command)], **how))
+
+
+def first_difference(wanted, found):
+    """The first line in which they differ."""
+    for number in range(max(len(wanted), len(found))):
+        one, other = ([*lines, None][min(number, len(lines))] for lines in (wanted, found))
+        if one != other:
+            return f"the page has {one!r}, the program prints {other!r}"
+    return None
+
+
+def difference_of_shown(wanted, found):
+    """What a page shows that is not printed so, where a line .. stands for any lines."""
+    if LEFT_OUT not in wanted:
+        return first_difference(wanted, found)
+    pieces = [re.escape(line) + "\n" if line != LEFT_OUT else "(?:.*\n)*?" for line in wanted]
+    is_so = re.fullmatch("".join(pieces), "".join(f"{line}\n" for line in found))
+    return None if is_so else "the program prints other lines: " + "\n".join(["", *found])
+
+
+def fault_of(page, name, steps, program):
+    """Why a test fails, or None."""
+    try:
+        differs = first_difference if page.parent == PAGES else difference_of_shown
+        for step, found in zip(steps, answers(page, steps, program)):
+            if why := differs(step.told(), found):
+                return f"{page.name}:{step.number}: {name}: {why}"
+    except subprocess.TimeoutExpired as late:
+        return f"{page.name}: {name}: no end within {late.timeout:.0f} seconds: {late.cmd[-1]}"
+    return None
+
+
+def show(page, name, steps, program):
+    print(f"## {name}\n")
+    for step, lines in zip(steps, answers(page, steps, program)):
+        print(f"{INDENT}$ " + f"\n{INDENT}> ".join(step.command))
+        for line in lines:
+            print(INDENT + line if line else "")
+    print()
+
+
+def wanted(words):
+    """The tests that these words name, and with none all: page, name and steps."""
+    found = [(page, tests_of(page).items()) for page in sorted(PAGES.glob("*.md"))]
+    for page, tests in [*found, *((page, tests_shown(page)) for page in OTHER_PAGES)]:
+        for name, steps in tests:
+            if not words or any(word in (page.stem, f"{page.stem}/{name}") for word in words):
+                yield page, name, steps
+
+
+def main():
+    arguments = argparse.ArgumentParser(description=__doc__, formatter_class=argparse.RawDescriptionHelpFormatter)
+    arguments.add_argument("wanted", nargs="*", metavar="PAGE[/TEST]")
+    add_program(arguments)
+    arguments.add_argument("--show", action="store_true")
+    given = arguments.parse_args()
+    tests = list(wanted(given.wanted))
+    if given.show:
+        return [show(*it, given.program) for it in tests] and 0
+    with concurrent.futures.ThreadPoolExecutor(len(os.sched_getaffinity(0))) as pool:
+        faults = list(pool.map(lambda it: fault_of(*it, given.program), tests))
+    for fault in filter(None, faults):
+        print(f"transcripts: {fault}", file=sys.stderr)
+    failed = sum(map(bool, faults))
+    print(f"{len(tests) - failed} passed, {failed} failed")
+    return 1 if failed or not tests else 0
+
+
+if __name__ == "__main__":
+    sys.exit(main())
