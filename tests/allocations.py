@@ -1,8 +1,5 @@
-#!/usr/bin/env python3
-"""Refuses the growths of memory that programs ask for, one a run, and looks at what they tell.
-
-    tests/allocations.py [--program PROGRAM] [--calls CALLS]
-        PROGRAM is the proved one of crates/listset, CALLS that of crates/memory_calls, where they are left out
+"""What programs print if an allocation fails: each in turn, one a run. CALLS is the program of crates/memory_calls, proved or not as
+PROGRAM is.
 
 `tests/harness/refuse.c`, which the toolchain's own clang compiles, refuses the block of memory of one number, and overwrites what is given
 back, so that a read of it shows. A run that does not end within 60 seconds fails.
@@ -17,26 +14,19 @@ where std guessed, and else a call that asks for memory and does not say so. Whi
 takes a block in the name of each call that asks for none, and of each other one that has no growth of its own.
 """
 
-import argparse
 import collections
-import concurrent.futures
 import os
 import pathlib
 import shutil
 import subprocess
-import sys
-import tempfile
 
-sys.dont_write_bytecode = True
-
-from harness.program import TOP, add_program, usable
+from harness.cases import SECONDS, TOP, UNPROVED, Wrong, cases, once, same, test
 
 REFUSED = 1000  # the block that is refused: more than the growths of the calls
-SECONDS = 60
 
 HARNESS = pathlib.Path(__file__).resolve().parent / "harness"
 EXAMPLES = TOP / "examples" / "schedules"
-CALLS = TOP / "crates/memory_calls/out/memory_calls"
+CALLS = "crates/memory_calls/out/memory_calls", "crates/memory_calls/out/unproved/memory_calls"
 
 # What PROGRAM is asked of files in examples/, of a drawn one (DRAWN) and of one with many opening keys (OPENING). The number tells
 # how many growths are passed over: one as the words are read, and where std asks for less room than it guessed.
@@ -98,7 +88,8 @@ BACK, NOTHING_BACK = "work (Memory, all comes back)", "work (Memory)"
 
 def refuser(folder):
     """What stands before the C library and refuses the block."""
-    rt = shutil.which("rt") or sys.exit("growths: the command rt is missing")
+    if not (rt := shutil.which("rt")):
+        raise Wrong("the command rt is missing")
     clang = pathlib.Path(rt).resolve().parent.parent / "toolchain/bin/clang"
     compiled, linked = f"{folder}/refuse.o", f"{folder}/refuse.so"
     subprocess.run(["clang", "-c", "-O1", "-fPIC", HARNESS / "refuse.c", "-o", compiled], executable=clang, check=True)
@@ -112,7 +103,7 @@ def answer_where(program, growth, refuse):
     try:
         ran = subprocess.run([program], input=f"{REFUSED - growth}\n", env=room, capture_output=True, text=True, timeout=SECONDS)
     except subprocess.TimeoutExpired:
-        sys.exit(f"growths: with growth {growth} refused: no end within {SECONDS} seconds")
+        raise Wrong(f"with growth {growth} refused: no end within {SECONDS} seconds")
     return ran.stdout.rstrip("\n") + ran.stderr, ran.returncode
 
 
@@ -124,17 +115,17 @@ def answers(program, refuse):
         line, status = told[-1]
         if line == TO_COME or status != 0:
             return told
-    sys.exit(f"growths: growth {REFUSED - 1} is that of a call, so there are more: raise REFUSED")
+    raise Wrong(f"growth {REFUSED - 1} is that of a call, so there are more: raise REFUSED")
 
 
 def calls_refused(told):
     """The call that wants memory where each growth is refused, or that none does."""
     for growth, (line, status) in enumerate(told, start=1):
         if status != 0:
-            sys.exit(f"growths: with growth {growth} refused: {line} (status {status})")
+            raise Wrong(f"with growth {growth} refused: {line} (status {status})")
     calls = [line.removesuffix(" wanted memory") for line, _ in told]
     if calls[0] != "World::new":
-        sys.exit(f"growths: the first run refuses a growth of {calls[0]}, and not of World::new")
+        raise Wrong(f"the first run refuses a growth of {calls[0]}, and not of World::new")
     return calls[:-1]
 
 
@@ -147,7 +138,7 @@ def passed_over(calls):
         elif call in GUESSING:
             found[call] += 1
         else:
-            sys.exit(f"growths: growth {growth}, of {call} or behind it, is refused and no call tells it")
+            raise Wrong(f"growth {growth}, of {call} or behind it, is refused and no call tells it")
     return found
 
 
@@ -155,11 +146,7 @@ def look_at_work(calls):
     """`work` gives set and seats back, but where the growth that is refused is that of the keys, its last."""
     worked = [name for name in calls if name in (BACK, NOTHING_BACK)]
     if len(worked) < 2 or worked != [BACK] * (len(worked) - 1) + [NOTHING_BACK]:
-        sys.exit(f"growths: the growths of work, in turn: {', '.join(worked)}")
-
-
-def listed(counts):
-    return ", ".join(f"{name} {count}" for name, count in counts.items())
+        raise Wrong(f"the growths of work, in turn: {', '.join(worked)}")
 
 
 OUT_OF_MEMORY = 3, "", "listset: out of memory\n"
@@ -174,7 +161,7 @@ def asked(program, words, number, refuse):
     try:
         made = subprocess.run([program, *words], cwd=EXAMPLES, env=room, **how)
     except subprocess.TimeoutExpired:
-        sys.exit(f"growths: {' '.join(words)}: with growth {number} refused: no end within {SECONDS} seconds")
+        raise Wrong(f"{' '.join(words)}: with growth {number} refused: no end within {SECONDS} seconds")
     return made.returncode, made.stdout, made.stderr
 
 
@@ -192,55 +179,44 @@ def told_and_over(program, words, refuse):
         elif found == wanted:
             passed += 1
         else:
-            sys.exit(f"growths: {' '.join(words)}: with growth {number} refused: status {found[0]}, {found[1:]}")
+            raise Wrong(f"{' '.join(words)}: with growth {number} refused: status {found[0]}, {found[1:]}")
         if passed == LAST:
             return told, over
-    sys.exit(f"growths: {' '.join(words)}: there are more growths")
+    raise Wrong(f"{' '.join(words)}: there are more growths")
 
 
-def look_at_program(program, folder, refuse):
-    """Each growth of each command of the program."""
-    drawn, opening = f"{folder}/drawn.schedule", f"{folder}/opening.schedule"
-    with open(drawn, "w") as file:
-        subprocess.run([program, *"gen coarse 1 40 60 2 1".split()], stdout=file, check=True)
+def commands():
+    """The commands, and of each how many growths are passed over."""
+    rows = (line.partition(" ") for line in ASKED.strip().splitlines())
+    return {f"command/{words}": (int(over), words) for over, _, words in rows}
+
+
+def texts(case):
+    """The drawn schedule, and that with many opening keys, in the case's room."""
+    opening = case.room / "opening.schedule"
     keys = "".join(f"opening {key}\n" for key in range(1, 13))
-    pathlib.Path(opening).write_text(f"listset-schedule 2\nlist coarse\nthreads 1\nquota 5\n{keys}begin 0 remove 4\ngo 0 14\n")
-    commands = [line.replace("DRAWN", drawn).replace("OPENING", opening).split() for line in ASKED.strip().splitlines()]
-    with concurrent.futures.ThreadPoolExecutor(len(os.sched_getaffinity(0))) as pool:
-        counts = list(pool.map(lambda words: told_and_over(program, words[1:], refuse), commands))
-    for (wanted, *words), (told, over) in zip(commands, counts):
-        if told == 0 or over != int(wanted):
-            sys.exit(f"growths: {' '.join(words)}: {told} growths are told, and {over} passed over, not {wanted}")
-    told, over = (sum(numbers) for numbers in zip(*counts))
-    print(f"growths: {len(commands)} commands of the program, {told} refused, one a run; passed over {over}")
+    opening.write_text(f"listset-schedule 2\nlist coarse\nthreads 1\nquota 5\n{keys}begin 0 remove 4\ngo 0 14\n")
+    with open(case.room / "drawn.schedule", "w") as drawn:
+        subprocess.run([case.program, *"gen coarse 1 40 60 2 1".split()], stdout=drawn, check=True)
+    return {"OPENING": str(opening), "DRAWN": drawn.name}
 
 
-def look_at_calls(program, refuse):
-    """Each growth of the calls that are made one by one."""
-    calls = calls_refused(answers(program, refuse))
-    over = passed_over(calls)
+@cases(commands)
+def each_growth_of_a_command(case, over, command):
+    made = texts(case)
+    words = [made.get(word, word) for word in command.split()]
+    told, passed = told_and_over(case.program, words, once(refuser))
+    if told == 0 or passed != over:
+        raise Wrong(f"{told} growths are told, and {passed} passed over, not {over}")
+
+
+@test
+def each_growth_of_the_calls(case):
+    """Of the calls that are made one by one; each of BLOCKS has a block in its name."""
+    program = TOP / CALLS[os.path.realpath(case.program) == str(UNPROVED)]
+    if not program.exists():
+        raise Wrong(f"{program} is missing: tests/unproved memory_calls --to {CALLS[1]} builds the unproved one, rt ci the proved one")
+    calls = calls_refused(answers(program, once(refuser)))
+    passed_over(calls)
     look_at_work(calls)
-    wanted = collections.Counter(calls)
-    del wanted[PASSED_OVER]
-    unnamed = BLOCKS - set(wanted)
-    if unnamed:
-        sys.exit(f"growths: no block is taken in the name of {', '.join(sorted(unnamed))}")
-    blocks = {name: wanted.pop(name) for name in sorted(BLOCKS)}
-    print(f"growths: {len(calls)} refused, one a run: {listed(wanted)}")
-    print(f"growths: passed over {sum(over.values())}: {listed(over)}")
-    print(f"growths: blocks of the program's own, {sum(blocks.values())}: {listed(blocks)}")
-
-
-def main():
-    arguments = argparse.ArgumentParser(description=__doc__, formatter_class=argparse.RawDescriptionHelpFormatter)
-    add_program(arguments)
-    arguments.add_argument("--calls", default=str(CALLS), type=usable, help="the program of crates/memory_calls")
-    given = arguments.parse_args()
-    with tempfile.TemporaryDirectory() as folder:
-        refuse = refuser(folder)
-        look_at_program(given.program, folder, refuse)
-        look_at_calls(given.calls, refuse)
-
-
-if __name__ == "__main__":
-    main()
+    same(sorted(BLOCKS - {*calls}), [], "the calls in whose name no block is taken")

@@ -1,18 +1,12 @@
-#!/usr/bin/env python3
-"""Compares docs/CLASSIC.md with what the program prints, line by line: of each example its picture and the lines of its trace on
-which it turns; of each list that lacks a check what `show` says of its schedule in examples/schedules/lacks.
-
-    tests/classic.py [--program PROGRAM]     PROGRAM is the proved one of crates/listset where it is left out
-
-Each block of a section is one of these, so none goes unread. What is counted is compared by page/tests/break_it.js.
+"""docs/CLASSIC.md is what the program prints, line by line: of each example its picture and the lines of its trace on which it turns;
+of each broken list what `show` says of its schedule in examples/schedules/lacks. Each block of a section is one of these, so none
+goes unread. What is counted is compared by page/tests/break_it.js.
 """
+
 import re
 import subprocess
-import sys
 
-sys.dont_write_bytecode = True
-
-from harness.program import TOP, program_named
+from harness.cases import TOP, Wrong, cases, same, test
 
 PAGE = TOP / "docs" / "CLASSIC.md"
 LACKS = TOP / "examples" / "schedules" / "lacks"
@@ -27,75 +21,75 @@ BLOCK = r"(?:^    .*\n|^\n(?=    ))+"
 LACKING = re.compile(r"^- `([a-z-]+)` \(([a-z-]+)\): (.*)$", re.M)
 COUNTED = "no order explains this report: "
 NOT_COUNTED = "he order is refused, and counting tells nothing."
-PROGRAM = program_named(__doc__)
+SECTIONS = re.split(r"^## ", PAGE.read_text(), flags=re.M)
 
 
-def printed(*words, text="", statuses=(0,)):
+def printed(program, *words, text="", statuses=(0,)):
     """The lines that the program prints for these words, with the text on its input; those about a trouble where it has one."""
-    done = subprocess.run([PROGRAM, *words], input=text, capture_output=True, text=True, timeout=600)
+    done = subprocess.run([program, *words], input=text, capture_output=True, text=True, timeout=600)
     if done.returncode not in statuses:
-        sys.exit(f"classic: {' '.join(words)}: status {done.returncode}: {done.stderr}")
+        raise Wrong(f"{' '.join(words)}: status {done.returncode}: {done.stderr}")
     return (done.stdout + done.stderr).splitlines()
 
 
-def same(what, shown, wanted):
-    """Stops where the page's lines are not those that the program prints."""
-    for number in range(max(len(shown), len(wanted))):
-        one, other = ([*lines, None][min(number, len(lines))] for lines in (shown, wanted))
-        if one != other:
-            sys.exit(f"classic: {what}: the page has {one!r}, the program {other!r}")
-
-
 def stand_in_turn(what, shown, lines):
-    """Stops where a line of the page does not stand in the program's, behind those before it."""
+    """That the lines of the page stand in the program's, in their order."""
     left = iter(lines)
     for line in shown:
         if line not in left:
-            sys.exit(f"classic: {what}: the program does not print {line!r} there")
+            raise Wrong(f"{what}: the program does not print {line!r} there")
 
 
-def compare(name, section):
-    """Compares the two blocks of an example's section: the picture, without the order below it, and lines of the trace."""
+def sections():
+    """The examples' sections, by their names."""
+    return {section.split()[0]: (section.split()[0], section) for section in SECTIONS[1:-1]}
+
+
+def picture_of(program, name):
+    schedule = "\n".join(printed(program, "example", name)) + "\n"
+    return schedule, printed(program, "show", text=schedule)
+
+
+@cases(sections)
+def section_of_an_example(case, name, section):
+    """Its two blocks are the picture, without the order below it, and lines of the trace."""
     blocks = [re.sub("^    ", "", block, flags=re.M).strip("\n").split("\n") for block in re.findall(BLOCK, section, re.M)]
-    if len(blocks) != 2:
-        sys.exit(f"classic: {name}: {len(blocks)} blocks on the page")
-    schedule = "\n".join(printed("example", name)) + "\n"
-    picture = printed("show", text=schedule)
-    same(f"{name}, its picture", [*blocks[0], ""], picture[:picture.index("order")])
-    stand_in_turn(f"{name}, its trace", blocks[1], printed("trace", text=schedule))
-    return picture[-1]
+    same(len(blocks), 2, "blocks on the page")
+    schedule, picture = picture_of(case.program, name)
+    same([*blocks[0], ""], picture[:picture.index("order")], "the picture on the page")
+    stand_in_turn("the trace on the page", blocks[1], printed(case.program, "trace", text=schedule))
 
 
-def compare_lacking(name, kind, told):
-    """Compares what the page tells of a list that lacks a check with the picture of its run: its order is refused, and counting
-    tells that there is none where the page says no other thing."""
+def broken_lists():
+    """The broken lists, by their names."""
+    return {f"broken/{name}": (name, kind, told) for name, kind, told in LACKING.findall(SECTIONS[-1])}
+
+
+@cases(broken_lists)
+def line_of_a_broken_list(case, name, kind, told):
+    """Its order is refused, and counting tells that there is none if the page says no other thing."""
     file = LACKS / f"{name}.schedule"
-    if f"\nlist {kind}\n" not in file.read_text():
-        sys.exit(f"classic: {file} is not of the list {kind}")
-    picture = printed("show", "--lacks", name, str(file), statuses=(1,))
+    same(f"\nlist {kind}\n" in file.read_text(), True, f"that {file.name} is of the list {kind}")
+    picture = printed(case.program, "show", "--lacks", name, str(file), statuses=(1,))
     is_refused = any(line.startswith("refused ") for line in picture)
     if not is_refused or picture[-1].startswith(COUNTED) == told.endswith(NOT_COUNTED):
-        sys.exit(f"classic: {name}: the page has {told!r}, the program {picture[-1]!r}")
+        raise Wrong(f"the page has {told!r}, the program {picture[-1]!r}")
 
 
-def main():
-    page, *sections, lacks = re.split(r"^## ", PAGE.read_text(), flags=re.M)
-    examples = [line.split(None, 2) for line in printed("example")]
-    headings = [section.partition("\n")[0] for section in sections]
-    same("the headings", headings, [f"{name} ({LISTS[kind]})" for name, kind, _ in examples])
-    legends = {compare(name, section) for (name, _, _), section in zip(examples, sections)}
-    same("the legend", re.findall(r"^    (.*)$", page.rpartition("In a picture")[2], re.M), [*legends])
-    lacking = LACKING.findall(lacks)
-    names = [name for name, _, _ in lacking]
-    said, = printed("replay", "--lacks", "none", text="", statuses=(2,))
-    same("the lists that lack a check", names, re.split(", | or ", said.partition(" none of ")[2]))
-    same("their schedules", sorted(names), sorted(file.stem for file in LACKS.iterdir()))
-    for name, kind, told in lacking:
-        compare_lacking(name, kind, told)
-    named = set(re.findall(r"\(`([a-z-]+)`\)", "".join(sections)))
-    if missing := named ^ set(names):
-        sys.exit(f"classic: named in a section or in the list alone: {', '.join(sorted(missing))}")
-    print(f"classic: the page shows {len(examples)} examples and {len(names)} lists that lack a check as the program prints them")
+@test
+def headings_and_legend(case):
+    examples = [line.split(None, 2) for line in printed(case.program, "example")]
+    headings = [section.partition("\n")[0] for section in SECTIONS[1:-1]]
+    same(headings, [f"{name} ({LISTS[kind]})" for name, kind, _ in examples], "the headings")
+    legends = {picture_of(case.program, name)[1][-1] for name, _, _ in examples}
+    same(re.findall(r"^    (.*)$", SECTIONS[0].rpartition("In a picture")[2], re.M), [*legends], "the legend")
 
 
-main()
+@test
+def names_of_the_broken_lists(case):
+    names = [it.removeprefix("broken/") for it in broken_lists()]
+    said, = printed(case.program, "replay", "--lacks", "none", text="", statuses=(2,))
+    same(names, re.split(", | or ", said.partition(" none of ")[2]), "the broken lists")
+    same(sorted(names), sorted(file.stem for file in LACKS.iterdir()), "their schedules")
+    named = set(re.findall(r"\(`([a-z-]+)`\)", "".join(SECTIONS[1:-1])))
+    same(sorted(named ^ set(names)), [], "those named in a section or in the list alone")

@@ -1,7 +1,4 @@
-#!/usr/bin/env python3
-"""Drives the built `listset serve` with clients at once and one after another, and checks what they are told.
-
-    tests/clients.py [--program PROGRAM]     PROGRAM is the proved one of crates/listset where it is left out
+"""What clients of `listset serve` are told, at once and one after another.
 
 For each list: 64 clients on keys that they share, whose answers have to add up, and 64 clients at once, each on keys of its
 own, so that each of its answers is known, and of a ceiling the few that are right; after them, alone, one more client asks
@@ -16,17 +13,14 @@ import contextlib
 import itertools
 import random
 import socket
-import subprocess
-import sys
 import threading
 import time
 
-sys.dont_write_bytecode = True
+from harness.cases import KINDS, Wrong, each, test
+from harness.talking import SECONDS, SOON, Client, asks, have_ended, read_all, resets, serving, takes_turns
 
-from harness.program import program_named
-from harness.talking import SECONDS, SOON, Client, Wrong, asks, have_ended, read_all, resets, serving, takes_turns
-
-KINDS = ["coarse", "fine", "optimistic", "lazy", "lock-free"]
+TAKES_TURNS = True  # (each has more clients than there are processors)
+ONE_LIST = "lazy"
 CLIENTS = 64
 REQUESTS = 1000
 KEYS = 64
@@ -135,10 +129,11 @@ class Sharing(Client):
                 self.told.append((call, answer))
 
 
-def shared_keys(program, kind):
+@each(KINDS)
+def shared_keys(case, kind):
     """All answers are there, and what the clients were told adds up with what one more client is told, and with what the server
     says as it ends."""
-    with serving(program, kind, CLIENTS, QUOTA, CLIENTS + 1) as server:
+    with serving(case.program, kind, CLIENTS, QUOTA, CLIENTS + 1) as server:
         clients = [Sharing(server, number, kind) for number in range(CLIENTS)]
         have_ended(clients)
         left = collections.Counter()
@@ -151,7 +146,6 @@ def shared_keys(program, kind):
         calls = sum(len(client.told) for client in clients) + asks_each_ceiling(server, keys, KEYS)
         unread = sum(client.unread for client in clients)
         server.ends(CLIENTS + 1, calls, calls + unread, keys)
-        return calls
 
 
 # ---- keys of a client's own
@@ -197,17 +191,17 @@ class Alone(Client):
         asks(connection, b"QUIT\n", b"BYE\n")
 
 
-def keys_of_their_own(program, kind):
+@each(KINDS)
+def keys_of_their_own(case, kind):
     """Each answer is the right one, and all clients have their first answer before any goes on. No seat runs out of slots,
     so `FULL` is wrong."""
-    with serving(program, kind, CLIENTS, ROOM, CLIENTS + 1) as server:
+    with serving(case.program, kind, CLIENTS, ROOM, CLIENTS + 1) as server:
         first_answers = threading.Barrier(CLIENTS)
         clients = [Alone(server, number, kind, first_answers) for number in range(CLIENTS)]
         have_ended(clients)
         keys = set().union(*(client.own for client in clients))
         calls = CLIENTS * Alone.CALLS + asks_each_ceiling(server, keys, Alone.SPAN)
         server.ends(CLIENTS + 1, calls, calls, keys)
-        return calls
 
 
 # ---- more clients than seats
@@ -234,30 +228,30 @@ class Queued(Client):
         asks(connection, *(text.replace(b"{0}", b"%d" % self.key) for text in (self.LINES, self.ANSWERS)))
 
 
-def queue(program, kind):
+@test
+def queue(case):
     """More sessions than seats, threads of a set and waiting places; a session that ends with a fault ends no more."""
     sessions = 200
-    with serving(program, kind, 8, ROOM, sessions) as server:
+    with serving(case.program, ONE_LIST, 8, ROOM, sessions) as server:
         clients = [Queued(server, number) for number in range(sessions)]
         have_ended(clients)
         served = [client.key for client in clients if not client.resets]
         faulty = sessions - len(served)
         server.ends(sessions, 6 * len(served) + faulty, 6 * len(served) + 3 * faulty, served)
-        return sessions
 
 
 # ---- one seat
 
 
-def one_after_another(program, kind):
+@test
+def one_after_another(case):
     """More than a thousand connections, one after another."""
     sessions = 1100
-    with serving(program, kind, 1, ROOM, sessions) as server:
+    with serving(case.program, ONE_LIST, 1, ROOM, sessions) as server:
         for key in range(sessions):
             with server.connect() as connection:
                 asks(connection, b"ADD %d\nCEILING %d\nQUIT\n" % (key, key), b"TRUE\nAT %d\nBYE\n" % key)
         server.ends(sessions, 2 * sessions, 2 * sessions, range(sessions))
-        return sessions
 
 
 def drips(connection, end):
@@ -267,9 +261,10 @@ def drips(connection, end):
             connection.sendall(b"?")
 
 
-def one_seat(program, kind):
+@test
+def one_seat(case):
     """One client after another, on a seat with 2 slots; none from another address; and one more than are served."""
-    with serving(program, kind, 1, 2, 6) as server:
+    with serving(case.program, ONE_LIST, 1, 2, 6) as server:
         with contextlib.suppress(ConnectionRefusedError):
             server.connect("127.0.0.2").close()
             raise Wrong("a connection to 127.0.0.2 is accepted")
@@ -298,7 +293,6 @@ def one_seat(program, kind):
                     if told := one_more.recv(10):
                         raise Wrong(f"one client more than are served is told {told!r}")
         server.ends(6, 13, 15, [8])
-        return 6
 
 
 # ---- answers that wait, and a client that does not read them
@@ -324,27 +318,27 @@ class Burst(Client):
         asks(connection, b"QUIT\n", b"BYE\n")
 
 
-def all_lines_at_once(program, kind):
+@test
+def all_lines_at_once(case):
     """The answers to a thousand lines are more than a server holds back, and all of them leave before it waits for the next
     line."""
     clients = 8
-    with serving(program, kind, clients, ROOM, clients) as server:
+    with serving(case.program, ONE_LIST, clients, ROOM, clients) as server:
         have_ended([Burst(server, number) for number in range(clients)])
         server.ends(clients, clients * REQUESTS, clients * REQUESTS, [])
-        return clients * REQUESTS
 
 
-def answers_that_fill_their_room(program, kind):
+@test
+def answers_that_fill_their_room(case):
     """Answers wait in a room of 4,096 bytes: as many as fill it, one fewer, and twice as many leave before the next line comes."""
     counts = [1023, 1024, 2048]
-    with serving(program, kind, 1, ROOM, len(counts)) as server:
+    with serving(case.program, ONE_LIST, 1, ROOM, len(counts)) as server:
         for count in counts:
             with server.connect() as connection:
                 connection.settimeout(SOON)
                 asks(connection, b"\n" * count, b"BAD\n" * count)
                 asks(connection, b"QUIT\n", b"BYE\n")
         server.ends(len(counts), 0, 0, [])
-        return sum(counts)
 
 
 def sends_until_stuck(connection):
@@ -356,10 +350,11 @@ def sends_until_stuck(connection):
     return sent // len(line)
 
 
-def no_answer_is_read(program, kind):
+@test
+def no_answer_is_read(case):
     """A client that reads no answer keeps its seat and no more: the others are served, and when it goes away the server ends."""
     key = 4_294_967_295
-    with serving(program, kind, 2, ROOM, 5) as server:
+    with serving(case.program, ONE_LIST, 2, ROOM, 5) as server:
         with server.connect() as connection:
             asks(connection, b"ADD %d\nQUIT\n" % key, b"TRUE\nBYE\n")
         with server.connect() as stuck:
@@ -372,7 +367,6 @@ def no_answer_is_read(program, kind):
                     asks(connection, b"CEILING 0\nQUIT\n", b"AT %d\nBYE\n" % key)
             resets(stuck)
         server.ends(5, 4 + 1, 4 + lines, [key])
-        return lines
 
 
 # ---- bytes past the end of a session
@@ -394,11 +388,12 @@ class Beyond(Client):
             raise Wrong(f"{told.count(10)} answers of {self.answers.count(10)}, the last {told[-6:]!r}")
 
 
-def bytes_past_the_end(program, kind):
+@test
+def bytes_past_the_end(case):
     """Every answer arrives, whatever the client has sent behind its last line. One client reads so late that the server has let
     its connection go: an answer that the system has not handed over by then would be lost with bytes left unread."""
     few, many = 100, 100_000
-    with serving(program, kind, 5, ROOM, 5) as server:
+    with serving(case.program, ONE_LIST, 5, ROOM, 5) as server:
         short = b"REMOVE 1\n" * few + b"QUIT\n", b"FALSE\n" * few + b"BYE\n"
         clients = [
             Beyond(server, "QUIT after a few lines", *short),
@@ -410,24 +405,3 @@ def bytes_past_the_end(program, kind):
         have_ended(clients)
         calls = 2 * few + 2 * many
         server.ends(5, calls, calls, [])
-        return calls
-
-
-ALONE = [queue, one_after_another, one_seat, all_lines_at_once, answers_that_fill_their_room, no_answer_is_read, bytes_past_the_end]
-
-
-def main():
-    program = program_named(__doc__)
-    told = collections.defaultdict(list)
-    rounds = [(kind, way) for kind in KINDS for way in (shared_keys, keys_of_their_own)]
-    for kind, way in rounds + [("lazy", way) for way in ALONE]:
-        name = way.__name__.replace("_", " ")
-        try:
-            told[name].append(f"{kind} {way(program, kind)}")
-        except (Wrong, OSError, subprocess.TimeoutExpired) as wrong:
-            sys.exit(f"clients: {name}: {kind}: {wrong}")
-    for name, counts in told.items():
-        print(f"clients: {name}: {', '.join(counts)}")
-
-
-main()

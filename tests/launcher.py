@@ -1,15 +1,8 @@
-#!/usr/bin/env python3
-"""Tries ./listset, build/unproved and what ./listset --prove tells, where no program is built: in small repositories, each with the
-scripts and the transcripts of this one, a stand-in for node and one for all of the toolchain that compiles.
-
-    tests/launcher.py [TEST ..]     all tests, or these
-    tests/launcher.py --checks      also builds a small program by the toolchain, which has to keep its checks: 25 s of a processor
-
-Nothing is proved, each wait is bounded, and nothing is left behind. The last line is 'N passed, M failed'.
+"""What ./listset, build/unproved and ./listset --prove do if no program is built: in small repositories, each with the scripts and the
+transcripts of this one, a stand-in for node and one for all of the toolchain that compiles. Nothing is proved, and each wait is
+bounded. `the_checks_are_kept` builds a small program by the toolchain: 25 s of a processor.
 """
 
-import argparse
-import concurrent.futures
 import contextlib
 import importlib.machinery
 import importlib.util
@@ -20,13 +13,9 @@ import shutil
 import signal
 import subprocess
 import sys
-import tempfile
 import time
 
-sys.dont_write_bytecode = True
-
-from harness.cases import SECONDS, TESTS, Wrong, comes, left_of, same, test
-from harness.program import TOP
+from harness.cases import SECONDS, TOP, Wrong, comes, left_of, same, test_on
 
 CRATES = """lset_words:
 ffi_page staticlib: lset_words
@@ -154,6 +143,9 @@ class Repository:
         proved.write_text(f'#!/bin/sh\necho "{text}: $*"\n')
         proved.chmod(0o755)
         os.utime(proved, (time.time() + at,) * 2)
+
+
+test = test_on(Repository)
 
 
 def ended(process):
@@ -502,6 +494,7 @@ fn main(rt: HostRuntime) -> io::Result<()> {
 """
 
 
+@test
 def the_checks_are_kept(repository):
     (repository.tree / "crates.txt").write_text("listset:\n")
     repository.edit("listset", INDEX_AND_SUM)
@@ -512,39 +505,3 @@ def the_checks_are_kept(repository):
     same(building.communicate(timeout=600)[1].count("built in"), 1, "builds")
     same([subprocess.run([program, word], capture_output=True).returncode for word in ("", "ab", "abc", "abcd")], [0, 0, -4, -4],
          "the statuses of two sums, one past the greatest byte, and an index past the end")
-
-
-def fault_of(call):
-    """Why a test fails, or None."""
-    with tempfile.TemporaryDirectory(prefix="launcher-") as folder:
-        room = pathlib.Path(folder).resolve()
-        try:
-            call(Repository(room))
-        except (Wrong, OSError, subprocess.TimeoutExpired) as wrong:
-            return f"{call.__name__}: {wrong}"
-        finally:
-            for process in left_of(room):
-                with contextlib.suppress(OSError):
-                    os.kill(process, signal.SIGKILL)
-    return None
-
-
-def main():
-    arguments = argparse.ArgumentParser(description=__doc__, formatter_class=argparse.RawDescriptionHelpFormatter)
-    arguments.add_argument("--checks", action="store_true")
-    arguments.add_argument("wanted", nargs="*", metavar="TEST")
-    given = arguments.parse_args()
-    if not shutil.which("rt"):
-        sys.exit("launcher: the command rt is missing")
-    tests = [call for name, call in TESTS.items() if not given.wanted or name in given.wanted]
-    tests += [the_checks_are_kept] * given.checks
-    with concurrent.futures.ThreadPoolExecutor(len(os.sched_getaffinity(0))) as pool:
-        faults = list(filter(None, pool.map(fault_of, tests)))
-    for fault in faults:
-        print(f"launcher: {fault}", file=sys.stderr)
-    print(f"{len(tests) - len(faults)} passed, {len(faults)} failed")
-    return 1 if faults or not tests else 0
-
-
-if __name__ == "__main__":
-    sys.exit(main())

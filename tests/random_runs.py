@@ -1,8 +1,4 @@
-#!/usr/bin/env python3
-"""Holds what the built program makes of drawn calls against a set in Python.
-
-    tests/random_runs.py [--program PROGRAM] [--few]
-        PROGRAM is the proved one of crates/listset where it is left out; --few tries a tenth of the seeds
+"""What the program makes of calls drawn at random is what a set in Python makes of them. `--few` tries a tenth of the seeds.
 
 Schedules are those that `gen` draws, of each list and many seeds, with one thread and with several, whole and stopped in the
 middle, with a `ceiling` for each `contains` of an odd key, on sets that open with keys, and with the least and the greatest key
@@ -12,32 +8,13 @@ draws its calls from a generator of its own, which is made here too: one thread 
 well, and the counts and keys of several add up.
 """
 
-import argparse
 import collections
-import concurrent.futures
 import itertools
-import os
 import subprocess
-import sys
 
-sys.dont_write_bytecode = True
+from harness.cases import KINDS, SECONDS, Wrong, each, given, test, usable
 
-from harness.program import add_program
-
-
-def given():
-    """What the words of this script ask for."""
-    arguments = argparse.ArgumentParser(description=__doc__, formatter_class=argparse.RawDescriptionHelpFormatter)
-    add_program(arguments)
-    arguments.add_argument("--few", action="store_true", help="a tenth of the seeds")
-    return arguments.parse_args()
-
-
-GIVEN = given()
-PROGRAM = GIVEN.program
-KINDS = ["coarse", "fine", "optimistic", "lazy", "lock-free"]
-SECONDS = 60
-SEEDS = 20 if GIVEN.few else 200
+SEEDS = 20 if given.few else 200
 ALONE = {"threads": 1, "quota": 3, "calls": 60}
 TOGETHER = {"threads": 4, "quota": 8, "calls": 80}
 KEYS = 5
@@ -45,13 +22,9 @@ ENDS = [0, 1, 5, 2**32 - 2, 2**32 - 1]  # keys in place of those that are drawn,
 OPENINGS = [[], [1, 3], [0, 2**32 - 1]]
 
 
-class Wrong(Exception):
-    """The program and the set differ."""
-
-
 def tried(*words, text=""):
     """How a run of the program ends."""
-    return subprocess.run([PROGRAM, *map(str, words)], input=text, capture_output=True, text=True, timeout=SECONDS)
+    return subprocess.run([usable(given.program), *map(str, words)], input=text, capture_output=True, text=True, timeout=SECONDS)
 
 
 def printed(*words, text=""):
@@ -191,7 +164,7 @@ def drawn(kind, seed, threads, quota, calls):
     return printed("gen", kind, threads, quota, calls, KEYS, seed)
 
 
-def alone(kind, seed, found):
+def one_thread(kind, seed, found):
     """One thread, with the replies of a set in turn, and all three of them."""
     text = drawn(kind, seed, **ALONE)
     report, here = held(text, quota=ALONE["quota"]), Found()
@@ -204,7 +177,7 @@ def alone(kind, seed, found):
         found.look_at(held(printed("draft", text="\n".join(lines) + "\n"), opening, ALONE["quota"]))
 
 
-def together(kind, seed, found):
+def threads(kind, seed, found):
     """Several threads, whole and stopped in the middle."""
     text = drawn(kind, seed, **TOGETHER)
     if len(held(text, quota=TOGETHER["quota"]).calls) != TOGETHER["calls"]:
@@ -215,7 +188,8 @@ def together(kind, seed, found):
 LONG = 16_000
 
 
-def long_report():
+@test
+def long_report(_case):
     """One thread's adds of rising keys, whose order is right; and without its last place."""
     head = ["listset-report 1", "list coarse", "threads 1", "quota 16384"]
     calls = [f"call {number} 0 add {number} {2 * number + 1} {2 * number + 2} true" for number in range(LONG)]
@@ -230,7 +204,7 @@ def long_report():
 ROUNDS = 200  # more steps than a call takes once the others have ended
 
 
-def together_with_ceilings(kind, seed, found):
+def threads_with_ceilings(kind, seed, found):
     """The same with ceilings, where at the end each thread ends its call."""
     lines = [*with_ceilings(drawn(kind, seed, **TOGETHER).splitlines()[4:])]
     lines += ROUNDS * [f"go {thread} 1" for thread in range(TOGETHER["threads"])]
@@ -240,12 +214,31 @@ def together_with_ceilings(kind, seed, found):
             found.look_at(held(part, opening, TOGETHER["quota"]))
 
 
-# Ways of calls, for how many seeds, and which replies (by their first letters) each list has to meet in them.
-WAYS = [
-    (alone, SEEDS, {"at", "no"}),
-    (together, SEEDS, {"open"}),
-    (together_with_ceilings, SEEDS // 10, {"at", "no", "open"}),
-]
+def each_seed(way, kind, seeds, due):
+    """Tries a way of calls with each seed; of the replies, these (by their first letters) have to be met."""
+    found = Found()
+    for seed in range(seeds):
+        try:
+            way(kind, seed, found)
+        except Wrong as wrong:
+            raise Wrong(f"seed {seed}: {wrong}") from None
+    if not due <= found.keys():
+        raise Wrong(f"only {dict(found)} are met")
+
+
+@each(KINDS)
+def replay_alone(_case, kind):
+    each_seed(one_thread, kind, SEEDS, {"at", "no"})
+
+
+@each(KINDS)
+def replay_together(_case, kind):
+    each_seed(threads, kind, SEEDS, {"open"})
+
+
+@each(KINDS)
+def replay_together_with_ceilings(_case, kind):
+    each_seed(threads_with_ceilings, kind, SEEDS // 10, {"at", "no", "open"})
 
 
 def generator(seed):
@@ -279,7 +272,8 @@ def outcome(quota, calls, keys, seed, lives=1):
     return "\n".join([*lines, *(f"key {key}" for key in sorted(opened.keys))]) + "\n"
 
 
-def run_alone(kind):
+@each(KINDS)
+def run_alone(_case, kind):
     """One thread, in one life and in many; the seed of one of them wraps."""
     ways = [(40, 300, 12, seed) for seed in (1, 2, 3)]
     ways += [(9, 60, 30, seed, lives) for seed, lives in ((5, 3), (2**64 - 64, 3), (6, 1), (7, 20))]
@@ -301,7 +295,8 @@ def counts_of(kind, threads, quota, calls, keys, seed, lives=1):
     return full, there
 
 
-def run_together(kind):
+@each(KINDS)
+def run_together(_case, kind):
     """Several threads: room for all their adds; ten lives; the most threads."""
     full, keys = counts_of(kind, 4, 2000, 2000, 50, 7)
     if full or len(keys) > 50:
@@ -314,56 +309,8 @@ def run_together(kind):
         raise Wrong(f"of {adds} adds without room not each is full")
 
 
-def run_each_number(kind):
-    """Each number of threads."""
-    keys = [counts_of(kind, threads, 10, 10, 10_000, 1)[1] for threads in range(1, 65)]
+@test
+def run_each_number_of_threads(_case):
+    keys = [counts_of("lock-free", threads, 10, 10, 10_000, 1)[1] for threads in range(1, 65)]
     if len(keys[-1]) <= 100:
         raise Wrong(f"{len(keys[-1])} keys are left by 64 threads")
-
-
-FEW = 20
-
-
-def tell(faults, fault):
-    faults.append(fault)
-    print(f"random_runs: {fault[:1000]}", file=sys.stderr, flush=True)
-
-
-def hold(faults, what, way, *asked):
-    """Tells what is wrong, of few ways of calls: where there are that many, no further one is tried."""
-    if len(faults) >= FEW:
-        return
-    try:
-        way(*asked)
-    except (Wrong, ValueError, IndexError) as wrong:
-        tell(faults, f"{what}: {wrong}")
-    except subprocess.TimeoutExpired as late:
-        tell(faults, f"{what}: no end within {late.timeout:.0f} seconds")
-
-
-def jobs(found):
-    """Each way of calls, with its name."""
-    for way in (run_alone, run_together):
-        yield from ((f"{way.__name__} {kind}", way, kind) for kind in KINDS)
-    yield "run_each_number", run_each_number, "lock-free"
-    yield "long_report", long_report
-    for way, seeds, _ in WAYS:
-        for kind in KINDS:
-            yield from ((f"{way.__name__} {kind} {seed}", way, kind, seed, found[way, kind]) for seed in range(seeds))
-
-
-def main():
-    subprocess.run([PROGRAM, "example"], stdout=subprocess.DEVNULL, check=True)
-    found, faults = collections.defaultdict(Found), []
-    ways = list(jobs(found))
-    with concurrent.futures.ThreadPoolExecutor(len(os.sched_getaffinity(0))) as pool:
-        list(pool.map(lambda job: hold(faults, *job), ways))
-    for way, kind, due in [(way, kind, due) for way, _, due in WAYS for kind in KINDS if not faults]:
-        if not due <= found[way, kind].keys():
-            tell(faults, f"{way.__name__} {kind}: only {dict(found[way, kind])} are met")
-    if faults:
-        sys.exit(1)
-    print(f"random_runs: a set explains what is answered in {len(ways)} ways of drawn calls")
-
-
-main()

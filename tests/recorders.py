@@ -1,62 +1,50 @@
-#!/usr/bin/env python3
-"""Tries what examples/recorders has beside its templates, which its own `run` tries.
-
-    tests/recorders.py [--program PROGRAM]
-        PROGRAM is the proved one of crates/listset where it is left out
+"""What examples/recorders has beside its templates, which its own `run` tries.
 
 `tell` has to name what is wrong with each of a few small reports. The word `report` has to print of texts at random what a plain model
 makes of them. `tell` and `run` have to end what they start: with a program that does not end, and where they are ended themselves.
-Every wait is bounded. The last line is 'N passed, M failed'.
+Every wait is bounded.
 """
 
 import collections
-import os
-import pathlib
-import shutil
 import signal
 import subprocess
-import sys
-import tempfile
-
-sys.dont_write_bytecode = True
 
 from harness import calls_model
-from harness.cases import SECONDS, TESTS, Wrong, comes, left_of, same, test
-from harness.program import TOP, program_named
+from harness.cases import SECONDS, TOP, comes, left_of, same, test
 
 HERE = TOP / "examples" / "recorders"
 TEXTS = 500
 RIGHT, BUG, UNCERTAIN, RECORDER, TROUBLE = range(5)
 
 # The calls, the rest of a report (its opening keys first), what `check` says of it, and the verdict of `tell`.
-Case = collections.namedtuple("Case", "name calls rest said status")
+Recorded = collections.namedtuple("Recorded", "name calls rest said status")
 ADD, SEEN, UNSEEN = "call 0 0 add 5 1 3 true", "call 1 1 contains 5 4 6 true", "call 1 1 contains 5 4 6 false"
 REMOVE, CEILING = "call 0 0 remove 5 1 3 true", "call 1 1 ceiling 4 4 6 nothing"
-CASES = [
-    Case("right", [ADD, SEEN], "place 0 true, place 1 true, key 5", "ok", RIGHT),
-    Case("a key is lost", [ADD, UNSEEN], "place 0 true, place 1 false, key 5", "refused WrongReply 1", BUG),
-    Case("two adds", [ADD, "call 1 1 add 5 2 6 true"], "place 0 true, place 1 true, key 5", "refused WrongReply 1", BUG),
-    Case("a key is not left", [ADD, SEEN], "place 0 true, place 1 true", "refused WrongSet", BUG),
-    Case("a key comes unasked", [ADD], "place 0 true, key 5, key 7", "refused WrongSet", BUG),
-    Case("an opening key is lost", [], "opening 5", "refused WrongSet", BUG),
-    Case("an opening key is not seen", [UNSEEN.replace("1 1", "0 0")], "opening 5, place 0 false, key 5", "refused WrongReply 0", BUG),
-    Case("an opening key is removed", [REMOVE, SEEN], "opening 5, place 0 true, place 1 true", "refused WrongReply 1", BUG),
-    Case("an opening key, late", [REMOVE, "call 1 1 contains 5 2 6 true"], "opening 5, place 0 true, place 1 true",
+RECORDED = [
+    Recorded("right", [ADD, SEEN], "place 0 true, place 1 true, key 5", "ok", RIGHT),
+    Recorded("a key is lost", [ADD, UNSEEN], "place 0 true, place 1 false, key 5", "refused WrongReply 1", BUG),
+    Recorded("two adds", [ADD, "call 1 1 add 5 2 6 true"], "place 0 true, place 1 true, key 5", "refused WrongReply 1", BUG),
+    Recorded("a key is not left", [ADD, SEEN], "place 0 true, place 1 true", "refused WrongSet", BUG),
+    Recorded("a key comes unasked", [ADD], "place 0 true, key 5, key 7", "refused WrongSet", BUG),
+    Recorded("an opening key is lost", [], "opening 5", "refused WrongSet", BUG),
+    Recorded("an opening key is not seen", [UNSEEN.replace("1 1", "0 0")], "opening 5, place 0 false, key 5", "refused WrongReply 0", BUG),
+    Recorded("an opening key is removed", [REMOVE, SEEN], "opening 5, place 0 true, place 1 true", "refused WrongReply 1", BUG),
+    Recorded("an opening key, late", [REMOVE, "call 1 1 contains 5 2 6 true"], "opening 5, place 0 true, place 1 true",
          "refused WrongReply 1", UNCERTAIN),
-    Case("a ceiling", [ADD, CEILING], "place 0 true, place 1 nothing, key 5", "refused WrongReply 1", UNCERTAIN),
-    Case("beside", [ADD, "call 1 1 contains 5 2 6 true"], "place 1 true, place 0 true, key 5", "refused WrongReply 1", UNCERTAIN),
-    Case("beside an open add", ["call 0 0 add 5 1 open", SEEN], "place 1 true", "refused WrongReply 1", UNCERTAIN),
-    Case("an open add", ["call 0 0 add 5 1 open"], "place 0 false", "refused WrongReply 0", UNCERTAIN),
-    Case("an open add left", ["call 0 0 add 5 1 open"], "key 5", "refused WrongSet", UNCERTAIN),
-    Case("full", ["call 0 0 add 5 1 3 full"], "place 0 full", "refused WrongReply 0", BUG),
-    Case("early", [ADD, "call 1 1 add 7 4 6 true"], "place 1 true, place 0 true, key 5, key 7", "refused TooEarly 1", UNCERTAIN),
-    Case("early, of one key", [ADD, SEEN], "place 1 true, place 0 true, key 5", "refused WrongReply 1", RECORDER),
-    Case("another reply", [ADD, SEEN], "place 0 true, place 1 false, key 5", "refused WrongReply 1", RECORDER),
-    Case("no place", [ADD, SEEN], "place 0 true, key 5", "refused Missing 1", RECORDER),
-    Case("two places", [ADD], "place 0 true, place 0 true, key 5", "refused Twice 0", RECORDER),
-    Case("no such call", [ADD], "place 0 true, place 1 true, key 5", "refused Unknown 1", RECORDER),
-    Case("keys fall", [ADD, "call 1 1 add 7 4 6 true"], "place 0 true, place 1 true, key 7, key 5", "refused WrongSet", RECORDER),
-    Case("equal tickets", [ADD, "call 1 1 add 7 3 6 true"], "place 0 true", "listset: line 6: History", RECORDER),
+    Recorded("a ceiling", [ADD, CEILING], "place 0 true, place 1 nothing, key 5", "refused WrongReply 1", UNCERTAIN),
+    Recorded("beside", [ADD, "call 1 1 contains 5 2 6 true"], "place 1 true, place 0 true, key 5", "refused WrongReply 1", UNCERTAIN),
+    Recorded("beside an open add", ["call 0 0 add 5 1 open", SEEN], "place 1 true", "refused WrongReply 1", UNCERTAIN),
+    Recorded("an open add", ["call 0 0 add 5 1 open"], "place 0 false", "refused WrongReply 0", UNCERTAIN),
+    Recorded("an open add left", ["call 0 0 add 5 1 open"], "key 5", "refused WrongSet", UNCERTAIN),
+    Recorded("full", ["call 0 0 add 5 1 3 full"], "place 0 full", "refused WrongReply 0", BUG),
+    Recorded("early", [ADD, "call 1 1 add 7 4 6 true"], "place 1 true, place 0 true, key 5, key 7", "refused TooEarly 1", UNCERTAIN),
+    Recorded("early, of one key", [ADD, SEEN], "place 1 true, place 0 true, key 5", "refused WrongReply 1", RECORDER),
+    Recorded("another reply", [ADD, SEEN], "place 0 true, place 1 false, key 5", "refused WrongReply 1", RECORDER),
+    Recorded("no place", [ADD, SEEN], "place 0 true, key 5", "refused Missing 1", RECORDER),
+    Recorded("two places", [ADD], "place 0 true, place 0 true, key 5", "refused Twice 0", RECORDER),
+    Recorded("no such call", [ADD], "place 0 true, place 1 true, key 5", "refused Unknown 1", RECORDER),
+    Recorded("keys fall", [ADD, "call 1 1 add 7 4 6 true"], "place 0 true, place 1 true, key 7, key 5", "refused WrongSet", RECORDER),
+    Recorded("equal tickets", [ADD, "call 1 1 add 7 3 6 true"], "place 0 true", "listset: line 6: History", RECORDER),
 ]
 
 
@@ -64,46 +52,46 @@ def ran(*words):
     return subprocess.run([str(it) for it in words], stdin=subprocess.DEVNULL, capture_output=True, text=True, timeout=SECONDS)
 
 
-def report_of(case, room):
-    opening, rest = ([it for it in case.rest.split(", ") if it.startswith("opening") == is_opening] for is_opening in (True, False))
-    version = 2 if opening or CEILING in case.calls else 1
-    lines = [f"listset-report {version}", "list lazy", "threads 2", "quota 16384", *opening, *case.calls, *filter(None, rest), "end"]
+def report_of(recorded, room):
+    opening, rest = ([it for it in recorded.rest.split(", ") if it.startswith("opening") == is_opening] for is_opening in (True, False))
+    version = 2 if opening or CEILING in recorded.calls else 1
+    lines = [f"listset-report {version}", "list lazy", "threads 2", "quota 16384", *opening, *recorded.calls, *filter(None, rest), "end"]
     (room / "report").write_text("".join(f"{line}\n" for line in lines))
     return room / "report"
 
 
 @test
-def tell_names_what_is_wrong(program, room):
-    for case in CASES:
-        done = ran(HERE / "tell", report_of(case, room), program)
-        same((done.stdout.splitlines()[:1], done.returncode), ([case.said], case.status), case.name)
+def tell_names_what_is_wrong(case):
+    for it in RECORDED:
+        done = ran(HERE / "tell", report_of(it, case.room), case.program)
+        same((done.stdout.splitlines()[:1], done.returncode), ([it.said], it.status), it.name)
 
 
 @test
-def tell_counts_the_calls_that_overlap_a_change_of_their_key(program, room):
+def tell_counts_the_calls_that_overlap_a_change_of_their_key(case):
     beside, far = "call 1 1 contains 5 2 6 true", "call 1 1 contains 7 2 6 false"
     late, within = "call 1 1 contains 5 4 6 true", "call 1 1 contains 5 2 3 true"
     for call, place, many in ((beside, "true", 1), (far, "false", 0), (late, "true", 0), (within, "true", 1)):
         end = 4 if call == within else 3
-        case = Case("ok", [f"call 0 0 add 5 1 {end} true", call], f"place 0 true, place 1 {place}, key 5", "ok", RIGHT)
-        same(ran(HERE / "tell", report_of(case, room), program).stdout, f"ok\n{many} of 2 calls overlap a change of their key\n", call)
+        report = Recorded("ok", [f"call 0 0 add 5 1 {end} true", call], f"place 0 true, place 1 {place}, key 5", "ok", RIGHT)
+        same(ran(HERE / "tell", report_of(report, case.room), case.program).stdout, f"ok\n{many} of 2 calls overlap a change of their key\n", call)
 
 
 @test
-def tell_prints_five_counts_at_most(program, room):
+def tell_prints_five_counts_at_most(case):
     for many, told in ((5, []), (8, ["3 more keys of which the counts do not fit"])):
-        lost = Case("many lost", [f"call {i} 0 add {i} {2 * i + 1} {2 * i + 2} true" for i in range(many)],
+        lost = Recorded("many lost", [f"call {i} 0 add {i} {2 * i + 1} {2 * i + 2} true" for i in range(many)],
                     ", ".join(f"place {i} true" for i in range(many)), "refused WrongSet", BUG)
-        lines = ran(HERE / "tell", report_of(lost, room), program).stdout.splitlines()
+        lines = ran(HERE / "tell", report_of(lost, case.room), case.program).stdout.splitlines()
         same([line.split(":")[0] for line in lines[1:6]], [f"key {i}" for i in range(5)], "the keys that are told")
         same(lines[6:-1], told, "what follows the counts")
 
 
 @test
-def report_is_that_of_a_plain_model(program, room):
+def report_is_that_of_a_plain_model(case):
     for seed in range(TEXTS):
-        (room / "calls").write_text(text := calls_model.random_text(seed))
-        done = ran(program, "report", room / "calls")
+        (case.room / "calls").write_text(text := calls_model.random_text(seed))
+        done = ran(case.program, "report", case.room / "calls")
         same((done.returncode, done.stdout, done.stderr), calls_model.due(text), f"seed {seed}")
 
 
@@ -128,45 +116,21 @@ def words_of(name, program, seconds):
 
 
 @test
-def what_hangs_is_ended_with_all_it_started(_program, room):
+def what_hangs_is_ended_with_all_it_started(case):
     for name, status in (("tell", TROUBLE), ("run", 1)):
-        done = ran(*words_of(name, hanging(room), 1))
+        done = ran(*words_of(name, hanging(case.room), 1))
         same(done.returncode, status, f"the status of {name}")
-        comes(lambda: not left_of(room), f"the end of all that {name} started")
+        comes(lambda: not left_of(case.room), f"the end of all that {name} started")
 
 
 @test
-def what_is_ended_ends_all_it_started(_program, room):
+def what_is_ended_ends_all_it_started(case):
     for name in ("tell", "run"):
         for number in (signal.SIGTERM, signal.SIGINT):
-            (room / "there").unlink(missing_ok=True)
+            (case.room / "there").unlink(missing_ok=True)
             how = {"stdin": subprocess.DEVNULL, "stdout": subprocess.DEVNULL, "stderr": subprocess.DEVNULL}
-            process = subprocess.Popen(words_of(name, hanging(room), SECONDS), **how)
-            comes((room / "there").exists, f"the program of {name}")
+            process = subprocess.Popen(words_of(name, hanging(case.room), SECONDS), **how)
+            comes((case.room / "there").exists, f"the case.program of {name}")
             process.send_signal(number)
             process.wait(SECONDS)
-            comes(lambda: not left_of(room), f"the end of all that {name} started, by signal {number}")
-
-
-def passed(name, call, program):
-    room = pathlib.Path(tempfile.mkdtemp(prefix="recorders-"))
-    try:
-        call(program, room)
-        return True
-    except (Wrong, OSError, subprocess.TimeoutExpired) as trouble:
-        print(f"recorders: {name}: {trouble}", file=sys.stderr)
-        return False
-    finally:
-        for it in left_of(room):
-            os.kill(it, signal.SIGKILL)
-        shutil.rmtree(room, ignore_errors=True)
-
-
-def main():
-    program = program_named(__doc__)
-    results = [passed(name, call, program) for name, call in TESTS.items()]
-    print(f"{results.count(True)} passed, {results.count(False)} failed")
-    return int(False in results)
-
-
-sys.exit(main())
+            comes(lambda: not left_of(case.room), f"the end of all that {name} started, by signal {number}")

@@ -1,25 +1,17 @@
-#!/usr/bin/env python3
-"""Holds what `trace` and `show` print against a model written apart from the crates (tests/harness/model.py): no contract speaks of these bytes.
-
-    tests/rendering.py [--program PROGRAM] [--few]     PROGRAM is the proved one of crates/listset where it is left out
+"""What `trace` and `show` print is what a model does, written apart from the crates (tests/harness/model.py): no contract speaks of
+these bytes.
 
 Of each schedule of examples/schedules/, and of 40 that are drawn for each list (--few: 4), with opening keys, ceilings, calls that stay open,
 events that are refused and up to 64 threads: the trace with chains and without, the picture of all moments and of a window, and the
 SVG of both, are those of the model, to the byte (of the SVG all but its style sheet, which has no model). 40 of the pictures are
-drawn at each width from 20 to 200 (--few: every 20th). The last line is 'N passed, M failed'.
+drawn at each width from 20 to 200 (--few: every 20th).
 """
 
-import argparse
-import os
 import random
 import subprocess
-import sys
-from concurrent.futures import ThreadPoolExecutor
 
-sys.dont_write_bytecode = True
-
-import harness.model as looks  # noqa: E402
-from harness.program import TOP, add_program  # noqa: E402
+import harness.model as looks
+from harness.cases import TOP, Wrong, cases, given
 
 SECONDS = 60
 DRAWN, FEW = 40, 4
@@ -120,40 +112,21 @@ class Looks:
         return self
 
 
-def schedules(few):
-    for file in sorted((TOP / "examples" / "schedules").glob("*.schedule")):
-        yield file.name, file.read_text()
+def drawn():
+    """The examples and the drawn schedules, each with the widths at which it is drawn besides."""
+    found = {file.stem: file.read_text() for file in sorted((TOP / "examples" / "schedules").glob("*.schedule"))}
     for kind in looks.WORDS:
-        for seed in range(FEW if few else DRAWN):
+        for seed in range(FEW if given.few else DRAWN):
             text = drawn_schedule(kind, seed)
-            yield f"{kind} {seed}", text if seed % 4 == 0 else enabled(text)
+            found[f"{kind} {seed}"] = text if seed % 4 == 0 else enabled(text)
+    every, widths = max(1, len(found) // PICTURES), range(20, 201, 20 if given.few else 1)
+    return {name: (text, [] if at % every else widths) for at, (name, text) in enumerate(found.items())}
 
 
-def is_schedule(program, text):
-    ended = subprocess.run([program, "trace"], input=text.encode(), capture_output=True, timeout=SECONDS)
-    return ended.stdout.startswith(b"listset-trace")
-
-
-def main():
-    arguments = argparse.ArgumentParser(description=__doc__, formatter_class=argparse.RawDescriptionHelpFormatter)
-    add_program(arguments)
-    arguments.add_argument("--few", action="store_true")
-    given = arguments.parse_args()
-    widths = range(20, 201, 20 if given.few else 1)
-    asked = [it for it in schedules(given.few) if is_schedule(given.program, it[1])]
-    every = max(1, len(asked) // PICTURES)
-
-    def tried(at, name, text):
-        return Looks(given.program, name, text).all(widths if at % every == 0 else [])
-
-    with ThreadPoolExecutor(len(os.sched_getaffinity(0))) as pool:
-        done = list(pool.map(lambda it: tried(it[0], *it[1]), enumerate(asked)))
-    for fault in [it for one in done for it in one.faults][:40]:
-        print(f"rendering: {fault}", file=sys.stderr)
-    passed, failed = sum(it.passed for it in done), sum(len(it.faults) for it in done)
-    print(f"{passed} passed, {failed} failed")
-    return 1 if failed or not passed else 0
-
-
-if __name__ == "__main__":
-    sys.exit(main())
+@cases(drawn)
+def trace_and_pictures_are_those_of_the_model(case, text, widths):
+    ended = subprocess.run([case.program, "trace"], input=text.encode(), capture_output=True, timeout=SECONDS)
+    if ended.stdout.startswith(b"listset-trace"):  # (else it is no schedule)
+        looked = Looks(case.program, case.name, text).all(widths)
+        if looked.faults or not looked.passed:
+            raise Wrong("; ".join(looked.faults[:5]))

@@ -1,7 +1,4 @@
-#!/usr/bin/env python3
-"""Runs the built program with room for fewer and fewer threads, and looks at how it ends.
-
-    tests/thread_limits.py [--program PROGRAM]     PROGRAM is the proved one of crates/listset where it is left out
+"""How `run` and `serve` end with room for fewer and fewer threads.
 
 A thread needs addresses for its stack, so a limit on the program's addresses (`ulimit -v`) refuses threads: some, or all.
 The limits go down in steps of less than a stack, from one under which all threads start to the least under which the program
@@ -14,14 +11,10 @@ import re
 import resource
 import socket
 import subprocess
-import sys
 import threading
 
-sys.dont_write_bytecode = True
+from harness.cases import KINDS, Wrong, each, given, once, usable
 
-from harness.program import program_named
-
-KINDS = ["coarse", "fine", "optimistic", "lazy", "lock-free"]
 THREADS = 8
 QUOTA = 16_384
 CALLS = 50
@@ -47,7 +40,7 @@ def outcome_is_whole(text):
     return calls == THREADS * CALLS == true + false + full and keys == numbers[6].count("\n")
 
 
-def run(program, kind, limit):
+def ended_run(program, kind, limit):
     """How `run` ends under a limit."""
     words = [program, "run", kind, str(THREADS), str(QUOTA), str(CALLS), "8", "1"]
     made = subprocess.run(limited(limit, words), capture_output=True, text=True, timeout=SECONDS)
@@ -55,7 +48,7 @@ def run(program, kind, limit):
         return "outcome"
     if made.stdout == "" and (made.returncode, made.stderr) in REFUSALS:
         return REFUSALS[made.returncode, made.stderr]
-    sys.exit(f"threads: run {kind} under {limit} KiB: status {made.returncode}, {made.stdout[:200]!r}, {made.stderr[:200]!r}")
+    raise Wrong(f"run {kind} under {limit} KiB: status {made.returncode}, {made.stdout[:200]!r}, {made.stderr[:200]!r}")
 
 
 def answers_of(port):
@@ -71,7 +64,7 @@ def answers_of(port):
     return told
 
 
-def serve(program, kind, limit):
+def ended_serve(program, kind, limit):
     """How `serve` ends under a limit, with one client."""
     words = [program, "serve", kind, str(THREADS), str(QUOTA), "0", "1"]
     server = subprocess.Popen(limited(limit, words), stdout=subprocess.PIPE, stderr=subprocess.PIPE, text=True)
@@ -88,7 +81,7 @@ def serve(program, kind, limit):
         return "outcome"
     if told == b"" and rest == "" and (server.returncode, faults) in REFUSALS:
         return REFUSALS[server.returncode, faults]
-    sys.exit(f"threads: serve {kind} under {limit} KiB: status {server.returncode}, {first!r}, {rest!r}, {faults!r}, {told!r}")
+    raise Wrong(f"serve {kind} under {limit} KiB: status {server.returncode}, {first!r}, {rest!r}, {faults!r}, {told!r}")
 
 
 def begins(program, limit):
@@ -97,9 +90,9 @@ def begins(program, limit):
     return made.returncode == 0
 
 
-def limits(program):
+def limits(_room):
     """Limits in KiB, down to the least under which the program begins: half a stack apart, and closer at the end."""
-    stack, _ = resource.getrlimit(resource.RLIMIT_STACK)
+    program, (stack, _) = usable(given.program), resource.getrlimit(resource.RLIMIT_STACK)
     stack = 8192 if stack == resource.RLIM_INFINITY else stack // 1024
     limit = 4 * (THREADS + 2) * stack
     found = []
@@ -111,18 +104,18 @@ def limits(program):
     return found
 
 
-def main():
-    program = program_named(__doc__)
-    tried = limits(program)
-    met = collections.Counter()
-    for name, way in [("run", run), ("serve", serve)]:
-        for kind in KINDS:
-            ends = collections.Counter(way(program, kind, limit) for limit in tried)
-            if not ends["outcome"] or not ends["thread refused"]:
-                sys.exit(f"threads: {name} {kind}: {dict(ends)}")
-            met += ends
-    told = ", ".join(f"{end} {count}" for end, count in sorted(met.items()))
-    print(f"threads: {len(tried)} limits from {tried[0]} to {tried[-1]} KiB, for run and serve of each list: {told}")
+def all_ends(case, kind, way):
+    """That each end under these limits is right, and some have an outcome, and some are refused a thread."""
+    ends = collections.Counter(way(case.program, kind, limit) for limit in once(limits))
+    if not ends["outcome"] or not ends["thread refused"]:
+        raise Wrong(f"how it ends: {dict(ends)}")
 
 
-main()
+@each(KINDS)
+def run(case, kind):
+    all_ends(case, kind, ended_run)
+
+
+@each(KINDS)
+def serve(case, kind):
+    all_ends(case, kind, ended_serve)

@@ -1,8 +1,4 @@
-#!/usr/bin/env python3
-"""Runs the commands of tests/transcripts/*.md, and those that README and the other pages show, with the built program, and compares what
-they print with what the pages have, to the byte.
-
-    tests/transcripts.py [--show] [--program PROGRAM] [PAGE[/TEST] ..]     PROGRAM is the proved one of crates/listset where it is left out
+"""The commands of tests/transcripts/*.md, and those that README and the other pages show, print what the pages have, to the byte.
 
 A heading `## NAME` begins a test. Its lines that are indented by four spaces are commands and what they print:
 
@@ -20,21 +16,16 @@ In any other page a test is a block of lines that are indented by four spaces, o
 Its room has the files of the repository, and ./listset is the program there. Output and then standard error are compared, without the
 status, and a line .. stands for any lines, also none.
 
-`--show` prints what the commands of these tests print now, as a page has it. The last line is 'N passed, M failed'.
+`tests/run --show transcripts/PAGE` prints what the commands of a page print now, as a page has it.
 """
 
-import argparse
-import concurrent.futures
 import os
 import re
 import shutil
 import subprocess
 import sys
-import tempfile
 
-sys.dont_write_bytecode = True
-
-from harness.program import TOP, add_program
+from harness.cases import TOP, Wrong, cases
 
 PAGES = TOP / "tests" / "transcripts"
 DATA = PAGES / "data"
@@ -116,23 +107,22 @@ def as_shown(run):
 
 def repository_in(work, program):
     """A folder with the files of the repository, in which ./listset is the program."""
-    os.mkdir(work)
+    work.mkdir()
     for it in TOP.iterdir():
-        os.symlink(program if it.name == "listset" else it, f"{work}/{it.name}")
+        (work / it.name).symlink_to(program if it.name == "listset" else it)
     return work
 
 
-def answers(page, steps, program):
+def answers(case, page, steps):
     """What each of the steps prints, in one room."""
-    is_shown = page.parent != PAGES
-    with tempfile.TemporaryDirectory(prefix="transcripts-") as room:
-        os.mkdir(f"{room}/bin")
-        os.symlink(program, f"{room}/bin/listset")
-        work = repository_in(f"{room}/work", program) if is_shown else shutil.copytree(DATA, f"{room}/work")
-        environment = {**os.environ, "PATH": f"{room}/bin:{os.environ['PATH']}", "LC_ALL": "C.UTF-8"}
-        how = {"cwd": work, "env": environment, "stdin": subprocess.DEVNULL, "capture_output": True, "timeout": SECONDS}
-        for step in steps:
-            yield (as_shown if is_shown else as_lines)(subprocess.run(["bash", "-c", "\n".join(step.command)], **how))
+    room, is_shown = case.room, page.parent != PAGES
+    (room / "bin").mkdir()
+    (room / "bin/listset").symlink_to(case.program)
+    work = repository_in(room / "work", case.program) if is_shown else shutil.copytree(DATA, room / "work")
+    environment = {**os.environ, "PATH": f"{room}/bin:{os.environ['PATH']}", "LC_ALL": "C.UTF-8"}
+    how = {"cwd": work, "env": environment, "stdin": subprocess.DEVNULL, "capture_output": True, "timeout": SECONDS}
+    for step in steps:
+        yield (as_shown if is_shown else as_lines)(subprocess.run(["bash", "-c", "\n".join(step.command)], **how))
 
 
 def first_difference(wanted, found):
@@ -153,53 +143,32 @@ def difference_of_shown(wanted, found):
     return None if is_so else "the program prints other lines: " + "\n".join(["", *found])
 
 
-def fault_of(page, name, steps, program):
-    """Why a test fails, or None."""
-    try:
-        differs = first_difference if page.parent == PAGES else difference_of_shown
-        for step, found in zip(steps, answers(page, steps, program)):
-            if why := differs(step.told(), found):
-                return f"{page.name}:{step.number}: {name}: {why}"
-    except subprocess.TimeoutExpired as late:
-        return f"{page.name}: {name}: no end within {late.timeout:.0f} seconds: {late.cmd[-1]}"
-    return None
+def named():
+    """All tests, by their names: of each its page and its steps."""
+    found = {}
+    for page in sorted(PAGES.glob("*.md")):
+        found |= {f"{page.stem}/{name}": (page, steps) for name, steps in tests_of(page).items()}
+    for page in OTHER_PAGES:
+        found |= {f"{page.relative_to(TOP).with_suffix('')}/{name}": (page, steps) for name, steps in tests_shown(page)}
+    return found
 
 
-def show(page, name, steps, program):
-    print(f"## {name}\n")
-    for step, lines in zip(steps, answers(page, steps, program)):
+@cases(named)
+def commands_print_what_the_page_has(case, page, steps):
+    differs = first_difference if page.parent == PAGES else difference_of_shown
+    for step, found in zip(steps, answers(case, page, steps)):
+        if why := differs(step.told(), found):
+            raise Wrong(f"{page.relative_to(TOP)}:{step.number}: {why}")
+
+
+def show(case, page, steps):
+    """Prints the test as its page would have it now."""
+    print(f"## {case.name.rpartition('/')[2]}\n")
+    for step, lines in zip(steps, answers(case, page, steps)):
         print(f"{INDENT}$ " + f"\n{INDENT}> ".join(step.command))
         for line in lines:
             print(INDENT + line if line else "")
     print()
 
 
-def wanted(words):
-    """The tests that these words name, and with none all: page, name and steps."""
-    found = [(page, tests_of(page).items()) for page in sorted(PAGES.glob("*.md"))]
-    for page, tests in [*found, *((page, tests_shown(page)) for page in OTHER_PAGES)]:
-        for name, steps in tests:
-            if not words or any(word in (page.stem, f"{page.stem}/{name}") for word in words):
-                yield page, name, steps
-
-
-def main():
-    arguments = argparse.ArgumentParser(description=__doc__, formatter_class=argparse.RawDescriptionHelpFormatter)
-    arguments.add_argument("wanted", nargs="*", metavar="PAGE[/TEST]")
-    add_program(arguments)
-    arguments.add_argument("--show", action="store_true")
-    given = arguments.parse_args()
-    tests = list(wanted(given.wanted))
-    if given.show:
-        return [show(*it, given.program) for it in tests] and 0
-    with concurrent.futures.ThreadPoolExecutor(len(os.sched_getaffinity(0))) as pool:
-        faults = list(pool.map(lambda it: fault_of(*it, given.program), tests))
-    for fault in filter(None, faults):
-        print(f"transcripts: {fault}", file=sys.stderr)
-    failed = sum(map(bool, faults))
-    print(f"{len(tests) - failed} passed, {failed} failed")
-    return 1 if failed or not tests else 0
-
-
-if __name__ == "__main__":
-    sys.exit(main())
+commands_print_what_the_page_has.show = show

@@ -6,12 +6,10 @@ import struct
 import subprocess
 import threading
 
+from harness.cases import Wrong
+
 SECONDS = 120
 SOON = 15
-
-
-class Wrong(Exception):
-    """Something is not as promised."""
 
 
 class Server:

@@ -1,22 +1,10 @@
-#!/usr/bin/env python3
-"""Tries build/take, from a copy of a few crates of this repository into repositories of their own.
-
-    tests/take [--proved]      --proved also has `rt ci` prove what was taken, with what it has kept of these crates on this machine
-
-The last line is 'N passed, M failed'.
-"""
+"""What build/take does, from a copy of a few crates of this repository into repositories of their own."""
 
 import filecmp
-import pathlib
 import shutil
 import subprocess
-import sys
-import tempfile
 
-sys.dont_write_bytecode = True
-
-from harness.cases import TESTS, Wrong, same, test
-from harness.program import TOP
+from harness.cases import TOP, same, test_on, when_named
 
 CRATES = ["lset_history", "lset_words"]
 SECONDS = 1800  # for the proofs, where nothing is kept
@@ -54,6 +42,9 @@ class Two:
     def edit(self, at, text="// edited\n", side="there"):
         with open((self.there if side == "there" else self.here) / at, "a") as file:
             file.write(text)
+
+
+test = test_on(Two)
 
 
 @test
@@ -118,30 +109,10 @@ def a_crate_that_was_not_taken_stays(two):
     same(at.read_text(), "// mine\n", "the crate")
 
 
+@when_named
+@test
 def is_proved(two):
-    """What was taken is proved in the repository that took it."""
+    """What was taken is proved in the repository that took it, with what `rt ci` has kept of these crates on this machine."""
     (two.there / ".git").mkdir()
     done = subprocess.run(["rt", "ci"], cwd=two.there, stdin=subprocess.DEVNULL, capture_output=True, text=True, timeout=SECONDS)
     same((done.returncode, done.stdout.splitlines()[-1][:18]), (0, "2 passed, 0 failed"), f"rt ci, after {done.stdout[-900:]!r}")
-
-
-def passed(name, call):
-    with tempfile.TemporaryDirectory(prefix="take-") as room:
-        try:
-            call(Two(pathlib.Path(room)))
-            return True
-        except (Wrong, OSError, subprocess.TimeoutExpired) as trouble:
-            print(f"take: {name}: {trouble}", file=sys.stderr)
-            return False
-
-
-def main(words):
-    if words not in ([], ["--proved"]):
-        sys.exit(__doc__)
-    tests = {**TESTS, **({"is_proved": is_proved} if words else {})}
-    results = [passed(name, call) for name, call in tests.items()]
-    print(f"{results.count(True)} passed, {results.count(False)} failed")
-    return int(False in results)
-
-
-sys.exit(main(sys.argv[1:]))
