@@ -10,8 +10,12 @@ import concurrent.futures
 import os
 import pathlib
 import re
+import sys
 
 TOP = pathlib.Path(__file__).resolve().parent.parent
+sys.path.insert(0, str(TOP / "build"))
+from sources import Source  # noqa: E402
+
 CRATES, MUST_FAIL, PLANTED = TOP / "crates", TOP / "mutants" / "gate", TOP / "mutants" / "planted"
 PARTS = ["src", "specs", "proofs"]
 ALONE = ["--jobs", "1"]
@@ -51,28 +55,10 @@ def apply(edit, folder, texts):
     return None if pairs else "it has no 'old:' and 'new:' pair"
 
 
-def top_of(lines, first, depth):
-    """The first line of what stands above a function that begins at a line: rt tells a goal of all that a function ensures at its
-    first attribute."""
-    top = first
-    while top > 1 and lines[top - 2].strip() and lines[top - 2] != depth + "}" and lines[top - 2].startswith(depth):
-        top -= 1
-    return top
-
-
 def functions(folder):
-    """The functions of a crate's sources, which lie in rt fmt's layout: each ends at a line of its own depth."""
-    found = []
-    for file in sorted((folder / "src").rglob("*.rt")):
-        lines = file.read_text(encoding="utf-8").split("\n")
-        for first, line in enumerate(lines, 1):
-            if head := re.match(r'( *)(?:pub(?:\(\w+\))? |const |unsafe |extern "C" )*fn (\w+)', line):
-                ends = re.compile(head[1] + r"(\}$|\S.*[;}]$)")
-                last = next((n for n, text in enumerate(lines[first - 1 :], first) if ends.match(text)), first)
-                text = "\n".join(lines[first - 1 : last])
-                top = top_of(lines, first, head[1])
-                found.append(Function(str(file.relative_to(folder)), top, first, last, head[2], text))
-    return found
+    """The functions of a crate's sources. (rt tells a goal of all that a function ensures at its first attribute.)"""
+    return [Function(str(file.relative_to(folder)), it.top, it.first, it.last, it.name, it.text)
+            for file in sorted((folder / "src").rglob("*.rt")) for it in Source(file.read_text(encoding="utf-8")).functions]
 
 
 def changed_function(edit, folder, all_functions):

@@ -6,6 +6,8 @@ import sys
 from importlib.machinery import SourceFileLoader
 from importlib.util import module_from_spec, spec_from_loader
 
+import sources
+
 BEGINS = ("begin_at_head", "begin_locked")  # the first step of a call
 HEAD = """// The proved loops of the lists as they stand in crates/, with the rows of its list's table that each line makes, by page/build: for
 // show alone.
@@ -20,16 +22,6 @@ def module_at(place):
     sys.modules[loader.name] = module
     loader.exec_module(module)
     return module
-
-
-def functions_of(lines):
-    """The name of each function, and the numbers of its first and its last line, from what is said of it on."""
-    for at, line in enumerate(lines):
-        if found := re.match(r"(?:pub )?fn (\w+)", line):
-            first = at
-            while lines[first - 1].startswith(("///", "#[")):
-                first -= 1
-            yield found[1], first + 1, lines.index("}", at) + 1
 
 
 def is_last(lines, number):
@@ -54,13 +46,14 @@ def steps_of(found, lines):
 
 def code_of(rows, file):
     """The functions of a file that have steps: each with its lines, its steps, and what it calls of the others at which line."""
-    lines = rows.text_of(file).splitlines()
+    source = sources.Source(rows.text_of(file))
+    lines = source.lines
     steps = [*steps_of([step for step in rows.lines_of(file) if step[-1]], lines)]
     made = {}
-    for name, first, last in functions_of(lines):
-        own = [step for step in steps if first <= step["line"] <= last]
-        if own:
-            made[name] = {"name": name, "first": first, "steps": own, "lines": lines[first - 1:last]}
+    for it in source.functions:
+        own = [step for step in steps if it.top <= step["line"] <= it.last]
+        if own and not it.block:
+            made[it.name] = {"name": it.name, "first": it.top, "steps": own, "lines": lines[it.top - 1 : it.last]}
     for code in made.values():
         calls = [re.findall(r"(?<![\w.:])(\w+)(?:::<[\w, ]+>)?\(", line.partition("//")[0]) for line in code["lines"]]
         code["calls"] = [[code["first"] + at, name] for at, names in enumerate(calls) for name in names if name in made

@@ -14,6 +14,9 @@ import sys
 from pathlib import Path
 
 TOP = Path(__file__).resolve().parent.parent.parent
+sys.path.insert(0, str(TOP / "build"))
+import sources  # noqa: E402
+
 BELIEVED = Path(__file__).resolve().parent / "believed.txt"
 SHORT = 12  # words
 ABBREVIATIONS = {"SVG", "KIND"}
@@ -126,76 +129,34 @@ def closure(seeds, modules):
     return reached
 
 
-def braced(text, start):
-    """The end of the braces that open first after a place."""
-    depth, place = 0, text.index("{", start)
-    while True:
-        depth += {"{": 1, "}": -1}.get(text[place], 0)
-        place += 1
-        if depth == 0:
-            return place
+def contracts_of(library):
+    """Each public function, `impl` or trait of a library: its name, its kind, the definitions that its clauses name, and its text."""
+    for module, source in library.modules.items():
+        names, modules = uses(source.text)
+        for name, kind, stated in [*stated_by_blocks(library, source), *stated_by_functions(library, module, source)]:
+            yield library.name, name, kind, named(stated, names, modules), stated
 
 
-def clauses(text, start):
-    """The signature at a place and the clauses after it."""
-    clause = re.compile(r"\s*(?:(?://[^\n]*)\s*)*(?:requires|ensures)\b")
-    end_of_signature = re.compile(r"\n\s*(?:requires|ensures|//)|\s*\{|;(?![^\[\]\n]*\])")
-    place = end_of_signature.search(text, text.index(")", start)).start()
-    found = text[start:place]
-    while clause.match(text, place):
-        end = braced(text, place)
-        found += text[place:end]
-        place = end
-    return found
+def stated_by_functions(library, module, source):
+    for it in source.functions:
+        owner = it.block.subject if it.block else None
+        if it.is_public and (owner or it.name) in library.public and not (it.block and it.block.is_of_trait):
+            yield (f"{owner}::" if owner else library.prefix(module)) + it.name, "method" if owner else "function", it.contract
 
 
-class Library:
-    """A library's sources, and which of its names are public."""
-
-    def __init__(self, root):
-        self.name = root.parent.parent.name
-        self.texts = {}
-        for path in sorted(root.parent.glob("**/*.rt")):
-            self.texts[".".join(path.relative_to(root.parent).with_suffix("").parts)] = path.read_text()
-        top = self.texts["lib"]
-        self.public_modules = {"lib"} | set(re.findall(r"pub mod (\w+);", top))
-        given = set(re.findall(r"\w+", " ".join(re.findall(r"pub use ([^;]*);", top))))
-        self.public = given
-        for module in self.public_modules:
-            self.public |= set(re.findall(r"^pub (?:fn|extern \S+ fn|struct|enum|trait) (\w+)", self.texts[module], re.M))
-
-    def contracts(self):
-        """Each public function, `impl` or trait: its name, its kind, the definitions that its clauses name, and its text."""
-        for module, text in self.texts.items():
-            names, modules = uses(text)
-            before = module + "::" if module in self.public_modules - {"lib"} else ""
-            for name, kind, stated in self.stated(text, before):
-                yield self.name, name, kind, named(stated, names, modules), stated
-
-    def stated(self, text, before):
-        for block in re.finditer(r"^(?:pub )?(impl|trait)\b([^{;]*)\{", text, re.M):
-            yield from self.stated_in(text[block.start():braced(text, block.start())], block.group(1), block.group(2).strip())
-        for function in re.finditer(r"^pub (?:extern \S+ )?fn (\w+)", text, re.M):
-            if function.group(1) in self.public:
-                yield before + function.group(1), "function", clauses(text, function.start())
-
-    def stated_in(self, block, kind, head):
-        subject = re.search(r"(\w+)(?:<[^>]*>)?$", head).group(1) if kind == "impl" else re.match(r"\w+", head).group()
-        if subject not in self.public:
-            return
-        if kind == "trait" or " for " in head:
-            stated = "".join(re.findall(r"\n\s*ghost (?!use\b)[^;]*(?:\{(?:[^{}]|\{[^{}]*\})*\})[^;]*;", block))
-            if kind == "trait":
-                stated += "".join(clauses(block, function.start()) for function in re.finditer(r"\bfn \w+", block))
-            yield subject, "Model" if "Model for" in head else kind, stated
-            return
-        for function in re.finditer(r"^\s+pub fn (\w+)", block, re.M):
-            yield subject + "::" + function.group(1), "method", clauses(block, function.start())
+def stated_by_blocks(library, source):
+    """What traits and `impl`s of traits state: a trait its functions' clauses too."""
+    for block in source.blocks:
+        if block.subject in library.public and (block.kind == "trait" or block.is_of_trait):
+            stated = "".join(block.ghosts)
+            if block.kind == "trait":
+                stated += "".join(it.contract for it in source.functions if it.block is block)
+            yield block.subject, "Model" if "Model for" in block.head else block.kind, stated
 
 
 def public_contracts():
     for root in sorted(TOP.glob("crates/*/src/lib.rt")):
-        yield from Library(root).contracts()
+        yield from contracts_of(sources.Library(root.parent.parent))
 
 
 def with_models(contracts):

@@ -2,64 +2,23 @@
 import functools
 import re
 
+import sources
 from made_texts import first_sentence
 
-BLOCK = re.compile(r"(?:pub )?(impl|trait)\b(.*)")
-FUNCTION = re.compile(r"\s*(pub )?fn (\w+)")
 
-
-def owner_of(line):
-    """The type whose functions a block has, or None where it is an `impl` of a trait; and whether it is a trait."""
-    found = BLOCK.match(line)
-    head = re.sub(r"^<[^>]*>|\{.*", "", found[2].strip()).strip()
-    if found[1] == "impl" and " for " in head:
-        return None, False
-    return re.match(r"\w+", head.split(":")[0].split()[-1 if found[1] == "impl" else 0])[0], found[1] == "trait"
-
-
-def signature_at(lines, at):
-    """The signature that begins in a line, in one line, without its body and clauses."""
-    said = []
-    for line in lines[at:]:
-        if said and re.match(r"\s*(?:requires|ensures|//)", line):
-            break
-        said.append(re.sub(r"(?: \{|;)$", "", line).strip())
-        if line.rstrip().endswith(("{", ";")) or line.strip().startswith("{"):
-            break
-    return " ".join(said)
-
-
-def functions_in(text):
-    """Each function of a file that has a comment: its type or None, its name, its signature, the comment's first sentence."""
-    lines, said, owner, is_trait = text.split("\n"), [], None, False
-    for at, line in enumerate(lines):
-        if BLOCK.match(line):
-            owner, is_trait = owner_of(line)
-        elif line.startswith("}"):
-            owner, is_trait = None, False
-        found, is_inner = FUNCTION.match(line), line.startswith(" ")
-        if found and said and (found[1] or is_trait) and (owner or not is_inner):
-            yield owner if is_inner else None, found[2], signature_at(lines, at), first_sentence(" ".join(said))
-        comment = re.match(r"\s*/// ?(.*)", line)
-        if comment:
-            said = [*said, comment[1].strip()]
-        elif not line.strip().startswith("#"):
-            said = []
-
-
-class Library:
-    """The public functions of a library, by name: each with its signature and what it is for."""
-
-    def __init__(self, folder):
-        texts = {path.stem: path.read_text() for path in sorted((folder / "src").glob("**/*.rt"))}
-        public = set(re.findall(r"\w+", " ".join(re.findall(r"pub use ([^;]*);", texts["lib"]))))
-        modules = {"lib"} | set(re.findall(r"pub mod (\w+);", texts["lib"]))
-        self.functions = {}
-        for module, text in texts.items():
-            for owner, name, signature, said in functions_in(text):
-                if module in modules or (owner or name) in public:
-                    prefix = f"{owner}::" if owner else f"{module}::" if module in modules - {"lib"} else ""
-                    self.functions[prefix + name] = (signature, said)
+def public_functions(folder):
+    """The public functions of a library that have a comment, by name: each with its signature and what it is for."""
+    library, found = sources.Library(folder), {}
+    for module, source in library.modules.items():
+        for it in source.functions:
+            owner = it.block.subject if it.block else None
+            is_given = it.is_public or (it.block and it.block.kind == "trait")
+            if not it.comment or not is_given or (it.block and it.block.is_of_trait):
+                continue
+            if module in library.public_modules or (owner or it.name) in library.public:
+                prefix = f"{owner}::" if owner else library.prefix(module)
+                found[prefix + it.name] = (it.signature, first_sentence(" ".join(it.comment)))
+    return found
 
 
 # What each table shows, by library. The other public functions are named below it; laws, which do nothing, are so too.
@@ -137,11 +96,11 @@ def functions(part, top):
     """A table of the functions of a subject, by library, and the names of the other public ones."""
     rows, others = ["| Call | What it is for |", "|---|---|"], []
     for crate, names in SHOWN[part].items():
-        library = Library(top / "crates" / crate)
+        library = public_functions(top / "crates" / crate)
         for name in names:
-            signature, said = library.functions[name]
+            signature, said = library[name]
             rows.append(f"| `{signature_in_short(name, signature)}` | {gist(said)} |")
-        others += [name for name in library.functions if name not in names and not NOT_NAMED.match(name)]
+        others += [name for name in library if name not in names and not NOT_NAMED.match(name)]
     return "\n".join(rows) + f"\n\nAlso: {', '.join(others_in_words(others))}." * bool(others)
 
 
@@ -149,16 +108,15 @@ def errors(top):
     """The variants of each fault."""
     rows = ["| Fault | Is |", "|---|---|"]
     for file, name in FAULTS:
-        body = re.search(rf"^pub enum {name} \{{\n(.*?)^\}}", (top / "crates" / file).read_text(), re.M | re.S)[1]
-        variants = ", ".join(f"`{it}`" for it in re.findall(r"^    ([A-Z]\w+)", body, re.M))
+        variants = ", ".join(f"`{it}`" for it in sources.Source((top / "crates" / file).read_text()).variants(name))
         rows.append(f"| `{name}` | {variants} |")
     return "\n".join(rows)
 
 
 def first_program(top):
     """A function of the first program, without its comment."""
-    text = (top / "crates/first_program/src/main.rt").read_text()
-    return re.sub("^(?=.)", "    ", re.search(r"^fn two_threads.*?^\}", text, re.M | re.S)[0], flags=re.M)
+    functions = sources.Source((top / "crates/first_program/src/main.rt").read_text()).functions
+    return re.sub("^(?=.)", "    ", next(it.text for it in functions if it.name == "two_threads"), flags=re.M)
 
 
 MADE = {part: functools.partial(functions, part) for part in SHOWN} | {"errors": errors, "first-program": first_program}

@@ -1,6 +1,8 @@
 """Tables of docs/TEXTS.md, made from the sources: of faults from the comments of the variants, of limits from the constants."""
 import re
 
+import sources
+
 # The enums whose variants a line `line L: CAUSE` can name, and the text that each is of. Memory has a line of its own.
 CAUSES = [
     ("lset_schedule/src/fault.rt", "Cause", "schedule"),
@@ -51,10 +53,9 @@ LIMITS = [
 VERSIONS = {"One": 1, "Two": 2}
 
 
-def comment_in_words(comment):
-    """A doc comment without its signs, and without what it says of whose limit it is."""
-    said = " ".join(re.sub(r"^\s*/// ?", "", comment, flags=re.M).split())
-    return re.sub(r" \(This project's own limit[^)]*\)", "", said)
+def in_words(comment):
+    """A doc comment, without what it says of whose limit it is."""
+    return re.sub(r" \(This project's own limit[^)]*\)", "", " ".join(comment))
 
 
 def first_sentence(said):
@@ -62,11 +63,9 @@ def first_sentence(said):
     return re.match(r"(?:[^.`]|`[^`]*`|\.(?! |$))*", said)[0]
 
 
-def variants_of(text, name):
+def variants_of(file, name):
     """The variants of an enum that have a comment, and what that says."""
-    body = re.search(rf"^pub enum {name} \{{\n(.*?)^\}}", text, re.M | re.S)[1]
-    for comment, variant in re.findall(r"((?:^    ///.*\n)+)(?:    #.*\n)*    (\w+)", body, re.M):
-        yield variant, comment_in_words(comment)
+    return {variant: in_words(said) for variant, said in sources.Source(file.read_text()).variants(name).items() if said}
 
 
 def table(head, rows):
@@ -94,7 +93,7 @@ def causes_in(top):
     figures = figures_in(top)
     for file, name, text in CAUSES:
         is_read = name not in ("StepFault", "DraftCause", "ClashFault")
-        for cause, said in variants_of((top / "crates" / file).read_text(), name):
+        for cause, said in variants_of(top / "crates" / file, name).items():
             if cause not in NO_CAUSES:
                 place = READING.index(cause) if is_read else len(READING)
                 yield place, cause, text, with_figures(first_sentence(said), figures)
@@ -116,7 +115,7 @@ def table_of_causes(top):
 
 def table_of_orders(top):
     """Why an order is refused: from the comments of the variants of OrderFault."""
-    found = variants_of((top / "crates/lset_history/src/fault.rt").read_text(), "OrderFault")
+    found = variants_of(top / "crates/lset_history/src/fault.rt", "OrderFault").items()
     return table(["Fault", "When"], [[f"`{name}`", first_sentence(said)] for name, said in found if name not in NO_CAUSES])
 
 
@@ -124,8 +123,9 @@ def table_of_limits(top):
     """The limits: what the comment of each constant says first, its value, its name, and what is told past it."""
     rows, figures = [], figures_in(top)
     for file, name, past in LIMITS:
-        comment = re.search(rf"((?:^///.*\n)+)pub const {name}:", (top / "crates" / file).read_text(), re.M)[1]
-        said = re.sub(r"`Version::(\w+)`.*", lambda it: f"version {VERSIONS[it[1]]}", first_sentence(comment_in_words(comment)))
+        lines = (top / "crates" / file).read_text().split("\n")
+        comment = sources.comment_above(lines, next(at for at, line in enumerate(lines) if line.startswith(f"pub const {name}:")))
+        said = re.sub(r"`Version::(\w+)`.*", lambda it: f"version {VERSIONS[it[1]]}", first_sentence(in_words(comment)))
         rows.append([said, figures[name], f"`{name}`", past])
     return table(["Limit", "Is", "Constant", "Past it"], rows)
 

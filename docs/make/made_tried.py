@@ -5,7 +5,8 @@
 import collections
 import re
 
-TEST = re.compile(r"#\[[^]]*\btest\b")
+import sources
+
 VERDICT = re.compile(r"^\| `\w+` \| ([a-z ]+) \|", re.M)
 
 
@@ -34,7 +35,7 @@ def tests(top):
     """How many tests the crates and the pages of tests/transcripts/ have."""
     crates, pages = collections.Counter(), {}
     for file in sorted((top / "crates").glob("*/src/**/*.rt")):
-        if found := len(TEST.findall(file.read_text(encoding="utf-8"))):
+        if found := sources.Source(file.read_text(encoding="utf-8")).tests:
             crates[file.relative_to(top / "crates").parts[0]] += found
     for page in sorted((top / "tests" / "transcripts").glob("*.md")):
         pages[page.stem] = len(re.findall(r"^## ", page.read_text(encoding="utf-8"), re.M))
