@@ -11,7 +11,7 @@ BLOCK = re.compile(r"(?:pub )?(impl|trait)\b([^{;]*)")
 GHOST = re.compile(r"^\s+ghost (?!use\b)", re.M)
 CLAUSES = re.compile(r"\s*(?:(?://[^\n]*)\s*)*(?:requires|ensures)\b")
 END_OF_SIGNATURE = re.compile(r"\n\s*(?:requires|ensures|//)|\s*\{|;(?![^\[\]\n]*\])")
-TEST = re.compile(r"#\[[^]]*\btest\b")
+TEST = re.compile(r"^\s*#\[test\]$", re.M)
 
 
 def braced(text, start):

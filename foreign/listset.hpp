@@ -87,7 +87,7 @@ inline said show(std::string_view given, const window &asked = {}, bool as_svg =
   });
 }
 
-// The schedule that is generated: KIND is coarse, fine, optimistic, lazy, lock-free or skip.
+// The schedule that is generated: KIND is coarse, fine, optimistic, lazy or lock-free.
 inline said gen(const std::string &kind, uint32_t threads, uint32_t quota, uint32_t calls, uint32_t keys, uint64_t seed) {
   auto text = [](uint64_t number) { return std::to_string(number); };
   return of_text(listset_gen, words({kind, text(threads), text(quota), text(calls), text(keys), text(seed)}));

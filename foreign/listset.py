@@ -111,7 +111,7 @@ def show(text, as_svg=False, *, first=None, last=None, width=None):
 
 
 def gen(kind, threads, quota, calls, keys, seed):
-    """A schedule that is generated; `kind` is coarse, fine, optimistic, lazy, lock-free or skip."""
+    """A schedule that is generated; `kind` is coarse, fine, optimistic, lazy or lock-free."""
     return _asked("gen", _words([kind, threads, quota, calls, keys, seed]))
 
 

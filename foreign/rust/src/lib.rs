@@ -90,7 +90,7 @@ fn options(Window { from, to, width }: Window) -> String {
     [from, to, width].map(|it| it.map_or(String::new(), |number| format!("={number}"))).join("\0")
 }
 
-/// A schedule that is generated; `kind` is coarse, fine, optimistic, lazy, lock-free or skip.
+/// A schedule that is generated; `kind` is coarse, fine, optimistic, lazy or lock-free.
 pub fn generated(kind: &str, threads: u32, quota: u32, calls: u32, keys: u32, seed: u64) -> Result<String, Wrong> {
     let values = format!("{kind}\0{threads}\0{quota}\0{calls}\0{keys}\0{seed}");
     of_text(calls::listset_gen, values.as_bytes())
