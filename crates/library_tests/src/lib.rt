@@ -11,6 +11,8 @@ mod laws;
 #[cfg(test)]
 mod openings;
 #[cfg(test)]
+mod parts;
+#[cfg(test)]
 mod runs;
 #[cfg(test)]
 mod schedule;

@@ -1,0 +1,111 @@
+//! A recording in parts: what is kept of the parts, and why one is refused.
+ghost use Rattle.std.specs.Prelude.{ℕ, ◌<◌, length};
+ghost use Rattle.std.specs.List.Sorted.{IsStrictlyIncreasing};
+
+use lset_history::{History, Placed, check_order};
+use lset_parts::{PartFault, Parts};
+use lset_words::{Call, Key, Reply};
+use std::alloc::{AllocError, Global};
+use std::process::Abort;
+use std::test::Fail;
+
+/// One call, which begins at moment 2: of a set with these keys, which leaves those.
+#[derive(Clone, Copy)]
+struct OneCall<'a> {
+    opening: &'a [u32],
+    call: Call,
+    reply: Reply,
+    end: Option<u32>,
+    keys: &'a [u32],
+}
+
+/// What `add` says of a part of that one call.
+fn add_one<R: Abort>(
+    rt: &R,
+    alloc: Global,
+    parts: &mut Parts,
+    since: u64,
+    one: OneCall<'_>,
+) -> Result<Option<Result<(), PartFault>>, Fail>
+    requires rising { IsStrictlyIncreasing one.opening.now }
+    requires few { length one.opening.now < 9 }
+{
+    let mut history = History::opened(alloc, 1, 1, Vec::from_slice(alloc, one.opening)?);
+    assert!(rt; history.begin(0, one.call, 2).is_ok());
+    if let Some(end) = one.end {
+        assert!(rt; history.end(0, one.reply, end).is_ok());
+    }
+    let order = [Placed {
+        call: 0,
+        reply: one.reply,
+    }];
+    match check_order(alloc, &history, &order, one.keys) {
+        Ok(()) => Ok(Some(parts.add(alloc, since, &history, one.keys))),
+        Err(_) => Ok(None),
+    }
+}
+
+#[test]
+fn a_recording_in_four_parts(rt: HostRuntime) -> Result<(), Fail> {
+    let alloc = rt.alloc();
+    let adds = OneCall {
+        opening: &[],
+        call: Call::Add(Key(5)),
+        reply: Reply::True,
+        end: Some(3),
+        keys: &[5],
+    };
+    let reads = OneCall {
+        opening: &[5],
+        call: Call::Contains(Key(5)),
+        reply: Reply::True,
+        end: Some(4),
+        keys: &[5],
+    };
+    let open = OneCall { end: None, ..reads };
+    let mut parts = Parts::new(Vec::new(alloc));
+    assert_eq!(rt; add_one(&rt, alloc, &mut parts, 0, adds)?, Some(Ok(())));
+    assert_eq!(rt; parts.keys(), [5].as_slice());
+    assert_eq!(rt; parts.latest(), 3);
+    // with a clock of its own, and with that of the part before
+    assert_eq!(rt; add_one(&rt, alloc, &mut parts, 3, reads)?, Some(Ok(())));
+    assert_eq!(rt; parts.latest(), 7);
+    assert_eq!(rt; add_one(&rt, alloc, &mut parts, 1, reads)?, Some(Ok(())));
+    assert_eq!(rt; parts.latest(), 7);
+    // its call ended at moment 4, and one of the parts before began at 5
+    assert_eq!(rt;
+        add_one(&rt, alloc, &mut parts, 0, reads)?,
+        Some(Err(PartFault::Early))
+    );
+    assert_eq!(rt;
+        add_one(&rt, alloc, &mut parts, 7, adds)?,
+        Some(Err(PartFault::Opening))
+    );
+    assert_eq!(rt;
+        add_one(&rt, alloc, &mut parts, u64::MAX, adds)?,
+        Some(Err(PartFault::Late))
+    );
+    assert!(rt; parts.is_at_rest());
+    assert_eq!(rt; add_one(&rt, alloc, &mut parts, 7, open)?, Some(Ok(())));
+    assert!(rt; !parts.is_at_rest());
+    Ok(())
+}
+
+#[test]
+fn a_part_with_full(rt: HostRuntime) -> Result<(), Fail> {
+    let alloc = rt.alloc();
+    let mut parts = Parts::new(Vec::new(alloc));
+    let mut history = History::new(alloc, 1, 0);
+    assert!(rt; history.begin(0, Call::Add(Key(5)), 1).is_ok());
+    assert!(rt; history.end(0, Reply::Full, 2).is_ok());
+    let order = [Placed {
+        call: 0,
+        reply: Reply::Full,
+    }];
+    if check_order(alloc, &history, &order, &[]).is_ok() {
+        assert_eq!(rt; parts.add(alloc, 0, &history, &[]), Err(PartFault::HasFull));
+        return Ok(());
+    }
+    assert!(rt; false, "the order is refused");
+    Ok(())
+}

@@ -1,0 +1,11 @@
+pub mod Free
+pub mod Since
+pub mod Joining
+pub mod Splitting
+pub mod Dropped
+pub mod Whole
+pub mod Forced
+pub mod Needed
+pub mod Histories
+pub mod Kept
+pub mod Moments

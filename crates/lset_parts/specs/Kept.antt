@@ -1,0 +1,64 @@
+-- What is kept of the parts that were accepted, and why a part does not follow them.
+use Rattle.std.specs.Prelude.{◌≡◌, ◌≢◌, ℕ, ◌<◌, ◌≤◌, ◌^◌, ◌↔◌, Bool, IsTrue, List, ◌++◌, map, All, Any, IfSome, IsSome, IsSomeAnd}
+use Rattle.lset_words.specs.declared.Reply.{Reply}
+use Rattle.lset_words.specs.declared.Reply.TheVariants.{Full}
+use Rattle.lset_words.specs.declared.history.CallRecord.{CallRecord}
+use Rattle.lset_words.specs.declared.history.Placed.{Placed}
+use Rattle.lset_parts.specs.declared.parts.PartFault.{PartFault}
+use Rattle.lset_parts.specs.declared.parts.PartFault.TheVariants.{Opening, Late, Early, HasFull, Memory}
+use Rattle.lset_history.specs.Faults.{Explains}
+use Rattle.lset_parts.specs.Parts.{Part, AreParts, ExplainsWithoutQuota, HasNoFull, call_since, calls_of, whole_calls, keys_left}
+
+-- the keys that the last part left, the latest beginning and the latest moment of the whole recording, and whether all of its calls
+-- have ended
+pub record KeptParts : Type 0 where
+  pub keys : List ℕ
+  pub began : ℕ
+  pub latest : ℕ
+  pub at_rest : Bool
+
+-- no moment of the call is later
+pub record IsUpTo (began latest : ℕ) (x : CallRecord) : Type 0 where
+  pub begun : x.begun ≤ began
+  pub ended : IfSome x.ended (λ (end : ℕ × Reply). end.0 ≤ latest)
+
+-- These were the parts of a recording of a set that opened with these keys, and this is kept of them: the keys that the
+-- last one left, moments that none of theirs passes, and whether all calls have ended.
+pub record IsKeptOf (opening : List ℕ) (ps : List Part) (kept : KeptParts) : Type 0 where
+  pub parts : AreParts opening ps
+  pub keys_are : kept.keys ≡ keys_left opening ps
+  pub moments : All (IsUpTo kept.began kept.latest) (whole_calls ps)
+  pub in_turn : kept.began ≤ kept.latest
+  pub rests : IsTrue kept.at_rest ↔ All (λ (x : CallRecord). IsSome x.ended) (whole_calls ps)
+
+-- the call ended before this moment
+abbrev pub EndsEarly : ℕ → CallRecord → Type 0
+EndsEarly began x = IsSomeAnd x.ended (λ (end : ℕ × Reply). end.0 < began)
+
+-- the call has ended with `Full`
+abbrev pub EndsFull : CallRecord → Type 0
+EndsFull x = IsSomeAnd x.ended (λ (end : ℕ × Reply). end.1 ≡ Full)
+
+-- why the part does not follow those of which this is kept
+abbrev pub IsPartFault : KeptParts → Part → PartFault → Type 0
+IsPartFault kept p Late = 2 ^ 63 < p.since
+IsPartFault kept p Opening = p.history.opening.keys ≢ kept.keys
+IsPartFault kept p Early = Any (EndsEarly kept.began) (calls_of p)
+IsPartFault kept p HasFull = Any EndsFull p.history.calls
+IsPartFault kept p Memory = Unit {0}
+
+-- one order explains the whole, and leaves the keys that are kept
+abbrev pub WholeIsExplained : KeptParts → Type 0
+WholeIsExplained kept = (opening : List ℕ) (ps : List Part) → IsKeptOf opening ps kept
+    → (order : List Placed) × ExplainsWithoutQuota opening (whole_calls ps) order kept.keys
+
+-- if all calls of the parts have ended, and the calls that follow begin after them: where one order explains the parts and those calls, and
+-- leaves some keys, those calls have an order of their own, from the keys that are kept, and it leaves the same keys
+abbrev pub NextIsNeeded : KeptParts → Type 0
+NextIsNeeded kept = (opening left : List ℕ) (ps : List Part) (threads quota since : ℕ) (calls : List CallRecord) (whole : List Placed)
+    → IsKeptOf opening ps kept → IsTrue kept.at_rest → kept.latest ≤ since → All (λ (x : CallRecord). 0 < x.begun) calls → HasNoFull calls
+    → Explains (record {
+      opening = record { threads = threads; quota = quota; keys = opening };
+      calls = whole_calls ps ++ map (call_since since) calls;
+    }) whole left
+    → (order : List Placed) × ExplainsWithoutQuota kept.keys calls order left

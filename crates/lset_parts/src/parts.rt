@@ -1,0 +1,231 @@
+ghost use Rattle.std.specs.Prelude.{◌≡◌, ℕ, ◌+◌, ◌≤◌, ◌<◌, ◌^◌, List, [], ◌∷◌, ◌++◌, map, All, Any, IfOk, OnOk, OnErr, IfErr, IsTrue, IfSome, IsSome, MatchBool, ◌↔◌};
+ghost use Rattle.std.specs.List.Sorted.{IsStrictlyIncreasing};
+ghost use Rattle.lset_parts.specs.Parts.{Part, IsExplained, HasNoFull, call_since};
+ghost use Rattle.lset_parts.specs.Kept.{IsKeptOf, WholeIsExplained, NextIsNeeded, IsPartFault, EndsEarly, EndsFull, IsUpTo};
+
+use lset_history::History;
+use lset_words::{CallRecord, Reply};
+use std::alloc::Global;
+use std::marker::Model;
+use thiserror::Error;
+
+/// Why a part does not follow the parts before it. They are looked for in this order.
+#[derive(Clone, Copy, Debug, PartialEq, Eq, Error)]
+pub enum PartFault {
+    /// Its clock begins after moment 2^63.
+    #[error("its clock begins after moment 9223372036854775808")]
+    Late,
+    /// It opens with other keys than the part before left.
+    #[error("it opens with other keys than the part before left")]
+    Opening,
+    /// One of its calls ended before a call of an earlier part began.
+    #[error("one of its calls ended before a call of an earlier part began")]
+    Early,
+    /// One of its calls has the reply `Full`, so its set has a quota.
+    #[error("one of its calls has the reply full")]
+    HasFull,
+    /// There was no memory for the keys that it left.
+    #[error("out of memory")]
+    Memory,
+}
+
+/// The last moment at which a clock may begin.
+const LAST_CLOCK: u64 = 1 << 63;
+
+/// What is kept of the parts of a recording, each of which some order explains: the keys that the last one left, the latest
+/// beginning and the latest moment.
+#[derive(Drop)]
+pub struct Parts {
+    keys: Vec<u32>,
+    began: u64,
+    latest: u64,
+    at_rest: bool,
+}
+
+impl Model for Parts {
+    ghost use Rattle.std.specs.Prelude.{◌≤◌};
+    ghost use Rattle.std.specs.List.Sorted.{IsStrictlyIncreasing};
+    ghost use Rattle.lset_parts.specs.Kept.{KeptParts};
+
+    ghost Value = { KeptParts };
+
+    ghost view = { λ p. record { keys = p.keys.items; began = p.began; latest = p.latest; at_rest = p.at_rest } };
+}
+
+fn moment_since(since: u64, at: u32) -> u64
+    requires { since ≤ 2 ^ 63 }
+    ensures { result ≡ since + at }
+{
+    since + u64::from(at)
+}
+
+fn is_early(made: CallRecord, since: u64, began: u64) -> bool
+    requires { since ≤ 2 ^ 63 }
+    ensures { IsTrue result ↔ EndsEarly began (call_since since made) }
+{
+    match made.ended {
+        Some((end, _)) => moment_since(since, end) < began,
+        None => false,
+    }
+}
+
+/// Whether some call ended before the moment `began`, its moments counted since `since`.
+fn ends_early(calls: &[CallRecord], since: u64, began: u64) -> bool
+    requires { since ≤ 2 ^ 63 }
+    ensures { MatchBool result
+        (Any (EndsEarly began) (map (call_since since) calls.now))
+        (All (λ x. EndsEarly began x → ⊥) (map (call_since since) calls.now)) }
+{
+    for made in calls {
+        if is_early(*made, since, began) {
+            return true;
+        }
+    }
+    false
+}
+
+fn ends_full(made: CallRecord) -> bool
+    ensures { IsTrue result ↔ EndsFull made }
+{
+    match made.ended {
+        Some((_, reply)) => reply == Reply::Full,
+        None => false,
+    }
+}
+
+fn have_ended(calls: &[CallRecord]) -> bool
+    ensures { IsTrue result ↔ All (λ x. IsSome x.ended) calls.now }
+{
+    calls.iter().all(|made| made.ended.is_some())
+}
+
+fn stays_at_rest(at_rest: bool, calls: &[CallRecord]) -> bool
+    ensures { IsTrue result ↔ (IsTrue at_rest × All (λ x. IsSome x.ended) calls.now) }
+{
+    at_rest && have_ended(calls)
+}
+
+fn has_full(calls: &[CallRecord]) -> bool
+    ensures { MatchBool result (Any EndsFull calls.now) (All (λ x. EndsFull x → ⊥) calls.now) }
+{
+    calls.iter().any(|made| ends_full(*made))
+}
+
+impl Parts {
+    /// No part yet, of a set that opens with these keys, in increasing order. It does not allocate.
+    pub fn new(keys: Vec<u32>) -> Parts
+        requires { IsStrictlyIncreasing keys.items }
+        ensures { IsKeptOf keys.items [] result }
+    {
+        Parts {
+            keys,
+            began: 0,
+            latest: 0,
+            at_rest: true,
+        }
+    }
+
+    /// The keys that the last part left, with which the next part has to open.
+    pub fn keys(&self) -> &[u32]
+        ensures { result.now ≡ self.now.keys }
+    {
+        &self.keys
+    }
+
+    /// The latest moment of all parts: a part whose clock begins there comes after them.
+    pub fn latest(&self) -> u64
+        ensures { result ≡ self.now.latest }
+    {
+        self.latest
+    }
+
+    /// Whether all calls of the parts have ended.
+    pub fn is_at_rest(&self) -> bool
+        ensures { result ≡ self.now.at_rest }
+    {
+        self.at_rest
+    }
+
+    /// One order explains all parts that were added, from the keys with which the first opened, and leaves `keys`.
+    pub fn explain_the_whole(&self)
+        ensures { WholeIsExplained self.now }
+    {}
+
+    /// If all calls have ended, and calls follow whose clock begins at `latest` or later: where no order explains those calls from
+    /// `keys`, no order explains the recording up to their end.
+    pub fn need_the_next(&self)
+        ensures { NextIsNeeded self.now }
+    {}
+
+    /// Adds a part that some order explains: its history, whose moments count from the moment `since` of the whole recording, and
+    /// the keys that it left. `since` is 0 if all parts have one clock, and `latest` if each has its own.
+    ///
+    /// On an error nothing is changed. It allocates a copy of the keys, and keeps nothing of the calls but two moments.
+    pub fn add(
+        &mut self,
+        alloc: Global,
+        since: u64,
+        history: &History,
+        keys: &[u32],
+    ) -> Result<(), PartFault>
+        requires { IsExplained (record { history = history.now; keys = keys.now; since = since }) }
+        // What was kept of any parts is then kept of those parts and this one.
+        ensures kept { OnOk result ((opening : List ℕ) (ps : List Part) → IsKeptOf opening ps self.old
+            → IsKeptOf opening (ps ++ record { history = history.now; keys = keys.now; since = since } ∷ []) self.new) }
+        ensures refused { IfErr result
+            (IsPartFault self.old (record { history = history.now; keys = keys.now; since = since })) }
+        ensures unchanged { OnErr result (self.new ≡ self.old) }
+    {
+        if since > LAST_CLOCK {
+            return Err(PartFault::Late);
+        }
+        if history.opening() != self.keys.as_slice() {
+            return Err(PartFault::Opening);
+        }
+        if ends_early(history.calls(), since, self.began) {
+            return Err(PartFault::Early);
+        }
+        if has_full(history.calls()) {
+            return Err(PartFault::HasFull);
+        }
+        let Ok(left) = Vec::from_slice(alloc, keys) else {
+            return Err(PartFault::Memory);
+        };
+        let (began, latest) = latest_of(history.calls(), since, self.began, self.latest);
+        let at_rest = stays_at_rest(self.at_rest, history.calls());
+        self.keys = left;
+        self.began = began;
+        self.latest = latest;
+        self.at_rest = at_rest;
+        Ok(())
+    }
+}
+
+fn last_moment(made: CallRecord, since: u64) -> u64
+    requires { since ≤ 2 ^ 63 }
+    ensures begun { (call_since since made).begun ≤ result }
+    ensures ended { IfSome (call_since since made).ended (λ end. end.0 ≤ result) }
+{
+    let begun = moment_since(since, made.begun);
+    match made.ended {
+        Some((end, _)) => begun.max(moment_since(since, end)),
+        None => begun,
+    }
+}
+
+/// The latest beginning and the latest moment, with those of these calls.
+fn latest_of(calls: &[CallRecord], since: u64, began: u64, latest: u64) -> (u64, u64)
+    requires { since ≤ 2 ^ 63 }
+    ensures calls { All (IsUpTo result.0 result.1) (map (call_since since) calls.now) }
+    ensures began { began ≤ result.0 }
+    ensures latest { latest ≤ result.1 }
+    ensures in_turn { began ≤ latest → result.0 ≤ result.1 }
+{
+    let mut last_began = began;
+    let mut last = latest;
+    for made in calls {
+        last_began = last_began.max(moment_since(since, made.begun));
+        last = last.max(last_moment(*made, since));
+    }
+    (last_began, last)
+}
