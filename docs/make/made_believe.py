@@ -276,24 +276,28 @@ def private_files(_top):
 
 
 def crates(_top):
-    """The crates by their groups, each with what the first sentence of its root file begins with; those of tests by name."""
-    rows = []
+    """The crates by their groups, each with the first sentence of its root file, and the crates of tests that stand on it."""
+    rows, below, groups = ["| Crate | What it has | Tests |", "|---|---|---|"], {}, {}
     for line in (TOP / "crates.txt").read_text().splitlines():
         if line.startswith("# "):
-            rows.append((line.removeprefix("# "), []))
+            group = groups.setdefault(line.removeprefix("# "), [])
         elif line:
-            name = line.split(":")[0].split()[0]
-            said = first_words(name)
-            rows[-1][1].append(f"`{name}`" + (f": {said}" if " " in said and "`" not in said and rows[-1][0] != "tests" else ""))
-    return "\n".join(["| Group | Crates |", "|---|---|", *(f"| {group} | {'; '.join(of)} |" for group, of in rows)])
+            head, _, rest = line.partition(":")
+            below[head.split()[0]] = rest.split()
+            group.append(head.split()[0])
+    for name, of_group in groups.items():
+        rows.append(f"| **{name}** | | |")
+        for crate in of_group:
+            tests = [it for it in groups["tests"] if crate in below[it]]
+            rows.append(f"| `{crate}` | {said_of_crate(crate)} | {', '.join(f'`{it}`' for it in tests)} |")
+    return "\n".join(rows)
 
 
-def first_words(crate):
-    """What a crate's root file says of it first, up to a stop, a colon or a clause that explains."""
+def said_of_crate(crate):
+    """The first sentence of a crate's root file, without what stands in brackets at its end."""
     roots = [TOP / "crates" / crate / "src" / it for it in ("lib.rt", "main.rt")]
     said = " ".join(re.findall(r"^//! (.*)", next(it for it in roots if it.exists()).read_text(), re.M))
-    said = re.split(r"[.:](?: |$)| [(]| as | for a |, (?:and|as|for|made|one|over|read|so|which|whose) ", said)[0]
-    return said[:1].lower() + said[1:]
+    return re.sub(r" \([^()]*\)$", "", re.match(r"(?:[^.`]|`[^`]*`|\.(?! |$))*", said)[0])
 
 
 MADE = {f"definitions {it}": functools.partial(definitions_of, it) for it in dict.fromkeys(it[0] for it in entries())}

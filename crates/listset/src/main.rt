@@ -1,4 +1,5 @@
-//! Replays, checks, draws and generates recorded schedules of concurrent list sets, and runs and serves such sets.
+//! The program: it gives the words of its command line and the system's streams to `lset_dispatch`, and ends with the status that
+//! comes back.
 #![tactic(auto)]
 
 use lset_dispatch::run_words;
