@@ -68,24 +68,20 @@ def program_of(name):
     return str(BUILT / name)
 
 
-def read():
-    """Reads each bench, without a proof, over the libraries as `rt ci` has just left them in out/: that names and types still fit.
-    Gives the status."""
+def read(over):
+    """Reads each bench, without a proof, over the libraries that `rt ci` has just built in the repository `over`: that names and types
+    still fit. Gives the status."""
     sys.path.insert(0, str(TOP / "build"))
     import kit
 
-    rt, failed = kit.rt(), 0
-    how = {"stdin": subprocess.DEVNULL, "stdout": subprocess.PIPE, "stderr": subprocess.STDOUT, "text": True, "errors": "replace"}
+    failed, checks = 0, kit.Checks(pathlib.Path(over).resolve())
     with tempfile.TemporaryDirectory(prefix="bench-") as room:
         lay_out(pathlib.Path(room), NAMES)
-        rt.rtlib.Crate, rt.Crate.allowed = rt.Crate, rt.handles_of(room)
-        for crate in rt.rtlib.crates_below(room):
-            crate.rlib = f"{TOP}/crates/{crate.name}/out/rlib/{crate.name}.rlib"
-            if crate.name in NAMES:
-                words = [rt.rtlib.RATTLE, "check", *crate.words(["--jobs", "1", "--only", ""])]
-                ran = subprocess.run([*rt.rtlib.guarded(), *words], cwd=crate.folder, **how)
-                if ran.returncode:
-                    print(f"{ran.stdout[-3000:].rstrip()}\nbench: {crate.name} is not read")
-                    failed += 1
+        (pathlib.Path(room) / ".git").mkdir()
+        for name in NAMES:
+            status, said = checks.reads(pathlib.Path(room), name)
+            if status:
+                print(f"{said[-3000:].rstrip()}\nbench: {name} is not read")
+                failed += 1
     print(f"{len(NAMES) - failed} passed, {failed} failed")
     return 1 if failed else 0

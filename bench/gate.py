@@ -1,4 +1,4 @@
-"""What the gate costs: its steps, and of `rt ci` and the must-fail edits each crate and part."""
+"""What the gate costs: its steps, and of the proofs and the mutants of the gate each crate and part."""
 
 import contextlib
 import os
@@ -10,12 +10,12 @@ import time
 
 from measuring import TOP, heading, row
 
-PARTS = ("proof", "tests", "edits", "programs")
+PARTS = ("proof", "tests", "mutants", "programs")
 MEASURED = f"{TOP}/bench/seconds.txt"
 HEAD = "# Seconds by the wall of the gate's steps, and of one processor of each crate, as `bench/run --gate` last measured them\n"
 # what ./gate tells of a step that has ended
 ENDED = re.compile(r"gate: (.+): \d+ passed, \d+ failed \((\d+) s, (\d+) s of one processor\)")
-IN_CRATES = {"rt ci", "must-fail edits"}
+IN_CRATES = {"proofs", "mutants of the gate", "stale mutants"}
 TICKS = os.sysconf("SC_CLK_TCK")
 BETWEEN = 0.5
 DEAREST = 10
@@ -39,13 +39,13 @@ def task_of(words, folder, crates):
     if "--crate-name" in words:
         crate = words[words.index("--crate-name") + 1]
     else:
-        inside = re.match(re.escape(TOP) + r"/crates/(\w+)", folder)
+        inside = re.search(r"/crates/(\w+)", folder)
         of_made = (it for name in made for it in (name, name.removesuffix("_tests")) if it in crates)
         crate = inside[1] if inside else next(of_made, None)
     if crate not in crates:
         return None
-    if "/rt-edit-" in folder:
-        return crate, "edits"
+    if "/check-" in folder:
+        return crate, "mutants"
     if "--test" in words or any(it.startswith(f"{crate}_tests") for it in made):
         return crate, "tests"
     return crate, "programs" if "--crate-checked" in words or any(it.partition(".")[0] == crate for it in made) else "proof"
@@ -53,7 +53,7 @@ def task_of(words, folder, crates):
 
 def is_watched(words):
     """Whether a process is one of those steps of the gate whose crates are told one by one."""
-    return any(os.path.basename(it) in ("rt", "must_fail") for it in words[:3])
+    return any(it.endswith(("build/proved", "mutants/run")) for it in words[:3])
 
 
 class Watch(threading.Thread):
@@ -119,24 +119,24 @@ def write_seconds(kind, steps, tasks):
     lines += [f"{kind} {seconds:5} {name}" for name, (seconds, _) in steps.items()]
     crates = dict.fromkeys((name for name, _ in tasks), 0)
     for (name, part), (_, seconds) in tasks.items():
-        crates[name] += seconds if part != "edits" else 0
+        crates[name] += seconds if part != "mutants" else 0
     lines += [f"crate {seconds:5.0f} {name}" for name, seconds in crates.items() if kind == "whole"]
     with open(MEASURED, "w") as it:
         it.write(HEAD + "".join(f"{line}\n" for line in lines))
 
 
-def edits_of(name):
-    """How many must-fail edits a crate has, in brackets."""
-    folder = f"{TOP}/mutants/gate/{name}"
-    return f" ({sum(it.endswith('.edit') for it in os.listdir(folder))})" if os.path.isdir(folder) else ""
+def mutants_of(name):
+    """How many mutants of the gate a crate has, in brackets."""
+    file = f"{TOP}/mutants/gate/{name}"
+    return f" ({sum(it.startswith('== ') for it in open(file))})" if os.path.isfile(file) else ""
 
 
 def tell_crates(tasks):
     """Prints minutes and seconds of each crate and part."""
-    heading("Crate", "Proof", "Tests", "Must-fail edits", "Programs")
+    heading("Crate", "Proof", "Tests", "Mutants", "Programs")
     for name in dict.fromkeys(name for name, _ in tasks):
         cells = [f"{tasks[name, it][0]:.1f} min, {tasks[name, it][1]:.0f} s" if (name, it) in tasks else "" for it in PARTS]
-        cells[2] += edits_of(name) if cells[2] else ""
+        cells[2] += mutants_of(name) if cells[2] else ""
         row(f"`{name}`", *cells)
     sums = [sum(seconds for (_, part), (_, seconds) in tasks.items() if part == it) for it in PARTS]
     row("all", *(f"{it:.0f} s" for it in sums))

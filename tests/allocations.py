@@ -1,5 +1,5 @@
-"""What programs print if an allocation fails: each in turn, one a run. CALLS is the program of crates/memory_calls, proved or not as
-PROGRAM is.
+"""What programs print if an allocation fails: each in turn, one a run. CALLS is the program of crates/memory_calls, proved or
+not: the one that was built last.
 
 `tests/harness/refuse.c`, which the toolchain's own clang compiles, refuses the block of memory of one number, and overwrites what is given
 back, so that a read of it shows. A run that does not end within 60 seconds fails.
@@ -20,7 +20,7 @@ import pathlib
 import shutil
 import subprocess
 
-from harness.cases import SECONDS, TOP, UNPROVED, Wrong, cases, once, same, test
+from harness.cases import SECONDS, TOP, Wrong, cases, once, same, test
 
 REFUSED = 1000  # the block that is refused: more than the growths of the calls
 
@@ -213,9 +213,10 @@ def each_growth_of_a_command(case, over, command):
 @test
 def each_growth_of_the_calls(case):
     """Of the calls that are made one by one; each of BLOCKS has a block in its name."""
-    program = TOP / CALLS[os.path.realpath(case.program) == str(UNPROVED)]
-    if not program.exists():
-        raise Wrong(f"{program} is missing: tests/unproved memory_calls --to {CALLS[1]} builds the unproved one, rt ci the proved one")
+    built = [TOP / it for it in CALLS if (TOP / it).exists()]
+    if not built:
+        raise Wrong(f"{CALLS[1]} is missing: tests/unproved memory_calls --to {CALLS[1]} builds it, ./gate --tests-proved the proved one")
+    program = max(built, key=lambda it: it.stat().st_mtime)
     calls = calls_refused(answers(program, once(refuser)))
     passed_over(calls)
     look_at_work(calls)

@@ -103,7 +103,8 @@ class Repository:
         for name in TOOLS:
             (self.path / name).symlink_to(shutil.which(name))
         of_kit = pathlib.Path(shutil.which("rt")).resolve().parent
-        (self.kit / "bin/rt").symlink_to(of_kit / "rt")
+        for name in ("rt", "rtlib.py"):
+            (self.kit / "bin" / name).symlink_to(of_kit / name)
         for name, text in STAND_INS.items():
             (self.room / name).write_text(text.format(kit=self.kit, room=self.room, tree=self.tree))
             (self.room / name).chmod(0o755)
@@ -455,26 +456,17 @@ def the_time_left_goes_by_the_longest_chain(_repository):
     first_run = importlib.util.module_from_spec(importlib.util.spec_from_loader("first_run", loader))
     loader.exec_module(first_run)
 
-    class Crate:
-        def __init__(self, name, lines, *below):
-            self.name, self.lines, self.is_program, self.deps = name, lines, name == "program", below
-
-        def below(self):
-            return list(dict.fromkeys(it for dep in self.deps for it in [*dep.below(), dep]))
-
-        def count(self, _pattern):
-            return self.lines
-
-    low = Crate("low", 1200)
-    sides = [Crate(f"side{number}", 600, low) for number in range(3)]
-    program = Crate("program", 8, *sides)
-    progress = first_run.Progress([low, *sides, program], 5, 2)
-    # two and a half thousand lines on two processors, or 1,200 + 600 + 8 + 3,000 / 30 in a chain, at the usual 0.15 s
-    same(progress.minutes_left(), "some 5 min left", "at its begin")
+    sides = [f"side{number}" for number in range(3)]
+    below = {"low": set(), **{it: {"low"} for it in sides}, "program": {"low", *sides}}
+    progress = first_run.Progress(below, {"low": 180, **dict.fromkeys(sides, 90), "program": 30}, 2)
+    # 480 seconds on two processors, or 180 + 90 + 30 in a chain
+    same(progress.told_left(), "some 5 min left", "at its begin")
     with contextlib.redirect_stderr(open(os.devnull, "w")):
-        progress.add(low, time.monotonic() - 600)
-    # 1,800 + 108 lines on two processors, at half a second
-    same(progress.minutes_left(), "some 8 min left", "after the first")
+        progress.take("rt: low proved")
+        same(progress.told_left(), "some 2 min left", "after the first")
+        for it in (*sides, "program", "program_tests: its tests are"):
+            progress.take(f"rt: {it} is kept: an earlier run proved the same")
+    same(progress.told_left(), "none left", "at its end")
 
 
 # ---- the toolchain itself

@@ -4,10 +4,9 @@
 """
 import collections
 import re
+import sys
 
 import sources
-
-VERDICT = re.compile(r"^\| `\w+` \| ([a-z ]+) \|", re.M)
 
 
 def listed(counts):
@@ -15,20 +14,28 @@ def listed(counts):
     return ", ".join(f"`{name}` {count}" for name, count in counts.items())
 
 
-def edits(top):
-    """The wrong bodies of the gate by name, and the planted ones in number, with what refused them when they were last tried."""
-    rows, planted = [], collections.Counter()
-    for folder in sorted(filter(lambda it: it.is_dir(), (top / "mutants" / "gate").iterdir())):
-        names = ", ".join(f"`{it.stem}`" for it in sorted(folder.glob("*.edit")))
-        rows.append(f"| `{folder.name}` | {names} |")
-    for file in sorted((top / "mutants" / "planted").glob("*/*.edit")):
-        planted[file.parent.name] += 1
-    tried = collections.Counter(VERDICT.findall((top / "mutants" / "planted" / "TRIED.md").read_text(encoding="utf-8")))
-    gate = sum(1 for _ in (top / "mutants" / "gate").glob("*/*.edit"))
-    refusals = ", ".join(f"{count} were refused by a {kind}" for kind, count in tried.most_common())
+def wrong_bodies(top):
+    """The mutants of the gate, each with what it stands for; and the planted ones in number, with what refused them, and how many of
+    those verdicts are over these sources."""
+    sys.path.insert(0, str(top / "mutants"))
+    import mutants
+    import reached
+
+    gate, planted = mutants.all_of("gate"), mutants.all_of("planted")
+    rows = [f"| `{crate}` | {'; '.join(it.guards for it in of.values())} |" for crate, of in gate.items()]
+    lines = (top / "mutants" / "tried.tsv").read_text(encoding="utf-8").splitlines()[1:]
+    told = {(crate, name): (kind, total) for crate, name, kind, _, total, _ in (line.split("\t") for line in lines)}
+    tried, fresh = collections.Counter(), 0
+    for crate, of in planted.items():
+        for name, it in of.items():
+            kind, total = told.get((crate, name), ("not tried", ""))
+            tried[kind] += 1
+            fresh += total == reached.sum_of(it)
+    kinds = {"clause": "refused by a clause", "written answer": "refused only since a written answer no longer fits"}
+    refusals = ", ".join(f"{count} {kinds.get(kind, kind)}" for kind, count in tried.most_common())
     return "\n".join([
-        f"| Crate | The {gate} in the gate |", "|---|---|", *rows, "",
-        f"Planted: {planted.total()}; when last tried, {refusals}. By crate: {listed(planted)}."])
+        f"| Crate | What each of the {sum(map(len, gate.values()))} in the gate breaks |", "|---|---|", *rows, "",
+        f"Planted: {tried.total()}: {refusals}; {fresh} of these verdicts are over the sources as they are."])
 
 
 def tests(top):
@@ -43,4 +50,4 @@ def tests(top):
             f"the pages of `transcripts`: {listed(pages)}.")
 
 
-MADE = {"edits": edits, "tests": tests}
+MADE = {"wrong bodies": wrong_bodies, "tests": tests}

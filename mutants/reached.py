@@ -1,0 +1,189 @@
+"""On what the verdict on a mutant depends: the functions that it changes with their contracts, and what these reach by names.
+
+From the names in a function's contract and body follow: the definitions of specs/ that their file brings in, and those that these
+name, in all crates; the contracts of the functions that it calls, and the types that it names, with their invariants and models. Comments,
+layout, proofs/ and the bodies of other functions have no part in it. Names are followed by the `use` lines, as rattle does; a method goes by
+its name alone, in its crate and in those that the file names, so this takes in more than a verdict depends on, and nothing less that
+has a name.
+"""
+
+import collections
+import functools
+import hashlib
+import re
+
+from mutants import CRATES, Source, changed_functions, functions
+
+WORD = r"[^\W\d][\w'\-]*"
+DEFINES = {"abbrev", "unfoldable", "opaque", "record", "data"}
+USE = re.compile(r"^\s*(?:ghost )?(?:pub )?use Rattle\.([^\s{;]+?)(?:\.\{([^}]*)\})?(?: as (" + WORD + r"))?;?[ ]*$", re.M)
+TYPE = re.compile(r"^(?:pub(?:\(crate\))? )?(?:struct|enum|trait|const|static|type) (\w+)")
+
+Module = collections.namedtuple("Module", "names modules items")
+File = collections.namedtuple("File", "source names modules crates")
+
+
+def bare(text, sign):
+    """A text without its comments, its lines' ends and the like."""
+    lines = (line.partition(sign)[0] if line.lstrip().startswith(sign) or f" {sign} " in line else line for line in text.split("\n"))
+    return " ".join(" ".join(lines).split())
+
+
+def uses(text):
+    """What the `use` lines of a file bring in of the logic: names, and modules under another name."""
+    names, modules = {}, {}
+    for path, listed, other in USE.findall(text):
+        for entry in (listed or "").split(","):
+            given, _, here = entry.strip().partition(" as ")
+            if given:
+                names[here or given] = (path, given)
+        if not listed and other:
+            modules[other] = path
+    return names, modules
+
+
+def definitions(text):
+    """The definitions of a file of specs/, by name."""
+    found, current = {}, None
+    for line in text.split("\n"):
+        if not line.strip() or line.strip().startswith("--"):
+            continue
+        if not line[0].isspace():
+            words = line.split()
+            if words[0] in ("use", "mod", "infixl", "infixr", "infix", "syntax") or words[:2] in (["pub", "use"], ["pub", "mod"]):
+                current = None
+                continue
+            head = [word for word in words if word != "pub" and word not in DEFINES]
+            if DEFINES & set(words[:3]):
+                current = head[0]
+                found[current] = []
+            elif head[0] not in found:
+                current = None
+            else:
+                current = head[0]
+        if current:
+            found[current].append(line)
+    return {name: "\n".join(lines) for name, lines in found.items()}
+
+
+class Repository:
+    """What all crates define, by crate and name."""
+
+    def __init__(self):
+        self.modules, self.files, self.items = {}, {}, collections.defaultdict(list)
+        known = {it.name for it in CRATES.iterdir()}
+        for file in sorted(CRATES.glob("*/specs/**/*.antt")):
+            text = file.read_text(encoding="utf-8")
+            self.modules[".".join(file.relative_to(CRATES).with_suffix("").parts)] = Module(*uses(text), definitions(text))
+        for file in sorted(CRATES.glob("*/src/**/*.rt")):
+            crate, _, path = str(file.relative_to(CRATES)).partition("/")
+            source = Source(file.read_text(encoding="utf-8"))
+            others = known & set(re.findall(r"\b(\w+)::", source.text))
+            self.files[crate, path] = at = File(source, *uses(source.text), others)
+            for name, item in [*types(source), *((it.name, f"{of_block(it)} {it.contract}") for it in source.functions)]:
+                self.items[crate, name].append((at, item))
+
+    def named(self, text, names, modules, own):
+        """The definitions of specs/ that a text names, as pairs of a module and a name; those of the same module have none."""
+        found = set()
+        for word in re.findall(WORD + r"(?:\." + WORD + ")*", text):
+            first, *rest = word.split(".")
+            if first in own:
+                found.add(("", first))
+            elif first in names:
+                found.add(names[first])
+            elif first in modules and rest:
+                found.add((modules[first], rest[0]))
+        for operator, given in names.items():
+            if operator.startswith("◌") and operator.strip("◌") in text:
+                found.add(given)
+        return found
+
+    def of_source(self, crate, source, text):
+        """What a text of a source file leads to."""
+        found = {("", path, name) for path, name in self.named(text, source.names, source.modules, ())}
+        for word in set(re.findall(r"\w+", text)):
+            found |= {(it, "", word) for it in {crate, *source.crates} if (it, word) in self.items}
+        return found
+
+    def of_definition(self, path, name):
+        """The text of a definition, and what it leads to; of a type of Rust that the logic declares, that type."""
+        if path not in self.modules and path.rpartition(".")[0] in self.modules:
+            path, _, name = path.rpartition(".")
+        crate, _, rest = path.partition(".specs.")
+        if rest.startswith("declared."):
+            kind = [it for it in rest.split(".") if it != "TheVariants"][-1]
+            return "", {(crate, "", kind)}
+        if path not in self.modules or name not in self.modules[path].items:
+            return "", set()
+        module = self.modules[path]
+        text = bare(module.items[name], "--")
+        named = self.named(text, module.names, module.modules, module.items)
+        return text, {("", where or path, what) for where, what in named}
+
+    @functools.cache
+    def step(self, crate, path, name):
+        """The texts of a name, and what they lead to."""
+        if not crate:
+            text, leads = self.of_definition(path, name)
+            return [text], leads
+        texts, leads = [], set()
+        for source, text in self.items.get((crate, name), ()):
+            texts.append(bare(text, "//"))
+            leads |= self.of_source(crate, source, texts[-1])
+        return texts, leads
+
+    def reached(self, waiting):
+        """The texts that are reached from these."""
+        waiting, seen, texts = set(waiting), set(), set()
+        while waiting:
+            it = waiting.pop()
+            if it not in seen:
+                seen.add(it)
+                of_it, leads = self.step(*it)
+                texts.update(of_it)
+                waiting |= leads
+        return texts
+
+
+def of_block(function):
+    """The head of the implementation or trait in which a function stands, and what that says in the logic."""
+    return " ".join([function.block.head, *function.block.ghosts]) if function.block else ""
+
+
+def types(source):
+    """The types, constants and traits of a source file, each with its name; and what implementations say of types in the logic."""
+    for first, line in enumerate(source.lines):
+        if found := TYPE.match(line):
+            last = next(at for at, it in enumerate(source.lines[first:], first) if re.match(r"[})]|.*[;}]$", it) and not it.startswith(" "))
+            yield found[1], "\n".join(source.lines[first : last + 1])
+    for block in source.blocks:
+        if block.kind == "impl" and block.ghosts:
+            yield block.subject, " ".join([block.head, *block.ghosts])
+
+
+@functools.cache
+def repository():
+    return Repository()
+
+
+@functools.cache
+def functions_of(crate):
+    return functions(CRATES / crate)
+
+
+def sum_of(mutant):
+    """A sum over all that the verdict on a mutant depends on."""
+    all_of, folder = repository(), CRATES / mutant.crate
+    own, waiting = [], set()
+    for it in changed_functions(mutant, folder, functions_of(mutant.crate)):
+        for path in [it.path] if it else sorted({path for path, _, _ in mutant.pairs}):
+            file = all_of.files.get((mutant.crate, path)) or File(Source((folder / path).read_text(encoding="utf-8")), {}, {}, set())
+            text = file.source.text
+            if it:
+                function = next(one for one in file.source.functions if one.first == it.first)
+                text = "\n".join([of_block(function), *file.source.lines[it.top - 1 : it.last]])
+            own.append(bare(text, "//"))
+            waiting |= all_of.of_source(mutant.crate, file, text)
+    told = repr((mutant.pairs, sorted(own), sorted(all_of.reached(waiting))))
+    return hashlib.sha256(told.encode()).hexdigest()[:12]
