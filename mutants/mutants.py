@@ -253,8 +253,12 @@ def verdict_of(status, said, texts):
 def try_together(checks, crate, group):
     """Of mutants that are tried together, those that are refused by a goal of their own function, each with that goal."""
     texts, folder = {}, checks.root / "crates" / crate
-    for mutant, _ in group:
-        texts_with(mutant, folder, texts)
+    try:
+        for mutant, _ in group:
+            texts_with(mutant, folder, texts)
+    except Misfit:
+        # (one makes the 'old:' text of another stand there twice: each is tried alone)
+        return {}
     only = words_of([it for _, it in group], functions(folder))
     if not only:
         return {}
