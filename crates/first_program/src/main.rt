@@ -6,7 +6,7 @@ ghost use Rattle.std.specs.Prelude.{◌≡◌, [], ◌∷◌, IfOk, map};
 ghost use Rattle.lset_schedule.specs.Plan.{Plan, IsSchedule, schedule_text};
 ghost use Rattle.lset_replay.specs.Reports.{IsExplained};
 ghost use Rattle.lset_report.specs.Report.{view};
-ghost use Rattle.lset_live.specs.Explained.{Explains};
+ghost use Rattle.lset_live.specs.Explained.{IsOneLegalOrder};
 ghost use Rattle.lset_words.specs.Records.{fresh};
 ghost use Rattle.lset_work.specs.Programs.{worked};
 
@@ -59,7 +59,7 @@ fn two_threads<M: Running + Send + Sync, R: Threads + Wait + Sync>(
     second: [Call; 2],
 ) -> Result<Outcome, Refusal>
     // one legal order has just these calls with these replies, each thread's in its order, and leaves the keys
-    ensures { IfOk result (λ o. Explains (record { threads = 2; quota = 2; keys = keys.now })
+    ensures { IfOk result (λ o. IsOneLegalOrder (record { threads = 2; quota = 2; keys = keys.now })
         (worked (fresh 0 ∷ fresh 1 ∷ []) (first ∷ second ∷ []) (map (λ v. v.items) o.replies.items)) o.keys.items) }
 {
     let (set, seats) = open_with::<M>(alloc, 2, 2, keys)?;

@@ -187,6 +187,9 @@ fn a_pause_is_told_of_each_try_at_a_lock_that_another_seat_has(rt: HostRuntime) 
     waits_at_a_lock::<FineList, HostRuntime>(&rt, rt.alloc(), 0);
     waits_at_a_lock::<OptimisticList, HostRuntime>(&rt, rt.alloc(), 2);
     waits_at_a_lock::<LazyList, HostRuntime>(&rt, rt.alloc(), 2);
+    waits_at_a_lock::<Stepped<CoarseList>, HostRuntime>(&rt, rt.alloc(), 0);
+    waits_at_a_lock::<Stepped<FineList>, HostRuntime>(&rt, rt.alloc(), 0);
+    waits_at_a_lock::<Stepped<LazyList>, HostRuntime>(&rt, rt.alloc(), 2);
 }
 
 /// A key that is there before, the calls of seats 0 and 1, the steps after which they stop, their replies, and of the call of
@@ -254,6 +257,7 @@ const CHANGED: [Row; 3] = [
 fn a_pause_is_told_of_a_link_that_another_seat_has_changed(rt: HostRuntime) {
     for row in &CHANGED {
         is_told::<LockFreeList, HostRuntime>(&rt, rt.alloc(), row);
+        is_told::<Stepped<LockFreeList>, HostRuntime>(&rt, rt.alloc(), row);
     }
 }
 

@@ -27,7 +27,7 @@ use Rattle.lset_rule.proofs.Stepped.{end_laws}
 use Rattle.lset_rule.proofs.Counts.{has_all, closes}
 use Rattle.lset_words.specs.Records.{Keeps}
 use Rattle.lset_live.specs.Dated.{record_of}
-use Rattle.lset_live.specs.Explained.{Explains}
+use Rattle.lset_live.specs.Explained.{IsOneLegalOrder}
 use Rattle.lset_live.specs.Closes.{LastWords, HasKeys, HasLaws, IsLast}
 use Rattle.lset_live.proofs.Dated.{in_named, said_by}
 use Rattle.lset_live.proofs.Orders.{calls_by_is}
@@ -76,7 +76,7 @@ module _ (T : Table) (law : Lawful T) (v : View) (st : Stands T v) (idle : v.und
 
   pub closed_explains : (ws : List ℕ) → ws ≡ (end_of T k v.seen).words → (keys : List ℕ) →
       HasKeys (record { sizes = sizes k; words = ws }) keys
-      → Explains k (record_of v.past ∷ []) keys
+      → IsOneLegalOrder k (record_of v.past ∷ []) keys
   closed_explains ws is keys has =
       let ex = explains T law v st idle linear in
       let P : List Placed = order T law v st idle linear in
@@ -105,9 +105,9 @@ module _ (T : Table) (law : Lawful T) (v : View) (st : Stands T v) (sp : v.spent
   last = closes T law k id v ws xs shape sp full final ∙ ap (λ (z : Opening). (end_of T z v.seen).words) (sym shape)
 
   pub last_explains : RunsAreLinearizable T → (keys : List ℕ) → HasKeys (record { sizes = sizes k; words = ws }) keys →
-      Explains k (record_of v.past ∷ []) keys
+      IsOneLegalOrder k (record_of v.past ∷ []) keys
   last_explains linear = subst (λ (z : Opening). (keys : List ℕ) → HasKeys (record { sizes = sizes z; words = ws }) keys →
-      Explains z (record_of v.past ∷ []) keys) shape
+      IsOneLegalOrder z (record_of v.past ∷ []) keys) shape
       (closed_explains T law v st idle linear (full ∙ sym (ap (λ (z : Opening). z.threads) shape)) ws last)
 
 -- THE LAST WORDS

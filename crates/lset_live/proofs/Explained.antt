@@ -35,7 +35,7 @@ use Rattle.lset_rule.specs.Seats.{IsSeat, TableSeat}
 use Rattle.lset_rule.proofs.Stepped.{Tied, tied}
 use Rattle.lset_words.specs.Records.{Keeps, called, thread_of}
 use Rattle.lset_live.specs.Dated.{call_of, record_of}
-use Rattle.lset_live.specs.Explained.{HasAnswered, IsAnswered, IsExplained}
+use Rattle.lset_live.specs.Explained.{HasAnswered, IsAnswered, SeenIsLinearizable}
 use Rattle.lset_live.specs.Seats.{SeatValue, SetValue, reply_of, is_true}
 use Rattle.lset_live.proofs.Dated.{root_is, said_by}
 use Rattle.lset_live.proofs.Histories.{of_thread, ended_record, thread_records, MayBegin, thread_calls}
@@ -99,12 +99,12 @@ module _ (T : Table) (law : Lawful T) (v : View) (st : Stands T v) (idle : v.und
     kept = keeps v.shape.quota (opening_set v.shape) (history_of T v.shape v.seen) order explains.linearizes turns
         (λ u. calls_of u v.past) v.past st.apart st.ordered (λ u h. own u (st.named u h)) (λ u. refl)
 
-    pub explained : IsExplained T v.shape v.seen (record_of v.past)
+    pub explained : SeenIsLinearizable T v.shape v.seen (record_of v.past)
     explained = record { run = st.ran; order = order; linearizes = explains.linearizes; keeps = kept }
 
 pub made_explained : (T : Table) (law : Lawful T) → RunsAreLinearizable T → (c : Call) (v : View) (r : Reply) (w : View) →
     Makes T c v r w
-    → IsExplained T w.shape w.seen (record_of w.past)
+    → SeenIsLinearizable T w.shape w.seen (record_of w.past)
 made_explained T law linear c v r w m = explained T law w m.stands m.idle linear
 
 -- THE CALL IN THE HISTORY
@@ -216,8 +216,8 @@ read_is_truth : (T : Table) (law : Lawful T) → RunsAreLinearizable T → (key 
     → Makes T (Contains key) v r w → IsTruth r
 read_is_truth T law linear key v r w m =
     let call : OwnCall = record { call = Contains key; reply = r; begun = length m.log + 1; ended = length w.seen } in
-    let ex : IsExplained T w.shape w.seen (called (record_of v.past) (call_of call)) =
-    subst (λ p. IsExplained T w.shape w.seen p) (ap record_of m.past) (made_explained T law linear (Contains key) v r w m) in
+    let ex : SeenIsLinearizable T w.shape w.seen (called (record_of v.past) (call_of call)) =
+    subst (λ p. SeenIsLinearizable T w.shape w.seen p) (ap record_of m.past) (made_explained T law linear (Contains key) v r w m) in
     let at = ex.keeps.1.1 in
     let l = legal_at w.shape.quota (opening_set w.shape) at.before (said_by (thread_of (record_of v.past)) call) at.after
     (subst (λ o. IsLegal w.shape.quota (opening_set w.shape) o) at.is ex.linearizes.legal) in

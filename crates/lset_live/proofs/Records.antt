@@ -4,7 +4,7 @@ use Rattle.std.proofs.lemmas.List.Elements.{All-head, All-cons, All-nil}
 use Rattle.lset_words.specs.SequentialSet.{Answered}
 use Rattle.lset_words.specs.Records.{Record, gathered, Names, Keeps}
 use Rattle.lset_live.specs.Seats.{gather_onto}
-use Rattle.lset_live.specs.Explained.{NamedIn, Explains}
+use Rattle.lset_live.specs.Explained.{NamedIn, IsOneLegalOrder}
 use Rattle.lset_words.specs.Words.{Opening}
 
 -- one record more
@@ -31,7 +31,7 @@ unnamed u (Some p) (q ∷ qs) h n = unnamed u (Some (gathered p q)) qs (λ x. �
 
 -- an order that explains the gathered record explains each of those that were gathered
 pub gathered_explains : (k : Opening) (r : Record) (rs : List Record) (keys : List ℕ) → Some r ≡ gather_onto None rs →
-    Explains k (r ∷ []) keys → Explains k rs keys
+    IsOneLegalOrder k (r ∷ []) keys → IsOneLegalOrder k rs keys
 gathered_explains k r rs keys e x = record {
   order = x.order;
   legal = x.legal;

@@ -29,33 +29,32 @@ pub record IsAnswered (T : Table) (k : Opening) (t : ℕ) (c : Call) (r : Reply)
     ended = Some (length after, r);
   })
 
--- The events are a run of the machine, and an order of its calls linearizes their history, from the opening set, and keeps the
--- record.
-pub record IsExplained (T : Table) (k : Opening) (events : List Event) (r : Record) : Type 0 where
+-- What a seat has seen: the events are a run of the machine, and an order of its calls linearizes their history, from the opening
+-- set, and keeps the record. A call of a seat that was not gathered need not be in that run.
+pub record SeenIsLinearizable (T : Table) (k : Opening) (events : List Event) (r : Record) : Type 0 where
   pub run : IsRunOf T k events
   pub order : List Placed
   pub linearizes : Linearizes k.quota (opening_set k) (history_of T k events) order
   pub keeps : Keeps (map (answered (history_of T k events)) order) r
 
 -- A call of the set was made from the seat `old`, answered r, and left the seat as `new`: it is a seat of the set and holds as
--- many
--- seats as before, its record grew by just this call, which began after all that the seat had seen, and one order explains all
--- that
--- it has now seen.
+-- many seats as before; its record grew by just this call, which began after all that the seat had seen; and there is a run of what
+-- it has now seen, with a linearization that keeps its record.
 pub record HasAnswered (T : Table) (set : SetValue) (old : SeatValue) (c : Call) (r : Reply) (new : SeatValue) : Type 0 where
   pub of_set : new.set ≡ set
   pub held : new.held ≡ old.held
   pub past : new.past ≡ called old.past (record { call = c; reply = r })
   pub answered : IsAnswered T set.shape (thread_of old.past) c r old.events new.events
-  pub explained : IsExplained T set.shape new.events new.past
+  pub explained : SeenIsLinearizable T set.shape new.events new.past
 
 -- some record of the list names the thread
 abbrev pub NamedIn : ℕ → List Record → Type 0
 NamedIn u [] = ⊥
 NamedIn u (r ∷ rs) = Names u r ⊎ NamedIn u rs
 
--- ONE LEGAL ORDER of calls keeps each of the records, has no other call, and leaves the keys.
-pub record Explains (k : Opening) (records : List Record) (keys : List ℕ) : Type 0 where
+-- ONE LEGAL ORDER of exactly the calls of the records: it keeps each record, so the order of each seat's calls and of gathering, and
+-- leaves the keys. No real-time order between seats is asked: this is sequential consistency.
+pub record IsOneLegalOrder (k : Opening) (records : List Record) (keys : List ℕ) : Type 0 where
   pub order : List Answered
   pub legal : IsLegal k.quota (opening_set k) order
   pub keeps : All (Keeps order) records

@@ -1,7 +1,7 @@
 //! Opening a set.
 ghost use Rattle.std.specs.Prelude.{◌≡◌, ◌↔◌, IsTrue, length, All, IfOk, IfErr};
 ghost use Rattle.std.specs.List.Sorted.{IsStrictlyIncreasing};
-ghost use Rattle.lset_words.specs.Words.{empty};
+ghost use Rattle.lset_words.specs.Words.{empty, Opens};
 ghost use Rattle.lset_steps.specs.Steps.{opening_of};
 ghost use Rattle.lset_live.specs.Seats.{IsOpened, RefusesSeats, RefusesOpening};
 
@@ -111,6 +111,7 @@ pub fn open_with<M: Machine>(
 ) -> Result<(LiveSet<M>, Vec<Seat<M>>), OpenFault>
     ensures opened { IfOk result (λ r. IsOpened r.0 (record { threads = seats; quota = quota; keys = keys.now }) r.1.items) }
     ensures seats { IfOk result (λ r. All (λ s. s.set ≡ r.0) r.1.items) }
+    ensures within { IfOk result (λ _. Opens (record { threads = seats; quota = quota; keys = keys.now })) }
     ensures refused { IfErr result (RefusesOpening (record { threads = seats; quota = quota; keys = keys.now })) }
 {
     let many = u32::try_from(keys.len()).unwrap_or(u32::MAX);

@@ -11,7 +11,7 @@ use Rattle.lset_rule.specs.declared.view.View.{View}
 use Rattle.lset_rule.specs.Pasts.{calls_of}
 use Rattle.lset_rule.specs.Runs.{Here, here, at_end}
 use Rattle.lset_rule.specs.Views.{HasThread, HasAside, AreIdle}
-use Rattle.lset_rule.specs.Rule.{Fits, Holds}
+use Rattle.lset_rule.specs.Rule.{MatchesLog, Holds}
 use Rattle.lset_rule.proofs.Runs.{own_calls, asides_stay, calls_are_own_calls, gathered_in, GatheredHave, gathered_have}
 use Rattle.lset_rule.proofs.Keeps.{St, still}
 use Rattle.lset_words.specs.Words.{Opening}
@@ -24,7 +24,7 @@ ended_aside ends t r (o ∷ os) idle u has = ⊎_elim
     (ended_aside ends t r os idle.3 u) has
 
 module _ (m : Table) (k : Opening) (s : St) (h : Holds m k s) (j : ℕ) (v : View) (at : get_elem? s.views j ≡ some v) (alive : v.spent ≡ false) where
-  abbrev fit : Fits m k h.log h.seat_of j v
+  abbrev fit : MatchesLog m k h.log h.seat_of j v
   fit = h.each j v at alive
 
   -- its own thread has the registers, the call under way and the calls that the view says,

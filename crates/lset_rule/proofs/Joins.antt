@@ -19,7 +19,7 @@ use Rattle.lset_steps.specs.Steps.{Table}
 use Rattle.lset_rule.specs.Pasts.{gathered, calls_of}
 use Rattle.lset_steps.specs.Worlds.{thread_of}
 use Rattle.lset_rule.specs.Runs.{Here, here, at_end, IsRunOf}
-use Rattle.lset_rule.specs.Rule.{Holds, Fits, IsQuiet, left_view, right_view, longer, aside, joined, nobody, learned}
+use Rattle.lset_rule.specs.Rule.{Holds, MatchesLog, IsQuiet, left_view, right_view, longer, aside, joined, nobody, learned}
 use Rattle.lset_rule.specs.Views.{Stands, HasThread, HasAside, AreIdle, InTime}
 use Rattle.lset_rule.specs.Runs.{StartsWith}
 use Rattle.lset_rule.proofs.Runs.{still_quiet, before_more, none_of_another}
@@ -50,9 +50,9 @@ quiet_both v w j split (e ∷ es) p q = (λ h. ⊎_elim p.0 q.0 (split (thread_o
 
 module _ (m : Table) where
   -- a view from which threads are taken
-  fits_less : (k : Opening) (log : List Event) (so so' : ℕ → ℕ) (i j : ℕ) (v w : View) (f : Fits m k log so i v) →
+  fits_less : (k : Opening) (log : List Event) (so so' : ℕ → ℕ) (i j : ℕ) (v w : View) (f : MatchesLog m k log so i v) →
       w.shape ≡ v.shape → w.seen ≡ v.seen → StartsWith log w.ours → StartsWith log w.theirs
-      → ((t : ℕ) → HasThread w t → HasThread v t) → Stands m w → ((t : ℕ) → HasThread w t → so' t ≡ j) → Fits m k log so' j w
+      → ((t : ℕ) → HasThread w t → HasThread v t) → Stands m w → ((t : ℕ) → HasThread w t → so' t ≡ j) → MatchesLog m k log so' j w
   fits_less k log so so' i j v w f shape seen ours theirs less stands seat = record {
     shape = shape ∙ f.shape;
     rest = f.rest;
@@ -65,7 +65,7 @@ module _ (m : Table) where
   }
 
   fits_seat : (k : Opening) (log : List Event) (so so' : ℕ → ℕ) (j : ℕ) (v : View) →
-      ((t : ℕ) → so t ≡ j → HasThread v t → so' t ≡ j) → Fits m k log so j v → Fits m k log so' j v
+      ((t : ℕ) → so t ≡ j → HasThread v t → so' t ≡ j) → MatchesLog m k log so j v → MatchesLog m k log so' j v
   fits_seat k log so so' j v same f = record {
     shape = f.shape;
     rest = f.rest;
@@ -111,19 +111,19 @@ module _ (m : Table) where
 
     pub splits_at : (k : Opening) (id : ℕ) → Splits (Holds m k) id V (left_view V) (right_view V)
     splits_at k id s h at =
-        let f : Fits m k h.log h.seat_of id V = h.each id V at refl in
+        let f : MatchesLog m k h.log h.seat_of id V = h.each id V at refl in
         let n : ℕ = length (set s.views id (left_view V)) in
         let so : ℕ → ℕ = λ u. cond (u == o.thread) n (h.seat_of u) in
         let other : (u : ℕ) → u ≢ o.thread → so u ≡ h.seat_of u = λ u ne. ap (λ b. cond b n (h.seat_of u)) (ne_eqb u o.thread ne)
         in
         let this : (u : ℕ) → u ≡ o.thread → so u ≡ n = λ u e. ap (λ b. cond b n (h.seat_of u)) (eq-eqb u o.thread e) in
         let a = f.stands.others in
-        let left_fits : Fits m k h.log so id (left_view V) = fits_less k h.log h.seat_of so id id V (left_view V) f refl refl
+        let left_fits : MatchesLog m k h.log so id (left_view V) = fits_less k h.log h.seat_of so id id V (left_view V) f refl refl
         f.ours f.theirs (λ t x. ⊎_elim inl (λ y. inr (inr y)) x) (left_stands f.stands)
         (λ t x. other t (⊎_elim (λ (is : t ≡ v0.thread). λ e. a.0 (sym e ∙ is))
         (λ (is : HasAside os t). λ (e : t ≡ o.thread). a.2 (subst (HasAside os) e is)) x)
         ∙ f.seat t (⊎_elim inl (λ y. inr (inr y)) x)) in
-        let right_fits : Fits m k h.log so n (right_view V) = fits_less k h.log h.seat_of so id n V (right_view V) f refl refl
+        let right_fits : MatchesLog m k h.log so n (right_view V) = fits_less k h.log h.seat_of so id n V (right_view V) f refl refl
         (h.log, refl) (h.log, refl) (λ t x. ⊎_elim (λ y. inr (inl y)) (λ y. absurd y) x) (right_stands f.stands)
         (λ t x. this t (⊎_elim (λ y. y) (λ y. absurd y) x)) in
         record {
@@ -133,13 +133,13 @@ module _ (m : Table) where
           seat_of = so;
           each = λ j x is alive. ⊎_elim
               (λ (old : get_elem? (set s.views id (left_view V)) j ≡ some x). ⊎_elim
-              (λ (t : (j ≡ id) × (left_view V ≡ x)). subst (λ (z : ℕ × View). Fits m k h.log so z.0 z.1) (λ i. (sym t.0 i, t.1 i))
+              (λ (t : (j ≡ id) × (left_view V ≡ x)). subst (λ (z : ℕ × View). MatchesLog m k h.log so z.0 z.1) (λ i. (sym t.0 i, t.1 i))
               left_fits)
               (λ (t : (j ≢ id) × (get_elem? s.views j ≡ some x)). fits_seat k h.log h.seat_of so j x
               (λ u seat has. other u (λ e. t.0 (sym seat ∙ (ap h.seat_of e ∙ f.seat o.thread (inr (inl refl))))) ∙ seat)
               (h.each j x t.1 alive))
               (at_set s.views id j (left_view V) x old))
-              (λ (t : (j ≡ n) × (right_view V ≡ x)). subst (λ (z : ℕ × View). Fits m k h.log so z.0 z.1) (λ i. (sym t.0 i, t.1 i))
+              (λ (t : (j ≡ n) × (right_view V ≡ x)). subst (λ (z : ℕ × View). MatchesLog m k h.log so z.0 z.1) (λ i. (sym t.0 i, t.1 i))
               right_fits)
               (at_tail (set s.views id (left_view V)) (right_view V) x j is);
           placed = λ t lt. dite (ℕ_discrete t o.thread)
@@ -247,7 +247,7 @@ not_own w t r [] a h = h
 not_own w t r (o ∷ os) a h = ⊎_elim (λ e. a.0 (sym e)) (λ x. not_own w t r os a.3 x) h
 
 module _ (m : Table) where
-  module _ (k : Opening) (log : List Event) (so : ℕ → ℕ) (i j : ℕ) (apart : j ≢ i) (v w : View) (f : Fits m k log so i v) (g : Fits m k log so j w) (v_idle : v.under ≡ None) (w_idle : w.under ≡ None) where
+  module _ (k : Opening) (log : List Event) (so : ℕ → ℕ) (i j : ℕ) (apart : j ≢ i) (v w : View) (f : MatchesLog m k log so i v) (g : MatchesLog m k log so j w) (v_idle : v.under ≡ None) (w_idle : w.under ≡ None) where
     abbrev J : View
     J = joined v w
 
@@ -323,7 +323,7 @@ module _ (m : Table) where
       before = subst (λ (z : Option Under). InTime z (gathered v.past w.past)) (sym v_idle) tt;
     }
 
-    pub joined_fits : (so' : ℕ → ℕ) → ((t : ℕ) → so t ≡ i → so' t ≡ i) → ((t : ℕ) → so t ≡ j → so' t ≡ i) → Fits m k log so' i J
+    pub joined_fits : (so' : ℕ → ℕ) → ((t : ℕ) → so t ≡ i → so' t ≡ i) → ((t : ℕ) → so t ≡ j → so' t ≡ i) → MatchesLog m k log so' i J
     joined_fits so' a b = record {
       shape = f.shape;
       rest = lo.rest;
@@ -349,7 +349,7 @@ module _ (m : Table) where
       λ u e. ap (λ b. cond b id (h.seat_of u)) (eq-eqb (h.seat_of u) other e) in
       let same : (u : ℕ) → h.seat_of u ≢ other → so u ≡ h.seat_of u =
       λ u ne. ap (λ b. cond b id (h.seat_of u)) (ne_eqb (h.seat_of u) other ne) in
-      let mine : Fits m k h.log so id (joined v w) = joined_fits k h.log h.seat_of id other apart v w f g v_idle w_idle so
+      let mine : MatchesLog m k h.log so id (joined v w) = joined_fits k h.log h.seat_of id other apart v w f g v_idle w_idle so
       (λ t e. same t (λ e'. apart (sym e' ∙ e)) ∙ e) moved in
       record {
         log = h.log;
@@ -359,7 +359,7 @@ module _ (m : Table) where
         each = λ j x is alive. ⊎_elim
             (λ (t : (j ≡ other) × (nobody ≡ x)). absurd (false≢true (sym alive ∙ ap (λ (z : View). z.spent) (sym t.1))))
             (λ (t : (j ≢ other) × (get_elem? (set s.views id (joined v w)) j ≡ some x)). ⊎_elim
-            (λ (u : (j ≡ id) × (joined v w ≡ x)). subst (λ (z : ℕ × View). Fits m k h.log so z.0 z.1) (λ i. (sym u.0 i, u.1 i))
+            (λ (u : (j ≡ id) × (joined v w ≡ x)). subst (λ (z : ℕ × View). MatchesLog m k h.log so z.0 z.1) (λ i. (sym u.0 i, u.1 i))
             mine)
             (λ (u : (j ≢ id) × (get_elem? s.views j ≡ some x)). fits_seat m k h.log h.seat_of so j x
             (λ y seat _. same y (λ e. t.0 (sym seat ∙ e)) ∙ seat) (h.each j x u.1 alive))
@@ -409,7 +409,7 @@ module _ (m : Table) where
       let w : View = record v { ours = []; theirs = [] } in
       let f = h.each id v at sp in
       let st : Stands m w = kept_stands v [] [] f.stands in
-      let mine : Fits m k h.log h.seat_of id w = fits_less m k h.log h.seat_of h.seat_of id id v w f refl refl (
+      let mine : MatchesLog m k h.log h.seat_of id w = fits_less m k h.log h.seat_of h.seat_of id id v w f refl refl (
         h.log,
         refl,
       ) (h.log, refl) (λ t x. x) st (λ t x. f.seat t x) in (
@@ -421,7 +421,7 @@ module _ (m : Table) where
           ran = h.ran;
           words = set-get_or s.words i 0 ∙ h.words;
           seat_of = h.seat_of;
-          each = λ j x is alive. ⊎_elim (λ (t : (j ≡ id) × (w ≡ x)). subst (λ (z : ℕ × View). Fits m k h.log h.seat_of z.0 z.1)
+          each = λ j x is alive. ⊎_elim (λ (t : (j ≡ id) × (w ≡ x)). subst (λ (z : ℕ × View). MatchesLog m k h.log h.seat_of z.0 z.1)
               (λ i. (sym t.0 i, t.1 i)) mine)
               (λ (t : (j ≢ id) × (get_elem? s.views j ≡ some x)). h.each j x t.1 alive) (at_set s.views id j w x is);
           placed = λ t lt. stands_still s.views id (h.seat_of t) t v w at sp (λ x. x) (h.placed t lt);

@@ -25,7 +25,7 @@ use Rattle.lset_rule.specs.Pasts.{root, calls_of, Before, InOrder, Apart, IsIn}
 use Rattle.lset_steps.specs.Worlds.{thread_of, WorldState, IsRun}
 use Rattle.lset_rule.specs.Runs.{Here, here, under_after, log_by, end_of, at_end, IsRunOf}
 use Rattle.lset_rule.proofs.Stepped.{left, found, gone, begins}
-use Rattle.lset_rule.specs.Rule.{Holds, Fits, StandsIn}
+use Rattle.lset_rule.specs.Rule.{Holds, MatchesLog, StandsIn}
 use Rattle.lset_rule.specs.Views.{Stands, HasThread, InTime, IsOpen, IsIdle}
 use Rattle.lset_rule.specs.Calls.{gone_view, begun_view, record_after, Goes, Starts}
 use Rattle.lset_rule.proofs.Stepped.{left_is, found_is, Tied, end_more, is_run_more, end_other, end_begin, end_go, end_laws}
@@ -64,13 +64,13 @@ stands_still views id j t v w at alive more st = dite (ℕ_discrete j id)
 
 module _ (m : Table) where
   -- what the events of all say of a thread of the view
-  pub still : (k : Opening) (log : List Event) (so : ℕ → ℕ) (j : ℕ) (v : View) (f : Fits m k log so j v) (t : ℕ) → HasThread v t →
+  pub still : (k : Opening) (log : List Event) (so : ℕ → ℕ) (j : ℕ) (v : View) (f : MatchesLog m k log so j v) (t : ℕ) → HasThread v t →
       at_end m k log t ≡ at_end m k v.seen t
   still k log so j v f t h = ap (λ l. at_end m k l t) f.is ∙ still_quiet m k v v.seen f.rest t h f.quiet
 
   -- a view that another thread's event leaves as it is
   pub others_fit : (k : Opening) (log : List Event) (so : ℕ → ℕ) (j : ℕ) (v : View) (e : Event) → ¬ (HasThread v (thread_of e)) →
-      Fits m k log so j v → Fits m k (log ++ e ∷ []) so j v
+      MatchesLog m k log so j v → MatchesLog m k (log ++ e ∷ []) so j v
   others_fit k log so j v e other f = record {
     shape = f.shape;
     rest = f.rest ++ e ∷ [];
@@ -89,7 +89,7 @@ module _ (m : Table) where
     abbrev W : State
     W = end_of m v.shape h.log
 
-    abbrev fit : Fits m v.shape h.log h.seat_of id v
+    abbrev fit : MatchesLog m v.shape h.log h.seat_of id v
     fit = h.each id v at sp
 
     pub stood : at_end m v.shape h.log v.thread ≡ here v.local v.under (calls_of v.thread v.past)
@@ -146,7 +146,7 @@ module _ (m : Table) where
           ended = before_more (length h.log + 2) (length (h.log ++ e ∷ []) + 1) r (omega arith) before;
           before = in_time;
         } in
-        let mine_fits : Fits m v.shape (h.log ++ e ∷ []) h.seat_of id w = record {
+        let mine_fits : MatchesLog m v.shape (h.log ++ e ∷ []) h.seat_of id w = record {
           shape = refl;
           rest = [];
           is = sym (append-nil (h.log ++ e ∷ []));
@@ -164,7 +164,7 @@ module _ (m : Table) where
               words = words ∙ ap (λ (z : State). z.words) (sym (end_more m v.shape h.log e));
               seat_of = h.seat_of;
               each = λ j x is alive. ⊎_elim (λ (t : (j ≡ id) × (w ≡ x)). subst
-                  (λ (z : ℕ × View). Fits m v.shape (h.log ++ e ∷ []) h.seat_of z.0 z.1) (λ i. (sym t.0 i, t.1 i)) mine_fits)
+                  (λ (z : ℕ × View). MatchesLog m v.shape (h.log ++ e ∷ []) h.seat_of z.0 z.1) (λ i. (sym t.0 i, t.1 i)) mine_fits)
                   (λ (t : (j ≢ id) × (get_elem? s.views j ≡ some x)). let f = h.each j x t.1 alive in
                   others_fit v.shape h.log h.seat_of j x e
                   (λ has. t.0 (sym (f.seat (thread_of e) has) ∙ (ap h.seat_of mine ∙ fit.seat v.thread (inl refl)))) f)

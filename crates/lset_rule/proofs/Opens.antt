@@ -18,7 +18,7 @@ use Rattle.atomic_table.specs.declared.shared.Seat.{Seat}
 use Rattle.atomic_table.specs.Seated.{TableId}
 use Rattle.lset_steps.proofs.MoreEvents.{runs_to_opening}
 use Rattle.lset_rule.specs.Runs.{here, at_end, IsRunOf}
-use Rattle.lset_rule.specs.Rule.{Holds, Fits, opener, asides_from, left_view, right_view}
+use Rattle.lset_rule.specs.Rule.{Holds, MatchesLog, opener, asides_from, left_view, right_view}
 use Rattle.lset_rule.specs.Views.{Stands, HasThread, HasAside, AreIdle, IsIdle}
 
 -- the view of a seat that was just split off, of thread t alone
@@ -91,7 +91,7 @@ opens m k lim = record {
   words = refl;
   seat_of = λ _. 0;
   each = λ j x at alive. let o = one_view (opener k) x j at in
-      subst (λ (z : ℕ × View). Fits m k [] (λ _. 0) z.0 z.1) (λ i. (sym o.0 i, o.1 i)) record {
+      subst (λ (z : ℕ × View). MatchesLog m k [] (λ _. 0) z.0 z.1) (λ i. (sym o.0 i, o.1 i)) record {
         shape = refl;
         rest = [];
         is = refl;

@@ -24,7 +24,7 @@ IsQuiet v (e ∷ es) = ¬ (HasThread v (thread_of e)) × IsQuiet v es
 
 -- THE VIEW j FITS L: it has seen the first events of L, those after them are by others, it alone has its threads, and the two
 -- lists that it keeps from a joining begin L too.
-pub record Fits (m : Table) (k : Opening) (log : List Event) (seat_of : ℕ → ℕ) (j : ℕ) (v : View) : Type 0 where
+pub record MatchesLog (m : Table) (k : Opening) (log : List Event) (seat_of : ℕ → ℕ) (j : ℕ) (v : View) : Type 0 where
   pub shape : v.shape ≡ k
   pub rest : List Event
   pub is : log ≡ v.seen ++ rest
@@ -39,7 +39,7 @@ abbrev pub StandsIn : List View → ℕ → ℕ → Type 0
 StandsIn views j t = (v : View) × (get_elem? views j ≡ some v) × (v.spent ≡ false) × HasThread v t
 
 -- THE RULE: there is a run that ends with the words of the table, and each view that is not spent fits it. Each thread stands
--- in one view: in that of its seat, and (by `seat` of Fits) in no other. Seats are not counted: the view of a seat that was
+-- in one view: in that of its seat, and (by `seat` of MatchesLog) in no other. Seats are not counted: the view of a seat that was
 -- dropped stays.
 --
 -- What follows from it, at the end of the whole list L (proofs/EndOfAll): the registers of each thread, its call under way and
@@ -50,7 +50,7 @@ pub record Holds (m : Table) (k : Opening) (s : table.State (Unit {0}) View) : T
   pub ran : IsRunOf m k log
   pub words : s.words ≡ (end_of m k log).words
   pub seat_of : ℕ → ℕ
-  pub each : (j : ℕ) (v : View) → get_elem? s.views j ≡ some v → v.spent ≡ false → Fits m k log seat_of j v
+  pub each : (j : ℕ) (v : View) → get_elem? s.views j ≡ some v → v.spent ≡ false → MatchesLog m k log seat_of j v
   pub placed : (t : ℕ) → t < k.threads → StandsIn s.views (seat_of t) t
 
 -- MAKING THE FIRST SEAT: it has all threads, idle, the last one as its own

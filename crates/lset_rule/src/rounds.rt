@@ -5,7 +5,8 @@ use crate::slots::OwnSlots;
 use lset_words::Reply;
 use std::sync::Wait;
 
-/// A bound on the rounds of each loop of a call. No contract rests on it: a call that has made all rounds gives up.
+/// A bound on the rounds of each loop of a call: one that has made them all gives up. No contract says that it does not give up
+/// sooner; tests do (`live_tests`).
 pub trait Rounds {
     /// How many rounds a loop makes at most.
     const MOST: u64;
@@ -18,7 +19,10 @@ impl Rounds for Countless {
     const MOST: u64 = u64::MAX;
 }
 
-/// The answer of a call with [`Countless`] rounds. Where there is none, it waits for ever.
+/// What a call under `Wait`, and a call of C, is said to have.
+const _: () = prove!(Countless::MOST == u64::MAX);
+
+/// The answer of a call with [`Countless`] rounds, which are 2^64 - 1. If there is none, it waits for ever.
 #[inline(always)]
 pub fn or_wait_forever<R: Wait>(rt: &R, answer: Option<(OwnSlots, Reply)>) -> (OwnSlots, Reply)
     ensures { answer ≡ Some result }

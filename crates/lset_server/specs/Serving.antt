@@ -1,7 +1,7 @@
 -- [Served]: what a server did.
 use Rattle.std.specs.Prelude.{◌≡◌, ℕ, List, [], ◌∷◌, length, sum_by, Option, None}
 use Rattle.lset_words.specs.Records.{Record, CallMade, with_calls}
-use Rattle.lset_live.specs.Explained.{Explains}
+use Rattle.lset_live.specs.Explained.{IsOneLegalOrder}
 use Rattle.lset_live.specs.Seats.{gather_onto}
 use Rattle.lset_server.specs.declared.channel.Tally.{Tally}
 use Rattle.lset_server.specs.Tallies.{ReceivedOnce}
@@ -19,7 +19,7 @@ pub record IsServed (k : Opening) (records : List Record) (calls : ℕ) (keys : 
   pub added : List (List CallMade)
   pub each : length added ≡ length records
   pub count : calls ≡ sum_by (λ cs. length cs) added
-  pub explained : Explains k (followed records added) keys
+  pub explained : IsOneLegalOrder k (followed records added) keys
 
 -- The seats of all workers are gathered, and all connections were received, each once.
 pub record HasGathered (starts : List Record) (end : Option Record) (v : Tally) (asked sessions calls : ℕ) : Type 0 where

@@ -5,7 +5,7 @@
 ghost use Rattle.std.specs.Prelude.{◌≡◌, [], ◌∷◌, IfOk};
 ghost use Rattle.lset_words.specs.Records.{fresh};
 ghost use Rattle.lset_words.specs.Words.{empty};
-ghost use Rattle.lset_live.specs.Explained.{Explains};
+ghost use Rattle.lset_live.specs.Explained.{IsOneLegalOrder};
 ghost use Rattle.own_threads.specs.Claims.{HasClaimed, claimed, numbers_of};
 
 use lset_lazy::LazyList;
@@ -107,7 +107,7 @@ fn two_clerks<M: Running + Send + Sync, R: Threads + Wait + Sync>(
 ) -> Result<Outcome, Refusal>
     ensures asked { IfOk result (λ c. (numbers_of c.first.items ≡ first.now) × (numbers_of c.second.items ≡ second.now)) }
     // one legal order has just these calls with these replies, each clerk's in its order, and leaves the keys
-    ensures order { IfOk result (λ c. Explains (empty 2 quota)
+    ensures order { IfOk result (λ c. IsOneLegalOrder (empty 2 quota)
         (claimed (fresh 0) c.first.items ∷ claimed (fresh 1) c.second.items ∷ []) c.keys.items) }
 {
     let (set, mut seats) = open::<M>(alloc, 2, quota)?;

@@ -13,7 +13,7 @@ use Rattle.lset_words.specs.SequentialSet.{with_key, without_key}
 use Rattle.lset_words.specs.Words.{Opening}
 use Rattle.lset_words.proofs.RisingLists.{RisesFrom, increasing_from_rises, rises_from_increasing, rises_less}
 use Rattle.lset_words.specs.Records.{Record}
-use Rattle.lset_live.specs.Explained.{Explains}
+use Rattle.lset_live.specs.Explained.{IsOneLegalOrder}
 
 -- a key that is not there is put in its place
 with_rises : (k lo : ℕ) (xs : List ℕ) → RisesFrom lo xs → lo ≤ k → has_key k xs ≡ false → RisesFrom lo (with_key k xs)
@@ -54,7 +54,7 @@ legal_rises quota s [] l r = r
 legal_rises quota s (x ∷ xs) l r =
     legal_rises quota (after_call s x.thread x.call x.reply) xs l.1 (after_rises quota s x.thread x.call x.reply l.0 r)
 
-pub explained_rise : (o : Opening) (records : List Record) (keys : List ℕ) → Explains o records keys → IsStrictlyIncreasing o.keys
+pub explained_rise : (o : Opening) (records : List Record) (keys : List ℕ) → IsOneLegalOrder o records keys → IsStrictlyIncreasing o.keys
     → IsStrictlyIncreasing keys
 explained_rise o records keys is rising = increasing_from_rises 0 keys
     (subst (RisesFrom 0) is.leaves (legal_rises o.quota (opening_set o) is.order is.legal (rises_from_increasing o.keys rising)))

@@ -8,7 +8,7 @@ use Rattle.lset_words.specs.declared.TheConstants.{MOST_OPENING}
 use Rattle.lset_text.specs.Parts.{line_of, text_of}
 use Rattle.lset_schedule.specs.Draws.{programs_of}
 use Rattle.lset_words.specs.Records.{fresh}
-use Rattle.lset_live.specs.Explained.{Explains}
+use Rattle.lset_live.specs.Explained.{IsOneLegalOrder}
 use Rattle.lset_work.specs.Programs.{worked}
 use Rattle.lset_work.specs.declared.fault.WorkCause.{WorkCause}
 use Rattle.lset_work.specs.declared.fault.WorkCause.TheVariants as cause
@@ -51,7 +51,7 @@ programs_for request = programs_of request.threads request.calls request.keys re
 pub record IsOutcome (request : RandomRequest) (opening : List ℕ) (replies : List (List Reply)) (keys : List ℕ) : Type 0 where
   pub opens : length opening ≤ MOST_OPENING
   pub counted : map (λ (l : List Reply). length l) replies ≡ map (λ (l : List Call). length l) (programs_for request)
-  pub explained : Explains (record { threads = request.threads; quota = request.quota; keys = opening })
+  pub explained : IsOneLegalOrder (record { threads = request.threads; quota = request.quota; keys = opening })
       (worked (map fresh (range_with_len 0 request.threads)) (programs_for request) replies) keys
 
 -- ---- lives in turn

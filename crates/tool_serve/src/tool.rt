@@ -180,7 +180,8 @@ fn serve_values_with<
 /// - SEATS, 1 to 64: how many connections there are at once; QUOTA, 0 to 16,384 successful adds of a seat;
 /// - PORT of 127.0.0.1, 0 to 65,535 (0 lets the system choose); SESSIONS, 0 to 10,000 connections before it ends.
 ///
-/// It opens the set, listens, writes `listening 127.0.0.1:P`, flushes it, and only then accepts. At the end it writes
+/// It opens the set, listens, writes `listening 127.0.0.1:P`, flushes it, and only then starts its threads and accepts: if a thread
+/// is refused, that line is written. At the end it writes
 /// `sessions N`, `calls N` and each key left (`key k`), rising, on `output`. It waits for its connections.
 ///
 /// The exit status is 0 where all was written. Else one line on `faults` says why, where it can be written: 2 for the first

@@ -1,6 +1,6 @@
 use Rattle.std.proofs.Common.{rules, ◌≡◌, [], ◌∷◌, Some, ap, ◌∙◌, subst}
 use Rattle.lset_words.specs.Records.{fresh, gathered}
-use Rattle.lset_live.specs.Explained.{Explains}
+use Rattle.lset_live.specs.Explained.{IsOneLegalOrder}
 use Rattle.lset_live.proofs.Records.{gathered_explains}
 use Rattle.own_threads.specs.Claims.{claimed}
 use Rattle.own_threads.proofs.two_clerks.Goals as goal
@@ -21,5 +21,5 @@ returns-clause-order g c =
     let past : c.gather.new.into.past ≡ gathered (claimed (fresh 0) a.claims.items) (claimed (fresh 1) b.claims.items) =
     both ∙ (λ i. gathered ((first ∙ ap (λ r. claimed r a.claims.items) new_zero) i)
     ((second ∙ ap (λ r. claimed r b.claims.items) new_one) i)) in
-    subst (λ k. Explains k records keys) c.in_ok-set.ensures.opened.0
+    subst (λ k. IsOneLegalOrder k records keys) c.in_ok-set.ensures.opened.0
     (gathered_explains c.in_ok-set.set.shape c.gather.new.into.past records keys (ap Some past) c.in_ok-keys.ensures)

@@ -1,7 +1,7 @@
 use Rattle.std.proofs.Common.{◌<◌, ◌≤◌, ◌^◌, refl, sym, ap, ◌∙◌, subst, rules, arith, length, map}
 use Rattle.std.specs.List.{range_with_len}
 use Rattle.std.specs.List.Sorted.{IsStrictlyIncreasing}
-use Rattle.lset_live.specs.Explained.{Explains}
+use Rattle.lset_live.specs.Explained.{IsOneLegalOrder}
 use Rattle.lset_live.proofs.Handing.{starts_map}
 use Rattle.lset_work.specs.Programs.{Fit, worked}
 use Rattle.lset_words.specs.Records.{fresh}
@@ -30,14 +30,14 @@ returns-in-Ok-work-clause-outcome g c =
     let keys = c.in-Ok-work.outcome.keys.items in
     let starts = map (λ s. s.past) c.in-Ok-open_with.opened.1.items in
     let drawn = c.in-Ok.ensures.drawn in
-    let of_drawn = subst (λ ps. Explains set.shape (worked starts ps replies) keys) drawn told.outcome in
-    let of_fresh = subst (λ rs. Explains set.shape (worked rs (programs_for r) replies) keys) (opened_records _ _ _ opened)
+    let of_drawn = subst (λ ps. IsOneLegalOrder set.shape (worked starts ps replies) keys) drawn told.outcome in
+    let of_fresh = subst (λ rs. IsOneLegalOrder set.shape (worked rs (programs_for r) replies) keys) (opened_records _ _ _ opened)
     of_drawn in
     record {
       opens = omega (arith, c.if-opening.false);
       counted = sym (starts_map (λ v. v.items) (λ l. length l) c.in-Ok-work.outcome.replies.items _ refl) ∙ told.replies
           ∙ starts_map (λ v. v.items) (λ l. length l) programs _ drawn;
-      explained = subst (λ k. Explains k (worked (map fresh (range_with_len 0 r.threads)) (programs_for r) replies) keys) opened.0
+      explained = subst (λ k. IsOneLegalOrder k (worked (map fresh (range_with_len 0 r.threads)) (programs_for r) replies) keys) opened.0
           of_fresh;
     }
 

@@ -1,6 +1,6 @@
 use Rattle.std.proofs.Common.{◌≡◌, ◌+◌, [], ◌∷◌, length, sym, ap, ◌∙◌, subst}
 use Rattle.lset_live.specs.Closes.{HasKeys}
-use Rattle.lset_live.specs.Explained.{Explains}
+use Rattle.lset_live.specs.Explained.{IsOneLegalOrder}
 use Rattle.lset_live.specs.Seats.{SeatValue, SetValue}
 use Rattle.lset_live.proofs.Closing.{last_explains}
 use Rattle.lset_live.proofs.set.LiveSet.close.Goals as goal
@@ -16,7 +16,7 @@ returns-clause-closed g c = λ keys has.
     let full : length v.others + 1 ≡ key.threads = sym c.seat.invariant.3
     ∙ (c.if-seat-self.false ∙ sym (ap (λ (z : Sizes). z.threads) shaped)) in
     let words = c.close_with-words.result.words.items in
-    subst (λ (z : Opening × SeatValue). Explains z.0 (z.1.past ∷ []) keys) (λ i. (
+    subst (λ (z : Opening × SeatValue). IsOneLegalOrder z.0 (z.1.past ∷ []) keys) (λ i. (
       ap (λ (s : SetValue). s.shape) c.self.view_is i,
       c.seat.view_is i,
     ))
