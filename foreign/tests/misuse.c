@@ -102,6 +102,35 @@ static void refused_calls(uint8_t kind) {
   calls_without_a_seat("a dropped seat", &a);
 }
 
+// A set of ten seats, of which three are split off. The opener, which has the rest within it, is gathered into one that was split off;
+// and a set is closed of which most seats were never split off.
+static void seats_within(uint8_t kind) {
+  listset_seat opener = LISTSET_NONE, a = LISTSET_NONE, b = LISTSET_NONE, c = LISTSET_NONE;
+  uint32_t room[4];
+  expect("open for ten", listset_open(kind, 10, 2, 1, KEYS, 3, &opener), LISTSET_OK);
+  expect("split a", listset_split(&opener, &a), LISTSET_OK);
+  expect("split b", listset_split(&opener, &b), LISTSET_OK);
+  expect("split c", listset_split(&opener, &c), LISTSET_OK);
+  expect("three are out", listset_close(&opener), LISTSET_SEATS_OUT);
+  expect("gather one of one", listset_gather(&a, &b), LISTSET_OK);
+  expect("gather a seat with others within it", listset_gather(&a, &opener), LISTSET_OK);
+  expect("nothing is split off one that has gathered", listset_split(&a, &b), LISTSET_NO_MORE);
+  expect("one is out", listset_close(&a), LISTSET_SEATS_OUT);
+  expect("gather the last", listset_gather(&a, &c), LISTSET_OK);
+  expect("close by a seat that was split off", listset_close(&a), LISTSET_OK);
+  expect("its keys", listset_keys(&a, room, 4), 3);
+  listset_drop(&a);
+  expect("open for ten again", listset_open(kind, 10, 2, 1, KEYS, 3, &opener), LISTSET_OK);
+  expect("close seats that were never split off", listset_close(&opener), LISTSET_OK);
+  listset_drop(&opener);
+  expect("open for ten once more", listset_open(kind, 10, 2, 1, KEYS, 3, &opener), LISTSET_OK);
+  expect("split one", listset_split(&opener, &a), LISTSET_OK);
+  expect("gather it", listset_gather(&opener, &a), LISTSET_OK);
+  expect("close with eight never split off", listset_close(&opener), LISTSET_OK);
+  expect("keys of ten", listset_keys(&opener, room, 4), 3);
+  listset_drop(&opener);
+}
+
 // As many opening keys as there may be, walked to their end, and the greatest key.
 static void most_keys(uint8_t kind) {
   listset_seat seat = LISTSET_NONE;
@@ -159,6 +188,7 @@ int main(void) {
   for (uint8_t kind = LISTSET_COARSE; kind <= LISTSET_LOCK_FREE; kind++) {
     refused_at = 0;
     refused_calls(kind);
+    seats_within(kind);
     most_keys(kind);
     blocks = 0;
     for (size_t refused = 1; refused == 1 || asked >= refused - 1; refused++) {

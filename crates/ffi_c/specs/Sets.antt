@@ -1,9 +1,9 @@
 -- What a seat of C holds: its list, its set, the set's number, its seats; and what is done with them.
-use Rattle.std.specs.Prelude.{Bool, true, ◌≡◌, ◌≤◌, ◌<◌, ◌⊎◌, ◌+◌, ◌++◌, ℕ, zero, suc, List, [], ◌∷◌, Option, Some, None, drop, length, map, option_to_list}
+use Rattle.std.specs.Prelude.{Bool, true, false, ◌&&◌, nat_eq, is_some, ◌≡◌, ◌≤◌, ◌<◌, ◌⊎◌, ◌+◌, ◌++◌, ℕ, zero, suc, List, [], ◌∷◌, Option, Some, None, drop, length, map, option_to_list}
 use Rattle.std.specs.List.{range_with_len}
 use Rattle.std.specs.Option.{option_map}
 use Rattle.std.specs.Arc.{arc_value}
-use Rattle.lset_words.specs.Words.{Opening}
+use Rattle.lset_words.specs.Words.{Opening, Opens}
 use Rattle.lset_words.specs.Records.{Record}
 use Rattle.lset_steps.specs.Steps.{Table}
 use Rattle.lset_coarse.specs.Coarse.{coarse}
@@ -11,8 +11,10 @@ use Rattle.lset_fine.specs.Fine.{fine}
 use Rattle.lset_optimistic.specs.Optimistic.{optimistic}
 use Rattle.lset_lazy.specs.Lazy.{lazy}
 use Rattle.lset_lock_free.specs.LockFree.{lock_free}
-use Rattle.lset_live.specs.Seats.{SetValue, SeatValue, gather_onto, held_in, new_seat}
-use Rattle.lset_live.specs.Explained.{Explains}
+use Rattle.lset_live.specs.declared.fault.OpenFault.{OpenFault}
+use Rattle.lset_live.specs.declared.fault.OpenFault.TheVariants as fault
+use Rattle.lset_live.specs.Seats.{SetValue, SeatValue, RefusesOpening, gather_onto, held_in, new_seat}
+use Rattle.lset_live.specs.Explained.{IsOneLegalOrder}
 use Rattle.ffi_c.specs.declared.held.Held.{Held}
 use Rattle.ffi_c.specs.declared.held.Held.TheVariants.{Coarse, Fine, Optimistic, Lazy, LockFree, Closed}
 
@@ -57,6 +59,15 @@ spare_in (Lazy o) = o.spare.items
 spare_in (LockFree o) = o.spare.items
 spare_in h = []
 
+-- the number of its list
+abbrev pub kind_in : Held → Option ℕ
+kind_in (Coarse o) = Some 0
+kind_in (Fine o) = Some 1
+kind_in (Optimistic o) = Some 2
+kind_in (Lazy o) = Some 3
+kind_in (LockFree o) = Some 4
+kind_in h = None
+
 abbrev pub keys_in : Held → Option (List ℕ)
 keys_in (Closed keys) = Some keys.items
 keys_in h = None
@@ -96,7 +107,24 @@ pub record IsBoth (g h both : Held) : Type 0 where
 abbrev pub Gathers : Held → Held → Type 0
 Gathers h h' = number_in h ≡ number_in h' → set_in h ≡ set_in h'
 
--- the same of two seats of C, where both are full
+abbrev pub same_number : Option ℕ → Option ℕ → Bool
+same_number (Some m) (Some n) = nat_eq m n
+same_number m n = false
+
+-- two seats that are there, under one number
+abbrev pub are_two : ℕ → ℕ → Option SeatValue → Option SeatValue → Bool
+are_two m n s t = nat_eq m n && is_some s && is_some t
+
+-- WHETHER THE TWO ARE GATHERED: both are seats of one list, under one number.
+abbrev pub gathers : Held → Held → Bool
+gathers h g = same_number (kind_in h) (kind_in g) && same_number (number_in h) (number_in g)
+    && is_some (seat_in h) && is_some (seat_in g)
+
+-- WHY NO SEAT IS SPLIT OFF: none is left, or memory was refused.
+abbrev pub HasNoneToSplit : List SeatValue → ℕ → Type 0
+HasNoneToSplit spare n = ((n ≡ 17) × (spare ≡ [])) ⊎ (n ≡ 13)
+
+-- the caller's duty of two seats of C, where both are full
 abbrev pub GathersAt : Bool → Held → Bool → Held → Type 0
 GathersAt true h true h' = Gathers h h'
 GathersAt into h from h' = Unit {0}
@@ -116,15 +144,39 @@ OpensWith opening (Some set) seat spare = (set.shape ≡ opening)
     × (spare ++ option_to_list seat ≡ map (new_seat set) (range_with_len 0 opening.threads))
 OpensWith opening None seat spare = ⊥
 
--- It is a seat of a set of this list that was opened so, under this number.
+-- the number of a fault
+abbrev pub number_of_fault : OpenFault → ℕ
+number_of_fault fault.Seats = 10
+number_of_fault fault.Quota = 11
+number_of_fault fault.Opening = 12
+number_of_fault fault.Memory = 13
+
+-- WHY NOTHING IS OPENED: there is no list of this number; else the first of the limits that is not kept; else memory was refused.
+abbrev pub RefusesAsked : ℕ → Opening → ℕ → Type 0
+RefusesAsked kind opening n = ((4 < kind) × (n ≡ 14))
+    ⊎ ((f : OpenFault) × (kind < 5) × (n ≡ number_of_fault f) × RefusesOpening opening f)
+
+-- It is a seat of a set of this list that was opened so, under this number. Its sizes and keys are within the limits.
 pub record IsOpenedAs (kind : ℕ) (opening : Opening) (number : ℕ) (h : Held) : Type 0 where
+  pub known : kind < 5
+  pub opens : Opens opening
   pub table : table_in h ≡ table_of kind
   pub set : OpensWith opening (set_in h) (seat_in h) (spare_in h)
   pub number_is : number_in h ≡ Some number
 
+-- ALL SEATS of the set are there.
+abbrev pub IsWhole : SetValue → Option SeatValue → List SeatValue → Type 0
+IsWhole set (Some seat) spare = seat.held + length spare ≡ set.shape.threads
+IsWhole set None spare = ⊥
+
+-- WHY IT IS NOT CLOSED: it is no running set; else a seat is missing; else memory was refused.
+abbrev pub RefusesToClose : Option SetValue → Option SeatValue → List SeatValue → ℕ → Type 0
+RefusesToClose None seat spare n = n ≡ 255
+RefusesToClose (Some set) seat spare n = ((n ≡ 16) × ¬ (IsWhole set seat spare)) ⊎ ((n ≡ 13) × IsWhole set seat spare)
+
 -- All seats of the set were there, and one legal order of calls, which keeps the record of all of them, leaves the keys.
 abbrev pub AreLeft : SetValue → ℕ → Option Record → List ℕ → Type 0
-AreLeft set count (Some past) keys = (count ≡ set.shape.threads) × Explains set.shape (past ∷ []) keys
+AreLeft set count (Some past) keys = (count ≡ set.shape.threads) × IsOneLegalOrder set.shape (past ∷ []) keys
 AreLeft set count None keys = ⊥
 
 -- The set was closed, and its keys are held.

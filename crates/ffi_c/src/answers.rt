@@ -1,6 +1,7 @@
 //! What is done with seats of C, and the number that C is answered.
-ghost use Rattle.std.specs.Prelude.{◌≡◌, ◌≢◌, true, false};
+ghost use Rattle.std.specs.Prelude.{◌≡◌, ◌⊎◌, true, false};
 ghost use Rattle.ffi_c.specs.Calls.{HasMade, code_of};
+ghost use Rattle.ffi_c.specs.Sets.{number_of_fault};
 
 use crate::codes::{BAD_KEYS, BAD_QUOTA, BAD_SEATS, DONE, NO_SEAT, OUT_OF_MEMORY};
 use crate::each::call_held;
@@ -24,7 +25,7 @@ pub fn reply_code(reply: Option<Reply>) -> u8
 }
 
 pub fn fault_code(fault: OpenFault) -> u8
-    ensures { result ≢ 0 }
+    ensures { result ≡ number_of_fault fault }
 {
     match fault {
         OpenFault::Seats => BAD_SEATS,
@@ -48,8 +49,7 @@ pub fn made(alloc: Global, seat: &mut CSeat, call: Call) -> u8
 /// Has the empty seat hold this, in a box of its own. `OUT_OF_MEMORY` where there is none.
 pub fn put_new(alloc: Global, seat: &mut CSeat, held: Held) -> u8
     requires { seat.old.full ≡ false }
-    ensures done { result ≡ 0 → (seat.new.full ≡ true) × (seat.new.held ≡ held) }
-    ensures refused { result ≢ 0 → seat.new.full ≡ false }
+    ensures { ((result ≡ 0) × (seat.new.full ≡ true) × (seat.new.held ≡ held)) ⊎ ((result ≡ 13) × (seat.new.full ≡ false)) }
 {
     match Box::new(alloc, held) {
         Ok(boxed) => {

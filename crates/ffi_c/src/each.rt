@@ -1,10 +1,12 @@
 //! The same of whatever a seat of C holds, list by list.
-ghost use Rattle.std.specs.Prelude.{◌≡◌, ◌≢◌, IfSome, IfOk, IfErr, MatchOption, length};
-ghost use Rattle.ffi_c.specs.Sets.{AreAtFront, AreGiven, Gathers, HasClosed, IsBoth, IsKept, IsOpenedAs, keys_in, seat_in};
+ghost use Rattle.std.specs.Prelude.{◌≡◌, ◌<◌, [], true, false, IfOk, IfErr, MatchOption, MatchResult, length};
+ghost use Rattle.ffi_c.specs.Sets.{AreAtFront, AreGiven, Gathers, HasClosed, IsBoth, IsKept, IsOpenedAs, HasNoneToSplit, RefusesToClose};
+ghost use Rattle.ffi_c.specs.Sets.{gathers, keys_in, seat_in, set_in, spare_in};
+ghost use Rattle.lset_live.specs.Seats.{RefusesOpening};
 ghost use Rattle.ffi_c.specs.Calls.{HasCalledHeld};
 ghost use Rattle.ffi_c.specs.declared.held.Held.TheVariants.{Closed};
 
-use crate::codes::NO_SEAT;
+use crate::codes::{NO_MORE, NO_SEAT};
 use crate::held::Held;
 use crate::holding::open_of;
 use lset_live::OpenFault;
@@ -20,7 +22,8 @@ pub fn open_held(
     number: u64,
     keys: &[u32],
 ) -> Result<Option<Held>, OpenFault>
-    ensures { IfOk result (λ h. IfSome h (IsOpenedAs kind (record { threads = seats; quota = quota; keys = keys.now }) number)) }
+    ensures opened { IfOk result (λ h. MatchOption h (4 < kind) (IsOpenedAs kind (record { threads = seats; quota = quota; keys = keys.now }) number)) }
+    ensures refused { IfErr result (λ f. (kind < 5) × RefusesOpening (record { threads = seats; quota = quota; keys = keys.now }) f) }
 {
     Ok(Some(match kind {
         0 => Held::Coarse(open_of(alloc, seats, quota, number, keys)?),
@@ -46,24 +49,26 @@ pub fn call_held(held: &mut Held, call: Call) -> Option<Reply>
     }
 }
 
-/// Splits a seat off.
-pub fn split_held(held: &mut Held, alloc: Global) -> Option<Held>
-    ensures split { MatchOption result (IsKept held.old held.new) (λ h. (seat_in held.new ≡ seat_in held.old) × IsBoth held.new h held.old) }
+/// Splits a seat off; else the code why not.
+pub fn split_held(held: &mut Held, alloc: Global) -> Result<Held, u8>
+    ensures split { MatchResult result (λ h. (seat_in held.new ≡ seat_in held.old) × IsBoth held.new h held.old)
+        (λ n. IsKept held.old held.new × HasNoneToSplit (spare_in held.old) n) }
 {
-    Some(match held {
+    Ok(match held {
         Held::Coarse(of) => Held::Coarse(of.split(alloc)?),
         Held::Fine(of) => Held::Fine(of.split(alloc)?),
         Held::Optimistic(of) => Held::Optimistic(of.split(alloc)?),
         Held::Lazy(of) => Held::Lazy(of.split(alloc)?),
         Held::LockFree(of) => Held::LockFree(of.split(alloc)?),
-        Held::Closed(_) | Held::Nothing => return None,
+        Held::Closed(_) | Held::Nothing => return Err(NO_MORE),
     })
 }
 
 /// Takes a seat of the same set in; gives it back where they are not two seats of one list and number.
 pub fn gather_held(alloc: Global, into: &mut Held, from: Held) -> Option<Held>
     requires { Gathers into.old from }
-    ensures { MatchOption result (IsBoth into.old from into.new) (λ back. (into.new ≡ into.old) × (back ≡ from)) }
+    ensures { MatchOption result ((gathers into.old from ≡ true) × IsBoth into.old from into.new)
+        (λ back. (gathers into.old from ≡ false) × (into.new ≡ into.old) × (back ≡ from)) }
 {
     Some(match (into, from) {
         (Held::Coarse(into), Held::Coarse(from)) => Held::Coarse(into.gather(alloc, from)?),
@@ -80,7 +85,7 @@ pub fn gather_held(alloc: Global, into: &mut Held, from: Held) -> Option<Held>
 /// Closes the set where all its seats are within, and gives its keys; else what is held, with the code why not.
 pub fn close_held(alloc: Global, held: Held) -> Result<Vec<u32>, (Held, u8)>
     ensures closed { IfOk result (λ keys. HasClosed held (Closed keys)) }
-    ensures refused { IfErr result (λ r. (r.1 ≢ 0) × IsKept held r.0) }
+    ensures refused { IfErr result (λ r. RefusesToClose (set_in held) (seat_in held) (spare_in held) r.1 × IsKept held r.0) }
 {
     match held {
         Held::Coarse(of) => of

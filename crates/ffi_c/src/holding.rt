@@ -1,13 +1,16 @@
 //! What is done with a seat of a set.
-ghost use Rattle.std.specs.Prelude.{◌≡◌, ◌≢◌, ◌≤◌, [], Some, IfOk, IfErr, IsSome, IsTrue, MatchOption, vec_capacity};
+ghost use Rattle.std.specs.Prelude.{◌≡◌, ◌↔◌, ◌≤◌, [], Some, true, false, IfOk, IfErr, IsTrue};
+ghost use Rattle.std.specs.Prelude.{MatchOption, MatchResult, vec_capacity};
 ghost use Rattle.std.specs.Arc.{arc_value};
-ghost use Rattle.lset_words.specs.Words.{sizes};
+ghost use Rattle.lset_words.specs.Words.{Opens, sizes};
 ghost use Rattle.lset_live.specs.Closes.{most_keys};
+ghost use Rattle.lset_live.specs.Seats.{RefusesOpening};
 ghost use Rattle.ffi_c.specs.Calls.{HasCalledOf};
 ghost use Rattle.ffi_c.specs.Facts.{AreOf};
-ghost use Rattle.ffi_c.specs.Sets.{AddUp, AreLeft, OpensWith, count_of, record_of};
+ghost use Rattle.ffi_c.specs.Sets.{AddUp, AreLeft, HasNoneToSplit, IsWhole, OpensWith, RefusesToClose};
+ghost use Rattle.ffi_c.specs.Sets.{are_two, count_of, record_of};
 
-use crate::codes::{OUT_OF_MEMORY, SEATS_OUT};
+use crate::codes::{NO_MORE, OUT_OF_MEMORY, SEATS_OUT};
 use crate::held::Of;
 use crate::yielding::Yielding;
 use lset_live::{Bounded, Countless, LiveSet, OpenFault, Seat, open_with};
@@ -26,6 +29,8 @@ pub fn open_of<M: Bounded>(
 ) -> Result<Of<M>, OpenFault>
     ensures set { IfOk result (λ o. OpensWith (record { threads = seats; quota = quota; keys = keys.now }) (Some (arc_value o.set)) o.seat o.spare.items) }
     ensures number { IfOk result (λ o. o.number ≡ number) }
+    ensures opens { IfOk result (λ o. Opens (record { threads = seats; quota = quota; keys = keys.now })) }
+    ensures refused { IfErr result (RefusesOpening (record { threads = seats; quota = quota; keys = keys.now })) }
 {
     let (set, mut spare) = open_with::<M>(alloc, seats, quota, keys)?;
     let Ok(set) = Arc::new(alloc, set) else {
@@ -94,18 +99,23 @@ impl<M: Bounded> Of<M> {
         Some(reply)
     }
 
-    /// Splits a seat off, where one is left and memory is not refused.
-    pub fn split(&mut self, alloc: Global) -> Option<Of<M>>
+    /// Splits a seat off. Else the code why not: none is left, or memory was refused (the set has as many owners as can be counted).
+    pub fn split(&mut self, alloc: Global) -> Result<Of<M>, u8>
         ensures set { arc_value self.new.set ≡ arc_value self.old.set }
         ensures number { self.new.number ≡ self.old.number }
         ensures seat { self.new.seat ≡ self.old.seat }
-        ensures split { MatchOption result (self.new.spare.items ≡ self.old.spare.items) (λ o. (arc_value o.set ≡ arc_value self.old.set)
-            × (o.number ≡ self.old.number) × AddUp self.new.seat self.new.spare.items o.seat o.spare.items self.old.seat self.old.spare.items) }
+        ensures split { MatchResult result (λ o. (arc_value o.set ≡ arc_value self.old.set) × (o.number ≡ self.old.number)
+            × AddUp self.new.seat self.new.spare.items o.seat o.spare.items self.old.seat self.old.spare.items)
+            (λ n. (self.new.spare.items ≡ self.old.spare.items) × HasNoneToSplit self.old.spare.items n) }
     {
-        let set = Arc::try_clone(&self.set).ok()?;
-        let seat = self.spare.pop()?;
+        let Ok(set) = Arc::try_clone(&self.set) else {
+            return Err(OUT_OF_MEMORY);
+        };
+        let Some(seat) = self.spare.pop() else {
+            return Err(NO_MORE);
+        };
         let spare = Vec::new(alloc);
-        Some(Of {
+        Ok(Of {
             set,
             number: self.number,
             seat: Some(seat),
@@ -117,10 +127,11 @@ impl<M: Bounded> Of<M> {
     /// has no seat.
     pub fn gather(&mut self, alloc: Global, from: Of<M>) -> Option<Of<M>>
         requires { self.old.number ≡ from.number → arc_value self.old.set ≡ arc_value from.set }
-        ensures { MatchOption result ((arc_value self.new.set ≡ arc_value self.old.set) × (self.new.number ≡ self.old.number)
+        ensures { MatchOption result ((are_two self.old.number from.number self.old.seat from.seat ≡ true)
+            × (arc_value self.new.set ≡ arc_value self.old.set) × (self.new.number ≡ self.old.number)
             × (arc_value self.new.set ≡ arc_value from.set) × (self.new.number ≡ from.number)
             × AddUp self.old.seat self.old.spare.items from.seat from.spare.items self.new.seat self.new.spare.items)
-            (λ back. (self.new ≡ self.old) × (back ≡ from)) }
+            (λ back. (are_two self.old.number from.number self.old.seat from.seat ≡ false) × (self.new ≡ self.old) × (back ≡ from)) }
     {
         if self.number != from.number || self.seat.is_none() || from.seat.is_none() {
             return Some(from);
@@ -143,7 +154,7 @@ impl<M: Bounded> Of<M> {
 
     /// Whether all seats of the set are within.
     fn has_all(&self) -> bool
-        ensures { IsTrue result → IsSome self.now.seat × (count_of self.now.seat self.now.spare.items ≡ (arc_value self.now.set).shape.threads) }
+        ensures { IsTrue result ↔ IsWhole (arc_value self.now.set) self.now.seat self.now.spare.items }
     {
         let Some(seat) = &self.seat else {
             return false;
@@ -154,12 +165,13 @@ impl<M: Bounded> Of<M> {
         others as usize == self.spare.len()
     }
 
-    /// Closes the set, where all its seats are within, and gives its keys. Else all comes back, with the code; so it does where
-    /// there is no room for as many keys as there can be.
+    /// Closes the set if all its seats are within, and gives its keys. Else all comes back with `SEATS_OUT`; and with `OUT_OF_MEMORY`
+    /// if there is no room for as many keys as there can be, or the set's own memory has another owner, which it has in no run.
     pub fn close(self, alloc: Global) -> Result<Vec<u32>, (Of<M>, u8)>
         ensures closed { IfOk result (λ keys. AreLeft (arc_value self.set) (count_of self.seat self.spare.items)
             (record_of self.seat self.spare.items) keys.items) }
-        ensures refused { IfErr result (λ r. (r.1 ≢ 0) × (arc_value r.0.set ≡ arc_value self.set) × (r.0.number ≡ self.number)
+        ensures refused { IfErr result (λ r. RefusesToClose (Some (arc_value self.set)) self.seat self.spare.items r.1
+            × (arc_value r.0.set ≡ arc_value self.set) × (r.0.number ≡ self.number)
             × (r.0.seat ≡ self.seat) × (r.0.spare.items ≡ self.spare.items)) }
     {
         if !self.has_all() {
@@ -185,7 +197,7 @@ impl<M: Bounded> Of<M> {
                     seat,
                     spare,
                 };
-                Err((kept, SEATS_OUT))
+                Err((kept, OUT_OF_MEMORY))
             }
         }
     }

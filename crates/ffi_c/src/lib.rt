@@ -16,11 +16,11 @@ mod yielding;
 
 ghost use Rattle.lset_words.specs.declared.Call.TheVariants.{Add, Remove, Contains, Ceiling};
 ghost use Rattle.ffi_c.specs.Calls.{EndsSet, GivesKeys, HasCeiling, HasGathered, HasMade, HasOpened, HasSplit};
-ghost use Rattle.ffi_c.specs.Sets.{GathersAt, IsOpenedAs};
+ghost use Rattle.ffi_c.specs.Sets.{GathersAt};
 ghost use Rattle.std.specs.Prelude.{◌≡◌, false};
 
 use answers::{fault_code, made, put_new, reply_code};
-use codes::{BAD_KIND, DONE, IS_SEAT, NO_GATHER, NO_MORE, NO_SEAT, OUT_OF_MEMORY};
+use codes::{BAD_KIND, DONE, IS_SEAT, NO_GATHER, NO_SEAT, OUT_OF_MEMORY};
 use each::{call_held, close_held, gather_held, keys_held, open_held, split_held};
 use held::Held;
 use lset_words::{Call, Key, Reply};
@@ -40,7 +40,7 @@ pub extern "C" fn listset_open(
     keys: &[u32],
     out: &mut CSeat,
 ) -> u8
-    ensures { HasOpened out.old.full out.old.held (IsOpenedAs kind (record { threads = seats; quota = quota; keys = keys.now }) number) result out.new.full out.new.held }
+    ensures { HasOpened out.old.full out.old.held kind (record { threads = seats; quota = quota; keys = keys.now }) number result out.new.full out.new.held }
 {
     if let Some(held) = take(alloc, out) {
         put(out, held);
@@ -72,12 +72,14 @@ pub extern "C" fn listset_split(alloc: Global, seat: &mut CSeat, out: &mut CSeat
     };
     let split = split_held(&mut held, alloc);
     put(seat, held);
-    let Some(split) = split else {
-        return NO_MORE;
-    };
-    *made = split;
-    put(out, made);
-    DONE
+    match split {
+        Ok(split) => {
+            *made = split;
+            put(out, made);
+            DONE
+        }
+        Err(code) => code,
+    }
 }
 
 /// Puts the key in, if it was not there: 1; 0 where it was, 2 where the seat has used its quota, and 255 of an empty seat or a closed set.

@@ -8,5 +8,5 @@ pub returns-clause-split : goal.returns-clause-split
 returns-clause-split g c =
     let own = c.args.self.now in
     let rest = c.pop.new.self.items in
-    let adds = split_adds (arc_value own.set) own.seat own.spare.items rest c.in_ok-seat.seat c.in_ok-seat.ensures.items own.spare_of in
-    (search rules, refl, subst (λ l. AddUp own.seat rest (Some c.in_ok-seat.seat) l own.seat own.spare.items) (sym c.new-spare.ensures.items) adds)
+    let adds = split_adds (arc_value own.set) own.seat own.spare.items rest c.in-Some.seat c.in-Some.ensures.items own.spare_of in
+    (search rules, refl, subst (λ l. AddUp own.seat rest (Some c.in-Some.seat) l own.seat own.spare.items) (sym c.new-spare.ensures.items) adds)
