@@ -79,8 +79,10 @@ def ended_serve(program, kind, limit):
         server.kill()
     if (server.returncode, rest, faults, told) == (0, "sessions 1\ncalls 2\nkey 7\n", "", ANSWERS):
         return "outcome"
-    if told == b"" and rest == "" and (server.returncode, faults) in REFUSALS:
-        return REFUSALS[server.returncode, faults]
+    why = REFUSALS.get((server.returncode, faults))
+    # (the threads are started after the first line)
+    if why and told == b"" and rest == "" and (why != "thread refused" or first.startswith("listening 127.0.0.1:")):
+        return why
     raise Wrong(f"serve {kind} under {limit} KiB: status {server.returncode}, {first!r}, {rest!r}, {faults!r}, {told!r}")
 
 
