@@ -1,6 +1,6 @@
 -- Calls of which none is refused, by their beginnings: each two of them are apart, and they are a history.
 use Rattle.std.proofs.Common.{◌≡◌, ◌≢◌, ℕ, ◌<◌, ◌≤◌, ◌⊎◌, inl, inr, List, ◌∷◌, ◌++◌, length, get_or, map, refl, sym, subst}
-use Rattle.std.proofs.Common.{arith, Bool, true, false, ◌&&◌}
+use Rattle.std.proofs.Common.{◌∙◌, arith, Bool, true, false, ◌&&◌}
 use Rattle.std.specs.Prelude.{Option, Some, None, All, AllPairs, Contains, IfSome, IsSomeAnd, nat_lt, if◌then◌else◌}
 use Rattle.std.specs.List.{AllByRecursion}
 use Rattle.std.proofs.lemmas.Bool.{cases_lt, and_parts, ltb-true}
@@ -17,7 +17,8 @@ use Rattle.lset_history.proofs.Lists.{all_imply}
 use Rattle.lset_calls.specs.declared.value.TimedCall.{TimedCall}
 use Rattle.lset_words.specs.declared.Call.{Call}
 use Rattle.lset_calls.specs.Calls.{CallsValue, AreCalls, IsCall, traced, ends_after, changed_by, may_change, is_true}
-use Rattle.lset_calls.specs.Noting.{DifferFrom, ChangeApart}
+use Rattle.lset_calls.specs.Noting.{DifferFrom}
+use Rattle.lset_calls.specs.Turns.{turn_by, turn_moment, TurnsApart}
 use Rattle.lset_calls.specs.Clashes.{moments_of, point_moments, end_moments, call_at, no_call, EndedBefore}
 use Rattle.lset_calls.specs.Clashes.{Clash}
 use Rattle.lset_calls.specs.Sorted.{AreInTurn}
@@ -90,6 +91,15 @@ pub point_of : (call : Call) (p : Option ℕ) (o : Option (ℕ × Reply)) (at : 
 point_of call p None at e = if_some (may_change call) p at e
 point_of call p (Some end) at e = if_some (may_change call && is_true end.1) p at e
 
+-- so its turn is a moment of its own
+turn_in : (x : TimedCall) (changed : Option ℕ) (ended : Option (ℕ × Reply)) (at : ℕ) → (traced x).changed ≡ changed
+    → x.ended ≡ ended → turn_by changed ended ≡ Some at → Contains (moments_of x) at
+turn_in x (Some c) ended at e f g = point_in x.begun x.point x.ended at (point_of x.call x.point x.ended at (e ∙ g))
+turn_in x None None at e f g = absurd (cc)
+turn_in x None (Some end) at e f g = subst (λ m. Contains (moments_of x) m) (let s : end.0 ≡ at = cc in s)
+    (let h : IfSome (Some end) (λ (e : ℕ × Reply). Contains (moments_of x) e.0) =
+    subst (λ o. IfSome o (λ (e : ℕ × Reply). Contains (moments_of x) e.0)) f (ends_in x.begun x.point x.ended) in h)
+
 differ : (a b : Option ℕ) → ((at : ℕ) → a ≡ Some at → b ≡ Some at → ⊥) → DifferFrom a b
 differ None b h = tt
 differ (Some at) b h = h at refl
@@ -136,10 +146,9 @@ module _ (x y : TimedCall) (t : IsTimed y) (n : AreApart x y) (l : x.begun ≤ y
     })))
   ]
 
-  pub changes_apart : ChangeApart (traced x) (traced y)
-  changes_apart = differ (traced x).changed (traced y).changed (λ at a b.
-      no_moment_of_both at (point_in x.begun x.point x.ended at (point_of x.call x.point x.ended at a))
-      (point_in y.begun y.point y.ended at (point_of y.call y.point y.ended at b)))
+  pub turns_apart : TurnsApart x y
+  turns_apart = differ (turn_moment x) (turn_moment y) (λ at a b.
+      no_moment_of_both at (turn_in x (traced x).changed x.ended at refl refl a) (turn_in y (traced y).changed y.ended at refl refl b))
 
   follows : history.Follows (record_of (traced x)) (record_of (traced y))
   follows = record {

@@ -12,4 +12,6 @@ pub mod Counted
 pub mod Standings
 pub mod Ranks
 pub mod Passes
+pub mod TurnLaws
+pub mod InPlaces
 pub mod Reported

@@ -11,6 +11,7 @@ use Rattle.std.proofs.lemmas.List.Elements.{All-cons, All-nil}
 use Rattle.std.proofs.lemmas.List.Sorted.{All-permutation, Contains-permutation}
 use Rattle.lset_words.proofs.Numbers.{same_or_not, equal_test, unequal_test, same_number}
 use Rattle.lset_words.specs.declared.Key.{Key}
+use Rattle.lset_words.specs.declared.Reply.{Reply}
 use Rattle.lset_words.specs.Log.{TracedCall}
 use Rattle.lset_words.specs.SequentialSet.{has_key}
 use Rattle.lset_history.specs.Changes.{IsFirst, is_present, is_present_now, with_change, state_at, opened_moments}
@@ -21,8 +22,9 @@ use Rattle.lset_calls.specs.declared.value.TimedCall.{TimedCall}
 use Rattle.lset_calls.specs.Calls.{traced}
 use Rattle.lset_calls.specs.Clashes.{no_call}
 use Rattle.lset_calls.specs.Reports.{is_at, changer_at, change_of, there_after, there_by, is_there}
-use Rattle.lset_calls.specs.Noting.{changed_or_none, moment_or_none, DifferFrom, ChangeApart, IsLate, AreNotedUpTo, IsNoted, IsNotedBy}
+use Rattle.lset_calls.specs.Noting.{moment_or_none, DifferFrom, ChangeApart, IsLate, AreNotedUpTo, IsNoted, IsNotedBy}
 use Rattle.lset_calls.specs.Noting.{IsChangeNoted}
+use Rattle.lset_calls.specs.Turns.{turn_by, turn_moment, turn_moment_or_none, TurnsApart}
 
 -- ---- one call
 not_that : (a b : Bool) → (a ≡ b → ⊥) → b ≡ not a
@@ -188,7 +190,21 @@ pairs_mapped f R xs e h i j d l m =
     subst (λ z. R z (get_or (map f xs) j d)) (sym (get_or-map f xs i e d (omega arith)))
     (subst (λ z. R (f (get_or xs i e)) z) (sym (get_or-map f xs j e d q)) (h i j e l q))
 
--- ---- ONE CALL AFTER ANOTHER, by their points
+-- ---- a call that changes the set takes its turn at that moment
+pub changed_turn : (o : Option ℕ) (ended : Option (ℕ × Reply)) (at : ℕ) → o ≡ Some at → turn_by o ended ≡ Some at
+changed_turn None ended at e = absurd (cc)
+changed_turn (Some p) ended at e = e
+
+pub changes_apart_by_turns : (x y : TimedCall) → TurnsApart x y → ChangeApart (traced x) (traced y)
+changes_apart_by_turns x y d = differ_by (traced x).changed (traced y).changed (λ at a b.
+    apart_here (turn_moment x) (turn_moment y) at d (changed_turn (traced x).changed x.ended at a)
+    (changed_turn (traced y).changed y.ended at b))
+  where
+    differ_by : (a b : Option ℕ) → ((at : ℕ) → a ≡ Some at → b ≡ Some at → ⊥) → DifferFrom a b
+    differ_by None b h = tt
+    differ_by (Some at) b h = h at refl
+
+-- ---- ONE CALL AFTER ANOTHER, by their turns
 module _ (keys : List ℕ) (ys : List TimedCall) where
   abbrev pub changed_in : ℕ → Option ℕ
   changed_in i = (traced (get_or ys i no_call)).changed
@@ -204,7 +220,7 @@ module _ (keys : List ℕ) (ys : List TimedCall) where
       → (m j : ℕ) → is_present changes j m ≡ is_there keys (map traced ys) m j
   all_noted k changes l h m j = h.present m j (λ i a b. absurd (omega arith))
 
-  module _ (rising : IsNonDecreasingBy changed_or_none ys)
+  module _ (rising : IsNonDecreasingBy turn_moment_or_none ys)
       (apart : AllPairs (λ (x y : TimedCall). ChangeApart (traced x) (traced y)) ys)
       (counted : All (λ (x : TimedCall). IfSome (traced x).changed (λ at. 0 < at)) ys) where
     all_apart : AllPairs ChangeApart (map traced ys)
@@ -215,9 +231,11 @@ module _ (keys : List ℕ) (ys : List TimedCall) where
 
     no_later : (k i p q : ℕ) → k ≤ i → i < length ys → changed_in k ≡ Some p → changed_in i ≡ Some q → p ≤ q
     no_later k i p q l m e f =
-        let a : moment_or_none (changed_in k) ≤ moment_or_none (changed_in i) = rising k i no_call l m in
-        let b : moment_or_none (changed_in k) ≡ p = ap moment_or_none e in
-        let c : moment_or_none (changed_in i) ≡ q = ap moment_or_none f in
+        let x : TimedCall = get_or ys k no_call in
+        let y : TimedCall = get_or ys i no_call in
+        let a : turn_moment_or_none x ≤ turn_moment_or_none y = rising k i no_call l m in
+        let b : turn_moment_or_none x ≡ p = ap moment_or_none (changed_turn (traced x).changed x.ended p e) in
+        let c : turn_moment_or_none y ≡ q = ap moment_or_none (changed_turn (traced y).changed y.ended q f) in
         omega arith
 
     earlier : (k i p q : ℕ) → k < i → i < length ys → changed_in k ≡ Some p → changed_in i ≡ Some q → p < q
@@ -319,3 +337,30 @@ module _ (keys : List ℕ) (ys : List TimedCall) where
 
       pub one_noted : IsChangeNoted (traced (get_or ys k no_call)) before after → HasNoted (k + 1) after
       one_noted h' = next_noted (changed_in k) refl h'
+
+  -- ---- up to the end of a call that changes nothing, at its turn, all changes are noted
+  module _ (rising : IsNonDecreasingBy turn_moment_or_none ys) (apart : AllPairs TurnsApart ys) (k : ℕ) (l : k < length ys)
+      (before : ℕ → List ℕ) (h : HasNoted k before) (end : ℕ × Reply) (unchanged : changed_in k ≡ None)
+      (ended : (get_or ys k no_call).ended ≡ Some end) where
+    turn_here : turn_moment (get_or ys k no_call) ≡ Some end.0
+    turn_here = ap (λ o. turn_by o (get_or ys k no_call).ended) unchanged ∙ ap (λ o. turn_by None o) ended
+
+    change_later : (i at : ℕ) → k ≤ i → i < length ys → changed_in i ≡ Some at → end.0 < at
+    change_later i at a b e =
+        let y : TimedCall = get_or ys i no_call in
+        let t : turn_moment y ≡ Some at = changed_turn (traced y).changed y.ended at e in
+        let r : turn_moment_or_none (get_or ys k no_call) ≤ turn_moment_or_none y = rising k i no_call a b in
+        let p : turn_moment_or_none (get_or ys k no_call) ≡ end.0 = ap moment_or_none turn_here in
+        let q : turn_moment_or_none y ≡ at = ap moment_or_none t in
+        elim (cases_lt k i) [
+          | inl g ↦ elim (cases_lt end.0 at) [
+            | inl f ↦ f
+            | inr f ↦ absurd (apart_here (turn_moment (get_or ys k no_call)) (turn_moment y) end.0 (apart k i no_call g b) turn_here
+                (t ∙ ap Some (let s : at ≡ end.0 = omega arith in s)))
+          ]
+          | inr g ↦ absurd (let s : i ≡ k = omega arith in let z = sym e ∙ ap changed_in s ∙ unchanged in cc)
+        ]
+
+    pub present_upto_end : (m j : ℕ) → m ≤ end.0 → is_present before j m ≡ is_there keys (map traced ys) m j
+    present_upto_end m j u = h.present m j (λ i a b. if_some_from (changed_in i) (λ at. m < at)
+        (λ at e. let g : end.0 < at = change_later i at a b e in omega arith))

@@ -1,47 +1,29 @@
 -- The parts of a report of calls, of which none is refused and which are sorted by their beginnings.
-use Rattle.std.proofs.Common.{◌≡◌, ℕ, ◌+◌, ◌<◌, ◌≤◌, ◌⊎◌, inl, inr, List, [], ◌∷◌, ◌++◌, length, get_or, map, refl}
+use Rattle.std.proofs.Common.{◌≡◌, ℕ, ◌<◌, ◌≤◌, List, [], ◌∷◌, length, get_or, map, refl}
 use Rattle.std.proofs.Common.{sym, subst, ◌∙◌, ap, arith}
 use Rattle.std.specs.Prelude.{Option, Some, None, All, AllPairs, IfSome, IsSomeAnd}
-use Rattle.std.proofs.lemmas.List.{length-map, get_or-map, get_or_append_left, get_or_push}
+use Rattle.std.proofs.lemmas.List.{length-map, get_or-map}
 use Rattle.std.proofs.lemmas.List.Elements.{All-from_get_or}
 use Rattle.std.proofs.lemmas.List.Sorted.{length_permutation, IsPermutation-map}
 use Rattle.lset_words.specs.declared.Reply.{Reply}
 use Rattle.lset_words.specs.declared.history.Placed.{Placed}
 use Rattle.lset_words.specs.Log.{TracedCall, record_of}
 use Rattle.lset_words.specs.Placement.{traced_at, no_traced, place_at, placed_of, by_moments, standing}
-use Rattle.lset_history.specs.Changes.{is_present}
 use Rattle.lset_report.specs.declared.report.TheConstants.{MOST_CALLS}
 use Rattle.lset_report.specs.Report.{ReportValue}
 use Rattle.lset_calls.specs.declared.value.TimedCall.{TimedCall}
 use Rattle.lset_calls.specs.Calls.{CallsValue, AreCalls, traced}
 use Rattle.lset_calls.specs.Clashes.{call_at, no_call, EndedBefore}
 use Rattle.lset_calls.specs.Noting.{ChangeApart}
-use Rattle.lset_calls.specs.Placing.{present_at, same_count, HasBar, adds_before, StandsAmong, ArePlaced}
-use Rattle.lset_calls.specs.Reports.{is_there, contents, counts, StandsGiven, IsUpTo, IsPlacedUpTo, HasLeastVersion, IsReportOf}
+use Rattle.lset_calls.specs.Placing.{same_count, HasBar, adds_before, ArePlaced}
+use Rattle.lset_calls.specs.Turns.{TurnsApart}
+use Rattle.lset_calls.specs.Reports.{contents, counts, StandsGiven, IsUpTo, IsPlacedUpTo, HasLeastVersion, IsReportOf}
 use Rattle.lset_calls.specs.Sorted.{AreInTurn}
 use Rattle.lset_calls.proofs.Entries.{IsTimed}
-use Rattle.lset_calls.proofs.InTurn.{few_threads, apart, each, each_timed, point_of, strictly, ended_first, changes_apart}
-use Rattle.lset_calls.proofs.Noted.{if_some_from, if_some_at, pairs_mapped}
+use Rattle.lset_calls.proofs.InTurn.{few_threads, apart, each, each_timed, point_of, strictly, ended_first, turns_apart}
+use Rattle.lset_calls.proofs.Noted.{if_some_from, if_some_at, pairs_mapped, changes_apart_by_turns}
 use Rattle.lset_calls.proofs.Counted.{IsChangeInside, counts_are, counted_here}
-use Rattle.lset_calls.proofs.Standings.{AreAsIn, same_standing, same_keys, place_upto}
-
--- ---- one place more
-pub stands_more : (changes : ℕ → List ℕ) (quota : ℕ) (calls : List TimedCall) (places : List (Option ℕ)) (k : ℕ) (p : Option ℕ)
-    → length places ≡ k → ((i : ℕ) → i < k → StandsAmong changes quota calls places i)
-    → StandsGiven quota (present_at changes) (same_count (adds_before calls (call_at calls k).thread k)) (traced (call_at calls k)) p
-    → (i : ℕ) → i < k + 1 → StandsAmong changes quota calls (places ++ p ∷ []) i
-stands_more changes quota calls places k p long h s i l = elim (last_or_before i k l) [
-  | inl e ↦ subst (λ z. StandsAmong changes quota calls (places ++ p ∷ []) z) (sym e)
-      (subst (λ o. StandsGiven quota (present_at changes) (same_count (adds_before calls (call_at calls k).thread k))
-      (traced (call_at calls k)) o)
-      (sym (get_or_push places p None k long)) s)
-  | inr g ↦ subst (λ o. StandsGiven quota (present_at changes) (same_count (adds_before calls (call_at calls i).thread i))
-      (traced (call_at calls i)) o)
-      (sym (get_or_append_left places (p ∷ []) None i (omega arith))) (h i g)
-]
-  where
-    last_or_before : (i k : ℕ) → i < k + 1 → (i ≡ k) ⊎ (i < k)
-    last_or_before i k l = grind arith
+use Rattle.lset_calls.proofs.Standings.{AreAsIn, same_standing, place_upto}
 
 -- the records of calls
 pub records_twice : (xs : List TimedCall) → map (λ x. record_of (traced x)) xs ≡ map record_of (map traced xs)
@@ -80,9 +62,12 @@ module _ (c : CallsValue) (xs : List TimedCall) (are : AreCalls c) (turn : AreIn
   counted k d l = if_some_from (traced (get_or xs k d)).changed (λ at. 0 < at)
       (λ at e. let a : (get_or xs k d).begun < at = (inside k d l).after at e in omega arith)
 
-  pub apart_changes : AllPairs (λ (x y : TimedCall). ChangeApart (traced x) (traced y)) xs
-  apart_changes i j d l m = changes_apart (get_or xs i d) (get_or xs j d) (each_timed c xs are turn j d m)
+  pub apart_turns : AllPairs TurnsApart xs
+  apart_turns i j d l m = turns_apart (get_or xs i d) (get_or xs j d) (each_timed c xs are turn j d m)
       (apart c xs are turn i j d l m) (turn.rising i j d (omega arith) m)
+
+  apart_changes : AllPairs (λ (x y : TimedCall). ChangeApart (traced x) (traced y)) xs
+  apart_changes i j d l m = changes_apart_by_turns (get_or xs i d) (get_or xs j d) (apart_turns i j d l m)
 
   rises : AllPairs (λ (x y : TimedCall). x.begun < y.begun) xs
   rises i j d l m = strictly (get_or xs i d) (get_or xs j d) (each_timed c xs are turn j d m)
@@ -115,8 +100,7 @@ module _ (c : CallsValue) (xs : List TimedCall) (are : AreCalls c) (turn : AreIn
   as_in i l None None e f = tt
   as_in i l None (Some end) e f = λ m a b. counts_as i m end l e f a b
 
-  module _ (changes : ℕ → List ℕ) (told : (m j : ℕ) → is_present changes j m ≡ is_there c.opening.keys calls m j)
-      (places : List (Option ℕ)) (p : ArePlaced changes c.opening.quota xs places) where
+  module _ (places : List (Option ℕ)) (p : ArePlaced c.opening.keys c.opening.quota xs places) where
     stands : (i : ℕ) → i < length calls
         → StandsGiven c.opening.quota (contents c.opening.keys calls) (counts calls) (traced_at calls i) (place_at places i)
     stands i l =
@@ -126,9 +110,7 @@ module _ (c : CallsValue) (xs : List TimedCall) (are : AreCalls c) (turn : AreIn
         (sym (get_or-map traced xs i no_call no_traced low))
         (same_standing c.opening.quota (contents c.opening.keys calls) (same_count (adds_before xs (call_at xs i).thread i))
         (counts calls) (traced (call_at xs i)) (place_at places i)
-        (as_in i low (traced (call_at xs i)).changed (call_at xs i).ended refl refl)
-        (same_keys c.opening.quota (λ m j. is_present changes j m) (λ m j. is_there c.opening.keys calls m j)
-        (same_count (adds_before xs (call_at xs i).thread i)) (traced (call_at xs i)) (place_at places i) told (p.stands i low)))
+        (as_in i low (traced (call_at xs i)).changed (call_at xs i).ended refl refl) (p.stands i low))
 
     all_upto : (last : ℕ) → All (IsUpTo last) calls → All (λ (o : Option ℕ). IfSome o (λ m. m ≤ last)) places
     all_upto last h = All-from_get_or (λ (o : Option ℕ). IfSome o (λ m. m ≤ last)) places None (λ i l.

@@ -92,12 +92,56 @@ module _ (quota : ℕ) (contents : Contents) (n k : Counts) (x : TracedCall) whe
       as_told : (m : ℕ) → x.begun ≤ m → m ≤ s.end.0 → n m x.thread ≡ k m x.thread
       as_told m a b = told m a b
 
--- ---- and with keys that are there at the same moments
-pub same_keys : (quota : ℕ) (P Q : ℕ → ℕ → Bool) (counts : Counts) (x : TracedCall) (place : Option ℕ)
-    → ((m j : ℕ) → P m j ≡ Q m j) → StandsGiven quota (λ m j. P m j ≡ true) counts x place
-    → StandsGiven quota (λ m j. Q m j ≡ true) counts x place
-same_keys quota P Q counts x place e h = subst (λ (R : ℕ → ℕ → Bool). StandsGiven quota (λ m j. R m j ≡ true) counts x place)
-    (let f : P ≡ Q = λ i m j. e m j i in f) h
+-- ---- and with keys that are there at the same moments of the call
+module _ (quota : ℕ) (P Q : ℕ → ℕ → Bool) (counts : Counts) (x : TracedCall) where
+  abbrev pub AreKeysOf : Option ℕ → Option (ℕ × Reply) → Type 0
+  AreKeysOf None (Some end) = (m j : ℕ) → m ≤ end.0 → P m j ≡ Q m j
+  AreKeysOf None None = Unit {0}
+  AreKeysOf (Some c) ended = Unit {0}
+
+  abbrev here : (ℕ → ℕ → Bool) → Contents
+  here R m j = R m j ≡ true
+
+  fits_too : (m count : ℕ) (reply : Reply) → ((j : ℕ) → P m j ≡ Q m j) → Fits quota (here P m) count x.call reply
+      → Fits quota (here Q m) count x.call reply
+  fits_too m count reply e f = subst (λ (R : ℕ → Bool). Fits quota (λ j. R j ≡ true) count x.call reply)
+      (let g : P m ≡ Q m = λ i j. e j i in g) f
+
+  fits_back : (m count : ℕ) (reply : Reply) → ((j : ℕ) → P m j ≡ Q m j) → Fits quota (here Q m) count x.call reply
+      → Fits quota (here P m) count x.call reply
+  fits_back m count reply e f = subst (λ (R : ℕ → Bool). Fits quota (λ j. R j ≡ true) count x.call reply)
+      (let g : Q m ≡ P m = sym (λ i j. e j i) in g) f
+
+  by_keys : (changed : Option ℕ) (ended : Option (ℕ × Reply)) (place : Option ℕ) → AreKeysOf changed ended
+      → StandsBy quota (here P) counts x changed ended place → StandsBy quota (here Q) counts x changed ended place
+  by_keys (Some c) ended place h s = s
+  by_keys None None place h s = s
+  by_keys None (Some end) place h s =
+      let l : IsLeastFit quota (here P) counts x end.0 end.1 s.0 = s.2 in
+      let top : s.0 ≤ end.0 = l.upto in (
+        s.0,
+        s.1,
+        record {
+          from = l.from;
+          upto = top;
+          fits = fits_too s.0 (counts s.0 x.thread) end.1 (λ j. h s.0 j top) l.fits;
+          least = λ m a b f. l.least m a b (fits_back m (counts m x.thread) end.1 (λ j. h m j (omega arith)) f);
+        },
+      )
+
+  pub same_keys : (place : Option ℕ) → AreKeysOf x.changed x.ended → StandsGiven quota (here P) counts x place
+      → StandsGiven quota (here Q) counts x place
+  same_keys place h (inl s) = inl (by_keys x.changed x.ended place h s)
+  same_keys place h (inr s) = inr (record {
+    end = s.end;
+    ended = s.ended;
+    unchanged = s.unchanged;
+    fits_nowhere = λ m a b f. s.fits_nowhere m a b (fits_back m (counts m x.thread) s.end.1 (λ j. told m j b) f);
+    place_is = s.place_is;
+  })
+    where
+      told : AreKeysOf None (Some s.end)
+      told = subst (λ o. AreKeysOf o (Some s.end)) s.unchanged (subst (λ o. AreKeysOf x.changed o) s.ended h)
 
 -- ---- no place is past the last moment of its call
 module _ (last quota : ℕ) (contents : Contents) (counts : Counts) (x : TracedCall) where

@@ -5,6 +5,7 @@ pub mod Clashes
 pub mod Moments
 pub mod Noting
 pub mod Placing
+pub mod Turns
 pub mod Order
 pub mod Versions
 pub mod Reports

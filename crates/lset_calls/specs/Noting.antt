@@ -2,16 +2,11 @@
 use Rattle.std.specs.Prelude.{◌≡◌, ℕ, ◌<◌, ◌≤◌, All, Option, Some, None, List}
 use Rattle.lset_words.specs.Log.{TracedCall}
 use Rattle.lset_history.specs.Changes.{is_present, is_present_now}
-use Rattle.lset_calls.specs.declared.value.TimedCall.{TimedCall}
-use Rattle.lset_calls.specs.Calls.{traced}
 use Rattle.lset_calls.specs.Reports.{change_of, there_after}
 
 abbrev pub moment_or_none : Option ℕ → ℕ
 moment_or_none None = 0
 moment_or_none (Some at) = at
-
-abbrev pub changed_or_none : TimedCall → ℕ
-changed_or_none x = moment_or_none (traced x).changed
 
 -- two calls do not change the set at one moment
 abbrev pub DifferFrom : Option ℕ → Option ℕ → Type 0

@@ -1,5 +1,5 @@
--- Where calls stand by the changes that were noted, and by how many keys their threads have put in.
-use Rattle.std.specs.Prelude.{◌≡◌, ℕ, ◌<◌, Bool, true, false, List, length, take, Option, Some, None, count_by, IfSome}
+-- Where calls stand by the keys that are there, and by how many keys their threads have put in.
+use Rattle.std.specs.Prelude.{◌≡◌, ℕ, ◌<◌, Bool, true, false, List, length, take, Option, Some, None, count_by, IfSome, map}
 use Rattle.std.specs.Prelude.{if◌then◌else◌}
 use Rattle.lset_words.specs.declared.TheConstants.{MOST_THREADS}
 use Rattle.lset_words.specs.declared.Call.{Call}
@@ -12,7 +12,7 @@ use Rattle.lset_history.specs.Changes.{is_present}
 use Rattle.lset_calls.specs.declared.value.TimedCall.{TimedCall}
 use Rattle.lset_calls.specs.Calls.{traced}
 use Rattle.lset_calls.specs.Clashes.{call_at, is_add_of}
-use Rattle.lset_calls.specs.Reports.{StandsGiven}
+use Rattle.lset_calls.specs.Reports.{contents, StandsGiven}
 
 abbrev pub present_at : (ℕ → List ℕ) → Contents
 present_at changes m j = is_present changes j m ≡ true
@@ -48,11 +48,11 @@ pub record HasBar (x : TimedCall) : Type 0 where
 abbrev pub adds_before : List TimedCall → ℕ → ℕ → ℕ
 adds_before calls thread i = count_by (is_add_of thread) (take i calls)
 
-abbrev pub StandsAmong : (ℕ → List ℕ) → ℕ → List TimedCall → List (Option ℕ) → ℕ → Type 0
-StandsAmong changes quota calls places i =
-    StandsGiven quota (present_at changes) (same_count (adds_before calls (call_at calls i).thread i)) (traced (call_at calls i))
-    (place_at places i)
+abbrev pub StandsAmong : List ℕ → ℕ → List TimedCall → List (Option ℕ) → ℕ → Type 0
+StandsAmong keys quota calls places i =
+    StandsGiven quota (contents keys (map traced calls)) (same_count (adds_before calls (call_at calls i).thread i))
+    (traced (call_at calls i)) (place_at places i)
 
-pub record ArePlaced (changes : ℕ → List ℕ) (quota : ℕ) (calls : List TimedCall) (places : List (Option ℕ)) : Type 0 where
+pub record ArePlaced (keys : List ℕ) (quota : ℕ) (calls : List TimedCall) (places : List (Option ℕ)) : Type 0 where
   pub one_each : length places ≡ length calls
-  pub stands : (i : ℕ) → i < length calls → StandsAmong changes quota calls places i
+  pub stands : (i : ℕ) → i < length calls → StandsAmong keys quota calls places i

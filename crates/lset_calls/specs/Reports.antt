@@ -13,6 +13,7 @@ use Rattle.lset_words.specs.Account.{Contents, Counts, Fits, count_after}
 use Rattle.lset_words.specs.Placement.{StandsAt, standing, by_moments, placed_of, place_at, traced_at}
 use Rattle.lset_text.specs.declared.words.Version.TheVariants.{One}
 use Rattle.lset_report.specs.Report.{ReportValue}
+use Rattle.lset_report.specs.ReportReading.{most_keys}
 use Rattle.lset_report.specs.Texts.{HasWordsOfVersion}
 use Rattle.lset_calls.specs.Calls.{CallsValue, traced}
 use Rattle.lset_calls.specs.Clashes.{IsRefusedAt}
@@ -87,10 +88,11 @@ pub record IsUpTo (last : ℕ) (x : TracedCall) : Type 0 where
   pub changed : IfSome x.changed (λ m. m ≤ last)
   pub ended : IfSome x.ended (λ (end : ℕ × Reply). end.0 ≤ last)
 
--- the version is the first one where that has words for the report, and has words for it
+-- the version has words for the report, and room for its keys; and is the first one where that has
 pub record HasLeastVersion (r : ReportValue) : Type 0 where
   pub words : HasWordsOfVersion r
-  pub least : HasWordsOfVersion (record r { version = One }) → r.version ≡ One
+  pub room : length r.keys ≤ most_keys r.version
+  pub least : HasWordsOfVersion (record r { version = One }) → length r.keys ≤ most_keys One → r.version ≡ One
 
 -- THE REPORT OF CALLS, none of which is refused:
 pub record IsReportOf (c : CallsValue) (r : ReportValue) : Type 0 where

@@ -9,6 +9,7 @@ mod order;
 mod places;
 mod reading;
 mod report;
+mod turns;
 mod value;
 mod version;
 

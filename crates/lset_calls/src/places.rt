@@ -1,4 +1,5 @@
-ghost use Rattle.std.specs.Prelude.{◌≡◌, ℕ, ◌<◌, ◌≤◌, length, IfOk, IfSome, All};
+ghost use Rattle.std.specs.Prelude.{◌≡◌, ℕ, ◌<◌, ◌≤◌, length, IfOk, IfSome, All, AllPairs};
+ghost use Rattle.std.specs.List.Sorted.{IsStrictlyIncreasing};
 ghost use Rattle.lset_words.specs.declared.Call.TheVariants.{Ceiling};
 ghost use Rattle.lset_words.specs.Account.{Fits};
 ghost use Rattle.lset_history.specs.Changes.{moments_of, IsFirst};
@@ -6,10 +7,13 @@ ghost use Rattle.lset_report.specs.declared.report.TheConstants.{MOST_CALLS};
 ghost use Rattle.lset_calls.specs.Calls.{traced};
 ghost use Rattle.lset_calls.specs.Reports.{StandsGiven};
 ghost use Rattle.lset_calls.specs.Placing.{present_at, same_count, sought, HasBar, ArePlaced};
+ghost use Rattle.lset_calls.specs.Turns.{TurnsApart};
 
 use crate::TimedCall;
+use crate::noting::note;
+use crate::turns::turns_of;
 use lset_history::Changes;
-use lset_words::{Call, Key, MOST_THREADS, Reply};
+use lset_words::{Call, Key, Reply};
 use std::alloc::{AllocError, Global};
 
 /// Whether the key of a call that changes nothing is there (`true`) or not (`false`) where the call gives this reply, as far as
@@ -80,26 +84,28 @@ fn place_of(changes: &Changes, quota: u32, count: u32, made: TimedCall) -> Optio
     }
 }
 
-/// Where each of the calls stands, which are sorted by their beginnings.
+/// Where each of the calls stands, which are sorted by their beginnings. They take their turns, so that a call which changes
+/// nothing finds just the changes up to its end noted.
 pub fn places_of(
     alloc: Global,
-    changes: &Changes,
+    keys: &[u32],
     quota: u32,
     calls: &[TimedCall],
 ) -> Result<Vec<Option<u32>>, AllocError>
     requires few { length calls.now ≤ MOST_CALLS }
     requires bars { All HasBar calls.now }
-    ensures { IfOk result (λ v. ArePlaced (moments_of changes.now) quota calls.now v.items) }
+    requires rising { IsStrictlyIncreasing keys.now }
+    requires counted { All (λ x. IfSome (traced x).changed (λ at. 0 < at)) calls.now }
+    requires apart { AllPairs TurnsApart calls.now }
+    ensures { IfOk result (λ v. ArePlaced keys.now quota calls.now v.items) }
 {
-    let mut counts = [0u32; MOST_THREADS as usize];
-    let mut places = Vec::with_capacity(alloc, calls.len())?;
-    for made in calls {
-        let thread = made.thread as usize;
-        let count = counts[thread];
-        places.push(place_of(changes, quota, count, *made))?;
-        if made.puts_in() {
-            counts[thread] = count + 1;
-        }
+    let mut changes = Changes::opened(alloc, keys)?;
+    let mut places = vec![in alloc; None; calls.len()]?;
+    let turns = turns_of(alloc, calls)?;
+    for turn in &turns {
+        let place = place_of(&changes, quota, turn.count, turn.made);
+        places[turn.number as usize] = place;
+        note(&mut changes, turn.made)?;
     }
     Ok(places)
 }

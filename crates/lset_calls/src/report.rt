@@ -8,7 +8,6 @@ ghost use Rattle.lset_calls.specs.Reports.{IsUpTo, IsPlacedUpTo, contents, count
 ghost use Rattle.lset_calls.specs.Sorted.{AreInTurn};
 
 use crate::clashes::{moments_in_turn, refusal};
-use crate::noting::changes_of;
 use crate::order::in_order;
 use crate::places::places_of;
 use crate::version::least_version;
@@ -50,14 +49,13 @@ fn order_of(alloc: Global, calls: &Calls, sorted: &[TimedCall]) -> Result<Vec<Pl
         → IsPlacedUpTo last calls.now.quota (map traced sorted.now)
         (contents calls.now.opening.items (map traced sorted.now)) (counts (map traced sorted.now)) v.items) }
 {
-    let changes = changes_of(alloc, &calls.opening, sorted)?;
-    let places = places_of(alloc, &changes, calls.quota, sorted)?;
+    let places = places_of(alloc, &calls.opening, calls.quota, sorted)?;
     in_order(alloc, sorted, &places)
 }
 
 /// The report of calls: their history, an order of them, and the keys of the text.
 ///
-/// The calls stand by their beginnings, in the least version that has words for them. The changes stand at the points given
+/// The calls stand by their beginnings, in the least version that has words for them and room for the keys. The changes stand at the points given
 /// for them. Each other ended call stands at the first moment of its own at which its reply fits the set that those changes
 /// make, and at its end where there is none. Whether that order explains the calls is for `check_order`. (Herlihy and
 /// Wing's linearization points.)
@@ -79,7 +77,7 @@ pub fn report_of(alloc: Global, calls: Calls) -> Result<Report, ClashFault>
     let order = order_of(alloc, &calls, &sorted)?;
     let records = records_of(alloc, &sorted)?;
     Ok(Report {
-        version: least_version(&calls.opening, &records, &order),
+        version: least_version(&calls.opening, &records, &order, &calls.keys),
         kind: calls.kind,
         history: History::from_calls(calls.threads, calls.quota, calls.opening, records),
         order,

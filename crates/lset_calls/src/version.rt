@@ -1,10 +1,13 @@
-ghost use Rattle.std.specs.Prelude.{◌≡◌, ◌↔◌, IsTrue};
+ghost use Rattle.std.specs.Prelude.{◌≡◌, ◌↔◌, ◌≤◌, length, IsTrue};
 ghost use Rattle.std.specs.List.{AllByRecursion};
 ghost use Rattle.lset_text.specs.Spellings.{HasReply};
 ghost use Rattle.lset_text.specs.Openings.{HasOpening};
 ghost use Rattle.lset_report.specs.Texts.{HasWordsIn};
+ghost use Rattle.lset_report.specs.ReportReading.{most_keys};
+ghost use Rattle.lset_report.specs.declared.report.TheConstants.{MOST_KEYS, MOST_KEYS_OPENED};
 ghost use Rattle.lset_calls.specs.Versions.{IsFirstCall, IsFirstPlace};
 
+use lset_report::MOST_KEYS;
 use lset_text::Version;
 use lset_words::{Call, CallRecord, Placed, Reply};
 
@@ -51,12 +54,21 @@ fn are_first_places(order: &[Placed]) -> bool
     true
 }
 
-/// The least version of a report that has words for these opening keys, these calls and their order.
-pub fn least_version(opening: &[u32], calls: &[CallRecord], order: &[Placed]) -> Version
+/// The least version of a report that has words for these opening keys, these calls and their order, and room for the keys.
+pub fn least_version(
+    opening: &[u32],
+    calls: &[CallRecord],
+    order: &[Placed],
+    keys: &[u32],
+) -> Version
+    requires { length keys.now ≤ MOST_KEYS_OPENED }
     ensures words { HasOpening result opening.now × HasWordsIn result calls.now order.now }
-    ensures least { HasOpening Version.One opening.now → HasWordsIn Version.One calls.now order.now → result ≡ Version.One }
+    ensures room { length keys.now ≤ most_keys result }
+    ensures least { HasOpening Version.One opening.now → HasWordsIn Version.One calls.now order.now
+        → length keys.now ≤ MOST_KEYS → result ≡ Version.One }
 {
-    if opening.is_empty() && are_first_calls(calls) && are_first_places(order) {
+    let has_room = keys.len() <= MOST_KEYS;
+    if opening.is_empty() && has_room && are_first_calls(calls) && are_first_places(order) {
         Version::One
     } else {
         Version::Two

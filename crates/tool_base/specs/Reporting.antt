@@ -1,5 +1,5 @@
 -- What `report` makes of an input.
-use Rattle.std.specs.Prelude.{◌≡◌, ℕ, ◌⊎◌, List, Result, Ok, Err}
+use Rattle.std.specs.Prelude.{◌≡◌, ℕ, ◌<◌, ◌⊎◌, List, length, Result, Ok, Err}
 use Rattle.lset_report.specs.Report.{ReportValue}
 use Rattle.lset_report.specs.Texts.{report_text}
 use Rattle.lset_calls.specs.declared.fault.CallsFault.{CallsFault}
@@ -9,7 +9,9 @@ use Rattle.lset_calls.specs.Texts.{calls_text}
 use Rattle.lset_calls.specs.Reading.{reading}
 use Rattle.lset_calls.specs.Clashes.{IsRefusal}
 use Rattle.lset_calls.specs.Reports.{IsReportOf}
+use Rattle.tool_base.specs.declared.streams.TheConstants.{LONGEST}
 use Rattle.tool_base.specs.declared.trouble.Trouble.{Trouble}
+use Rattle.tool_base.specs.declared.trouble.Trouble.TheVariants.{LongReport}
 use Rattle.tool_base.specs.Trouble.{of_calls, of_clash}
 use Rattle.tool_base.specs.Tools.{Made, IsTaken, IsInputTrouble}
 
@@ -24,8 +26,16 @@ abbrev pub IsFirstFault : Result CallsValue CallsFault → Trouble → Type 0
 IsFirstFault (Err fault) t = t ≡ of_calls fault
 IsFirstFault (Ok c) t = (refusal : ClashFault) × (t ≡ of_clash refusal) × IsRefusal c refusal
 
--- what is made of the bytes of an input: the text of the report, or a trouble with the input, or its first fault
+-- the text of the report has more bytes than a text that is read may have
+abbrev pub IsOfLongReport : List ℕ → Trouble → Type 0
+IsOfLongReport bytes t =
+    (t ≡ LongReport) × (c : CallsValue) × (r : ReportValue) × IsReported bytes c r × (LONGEST < length (report_text r))
+
+-- what is made of the bytes of an input: the text of the report, which is not too long to be read, or a trouble with the input,
+-- or its first fault
 abbrev pub Reports : List ℕ → Made → Type 0
 Reports bytes (Ok answer) =
-    IsTaken bytes × (c : CallsValue) × (r : ReportValue) × IsReported bytes c r × (answer ≡ record { text = report_text r; status = 0 })
-Reports bytes (Err t) = IsInputTrouble bytes t ⊎ (IsTaken bytes × IsFirstFault (reading bytes) t)
+    IsTaken bytes × (c : CallsValue) × (r : ReportValue) × IsReported bytes c r × IsTaken (report_text r)
+    × (answer ≡ record { text = report_text r; status = 0 })
+Reports bytes (Err t) =
+    IsInputTrouble bytes t ⊎ (IsTaken bytes × (IsFirstFault (reading bytes) t ⊎ IsOfLongReport bytes t))

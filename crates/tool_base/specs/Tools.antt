@@ -4,7 +4,7 @@ use Rattle.std.specs.Io.KnownBytes.{Appends, Keeps}
 use Rattle.tool_base.specs.declared.answer.Answer.{Answer}
 use Rattle.tool_base.specs.declared.streams.TheConstants.{LONGEST}
 use Rattle.tool_base.specs.declared.trouble.Trouble.{Trouble}
-use Rattle.tool_base.specs.declared.trouble.Trouble.TheVariants.{CannotRead, TooLong, CannotWrite, Memory, Line, Bad}
+use Rattle.tool_base.specs.declared.trouble.Trouble.TheVariants.{CannotRead, TooLong, LongReport, CannotWrite, Memory, Line, Bad}
 use Rattle.tool_base.specs.declared.trouble.Trouble.TheVariants.{CannotListen, Work, Serve}
 use Rattle.tool_base.specs.Trouble.{trouble_text}
 use Rattle.tool_base.specs.Trouble as trouble
@@ -65,6 +65,7 @@ IsTaken bytes = length bytes ≤ LONGEST
 abbrev pub IsInputTrouble : List ℕ → Trouble → Type 0
 IsInputTrouble bytes CannotRead = Unit {0}
 IsInputTrouble bytes TooLong = LONGEST < length bytes
+IsInputTrouble bytes LongReport = ⊥
 IsInputTrouble bytes CannotWrite = ⊥
 IsInputTrouble bytes Memory = Unit {0}
 IsInputTrouble bytes (Line number cause) = ⊥

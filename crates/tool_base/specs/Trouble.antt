@@ -16,7 +16,6 @@ use Rattle.lset_calls.specs.declared.fault.ClashFault.{ClashFault}
 use Rattle.lset_calls.specs.declared.fault.ClashFault.TheVariants as clash
 use Rattle.tool_base.specs.declared.streams.InputFault.{InputFault}
 use Rattle.tool_base.specs.declared.streams.InputFault.TheVariants as input
-use Rattle.tool_base.specs.declared.trouble.KeyCause.{KeyCause}
 use Rattle.tool_base.specs.declared.trouble.KeyCause.TheVariants as keys
 use Rattle.tool_base.specs.declared.trouble.TheConstants.{LACKS}
 use Rattle.tool_base.specs.declared.trouble.LineCause.{LineCause}
@@ -28,7 +27,7 @@ use Rattle.tool_base.specs.declared.trouble.WorkName.TheVariants as work
 use Rattle.tool_base.specs.declared.trouble.ServeName.{ServeName}
 use Rattle.tool_base.specs.declared.trouble.ServeName.TheVariants as serve
 use Rattle.tool_base.specs.declared.trouble.Trouble.{Trouble}
-use Rattle.tool_base.specs.declared.trouble.Trouble.TheVariants.{CannotRead, TooLong, CannotWrite, Memory, Line, Bad}
+use Rattle.tool_base.specs.declared.trouble.Trouble.TheVariants.{CannotRead, TooLong, LongReport, CannotWrite, Memory, Line, Bad}
 use Rattle.tool_base.specs.declared.trouble.Trouble.TheVariants.{CannotListen, Work, Serve}
 
 -- of an input that was not read
@@ -104,6 +103,7 @@ of_clash clash.Memory = Memory
 abbrev pub status_of : Trouble → ℕ
 status_of CannotRead = 1
 status_of TooLong = 1
+status_of LongReport = 1
 status_of CannotWrite = 1
 status_of Memory = 3
 status_of (Line number cause) = 1
@@ -190,6 +190,7 @@ serve_name serve.Left = codes "Left"
 abbrev pub trouble_text : Trouble → List ℕ
 trouble_text CannotRead = codes "listset: cannot read\n"
 trouble_text TooLong = codes "listset: too long\n"
+trouble_text LongReport = codes "listset: report too long: record fewer calls\n"
 trouble_text CannotWrite = codes "listset: cannot write\n"
 trouble_text Memory = codes "listset: out of memory\n"
 trouble_text (Line number cause) = codes "listset: line " ++ decimal number ++ codes ": " ++ name_of cause ++ codes "\n"

@@ -11,6 +11,8 @@ const CANNOT_READ: &[u8] = b"listset: cannot read\n";
 
 const TOO_LONG: &[u8] = b"listset: too long\n";
 
+const LONG_REPORT: &[u8] = b"listset: report too long: record fewer calls\n";
+
 const CANNOT_WRITE: &[u8] = b"listset: cannot write\n";
 
 const CANNOT_LISTEN: &[u8] = b"listset: cannot listen\n";
@@ -44,6 +46,7 @@ pub fn line_of_trouble(alloc: Global, trouble: Trouble) -> Result<Vec<u8>, Alloc
     match trouble {
         Trouble::CannotRead => Vec::from_slice(alloc, CANNOT_READ),
         Trouble::TooLong => Vec::from_slice(alloc, TOO_LONG),
+        Trouble::LongReport => Vec::from_slice(alloc, LONG_REPORT),
         Trouble::CannotWrite => Vec::from_slice(alloc, CANNOT_WRITE),
         Trouble::CannotListen => Vec::from_slice(alloc, CANNOT_LISTEN),
         Trouble::Memory => Vec::from_slice(alloc, OUT_OF_MEMORY),
@@ -110,6 +113,7 @@ fn tell<F: Write>(alloc: Global, faults: &mut F, trouble: Trouble)
     match trouble {
         Trouble::CannotRead => tell_line(faults, CANNOT_READ),
         Trouble::TooLong => tell_line(faults, TOO_LONG),
+        Trouble::LongReport => tell_line(faults, LONG_REPORT),
         Trouble::CannotWrite => tell_line(faults, CANNOT_WRITE),
         Trouble::CannotListen => tell_line(faults, CANNOT_LISTEN),
         Trouble::Memory => tell_line(faults, OUT_OF_MEMORY),

@@ -84,6 +84,8 @@ listset: serve: CAUSE, status 1
 Other lines
   listset: cannot read    A file could not be opened, or a read failed; status 1.
   listset: too long       The input has more than 67108864 bytes; status 1.
+  listset: report too long: record fewer calls
+                          The report of these calls would have more than 67108864 bytes, and `check` reads none so long; status 1.
   listset: cannot write   A write failed; status 1.
   listset: cannot listen  The system did not give the port; status 1.
   listset: bad NAME       The value or the option NAME is missing or is none that may stand there, or FROM is past the last moment; status 2.

@@ -2,7 +2,7 @@ ghost use Rattle.std.specs.Prelude.{◌≡◌, ◌≢◌, ◌⊎◌, IfErr, IfSo
 ghost use Rattle.lset_calls.specs.Reading.{reading};
 ghost use Rattle.tool_base.specs.Tools.{Ends, IsTaken, view};
 ghost use Rattle.tool_base.specs.Reporting.{IsFirstFault, Reports};
-ghost use Rattle.tool_base.specs.declared.trouble.Trouble.TheVariants.{CannotRead, Memory};
+ghost use Rattle.tool_base.specs.declared.trouble.Trouble.TheVariants.{CannotRead, LongReport, Memory};
 
 use crate::answer::{Answer, deliver};
 use crate::streams::{LONGEST, input_of};
@@ -16,17 +16,21 @@ use std::io::{Read, Write};
 fn report_on(alloc: Global, bytes: &[u8]) -> Result<Answer, Trouble>
     requires { IsTaken bytes.now }
     ensures reports { Reports bytes.now (view result) }
-    ensures trouble { IfErr result (λ t. (t ≡ Memory) ⊎ IsFirstFault (reading bytes.now) t) }
+    ensures trouble { IfErr result (λ t. (t ≡ Memory) ⊎ IsFirstFault (reading bytes.now) t ⊎ (t ≡ LongReport)) }
 {
     let calls = read_calls(alloc, bytes)?;
     let report = report_of(alloc, calls)?;
     let text = write_report(alloc, &report)?;
+    if text.len() > LONGEST {
+        return Err(Trouble::LongReport);
+    }
     Ok(Answer { text, status: 0 })
 }
 
 /// Makes a report of the calls whose text the bytes are: its text, with status 0. The error is `TooLong` where there are more
 /// than `LONGEST` bytes, `Line` with the first fault of the text, or with the first line whose call cannot stand beside those of
-/// the lines above, and `Memory` where memory was refused.
+/// the lines above, `LongReport` where the report has more than `LONGEST` bytes, so that `check` could not read it, and `Memory`
+/// where memory was refused.
 pub fn reported(alloc: Global, bytes: &[u8]) -> Result<Answer, Trouble>
     ensures reports { Reports bytes.now (view result) }
     ensures read { IfErr result (λ t. t ≢ CannotRead) }

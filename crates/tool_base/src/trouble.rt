@@ -106,6 +106,8 @@ pub enum Trouble {
     CannotRead,
     /// The input has more bytes than an input may have.
     TooLong,
+    /// The report that was asked for has more bytes than an input may have.
+    LongReport,
     /// A write failed, or took no byte.
     CannotWrite,
     /// Memory was refused.
@@ -132,6 +134,7 @@ impl Trouble {
             Trouble::Bad(_) => 2,
             Trouble::CannotRead
             | Trouble::TooLong
+            | Trouble::LongReport
             | Trouble::CannotWrite
             | Trouble::CannotListen
             | Trouble::Line(_, _)

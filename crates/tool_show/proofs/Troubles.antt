@@ -13,7 +13,7 @@ use Rattle.lset_report.specs.declared.report_fault.ReportFault.{ReportFault}
 use Rattle.lset_report.specs.ReportReading as reports
 use Rattle.tool_base.specs.declared.answer.Answer.{Answer}
 use Rattle.tool_base.specs.declared.trouble.Trouble.{Trouble}
-use Rattle.tool_base.specs.declared.trouble.Trouble.TheVariants.{CannotRead, TooLong, CannotWrite, Memory, Line, Bad}
+use Rattle.tool_base.specs.declared.trouble.Trouble.TheVariants.{CannotRead, TooLong, LongReport, CannotWrite, Memory, Line, Bad}
 use Rattle.tool_base.specs.declared.trouble.Trouble.TheVariants.{CannotListen, Work, Serve}
 use Rattle.tool_base.specs.Trouble.{of_schedule_line, of_report_line}
 use Rattle.tool_base.specs.Checking as checking
@@ -24,6 +24,7 @@ use Rattle.tool_show.specs.Showing.{IsWrong, IsScheduleFault}
 abbrev count_of : Trouble → ℕ
 count_of CannotRead = 0
 count_of TooLong = 1
+count_of LongReport = 1
 count_of CannotWrite = 1
 count_of Memory = 1
 count_of (Line number cause) = 1

@@ -1,4 +1,4 @@
-use Rattle.std.proofs.Common.{◌≡◌, ℕ, List, map, refl, sym, subst, ap, ◌∙◌}
+use Rattle.std.proofs.Common.{◌≡◌, ◌≤◌, ℕ, length, List, map, refl, sym, subst, ap, ◌∙◌}
 use Rattle.std.specs.Prelude.{All}
 use Rattle.std.specs.List.Sorted.{IsPermutation}
 use Rattle.lset_words.specs.declared.history.CallRecord.{CallRecord}
@@ -10,6 +10,8 @@ use Rattle.lset_text.specs.declared.words.Version.TheVariants.{One}
 use Rattle.lset_history.specs.History.{HistoryValue}
 use Rattle.lset_report.specs.Report.{ReportValue}
 use Rattle.lset_report.specs.Texts.{HasWordsIn}
+use Rattle.lset_report.specs.ReportReading.{most_keys}
+use Rattle.lset_report.specs.declared.report.TheConstants.{MOST_KEYS}
 use Rattle.lset_calls.specs.declared.value.TimedCall.{TimedCall}
 use Rattle.lset_calls.specs.Calls.{view, traced}
 use Rattle.lset_calls.specs.Reports.{contents, counts, IsUpTo, IsPlacedUpTo, HasLeastVersion}
@@ -51,11 +53,16 @@ returns-clause-told c =
     subst (λ (rs : List CallRecord). HasWordsIn version rs c.in_ok-order.order.items) c.deref-6.ensures.value
     (subst (λ (ps : List Placed). HasWordsIn version c.deref-6.result.now ps) c.deref-7.ensures.value
     c.least_version.ensures.words.1) in
-    let least : HasOpening One keys → HasWordsIn One history.calls c.in_ok-order.order.items → version ≡ One =
-    λ o w. c.least_version.ensures.least
+    let left = c.args.calls.keys.items in
+    let room : length left ≤ most_keys version =
+    subst (λ (ks : List ℕ). length ks ≤ most_keys version) c.deref-8.ensures.value c.least_version.ensures.room in
+    let least : HasOpening One keys → HasWordsIn One history.calls c.in_ok-order.order.items → length left ≤ MOST_KEYS
+    → version ≡ One =
+    λ o w k. c.least_version.ensures.least
     (subst (λ (ks : List ℕ). HasOpening One ks) (sym c.deref-5.ensures.value) o)
     (subst (λ (rs : List CallRecord). HasWordsIn One rs c.deref-7.result.now) (sym c.deref-6.ensures.value)
-    (subst (λ (ps : List Placed). HasWordsIn One history.calls ps) (sym c.deref-7.ensures.value) w)) in
+    (subst (λ (ps : List Placed). HasWordsIn One history.calls ps) (sym c.deref-7.ensures.value) w))
+    (subst (λ (ks : List ℕ). length ks ≤ MOST_KEYS) (sym c.deref-8.ensures.value) k) in
     let R : HistoryValue → ReportValue = λ h. record {
       version = version;
       kind = c.args.calls.kind;
@@ -65,7 +72,8 @@ returns-clause-told c =
     } in
     let has : HasLeastVersion (R c.from_calls.result) = subst (λ (h : HistoryValue). HasLeastVersion (R h)) (sym is) (record {
       words = record { opening = opening; words = words };
-      least = λ h. least h.opening h.words;
+      room = room;
+      least = λ h k. least h.opening h.words k;
     }) in
     reported (view c.args.calls) xs c.requires turn (R c.from_calls.result) has refl (ap (λ (h : HistoryValue). h.opening) is) refl
     (ap (λ (h : HistoryValue). h.calls) is ∙ c.in_ok-records.ensures

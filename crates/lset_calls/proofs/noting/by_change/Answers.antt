@@ -1,8 +1,0 @@
-use Rattle.std.proofs.Common.{rules}
-use Rattle.std.proofs.lemmas.List.Sorted.{IsNonDecreasingBy-from_sort_by_key}
-use Rattle.lset_calls.specs.Noting.{changed_or_none}
-use Rattle.lset_calls.proofs.noting.by_change.Goals as goal
-
-pub returns-clause-sorted : goal.returns-clause-sorted
-returns-clause-sorted c = IsNonDecreasingBy-from_sort_by_key changed_or_none c.sort_by_key.new.self.items
-    c.in_ok-sort_by_key.ensures.sorted (λ a r q k. search rules)
