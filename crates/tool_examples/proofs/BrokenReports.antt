@@ -12,36 +12,36 @@ use Rattle.tool_examples.specs.declared.example.Example.TheVariants.{OpensWithKe
 use Rattle.tool_examples.specs.declared.example.Example.TheVariants.{TwoRemovers, Snip, TriesAgain, LeftInChain}
 use Rattle.tool_examples.specs.declared.example.Example.TheVariants.{CeilingMeetsMark, CeilingLeftInChain, BehindTheWalk}
 use Rattle.tool_examples.specs.declared.example.Example.TheVariants.{CeilingInAnothersStep, NothingInAnothersStep}
-use Rattle.tool_examples.specs.Examples.{broken_of, IsBrokenReport}
+use Rattle.tool_examples.specs.Examples.{broken_of, kind_of, IsBrokenReportOf}
 use Rattle.tool_examples.specs.declared.texts.TheConstants as texts
 use Rattle.tool_examples.proofs.ReadReports as read
 use Rattle.tool_examples.proofs.Unexplained as unexplained
 
--- a text that is read as a report which no order explains
-read_as : ReportsReadBack → (r : ReportValue) (own text : List ℕ) → reading own ≡ Ok r → IsUnexplained r.history r.keys
-    → Some own ≡ Some text → IsBrokenReport text
-read_as back r own text reads none is =
+-- a text that is read as a report on the example's list which no order explains
+read_as : ReportsReadBack → (e : Example) (r : ReportValue) (own text : List ℕ) → reading own ≡ Ok r → r.kind ≡ kind_of e
+    → IsUnexplained r.history r.keys → Some own ≡ Some text → IsBrokenReportOf e text
+read_as back e r own text reads kind none is =
     let found = (back r own).1 reads in
-    subst IsBrokenReport (ap (λ o. unwrap_or o []) is) (r, found.0, found.1, none)
+    subst (IsBrokenReportOf e) (ap (λ o. unwrap_or o []) is) (r, found.0, kind, found.1, none)
 
-is_broken_report : ReportsReadBack → (e : Example) (text : List ℕ) → broken_of e ≡ Some text → IsBrokenReport text
+is_broken_report : ReportsReadBack → (e : Example) (text : List ℕ) → broken_of e ≡ Some text → IsBrokenReportOf e text
 is_broken_report back SameGap text is =
-    read_as back read.same_gap texts.SAME_GAP_BROKEN.now text read.reads_same_gap unexplained.same_gap_is_unexplained
+    read_as back SameGap read.same_gap texts.SAME_GAP_BROKEN.now text read.reads_same_gap refl unexplained.same_gap_is_unexplained
     is
 is_broken_report back StalePred text is =
-    read_as back read.stale_pred texts.STALE_PRED_BROKEN.now text read.reads_stale_pred
+    read_as back StalePred read.stale_pred texts.STALE_PRED_BROKEN.now text read.reads_stale_pred refl
     unexplained.stale_pred_is_unexplained is
 is_broken_report back TwoRemovers text is =
-    read_as back read.two_removers texts.TWO_REMOVERS_BROKEN.now text read.reads_two_removers
+    read_as back TwoRemovers read.two_removers texts.TWO_REMOVERS_BROKEN.now text read.reads_two_removers refl
     unexplained.two_removers_is_unexplained is
 is_broken_report back Snip text is =
-    read_as back read.snip texts.SNIP_BROKEN.now text read.reads_snip unexplained.snip_is_unexplained is
+    read_as back Snip read.snip texts.SNIP_BROKEN.now text read.reads_snip refl unexplained.snip_is_unexplained is
 is_broken_report back LeftInChain text is =
-    read_as back read.left_in_chain texts.LEFT_IN_CHAIN_BROKEN.now text read.reads_left_in_chain
+    read_as back LeftInChain read.left_in_chain texts.LEFT_IN_CHAIN_BROKEN.now text read.reads_left_in_chain refl
     unexplained.left_in_chain_is_unexplained is
 is_broken_report back CeilingLeftInChain text is =
-    read_as back read.ceiling_left_in_chain texts.CEILING_LEFT_IN_CHAIN_BROKEN.now text
-    read.reads_ceiling_left_in_chain unexplained.ceiling_left_in_chain_is_unexplained is
+    read_as back CeilingLeftInChain read.ceiling_left_in_chain texts.CEILING_LEFT_IN_CHAIN_BROKEN.now text
+    read.reads_ceiling_left_in_chain refl unexplained.ceiling_left_in_chain_is_unexplained is
 is_broken_report back FailedTries text is = absurd (cc is)
 is_broken_report back Full text is = absurd (cc is)
 is_broken_report back HandOverHand text is = absurd (cc is)
@@ -56,6 +56,6 @@ is_broken_report back BehindTheWalk text is = absurd (cc is)
 is_broken_report back NothingInAnothersStep text is = absurd (cc is)
 
 pub is_broken_report_text : ReportsReadBack → (e : Example) (o : Option (Bor (List ℕ))) → option_copied o ≡ broken_of e
-    → IfSome o (λ text. IsBrokenReport text.now)
+    → IfSome o (λ text. IsBrokenReportOf e text.now)
 is_broken_report_text back e None is = tt
 is_broken_report_text back e (Some text) is = is_broken_report back e text.now (sym is)

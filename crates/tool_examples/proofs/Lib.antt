@@ -1,3 +1,4 @@
+pub mod Plans
 pub mod Listed
 pub mod ReadReports
 pub mod Unexplained

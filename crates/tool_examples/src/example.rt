@@ -2,9 +2,12 @@ ghost use Rattle.std.specs.Prelude.{◌≡◌, Some, IfSome};
 ghost use Rattle.std.specs.Option.{option_copied};
 ghost use Rattle.tool_examples.specs.Examples.{
   name_of,
+  kind_of,
+  about_of,
   text_of,
   broken_of,
-  IsBrokenReport,
+  IsScheduleOf,
+  IsBrokenReportOf,
   NamesAreDistinct,
   EachIsListed,
 };
@@ -87,7 +90,9 @@ impl Example {
     }
 
     /// The list that it is about.
-    pub fn kind(self) -> Kind {
+    pub fn kind(self) -> Kind
+        ensures { result ≡ kind_of self }
+    {
         match self {
             Example::FailedTries | Example::Full => Kind::Coarse,
             Example::HandOverHand => Kind::Fine,
@@ -109,7 +114,9 @@ impl Example {
     }
 
     /// What happens in it, in half a line.
-    pub fn about(self) -> &'static str {
+    pub fn about(self) -> &'static str
+        ensures { result.now ≡ about_of self }
+    {
         match self {
             Example::FailedTries => "two adds of one key: the second's tries of the lock fail",
             Example::Full => "an add beyond its thread's quota; a remove gives no slot back",
@@ -147,6 +154,13 @@ impl Example {
 
     /// The text of its schedule, on the list that it is about.
     pub fn schedule_text(self) -> &'static str
+        ensures constant { result.now ≡ text_of self }
+        ensures schedule { IsScheduleOf self result.now }
+    {
+        self.schedule_constant()
+    }
+
+    fn schedule_constant(self) -> &'static str
         ensures { result.now ≡ text_of self }
     {
         match self {
@@ -175,7 +189,7 @@ impl Example {
     /// that have one. No order explains its calls and keys, whether the one that stands there, which `check` refuses, or another.
     pub fn broken_report_text(self) -> Option<&'static str>
         ensures constant { option_copied result ≡ broken_of self }
-        ensures report { IfSome result (λ text. IsBrokenReport text.now) }
+        ensures report { IfSome result (λ text. IsBrokenReportOf self text.now) }
     {
         reports_read_back();
         self.broken_constant()
