@@ -17,7 +17,7 @@ use Rattle.lset_history.proofs.Lists.{all_imply}
 use Rattle.lset_calls.specs.declared.value.TimedCall.{TimedCall}
 use Rattle.lset_words.specs.declared.Call.{Call}
 use Rattle.lset_calls.specs.Calls.{CallsValue, AreCalls, IsCall, traced, ends_after, changed_by, may_change, is_true}
-use Rattle.lset_calls.specs.Noting.{DifferFrom}
+use Rattle.lset_calls.specs.Noting.{DifferFrom, ChangeApart}
 use Rattle.lset_calls.specs.Turns.{turn_by, turn_moment, TurnsApart}
 use Rattle.lset_calls.specs.Clashes.{moments_of, point_moments, end_moments, call_at, no_call, EndedBefore}
 use Rattle.lset_calls.specs.Clashes.{Clash}
@@ -145,6 +145,11 @@ module _ (x y : TimedCall) (t : IsTimed y) (n : AreApart x y) (l : x.begun ≤ y
       not_after = ends_late y y.begun x.begun (omega (arith, strictly)) t.end;
     })))
   ]
+
+  pub changes_apart : ChangeApart (traced x) (traced y)
+  changes_apart = differ (traced x).changed (traced y).changed (λ at a b.
+      no_moment_of_both at (point_in x.begun x.point x.ended at (point_of x.call x.point x.ended at a))
+      (point_in y.begun y.point y.ended at (point_of y.call y.point y.ended at b)))
 
   pub turns_apart : TurnsApart x y
   turns_apart = differ (turn_moment x) (turn_moment y) (λ at a b.

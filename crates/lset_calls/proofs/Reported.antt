@@ -20,8 +20,8 @@ use Rattle.lset_calls.specs.Turns.{TurnsApart}
 use Rattle.lset_calls.specs.Reports.{contents, counts, StandsGiven, IsUpTo, IsPlacedUpTo, HasLeastVersion, IsReportOf}
 use Rattle.lset_calls.specs.Sorted.{AreInTurn}
 use Rattle.lset_calls.proofs.Entries.{IsTimed}
-use Rattle.lset_calls.proofs.InTurn.{few_threads, apart, each, each_timed, point_of, strictly, ended_first, turns_apart}
-use Rattle.lset_calls.proofs.Noted.{if_some_from, if_some_at, pairs_mapped, changes_apart_by_turns}
+use Rattle.lset_calls.proofs.InTurn.{few_threads, apart, each, each_timed, point_of, strictly, ended_first, changes_apart, turns_apart}
+use Rattle.lset_calls.proofs.Noted.{if_some_from, if_some_at, pairs_mapped}
 use Rattle.lset_calls.proofs.Counted.{IsChangeInside, counts_are, counted_here}
 use Rattle.lset_calls.proofs.Standings.{AreAsIn, same_standing, place_upto}
 
@@ -67,7 +67,8 @@ module _ (c : CallsValue) (xs : List TimedCall) (are : AreCalls c) (turn : AreIn
       (apart c xs are turn i j d l m) (turn.rising i j d (omega arith) m)
 
   apart_changes : AllPairs (λ (x y : TimedCall). ChangeApart (traced x) (traced y)) xs
-  apart_changes i j d l m = changes_apart_by_turns (get_or xs i d) (get_or xs j d) (apart_turns i j d l m)
+  apart_changes i j d l m = changes_apart (get_or xs i d) (get_or xs j d) (each_timed c xs are turn j d m)
+      (apart c xs are turn i j d l m) (turn.rising i j d (omega arith) m)
 
   rises : AllPairs (λ (x y : TimedCall). x.begun < y.begun) xs
   rises i j d l m = strictly (get_or xs i d) (get_or xs j d) (each_timed c xs are turn j d m)
