@@ -15,27 +15,13 @@ def listed(counts):
 
 
 def wrong_bodies(top):
-    """The mutants of the gate, each with what it stands for; and the planted ones in number, with what refused them, and how many of
-    those verdicts are over these sources."""
+    """The mutants of the gate: what each breaks, by crate."""
     sys.path.insert(0, str(top / "mutants"))
     import mutants
-    import reached
 
-    gate, planted = mutants.all_of("gate"), mutants.all_of("planted")
+    gate = mutants.all_of("gate")
     rows = [f"| `{crate}` | {'; '.join(it.guards for it in of.values())} |" for crate, of in gate.items()]
-    lines = (top / "mutants" / "tried.tsv").read_text(encoding="utf-8").splitlines()[1:]
-    told = {(crate, name): (kind, total) for crate, name, kind, _, total, _ in (line.split("\t") for line in lines)}
-    tried, fresh = collections.Counter(), 0
-    for crate, of in planted.items():
-        for name, it in of.items():
-            kind, total = told.get((crate, name), ("not tried", ""))
-            tried[kind] += 1
-            fresh += total == reached.sum_of(it)
-    kinds = {"clause": "refused by a clause", "written answer": "refused only since a written answer no longer fits"}
-    refusals = ", ".join(f"{count} {kinds.get(kind, kind)}" for kind, count in tried.most_common())
-    return "\n".join([
-        f"| Crate | What each of the {sum(map(len, gate.values()))} in the gate breaks |", "|---|---|", *rows, "",
-        f"Planted: {tried.total()}: {refusals}; {fresh} of these verdicts are over the sources as they are."])
+    return "\n".join([f"| Crate | What each of the {sum(map(len, gate.values()))} in the gate breaks |", "|---|---|", *rows])
 
 
 def tests(top):
