@@ -1,0 +1,77 @@
+"""Each command that CONTRIBUTING.md names runs. Those that a step of `./gate` or `./gate --quick` makes are left to that step; those of
+`rt` are made in a small crate, and the others in a copy of the repository.
+"""
+
+import re
+import shutil
+import subprocess
+
+from harness.cases import TOP, Wrong, cases, once
+
+SECONDS = 600
+COMMAND = re.compile(r"`(rt \w[^`]*|git grep [^`]*|(?:\./gate|\./listset|(?:build|docs/make|mutants|page|tests)/\w+)(?: [^`]+)?)`")
+# what stands in the page for what a reader has
+GIVEN = {"FUNCTION": "half", "WORDS": "example", "PAGE": "words", "the text": "out of memory"}
+SMALL = """//! A small crate.
+#![tactic(auto)]
+
+ghost use Rattle.std.specs.Prelude.{◌≡◌, ◌/◌};
+
+/// One half of a number.
+pub fn half(number: u32) -> u32
+    ensures { result ≡ number / 2 }
+{
+    number / 2
+}
+"""
+
+
+def commands():
+    """The commands in the page's text."""
+    text = re.sub(r"^    .*$|^```[\s\S]*?^```", "", (TOP / "CONTRIBUTING.md").read_text(encoding="utf-8"), flags=re.M)
+    return {it: (it,) for it in COMMAND.findall(text)}
+
+
+def steps(_room):
+    """What the two gates run."""
+    return "".join(subprocess.run([TOP / "gate", *quick, "--steps"], stdout=subprocess.PIPE, text=True, check=True, timeout=SECONDS).stdout
+                   for quick in ([], ["--quick"]))
+
+
+def copy(room):
+    """A copy of the repository without what was built."""
+    return shutil.copytree(TOP, room / "copy", symlinks=True, ignore=shutil.ignore_patterns("out", ".git", "__pycache__"))
+
+
+def small(room):
+    """The folder of a small crate, in a repository of its own."""
+    source = room / "small" / "crates" / "half" / "src"
+    source.mkdir(parents=True)
+    (room / "small" / ".git").mkdir()
+    (room / "small" / "crates.txt").write_text("half:\n")
+    (room / "small" / "HANDLES").write_text("Handles allowed: none.\n")
+    (source / "lib.rt").write_text(SMALL)
+    return source.parent
+
+
+def with_program(tree, program):
+    """The copy, with the program in the place of the proved one."""
+    built = tree / "crates/listset/out/listset"
+    built.parent.mkdir(exist_ok=True)
+    if not built.is_symlink():
+        built.symlink_to(program)
+    return tree
+
+
+@cases(commands)
+def command_of_the_page_runs(case, command):
+    if re.sub(r" [A-Z/]+$", "", command) in once(steps) and not command.startswith("./gate"):
+        return
+    for word, it in GIVEN.items():
+        command = command.replace(word, it)
+    if command.startswith("./gate"):
+        command += " --steps"
+    folder = once(small) if command.startswith("rt ") else TOP if command.startswith("git ") else with_program(once(copy), case.program)
+    done = subprocess.run(["bash", "-c", command], cwd=folder, stdin=subprocess.DEVNULL, capture_output=True, text=True, timeout=SECONDS)
+    if done.returncode:
+        raise Wrong(f"status {done.returncode}: {done.stdout[-1000:]}{done.stderr[-1000:]}")
