@@ -1,6 +1,6 @@
 // The address of a schedule, as #list=lazy&threads=2&quota=4&s=b0.add.5,g0.11&event=12, of an example, as #example=snip&event=17,
 // of a course of lessons, as #course=.. with its text packed, or of two lists side by side. With &view=lecture, list or history it
-// shows only that; with &lacks=3 the schedule is run on the third of the lists that lack a check, whose name would tell too much.
+// shows only that; with &lacks=3 the schedule is run on the third broken list, whose name would tell too much.
 // An address is made a text again; whether that is a schedule says the engine.
 "use strict";
 
@@ -70,7 +70,7 @@ const exampleAddress = (name, event) => `#example=${name}&event=${event}`;
 function readAddress(hash) {
   const { view = null, course = null, lacks: number, ...parts } = partsOf(hash);
   const lacks = number === undefined ? null : Object.keys(LACKING)[number - 1];
-  if (lacks === undefined) throw new AddressFault(`there is no list ${number} that lacks a check`);
+  if (lacks === undefined) throw new AddressFault(`there is no broken list ${number}`);
   const named = { example: parts.example ?? null, text: null, event: Number(parts.event ?? 0), view, course, sides: null, lacks };
   if (parts.sides !== undefined) return { ...named, sides: parts };
   const ofSchedule = Object.keys(parts).filter((name) => name !== "event" && name !== "example");

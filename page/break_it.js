@@ -21,10 +21,10 @@ const NO_TASK = "mark-in-contains";
 const isToldOf = (lacks, { kind }) => kind === "broken" || (kind === "points" && UNCOUNTED.includes(lacks));
 const isTaskDone = (lacks, verdict) => isToldOf(lacks, verdict) && lacks !== NO_TASK;
 
-// What a function of the engine says of a schedule, on the whole list or on one that lacks a check.
+// What a function of the engine says of a schedule, on the whole list or on a broken one.
 const askList = (ask, name, lacks, ...texts) => (lacks === null ? ask(name, ...texts) : ask(`${name}_lacking`, lacks, ...texts));
 
-// The names of the lists of this kind that lack a check.
+// The names of the broken lists of this kind.
 const lackingOf = (kind) => Object.keys(LACKING).filter((name) => LACKING[name] === kind);
 
 // What such a list is called, which does not tell what it lacks.

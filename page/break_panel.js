@@ -1,4 +1,4 @@
-// The box of "Break it", while the run of a list that lacks a check is shown: the verdict on the schedule, where the whole list
+// The box of "Break it", while the run of a broken list is shown: the verdict on the schedule, where the whole list
 // departs from it once it is broken, and the line that is handed in.
 "use strict";
 
@@ -53,7 +53,7 @@ function keepBroken(trace) {
   fillBreaks();
 }
 
-// The lists that lack a check, in the list of what can be opened, with a tick at each that was broken.
+// The broken lists, in the list of what can be opened, with a tick at each that was broken.
 function fillBreaks() {
   const broken = new Set(brokenLines().map(([name]) => name));
   const textOf = (name) => `${broken.has(name) ? "✓ " : ""}${titleOfLacking(name)}`;
@@ -64,12 +64,12 @@ function openLacking(name, schedule, told = "") {
   openText(schedule, eventsAsked(schedule), works.newName(titleOfLacking(name)), told, name);
 }
 
-// An example's schedule on a list of its kind that lacks the check, as far as that list can go on with it.
+// An example's schedule on the broken list of its kind, as far as that list can go on with it.
 function openWithoutCheck() {
   const [name] = CLASSICS[page.example].lacks;
   const example = exampleText(page.example);
   const trace = new Trace(askNow("listset_trace_lacking", name, example).text, versionOf(example));
-  openLacking(name, scheduleOfTrace(trace), "The same schedule, on a list that lacks the check.");
+  openLacking(name, scheduleOfTrace(trace), "The same schedule, on a list without the check.");
 }
 
 function listenToBreaking() {

@@ -6,7 +6,7 @@
 //     node page/check_lessons.js --link COURSE     the part of a link that opens the course on the page
 //
 // A file may have courses and texts of many students, as they came by mail (hand_in.js). Without a course the lessons are those of
-// book.course. Each schedule is run by the proved replayer, each order is judged by the proved check, and a list that lacks a check
+// book.course. Each schedule is run by the proved replayer, each order is judged by the proved check, and a broken list
 // is broken where counting refutes the run, as the module of this folder.
 // The status is 0 where nothing is missing, 1 where something is, 2 where the words are wrong, a file cannot be read or has no such
 // text, and 70 where there is no engine.

@@ -3,8 +3,8 @@
 "use strict";
 
 const CODE = {
-  "crates/lset_locked_loops/src/coarse.rt": [
-    { name: "walk", first: 15, steps: [{"line": 25, "rows": [2]}, {"line": 27, "rows": [3]}, {"line": 31, "rows": [4]}], calls: [], text: `
+  "crates/lset_loops/src/coarse.rt": [
+    { name: "walk", first: 16, steps: [{"line": 26, "rows": [2]}, {"line": 28, "rows": [3]}, {"line": 32, "rows": [4]}], calls: [], text: `
 /// Walks from the head to the first key that is not below that of the call.
 fn walk<O: Origin, P: Pause, N: Rounds>(
     caller: &Caller<CoarseList, O, P>,
@@ -27,7 +27,7 @@ fn walk<O: Origin, P: Pause, N: Rounds>(
     }
     None
 }` },
-    { name: "act", first: 38, steps: [{"line": 49, "rows": [5, 6, 7]}, {"line": 53, "rows": [8]}, {"line": 54, "rows": [9]}], calls: [], text: `
+    { name: "act", first: 39, steps: [{"line": 50, "rows": [5, 6, 7]}, {"line": 54, "rows": [8]}, {"line": 55, "rows": [9]}], calls: [], text: `
 /// Does what the call does at the key that was found.
 fn act<O: Origin, P: Pause>(
     caller: &Caller<CoarseList, O, P>,
@@ -50,7 +50,7 @@ fn act<O: Origin, P: Pause>(
         Decision::Answer(reply) => (caller.slots, reply),
     }
 }` },
-    { name: "make", first: 61, steps: [{"line": 80, "rows": [1]}, {"line": 83, "rows": [10]}], calls: [[81, "walk"], [82, "act"]], text: `
+    { name: "make", first: 62, steps: [{"line": 81, "rows": [1]}, {"line": 84, "rows": [10]}], calls: [[82, "walk"], [83, "act"]], text: `
 fn make<O: Origin, P: Pause, N: Rounds>(
     table: &Words<CoarseList>,
     place: &mut TableSeat,
@@ -77,8 +77,8 @@ fn make<O: Origin, P: Pause, N: Rounds>(
     Some(answer)
 }` },
   ],
-  "crates/lset_locked_loops/src/fine.rt": [
-    { name: "walk", first: 16, steps: [{"line": 26, "rows": [2]}, {"line": 28, "rows": [3]}, {"line": 29, "rows": [4]}, {"line": 33, "rows": [5]}, {"line": 34, "rows": [6]}], calls: [], text: `
+  "crates/lset_loops/src/fine.rt": [
+    { name: "walk", first: 17, steps: [{"line": 27, "rows": [2]}, {"line": 29, "rows": [3]}, {"line": 30, "rows": [4]}, {"line": 34, "rows": [5]}, {"line": 35, "rows": [6]}], calls: [], text: `
 /// Walks hand over hand from the head, which is locked, to the first key that is not below that of the call.
 fn walk<O: Origin, P: Pause, N: Rounds>(
     caller: &Caller<FineList, O, P>,
@@ -103,7 +103,7 @@ fn walk<O: Origin, P: Pause, N: Rounds>(
     }
     None
 }` },
-    { name: "act", first: 41, steps: [{"line": 52, "rows": [7, 8, 9]}, {"line": 56, "rows": [10]}, {"line": 57, "rows": [11]}], calls: [], text: `
+    { name: "act", first: 42, steps: [{"line": 53, "rows": [7, 8, 9]}, {"line": 57, "rows": [10]}, {"line": 58, "rows": [11]}], calls: [], text: `
 /// Does what the call does at the key that was found, between two nodes that it has locked.
 fn act<O: Origin, P: Pause>(
     caller: &Caller<FineList, O, P>,
@@ -126,7 +126,7 @@ fn act<O: Origin, P: Pause>(
         Decision::Answer(reply) => (caller.slots, reply),
     }
 }` },
-    { name: "make", first: 64, steps: [{"line": 83, "rows": [1]}, {"line": 86, "rows": [12]}, {"line": 87, "rows": [13]}], calls: [[84, "walk"], [85, "act"]], text: `
+    { name: "make", first: 65, steps: [{"line": 84, "rows": [1]}, {"line": 87, "rows": [12]}, {"line": 88, "rows": [13]}], calls: [[85, "walk"], [86, "act"]], text: `
 fn make<O: Origin, P: Pause, N: Rounds>(
     table: &Words<FineList>,
     place: &mut TableSeat,
@@ -154,8 +154,8 @@ fn make<O: Origin, P: Pause, N: Rounds>(
     Some(answer)
 }` },
   ],
-  "crates/lset_locked_loops/src/optimistic.rt": [
-    { name: "walk", first: 22, steps: [{"line": 37, "rows": [2]}, {"line": 42, "rows": [3]}], calls: [], text: `
+  "crates/lset_loops/src/optimistic.rt": [
+    { name: "walk", first: 23, steps: [{"line": 38, "rows": [2]}, {"line": 43, "rows": [3]}], calls: [], text: `
 /// Walks from the head, whose link led to \`first\`, to the first key that is not below that of the call.
 #[inline(always)]
 fn walk<O: Origin, P: Pause, N: Rounds>(
@@ -183,7 +183,7 @@ fn walk<O: Origin, P: Pause, N: Rounds>(
     }
     None
 }` },
-    { name: "reaches", first: 50, steps: [{"line": 68, "rows": [6]}, {"line": 70, "rows": [7]}], calls: [], text: `
+    { name: "reaches", first: 51, steps: [{"line": 69, "rows": [6]}, {"line": 71, "rows": [7]}], calls: [], text: `
 /// Walks a second time from the head, as far as \`pred\`. Answers whether it came there: not where it saw a key above that of
 /// \`pred\`.
 #[inline(always)]
@@ -214,7 +214,7 @@ fn reaches<O: Origin, P: Pause, N: Rounds>(
     }
     None
 }` },
-    { name: "validate", first: 81, steps: [{"line": 94, "rows": [8]}], calls: [[91, "reaches"]], text: `
+    { name: "validate", first: 82, steps: [{"line": 95, "rows": [8]}], calls: [[92, "reaches"]], text: `
 /// Whether \`pred\` is still in the list and leads to \`curr\`, both of which are locked.
 fn validate<O: Origin, P: Pause, N: Rounds>(
     caller: &Caller<OptimisticList, O, P>,
@@ -234,7 +234,7 @@ fn validate<O: Origin, P: Pause, N: Rounds>(
     }
     Some(true)
 }` },
-    { name: "act", first: 101, steps: [{"line": 112, "rows": [9, 10, 11]}, {"line": 116, "rows": [12]}, {"line": 117, "rows": [13]}], calls: [], text: `
+    { name: "act", first: 102, steps: [{"line": 113, "rows": [9, 10, 11]}, {"line": 117, "rows": [12]}, {"line": 118, "rows": [13]}], calls: [], text: `
 /// Does what the call does at the key that was found, between two nodes that it has locked.
 fn act<O: Origin, P: Pause>(
     caller: &Caller<OptimisticList, O, P>,
@@ -257,7 +257,7 @@ fn act<O: Origin, P: Pause>(
         Decision::Answer(reply) => (caller.slots, reply),
     }
 }` },
-    { name: "make", first: 124, steps: [{"line": 143, "rows": [1], "begins": true, "answers": false}, {"line": 147, "rows": [4]}, {"line": 148, "rows": [5]}, {"line": 151, "rows": [14], "begins": false, "answers": true}, {"line": 152, "rows": [15], "begins": false, "answers": true}, {"line": 155, "rows": [14], "begins": false, "answers": false}, {"line": 156, "rows": [15], "begins": false, "answers": false}, {"line": 157, "rows": [1], "begins": false, "answers": false}], calls: [[145, "walk"], [149, "validate"], [150, "act"]], text: `
+    { name: "make", first: 125, steps: [{"line": 144, "rows": [1], "begins": true, "answers": false}, {"line": 148, "rows": [4]}, {"line": 149, "rows": [5]}, {"line": 152, "rows": [14], "begins": false, "answers": true}, {"line": 153, "rows": [15], "begins": false, "answers": true}, {"line": 156, "rows": [14], "begins": false, "answers": false}, {"line": 157, "rows": [15], "begins": false, "answers": false}, {"line": 158, "rows": [1], "begins": false, "answers": false}], calls: [[146, "walk"], [150, "validate"], [151, "act"]], text: `
 fn make<O: Origin, P: Pause, N: Rounds>(
     table: &Words<OptimisticList>,
     place: &mut TableSeat,
@@ -297,7 +297,7 @@ fn make<O: Origin, P: Pause, N: Rounds>(
 }` },
   ],
   "crates/lset_loops/src/lazy.rt": [
-    { name: "walk", first: 17, steps: [{"line": 31, "rows": [2]}, {"line": 35, "rows": [3]}], calls: [], text: `
+    { name: "walk", first: 18, steps: [{"line": 32, "rows": [2]}, {"line": 36, "rows": [3]}], calls: [], text: `
 /// Walks from the head, whose link led to \`first\`, to the first key that is not below that of the call.
 #[inline(always)]
 fn walk<O: Origin, P: Pause, N: Rounds>(
@@ -322,7 +322,7 @@ fn walk<O: Origin, P: Pause, N: Rounds>(
     }
     None
 }` },
-    { name: "validate", first: 42, steps: [{"line": 51, "rows": [6]}, {"line": 55, "rows": [7]}], calls: [], text: `
+    { name: "validate", first: 43, steps: [{"line": 52, "rows": [6]}, {"line": 56, "rows": [7]}], calls: [], text: `
 /// Whether \`pred\` leads to \`curr\`, and neither has a mark: then the answer is the node behind \`curr\`.
 fn validate<O: Origin, P: Pause>(
     caller: &Caller<LazyList, O, P>,
@@ -342,7 +342,7 @@ fn validate<O: Origin, P: Pause>(
     }
     Some(Node::behind(after))
 }` },
-    { name: "act", first: 62, steps: [{"line": 74, "rows": [8, 9, 10]}, {"line": 78, "rows": [11]}, {"line": 79, "rows": [12]}], calls: [], text: `
+    { name: "act", first: 63, steps: [{"line": 75, "rows": [8, 9, 10]}, {"line": 79, "rows": [11]}, {"line": 80, "rows": [12]}], calls: [], text: `
 /// Does what the call does at the key that was found, between two nodes that it has locked.
 fn act<O: Origin, P: Pause>(
     caller: &Caller<LazyList, O, P>,
@@ -366,7 +366,7 @@ fn act<O: Origin, P: Pause>(
         Decision::Answer(reply) => (caller.slots, reply),
     }
 }` },
-    { name: "make", first: 86, steps: [{"line": 106, "rows": [1], "begins": true, "answers": false}, {"line": 109, "rows": [4]}, {"line": 110, "rows": [5]}, {"line": 114, "rows": [13], "begins": false, "answers": true}, {"line": 115, "rows": [14], "begins": false, "answers": true}, {"line": 119, "rows": [13], "begins": false, "answers": false}, {"line": 120, "rows": [14], "begins": false, "answers": false}, {"line": 121, "rows": [1], "begins": false, "answers": false}], calls: [[108, "walk"], [111, "validate"], [113, "act"]], text: `
+    { name: "make", first: 87, steps: [{"line": 107, "rows": [1], "begins": true, "answers": false}, {"line": 110, "rows": [4]}, {"line": 111, "rows": [5]}, {"line": 115, "rows": [13], "begins": false, "answers": true}, {"line": 116, "rows": [14], "begins": false, "answers": true}, {"line": 120, "rows": [13], "begins": false, "answers": false}, {"line": 121, "rows": [14], "begins": false, "answers": false}, {"line": 122, "rows": [1], "begins": false, "answers": false}], calls: [[109, "walk"], [112, "validate"], [114, "act"]], text: `
 fn make<O: Origin, P: Pause, N: Rounds>(
     table: &Words<LazyList>,
     place: &mut TableSeat,
@@ -449,7 +449,7 @@ fn make<M: ReadsByRows, O: Origin, P: Pause>(
 }` },
   ],
   "crates/lset_loops/src/lock_free.rt": [
-    { name: "find", first: 16, steps: [{"line": 30, "rows": [2]}, {"line": 33, "rows": [3]}, {"line": 39, "rows": [1], "begins": false, "answers": false}, {"line": 42, "rows": [4]}], calls: [], text: `
+    { name: "find", first: 17, steps: [{"line": 31, "rows": [2]}, {"line": 34, "rows": [3]}, {"line": 40, "rows": [1], "begins": false, "answers": false}, {"line": 43, "rows": [4]}], calls: [], text: `
 /// Walks from the head, whose link led to \`first\`, to the first key that is not below that of the call, and takes marked
 /// nodes out on its way (Herlihy and Shavit's \`find\`).
 fn find<O: Origin, P: Pause, N: Rounds>(
@@ -486,7 +486,7 @@ fn find<O: Origin, P: Pause, N: Rounds>(
     }
     None
 }` },
-    { name: "attempt", first: 53, steps: [{"line": 65, "rows": [5, 6]}, {"line": 66, "rows": [7]}, {"line": 73, "rows": [8]}, {"line": 74, "rows": [9]}, {"line": 78, "rows": [10]}], calls: [], text: `
+    { name: "attempt", first: 54, steps: [{"line": 66, "rows": [5, 6]}, {"line": 67, "rows": [7]}, {"line": 74, "rows": [8]}, {"line": 75, "rows": [9]}, {"line": 79, "rows": [10]}], calls: [], text: `
 /// Does what the call does at the key that was found. \`None\` where a link was another by then.
 fn attempt<O: Origin, P: Pause>(
     caller: &Caller<LockFreeList, O, P>,
@@ -518,7 +518,7 @@ fn attempt<O: Origin, P: Pause>(
         Decision::Answer(reply) => Some((caller.slots, reply)),
     }
 }` },
-    { name: "make", first: 85, steps: [{"line": 105, "rows": [1], "begins": true, "answers": false}, {"line": 110, "rows": [1], "begins": false, "answers": false}], calls: [[107, "find"], [108, "attempt"]], text: `
+    { name: "make", first: 86, steps: [{"line": 106, "rows": [1], "begins": true, "answers": false}, {"line": 111, "rows": [1], "begins": false, "answers": false}], calls: [[108, "find"], [109, "attempt"]], text: `
 fn make<O: Origin, P: Pause, N: Rounds>(
     table: &Words<LockFreeList>,
     place: &mut TableSeat,
@@ -553,9 +553,9 @@ fn make<O: Origin, P: Pause, N: Rounds>(
 };
 
 const CODE_OF = {
-  "coarse": ["crates/lset_locked_loops/src/coarse.rt"],
-  "fine": ["crates/lset_locked_loops/src/fine.rt"],
-  "optimistic": ["crates/lset_locked_loops/src/optimistic.rt"],
+  "coarse": ["crates/lset_loops/src/coarse.rt"],
+  "fine": ["crates/lset_loops/src/fine.rt"],
+  "optimistic": ["crates/lset_loops/src/optimistic.rt"],
   "lazy": ["crates/lset_loops/src/lazy.rt", "crates/lset_loops/src/reads.rt"],
   "lock-free": ["crates/lset_loops/src/lock_free.rt", "crates/lset_loops/src/reads.rt"],
 };

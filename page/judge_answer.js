@@ -19,7 +19,7 @@ const LEVELS = {
   claim: { task: "May a set answer this? Give an order that explains the report, or say that there is none.", hidden: [] },
 };
 
-// A report's calls, order, keys and header. The text is the engine's own, of a whole list or of one that lacks a check.
+// A report's calls, order, keys and header. The text is the engine's own, of a whole list or of a broken one.
 function exerciseOf(text, level, isWhole = true) {
   const lines = text.trimEnd().split("\n");
   const linesOf = (word) => lines.filter((line) => line.startsWith(`${word} `));
@@ -129,8 +129,8 @@ function verdictOnClaim(ask, { isWhole, reportText }) {
   const there = "There is one: this is a run of a list that is proved to have an order for each of its runs. Find it.";
   if (isWhole) return said(false, there);
   const isCounted = ask("listset_show", reportText).text.includes(`\n${COUNTED}`);
-  if (isCounted) return said(true, "Right: no order explains this report (proved by counting). A list that lacks a check gave it.");
-  return said(null, "Counting does not tell: a list that lacks a check gave this report, and another order may explain it.");
+  if (isCounted) return said(true, "Right: no order explains this report (proved by counting). A broken list gave it.");
+  return said(null, "Counting does not tell: a broken list gave this report, and another order may explain it.");
 }
 
 function rightInWords(answer) {

@@ -31,7 +31,7 @@ function judged(ask, lesson, schedule) {
   return { isSolved, reason: null, conditions, deadEnd: isSolved ? null : deadEndIn(lesson, run) };
 }
 
-// What a solution shows, as the student reads it: the conditions of the goal, and of a list that lacks a check that it is broken.
+// What a solution shows, as the student reads it: the conditions of the goal, and of a broken list that the schedule breaks it.
 const conditionTexts = ({ goal, lacks }) =>
   [...goal.map(({ says }) => says), lacks === null ? undefined : TO_BREAK].filter((says) => says !== undefined);
 

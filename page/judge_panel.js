@@ -1,5 +1,5 @@
 // The panel in which the reader judges the run that is shown: it stands in the place of the history and of the order. The bars on
-// which points are put, the replies, the verdict. Of a list that lacks a check the report alone is judged, as a claim.
+// which points are put, the replies, the verdict. Of a broken list the report alone is judged, as a claim.
 "use strict";
 
 const JUDGED = "listset-judged"; // in the browser's storage: of each run and level the order that was right
@@ -13,7 +13,7 @@ class Judging {
     this.isOpen = false;
   }
 
-  // Begins an exercise of this level about the run that is shown. At the third the report may be that of a list without its check.
+  // Begins an exercise of this level about the run that is shown. At the third the report may be that of a broken list.
   begin(level) {
     if (page.lacks !== null) return this.take(exerciseOf(breaking.verdict.report, "claim", false));
     const broken = page.example === "" ? null : page.engine.ask("listset_broken_example", page.example);

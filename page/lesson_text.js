@@ -8,7 +8,7 @@ const LESSON_WORDS = {
   lesson: { form: /^[a-z][a-z0-9-]{0,40}$/, says: "a name of small letters, digits and -" },
   title: { form: /^.{1,80}$/, says: "a title of 1 to 80 letters" },
   list: { form: /^(coarse|fine|optimistic|lazy|lock-free)$/, says: "coarse, fine, optimistic, lazy or lock-free" },
-  lacks: { form: /^[a-z][a-z-]{0,40}$/, says: "the name of a list that lacks a check", isOptional: true },
+  lacks: { form: /^[a-z][a-z-]{0,40}$/, says: "the name of a broken list", isOptional: true },
   threads: { form: /^([1-9]|[1-5]\d|6[0-4])$/, says: "a number from 1 to 64" },
   quota: { form: /^(0|[1-9]\d{0,4})$/, says: "a number, the nodes that a thread may put in" },
   opening: { form: /^\d+( \d+)*$/, says: "keys, rising, with a space between", isOptional: true },

@@ -4,7 +4,7 @@ import re
 
 from make_rows import in_lines, plain
 
-LACKING = re.compile(r"^- `([a-z-]+)` \(([a-z-]+)\): ", re.M)  # a list that lacks a check: its name and its kind
+LACKING = re.compile(r"^- `([a-z-]+)` \(([a-z-]+)\): ", re.M)  # a broken list: its name and its kind
 PARAGRAPHS = {"question": "Question.", "turns_on": "Turns on.", "without": "Without it."}
 
 

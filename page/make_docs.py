@@ -1,5 +1,5 @@
 """Pages of docs/ as HTML, to be read beside the page: each picture leads into its run, moment by moment, each line of a trace to its
-event, each row of a table to an event of an example that makes it (traces.js), where one does, and each list that lacks a check into
+event, each row of a table to an event of an example that makes it (traces.js), where one does, and each broken list into
 the schedule that breaks it (examples/schedules/lacks).
 
 Of Markdown they have what those pages use: headings, paragraphs, lists, tables, blocks of code, and in a line code, bold, italic,
@@ -15,7 +15,7 @@ SPAN = re.compile(r"(`[^`]+`)|\[([^\]]+)\]\(([^)\s]+)\)|\*\*(.+?)\*\*|(?<![\w*])
 PICTURE = re.compile(r"[a-z-]+ list, \d+ threads?, quota \d+: \d+ calls? in (\d+) events?$")
 EVENT = re.compile(r"event \d+ line \d+ thread (\d+) (begin )?.*? pc (\d+)(?: |$)")
 FILE = re.compile(r"`examples/schedules/([a-z-]+)\.schedule`")
-LACKING = re.compile(r"`([a-z-]+)` \([a-z-]+\): ")  # how an item of CLASSIC.md begins that is of a list which lacks a check
+LACKING = re.compile(r"`([a-z-]+)` \([a-z-]+\): ")  # how an item of CLASSIC.md begins that is of a broken list
 NUMBER = re.compile(r"\d+")
 HEAD = """<!doctype html>
 <html lang="en">
@@ -121,7 +121,7 @@ class Document:
         return f"<{tag}>\n" + "".join(f"<li>{self.item(it)}</li>\n" for it in items) + f"</{tag}>\n"
 
     def item(self, text):
-        """An item; of a list that lacks a check its name leads into the schedule that breaks it, on that list, which the page knows by
+        """An item; of a broken list its name leads into the schedule that breaks it, on that list, which the page knows by
         its number."""
         found = LACKING.match(text)
         if not found or found[1] not in self.broken:

@@ -36,7 +36,7 @@ const page = {
   example: "", // whose text that is
   name: "", // under which a work is kept
   begun: "", // the text with which the work began
-  lacks: null, // the name of the list without a check on which it is run (break_it.js), or null
+  lacks: null, // the name of the broken list on which it is run (break_it.js), or null
   allThreads: false,
   hides: true, // what is to come
   view: null, // lecture, list or history, where only that is shown
@@ -218,7 +218,7 @@ function runText(text, at, told = "") {
 
 // Shows what the engine says of a text.
 function takeAnswer(answer, text, at, told) {
-  const source = page.lacks === null ? "run by the proved replayer" : "a run of a list that lacks a check";
+  const source = page.lacks === null ? "run by the proved replayer" : "a run of a broken list";
   if (answer.text.startsWith("listset-trace")) takeTrace(new Trace(answer.text, versionOf(text)), at, source);
   else tellLine(answer.text.trim());
   tell(works.isKept ? told : `${told} This browser keeps nothing: save the schedule before you leave the page.`);

@@ -34,7 +34,7 @@ const undo = () => exchangeWork(work.before, work.after);
 const redo = () => exchangeWork(work.after, work.before);
 
 // From now on what the reader makes is kept under this name, once it is another text than the one with which it began; it is run
-// on the whole list, or on one that lacks a check.
+// on the whole list, or on a broken one.
 function takeName(name, begun, lacks = null) {
   keepWork();
   Object.assign(page, { name, begun, lacks });

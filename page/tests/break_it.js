@@ -1,4 +1,4 @@
-// node tests/break_it.js: lists that lack a check, each broken by a schedule of examples/schedules/lacks, as docs/CLASSIC.md says; drafts on
+// node tests/break_it.js: broken lists, each broken by a schedule of examples/schedules/lacks, as docs/CLASSIC.md says; drafts on
 // them, what is handed in, and a lesson that has one. Prints how many checks passed, and what failed, as JSON.
 "use strict";
 
@@ -88,7 +88,7 @@ function checkCounts(ask) {
   check(`nor that of another thread: ${other}`, other.includes("add(5) of t0 answers full, and its thread had put in 1 of the 2 keys"));
 }
 
-// A draft's line stands for the steps of the list that lacks the check, and is refused as the engine refuses that of a whole list.
+// A draft's line stands for the steps of the broken list, and is refused as the engine refuses that of a whole list.
 function checkDrafts(ask) {
   const drafted = (name, lines) => inPage("scheduleOfDraft")(ask, `${startOf(name)}${lines.join("\n")}\n`, name);
   const lock = drafted("lock", ["begin 0 add 5", "go 0 to 7", "begin 1 add 4", "go 1 out", "go 0 out"]);
@@ -155,7 +155,7 @@ answer
   go 1 out
 `;
 
-// A lesson whose list lacks a check is solved where the list is broken; its goal may ask for more.
+// A lesson on a broken list is solved where the list is broken; its goal may ask for more.
 function checkLesson(ask) {
   const tried = (text) => inPage("triedCourse")(ask, text);
   const { lessons, faults } = tried(LESSON);

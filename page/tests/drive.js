@@ -249,7 +249,7 @@ const PARTS = {
   lessons: driveLessons,
   courses: driveCourses,
   judging: driveJudging,
-  "lists that lack a check": driveBreaking,
+  "broken lists": driveBreaking,
   views: driveViews,
   "a student's work": driveWork,
   "the same on a narrow screen": () => onScreen(390, 844, driveNarrow),

@@ -1,4 +1,4 @@
-// Drives "Break it" as a student does: each list that lacks a check is broken by the controls alone.
+// Drives "Break it" as a student does: each broken list is broken by the controls alone.
 "use strict";
 
 // What the student does, list by list: B begins a call, R goes on until a row, 1 makes a step, E goes on to the end of the call.
@@ -93,7 +93,7 @@ function driveBrokenExample() {
   check("an example that shows no check offers none", part("see-broken").hidden);
 }
 
-// A lesson whose list lacks a check is begun and solved like any other.
+// A lesson on a broken list is begun and solved like any other.
 function driveLackingLesson() {
   const head = ["listset-course 1", "course Broken", "lesson one", "title One"];
   const set = ["list fine", "lacks second-lock", "threads 2", "quota 2", "opening 3 7"];

@@ -4,7 +4,7 @@ use Rattle.std.proofs.Common.{◌∙◌, ap}
 use Rattle.std.proofs.lemmas.List.FromFn.{length-map-range_with_len}
 use Rattle.lset_words.specs.Words.{Sizes, IsWithin, word_count, sizes}
 use Rattle.lset_steps.specs.Steps.{opening, opening_of, opening_word, idle}
-use Rattle.broken_lists.specs.WrongSteps.{IsSized}
+use Rattle.broken_lists.specs.BrokenSteps.{IsSized}
 
 pub opening_is_sized : (sz : Sizes) (keys : List ℕ) → length keys ≡ sz.opening → IsWithin sz
     → IsSized (record { sizes = sz; state = opening (opening_of sz keys) })

@@ -1,9 +1,9 @@
 //! CoarseList without its lock.
 
 ghost use Rattle.std.specs.Prelude.{◌≡◌};
-ghost use Rattle.broken_tables.specs.WrongCoarse.{goes_without_lock};
+ghost use Rattle.broken_tables.specs.BrokenCoarse.{goes_without_lock};
 
-use crate::WrongMachine;
+use crate::machine::BrokenMachine;
 use lset_coarse::{effect_of, fed_by, next_action};
 use lset_steps::rows::begun;
 use lset_steps::{Action, Fed, Local};
@@ -12,7 +12,7 @@ use lset_words::{Call, Key, Kind};
 /// A call goes on from its try of the list's lock as if it had found it free.
 pub struct CallsWithoutTheLock;
 
-impl WrongMachine for CallsWithoutTheLock {
+impl BrokenMachine for CallsWithoutTheLock {
     const KIND: Kind = Kind::Coarse;
 
     ghost table = { goes_without_lock };

@@ -1,9 +1,9 @@
 //! FineList with calls that hold one lock.
 
 ghost use Rattle.std.specs.Prelude.{◌≡◌};
-ghost use Rattle.broken_tables.specs.WrongFine.{removes_with_one_lock, gives_back_pred_first, row_of_remove, with_one_lock, through_row_14};
+ghost use Rattle.broken_tables.specs.BrokenFine.{removes_with_one_lock, gives_back_pred_first, row_of_remove, with_one_lock, through_row_14};
 
-use crate::WrongMachine;
+use crate::machine::BrokenMachine;
 use lset_fine::{effect_of, fed_by, next_action};
 use lset_steps::rows::{begun, lock_index};
 use lset_steps::{Action, Fed, Local};
@@ -36,7 +36,7 @@ fn with_one_lock(call: Call, local: Local) -> Local
     }
 }
 
-impl WrongMachine for RemoveWithOneLock {
+impl BrokenMachine for RemoveWithOneLock {
     const KIND: Kind = Kind::Fine;
 
     ghost table = { removes_with_one_lock };
@@ -75,7 +75,7 @@ fn through_row_14(local: Local) -> Local
     }
 }
 
-impl WrongMachine for WalkThatGivesBackPredFirst {
+impl BrokenMachine for WalkThatGivesBackPredFirst {
     const KIND: Kind = Kind::Fine;
 
     ghost table = { gives_back_pred_first };

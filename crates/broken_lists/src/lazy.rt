@@ -1,9 +1,9 @@
 //! LazyList without its looks at marks.
 
 ghost use Rattle.std.specs.Prelude.{◌≡◌};
-ghost use Rattle.broken_tables.specs.WrongLazy.{validates_without_marks, contains_by_key, ceiling_by_key};
+ghost use Rattle.broken_tables.specs.BrokenLazy.{validates_without_marks, contains_by_key, ceiling_by_key};
 
-use crate::{WrongMachine, without_mark};
+use crate::machine::{BrokenMachine, without_mark};
 use lset_lazy::{effect_of, fed_by, next_action};
 use lset_steps::reads::begun_reading;
 use lset_steps::{Action, Fed, Local};
@@ -12,7 +12,7 @@ use lset_words::{Call, Key, Kind};
 /// The validation looks at the next nodes and at no mark.
 pub struct ValidationWithoutTheMarks;
 
-impl WrongMachine for ValidationWithoutTheMarks {
+impl BrokenMachine for ValidationWithoutTheMarks {
     const KIND: Kind = Kind::Lazy;
 
     ghost table = { validates_without_marks };
@@ -37,7 +37,7 @@ impl WrongMachine for ValidationWithoutTheMarks {
 /// A `contains` answers by the key alone.
 pub struct ContainsByTheKeyAlone;
 
-impl WrongMachine for ContainsByTheKeyAlone {
+impl BrokenMachine for ContainsByTheKeyAlone {
     const KIND: Kind = Kind::Lazy;
 
     ghost table = { contains_by_key };
@@ -62,7 +62,7 @@ impl WrongMachine for ContainsByTheKeyAlone {
 /// A `ceiling` answers by the key alone.
 pub struct CeilingByTheKeyAlone;
 
-impl WrongMachine for CeilingByTheKeyAlone {
+impl BrokenMachine for CeilingByTheKeyAlone {
     const KIND: Kind = Kind::Lazy;
 
     ghost table = { ceiling_by_key };

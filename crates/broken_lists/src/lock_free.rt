@@ -2,9 +2,9 @@
 //! too soon.
 
 ghost use Rattle.std.specs.Prelude.{◌≡◌, ◌+◌, ◌*◌, ◌<◌, ◌^◌};
-ghost use Rattle.broken_lists.specs.WrongSteps.{IsRunnable};
+ghost use Rattle.broken_lists.specs.BrokenSteps.{IsRunnable};
 ghost use Rattle.lset_steps.specs.Rows.{own_slot};
-ghost use Rattle.broken_tables.specs.WrongLockFree.{
+ghost use Rattle.broken_tables.specs.BrokenLockFree.{
   adds_whatever_mark,
   contains_by_key,
   fed_too_soon,
@@ -14,7 +14,7 @@ ghost use Rattle.broken_tables.specs.WrongLockFree.{
   uses_one_slot,
 };
 
-use crate::{WrongMachine, without_mark};
+use crate::machine::{BrokenMachine, without_mark};
 use lset_lock_free::{effect_of, fed_by, next_action};
 use lset_steps::reads::{begun_reading, continued, leaves_with};
 use lset_steps::rows::{Targets, decide, link_index, own_slot};
@@ -24,7 +24,7 @@ use lset_words::{Call, Key, Kind, Reply};
 /// A remove takes its exchange for a success where the node was marked already.
 pub struct MarkOnAMarkedNode;
 
-impl WrongMachine for MarkOnAMarkedNode {
+impl BrokenMachine for MarkOnAMarkedNode {
     const KIND: Kind = Kind::LockFree;
 
     ghost table = { marks_twice };
@@ -49,7 +49,7 @@ impl WrongMachine for MarkOnAMarkedNode {
 /// A `contains` answers by the key alone.
 pub struct ContainsByTheKeyAlone;
 
-impl WrongMachine for ContainsByTheKeyAlone {
+impl BrokenMachine for ContainsByTheKeyAlone {
     const KIND: Kind = Kind::LockFree;
 
     ghost table = { contains_by_key };
@@ -83,7 +83,7 @@ fn marked_as_seen(node: u64, local: &Local) -> u64
     2 * node + local.pkey
 }
 
-impl WrongMachine for AddThatIgnoresTheMark {
+impl BrokenMachine for AddThatIgnoresTheMark {
     const KIND: Kind = Kind::LockFree;
 
     ghost table = { adds_whatever_mark };
@@ -137,7 +137,7 @@ impl WrongMachine for AddThatIgnoresTheMark {
 /// A remove takes its node out and does not mark it first.
 pub struct RemoveWithoutAMark;
 
-impl WrongMachine for RemoveWithoutAMark {
+impl BrokenMachine for RemoveWithoutAMark {
     const KIND: Kind = Kind::LockFree;
 
     ghost table = { removes_without_mark };
@@ -175,7 +175,7 @@ impl WrongMachine for RemoveWithoutAMark {
 /// Each add takes the first slot of its thread.
 pub struct SlotUsedTwice;
 
-impl WrongMachine for SlotUsedTwice {
+impl BrokenMachine for SlotUsedTwice {
     const KIND: Kind = Kind::LockFree;
 
     ghost table = { uses_one_slot };
@@ -233,7 +233,7 @@ fn at_key_too_soon(local: &Local, seen: u64) -> Fed
     }
 }
 
-impl WrongMachine for FullBeforeTheQuota {
+impl BrokenMachine for FullBeforeTheQuota {
     const KIND: Kind = Kind::LockFree;
 
     ghost table = { full_too_soon };

@@ -1,9 +1,9 @@
 //! OptimisticList with validations that are too weak.
 
 ghost use Rattle.std.specs.Prelude.{◌≡◌};
-ghost use Rattle.broken_tables.specs.WrongOptimistic.{validates_by_the_link, arrives_by_key, past_the_walk, arrived_by_key};
+ghost use Rattle.broken_tables.specs.BrokenOptimistic.{validates_by_the_link, arrives_by_key, past_the_walk, arrived_by_key};
 
-use crate::WrongMachine;
+use crate::machine::BrokenMachine;
 use lset_optimistic::{effect_of, fed_by, next_action};
 use lset_steps::rows::begun;
 use lset_steps::{Action, Fed, Local};
@@ -22,7 +22,7 @@ fn past_the_walk(local: Local) -> Local
     }
 }
 
-impl WrongMachine for ValidationByTheLinkAlone {
+impl BrokenMachine for ValidationByTheLinkAlone {
     const KIND: Kind = Kind::Optimistic;
 
     ghost table = { validates_by_the_link };
@@ -67,7 +67,7 @@ fn arrived_by_key(seen: u64, local: &Local) -> Local
     }
 }
 
-impl WrongMachine for SecondWalkByTheKeyAlone {
+impl BrokenMachine for SecondWalkByTheKeyAlone {
     const KIND: Kind = Kind::Optimistic;
 
     ghost table = { arrives_by_key };

@@ -3,9 +3,9 @@ ghost use Rattle.std.specs.List.{range_with_len};
 ghost use Rattle.lset_steps.specs.Steps.{Enabled, idle, opening, opening_of, after, told, local_of, seen_by, seen_next, left_by};
 ghost use Rattle.lset_steps.specs.Laws.{word_named};
 ghost use Rattle.lset_steps.specs.Worlds.{WorldState};
-ghost use Rattle.broken_lists.specs.WrongSteps.{CanGo, IsRunnable, IsSized, WrongStep};
+ghost use Rattle.broken_lists.specs.BrokenSteps.{CanGo, IsRunnable, IsSized, BrokenStep};
 
-use crate::WrongMachine;
+use crate::machine::BrokenMachine;
 use lset_steps::{Action, Event, Local, Told, opening_words};
 use lset_words::{Call, Layout, MOST_NODES, MOST_QUOTA, MOST_THREADS};
 use std::alloc::{AllocError, Global};
@@ -17,7 +17,7 @@ const MOST_PKEY: u64 = 1 << 62;
 
 /// Why an event is not made.
 #[derive(Clone, Copy, Debug, PartialEq, Eq, Error)]
-pub enum WrongFault {
+pub enum BrokenStepError {
     #[error("no such thread")]
     NoThread,
     #[error("a call of the thread is open")]
@@ -29,9 +29,9 @@ pub enum WrongFault {
     Lost,
 }
 
-/// The words of a wrong list and what each thread holds.
+/// The words of a broken list and what each thread holds.
 #[derive(Drop)]
-pub struct WrongWorld<M: WrongMachine> {
+pub struct BrokenWorld<M: BrokenMachine> {
     threads: u32,
     quota: u32,
     opening: u32,
@@ -40,7 +40,7 @@ pub struct WrongWorld<M: WrongMachine> {
     machine: PhantomData<M>,
 }
 
-impl<M: WrongMachine> Model for WrongWorld<M> {
+impl<M: BrokenMachine> Model for BrokenWorld<M> {
     ghost Value = { WorldState };
 
     ghost view = { λ w. record {
@@ -119,15 +119,19 @@ fn sight(words: &[u64], action: Action) -> u64
     }
 }
 
-impl<M: WrongMachine> WrongWorld<M> {
+impl<M: BrokenMachine> BrokenWorld<M> {
     /// The world before any event of a list that opens with these keys.
-    pub fn opened(alloc: Global, layout: &Layout, keys: &[u32]) -> Result<WrongWorld<M>, AllocError>
+    pub fn opened(
+        alloc: Global,
+        layout: &Layout,
+        keys: &[u32],
+    ) -> Result<BrokenWorld<M>, AllocError>
         requires { length keys.now ≡ layout.now.opening }
         ensures { IfOk result (λ w. w ≡ record { sizes = layout.now; state = opening (opening_of layout.now keys.now) }) }
     {
         let words = opening_words(alloc, layout, keys)?;
         let locals = idle_locals(alloc, layout)?;
-        Ok(WrongWorld {
+        Ok(BrokenWorld {
             threads: layout.threads(),
             quota: layout.quota(),
             opening: layout.opening(),
@@ -217,33 +221,33 @@ impl<M: WrongMachine> WrongWorld<M> {
     }
 
     /// Makes one event by the table, and tells what it answered and changed. A refused one changes nothing.
-    pub fn step(&mut self, event: Event) -> Result<Told, WrongFault>
-        ensures { WrongStep M.table self.old event result self.new }
+    pub fn step(&mut self, event: Event) -> Result<Told, BrokenStepError>
+        ensures { BrokenStep M.table self.old event result self.new }
     {
         match event {
             Event::Begin(t, call) => {
                 if t >= self.threads {
-                    return Err(WrongFault::NoThread);
+                    return Err(BrokenStepError::NoThread);
                 }
                 if self.local(t).pc != 0 {
-                    return Err(WrongFault::Busy);
+                    return Err(BrokenStepError::Busy);
                 }
                 Ok(self.begin(t, call))
             }
             Event::Go(t) => {
                 if t >= self.threads {
-                    return Err(WrongFault::NoThread);
+                    return Err(BrokenStepError::NoThread);
                 }
                 let local = self.local(t);
                 if local.pc == 0 {
-                    return Err(WrongFault::Idle);
+                    return Err(BrokenStepError::Idle);
                 }
                 if !is_runnable(&local) {
-                    return Err(WrongFault::Lost);
+                    return Err(BrokenStepError::Lost);
                 }
                 let action = M::next(&local);
                 if word_of(action) >= self.words.len() as u64 {
-                    return Err(WrongFault::Lost);
+                    return Err(BrokenStepError::Lost);
                 }
                 Ok(self.go(t, local, action))
             }

@@ -1,8 +1,8 @@
 pub mod Schedules
 pub mod Findings
 pub mod Marks
-pub mod WrongCoarse
-pub mod WrongFine
-pub mod WrongOptimistic
-pub mod WrongLazy
-pub mod WrongLockFree
+pub mod BrokenCoarse
+pub mod BrokenFine
+pub mod BrokenOptimistic
+pub mod BrokenLazy
+pub mod BrokenLockFree

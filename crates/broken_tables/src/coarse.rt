@@ -2,7 +2,7 @@
 
 ghost use Rattle.lset_steps.specs.Promises.{NamedChange};
 ghost use Rattle.broken_tables.specs.Findings.{Breaks, OtherKeyIsLost};
-ghost use Rattle.broken_tables.specs.WrongCoarse.{goes_without_lock, two_adds};
+ghost use Rattle.broken_tables.specs.BrokenCoarse.{goes_without_lock, two_adds};
 
 /// Two `add`s that write into one node, each what it has made of the same old link: the second one drops the key of the
 /// first. (Herlihy and Shavit.)

@@ -2,7 +2,7 @@
 
 ghost use Rattle.lset_steps.specs.Promises.{NamedChange, UnlinkedNodesStay};
 ghost use Rattle.broken_tables.specs.Findings.{AddedKeyIsLost, Breaks, UnlinkedNodeChanges};
-ghost use Rattle.broken_tables.specs.WrongFine.{
+ghost use Rattle.broken_tables.specs.BrokenFine.{
   removed_behind_a_walk,
   removed_under_a_lock,
   removes_with_one_lock,

@@ -3,7 +3,7 @@
 ghost use Rattle.lset_steps.specs.Promises.{NamedChange, RepliesFit, UnlinkedNodesStay};
 ghost use Rattle.broken_tables.specs.Schedules.{ceiling, contains};
 ghost use Rattle.broken_tables.specs.Findings.{AddedKeyIsLost, Breaks, ReplyNeverFits, UnlinkedNodeChanges};
-ghost use Rattle.broken_tables.specs.WrongLazy.{
+ghost use Rattle.broken_tables.specs.BrokenLazy.{
   asked_after_the_mark,
   ceiling_by_key,
   contains_by_key,

@@ -11,7 +11,7 @@ ghost use Rattle.broken_tables.specs.Findings.{
   ReplyNeverFits,
   UnlinkedNodeChanges,
 };
-ghost use Rattle.broken_tables.specs.WrongLockFree.{
+ghost use Rattle.broken_tables.specs.BrokenLockFree.{
   added_after_a_remove,
   adds_whatever_mark,
   asked_after_the_mark,

@@ -2,7 +2,7 @@
 
 ghost use Rattle.lset_steps.specs.Promises.{NamedChange, UnlinkedNodesStay};
 ghost use Rattle.broken_tables.specs.Findings.{AddedKeyIsLost, Breaks, UnlinkedNodeChanges};
-ghost use Rattle.broken_tables.specs.WrongOptimistic.{
+ghost use Rattle.broken_tables.specs.BrokenOptimistic.{
   arrives_by_key,
   same_key_again,
   unlinked_before_it_is_locked,

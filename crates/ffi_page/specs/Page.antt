@@ -12,8 +12,8 @@ use Rattle.tool_base.specs.Trouble as trouble
 use Rattle.tool_show.specs.declared.asking.Form.{Form}
 use Rattle.tool_show.specs.Asking.{asked_of}
 use Rattle.tool_show.specs.Showing.{Shows}
-use Rattle.lset_lacks.specs.declared.lacking.Lacking.{Lacking}
-use Rattle.tool_broken.specs.Lacks as lacks
+use Rattle.broken_lists.specs.declared.lists.BrokenList.{BrokenList}
+use Rattle.tool_broken.specs.BrokenTools as broken
 
 -- what the program prints of it: the answer's text, or the line about the trouble
 abbrev pub text_of : Made → List ℕ
@@ -73,14 +73,14 @@ abbrev pub ShowsBy : Bool → List ℕ → List ℕ → Made → Type 0
 ShowsBy svg options bytes made =
     OfWords (λ words. AsAsked (asked_in svg words) (λ window. Shows window bytes)) options made
 
--- What is made of the bytes by the list that lacks the check of a name, or memory is refused.
-abbrev pub MakesLacking : (Lacking → List ℕ → Made → Type 0) → List ℕ → List ℕ → Made → Type 0
-MakesLacking Makes name bytes made = (made ≡ Err Memory) ⊎ lacks.ByName (λ l m. Makes l bytes m) name made
+-- What is made of the bytes by the broken list of a name, or memory is refused.
+abbrev pub MakesBroken : (BrokenList → List ℕ → Made → Type 0) → List ℕ → List ℕ → Made → Type 0
+MakesBroken Makes name bytes made = (made ≡ Err Memory) ⊎ broken.ByName (λ l m. Makes l bytes m) name made
 
 -- the same of `show --lacks NAME`
-abbrev pub ShowsLackingBy : Bool → List ℕ → List ℕ → List ℕ → Made → Type 0
-ShowsLackingBy svg options name bytes made =
-    OfWords (λ words. AsAsked (asked_in svg words) (λ window. lacks.ByName (λ l m. lacks.Shows window l bytes m) name)) options made
+abbrev pub ShowsBrokenBy : Bool → List ℕ → List ℕ → List ℕ → Made → Type 0
+ShowsBrokenBy svg options name bytes made =
+    OfWords (λ words. AsAsked (asked_in svg words) (λ window. broken.ByName (λ l m. broken.Shows window l bytes m) name)) options made
 
 -- A tool ends so outside: what it made is handed over.
 abbrev pub Hands : (Made → Type 0) → List ℕ → List ℕ → ℕ → ℕ → Type 0

@@ -20,15 +20,15 @@ ghost use Rattle.tool_base.specs.Generating.{Generates};
 ghost use Rattle.tool_draft.specs.Drafting.{Drafts};
 ghost use Rattle.tool_trace.specs.Tracing.{Traces};
 ghost use Rattle.tool_examples.specs.Exampling.{Exampled};
-ghost use Rattle.tool_broken.specs.Lacks as lacks;
-ghost use Rattle.ffi_page.specs.Page.{Hands, OfText, MakesLacking, OfWords, ShowsBy, ShowsLackingBy};
+ghost use Rattle.tool_broken.specs.BrokenTools as broken;
+ghost use Rattle.ffi_page.specs.Page.{Hands, OfText, MakesBroken, OfWords, ShowsBy, ShowsBrokenBy};
 
 use generating::generated_by;
 use handing::hand;
-use showing::{shown_by, shown_lacking_by};
+use showing::{shown_broken_by, shown_by};
 use std::alloc::Global;
 use tool_base::{checked, faults_told, replayed, reported};
-use tool_broken::{replayed_lacking, traced_lacking};
+use tool_broken::{replayed_broken, traced_broken};
 use tool_draft::drafted;
 use tool_examples::{exampled, exampled_by};
 use tool_trace::traced;
@@ -134,7 +134,7 @@ pub extern "C" fn listset_show_svg(
     hand(alloc, shown_by(alloc, text, true, options), room, status)
 }
 
-/// What `listset replay --lacks NAME` prints of the schedule whose text is given, by the list that lacks the check of this name: the
+/// What `listset replay --lacks NAME` prints of the schedule whose text is given, by the broken list of this name: the
 /// report of its run; `listset: bad NAME: ..` with status 2 where no list has the name; or the line about the first fault of the
 /// text, about a schedule of another list, or about the event at which the run ends.
 #[unsafe(no_mangle)]
@@ -145,10 +145,10 @@ pub extern "C" fn listset_replay_lacking(
     room: &mut [u8],
     status: &mut u8,
 ) -> usize
-    ensures { Hands (OfText (MakesLacking lacks.Replays name.now) text.now)
+    ensures { Hands (OfText (MakesBroken broken.Replays name.now) text.now)
         room.old room.new status.new result }
 {
-    hand(alloc, replayed_lacking(alloc, name, text), room, status)
+    hand(alloc, replayed_broken(alloc, name, text), room, status)
 }
 
 /// What `listset trace --lacks NAME` prints of it: its trace, up to the event at which the run ends, which has status 1; or a line
@@ -161,15 +161,10 @@ pub extern "C" fn listset_trace_lacking(
     room: &mut [u8],
     status: &mut u8,
 ) -> usize
-    ensures { Hands (OfText (MakesLacking lacks.Traces name.now) text.now)
+    ensures { Hands (OfText (MakesBroken broken.Traces name.now) text.now)
         room.old room.new status.new result }
 {
-    hand(
-        alloc,
-        traced_lacking(alloc, name, text, false),
-        room,
-        status,
-    )
+    hand(alloc, traced_broken(alloc, name, text, false), room, status)
 }
 
 /// What `listset trace --chain --lacks NAME` prints of it: the same, with the chain after each event that changed it.
@@ -181,10 +176,10 @@ pub extern "C" fn listset_trace_with_chains_lacking(
     room: &mut [u8],
     status: &mut u8,
 ) -> usize
-    ensures { Hands (OfText (MakesLacking lacks.Traces name.now) text.now)
+    ensures { Hands (OfText (MakesBroken broken.Traces name.now) text.now)
         room.old room.new status.new result }
 {
-    hand(alloc, traced_lacking(alloc, name, text, true), room, status)
+    hand(alloc, traced_broken(alloc, name, text, true), room, status)
 }
 
 /// What `listset show --lacks NAME` prints of it: the picture of the report of its run, with status 1 where its order is refused, and
@@ -199,11 +194,11 @@ pub extern "C" fn listset_show_lacking(
     room: &mut [u8],
     status: &mut u8,
 ) -> usize
-    ensures { Hands (OfText (ShowsLackingBy false options.now name.now) text.now) room.old room.new status.new result }
+    ensures { Hands (OfText (ShowsBrokenBy false options.now name.now) text.now) room.old room.new status.new result }
 {
     hand(
         alloc,
-        shown_lacking_by(alloc, name, text, false, options),
+        shown_broken_by(alloc, name, text, false, options),
         room,
         status,
     )
@@ -219,11 +214,11 @@ pub extern "C" fn listset_show_svg_lacking(
     room: &mut [u8],
     status: &mut u8,
 ) -> usize
-    ensures { Hands (OfText (ShowsLackingBy true options.now name.now) text.now) room.old room.new status.new result }
+    ensures { Hands (OfText (ShowsBrokenBy true options.now name.now) text.now) room.old room.new status.new result }
 {
     hand(
         alloc,
-        shown_lacking_by(alloc, name, text, true, options),
+        shown_broken_by(alloc, name, text, true, options),
         room,
         status,
     )

@@ -1,12 +1,12 @@
 ghost use Rattle.std.specs.Prelude.{◌≢◌, IfErr};
 ghost use Rattle.tool_base.specs.Tools.{view};
 ghost use Rattle.tool_base.specs.declared.trouble.Trouble.TheVariants.{CannotRead};
-ghost use Rattle.ffi_page.specs.Page.{AsksBy, ShowsBy, ShowsLackingBy};
+ghost use Rattle.ffi_page.specs.Page.{AsksBy, ShowsBy, ShowsBrokenBy};
 
 use crate::words::{option_at, words_in};
 use std::alloc::Global;
 use tool_base::{Answer, Trouble};
-use tool_broken::shown_lacking;
+use tool_broken::shown_broken;
 use tool_drawing::Window;
 use tool_show::{Form, read_asked, shown};
 
@@ -34,18 +34,18 @@ pub fn shown_by(alloc: Global, bytes: &[u8], svg: bool, options: &[u8]) -> Resul
     shown(alloc, bytes, form, window)
 }
 
-/// The picture of the report of the run of the schedule whose text the bytes are, by the list that lacks the check of this name. The
-/// errors are those of `shown_lacking`, and `Bad` where an option is wrong.
-pub fn shown_lacking_by(
+/// The picture of the report of the run of the schedule whose text the bytes are, by the broken list of this name. The
+/// errors are those of `shown_broken`, and `Bad` where an option is wrong.
+pub fn shown_broken_by(
     alloc: Global,
     name: &[u8],
     bytes: &[u8],
     svg: bool,
     options: &[u8],
 ) -> Result<Answer, Trouble>
-    ensures shows { ShowsLackingBy svg options.now name.now bytes.now (view result) }
+    ensures shows { ShowsBrokenBy svg options.now name.now bytes.now (view result) }
     ensures read { IfErr result (λ t. t ≢ CannotRead) }
 {
     let (form, window) = asked_by(alloc, svg, options)?;
-    shown_lacking(alloc, name, bytes, form, window)
+    shown_broken(alloc, name, bytes, form, window)
 }

@@ -1,14 +1,13 @@
-//! Random runs: counting refutes none of the five lists, and `check_order` refuses each list that lacks a check. Counting refutes no
+//! Random runs: counting refutes none of the five lists, and `check_order` refuses each broken list. Counting refutes no
 //! history that was laid round a legal order.
 
 ghost use Rattle.std.specs.Prelude.{⊤};
 
-use broken_lists::{WrongMachine, WrongWorld};
+use broken_lists::{ALL, BrokenList, BrokenMachine, BrokenWorld, Task, on_broken, run_broken};
 use lset_coarse::CoarseList;
 use lset_counts::find_miscount;
 use lset_fine::FineList;
 use lset_history::{History, Oracle, check_order};
-use lset_lacks::{ALL, Lacking, Task, on_lacking, run_lacking};
 use lset_lazy::LazyList;
 use lset_lock_free::LockFreeList;
 use lset_optimistic::OptimisticList;
@@ -57,7 +56,7 @@ fn drawn_call(rng: &mut Pcg32) -> Call {
 #[derive(Clone, Copy)]
 struct Drawing {
     alloc: Global,
-    lacking: Lacking,
+    broken: BrokenList,
     seed: u64,
 }
 
@@ -68,11 +67,11 @@ impl Task for Drawing {
 
     ghost done = { λ _ _ _. ⊤ };
 
-    fn run<M: WrongMachine>(self) -> Result<String, Fail> {
+    fn run<M: BrokenMachine>(self) -> Result<String, Fail> {
         let mut rng = Pcg32::seed_from_u64(self.seed);
         let layout = layout_opening(2, 2, 1)?;
-        let mut world = WrongWorld::<M>::opened(self.alloc, &layout, &OPENING)?;
-        let list = kind_word(self.lacking.kind());
+        let mut world = BrokenWorld::<M>::opened(self.alloc, &layout, &OPENING)?;
+        let list = kind_word(self.broken.kind());
         let mut text = format!(in self.alloc;
             "listset-schedule 2\nlist {list}\nthreads 2\nquota 2\nopening 5\n"
         )?;
@@ -94,10 +93,10 @@ impl Task for Drawing {
     }
 }
 
-/// The report of the run of the schedule with this text, by the list that lacks a check.
-fn report_of(alloc: Global, lacking: Lacking, text: &str) -> Result<Report, Fail> {
+/// The report of the run of the schedule with this text, by the broken list.
+fn report_of(alloc: Global, broken: BrokenList, text: &str) -> Result<Report, Fail> {
     let schedule = read_schedule(alloc, text.as_bytes())?;
-    let (_silent, run) = run_lacking(alloc, lacking, &schedule, false, Silent {})?;
+    let (_silent, run) = run_broken(alloc, broken, &schedule, false, Silent {})?;
     match run {
         Ok(report) => Ok(report),
         Err((_line, fault)) => Err(fault.into()),
@@ -112,32 +111,37 @@ fn judged(alloc: Global, report: &Report) -> Result<(bool, bool), Fail> {
 }
 
 /// Whether the order of a random run is refused; one that counting refutes is.
-fn is_refused<R: Abort>(rt: &R, alloc: Global, lacking: Lacking, seed: u64) -> Result<bool, Fail> {
+fn is_refused<R: Abort>(
+    rt: &R,
+    alloc: Global,
+    broken: BrokenList,
+    seed: u64,
+) -> Result<bool, Fail> {
     let drawing = Drawing {
         alloc,
-        lacking,
+        broken,
         seed,
     };
-    let text = on_lacking(lacking, drawing)?;
-    let report = report_of(alloc, lacking, text.as_str())?;
+    let text = on_broken(broken, drawing)?;
+    let report = report_of(alloc, broken, text.as_str())?;
     let (refused, counted) = judged(alloc, &report)?;
     assert!(rt; refused || !counted);
     Ok(refused)
 }
 
 /// Whether some random run is refused.
-fn is_found<R: Abort>(rt: &R, alloc: Global, lacking: Lacking) -> Result<bool, Fail> {
+fn is_found<R: Abort>(rt: &R, alloc: Global, broken: BrokenList) -> Result<bool, Fail> {
     let mut found = false;
     for seed in 0..RUNS {
-        found = is_refused(rt, alloc, lacking, seed)? || found;
+        found = is_refused(rt, alloc, broken, seed)? || found;
     }
     Ok(found)
 }
 
 #[test]
-fn each_list_that_lacks_a_check_is_refused(rt: HostRuntime) -> Result<(), Fail> {
-    for lacking in &ALL {
-        assert!(rt; is_found(&rt, rt.alloc(), *lacking)?, "{}", lacking.name());
+fn each_broken_list_is_refused(rt: HostRuntime) -> Result<(), Fail> {
+    for broken in &ALL {
+        assert!(rt; is_found(&rt, rt.alloc(), *broken)?, "{}", broken.name());
     }
     Ok(())
 }

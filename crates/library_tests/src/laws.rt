@@ -51,8 +51,8 @@ fn kept_by_others() {
     words_are_apart();
 }
 
-/// That tables break them that lack a check.
-fn broken_by_wrong_tables() {
+/// That the tables of the broken lists break them.
+fn broken_tables_run() {
     coarse::calls_without_the_lock();
     fine::remove_with_one_lock();
     fine::walk_that_gives_back_pred_first();
@@ -73,5 +73,5 @@ fn broken_by_wrong_tables() {
 fn each_law_can_be_called(rt: HostRuntime) {
     assert!(rt; kept_by::<LazyList>() == Kind::Lazy);
     kept_by_others();
-    broken_by_wrong_tables();
+    broken_tables_run();
 }

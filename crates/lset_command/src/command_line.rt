@@ -62,7 +62,7 @@ pub struct Options {
     pub chain: bool,
     /// `example` prints the report of a broken list.
     pub broken: bool,
-    /// The name of the list that lacks a check, by which `replay`, `show` and `trace` run the schedule.
+    /// The name of the broken list by which `replay`, `show` and `trace` run the schedule.
     pub lacks: Option<String>,
 }
 
@@ -139,7 +139,7 @@ fn value_option<'a>(alloc: Global, name: &'a str, value_name: &'a str, help: &'a
         .help(help)
 }
 
-// The option that names a list that lacks a check.
+// The option that names a broken list.
 fn lacks_option<'a>(alloc: Global) -> Arg<'a>
     ensures rule { rule_of result ≡ option_rule (codes "lacks") }
     ensures local { result.global ≡ false }

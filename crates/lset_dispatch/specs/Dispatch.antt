@@ -22,7 +22,7 @@ use Rattle.tool_show.specs.declared.asking.Form.{Form}
 use Rattle.tool_show.specs.Asking.{asked_of}
 use Rattle.tool_show.specs.Showing.{Shows}
 use Rattle.tool_trace.specs.Tracing.{Traces}
-use Rattle.tool_broken.specs.Lacks as lacks
+use Rattle.tool_broken.specs.BrokenTools as broken
 use Rattle.tool_draft.specs.Drafting.{Drafts}
 use Rattle.tool_examples.specs.Exampling.{Exampled}
 use Rattle.tool_run.specs.Running as run
@@ -34,21 +34,21 @@ use Rattle.tool_serve.specs.Serving as serve
 -- list lacks, by that.
 abbrev pub ReplaysFor : Option Text → Option (List ℕ) → Made → Type 0
 ReplaysFor None input made = IfSome input (λ bytes. Replays bytes made)
-ReplaysFor (Some name) input made = lacks.ByName (λ l m. IfSome input (λ bytes. lacks.Replays l bytes m)) name made
+ReplaysFor (Some name) input made = broken.ByName (λ l m. IfSome input (λ bytes. broken.Replays l bytes m)) name made
 
 abbrev pub ReplaysBy : OptionValues → Option (List ℕ) → Made → Type 0
 ReplaysBy options input made = ReplaysFor options.lacks input made
 
 abbrev pub TracesFor : Option Text → Option (List ℕ) → Made → Type 0
 TracesFor None input made = IfSome input (λ bytes. Traces bytes made)
-TracesFor (Some name) input made = lacks.ByName (λ l m. IfSome input (λ bytes. lacks.Traces l bytes m)) name made
+TracesFor (Some name) input made = broken.ByName (λ l m. IfSome input (λ bytes. broken.Traces l bytes m)) name made
 
 abbrev pub TracesBy : OptionValues → Option (List ℕ) → Made → Type 0
 TracesBy options input made = TracesFor options.lacks input made
 
 abbrev pub ShowsFor : Option Text → Window → Option (List ℕ) → Made → Type 0
 ShowsFor None window input made = IfSome input (λ bytes. Shows window bytes made)
-ShowsFor (Some name) window input made = lacks.ByName (λ l m. IfSome input (λ bytes. lacks.Shows window l bytes m)) name made
+ShowsFor (Some name) window input made = broken.ByName (λ l m. IfSome input (λ bytes. broken.Shows window l bytes m)) name made
 
 -- `show` does so in the form and within the moments that its options ask for; a wrong option is named
 abbrev pub ShowsAsked : Result (Form × Window) ValueName → Option Text → Option (List ℕ) → Made → Type 0

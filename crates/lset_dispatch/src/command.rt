@@ -12,7 +12,7 @@ use std::sync::Wait;
 use std::thread::Threads;
 use std::time::Clock;
 use tool_base::{Trouble, deliver, tool_check, tool_faults, tool_gen, tool_replay, tool_report};
-use tool_broken::{tool_replay_lacking, tool_show_lacking, tool_trace_lacking};
+use tool_broken::{tool_replay_broken, tool_show_broken, tool_trace_broken};
 use tool_draft::tool_draft;
 use tool_examples::tool_example;
 use tool_run::tool_run;
@@ -43,7 +43,7 @@ fn show<R: Read, W: Write, F: Write>(
     match read_asked(options.svg, from, to, width) {
         Ok((form, window)) => match text_of(&options.lacks) {
             None => tool_show(alloc, form, window, input, output, faults),
-            Some(name) => tool_show_lacking(alloc, name, form, window, input, output, faults),
+            Some(name) => tool_show_broken(alloc, name, form, window, input, output, faults),
         },
         Err(wrong) => deliver(alloc, Err(Trouble::Bad(wrong)), output, faults),
     }
@@ -62,7 +62,7 @@ fn replay<R: Read, W: Write, F: Write>(
 {
     match text_of(&options.lacks) {
         None => tool_replay(alloc, input, output, faults),
-        Some(name) => tool_replay_lacking(alloc, name, input, output, faults),
+        Some(name) => tool_replay_broken(alloc, name, input, output, faults),
     }
 }
 
@@ -79,7 +79,7 @@ fn trace<R: Read, W: Write, F: Write>(
 {
     match text_of(&options.lacks) {
         None => tool_trace(alloc, options.chain, input, output, faults),
-        Some(name) => tool_trace_lacking(alloc, name, options.chain, input, output, faults),
+        Some(name) => tool_trace_broken(alloc, name, options.chain, input, output, faults),
     }
 }
 

@@ -41,7 +41,7 @@ impl Bounded for CoarseList {
         call: Call,
         pause: &P,
     ) -> Option<(OwnSlots, Reply)> {
-        lset_locked_loops::coarse_within::<P, N>(table, place, slots, call, pause)
+        lset_loops::coarse_within::<P, N>(table, place, slots, call, pause)
     }
 }
 
@@ -53,7 +53,7 @@ impl Bounded for FineList {
         call: Call,
         pause: &P,
     ) -> Option<(OwnSlots, Reply)> {
-        lset_locked_loops::fine_within::<P, N>(table, place, slots, call, pause)
+        lset_loops::fine_within::<P, N>(table, place, slots, call, pause)
     }
 }
 
@@ -65,7 +65,7 @@ impl Bounded for OptimisticList {
         call: Call,
         pause: &P,
     ) -> Option<(OwnSlots, Reply)> {
-        lset_locked_loops::optimistic_within::<P, N>(table, place, slots, call, pause)
+        lset_loops::optimistic_within::<P, N>(table, place, slots, call, pause)
     }
 }
 

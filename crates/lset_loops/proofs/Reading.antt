@@ -20,9 +20,9 @@ use Rattle.lset_rule.specs.Seats.{TableSeat}
 use Rattle.lset_rule.specs.Calls.{Goes}
 use Rattle.lset_rule.proofs.Calls.{Comes}
 use Rattle.lset_rule.proofs.Ending.{steps_of, not_yet, one_more}
-use Rattle.lset_caller.specs.Begun.{Begun}
-use Rattle.lset_caller.specs.Calling.{Holds, first, row}
-use Rattle.lset_caller.proofs.Calling.{no_rest}
+use Rattle.lset_loops.specs.Begun.{Begun}
+use Rattle.lset_loops.specs.Calling.{Holds, first, row}
+use Rattle.lset_loops.proofs.Calling.{no_rest}
 
 -- what the thread holds at the row pc
 abbrev pub reading : Begun → OwnSlots → ℕ → ℕ → Local

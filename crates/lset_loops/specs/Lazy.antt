@@ -5,10 +5,10 @@ use Rattle.lset_steps.specs.Rows.{decided_on}
 use Rattle.lset_lazy.specs.Lazy.{lazy, targets}
 use Rattle.lset_rule.specs.declared.slots.OwnSlots.{OwnSlots}
 use Rattle.lset_rule.specs.Seats.{TableSeat}
-use Rattle.lset_caller.specs.declared.caller.Node.{Node}
-use Rattle.lset_caller.specs.declared.decision.Found.{Found}
-use Rattle.lset_caller.specs.Begun.{Begun}
-use Rattle.lset_caller.specs.Calling.{Holds, Rest, row}
+use Rattle.lset_loops.specs.declared.caller.Node.{Node}
+use Rattle.lset_loops.specs.declared.decision.Found.{Found}
+use Rattle.lset_loops.specs.Begun.{Begun}
+use Rattle.lset_loops.specs.Calling.{Holds, Rest, row}
 
 -- It is about to load the key of the node x, to which the link of p led.
 abbrev pub AtKey : Begun → OwnSlots → ℕ → ℕ → TableSeat → Type 0

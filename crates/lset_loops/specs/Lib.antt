@@ -1,2 +1,7 @@
+pub mod Begun
+pub mod Calling
+pub mod Coarse
+pub mod Fine
 pub mod Lazy
 pub mod LockFree
+pub mod Optimistic

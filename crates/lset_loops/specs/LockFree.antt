@@ -6,9 +6,9 @@ use Rattle.lset_steps.specs.Rows.{decided_on}
 use Rattle.lset_lock_free.specs.LockFree.{lock_free, targets, decision_of}
 use Rattle.lset_rule.specs.declared.slots.OwnSlots.{OwnSlots}
 use Rattle.lset_rule.specs.Seats.{TableSeat}
-use Rattle.lset_caller.specs.declared.decision.Found.{Found}
-use Rattle.lset_caller.specs.Begun.{Begun}
-use Rattle.lset_caller.specs.Calling.{Holds, Rest, row, StandsAfter, HasAnswered}
+use Rattle.lset_loops.specs.declared.decision.Found.{Found}
+use Rattle.lset_loops.specs.Begun.{Begun}
+use Rattle.lset_loops.specs.Calling.{Holds, Rest, row, StandsAfter, HasAnswered}
 
 -- It is about to load the link of the node x, to which the link of p led.
 abbrev pub AtLink : Begun → OwnSlots → ℕ → ℕ → TableSeat → Type 0

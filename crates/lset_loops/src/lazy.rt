@@ -4,11 +4,12 @@ ghost use Rattle.lset_steps.specs.ReadRows.{first_row};
 ghost use Rattle.std.specs.Prelude.{◌≡◌, IfSome};
 ghost use Rattle.lset_lazy.specs.Lazy.{lazy};
 ghost use Rattle.lset_rule.specs.Seats.{HasCalled, MayCall};
-ghost use Rattle.lset_caller.specs.Begun.{IsCall};
-ghost use Rattle.lset_caller.specs.Calling.{HasAnswered, MayBegin};
+ghost use Rattle.lset_loops.specs.Begun.{IsCall};
+ghost use Rattle.lset_loops.specs.Calling.{HasAnswered, MayBegin};
 ghost use Rattle.lset_loops.specs.Lazy.{AreNeighbours, AtKey, HasLocked, HasValidated, Leaves, StopsAt};
 
-use lset_caller::{Caller, Decision, Found, Node, Origin, decide, one_more};
+use crate::caller::{Caller, Node, Origin};
+use crate::decision::{Decision, Found, decide, one_more};
 use lset_lazy::LazyList;
 use lset_rule::{OwnSlots, Pause, Rounds, TableSeat, Words};
 use lset_words::{Call, Reply};

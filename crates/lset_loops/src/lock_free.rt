@@ -3,11 +3,12 @@ ghost use Rattle.std.specs.Prelude.{◌≡◌, IfSome};
 ghost use Rattle.lset_steps.specs.ReadRows.{first_row};
 ghost use Rattle.lset_lock_free.specs.LockFree.{lock_free};
 ghost use Rattle.lset_rule.specs.Seats.{HasCalled, MayCall};
-ghost use Rattle.lset_caller.specs.Begun.{IsCall};
-ghost use Rattle.lset_caller.specs.Calling.{HasAnswered, MayBegin};
+ghost use Rattle.lset_loops.specs.Begun.{IsCall};
+ghost use Rattle.lset_loops.specs.Calling.{HasAnswered, MayBegin};
 ghost use Rattle.lset_loops.specs.LockFree.{AtLink, HasTried, StopsAt};
 
-use lset_caller::{Caller, Decision, Found, Node, Origin, decide, one_more};
+use crate::caller::{Caller, Node, Origin};
+use crate::decision::{Decision, Found, decide, one_more};
 use lset_lock_free::LockFreeList;
 use lset_rule::{OwnSlots, Pause, Rounds, TableSeat, Words};
 use lset_words::{Call, Reply};

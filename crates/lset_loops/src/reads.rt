@@ -4,12 +4,12 @@ ghost use Rattle.lset_words.specs.declared.Call.TheVariants.{Contains};
 ghost use Rattle.lset_words.specs.declared.Reply.TheVariants.{True, False};
 ghost use Rattle.lset_steps.specs.RowLaws.{HasReading};
 ghost use Rattle.lset_rule.specs.Seats.{HasCalled, MayCall};
-ghost use Rattle.lset_caller.specs.Begun.{IsCall};
-ghost use Rattle.lset_caller.specs.Calling.{HasAnswered, MayBegin};
+ghost use Rattle.lset_loops.specs.Begun.{IsCall};
+ghost use Rattle.lset_loops.specs.Calling.{HasAnswered, MayBegin};
 ghost use Rattle.lset_lazy.proofs.Rows.{lazy_rows};
 ghost use Rattle.lset_lock_free.proofs.Rows.{lock_free_rows};
 
-use lset_caller::{Caller, Node, Origin};
+use crate::caller::{Caller, Node, Origin};
 use lset_lazy::LazyList;
 use lset_lock_free::LockFreeList;
 use lset_rule::{OwnSlots, Pause, TableSeat, Words};

@@ -9,7 +9,7 @@ use lset_report::{ReportCause, ReportFault};
 use lset_schedule::{Cause, ScheduleFault};
 use std::alloc::AllocError;
 
-/// The word for the name of a list that lacks a check, with the names that there are.
+/// The word for the name of a broken list, with the names that there are.
 const LACKS: &str =
     "NAME: it is none of lock, second-lock, hand-over-hand, second-walk, same-node, marks-in-validation, mark-in-contains, mark-in-ceiling, mark, mark-in-add, mark-in-remove, mark-at-key, new-slot or last-slot";
 
@@ -39,7 +39,7 @@ pub enum LineCause {
     Busy,
     /// A thread makes a step on the line and has no call open.
     Idle,
-    /// A list that lacks a check is broken beyond running at an event of the line.
+    /// A broken list cannot make the event of the line.
     Lost,
     /// A thread does not come to where the line of a draft sends it.
     Waits,

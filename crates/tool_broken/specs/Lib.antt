@@ -1,1 +1,1 @@
-pub mod Lacks
+pub mod BrokenTools

@@ -3,11 +3,10 @@ ghost use Rattle.lset_schedule.specs.Plan as plan;
 ghost use Rattle.lset_report.specs.Report as report;
 ghost use Rattle.tool_base.specs.declared.trouble.Trouble.TheVariants.{Bad, CannotRead};
 ghost use Rattle.tool_base.specs.declared.trouble.ValueName.TheVariants.{Lacks};
-ghost use Rattle.lset_lacks.specs.Lackings.{name_of};
-ghost use Rattle.tool_broken.specs.Lacks.{HasNone, IsReported, IsRunTrouble, IsScheduleOf, IsTextTrouble, trouble_at};
+ghost use Rattle.broken_lists.specs.BrokenLists.{name_of};
+ghost use Rattle.tool_broken.specs.BrokenTools.{HasNone, IsReported, IsRunTrouble, IsScheduleOf, IsTextTrouble, trouble_at};
 
-use broken_lists::WrongFault;
-use lset_lacks::{Lacking, named, run_lacking};
+use broken_lists::{BrokenList, BrokenStepError, named, run_broken};
 use lset_replay::{Listener, TracedEvent};
 use lset_report::Report;
 use lset_schedule::{Cause, Schedule, read_schedule};
@@ -17,39 +16,39 @@ use tool_base::{LONGEST, LineCause, Trouble, ValueName};
 /// The line of a schedule's text that names the list.
 const KIND_LINE: u64 = 2;
 
-/// The list that lacks the check of this name. The error is `Bad(Lacks)` where there is none.
-pub fn lacking_of(name: &[u8]) -> Result<Lacking, Trouble>
-    ensures found { IfOk result (λ lacking. name.now ≡ name_of lacking) }
+/// The broken list of this name. The error is `Bad(Lacks)` where there is none.
+pub fn broken_of(name: &[u8]) -> Result<BrokenList, Trouble>
+    ensures found { IfOk result (λ broken. name.now ≡ name_of broken) }
     ensures unknown { IfErr result (λ t. (t ≡ Bad Lacks) × HasNone name.now) }
 {
     named(name).ok_or(Trouble::Bad(ValueName::Lacks))
 }
 
-/// The schedule whose text the bytes are, which has to name the list that lacks the check.
-pub fn schedule_of(alloc: Global, lacking: Lacking, bytes: &[u8]) -> Result<Schedule, Trouble>
-    ensures schedule { IfOk result (λ s. IsScheduleOf lacking bytes.now (plan.view s)) }
-    ensures trouble { IfErr result (λ t. IsTextTrouble lacking bytes.now t) }
+/// The schedule whose text the bytes are, which has to name the list from which the check was removed.
+pub fn schedule_of(alloc: Global, broken: BrokenList, bytes: &[u8]) -> Result<Schedule, Trouble>
+    ensures schedule { IfOk result (λ s. IsScheduleOf broken bytes.now (plan.view s)) }
+    ensures trouble { IfErr result (λ t. IsTextTrouble broken bytes.now t) }
     ensures read { IfErr result (λ t. t ≢ CannotRead) }
 {
     if bytes.len() > LONGEST {
         return Err(Trouble::TooLong);
     }
     let schedule = read_schedule(alloc, bytes)?;
-    if schedule.kind != lacking.kind() {
+    if schedule.kind != broken.kind() {
         return Err(Trouble::Line(KIND_LINE, LineCause::Schedule(Cause::Kind)));
     }
     Ok(schedule)
 }
 
 /// The word for the cause at which a run ends.
-pub fn cause_of(fault: WrongFault) -> LineCause
+pub fn cause_of(fault: BrokenStepError) -> LineCause
     ensures { (line : ℕ) → Trouble.Line line result ≡ trouble_at line fault }
 {
     match fault {
-        WrongFault::NoThread => LineCause::NoThread,
-        WrongFault::Busy => LineCause::Busy,
-        WrongFault::Idle => LineCause::Idle,
-        WrongFault::Lost => LineCause::Lost,
+        BrokenStepError::NoThread => LineCause::NoThread,
+        BrokenStepError::Busy => LineCause::Busy,
+        BrokenStepError::Idle => LineCause::Idle,
+        BrokenStepError::Lost => LineCause::Lost,
     }
 }
 
@@ -65,14 +64,14 @@ impl Listener for Silent {
     }
 }
 
-/// The report of the run of the schedule whose text the bytes are, by the list that lacks the check.
-pub fn report_of(alloc: Global, lacking: Lacking, bytes: &[u8]) -> Result<Report, Trouble>
-    ensures report { IfOk result (λ r. IsReported lacking bytes.now (report.view r)) }
-    ensures trouble { IfErr result (λ t. IsTextTrouble lacking bytes.now t ⊎ IsRunTrouble lacking bytes.now t) }
+/// The report of the run of the schedule whose text the bytes are, by the broken list.
+pub fn report_of(alloc: Global, broken: BrokenList, bytes: &[u8]) -> Result<Report, Trouble>
+    ensures report { IfOk result (λ r. IsReported broken bytes.now (report.view r)) }
+    ensures trouble { IfErr result (λ t. IsTextTrouble broken bytes.now t ⊎ IsRunTrouble broken bytes.now t) }
     ensures read { IfErr result (λ t. t ≢ CannotRead) }
 {
-    let schedule = schedule_of(alloc, lacking, bytes)?;
-    let (_silent, run) = run_lacking(alloc, lacking, &schedule, false, Silent {})?;
+    let schedule = schedule_of(alloc, broken, bytes)?;
+    let (_silent, run) = run_broken(alloc, broken, &schedule, false, Silent {})?;
     match run {
         Ok(report) => Ok(report),
         Err((line, fault)) => Err(Trouble::Line(line, cause_of(fault))),

@@ -1,4 +1,4 @@
-//! `replay`, `trace` and `show` of the run of a list that lacks a check: its report, its trace, and the picture of the report.
+//! `replay`, `trace` and `show` of the run of a broken list: its report, its trace, and the picture of the report.
 #![tactic(auto)]
 
 mod asking;
@@ -6,6 +6,6 @@ mod replaying;
 mod showing;
 mod tracing;
 
-pub use replaying::{replayed_lacking, tool_replay_lacking};
-pub use showing::{shown_lacking, tool_show_lacking};
-pub use tracing::{tool_trace_lacking, traced_lacking};
+pub use replaying::{replayed_broken, tool_replay_broken};
+pub use showing::{shown_broken, tool_show_broken};
+pub use tracing::{tool_trace_broken, traced_broken};

@@ -1,50 +1,50 @@
 ghost use Rattle.std.specs.Prelude.{◌≢◌, IfErr, IfSome};
 ghost use Rattle.tool_base.specs.Tools.{Ends, view};
 ghost use Rattle.tool_base.specs.declared.trouble.Trouble.TheVariants.{CannotRead};
-ghost use Rattle.tool_broken.specs.Lacks.{ByName, Replays};
+ghost use Rattle.tool_broken.specs.BrokenTools.{ByName, Replays};
 
-use crate::asking::{lacking_of, report_of};
-use lset_lacks::Lacking;
+use crate::asking::{broken_of, report_of};
+use broken_lists::BrokenList;
 use lset_report::write_report;
 use std::alloc::Global;
 use std::io::{Read, Write};
 use tool_base::{Answer, Trouble, deliver, input_of};
 
-fn replayed_by(alloc: Global, lacking: Lacking, bytes: &[u8]) -> Result<Answer, Trouble>
-    ensures replays { Replays lacking bytes.now (view result) }
+fn replayed_by(alloc: Global, broken: BrokenList, bytes: &[u8]) -> Result<Answer, Trouble>
+    ensures replays { Replays broken bytes.now (view result) }
     ensures read { IfErr result (λ t. t ≢ CannotRead) }
 {
-    let report = report_of(alloc, lacking, bytes)?;
+    let report = report_of(alloc, broken, bytes)?;
     let text = write_report(alloc, &report)?;
     Ok(Answer { text, status: 0 })
 }
 
-/// Runs the schedule whose text the bytes are by the list that lacks the check of this name: the text of the report, of the second
+/// Runs the schedule whose text the bytes are by the broken list of this name: the text of the report, of the second
 /// version, with status 0. The report's order is that of the steps that the list's table names, and may explain nothing.
 ///
 /// The error is `Bad(Lacks)` where no list has this name, `TooLong`, `Line` with the first fault of the text, with `Kind` in line 2
 /// where the schedule names another list, or with the event at which the run ends: it is not enabled, or, `Lost`, the list is
 /// broken beyond running; and `Memory`.
-pub fn replayed_lacking(alloc: Global, name: &[u8], bytes: &[u8]) -> Result<Answer, Trouble>
+pub fn replayed_broken(alloc: Global, name: &[u8], bytes: &[u8]) -> Result<Answer, Trouble>
     ensures replays { ByName (λ l made. Replays l bytes.now made) name.now (view result) }
     ensures read { IfErr result (λ t. t ≢ CannotRead) }
 {
-    let lacking = lacking_of(name)?;
-    replayed_by(alloc, lacking, bytes)
+    let broken = broken_of(name)?;
+    replayed_by(alloc, broken, bytes)
 }
 
 fn replayed_input<R: Read>(alloc: Global, name: &[u8], input: &mut R) -> Result<Answer, Trouble>
     ensures { ByName (λ l made. IfSome (R.remaining input.old) (λ bytes. Replays l bytes made)) name.now (view result) }
 {
-    let lacking = lacking_of(name)?;
+    let broken = broken_of(name)?;
     let bytes = input_of(alloc, input)?;
-    replayed_by(alloc, lacking, &bytes)
+    replayed_by(alloc, broken, &bytes)
 }
 
-/// Runs the schedule on the input by the list that lacks the check of this name: writes the report on the output and nothing
+/// Runs the schedule on the input by the broken list of this name: writes the report on the output and nothing
 /// more, or one line about what is wrong on `faults`, and gives the exit status: 0 where the report was written, 2 where no list
 /// has the name, 3 where memory was refused, else 1. A failing write on `faults` leaves the status as it is.
-pub fn tool_replay_lacking<R: Read, W: Write, F: Write>(
+pub fn tool_replay_broken<R: Read, W: Write, F: Write>(
     alloc: Global,
     name: &str,
     input: &mut R,

@@ -1,10 +1,10 @@
 ghost use Rattle.std.specs.Prelude.{◌≢◌, IfErr, IfSome};
 ghost use Rattle.tool_base.specs.Tools.{Ends, view};
 ghost use Rattle.tool_base.specs.declared.trouble.Trouble.TheVariants.{CannotRead};
-ghost use Rattle.tool_broken.specs.Lacks.{ByName, Shows};
+ghost use Rattle.tool_broken.specs.BrokenTools.{ByName, Shows};
 
-use crate::asking::{lacking_of, report_of};
-use lset_lacks::Lacking;
+use crate::asking::{broken_of, report_of};
+use broken_lists::BrokenList;
 use std::alloc::Global;
 use std::io::{Read, Write};
 use tool_base::{Answer, Trouble, deliver, input_of};
@@ -13,23 +13,23 @@ use tool_show::{Form, drawn, picture_of_report};
 
 fn shown_by(
     alloc: Global,
-    lacking: Lacking,
+    broken: BrokenList,
     bytes: &[u8],
     form: Form,
     window: Window,
 ) -> Result<Answer, Trouble>
-    ensures shows { Shows window lacking bytes.now (view result) }
+    ensures shows { Shows window broken bytes.now (view result) }
     ensures read { IfErr result (λ t. t ≢ CannotRead) }
 {
-    let report = report_of(alloc, lacking, bytes)?;
+    let report = report_of(alloc, broken, bytes)?;
     let picture = picture_of_report(alloc, report)?;
     drawn(alloc, &picture, form, window)
 }
 
-/// Draws the report that `replayed_lacking` makes, as `show` draws any report: status 1 where its order is refused, and else 0, and
-/// a last line where counting shows that no order explains it. The errors are those of `replayed_lacking`, and `Bad(From)` where
+/// Draws the report that `replayed_broken` makes, as `show` draws any report: status 1 where its order is refused, and else 0, and
+/// a last line where counting shows that no order explains it. The errors are those of `replayed_broken`, and `Bad(From)` where
 /// the window begins past the picture.
-pub fn shown_lacking(
+pub fn shown_broken(
     alloc: Global,
     name: &[u8],
     bytes: &[u8],
@@ -39,8 +39,8 @@ pub fn shown_lacking(
     ensures shows { ByName (λ l made. Shows window l bytes.now made) name.now (view result) }
     ensures read { IfErr result (λ t. t ≢ CannotRead) }
 {
-    let lacking = lacking_of(name)?;
-    shown_by(alloc, lacking, bytes, form, window)
+    let broken = broken_of(name)?;
+    shown_by(alloc, broken, bytes, form, window)
 }
 
 fn shown_input<R: Read>(
@@ -52,15 +52,15 @@ fn shown_input<R: Read>(
 ) -> Result<Answer, Trouble>
     ensures { ByName (λ l made. IfSome (R.remaining input.old) (λ bytes. Shows window l bytes made)) name.now (view result) }
 {
-    let lacking = lacking_of(name)?;
+    let broken = broken_of(name)?;
     let bytes = input_of(alloc, input)?;
-    shown_by(alloc, lacking, &bytes, form, window)
+    shown_by(alloc, broken, &bytes, form, window)
 }
 
-/// Draws the report of the run of the schedule on the input, by the list that lacks the check of this name, on the output, or
+/// Draws the report of the run of the schedule on the input, by the broken list of this name, on the output, or
 /// writes one line about what is wrong on `faults`. Gives the exit status: 0 where the picture was written, 1 where it tells why
 /// the order is refused, 2 where no list has the name or the window begins past the picture, 3 where memory was refused, else 1.
-pub fn tool_show_lacking<R: Read, W: Write, F: Write>(
+pub fn tool_show_broken<R: Read, W: Write, F: Write>(
     alloc: Global,
     name: &str,
     form: Form,

@@ -1,10 +1,10 @@
 ghost use Rattle.std.specs.Prelude.{◌≢◌, IfErr, IfSome};
 ghost use Rattle.tool_base.specs.Tools.{Ends, view};
 ghost use Rattle.tool_base.specs.declared.trouble.Trouble.TheVariants.{CannotRead};
-ghost use Rattle.tool_broken.specs.Lacks.{ByName, Traces};
+ghost use Rattle.tool_broken.specs.BrokenTools.{ByName, Traces};
 
-use crate::asking::{cause_of, lacking_of, schedule_of};
-use lset_lacks::{Lacking, run_lacking};
+use crate::asking::{broken_of, cause_of, schedule_of};
+use broken_lists::{BrokenList, run_broken};
 use lset_schedule::Schedule;
 use lset_text::{kind_word, put_openings};
 use std::alloc::{AllocError, Global};
@@ -12,10 +12,10 @@ use std::io::{Read, Write};
 use tool_base::{Answer, Trouble, deliver, input_of};
 use tool_trace::{EventLines, TITLE};
 
-/// What the trace has before its first event: its header, in which what the list lacks stands behind the list.
-fn head_of(alloc: Global, lacking: Lacking, schedule: &Schedule) -> Result<String, AllocError> {
+/// What the trace has before its first event: its header, in which the removed check comes after the list.
+fn head_of(alloc: Global, broken: BrokenList, schedule: &Schedule) -> Result<String, AllocError> {
     let list = kind_word(schedule.kind);
-    let lacks = lacking.name();
+    let lacks = broken.name();
     let threads = schedule.threads;
     let quota = schedule.quota;
     let mut head = format!(in alloc;
@@ -25,13 +25,18 @@ fn head_of(alloc: Global, lacking: Lacking, schedule: &Schedule) -> Result<Strin
     Ok(head)
 }
 
-fn traced_by(alloc: Global, lacking: Lacking, bytes: &[u8], chains: bool) -> Result<Answer, Trouble>
-    ensures traces { Traces lacking bytes.now (view result) }
+fn traced_by(
+    alloc: Global,
+    broken: BrokenList,
+    bytes: &[u8],
+    chains: bool,
+) -> Result<Answer, Trouble>
+    ensures traces { Traces broken bytes.now (view result) }
     ensures read { IfErr result (λ t. t ≢ CannotRead) }
 {
-    let schedule = schedule_of(alloc, lacking, bytes)?;
-    let silent = EventLines::after(head_of(alloc, lacking, &schedule)?);
-    let (lines, run) = run_lacking(alloc, lacking, &schedule, chains, silent)?;
+    let schedule = schedule_of(alloc, broken, bytes)?;
+    let silent = EventLines::after(head_of(alloc, broken, &schedule)?);
+    let (lines, run) = run_broken(alloc, broken, &schedule, chains, silent)?;
     match run {
         Ok(_) => Ok(Answer {
             text: lines.ended(None)?,
@@ -44,11 +49,11 @@ fn traced_by(alloc: Global, lacking: Lacking, bytes: &[u8], chains: bool) -> Res
     }
 }
 
-/// Traces the run of the schedule whose text the bytes are, by the list that lacks the check of this name: the text of a trace, as
+/// Traces the run of the schedule whose text the bytes are, by the broken list of this name: the text of a trace, as
 /// of `trace`, with a line `lacks NAME` behind its list, and the chain after each event that changed it where `chains`. Its status
-/// is 1 where the run ends before the last event, and else 0. The errors are those of `replayed_lacking`, but for the event at which
+/// is 1 where the run ends before the last event, and else 0. The errors are those of `replayed_broken`, but for the event at which
 /// a run ends.
-pub fn traced_lacking(
+pub fn traced_broken(
     alloc: Global,
     name: &[u8],
     bytes: &[u8],
@@ -57,8 +62,8 @@ pub fn traced_lacking(
     ensures traces { ByName (λ l made. Traces l bytes.now made) name.now (view result) }
     ensures read { IfErr result (λ t. t ≢ CannotRead) }
 {
-    let lacking = lacking_of(name)?;
-    traced_by(alloc, lacking, bytes, chains)
+    let broken = broken_of(name)?;
+    traced_by(alloc, broken, bytes, chains)
 }
 
 fn traced_input<R: Read>(
@@ -69,15 +74,15 @@ fn traced_input<R: Read>(
 ) -> Result<Answer, Trouble>
     ensures { ByName (λ l made. IfSome (R.remaining input.old) (λ bytes. Traces l bytes made)) name.now (view result) }
 {
-    let lacking = lacking_of(name)?;
+    let broken = broken_of(name)?;
     let bytes = input_of(alloc, input)?;
-    traced_by(alloc, lacking, &bytes, chains)
+    traced_by(alloc, broken, &bytes, chains)
 }
 
-/// Traces the run of the schedule on the input, by the list that lacks the check of this name, on the output, or writes one line
+/// Traces the run of the schedule on the input, by the broken list of this name, on the output, or writes one line
 /// about what is wrong on `faults`. Gives the exit status: 0 where the trace of all events was written, 2 where no list has the
 /// name, 3 where memory was refused, else 1, also where the run ends before the last event.
-pub fn tool_trace_lacking<R: Read, W: Write, F: Write>(
+pub fn tool_trace_broken<R: Read, W: Write, F: Write>(
     alloc: Global,
     name: &str,
     chains: bool,

@@ -101,7 +101,7 @@ text_of CeilingLeftInChain = texts.CEILING_LEFT_IN_CHAIN.now
 text_of BehindTheWalk = texts.BEHIND_THE_WALK.now
 text_of NothingInAnothersStep = texts.NOTHING_IN_ANOTHERS_STEP.now
 
--- the text of the report of a list that lacks the check in question, of the examples that have one
+-- the text of the report of a broken list, without the check in question, of the examples that have one
 abbrev pub broken_of : Example → Option (List ℕ)
 broken_of FailedTries = None
 broken_of Full = None

@@ -1,5 +1,5 @@
-//! The classic interleavings of the five lists by name, as schedules, and for six of them the report of a list that lacks the
-//! check which the example shows.
+//! The classic interleavings of the five lists by name, as schedules, and for six of them the report of a broken list, without
+//! the check that the example shows.
 #![tactic(auto)]
 
 mod example;

@@ -1,6 +1,6 @@
 use Rattle.std.specs.Prelude.{None, refl}
 use Rattle.broken_tables.specs.Findings.{OtherKeyIsLost}
-use Rattle.broken_tables.specs.WrongCoarse.{goes_without_lock, two_adds}
+use Rattle.broken_tables.specs.BrokenCoarse.{goes_without_lock, two_adds}
 use Rattle.broken_tables.proofs.Computed.{other_is_lost}
 use Rattle.broken_tables.proofs.Refuted.{by_other_key}
 use Rattle.broken_tables.proofs.coarse.calls_without_the_lock.Goals as goal

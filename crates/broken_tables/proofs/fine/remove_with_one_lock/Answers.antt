@@ -1,6 +1,6 @@
 use Rattle.std.specs.Prelude.{None, refl}
 use Rattle.broken_tables.specs.Findings.{UnlinkedNodeChanges, AddedKeyIsLost}
-use Rattle.broken_tables.specs.WrongFine.{removes_with_one_lock, removed_under_a_lock}
+use Rattle.broken_tables.specs.BrokenFine.{removes_with_one_lock, removed_under_a_lock}
 use Rattle.broken_tables.proofs.Computed.{link_changes, key_is_lost}
 use Rattle.broken_tables.proofs.Refuted.{by_link, by_lost_key}
 use Rattle.broken_tables.proofs.fine.remove_with_one_lock.Goals as goal

@@ -1,6 +1,6 @@
 use Rattle.std.specs.Prelude.{None, refl}
 use Rattle.broken_tables.specs.Findings.{UnlinkedNodeChanges, AddedKeyIsLost}
-use Rattle.broken_tables.specs.WrongFine.{gives_back_pred_first, removed_behind_a_walk}
+use Rattle.broken_tables.specs.BrokenFine.{gives_back_pred_first, removed_behind_a_walk}
 use Rattle.broken_tables.proofs.Computed.{link_changes, key_is_lost}
 use Rattle.broken_tables.proofs.Refuted.{by_link, by_lost_key}
 use Rattle.broken_tables.proofs.fine.walk_that_gives_back_pred_first.Goals as goal

@@ -1,6 +1,6 @@
 use Rattle.std.specs.Prelude.{None, refl}
 use Rattle.broken_tables.specs.Findings.{UnlinkedNodeChanges, AddedKeyIsLost}
-use Rattle.broken_tables.specs.WrongLazy.{validates_without_marks, marked_before_it_is_locked}
+use Rattle.broken_tables.specs.BrokenLazy.{validates_without_marks, marked_before_it_is_locked}
 use Rattle.broken_tables.proofs.Computed.{link_changes, key_is_lost}
 use Rattle.broken_tables.proofs.Refuted.{by_link, by_lost_key}
 use Rattle.broken_tables.proofs.lazy.validation_without_the_marks.Goals as goal

@@ -2,7 +2,7 @@ use Rattle.std.specs.Prelude.{refl}
 use Rattle.lset_words.specs.declared.Reply.TheVariants.{True}
 use Rattle.broken_tables.specs.Schedules.{contains}
 use Rattle.broken_tables.specs.Findings.{ReplyNeverFits}
-use Rattle.broken_tables.specs.WrongLockFree.{contains_by_key, asked_after_the_mark}
+use Rattle.broken_tables.specs.BrokenLockFree.{contains_by_key, asked_after_the_mark}
 use Rattle.broken_tables.proofs.Computed.{reply_fits_never}
 use Rattle.broken_tables.proofs.Refuted.{by_reply}
 use Rattle.broken_tables.proofs.lock_free.contains_by_the_key_alone.Goals as goal

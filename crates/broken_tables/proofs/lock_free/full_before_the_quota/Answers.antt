@@ -2,7 +2,7 @@ use Rattle.std.specs.Prelude.{refl}
 use Rattle.lset_words.specs.declared.Reply.TheVariants.{Full}
 use Rattle.broken_tables.specs.Schedules.{add}
 use Rattle.broken_tables.specs.Findings.{ReplyNeverFits}
-use Rattle.broken_tables.specs.WrongLockFree.{full_too_soon, one_add}
+use Rattle.broken_tables.specs.BrokenLockFree.{full_too_soon, one_add}
 use Rattle.broken_tables.proofs.Computed.{reply_fits_never}
 use Rattle.broken_tables.proofs.Refuted.{by_reply}
 use Rattle.broken_tables.proofs.lock_free.full_before_the_quota.Goals as goal

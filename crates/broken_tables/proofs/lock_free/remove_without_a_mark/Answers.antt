@@ -1,7 +1,7 @@
 use Rattle.std.specs.Prelude.{Some, refl}
 use Rattle.lset_words.specs.declared.Reply.TheVariants.{True}
 use Rattle.broken_tables.specs.Findings.{UnlinkedNodeChanges, AddedKeyIsLost}
-use Rattle.broken_tables.specs.WrongLockFree.{removes_without_mark, unlinked_before_the_exchange}
+use Rattle.broken_tables.specs.BrokenLockFree.{removes_without_mark, unlinked_before_the_exchange}
 use Rattle.broken_tables.proofs.Computed.{link_changes, key_is_lost}
 use Rattle.broken_tables.proofs.Refuted.{by_link, by_lost_key}
 use Rattle.broken_tables.proofs.lock_free.remove_without_a_mark.Goals as goal

@@ -1,6 +1,6 @@
 use Rattle.std.specs.Prelude.{None, refl}
 use Rattle.broken_tables.specs.Findings.{UnlinkedNodeChanges, AddedKeyIsLost}
-use Rattle.broken_tables.specs.WrongOptimistic.{arrives_by_key, same_key_again}
+use Rattle.broken_tables.specs.BrokenOptimistic.{arrives_by_key, same_key_again}
 use Rattle.broken_tables.proofs.Computed.{link_changes, key_is_lost}
 use Rattle.broken_tables.proofs.Refuted.{by_link, by_lost_key}
 use Rattle.broken_tables.proofs.optimistic.second_walk_by_the_key_alone.Goals as goal

@@ -10,4 +10,4 @@ returns-in-None g c =
 pub returns-in-Some : goal.returns-in-Some
 returns-in-Some g c =
     with_argument (λ name. ReplaysFor name (g.R.Read.remaining c.args.input.now)) _ _ _ _ _ (Some c.in-Some.name.now) _ c.in-Some.ensures
-    c.tool_replay_lacking.ensures
+    c.tool_replay_broken.ensures

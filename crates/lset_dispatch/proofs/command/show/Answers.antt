@@ -22,4 +22,4 @@ pub returns-in-Some : goal.returns-in-Some
 returns-in-Some g c =
     as_asked (options_of c.args.options.now) (g.R.Read.remaining c.args.input.now) _ _ _ _ _ _ _ _ (Some c.in-Some.name.now)
     (c.in-Ok.form, c.in-Ok.window) c.text_of-from.ensures c.text_of-to.ensures c.text_of-width.ensures c.in-Ok.ensures
-    c.in-Some.ensures c.tool_show_lacking.ensures
+    c.in-Some.ensures c.tool_show_broken.ensures

@@ -2,8 +2,8 @@ use Rattle.std.proofs.Common.{◌≡◌, refl, ap}
 use Rattle.lset_words.specs.Words.{key_index}
 use Rattle.lset_steps.specs.declared.Action.TheVariants.{Store}
 use Rattle.lset_lazy.specs.Lazy.{targets}
-use Rattle.lset_caller.specs.Calling.{slot}
-use Rattle.lset_caller.proofs.Calling.{moved, to_slots}
+use Rattle.lset_loops.specs.Calling.{slot}
+use Rattle.lset_loops.proofs.Calling.{moved, to_slots}
 use Rattle.lset_loops.proofs.lazy.act.Goals as goal
 
 pub put_in-requires : goal.put_in-requires

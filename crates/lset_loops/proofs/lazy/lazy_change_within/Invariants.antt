@@ -1,4 +1,4 @@
-use Rattle.lset_caller.specs.Begun.{begun_at}
+use Rattle.lset_loops.specs.Begun.{begun_at}
 use Rattle.lset_loops.proofs.lazy.lazy_change_within.Given as goal
 
 abbrev pub ghosts-make : goal.ghosts-make

@@ -1,8 +1,8 @@
 use Rattle.std.proofs.Common.{◌≡◌, ◌<◌, ◌≤◌, None, refl, sym, ap, arith}
 use Rattle.lset_words.specs.Words.{target}
 use Rattle.lset_words.proofs.Numbers.{if_below, if_not_below}
-use Rattle.lset_caller.specs.Calling.{row}
-use Rattle.lset_caller.proofs.Calling.{moved, to_curr}
+use Rattle.lset_loops.specs.Calling.{row}
+use Rattle.lset_loops.proofs.Calling.{moved, to_curr}
 use Rattle.lset_loops.proofs.lazy.walk.Goals as goal
 
 pub returns-then-word-key : goal.returns-then-word-key

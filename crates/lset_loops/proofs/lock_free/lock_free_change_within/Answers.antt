@@ -1,5 +1,5 @@
 use Rattle.lset_lock_free.specs.LockFree.{lock_free}
-use Rattle.lset_caller.proofs.Calling.{may_begin, is_call, called_if}
+use Rattle.lset_loops.proofs.Calling.{may_begin, is_call, called_if}
 use Rattle.lset_loops.proofs.lock_free.lock_free_change_within.Goals as goal
 
 pub make-requires-clause-begins : goal.make-requires-clause-begins

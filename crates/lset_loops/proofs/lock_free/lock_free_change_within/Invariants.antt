@@ -1,4 +1,4 @@
-use Rattle.lset_caller.specs.Begun.{begun_at}
+use Rattle.lset_loops.specs.Begun.{begun_at}
 use Rattle.lset_loops.proofs.lock_free.lock_free_change_within.Given as goal
 
 abbrev pub ghosts-make : goal.ghosts-make

@@ -2,8 +2,8 @@ use Rattle.std.proofs.Common.{◌≡◌, None, refl, ap}
 use Rattle.lset_words.specs.Words.{link_index}
 use Rattle.lset_steps.specs.declared.Action.TheVariants.{Load}
 use Rattle.lset_lock_free.specs.LockFree.{lock_free}
-use Rattle.lset_caller.specs.Calling.{row}
-use Rattle.lset_caller.proofs.Calling.{moved, no_rest}
+use Rattle.lset_loops.specs.Calling.{row}
+use Rattle.lset_loops.proofs.Calling.{moved, no_rest}
 use Rattle.lset_loops.proofs.lock_free.make.Goals as goal
 
 pub loop-init : goal.loop-init

@@ -1,4 +1,4 @@
-use Rattle.lset_caller.proofs.Calling.{may_begin, is_call, called}
+use Rattle.lset_loops.proofs.Calling.{may_begin, is_call, called}
 use Rattle.lset_loops.proofs.reads.contains_on.Goals as goal
 
 pub make-requires-clause-begins : goal.make-requires-clause-begins

@@ -1,5 +1,5 @@
 use Rattle.lset_words.specs.declared.Call.TheVariants.{Contains}
-use Rattle.lset_caller.specs.Begun.{begun_at}
+use Rattle.lset_loops.specs.Begun.{begun_at}
 use Rattle.lset_loops.proofs.reads.contains_on.Given as goal
 
 abbrev pub ghosts-make : goal.ghosts-make

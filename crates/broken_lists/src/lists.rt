@@ -1,0 +1,155 @@
+ghost use Rattle.std.specs.Prelude.{◌≡◌, IfSome, IfNone, Some};
+ghost use Rattle.lset_words.specs.declared.Kind.{Kind};
+ghost use Rattle.lset_steps.specs.Steps.{Table};
+ghost use Rattle.broken_lists.specs.BrokenLists.{kind_of, name_of, table_of};
+
+use crate::machine::BrokenMachine;
+use crate::{coarse, fine, lazy, lock_free, optimistic};
+use lset_words::Kind;
+
+/// A broken list, by the check that was removed from it.
+#[derive(Clone, Copy, Debug, PartialEq, Eq)]
+pub enum BrokenList {
+    /// CoarseList: calls go on without the lock.
+    Lock,
+    /// FineList: a remove holds the lock of `pred` alone.
+    SecondLock,
+    /// FineList: a walk gives back the lock of `pred` before it has that of `curr`.
+    HandOverHand,
+    /// OptimisticList: the validation looks at the link alone.
+    SecondWalk,
+    /// OptimisticList: the second walk compares keys, and no nodes.
+    SameNode,
+    /// LazyList: the validation looks at no mark.
+    MarksInValidation,
+    /// LazyList: a `contains` looks at no mark.
+    MarkInContains,
+    /// LazyList: a `ceiling` looks at no mark.
+    MarkInCeiling,
+    /// LockFreeList: a remove marks no node before it takes it out.
+    Mark,
+    /// LockFreeList: an add exchanges the link of `pred` whatever its mark is.
+    MarkInAdd,
+    /// LockFreeList: a remove marks a node that is marked already.
+    MarkInRemove,
+    /// LockFreeList: a `contains` answers by the key, whatever the mark is.
+    MarkAtKey,
+    /// LockFreeList: each add takes the first slot of its thread.
+    NewSlot,
+    /// LockFreeList: an add answers `Full` one slot too soon.
+    LastSlot,
+}
+
+/// All of them.
+pub const ALL: [BrokenList; 14] = [
+    BrokenList::Lock,
+    BrokenList::SecondLock,
+    BrokenList::HandOverHand,
+    BrokenList::SecondWalk,
+    BrokenList::SameNode,
+    BrokenList::MarksInValidation,
+    BrokenList::MarkInContains,
+    BrokenList::MarkInCeiling,
+    BrokenList::Mark,
+    BrokenList::MarkInAdd,
+    BrokenList::MarkInRemove,
+    BrokenList::MarkAtKey,
+    BrokenList::NewSlot,
+    BrokenList::LastSlot,
+];
+
+impl BrokenList {
+    /// The name by which it is asked for.
+    pub fn name(self) -> &'static str
+        ensures { result.now ≡ name_of self }
+    {
+        match self {
+            BrokenList::Lock => "lock",
+            BrokenList::SecondLock => "second-lock",
+            BrokenList::HandOverHand => "hand-over-hand",
+            BrokenList::SecondWalk => "second-walk",
+            BrokenList::SameNode => "same-node",
+            BrokenList::MarksInValidation => "marks-in-validation",
+            BrokenList::MarkInContains => "mark-in-contains",
+            BrokenList::MarkInCeiling => "mark-in-ceiling",
+            BrokenList::Mark => "mark",
+            BrokenList::MarkInAdd => "mark-in-add",
+            BrokenList::MarkInRemove => "mark-in-remove",
+            BrokenList::MarkAtKey => "mark-at-key",
+            BrokenList::NewSlot => "new-slot",
+            BrokenList::LastSlot => "last-slot",
+        }
+    }
+
+    /// The list from which the check was removed.
+    pub fn kind(self) -> Kind
+        ensures { result ≡ kind_of self }
+    {
+        match self {
+            BrokenList::Lock => Kind::Coarse,
+            BrokenList::SecondLock | BrokenList::HandOverHand => Kind::Fine,
+            BrokenList::SecondWalk | BrokenList::SameNode => Kind::Optimistic,
+            BrokenList::MarksInValidation
+            | BrokenList::MarkInContains
+            | BrokenList::MarkInCeiling => { Kind::Lazy }
+            BrokenList::Mark
+            | BrokenList::MarkInAdd
+            | BrokenList::MarkInRemove
+            | BrokenList::MarkAtKey
+            | BrokenList::NewSlot
+            | BrokenList::LastSlot => Kind::LockFree,
+        }
+    }
+}
+
+/// The list whose name the bytes are; `None` for a name that no list has.
+pub fn named(name: &[u8]) -> Option<BrokenList>
+    ensures found { IfSome result (λ broken. name.now ≡ name_of broken) }
+    ensures only { (broken : BrokenList) → name.now ≡ name_of broken → result ≡ Some broken }
+{
+    for broken in &ALL {
+        if broken.name().as_bytes() == name {
+            return Some(*broken);
+        }
+    }
+    None
+}
+
+/// Something that can be done on any of these lists.
+pub trait Task {
+    type Out;
+
+    /// When it can be done.
+    ghost may: { Self → Type 0 };
+
+    /// What is done on a machine with this table.
+    ghost done: { Self → Table → Self.Out → Type 0 };
+
+    /// Does it on the list `M`.
+    fn run<M: BrokenMachine>(self) -> Self::Out
+        requires { may self }
+        ensures { done self M.table result };
+}
+
+/// Does a task on this broken list.
+pub fn on_broken<T: Task + Drop>(broken: BrokenList, task: T) -> T::Out
+    requires { T.may task }
+    ensures { T.done task (table_of broken) result }
+{
+    match broken {
+        BrokenList::Lock => task.run::<coarse::CallsWithoutTheLock>(),
+        BrokenList::SecondLock => task.run::<fine::RemoveWithOneLock>(),
+        BrokenList::HandOverHand => task.run::<fine::WalkThatGivesBackPredFirst>(),
+        BrokenList::SecondWalk => task.run::<optimistic::ValidationByTheLinkAlone>(),
+        BrokenList::SameNode => task.run::<optimistic::SecondWalkByTheKeyAlone>(),
+        BrokenList::MarksInValidation => task.run::<lazy::ValidationWithoutTheMarks>(),
+        BrokenList::MarkInContains => task.run::<lazy::ContainsByTheKeyAlone>(),
+        BrokenList::MarkInCeiling => task.run::<lazy::CeilingByTheKeyAlone>(),
+        BrokenList::Mark => task.run::<lock_free::RemoveWithoutAMark>(),
+        BrokenList::MarkInAdd => task.run::<lock_free::AddThatIgnoresTheMark>(),
+        BrokenList::MarkInRemove => task.run::<lock_free::MarkOnAMarkedNode>(),
+        BrokenList::MarkAtKey => task.run::<lock_free::ContainsByTheKeyAlone>(),
+        BrokenList::NewSlot => task.run::<lock_free::SlotUsedTwice>(),
+        BrokenList::LastSlot => task.run::<lock_free::FullBeforeTheQuota>(),
+    }
+}

@@ -1,0 +1,101 @@
+//! What a walk from the head meets in a table whose words may be any.
+ghost use Rattle.std.specs.Prelude.{◌≡◌, IfOk, OnOk, [], slice_index};
+ghost use Rattle.broken_lists.specs.Meeting.{IsMet, is_met, met, put_key, put_met};
+
+use lset_steps::ChainKey;
+use lset_words::{key_index, link_index};
+use std::alloc::{AllocError, Global};
+use std::collections::BTreeSet;
+
+/// Nodes from this one on are not looked at: so many words has no table.
+const NO_NODE: u64 = 1 << 32;
+
+/// A node, and the one to which it leads.
+#[derive(Clone, Copy)]
+struct Met {
+    place: ChainKey,
+    next: u64,
+}
+
+/// The word at an index, or 0 where the table has none.
+fn word_at(words: &[u64], index: u64) -> u64
+    ensures { result ≡ slice_index words.now index }
+{
+    words.get(index as usize).copied().unwrap_or(0)
+}
+
+/// Whether a node lies between head and tail, and the table has it.
+fn is_met(words: &[u64], node: u64) -> bool
+    ensures { result ≡ is_met words.now node }
+{
+    1 < node && node < NO_NODE && link_index(node) < words.len() as u64
+}
+
+fn met_at(words: &[u64], node: u64) -> Option<Met>
+    ensures { IsMet words.now node result }
+{
+    if !is_met(words, node) {
+        return None;
+    }
+    let link = word_at(words, link_index(node));
+    let key = word_at(words, key_index(node)).saturating_sub(1) % NO_NODE;
+    Some(Met {
+        place: ChainKey {
+            key: key as u32,
+            marked: link % 2 == 1,
+        },
+        next: link / 2,
+    })
+}
+
+/// The keys of the nodes that a walk from the head meets before the tail, each with whether its node is marked: of as many nodes
+/// as there are, since a broken list may lead in a circle.
+pub fn chain_met(alloc: Global, words: &[u64]) -> Result<Vec<ChainKey>, AllocError>
+    ensures { IfOk result (λ v. v.items ≡ met words.now) }
+{
+    let mut met = Vec::new(alloc);
+    let mut node = word_at(words, link_index(0)) / 2;
+    for _left in 0..words.len() / 3 {
+        match met_at(words, node) {
+            Some(found) => {
+                met.push(found.place)?;
+                node = found.next;
+            }
+            None => return Ok(met),
+        }
+    }
+    Ok(met)
+}
+
+fn put_key(keys: &mut BTreeSet<u32>, place: ChainKey) -> Result<(), AllocError>
+    ensures { OnOk result (keys.new.keys ≡ put_key place keys.old.keys) }
+{
+    if !place.marked {
+        keys.insert(place.key)?;
+    }
+    Ok(())
+}
+
+fn tree_of(alloc: Global, met: &[ChainKey]) -> Result<BTreeSet<u32>, AllocError>
+    ensures { IfOk result (λ t. t.keys ≡ put_met met.now []) }
+{
+    let mut keys = BTreeSet::new(alloc);
+    for place in met {
+        put_key(&mut keys, *place)?;
+    }
+    Ok(keys)
+}
+
+fn keys_in(alloc: Global, tree: &BTreeSet<u32>) -> Result<Vec<u32>, AllocError>
+    ensures { IfOk result (λ v. v.items ≡ tree.now.keys) }
+{
+    tree.iter().copied().collect(alloc)
+}
+
+/// The keys without a mark among those met, each once, rising.
+pub fn keys_of(alloc: Global, met: &[ChainKey]) -> Result<Vec<u32>, AllocError>
+    ensures { IfOk result (λ v. v.items ≡ put_met met.now []) }
+{
+    let tree = tree_of(alloc, met)?;
+    keys_in(alloc, &tree)
+}

@@ -1,4 +1,0 @@
-use Rattle.lset_caller.proofs.caller.Caller.begin_at_head.Given as goal
-
-abbrev pub ghosts-load_first : goal.ghosts-load_first
-ghosts-load_first g a = record { call = a.call }

@@ -1,4 +1,0 @@
-use Rattle.lset_caller.proofs.caller.Caller.begin_locked.Given as goal
-
-abbrev pub ghosts-exchange_first : goal.ghosts-exchange_first
-ghosts-exchange_first g a = record { call = a.call }

@@ -1,5 +1,0 @@
-use Rattle.lset_caller.specs.Calling.{Holds}
-use Rattle.lset_caller.proofs.caller.Caller.wait_for.Given as goal
-
-abbrev pub invariant-loop : goal.invariant-loop
-invariant-loop g l = Holds g.M.Machine.table g.O.Origin.begun l.fn.place.me.0.local l.place

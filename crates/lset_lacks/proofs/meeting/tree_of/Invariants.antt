@@ -1,6 +1,0 @@
-use Rattle.std.proofs.Common.{◌≡◌, [], drop}
-use Rattle.lset_lacks.specs.Meeting.{put_met}
-use Rattle.lset_lacks.proofs.meeting.tree_of.Given as goal
-
-abbrev pub invariant-loop-place : goal.invariant-loop-place
-invariant-loop-place l = put_met (drop l.place-index l.met) l.keys.keys ≡ put_met l.met []

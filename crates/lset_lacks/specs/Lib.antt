@@ -1,4 +1,0 @@
-pub mod Lackings
-pub mod Keeping
-pub mod Meeting
-pub mod LackingRuns

@@ -1,6 +1,0 @@
-use Rattle.std.proofs.Common.{◌/◌}
-use Rattle.lset_locked_loops.specs.Optimistic.{AtKey}
-use Rattle.lset_locked_loops.proofs.optimistic.make.Given as goal
-
-abbrev pub invariant-loop : goal.invariant-loop
-invariant-loop g l = AtKey g.O.Origin.begun l.fn.slots 0 (l.link / 2) 0 l.place

@@ -1,3 +1,0 @@
-pub mod Coarse
-pub mod Fine
-pub mod Optimistic

@@ -1,0 +1,11 @@
+use Rattle.std.proofs.Common.{◌<◌, arith}
+use Rattle.lset_words.specs.declared.TheConstants.{MOST_WORDS}
+use Rattle.lset_words.specs.Words.{key_index}
+use Rattle.lset_loops.proofs.Calling.{few_words}
+use Rattle.lset_loops.proofs.caller.Caller.store_key.Goals as goal
+
+pub key_index-requires : goal.key_index-requires
+key_index-requires g c =
+    let few : key_index c.args.node.number < MOST_WORDS = few_words g.M.Machine.table g.O.Origin.begun g.met.M.Machine.lawful _
+    c.args.place.now c.requires in
+    omega arith

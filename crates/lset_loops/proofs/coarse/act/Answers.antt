@@ -1,0 +1,49 @@
+use Rattle.std.proofs.Common.{◌≡◌, ◌*◌, Some, refl, sym, ap}
+use Rattle.lset_words.specs.declared.Reply.TheVariants.{True}
+use Rattle.lset_words.specs.Words.{key_index, link_index}
+use Rattle.lset_steps.specs.declared.Action.TheVariants.{Store}
+use Rattle.lset_coarse.specs.Coarse.{targets}
+use Rattle.lset_loops.specs.Calling.{slot, row}
+use Rattle.lset_loops.proofs.Calling.{moved, to_slots}
+use Rattle.lset_loops.proofs.coarse.act.Goals as goal
+
+pub put_in-requires : goal.put_in-requires
+put_in-requires g c = let at = moved c.requires.1 (c.in-PutIn.ensures.deed targets _ c.args.caller.now.is_call.0 refl refl) in
+    record {
+      held = _;
+      holds = at;
+      stores = (
+        ap (Store (key_index (slot c.args.caller.now.slots))) c.args.caller.now.is_key,
+        λ n. refl,
+        (refl, λ n. refl, (refl, λ n. refl, tt)),
+      );
+    }
+
+pub returns-in-PutIn : goal.returns-in-PutIn
+returns-in-PutIn g c = let at = moved c.requires.1 (c.in-PutIn.ensures.deed targets _ c.args.caller.now.is_call.0 refl refl) in
+    (_, _, _, to_slots c.one_more.ensures (c.put_in.ensures _ at))
+
+pub load_link-link-requires : goal.load_link-link-requires
+load_link-link-requires g c =
+    let at = moved c.requires.1 (c.in-TakeOut.ensures.deed targets _ c.args.caller.now.is_call.0 refl refl) in
+    record { held = _; holds = at; acts = refl; goes_on = λ n. refl }
+
+pub store_link-requires : goal.store_link-requires
+store_link-requires g c = let at = moved c.requires.1 (c.in-TakeOut.ensures.deed targets _ c.args.caller.now.is_call.0 refl refl)
+    in
+    record {
+      held = _;
+      holds = c.load_link-link.ensures _ at;
+      acts = ap (λ n. Store (link_index c.args.found.pred.number) (2 * n)) c.behind.ensures;
+      goes_on = λ n. refl;
+    }
+
+pub returns-in-TakeOut : goal.returns-in-TakeOut
+returns-in-TakeOut g c =
+    let at = moved c.requires.1 (c.in-TakeOut.ensures.deed targets _ c.args.caller.now.is_call.0 refl refl) in
+    (_, _, _, c.store_link.ensures _ (c.load_link-link.ensures _ at))
+
+pub returns-in-Answer : goal.returns-in-Answer
+returns-in-Answer g c =
+    let at = moved c.requires.1 (c.in-Answer.ensures.deed targets _ c.args.caller.now.is_call.0 refl refl) in
+    (_, _, _, at)

@@ -1,0 +1,5 @@
+use Rattle.lset_loops.specs.Optimistic.{AtNode}
+use Rattle.lset_loops.proofs.optimistic.reaches.Given as goal
+
+abbrev pub invariant-loop : goal.invariant-loop
+invariant-loop g l = AtNode g.O.Origin.begun l.fn.caller.slots l.fn.stopped l.node l.place

@@ -1,0 +1,11 @@
+use Rattle.std.proofs.Common.{◌≡◌, ◌/◌}
+use Rattle.lset_words.proofs.Numbers.{if_other}
+use Rattle.lset_loops.proofs.Calling.{moved}
+use Rattle.lset_loops.proofs.optimistic.validate.Goals as goal
+
+pub returns-then-link-found : goal.returns-then-link-found
+returns-then-link-found g c = let at8 = rw c.if-not-branch.false at c.in_ok-reaches.ensures in (
+  _,
+  moved (c.load_link-link.ensures _ at8.1) (if_other (c.load_link-link.result / 2) c.args.stopped.found.curr.number
+      c.if-link-found.true _ _),
+)

@@ -1,0 +1,20 @@
+use Rattle.std.proofs.Common.{◌≡◌, ◌<◌, ◌≤◌, None, sym, ap, arith}
+use Rattle.lset_words.specs.Words.{target}
+use Rattle.lset_words.proofs.Numbers.{if_below, if_not_below}
+use Rattle.lset_loops.specs.Calling.{row}
+use Rattle.lset_loops.proofs.Calling.{moved, to_curr}
+use Rattle.lset_loops.proofs.optimistic.walk.Goals as goal
+
+pub returns-then-word-key : goal.returns-then-word-key
+returns-then-word-key g c = let ge : target g.O.Origin.begun.call ≤ c.load_key-word.result =
+    omega (arith, c.args.caller.now.is_key) in (
+      c.loop.invariant.0,
+      moved (c.load_key-word.ensures _ c.loop.invariant.1)
+          (if_not_below c.load_key-word.result (target g.O.Origin.begun.call) ge _ _),
+    )
+
+pub loop-preserved : goal.loop-preserved
+loop-preserved g c = let lt : c.load_key-word.result < target g.O.Origin.begun.call = omega (arith, c.args.caller.now.is_key) in
+    let at = moved (c.load_key-word.ensures _ c.loop.invariant.1) (if_below c.load_key-word.result (target g.O.Origin.begun.call)
+    lt _ _) in
+    (record c.loop.invariant.0 { ckey = c.load_key-word.result }, to_curr c.behind-curr.ensures (c.load_link-link.ensures _ at))

@@ -1,0 +1,26 @@
+-- Where a call of FineList stands.
+use Rattle.std.specs.Prelude.{ℕ, Some, None}
+use Rattle.lset_words.specs.declared.Reply.{Reply}
+use Rattle.lset_steps.specs.Rows.{decided_on}
+use Rattle.lset_fine.specs.Fine.{fine, targets}
+use Rattle.lset_rule.specs.declared.slots.OwnSlots.{OwnSlots}
+use Rattle.lset_rule.specs.Seats.{TableSeat}
+use Rattle.lset_loops.specs.declared.decision.Found.{Found}
+use Rattle.lset_loops.specs.Begun.{Begun}
+use Rattle.lset_loops.specs.Calling.{Holds, Rest, row}
+
+-- It has locked the head.
+abbrev pub AtHead : Begun → OwnSlots → TableSeat → Type 0
+AtHead b own s = (j : Rest) × Holds fine b (row own b.call 2 None 0 0 j) s
+
+-- It has locked the node p, whose link led to the node x, which is to be locked next.
+abbrev pub AtLock : Begun → OwnSlots → ℕ → ℕ → TableSeat → Type 0
+AtLock b own p x s = (j : Rest) × Holds fine b (row own b.call 3 None p x j) s
+
+-- Its walk has stopped there, with both nodes locked.
+abbrev pub StopsAt : Begun → OwnSlots → Found → TableSeat → Type 0
+StopsAt b own f s = (j : Rest) × Holds fine b (decided_on targets f.word (row own b.call 4 None f.pred.number f.curr.number j)) s
+
+-- It is about to give both locks back, with these slots and this reply.
+abbrev pub Leaves : Begun → Found → OwnSlots × Reply → TableSeat → Type 0
+Leaves b f answer s = (j : Rest) × Holds fine b (row answer.0 b.call 12 (Some answer.1) f.pred.number f.curr.number j) s

@@ -1,0 +1,69 @@
+-- Where a call of OptimisticList stands.
+use Rattle.std.specs.Prelude.{ℕ, Bool, true, false, Option, Some, None}
+use Rattle.lset_words.specs.declared.Reply.{Reply}
+use Rattle.lset_steps.specs.Rows.{decided_on}
+use Rattle.lset_optimistic.specs.Optimistic.{optimistic, targets, at_locks}
+use Rattle.lset_rule.specs.declared.slots.OwnSlots.{OwnSlots}
+use Rattle.lset_rule.specs.Seats.{TableSeat}
+use Rattle.lset_loops.specs.declared.caller.Node.{Node}
+use Rattle.lset_loops.specs.declared.decision.Found.{Found}
+use Rattle.lset_loops.specs.Begun.{Begun}
+use Rattle.lset_loops.specs.Calling.{Holds, Rest, row}
+use Rattle.lset_loops.specs.declared.optimistic.Stopped.{Stopped}
+
+-- It is about to load the key of the node x, to which the link of p led, at which it saw the key word `before`.
+abbrev pub AtKey : Begun → OwnSlots → ℕ → ℕ → ℕ → TableSeat → Type 0
+AtKey b own p x before s = (j : Rest) × Holds optimistic b (row own b.call 2 None p x (record j { pkey = before })) s
+
+-- Its walk has stopped there, and it is about to lock the first node.
+abbrev pub StopsAt : Begun → OwnSlots → Stopped → TableSeat → Type 0
+StopsAt b own f s = (j : Rest)
+    × Holds optimistic b (row own b.call 4 None f.found.pred.number f.found.curr.number (record j {
+      pkey = f.before;
+      ckey = f.found.word;
+    })) s
+
+-- It has locked both nodes, and is about to walk again, if the first is not the head.
+abbrev pub HasLocked : Begun → OwnSlots → Stopped → TableSeat → Type 0
+HasLocked b own f s = (j : Rest)
+    × Holds optimistic b (at_locks (row own b.call 5 None f.found.pred.number f.found.curr.number (record j {
+      pkey = f.before;
+      ckey = f.found.word;
+    }))) s
+
+-- In its second walk it is about to load the link of the node n.
+abbrev pub AtNode : Begun → OwnSlots → Stopped → Node → TableSeat → Type 0
+AtNode b own f n s = (j : Rest)
+    × Holds optimistic b (row own b.call 6 None f.found.pred.number f.found.curr.number (record j {
+      pkey = f.before;
+      ckey = f.found.word;
+      node = n.number;
+    })) s
+
+-- It is about to load the link of the first node, which it found in the list.
+abbrev pub AtPred : Begun → OwnSlots → Found → TableSeat → Type 0
+AtPred b own f s = (j : Rest) × Holds optimistic b
+    (row own b.call 8 None f.pred.number f.curr.number (record j { ckey = f.word })) s
+
+-- The two nodes are neighbours.
+abbrev pub AreNeighbours : Begun → OwnSlots → Found → TableSeat → Type 0
+AreNeighbours b own f s = (j : Rest)
+    × Holds optimistic b (decided_on targets f.word
+    (row own b.call 8 None f.pred.number f.curr.number (record j { ckey = f.word }))) s
+
+-- It is about to give both locks back: with this reply, or with none, to start over.
+abbrev pub GivesBack : Begun → Found → OwnSlots → Option Reply → TableSeat → Type 0
+GivesBack b f own r s = (j : Rest) × Holds optimistic b (row own b.call 14 r f.pred.number f.curr.number j) s
+
+abbrev pub Leaves : Begun → Found → OwnSlots × Reply → TableSeat → Type 0
+Leaves b f answer s = GivesBack b f answer.0 (Some answer.1) s
+
+-- by whether the second walk came to the first node
+abbrev pub HasReached : Begun → OwnSlots → Found → Bool → TableSeat → Type 0
+HasReached b own f true s = AtPred b own f s
+HasReached b own f false s = GivesBack b f own None s
+
+-- by whether they are neighbours
+abbrev pub HasValidated : Begun → OwnSlots → Found → Bool → TableSeat → Type 0
+HasValidated b own f true s = AreNeighbours b own f s
+HasValidated b own f false s = GivesBack b f own None s

@@ -1,0 +1,80 @@
+//! What a call does where its walk has stopped.
+ghost use Rattle.std.specs.Prelude.{◌≡◌, ◌<◌};
+ghost use Rattle.lset_loops.specs.Calling.{Decides, HasStored, MayStore, one_more, put_stores, slot, slot_stores};
+
+use crate::caller::{Caller, Node, Origin};
+use lset_rule::{OwnSlots, Pause, TableSeat};
+use lset_steps::Machine;
+use lset_steps::rows::ceiling_at;
+use lset_words::{Call, Reply, slot_node};
+
+/// Where the walk has stopped: at the first node `curr` whose key word is not below that of the call, and `pred` before it.
+#[derive(Clone, Copy)]
+pub struct Found {
+    pub pred: Node,
+    pub curr: Node,
+    pub word: u64,
+}
+
+/// What a call is to do.
+#[derive(Clone, Copy)]
+pub enum Decision {
+    PutIn,
+    TakeOut,
+    Answer(Reply),
+}
+
+/// What `call` is to do at this key word.
+pub fn decide(call: Call, word: u64, slots: OwnSlots) -> Decision
+    ensures deed { Decides call slots word result }
+    ensures room { result ≡ Decision.PutIn → slots.used < slots.quota }
+{
+    let found = word == call.key().word();
+    let room = slots.used < slots.quota;
+    match call {
+        Call::Add(_) if found => Decision::Answer(Reply::False),
+        Call::Add(_) if room => Decision::PutIn,
+        Call::Add(_) => Decision::Answer(Reply::Full),
+        Call::Remove(_) if found => Decision::TakeOut,
+        Call::Contains(_) if found => Decision::Answer(Reply::True),
+        Call::Remove(_) | Call::Contains(_) => Decision::Answer(Reply::False),
+        Call::Ceiling(_) => Decision::Answer(ceiling_at(word)),
+    }
+}
+
+/// The slots, of which one more is used.
+pub fn one_more(slots: OwnSlots) -> OwnSlots
+    requires { slots.used < slots.quota }
+    ensures { result ≡ one_more slots }
+{
+    OwnSlots {
+        used: slots.used + 1,
+        ..slots
+    }
+}
+
+impl<'a, M: Machine, O: Origin, P: Pause> Caller<'a, M, O, P> {
+    /// Writes the key and the link of the thread's next slot, which is to lead to `next`, and answers its node.
+    pub fn fill_slot(&self, place: &mut TableSeat, next: Node) -> Node
+        requires { MayStore M.table O.begun (slot_stores self.now.slots self.now.key next.number) place.old }
+        ensures node { result.number ≡ slot self.now.slots }
+        ensures stored { HasStored M.table O.begun (slot_stores self.now.slots self.now.key next.number) place.old place.new }
+    {
+        let slots = self.slots;
+        let node = Node {
+            number: slot_node(slots.quota, slots.thread, slots.used),
+        };
+        self.store_key(place, node, self.key);
+        self.store_link(place, node, next);
+        node
+    }
+
+    /// Fills the thread's next slot, and puts it in between `pred` and `curr`.
+    pub fn put_in(&self, place: &mut TableSeat, found: Found)
+        requires { MayStore M.table O.begun (put_stores self.now.slots self.now.key found.pred.number found.curr.number) place.old }
+        ensures { HasStored M.table O.begun (put_stores self.now.slots self.now.key found.pred.number found.curr.number) place.old place.new }
+    {
+        let node = self.fill_slot(place, found.curr);
+        self.store_link(place, found.pred, node);
+    }
+}

@@ -1,0 +1,177 @@
+//! OptimisticList: a walk without locks, two node locks, and a second walk that validates.
+ghost use Rattle.std.specs.Prelude.{IfSome};
+ghost use Rattle.lset_optimistic.specs.Optimistic.{optimistic};
+ghost use Rattle.lset_rule.specs.Seats.{HasCalled, MayCall};
+ghost use Rattle.lset_loops.specs.Begun.{IsCall};
+ghost use Rattle.lset_loops.specs.Calling.{HasAnswered, MayBegin};
+ghost use Rattle.lset_loops.specs.Optimistic.{AreNeighbours, AtKey, HasLocked, HasReached, HasValidated, Leaves, StopsAt};
+
+use crate::caller::{Caller, Node, Origin};
+use crate::decision::{Decision, Found, decide, one_more};
+use lset_optimistic::OptimisticList;
+use lset_rule::{OwnSlots, Pause, Rounds, TableSeat, Words};
+use lset_words::{Call, HEAD, Reply};
+use std::marker::{Brand, PhantomData};
+
+/// Where the walk has stopped, and the key word that it saw at `pred`, or 0 at the head.
+#[derive(Clone, Copy)]
+pub(crate) struct Stopped {
+    pub(crate) found: Found,
+    pub(crate) before: u64,
+}
+
+/// Walks from the head, whose link led to `first`, to the first key that is not below that of the call.
+#[inline(always)]
+fn walk<O: Origin, P: Pause, N: Rounds>(
+    caller: &Caller<OptimisticList, O, P>,
+    place: &mut TableSeat,
+    first: Node,
+) -> Option<Stopped>
+    requires { AtKey O.begun caller.now.slots 0 first.number 0 place.old }
+    ensures { IfSome result (λ f. StopsAt O.begun caller.now.slots f place.new) }
+{
+    let key = caller.key;
+    let mut pred = Node::head();
+    let mut before = 0;
+    let mut curr = first;
+    for _ in 0..N::MOST {
+        let word = caller.load_key(place, curr); // row 2
+        if word >= key {
+            let found = Found { pred, curr, word };
+            return Some(Stopped { found, before });
+        }
+        let link = caller.load_link(place, curr); // row 3
+        pred = curr;
+        before = word;
+        curr = Node::behind(link);
+    }
+    None
+}
+
+/// Walks a second time from the head, as far as `pred`. Answers whether it came there: not where it saw a key above that of
+/// `pred`.
+#[inline(always)]
+fn reaches<O: Origin, P: Pause, N: Rounds>(
+    caller: &Caller<OptimisticList, O, P>,
+    place: &mut TableSeat,
+    stopped: Stopped,
+) -> Option<bool>
+    requires { HasLocked O.begun caller.now.slots stopped place.old }
+    ensures { IfSome result (λ r. HasReached O.begun caller.now.slots stopped.found r place.new) }
+{
+    let pred = stopped.found.pred.number;
+    let before = stopped.before;
+    if pred == HEAD {
+        return Some(true);
+    }
+    let mut node = Node::head();
+    for _ in 0..N::MOST {
+        let link = caller.load_link(place, node); // row 6
+        node = Node::behind(link);
+        let word = caller.load_key(place, node); // row 7
+        if word > before {
+            return Some(false);
+        }
+        if node.number == pred {
+            return Some(true);
+        }
+    }
+    None
+}
+
+/// Whether `pred` is still in the list and leads to `curr`, both of which are locked.
+fn validate<O: Origin, P: Pause, N: Rounds>(
+    caller: &Caller<OptimisticList, O, P>,
+    place: &mut TableSeat,
+    stopped: Stopped,
+) -> Option<bool>
+    requires { HasLocked O.begun caller.now.slots stopped place.old }
+    ensures { IfSome result (λ r. HasValidated O.begun caller.now.slots stopped.found r place.new) }
+{
+    let found = stopped.found;
+    if !reaches::<O, P, N>(caller, place, stopped)? {
+        return Some(false);
+    }
+    let link = caller.load_link(place, found.pred); // row 8
+    if link / 2 != found.curr.number {
+        return Some(false);
+    }
+    Some(true)
+}
+
+/// Does what the call does at the key that was found, between two nodes that it has locked.
+fn act<O: Origin, P: Pause>(
+    caller: &Caller<OptimisticList, O, P>,
+    place: &mut TableSeat,
+    found: Found,
+) -> (OwnSlots, Reply)
+    requires { AreNeighbours O.begun caller.now.slots found place.old }
+    ensures { Leaves O.begun found result place.new }
+{
+    match decide(caller.call, found.word, caller.slots) {
+        Decision::PutIn => {
+            caller.put_in(place, found); // rows 9, 10, 11
+            (one_more(caller.slots), Reply::True)
+        }
+        Decision::TakeOut => {
+            let link = caller.load_link(place, found.curr); // row 12
+            caller.store_link(place, found.pred, Node::behind(link)); // row 13
+            (caller.slots, Reply::True)
+        }
+        Decision::Answer(reply) => (caller.slots, reply),
+    }
+}
+
+fn make<O: Origin, P: Pause, N: Rounds>(
+    table: &Words<OptimisticList>,
+    place: &mut TableSeat,
+    slots: OwnSlots,
+    call: Call,
+    pause: &P,
+) -> Option<(OwnSlots, Reply)>
+    requires begins { MayBegin optimistic O.begun slots place.old }
+    requires call { IsCall O.begun call table.now.table_id table.now.key }
+    ensures { IfSome result (λ r. HasAnswered optimistic O.begun r place.new) }
+{
+    let caller = Caller::<'_, OptimisticList, O, P> {
+        table,
+        pause,
+        slots,
+        call,
+        key: call.key().word(),
+        origin: PhantomData,
+    };
+    let mut link = caller.begin_at_head(place); // row 1
+    for _ in 0..N::MOST {
+        let stopped = walk::<O, P, N>(&caller, place, Node::behind(link))?;
+        let found = stopped.found;
+        caller.lock::<N>(place, found.pred)?; // row 4
+        caller.lock::<N>(place, found.curr)?; // row 5
+        if validate::<O, P, N>(&caller, place, stopped)? {
+            let answer = act(&caller, place, found);
+            caller.unlock(place, found.pred); // row 14
+            caller.unlock_last(place, found.curr); // row 15
+            return Some(answer);
+        }
+        caller.unlock(place, found.pred); // row 14
+        caller.unlock(place, found.curr); // row 15
+        link = caller.load_link(place, Node::head()); // row 1
+    }
+    None
+}
+
+/// Makes a whole call: it walks to its key without a lock, locks the two nodes there, looks by a second walk whether they
+/// are still neighbours in the list, and acts, or gives them back and starts over. (Herlihy and Shavit's optimistic list.)
+/// `None` where a loop of it has made `N::MOST` rounds.
+pub fn optimistic_within<P: Pause, N: Rounds>(
+    table: &Words<OptimisticList>,
+    place: &mut TableSeat,
+    slots: OwnSlots,
+    call: Call,
+    pause: &P,
+) -> Option<(OwnSlots, Reply)>
+    requires { MayCall optimistic table.now.table_id table.now.key slots place.old }
+    ensures { IfSome result (λ r. HasCalled optimistic call place.old r place.new) }
+{
+    make::<Brand, P, N>(table, place, slots, call, pause)
+}
