@@ -1,4 +1,4 @@
-// The engine: the proved replayer as a WebAssembly module (engine.js has its bytes). Text in, text out.
+// The engine: the proved replayer as the WebAssembly module listset.wasm. Text in, text out.
 "use strict";
 
 const FIRST_ROOM = 1 << 22; // bytes handed to the engine for its answer, at first
@@ -11,8 +11,7 @@ class Engine {
   }
 
   static async start() {
-    const bytes = Uint8Array.from(atob(ENGINE), (letter) => letter.charCodeAt(0));
-    return new Engine(await WebAssembly.compile(bytes));
+    return new Engine(await WebAssembly.compile(await engineBytes()));
   }
 
   // What an export says of the texts that it takes: the exit status of the program, and what it prints. Those left out are empty.
@@ -32,6 +31,23 @@ class Engine {
       throw new Error(`the engine stopped: ${fault.message}`);
     }
   }
+}
+
+// The bytes of the module. A page that is opened as a file may fetch nothing, and takes them from engine.js; a page that is one file
+// has that script in it.
+async function engineBytes() {
+  if (typeof ENGINE === "undefined" && location.protocol === "file:") await loadScript("engine.js");
+  if (typeof ENGINE !== "undefined") return Uint8Array.from(atob(ENGINE), (letter) => letter.charCodeAt(0));
+  const answer = await fetch("listset.wasm");
+  if (!answer.ok) throw new Error(`listset.wasm: ${answer.status} ${answer.statusText}`);
+  return answer.arrayBuffer();
+}
+
+function loadScript(src) {
+  return new Promise((done, fail) => {
+    const onerror = () => fail(new Error(`${src} is not beside the page`));
+    document.head.append(Object.assign(document.createElement("script"), { src, onload: done, onerror }));
+  });
 }
 
 // The words for the options of listset_show, as texts: of those that are not given, nothing.

@@ -14,7 +14,7 @@
 
 const fs = require("fs");
 const path = require("path");
-const { NO_ENGINE, NO_MEMORIES, inPage, loadScripts, startedEngine } = require("./in_node.js");
+const { NO_ENGINE, NOT_RUN, inPage, loadScripts, startedEngine } = require("./in_node.js");
 
 const MOST_BYTES = 10000000;
 const BOOK = path.join(__dirname, "book.course");
@@ -147,7 +147,7 @@ async function main(words) {
       throw new Trouble(`the words are ${USAGE}`);
     }
     const engine = await startedEngine();
-    if (engine === null) return [NO_ENGINE, tell(NO_MEMORIES)][0];
+    if (engine === null) return [NO_ENGINE, tell(NOT_RUN)][0];
     loadScripts(...SCRIPTS.map((name) => `${name}.js`));
     return await checked((name, ...given) => engine.ask(name, ...given), words);
   } catch (fault) {

@@ -3,11 +3,10 @@
 
 const fs = require("fs");
 const path = require("path");
-const v8 = require("v8");
 const vm = require("vm");
 
 const NO_ENGINE = 70; // the status of a tool that has none
-const NO_MEMORIES = "this node has no 64-bit WebAssembly memories; version 20 has them";
+const NOT_RUN = "this node does not run the WebAssembly module; version 18 does";
 
 const inPage = (words) => vm.runInThisContext(words);
 
@@ -19,13 +18,12 @@ function loadScripts(...names) {
   }
 }
 
-// The engine, or null where node has no 64-bit memories.
+// The engine, or null where node does not run it.
 async function startedEngine() {
-  v8.setFlagsFromString("--experimental-wasm-memory64"); // older versions want it
   const bytes = fs.readFileSync(path.join(__dirname, "listset.wasm"));
   if (!WebAssembly.validate(bytes)) return null;
   loadScripts("calls.js");
   return new (inPage("Engine"))(await WebAssembly.compile(bytes));
 }
 
-module.exports = { NO_ENGINE, NO_MEMORIES, inPage, loadScripts, startedEngine };
+module.exports = { NO_ENGINE, NOT_RUN, inPage, loadScripts, startedEngine };

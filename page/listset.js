@@ -8,12 +8,12 @@
 //     node page/listset.js --words                  the first words of these lines, one a line
 //
 // FILE may be -, the word for the standard input. Output, line about a trouble and exit status are the program's
-// (docs/TEXTS.md), but that wrong words are one line. Where node has no 64-bit memories, it says so and ends with status 70,
+// (docs/TEXTS.md), but that wrong words are one line. Where node does not run the module, it says so and ends with status 70,
 // before it reads anything.
 "use strict";
 
 const fs = require("fs");
-const { NO_ENGINE, NO_MEMORIES, inPage, startedEngine } = require("./in_node.js");
+const { NO_ENGINE, NOT_RUN, inPage, startedEngine } = require("./in_node.js");
 
 const LONGEST = 67108864; // bytes of an input; what is longer is not read to its end
 const WRONG = 2; // the status of wrong words, and of a wrong value
@@ -162,7 +162,7 @@ async function main(given) {
   const words = asked(given);
   const engine = await startedEngine();
   if (engine !== null) return write(answerOrTrouble(engine, words));
-  process.stderr.write(`listset: ${NO_MEMORIES}\n`);
+  process.stderr.write(`listset: ${NOT_RUN}\n`);
   process.exitCode = NO_ENGINE;
 }
 

@@ -57,7 +57,7 @@ function show() {
   else showHistory(moment.event);
   drawMoves(state, page.engine !== null);
   const goesOn = `Each goes on from event ${count}; what came after it is dropped.`;
-  byId("moves-note").textContent = page.engine === null ? "The engine is not here." : goesOn;
+  byId("moves-note").textContent = goesOn;
   scrollToLine(moment.event);
   showMarks();
   keepSoon();
@@ -240,14 +240,22 @@ function refreshReport() {
   if (byId("report-box").open && page.engine !== null) showOwnReport(page.text);
 }
 
+// What needs the engine is not there; the page says so, and why.
+function tellNoEngine(cause) {
+  document.body.classList.add("no-engine");
+  byId("no-engine").hidden = false;
+  byId("no-engine-cause").textContent = cause;
+  byId("schedule").readOnly = true;
+}
+
 async function startPage() {
   listen();
   takeTrace(new Trace(EMPTY_TRACE), 0, "");
+  showBeforehand();
   try {
     page.engine = await Engine.start();
   } catch (fault) {
-    byId("no-engine").hidden = false;
-    byId("no-engine-cause").textContent = fault.message;
+    tellNoEngine(fault.message);
   }
   fillExamples();
   if (page.engine !== null) startOthers();

@@ -52,7 +52,7 @@ async function openAddress() {
     const wanted = readAddress(location.hash);
     setView(wanted.view);
     if (wanted.course !== null) return await openCourseOfAddress(wanted.course);
-    if (wanted.sides !== null) return openSides(wanted.sides) ?? false;
+    if (wanted.sides !== null) return openSidesOfAddress(wanted.sides);
     if (wanted.example !== null && !exampleNames().includes(wanted.example)) {
       throw new AddressFault(`the address names the example "${wanted.example}", which there is not`);
     }
@@ -88,6 +88,20 @@ function openLink(text, event, lacks) {
   }
 }
 
+function openSidesOfAddress(sides) {
+  if (page.engine === null) throw new AddressFault("the address names two lists side by side, which cannot be run here");
+  return openSides(sides) ?? false;
+}
+
+// Shows the example with which the page will open from its trace, while the engine comes.
+function showBeforehand() {
+  works.load();
+  const [, name, event] = /^#example=([a-z-]+)(?:&event=(\d+))?$/.exec(location.hash) ?? [];
+  const isPlain = location.hash === "" && works.byName.size === 0;
+  if (isPlain) pickKept(Object.keys(TRACES)[0], 0);
+  else if (Object.hasOwn(TRACES, name)) pickKept(name, Number(event ?? 0));
+}
+
 // What the page shows first: what the address names; else the reader's last work; else the first example.
 async function openFirst() {
   works.load();
@@ -96,7 +110,7 @@ async function openFirst() {
   const said = byId("told").innerHTML;
   const last = [...works.byName.keys()].at(-1);
   if (!isNamed && last !== undefined && page.engine !== null) openWork(last);
-  else if (!isNamed) pickExample(exampleNames()[0], 0);
+  else if (!isNamed) pickExample(exampleNames()[0], page.count);
   else bringBack();
   if (!isNamed) tell(said);
   work.before = [];

@@ -21,7 +21,7 @@ function keepBefore() {
 
 // Takes the last of these schedules in place of the one that is shown, which joins the others.
 function exchangeWork(from, others) {
-  const wanted = from.pop();
+  const wanted = page.engine === null ? undefined : from.pop();
   if (wanted === undefined) return;
   others.push(present());
   showUndo();

@@ -256,13 +256,27 @@ const PARTS = {
   "and on a wide one": () => onScreen(1920, 1080, driveWide),
   "a million events": driveMillion,
   "the comparison": compareCases,
-  "without 64-bit memories": driveLess,
+  "without the engine": driveLess,
 };
 const only = new URLSearchParams(location.hash.slice(1)).get("only")?.split("|"); // these parts alone, where a person tries them
+
+const MOST_BYTES = 500000; // of the page before its module
+
+// The module is fetched, and what is needed before it is small; where the page is a file, engine.js has the module.
+function checkTransfer() {
+  const isFile = location.protocol === "file:";
+  check("whether engine.js is read", (inPage("typeof ENGINE") !== "undefined") === isFile);
+  if (isFile) return;
+  const [own] = inPage("performance.getEntriesByType('navigation')");
+  const others = inPage("performance.getEntriesByType('resource')").filter(({ name }) => !name.endsWith("listset.wasm"));
+  const bytes = [own, ...others].reduce((sum, { decodedBodySize }) => sum + decodedBodySize, 0);
+  check(`the page has ${bytes} bytes before its module`, bytes > 200000 && bytes < MOST_BYTES);
+}
 
 async function drive() {
   await isReady();
   check("the engine runs here", inPage("page.engine") !== null);
+  checkTransfer();
   const wantsLess = frame.contentWindow.matchMedia("(prefers-reduced-motion: reduce)").matches;
   check("less motion is asked for where the page is a file", wantsLess === (location.protocol === "file:"));
   check("the play begins slow there", part("speed").value === (wantsLess ? "slow" : "medium"));

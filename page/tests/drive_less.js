@@ -1,5 +1,5 @@
-// Drives the page in a browser that has no 64-bit memories: the examples are shown from their traces, and it says what it
-// cannot do.
+// Drives the page in a browser that does not run the engine: the examples are shown from their traces, and the page says what is left
+// out, which is not there.
 "use strict";
 
 function driveExamplesLess() {
@@ -15,36 +15,49 @@ function driveExamplesLess() {
   }
 }
 
-// Loads the page anew in a browser that refuses to compile such a module.
-async function loadWithoutMemories() {
+// Loads the page anew in a browser that refuses to compile the module.
+async function loadWithoutEngine() {
   const before = frame.contentDocument;
   frame.contentWindow.location.reload();
   while (frame.contentDocument === before || frame.contentDocument === null) await sleep(0);
-  frame.contentWindow.WebAssembly.compile = () => Promise.reject(new Error("invalid memory limits flags 0x4"));
+  frame.contentWindow.WebAssembly.compile = () => Promise.reject(new Error("WebAssembly is turned off"));
   await isReady();
   await sleep(100);
 }
 
+// No button stands there that would do nothing; what is there does what it says.
+function driveLeftOut() {
+  for (const details of frame.contentDocument.querySelectorAll("details")) details.open = true;
+  const gone = ["lesson-box", "judge-begin", "moves-box", "run", "opening", "new-box", "report-part", "sides-box"];
+  check(`what needs the engine is not there: ${gone.filter(isSeen)}`, !gone.some(isSeen));
+  const there = ["examples", "bar", "list", "history", "order", "threads", "listing", "table", "schedule", "file", "save-trace"];
+  check(`the rest is: ${there.filter((name) => !isSeen(name))}`, there.every(isSeen));
+  check("the text is not to be changed", part("schedule").readOnly);
+}
+
 async function driveLess() {
-  await loadWithoutMemories();
+  await loadWithoutEngine();
   check("there is no engine here", inPage("page.engine") === null);
-  check("that is told", !part("no-engine").hidden);
-  check("and what cannot be done", textOf("no-engine").includes("What cannot be done here"));
+  check("that is told", isSeen("no-engine") && textOf("no-engine-cause") === "WebAssembly is turned off");
+  check("and what is left out", textOf("no-engine").includes("is left out: lessons, judging"));
+  driveLeftOut();
   driveExamplesLess();
   pick("snip");
   goToEvent(17);
   check("a sentence", textOf("said").includes("out of the chain"));
-  check("no steps are offered", [...part("moves").querySelectorAll("button")].every((button) => button.disabled));
   press("1");
   check("and the keys write nothing", textOf("where") === "event 17 of 23");
-  part("run").click();
-  check("Run says it", textOf("fault").startsWith("The engine is not here"));
+  press("u");
+  check("nor do they undo", textOf("where") === "event 17 of 23");
   frame.contentWindow.location.hash = "#example=stale-pred&event=30";
   await sleep(200);
   check("an address of an example is followed", textOf("where") === "event 30 of 42" && textOf("fault") === "");
   frame.contentWindow.location.hash = "#list=lazy&threads=2&quota=4&s=b0.add.5&event=1";
   await sleep(200);
   check("one of a schedule is told", textOf("told") === "the address names a schedule, which cannot be run here");
+  frame.contentWindow.location.hash = "#sides=coarse.lazy&quota=4&calls=0.add.5&turns=0.1";
+  await sleep(200);
+  check("and one of two lists", textOf("told") === "the address names two lists side by side, which cannot be run here");
   frame.contentWindow.opened = new frame.contentWindow.File([inPage("page.trace.text")], "own.trace");
   await inPage("openFile(opened)");
   check("a trace can be opened", textOf("source") === "a trace from a file; its grammar was checked");

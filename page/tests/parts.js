@@ -4,6 +4,7 @@
 
 const fs = require("fs");
 const path = require("path");
+const vm = require("vm");
 const { inPage, loadScripts, startedEngine } = require("../in_node.js");
 
 const folder = path.dirname(__dirname);
@@ -232,6 +233,19 @@ function checkColours() {
   for (const { name, contrast, least } of contrasts) check(`${name}: a contrast of ${contrast.toFixed(2)}`, contrast >= least);
 }
 
+// In a language as browsers of 2021 have it, which lacks what older.js defines.
+function checkOlder() {
+  const without = "delete Object.hasOwn; for (const it of ['at', 'findLast']) delete Array.prototype[it]; delete String.prototype.at;";
+  const asked = [
+    "[[1, 2].at(-1), [1, 2].at(0), [1, 2].at(2), 'ab'.at(-1), 'ab'.at(-3)]",
+    "[[1, 2, 3].findLast((it) => it < 3), [1].findLast((it) => it > 1)]",
+    "[Object.hasOwn({ a: 1 }, 'a'), Object.hasOwn({}, 'toString'), Object.keys([7]).join()]",
+  ].map((words) => `${words}.map(String).join()`);
+  const text = fs.readFileSync(path.join(folder, "older.js"), "utf8");
+  const told = (...before) => vm.runInNewContext([...before, `[${asked}].join("; ")`].join("\n"), {});
+  check(`older.js: ${told(without, text)}`, told(without, text) === told() && told() === "2,1,undefined,b,undefined; 2,undefined; true,false,0");
+}
+
 async function main() {
   const engine = await startedEngine();
   const names = Object.keys(inPage("CLASSICS"));
@@ -239,6 +253,7 @@ async function main() {
   checkSentences(engine);
   checkTraces(engine, names);
   checkColours();
+  checkOlder();
   const texts = names.map((name) => engine.ask("listset_example", name).text);
   checkAddresses(engine, texts);
   checkDocs(engine);

@@ -1,13 +1,14 @@
-// The heap of the module: the three functions of a Rattle program's heap, for WebAssembly with a 64-bit memory, and two for
-// the page itself. No proof covers this file.
+// The heap of the module: the three functions of a Rattle program's heap, for WebAssembly with 64-bit addresses, and two for the
+// page itself. No proof covers this file.
 //
-// Blocks have 2^k bytes, k from 5 to 40; the 16 bytes before what is handed out hold k. A freed block goes to the list of its
-// size. A new one is cut from the end of the memory, which grows by whole pages; where it cannot grow, memory is refused.
+// Blocks have 2^k bytes, k from 5 to 32; the 16 bytes before what is handed out hold k. A freed block goes to the list of its
+// size. A new one is cut from the end of the memory, which grows by whole pages; where it cannot grow, memory is refused. It ends
+// below 4 GiB (../lower.py).
 typedef unsigned long long u64;
 typedef struct { u64 ok; char *block; } Tried;
 
-enum { HEAD = 16, PAGE = 65536, LEAST_CLASS = 5, CLASSES = 41, PAGES_AT_ONCE = 16 };
-static const u64 MOST = 1ULL << 39;
+enum { HEAD = 16, PAGE = 65536, LEAST_CLASS = 5, CLASSES = 33, PAGES_AT_ONCE = 16 };
+static const u64 MOST = 1ULL << 31;
 
 extern char __heap_base;
 static char *top, *end;

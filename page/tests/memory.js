@@ -1,0 +1,39 @@
+// node page/tests/memory.js: the heap of the module (wasm/heap.c) until memory is refused. Blocks stand apart and within the memory,
+// which ends 16 MiB below 4 GiB (lower.py); what is refused leaves the heap as it was.
+"use strict";
+
+const fs = require("fs");
+const path = require("path");
+
+const LAST = 2 ** 32 - 2 ** 24;
+const HEAD = 16; // bytes before a block, of its 2^k
+const MANY = 5000; // blocks, more than there is memory for
+
+const built = new WebAssembly.Module(fs.readFileSync(process.argv[2] ?? path.join(__dirname, "..", "listset.wasm")));
+const failed = [];
+let passed = 0;
+
+function check(what, is) {
+  if (is) passed++;
+  else failed.push(what);
+}
+
+// As many blocks of a size as there are, and then what is still to be had.
+function fill(size) {
+  const { memory, page_alloc: alloc, page_free: free } = new WebAssembly.Instance(built).exports;
+  const blocks = [];
+  for (let block = alloc(BigInt(size)); block !== 0n && blocks.length < MANY; block = alloc(BigInt(size))) {
+    blocks.push(Number(block));
+  }
+  const { byteLength } = memory.buffer;
+  check(`${size}: nearly all of the memory`, (blocks.length + 3) * (size + HEAD) > LAST && blocks.length < MANY);
+  check(`${size}: apart`, blocks.every((it, at) => at === 0 || it >= blocks[at - 1] + size + HEAD));
+  check(`${size}: within ${byteLength}`, blocks.at(-1) + size <= byteLength && byteLength <= LAST);
+  check(`${size}: a small one still`, alloc(100n) !== 0n);
+  free(BigInt(blocks[0]));
+  check(`${size}: a freed one again`, Number(alloc(BigInt(size))) === blocks[0]);
+  check(`${size}: too large`, [2n ** 31n + 1n, 2n ** 32n, 2n ** 63n].every((it) => alloc(it) === 0n));
+}
+
+for (const power of [20, 26, 30, 31]) fill(2 ** power - HEAD);
+console.log(JSON.stringify({ passed, failed }));
