@@ -38,6 +38,11 @@ gather_more r [] ys = refl
 gather_more None (x ∷ xs) ys = gather_more (Some x) xs ys
 gather_more (Some r) (x ∷ xs) ys = gather_more (Some (gathered r x)) xs ys
 
+-- the last of them is one seat
+pub last_held : (set : SetValue) (old rest : List SeatValue) (x : SeatValue) → old ≡ rest ++ x ∷ [] → AreOf set old → x.held ≡ 1
+last_held set old rest x e are =
+    (parts set rest (x ∷ []) (subst (AllByRecursion (IsOf set)) e (recursion_from_All (IsOf set) old are))).1.0.1
+
 -- the last of those to be split off is split off
 pub split_adds : (set : SetValue) (s : Option SeatValue) (old rest : List SeatValue) (x : SeatValue) → old ≡ rest ++ x ∷ []
     → AreOf set old → AddUp s rest (Some x) [] s old

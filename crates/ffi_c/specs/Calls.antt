@@ -1,5 +1,5 @@
 -- What a function of C has done with what its seats held, by its answer.
-use Rattle.std.specs.Prelude.{◌≡◌, ◌≢◌, ◌⊎◌, ℕ, List, Bool, true, false, if◌then◌else◌, Option, Some, None}
+use Rattle.std.specs.Prelude.{◌≡◌, ◌≢◌, ◌⊎◌, ℕ, List, Bool, true, false, if◌then◌else◌, Option, Some, None, IsSome}
 use Rattle.lset_words.specs.declared.Call.{Call}
 use Rattle.lset_words.specs.declared.Reply.{Reply}
 use Rattle.lset_words.specs.declared.Reply.TheVariants as reply
@@ -8,7 +8,7 @@ use Rattle.lset_steps.specs.Steps.{Table}
 use Rattle.lset_live.specs.Seats.{SetValue, SeatValue}
 use Rattle.lset_live.specs.Explained.{HasAnswered}
 use Rattle.ffi_c.specs.declared.held.Held.{Held}
-use Rattle.ffi_c.specs.Sets.{table_in, set_in, seat_in, spare_in, keys_in, gathers, HasNoneToSplit, SameSet, IsKept, IsBoth, IsOpenedAs, HasClosed, RefusesAsked, RefusesToClose, AreGiven}
+use Rattle.ffi_c.specs.Sets.{table_in, set_in, seat_in, spare_in, keys_in, gathers, HasNoneToSplit, IsOneSeat, SameSet, IsKept, IsBoth, IsOpenedAs, HasClosed, RefusesAsked, RefusesToClose, AreGiven}
 
 -- The call c was made from the seat and answered; or there is none; or the call gave up, and now there is none. That no call gives
 -- up which has not made all rounds of `Countless` is tested.
@@ -74,11 +74,12 @@ RefusesToSplit full h true n = n ≡ 15
 RefusesToSplit false h false n = n ≡ 255
 RefusesToSplit true h false n = HasNoneToSplit (spare_in h) n
 
--- Where the answer is 0, the other, which was empty, is full, with what was in the one, whose calling seat stays; else both are as
--- they were.
+-- If the answer is 0, the other, which was empty, has one seat, which was in the one, whose calling seat stays; else both are as they
+-- were.
 abbrev pub HasSplit : Bool → Held → Bool → Held → ℕ → Bool → Held → Bool → Held → Type 0
 HasSplit full h out g n full' h' out' g' =
-    ((n ≡ 0) × (full ≡ true) × (out ≡ false) × (full' ≡ true) × (out' ≡ true) × (seat_in h' ≡ seat_in h) × IsBoth h' g' h)
+    ((n ≡ 0) × (full ≡ true) × (out ≡ false) × (full' ≡ true) × (out' ≡ true) × (seat_in h' ≡ seat_in h)
+    × IsOneSeat (seat_in g') (spare_in g') × IsBoth h' g' h)
     ⊎ (RefusesToSplit full h out n × KeepsSeat full h full' h' × KeepsSeat out g out' g')
 
 -- 0 of two full seats of one list and number, 18 of two other full ones, and else 255
@@ -86,10 +87,11 @@ abbrev pub gather_number : Bool → Held → Bool → Held → ℕ
 gather_number true h true g = if gathers h g then 0 else 18
 gather_number into h from g = 255
 
--- Where the answer is 0, the one, full, has all seats of both, and the other, which was full, is empty; else both are as they were.
+-- If the answer is 0, the one has all seats of both, and one of them calls; the other, which was full, is empty. Else both are as they
+-- were.
 abbrev pub HasGathered : Bool → Held → Bool → Held → ℕ → Bool → Held → Bool → Held → Type 0
 HasGathered into h from g n into' h' from' g' = (n ≡ gather_number into h from g)
-    × (((n ≡ 0) × (into ≡ true) × (from ≡ true) × (into' ≡ true) × (from' ≡ false) × IsBoth h g h')
+    × (((n ≡ 0) × (into ≡ true) × (from ≡ true) × (into' ≡ true) × (from' ≡ false) × IsSome (seat_in h') × IsBoth h g h')
     ⊎ ((n ≢ 0) × KeepsSeat into h into' h' × KeepsSeat from g from' g'))
 
 -- A full seat stays full: with the keys of the set, which is closed, if the answer is 0; else as it was, and the answer says why.

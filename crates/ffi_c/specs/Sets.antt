@@ -1,5 +1,5 @@
 -- What a seat of C holds: its list, its set, the set's number, its seats; and what is done with them.
-use Rattle.std.specs.Prelude.{Bool, true, false, ◌&&◌, nat_eq, is_some, ◌≡◌, ◌≤◌, ◌<◌, ◌⊎◌, ◌+◌, ◌++◌, ℕ, zero, suc, List, [], ◌∷◌, Option, Some, None, drop, length, map, option_to_list}
+use Rattle.std.specs.Prelude.{Bool, true, false, ◌&&◌, nat_eq, is_some, IsSome, ◌≡◌, ◌≤◌, ◌<◌, ◌⊎◌, ◌+◌, ◌++◌, ℕ, zero, suc, List, [], ◌∷◌, Option, Some, None, drop, length, map, option_to_list}
 use Rattle.std.specs.List.{range_with_len}
 use Rattle.std.specs.Option.{option_map}
 use Rattle.std.specs.Arc.{arc_value}
@@ -92,6 +92,11 @@ pub record IsKept (h h' : Held) : Type 0 where
   pub spare : spare_in h' ≡ spare_in h
   pub keys : keys_in h' ≡ keys_in h
 
+-- One seat, with none to be split off it.
+abbrev pub IsOneSeat : Option SeatValue → List SeatValue → Type 0
+IsOneSeat (Some seat) spare = (seat.held ≡ 1) × (spare ≡ [])
+IsOneSeat None spare = ⊥
+
 -- The third seats are the first and the second together: none is lost, and none is there twice.
 pub record AddUp (s : Option SeatValue) (ss : List SeatValue) (t : Option SeatValue) (ts : List SeatValue) (u : Option SeatValue)
     (us : List SeatValue) : Type 0 where
@@ -160,6 +165,7 @@ RefusesAsked kind opening n = ((4 < kind) × (n ≡ 14))
 pub record IsOpenedAs (kind : ℕ) (opening : Opening) (number : ℕ) (h : Held) : Type 0 where
   pub known : kind < 5
   pub opens : Opens opening
+  pub calls : IsSome (seat_in h)
   pub table : table_in h ≡ table_of kind
   pub set : OpensWith opening (set_in h) (seat_in h) (spare_in h)
   pub number_is : number_in h ≡ Some number

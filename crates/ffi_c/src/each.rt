@@ -1,6 +1,6 @@
 //! The same of whatever a seat of C holds, list by list.
-ghost use Rattle.std.specs.Prelude.{◌≡◌, ◌<◌, [], true, false, IfOk, IfErr, MatchOption, MatchResult, length};
-ghost use Rattle.ffi_c.specs.Sets.{AreAtFront, AreGiven, Gathers, HasClosed, IsBoth, IsKept, IsOpenedAs, HasNoneToSplit, RefusesToClose};
+ghost use Rattle.std.specs.Prelude.{◌≡◌, ◌<◌, [], true, false, IsSome, IfOk, IfErr, MatchOption, MatchResult, length};
+ghost use Rattle.ffi_c.specs.Sets.{AreAtFront, AreGiven, Gathers, HasClosed, IsBoth, IsKept, IsOneSeat, IsOpenedAs, HasNoneToSplit, RefusesToClose};
 ghost use Rattle.ffi_c.specs.Sets.{gathers, keys_in, seat_in, set_in, spare_in};
 ghost use Rattle.lset_live.specs.Seats.{RefusesOpening};
 ghost use Rattle.ffi_c.specs.Calls.{HasCalledHeld};
@@ -51,7 +51,7 @@ pub fn call_held(held: &mut Held, call: Call) -> Option<Reply>
 
 /// Splits a seat off; else the code why not.
 pub fn split_held(held: &mut Held, alloc: Global) -> Result<Held, u8>
-    ensures split { MatchResult result (λ h. (seat_in held.new ≡ seat_in held.old) × IsBoth held.new h held.old)
+    ensures split { MatchResult result (λ h. (seat_in held.new ≡ seat_in held.old) × IsOneSeat (seat_in h) (spare_in h) × IsBoth held.new h held.old)
         (λ n. IsKept held.old held.new × HasNoneToSplit (spare_in held.old) n) }
 {
     Ok(match held {
@@ -67,7 +67,7 @@ pub fn split_held(held: &mut Held, alloc: Global) -> Result<Held, u8>
 /// Takes a seat of the same set in; gives it back where they are not two seats of one list and number.
 pub fn gather_held(alloc: Global, into: &mut Held, from: Held) -> Option<Held>
     requires { Gathers into.old from }
-    ensures { MatchOption result ((gathers into.old from ≡ true) × IsBoth into.old from into.new)
+    ensures { MatchOption result ((gathers into.old from ≡ true) × IsSome (seat_in into.new) × IsBoth into.old from into.new)
         (λ back. (gathers into.old from ≡ false) × (into.new ≡ into.old) × (back ≡ from)) }
 {
     Some(match (into, from) {

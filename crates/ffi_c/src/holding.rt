@@ -1,5 +1,5 @@
 //! What is done with a seat of a set.
-ghost use Rattle.std.specs.Prelude.{◌≡◌, ◌↔◌, ◌≤◌, [], Some, true, false, IfOk, IfErr, IsTrue};
+ghost use Rattle.std.specs.Prelude.{◌≡◌, ◌↔◌, ◌≤◌, [], Some, true, false, IfOk, IfErr, IsSome, IsTrue};
 ghost use Rattle.std.specs.Prelude.{MatchOption, MatchResult, vec_capacity};
 ghost use Rattle.std.specs.Arc.{arc_value};
 ghost use Rattle.lset_words.specs.Words.{Opens, sizes};
@@ -7,7 +7,7 @@ ghost use Rattle.lset_live.specs.Closes.{most_keys};
 ghost use Rattle.lset_live.specs.Seats.{RefusesOpening};
 ghost use Rattle.ffi_c.specs.Calls.{HasCalledOf};
 ghost use Rattle.ffi_c.specs.Facts.{AreOf};
-ghost use Rattle.ffi_c.specs.Sets.{AddUp, AreLeft, HasNoneToSplit, IsWhole, OpensWith, RefusesToClose};
+ghost use Rattle.ffi_c.specs.Sets.{AddUp, AreLeft, HasNoneToSplit, IsOneSeat, IsWhole, OpensWith, RefusesToClose};
 ghost use Rattle.ffi_c.specs.Sets.{are_two, count_of, record_of};
 
 use crate::codes::{NO_MORE, OUT_OF_MEMORY, SEATS_OUT};
@@ -29,6 +29,7 @@ pub fn open_of<M: Bounded>(
 ) -> Result<Of<M>, OpenFault>
     ensures set { IfOk result (λ o. OpensWith (record { threads = seats; quota = quota; keys = keys.now }) (Some (arc_value o.set)) o.seat o.spare.items) }
     ensures number { IfOk result (λ o. o.number ≡ number) }
+    ensures seat { IfOk result (λ o. IsSome o.seat) }
     ensures opens { IfOk result (λ o. Opens (record { threads = seats; quota = quota; keys = keys.now })) }
     ensures refused { IfErr result (RefusesOpening (record { threads = seats; quota = quota; keys = keys.now })) }
 {
@@ -105,7 +106,7 @@ impl<M: Bounded> Of<M> {
         ensures number { self.new.number ≡ self.old.number }
         ensures seat { self.new.seat ≡ self.old.seat }
         ensures split { MatchResult result (λ o. (arc_value o.set ≡ arc_value self.old.set) × (o.number ≡ self.old.number)
-            × AddUp self.new.seat self.new.spare.items o.seat o.spare.items self.old.seat self.old.spare.items)
+            × IsOneSeat o.seat o.spare.items × AddUp self.new.seat self.new.spare.items o.seat o.spare.items self.old.seat self.old.spare.items)
             (λ n. (self.new.spare.items ≡ self.old.spare.items) × HasNoneToSplit self.old.spare.items n) }
     {
         let Ok(set) = Arc::try_clone(&self.set) else {
@@ -127,7 +128,7 @@ impl<M: Bounded> Of<M> {
     /// has no seat.
     pub fn gather(&mut self, alloc: Global, from: Of<M>) -> Option<Of<M>>
         requires { self.old.number ≡ from.number → arc_value self.old.set ≡ arc_value from.set }
-        ensures { MatchOption result ((are_two self.old.number from.number self.old.seat from.seat ≡ true)
+        ensures { MatchOption result ((are_two self.old.number from.number self.old.seat from.seat ≡ true) × IsSome self.new.seat
             × (arc_value self.new.set ≡ arc_value self.old.set) × (self.new.number ≡ self.old.number)
             × (arc_value self.new.set ≡ arc_value from.set) × (self.new.number ≡ from.number)
             × AddUp self.old.seat self.old.spare.items from.seat from.spare.items self.new.seat self.new.spare.items)
