@@ -27,6 +27,7 @@ SHOWN = {
         "lset_history": ["check_order", "why_refused", "Oracle::opened", "Oracle::apply", "History::opened", "History::begin",
                          "History::end"],
         "lset_counts": ["counts_refute"],
+        "lset_parts": ["Parts::new", "Parts::add", "Parts::keys", "Parts::latest", "Parts::is_at_rest"],
     },
     "functions-steps": {
         "lset_words": ["layout"],
@@ -38,6 +39,7 @@ SHOWN = {
         "lset_schedule": ["read_schedule", "write_schedule", "generate"],
         "lset_report": ["read_report", "write_report"],
         "lset_calls": ["read_calls", "report_of"],
+        "lset_points": [],
         "lset_replay": ["replay", "replay_with_points", "trace"],
         "tool_draft": ["read_draft", "schedule_of"],
         "tool_show": ["picture_of_report"],
