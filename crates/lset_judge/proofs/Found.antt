@@ -1,0 +1,57 @@
+-- What a binary search finds: whether keys have a key, and whether some mark is of it.
+use Rattle.std.proofs.Common.{◌≡◌, ℕ, ◌<◌, ◌≤◌, List, true, false, inl, inr, sym, ◌∙◌, ap, arith, length, get_or}
+use Rattle.std.specs.Prelude.{Result, Ok, Err, is_ok, MatchResult, ◌==◌, nat_lt}
+use Rattle.std.specs.List.Sorted.{IsStrictlyIncreasing, IsBinarySearchResult, IsPartitionPoint, IsNonDecreasingBy}
+use Rattle.std.specs.Ordering.{nat_cmp}
+use Rattle.std.proofs.lemmas.List.{get_or_default}
+use Rattle.std.proofs.lemmas.List.Folds.{list_any_none, list_any_at}
+use Rattle.std.proofs.lemmas.List.Kept.{AllPairs-from_increasing}
+use Rattle.std.proofs.lemmas.List.Sorted.{searched}
+use Rattle.lset_words.specs.SequentialSet.{has_key}
+use Rattle.lset_words.proofs.Numbers.{below_or_not, same_or_not, equal_test, unequal_test, lower_number, not_lower_number}
+use Rattle.lset_history.proofs.Keys.{has_true, has_false}
+use Rattle.lset_judge.specs.declared.marks.Mark.{Mark}
+use Rattle.lset_judge.specs.Marks.{has_mark, no_mark}
+
+rising : (keys : List ℕ) → IsStrictlyIncreasing keys → (i j : ℕ) → i ≤ j → j < length keys → get_or keys i 0 ≤ get_or keys j 0
+rising keys up i j low inside = elim (below_or_not i j) [
+  | inl less ↦ (let h = AllPairs-from_increasing keys up i j 0 less inside in omega (arith, h))
+  | inr same ↦ (let e : i ≡ j = omega (arith, low, same) in let a = ap (λ n. get_or keys n 0) e in omega (arith, a))
+]
+
+pub among : (keys : List ℕ) (k : ℕ) (r : Result ℕ ℕ) → IsStrictlyIncreasing keys → IsBinarySearchResult (λ y. nat_cmp y k) keys r
+    → is_ok r ≡ has_key k keys
+among keys k r up found = by r (searched keys k r found (rising keys up))
+  where
+    by : (r : Result ℕ ℕ) → MatchResult r (λ i. (i < length keys) × (get_or keys i 0 ≡ k))
+        (λ i. (i ≤ length keys) × ((j : ℕ) → j < i → get_or keys j 0 < k) × ((j : ℕ) → i ≤ j → j < length keys → k < get_or keys j 0))
+        → is_ok r ≡ has_key k keys
+    by (Ok i) h = sym (has_true k keys (i, h.0, get_or_default keys i k 0 h.0 ∙ h.1))
+    by (Err i) h = sym (has_false k keys (λ c.
+        let same : get_or keys c.0 0 ≡ k = get_or_default keys c.0 0 k c.1 ∙ c.2 in
+        elim (below_or_not c.0 i) [
+          | inl low ↦ (let a = h.1 c.0 low in omega (arith, a, same))
+          | inr high ↦ (let a = h.2 c.0 high c.1 in omega (arith, a, same))
+        ]))
+
+-- ---- marks
+
+module _ (marks : List Mark) (k place : ℕ) (sorted : IsNonDecreasingBy (λ (m : Mark). m.key) marks)
+    (found : IsPartitionPoint (λ (m : Mark). nat_lt m.key k ≡ true) (λ (m : Mark). nat_lt m.key k ≡ false) marks place) where
+  pub mark_found : place < length marks → ((get_or marks place no_mark).key == k) ≡ has_mark k marks
+  mark_found inside = elim (same_or_not (get_or marks place no_mark).key k) [
+    | inl e ↦ equal_test _ _ e ∙ sym (list_any_at (λ (m : Mark). m.key == k) marks place no_mark inside (equal_test _ _ e))
+    | inr ne ↦ unequal_test _ _ ne ∙ sym (list_any_none (λ (m : Mark). m.key == k) marks (λ i d low. unequal_test _ _ (λ same.
+        elim (below_or_not i place) [
+          | inl before ↦ (let a = lower_number _ _ (found.0 i d (omega arith) before) in omega (arith, a, same))
+          | inr after ↦ (
+              let here = not_lower_number _ _ (found.1 place no_mark (omega arith) inside) in
+              let up = sorted place i d after low in
+              let there = ap (λ (m : Mark). m.key) (get_or_default marks place no_mark d inside) in
+              ne (omega (arith, here, up, there, same)))
+        ])))
+  ]
+
+  pub mark_missed : length marks ≤ place → false ≡ has_mark k marks
+  mark_missed past = sym (list_any_none (λ (m : Mark). m.key == k) marks (λ i d low. unequal_test _ _ (λ same.
+      let a = lower_number _ _ (found.0 i d (omega arith) (omega (arith, low, past))) in omega (arith, a, same))))

@@ -1,0 +1,158 @@
+-- The rule needs only the events of a key, each with its moment.
+use Rattle.std.proofs.Common.{◌≡◌, ℕ, zero, suc, ◌+◌, ◌<◌, ◌≤◌, ◌⊎◌, List, [], ◌∷◌, ◌++◌, Bool, true, false, inl, inr, refl, sym, ap, ◌∙◌, arith, subst}
+use Rattle.std.proofs.Common.{length, get_or}
+use Rattle.std.specs.Prelude.{Option, Some, None, is_some, is_none, if◌then◌else◌, All, AllPairs}
+use Rattle.std.proofs.lemmas.Bool.{cases_order}
+use Rattle.lset_words.specs.SequentialSet.{has_key}
+use Rattle.lset_history.specs.History.{HistoryValue, latest_moment}
+use Rattle.lset_judge.specs.Rule.{Event, leaves, idle, State, found, entered, ruled, open_changes, opened}
+use Rattle.lset_judge.specs.Events.{events_on, event_at, rule_explains}
+use Rattle.lset_judge.specs.Marks.{Noted, ruled_on}
+use Rattle.lset_judge.proofs.Leading.{at_once}
+use Rattle.lset_judge.proofs.Ruled.{ruled_none}
+
+-- These are, in turn, all events from one moment to another at which something of the key happens.
+abbrev AreNoted : (ℕ → Event) → ℕ → ℕ → List Noted → Type 0
+AreNoted ev m last [] = (j : ℕ) → m ≤ j → j < last → ev (suc j) ≡ idle
+AreNoted ev m last (x ∷ xs) = (m ≤ x.0) × (x.0 < last) × ((j : ℕ) → m ≤ j → j < x.0 → ev (suc j) ≡ idle) × (ev (suc x.0) ≡ x.1)
+    × AreNoted ev (suc x.0) last xs
+
+-- WHAT CODE HAS OF THEM: they rise, each is the event of its moment, and each moment at which something of the key happens is among them.
+pub record NotesTell (ev : ℕ → Event) (last : ℕ) (xs : List Noted) : Type 0 where
+  pub rising : AllPairs (λ (x y : Noted). x.0 < y.0) xs
+  pub right : All (λ (x : Noted). (x.0 < last) × (ev (suc x.0) ≡ x.1)) xs
+  pub all : (j : ℕ) → j < last → (ev (suc j) ≡ idle) ⊎ ((i : ℕ) × (i < length xs) × ((d : Noted) → (get_or xs i d).0 ≡ j))
+
+idle_skipped : (m : ℕ) (s : State) (vs : List Event) → ruled m (Some s) (idle ∷ vs) ≡ ruled (suc m) (Some s) vs
+idle_skipped m s vs = ap (λ o. ruled (suc m) (entered idle o) vs) (at_once (open_changes s) m idle s refl)
+
+pub on_none : (xs : List Noted) → ruled_on None xs ≡ None
+on_none [] = refl
+on_none (x ∷ xs) = refl
+
+at_end : (m : ℕ) (o : Option State) → ruled m o [] ≡ ruled_on o []
+at_end m None = refl
+at_end m (Some s) = refl
+
+module _ (ev : ℕ → Event) (left : Bool) (last : ℕ) where
+  abbrev whole : List Noted → List Noted
+  whole xs = xs ++ (last, leaves left) ∷ []
+
+  later : (o : Option State) (m : ℕ) (vs : List Event) (xs : List Noted)
+      → ((s : State) → ruled m (Some s) vs ≡ ruled_on (Some s) xs) → ruled m o vs ≡ ruled_on o xs
+  later None m vs xs h = ruled_none m vs ∙ sym (on_none xs)
+  later (Some s) m vs xs h = h s
+
+  noted : (n m : ℕ) (s : State) (xs : List Noted) → m + n ≡ last → AreNoted ev m last xs
+      → ruled m (Some s) (events_on ev left n m) ≡ ruled_on (Some s) (whole xs)
+  noted zero m s [] e a =
+      let at : m ≡ last = omega (arith, e) in
+      at_end (suc m) (entered (leaves left) (found m (leaves left) s))
+      ∙ ap (λ j. ruled_on (entered (leaves left) (found j (leaves left) s)) []) at
+  noted zero m s (x ∷ xs) e a = let low = a.0 in let high = a.1 in absurd (omega (arith, e, low, high))
+  noted (suc n) m s [] e a =
+      let none : ev (suc m) ≡ idle = a m (omega arith) (omega (arith, e)) in
+      ap (λ v. ruled m (Some s) (v ∷ events_on ev left n (suc m))) none
+      ∙ idle_skipped m s (events_on ev left n (suc m))
+      ∙ noted n (suc m) s [] (omega (arith, e)) (λ j l h. a j (omega (arith, l)) h)
+  noted (suc n) m s (x ∷ xs) e a = elim (cases_order m x.0) [
+    | inl same ↦ (
+        let here : ev (suc m) ≡ x.1 = ap (λ j. ev (suc j)) same ∙ a.3 in
+        let rest : AreNoted ev (suc m) last xs = subst (λ j. AreNoted ev (suc j) last xs) (sym same) a.4 in
+        ap (λ v. ruled m (Some s) (v ∷ events_on ev left n (suc m))) here
+        ∙ later (entered x.1 (found m x.1 s)) (suc m) (events_on ev left n (suc m)) (whole xs)
+        (λ t. noted n (suc m) t xs (omega (arith, e)) rest)
+        ∙ ap (λ j. ruled_on (entered x.1 (found j x.1 s)) (whole xs)) same)
+    | inr (inl less) ↦ (
+        let none : ev (suc m) ≡ idle = a.2 m (omega arith) less in
+        ap (λ v. ruled m (Some s) (v ∷ events_on ev left n (suc m))) none
+        ∙ idle_skipped m s (events_on ev left n (suc m))
+        ∙ noted n (suc m) s (x ∷ xs) (omega (arith, e))
+        (omega (arith, less), a.1, λ j l h. a.2 j (omega (arith, l)) h, a.3, a.4))
+    | inr (inr more) ↦ (let low = a.0 in absurd (omega (arith, low, more)))
+  ]
+
+-- ---- what code has
+
+rises : (x : Noted) (xs : List Noted) → AllPairs (λ (a b : Noted). a.0 < b.0) (x ∷ xs) → (i : ℕ) (d : Noted) → i < length xs → x.0 < (get_or xs i d).0
+rises x xs r i d l = r 0 (suc i) d (omega arith) (omega (arith, l))
+
+notes_are : (ev : ℕ → Event) (last m : ℕ) (xs : List Noted) → AllPairs (λ (x y : Noted). x.0 < y.0) xs
+    → All (λ (x : Noted). (m ≤ x.0) × (x.0 < last) × (ev (suc x.0) ≡ x.1)) xs
+    → ((j : ℕ) → m ≤ j → j < last → (ev (suc j) ≡ idle) ⊎ ((i : ℕ) × (i < length xs) × ((d : Noted) → (get_or xs i d).0 ≡ j)))
+    → AreNoted ev m last xs
+notes_are ev last m [] r a all = λ j low high. elim (all j low high) [ inl e ↦ e | inr i ↦ (let l = i.1 in absurd (omega (arith, l))) ]
+notes_are ev last m (x ∷ xs) r a all =
+    let here = a 0 x (omega arith) in let low = here.0 in let high = here.1 in (
+      low,
+      high,
+      (λ j from below. elim (all j from (omega (arith, below, high))) [
+        | inl e ↦ e
+        | inr i ↦ absurd (earlier j below i.0 i.1 (i.2 x))
+      ]),
+      here.2,
+      notes_are ev last (suc x.0) xs (λ i j d b l. r (suc i) (suc j) d (omega (arith, b)) (omega (arith, l)))
+          (λ i d l. let t = a (suc i) d (omega (arith, l)) in let less = rises x xs r i d l in (omega (arith, less), t.1, t.2))
+          (λ j from below. elim (all j (omega (arith, from, low)) below) [
+            | inl e ↦ inl e
+            | inr i ↦ inr (past j from i.0 i.1 i.2)
+          ]),
+    )
+  where
+    earlier : (j : ℕ) → j < x.0 → (i : ℕ) → i < length (x ∷ xs) → (get_or (x ∷ xs) i x).0 ≡ j → ⊥
+    earlier j below zero l e = omega (arith, below, e)
+    earlier j below (suc i) l e = let less = rises x xs r i x (omega (arith, l)) in omega (arith, below, e, less)
+
+    past : (j : ℕ) → suc x.0 ≤ j → (i : ℕ) → i < length (x ∷ xs) → ((d : Noted) → (get_or (x ∷ xs) i d).0 ≡ j)
+        → (i : ℕ) × (i < length xs) × ((d : Noted) → (get_or xs i d).0 ≡ j)
+    past j from zero l e = absurd (let f = e x in omega (arith, from, f))
+    past j from (suc i) l e = (i, omega (arith, l), e)
+
+-- THE RULE ON A KEY'S NOTES judges the key.
+pub notes_judge : (h : HistoryValue) (keys : List ℕ) (k : ℕ) (xs : List Noted)
+    → NotesTell (event_at (latest_moment h.calls) k h.calls) (latest_moment h.calls) xs
+    → rule_explains h keys k
+    ≡ is_some (ruled_on (Some (opened (has_key k h.opening.keys))) (xs ++ (latest_moment h.calls, leaves (has_key k keys)) ∷ []))
+notes_judge h keys k xs t =
+    let last : ℕ = latest_moment h.calls in let left : Bool = has_key k keys in
+    let ev : ℕ → Event = event_at last k h.calls in
+    ap is_some (noted ev left last last 0 (opened (has_key k h.opening.keys)) xs (omega arith)
+    (notes_are ev last 0 xs t.rising (λ i d l. let a = t.right i d l in (omega arith, a.0, a.1)) (λ j _ below. t.all j below)))
+
+-- ---- one list of notes after another
+
+pub on_both : (o : Option State) (xs ys : List Noted) → ruled_on o (xs ++ ys) ≡ ruled_on (ruled_on o xs) ys
+on_both None [] ys = refl
+on_both None (x ∷ xs) ys = sym (on_none ys)
+on_both (Some s) [] ys = refl
+on_both (Some s) (x ∷ xs) ys = on_both (entered x.1 (found x.0 x.1 s)) xs ys
+
+-- A WALK over the first that fails there, or goes on to how the key is left
+module _ (there there' : Bool) (s t : State) (xs xs' : List Noted) (failed : Option ℕ) (is : s ≡ opened there) (same_there : there ≡ there')
+    (same_notes : xs ≡ xs') (walked : ruled_on (Some s) xs ≡ (if is_none failed then Some t else None)) where
+  from_opened : ruled_on (Some (opened there')) xs' ≡ (if is_none failed then Some t else None)
+  from_opened = sym (ap (λ b. ruled_on (Some (opened b)) xs') same_there) ∙ sym (ap (λ g. ruled_on (Some g) xs') is)
+      ∙ sym (ap (ruled_on (Some s)) same_notes) ∙ walked
+
+  pub fails_there : (m : ℕ) (ys : List Noted) → failed ≡ Some m → false ≡ is_some (ruled_on (Some (opened there')) (xs' ++ ys))
+  fails_there m ys at =
+      let none : ruled_on (Some (opened there')) xs' ≡ None = from_opened ∙ ap (λ o. if is_none o then Some t else None) at in
+      sym (ap is_some (on_both (Some (opened there')) xs' ys ∙ ap (λ o. ruled_on o ys) none ∙ on_none ys))
+
+  pub goes_on_to : (settled left left' : Bool) (u : State) (last last' : ℕ) → failed ≡ None → left ≡ left' → last ≡ last'
+      → found last (leaves left) t ≡ (if settled then Some u else None)
+      → settled ≡ is_some (ruled_on (Some (opened there')) (xs' ++ (last', leaves left') ∷ []))
+  goes_on_to settled left left' u last last' none same_left same_last finds =
+      let on : ruled_on (Some (opened there')) xs' ≡ Some t = from_opened ∙ ap (λ o. if is_none o then Some t else None) none in
+      let here : found last' (leaves left') t ≡ (if settled then Some u else None) =
+      sym (ap (λ w. found last' (leaves w) t) same_left) ∙ sym (ap (λ n. found n (leaves left) t) same_last) ∙ finds in
+      chosen settled ∙ sym (ap is_some here) ∙ kept (found last' (leaves left') t)
+      ∙ sym (ap is_some (on_both (Some (opened there')) xs' ((last', leaves left') ∷ []) ∙ ap (λ o. ruled_on o ((last', leaves left') ∷ [])) on))
+    where
+      chosen : (b : Bool) → b ≡ is_some (if b then Some u else None)
+      chosen true = refl
+      chosen false = refl
+
+      kept : (o : Option State) → is_some o ≡ is_some (ruled_on (entered (leaves left') o) [])
+      kept None = refl
+      kept (Some v) = refl

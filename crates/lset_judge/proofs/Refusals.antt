@@ -1,0 +1,181 @@
+-- The keys judged one after another, and the refusals that are found.
+use Rattle.std.proofs.Common.{◌≡◌, ◌≢◌, ℕ, ◌+◌, ◌<◌, ◌≤◌, List, true, false, inl, inr, refl, sym, ap, ◌∙◌, arith, subst, length, get_or, map, [], ◌∷◌, ◌++◌}
+use Rattle.std.specs.Prelude.{Option, Some, None, is_none, IfSome, MatchOption, ◌==◌, Bool, is_some, slice_range}
+use Rattle.std.specs.List.Sorted.{IsNonDecreasingBy}
+use Rattle.std.proofs.lemmas.Bool.{cases_Bool, true≢false}
+use Rattle.std.proofs.lemmas.List.{get_or_default}
+use Rattle.std.proofs.lemmas.List.Folds.{Any-from_list_any}
+use Rattle.lset_words.specs.declared.history.CallRecord.{CallRecord}
+use Rattle.lset_words.specs.SequentialSet.{has_key}
+use Rattle.lset_words.specs.History.{IsHistory}
+use Rattle.lset_words.proofs.Numbers.{below_or_not, same_number}
+use Rattle.lset_history.specs.History.{HistoryValue, latest_moment}
+use Rattle.lset_judge.specs.declared.marks.Mark.{Mark}
+use Rattle.lset_judge.specs.declared.verdict.Refusal.{Refusal}
+use Rattle.lset_judge.specs.Rule.{same, opened, leaves}
+use Rattle.lset_judge.specs.Events.{rule_explains, RulePasses}
+use Rattle.lset_judge.specs.Marks.{AreMarks, has_mark, no_mark, IsRunEnd, IsOneOf, ruled_on, noted_at}
+use Rattle.lset_judge.specs.Verdict.{IsUnexplained}
+use Rattle.lset_judge.proofs.Deciding.{unexplained}
+use Rattle.lset_judge.proofs.Runs.{IsRunOf, run_at, run_judges, unmarked}
+
+-- ---- marks by keys
+
+module _ (calls : List CallRecord) (marks : List Mark) (are : AreMarks calls marks) where
+  pub sorted_keys : IsNonDecreasingBy (λ (m : Mark). m.key) marks
+  sorted_keys i j d low inside = elim (below_or_not i j) [
+    | inl less ↦ elim (are.rising i j d less inside) [
+      | inl up ↦ omega (arith, up)
+      | inr up ↦ (let e = up.0 in omega (arith, e))
+    ]
+    | inr high ↦ (let e : i ≡ j = omega (arith, low, high) in let f = ap (λ n. (get_or marks n d).key) e in omega (arith, f))
+  ]
+
+  key_at : (i : ℕ) (d : Mark) → i < length marks → (get_or marks i d).key ≡ (get_or marks i no_mark).key
+  key_at i d low = ap (λ (m : Mark). m.key) (get_or_default marks i d no_mark low)
+
+  module _ (start end : ℕ) (run : IsRunEnd marks start end)
+      (apart : (i j : ℕ) → i < start → start ≤ j → j < length marks → (get_or marks i no_mark).key < (get_or marks j no_mark).key) where
+    past_end : (j : ℕ) → end ≤ j → j < length marks → (get_or marks start no_mark).key < (get_or marks j no_mark).key
+    past_end j high low =
+        let some = run.some in
+        let ne = run.next (omega (arith, high, low)) in
+        let up = sorted_keys start end no_mark (omega (arith, some)) (omega (arith, high, low)) in
+        let on = sorted_keys end j no_mark high low in
+        omega (arith, ne, up, on)
+
+    pub still_apart : (i j : ℕ) → i < end → end ≤ j → j < length marks → (get_or marks i no_mark).key < (get_or marks j no_mark).key
+    still_apart i j low high inside = elim (below_or_not i start) [
+      | inl before ↦ apart i j before (let some = run.some in omega (arith, some, high)) inside
+      | inr own ↦ (let e = run.own i own low in let p = past_end j high inside in omega (arith, e, p))
+    ]
+
+    pub is_run : IsRunOf marks (get_or marks start no_mark).key start end
+    is_run = let some = run.some in let most = run.inside in record {
+      low = omega (arith, some);
+      inside = run.inside;
+      own = λ i d low high. key_at i d (omega (arith, high, most)) ∙ run.own i low high;
+      all = λ i d low own.
+          let e = key_at i d low in
+          elim (below_or_not i start) [
+            | inl before ↦ absurd (let a = apart i start before (omega arith) (omega (arith, some, most)) in omega (arith, a, e, own))
+            | inr from ↦ elim (below_or_not i end) [
+              | inl below ↦ (from, below)
+              | inr past ↦ absurd (let a = past_end i past low in omega (arith, a, e, own))
+            ]
+          ];
+    }
+
+-- ---- refusals
+
+module _ (h : HistoryValue) (keys : List ℕ) where
+  abbrev pub Fails : Refusal → Type 0
+  Fails r = rule_explains h keys r.key.0 ≡ false
+
+  pub found_tells : (k : ℕ) (found : Option Refusal) → is_none found ≡ rule_explains h keys k → IfSome found (λ (r : Refusal). r.key.0 ≡ k)
+      → MatchOption found (rule_explains h keys k ≡ true) Fails
+  found_tells k None e s = sym e
+  found_tells k (Some r) e s = ap (rule_explains h keys) s ∙ sym e
+
+  pub one_of_both : (A B : Type 0) (a b c : Option Refusal) → IsOneOf a b c → MatchOption a A Fails → MatchOption b B Fails
+      → MatchOption c (A × B) Fails
+  one_of_both A B a b None is first second = (subst (λ o. MatchOption o A Fails) is.0 first, subst (λ o. MatchOption o B Fails) is.1 second)
+  one_of_both A B a b (Some r) (inl is) first second = subst (λ o. MatchOption o A Fails) is first
+  one_of_both A B a b (Some r) (inr is) first second = subst (λ o. MatchOption o B Fails) is second
+
+  pub weaker : (A B : Type 0) (a : Option Refusal) → (A → B) → MatchOption a A Fails → MatchOption a B Fails
+  weaker A B None f m = f m
+  weaker A B (Some r) f m = m
+
+  -- what holds of the keys of all marks holds of each key that has one
+  pub each_marked : (marks : List Mark) → ((i : ℕ) → i < length marks → rule_explains h keys (get_or marks i no_mark).key ≡ true)
+      → (k : ℕ) → has_mark k marks ≡ true → rule_explains h keys k ≡ true
+  each_marked marks each k has =
+      let any = Any-from_list_any (λ (m : Mark). m.key == k) marks has in
+      let here : get_or marks any.0 no_mark ≡ any.1 = get_or_default marks any.0 no_mark any.1 any.2 ∙ any.3 in
+      let own : (get_or marks any.0 no_mark).key ≡ k = ap (λ (m : Mark). m.key) here ∙ same_number _ _ any.4 in
+      subst (λ j. rule_explains h keys j ≡ true) own (each any.0 any.2)
+
+  module _ (history : IsHistory h.opening.threads h.calls) (marks : List Mark) (are : AreMarks h.calls marks) where
+    pub not_left : (k : ℕ) → has_mark k marks ≡ false → has_key k keys ≢ has_key k h.opening.keys → rule_explains h keys k ≡ false
+    not_left k none differ = unmarked h keys history marks are k none ∙ by (has_key k keys) (has_key k h.opening.keys) differ
+      where
+        by : (left was : Bool) → left ≢ was → same left was ≡ false
+        by true true d = absurd (d refl)
+        by true false d = refl
+        by false true d = refl
+        by false false d = absurd (d refl)
+
+    pub left_so : (k : ℕ) → has_mark k marks ≡ false → has_key k keys ≡ has_key k h.opening.keys → rule_explains h keys k ≡ true
+    left_so k none alike = unmarked h keys history marks are k none ∙ ap (λ b. same b (has_key k h.opening.keys)) alike ∙ by (has_key k h.opening.keys)
+      where
+        by : (was : Bool) → same was was ≡ true
+        by true = refl
+        by false = refl
+
+    pub all_pass : ((k : ℕ) → has_mark k marks ≡ true → rule_explains h keys k ≡ true)
+        → ((k : ℕ) → has_mark k marks ≡ false → rule_explains h keys k ≡ true) → RulePasses h keys
+    all_pass with without k = elim (cases_Bool (has_mark k marks)) [ inl t ↦ with k t | inr f ↦ without k f ]
+
+    -- ONE MORE RUN: what is found so far, by all marks before its end
+    module _ (start end : ℕ) (run : IsRunEnd marks start end)
+        (apart : (i j : ℕ) → i < start → start ≤ j → j < length marks → (get_or marks i no_mark).key < (get_or marks j no_mark).key) where
+      pub so_far : (latest : ℕ) → latest ≡ latest_moment h.calls → (first found result : Option Refusal) → IsOneOf first found result
+          → MatchOption first ((i : ℕ) → i < start → rule_explains h keys (get_or marks i no_mark).key ≡ true) Fails
+          → is_none found ≡ is_some (ruled_on (Some (opened (has_key (get_or (slice_range marks start end) 0 no_mark).key h.opening.keys)))
+          (map (noted_at latest h.calls) (slice_range marks start end)
+          ++ (latest, leaves (has_key (get_or (slice_range marks start end) 0 no_mark).key keys)) ∷ []))
+          → IfSome found (λ (r : Refusal). r.key.0 ≡ (get_or (slice_range marks start end) 0 no_mark).key)
+          → MatchOption result ((i : ℕ) → i < end → rule_explains h keys (get_or marks i no_mark).key ≡ true) Fails
+      so_far latest is first found result one before judged own =
+          let k : ℕ = (get_or marks start no_mark).key in
+          let zero : start + 0 ≡ start = omega arith in
+          let some = run.some in
+          let here : (get_or (slice_range marks start end) 0 no_mark).key ≡ k =
+          ap (λ (m : Mark). m.key) (run_at marks start end 0 no_mark (omega (arith, some)) ∙ ap (λ n. get_or marks n no_mark) zero) in
+          let by_rule = run_judges h keys history marks are k start end (is_run h.calls marks are start end run apart) in
+          let same = λ (j n : ℕ). is_some (ruled_on (Some (opened (has_key j h.opening.keys)))
+          (map (noted_at n h.calls) (slice_range marks start end) ++ (n, leaves (has_key j keys)) ∷ [])) in
+          let told : is_none found ≡ rule_explains h keys k = judged ∙ ap (λ j. same j latest) here ∙ ap (same k) is ∙ sym by_rule in
+          let now = found_tells k found told (subst (λ j. IfSome found (λ (r : Refusal). r.key.0 ≡ j)) here own) in
+          weaker (((i : ℕ) → i < start → rule_explains h keys (get_or marks i no_mark).key ≡ true) × (rule_explains h keys k ≡ true))
+          ((i : ℕ) → i < end → rule_explains h keys (get_or marks i no_mark).key ≡ true) result
+          (λ both i low. elim (below_or_not i start) [
+            | inl early ↦ both.0 i early
+            | inr from ↦ subst (λ j. rule_explains h keys j ≡ true) (sym (run.own i from low)) both.1
+          ])
+          (one_of_both ((i : ℕ) → i < start → rule_explains h keys (get_or marks i no_mark).key ≡ true) (rule_explains h keys k ≡ true)
+          first found result one before now)
+
+-- keys that are among the one or the other keys alone have a mark
+pub alike_unmarked : (opening keys : List ℕ) (marks : List Mark)
+    → ((k : ℕ) → has_key k opening ≡ true → has_key k keys ≡ false → has_mark k marks ≡ true)
+    → ((k : ℕ) → has_key k keys ≡ true → has_key k opening ≡ false → has_mark k marks ≡ true)
+    → (k : ℕ) → has_mark k marks ≡ false → has_key k keys ≡ has_key k opening
+alike_unmarked opening keys marks lost new k none = by (has_key k keys) (has_key k opening) refl refl
+  where
+    by : (left was : Bool) → has_key k keys ≡ left → has_key k opening ≡ was → has_key k keys ≡ has_key k opening
+    by true true l w = l ∙ sym w
+    by false false l w = l ∙ sym w
+    by true false l w = absurd (true≢false (sym (new k l w) ∙ none))
+    by false true l w = absurd (true≢false (sym (lost k w l) ∙ none))
+
+-- ---- the answer
+
+abbrev pub Unmarked : List ℕ → List ℕ → List Mark → Option Refusal → Type 0
+Unmarked opening keys marks found = MatchOption found
+    ((k : ℕ) → has_mark k marks ≡ false → has_key k keys ≡ has_key k opening)
+    (λ (r : Refusal). (has_mark r.key.0 marks ≡ false) × (has_key r.key.0 keys ≢ has_key r.key.0 opening))
+
+module _ (h : HistoryValue) (keys : List ℕ) (history : IsHistory h.opening.threads h.calls) (marks : List Mark) (are : AreMarks h.calls marks) where
+  pub found_refutes : (found : Option Refusal) → Unmarked h.opening.keys keys marks found → IfSome found (λ (r : Refusal). IsUnexplained h keys)
+  found_refutes None u = tt
+  found_refutes (Some r) u = unexplained h keys history r.key.0 (not_left h keys history marks are r.key.0 u.0 u.1)
+
+  pub none_passes : (marked found : Option Refusal) → marked ≡ None → found ≡ None
+      → MatchOption marked ((k : ℕ) → has_mark k marks ≡ true → rule_explains h keys k ≡ true) (Fails h keys)
+      → Unmarked h.opening.keys keys marks found → RulePasses h keys
+  none_passes marked found no_marked no_found m u =
+      let each = subst (λ o. MatchOption o ((k : ℕ) → has_mark k marks ≡ true → rule_explains h keys k ≡ true) (Fails h keys)) no_marked m in
+      let alike = subst (Unmarked h.opening.keys keys marks) no_found u in
+      all_pass h keys history marks are each (λ k none. left_so h keys history marks are k none (alike k none))

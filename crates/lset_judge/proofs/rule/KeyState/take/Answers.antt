@@ -1,0 +1,9 @@
+use Rattle.lset_judge.proofs.Ends.{take_turned}
+use Rattle.lset_judge.proofs.rule.KeyState.take.Goals as goal
+
+pub returns : goal.returns
+returns c =
+    let s = c.args.self.now in
+    let near = c.nearest_place-place in
+    take_turned c.args.before s.turned near.result s.there s.puts.items s.takes.items c.deref.result.now c.remove-end.new.self.items
+    c.requires c.deref.ensures.value near.ensures.inside near.ensures.least near.ensures.first c.remove-end.ensures.items

@@ -1,0 +1,93 @@
+-- What a history tells of one key: the events of the key at its moments.
+use Rattle.std.specs.Prelude.{◌≡◌, ℕ, zero, suc, ◌+◌, ◌==◌, Bool, true, false, if◌then◌else◌, List, [], ◌∷◌, Option, Some, None}
+use Rattle.lset_words.specs.declared.Call.{Call}
+use Rattle.lset_words.specs.declared.Call.TheVariants.{Add, Remove, Contains, Ceiling}
+use Rattle.lset_words.specs.declared.Reply.{Reply}
+use Rattle.lset_words.specs.declared.Reply.TheVariants.{True, False, Full, At, Nothing}
+use Rattle.lset_words.specs.declared.history.CallRecord.{CallRecord}
+use Rattle.lset_words.specs.SequentialSet.{has_key}
+use Rattle.lset_words.specs.Words.{key_of}
+use Rattle.lset_history.specs.History.{HistoryValue, latest_moment}
+use Rattle.lset_judge.specs.Rule.{Event, begins, ends, looks, leaves, idle, rule_succeeds}
+-- WHAT A CALL DOES to its key: it turns it, to there or not there; it sees it there or not there; or nothing is told
+pub use Rattle.lset_judge.specs.declared.event.Kind.{Kind}
+pub use Rattle.lset_judge.specs.declared.event.Kind.TheVariants.{Changes as changes, Sees as sees, Nothing as nothing}
+
+abbrev pub kind_of : Call → Reply → Kind
+kind_of (Add k) True = changes true
+kind_of (Add k) False = sees true
+kind_of (Add k) Full = sees false
+kind_of (Add k) (At x) = nothing
+kind_of (Add k) Nothing = nothing
+kind_of (Remove k) True = changes false
+kind_of (Remove k) False = sees false
+kind_of (Remove k) Full = nothing
+kind_of (Remove k) (At x) = nothing
+kind_of (Remove k) Nothing = nothing
+kind_of (Contains k) True = sees true
+kind_of (Contains k) False = sees false
+kind_of (Contains k) Full = nothing
+kind_of (Contains k) (At x) = nothing
+kind_of (Contains k) Nothing = nothing
+kind_of (Ceiling k) r = nothing
+
+-- an open call may still turn the key; and no look is asked of it
+abbrev pub open_kind : Call → Kind
+open_kind (Add k) = changes true
+open_kind (Remove k) = changes false
+open_kind (Contains k) = nothing
+open_kind (Ceiling k) = nothing
+
+abbrev pub kind_if : Call → Option (ℕ × Reply) → Kind
+kind_if c None = open_kind c
+kind_if c (Some e) = kind_of c e.1
+
+-- before which moment a call turns the key: its end; of an open call one behind all moments, by the moment at which it began
+abbrev pub until_if : ℕ → ℕ → Option (ℕ × Reply) → ℕ
+until_if last begun None = last + begun
+until_if last begun (Some e) = e.0
+
+abbrev pub ends_at : ℕ → Option (ℕ × Reply) → Bool
+ends_at m None = false
+ends_at m (Some e) = e.0 == m
+
+abbrev pub begin_event : Kind → ℕ → Event
+begin_event (changes w) until = begins w until
+begin_event (sees w) until = idle
+begin_event nothing until = idle
+
+abbrev pub end_event : Kind → ℕ → Event
+end_event (changes w) begun = ends w
+end_event (sees w) begun = looks w begun
+end_event nothing begun = idle
+
+-- what a call is to its key at the moment at which it begins, or else ends
+abbrev pub event_in : ℕ → CallRecord → ℕ → Event
+event_in last x m = if x.begun == m then begin_event (kind_if x.call x.ended) (until_if last x.begun x.ended)
+    else end_event (kind_if x.call x.ended) x.begun
+
+-- the event of a key at a moment
+abbrev pub event_at : ℕ → ℕ → List CallRecord → ℕ → Event
+event_at last k [] m = idle
+event_at last k (x ∷ xs) m =
+    if (key_of x.call).0 == k then (
+    if x.begun == m then begin_event (kind_if x.call x.ended) (until_if last x.begun x.ended)
+    else (if ends_at m x.ended then end_event (kind_if x.call x.ended) x.begun else event_at last k xs m)
+    ) else event_at last k xs m
+
+-- the events after a moment, so many, and then how the key is left
+abbrev pub events_on : (ℕ → Event) → Bool → ℕ → ℕ → List Event
+events_on ev left zero m = leaves left ∷ []
+events_on ev left (suc n) m = ev (suc m) ∷ events_on ev left n (suc m)
+
+abbrev pub key_events : HistoryValue → List ℕ → ℕ → List Event
+key_events h keys k =
+    events_on (event_at (latest_moment h.calls) k h.calls) (has_key k keys) (latest_moment h.calls) 0
+
+-- THE RULE, for a key of a history and of the keys left
+abbrev pub rule_explains : HistoryValue → List ℕ → ℕ → Bool
+rule_explains h keys k = rule_succeeds (has_key k h.opening.keys) (key_events h keys k)
+
+-- THE RULE FAILS ON NO KEY
+abbrev pub RulePasses : HistoryValue → List ℕ → Type 0
+RulePasses h keys = (k : ℕ) → rule_explains h keys k ≡ true

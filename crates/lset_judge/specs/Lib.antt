@@ -1,0 +1,5 @@
+pub mod Rule
+pub mod Events
+pub mod Verdict
+pub mod Marks
+pub mod Code

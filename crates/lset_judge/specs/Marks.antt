@@ -1,0 +1,80 @@
+-- The marks of calls: the moments at which something may happen of a key, and the rule on the marks of one key.
+use Rattle.std.specs.Prelude.{◌≡◌, ◌≢◌, ℕ, suc, ◌-◌, ◌==◌, ◌<◌, ◌≤◌, ◌⊎◌, Bool, List, [], ◌∷◌, ◌++◌, length, Option, Some, None, All, AllPairs}
+use Rattle.std.specs.Prelude.{Contains, slice_index_or}
+use Rattle.std.specs.List.{list_any}
+use Rattle.lset_words.specs.declared.Reply.{Reply}
+use Rattle.lset_words.specs.declared.history.CallRecord.{CallRecord}
+use Rattle.lset_words.specs.Words.{key_of}
+use Rattle.lset_words.specs.History.{call_numbered}
+use Rattle.lset_judge.specs.declared.marks.Mark.{Mark}
+use Rattle.lset_judge.specs.declared.verdict.Refusal.{Refusal}
+use Rattle.lset_judge.specs.Rule.{Event, State, found, entered}
+use Rattle.lset_judge.specs.Events.{Kind, changes, sees, nothing, kind_if, event_in}
+
+-- ---- the marks
+
+-- the begin of a change,
+abbrev pub begin_marks : Kind → Mark → List Mark
+begin_marks (changes w) m = m ∷ []
+begin_marks (sees w) m = []
+begin_marks nothing m = []
+
+-- and the end of each call
+abbrev pub end_marks : ℕ → ℕ → Option (ℕ × Reply) → List Mark
+end_marks k n None = []
+end_marks k n (Some e) = record { key = k; moment = e.0; call = n } ∷ []
+
+-- the marks of the call with a number
+abbrev pub marks_of : ℕ → CallRecord → List Mark
+marks_of n x = begin_marks (kind_if x.call x.ended) (record { key = (key_of x.call).0; moment = x.begun; call = n })
+    ++ end_marks (key_of x.call).0 n x.ended
+
+-- and of all calls, from a number on
+abbrev pub marks_from : ℕ → List CallRecord → List Mark
+marks_from n [] = []
+marks_from n (x ∷ xs) = marks_of n x ++ marks_from (suc n) xs
+
+-- by key, and then by moment
+abbrev pub IsBefore : Mark → Mark → Type 0
+IsBefore a b = (a.key < b.key) ⊎ ((a.key ≡ b.key) × (a.moment < b.moment))
+
+-- ALL MARKS OF CALLS, sorted
+pub record AreMarks (calls : List CallRecord) (marks : List Mark) : Type 0 where
+  pub known : All (λ (m : Mark). (m.call < length calls) × Contains (marks_of m.call (call_numbered calls m.call)) m) marks
+  pub all : (n : ℕ) (m : Mark) → n < length calls → Contains (marks_of n (call_numbered calls n)) m → Contains marks m
+  pub rising : AllPairs IsBefore marks
+
+abbrev pub has_mark : ℕ → List Mark → Bool
+has_mark k marks = list_any (λ (m : Mark). m.key == k) marks
+
+-- ---- the rule on them
+
+-- an event, and the moment before it
+abbrev pub Noted : Type 0
+Noted = ℕ × Event
+
+abbrev pub ruled_on : Option State → List Noted → Option State
+ruled_on None vs = None
+ruled_on (Some s) [] = Some s
+ruled_on (Some s) (x ∷ xs) = ruled_on (entered x.1 (found x.0 x.1 s)) xs
+
+-- what happens at a mark
+abbrev pub noted_at : ℕ → List CallRecord → Mark → Noted
+noted_at latest calls m = (m.moment - 1, event_in latest (call_numbered calls m.call) m.moment)
+
+-- ---- what the functions on the way say
+
+abbrev pub no_mark : Mark
+no_mark = record { key = 0; moment = 0; call = 0 }
+
+-- the marks from one place to before another are of one key, and the next one is of another key
+pub record IsRunEnd (marks : List Mark) (start end : ℕ) : Type 0 where
+  pub some : start < end
+  pub inside : end ≤ length marks
+  pub own : (i : ℕ) → start ≤ i → i < end → (slice_index_or marks i no_mark).key ≡ (slice_index_or marks start no_mark).key
+  pub next : end < length marks → (slice_index_or marks end no_mark).key ≢ (slice_index_or marks start no_mark).key
+
+-- one of two refusals, or none if there is neither
+abbrev pub IsOneOf : Option Refusal → Option Refusal → Option Refusal → Type 0
+IsOneOf first second None = (first ≡ None) × (second ≡ None)
+IsOneOf first second (Some r) = (first ≡ Some r) ⊎ (second ≡ Some r)

@@ -1,0 +1,95 @@
+-- The rule of the judge, on the calls of one key: what happens at each moment, and which pending change takes effect.
+use Rattle.std.specs.Prelude.{ℕ, zero, suc, ◌+◌, ◌==◌, ◌||◌, min, nat_lt, Bool, true, false, not, if◌then◌else◌, List, [], ◌∷◌}
+use Rattle.std.specs.Prelude.{length, Option, Some, None, is_some}
+-- WHAT HAPPENS AT A MOMENT: a change begins, to there (`true`) or to not there, and the moment at which it ends; such a change ends;
+-- a look ends, what it saw and the moment at which it began; the key is left there or not; or nothing of the key.
+pub use Rattle.lset_judge.specs.declared.event.Event.{Event}
+pub use Rattle.lset_judge.specs.declared.event.Event.TheVariants.{Begins as begins, Ends as ends, Looks as looks, Leaves as leaves}
+pub use Rattle.lset_judge.specs.declared.event.Event.TheVariants.{Idle as idle}
+
+-- THE STATE of the key: whether it is there, the moment of the last turn, and the ends of the changes that have begun and may still
+-- turn it, to there and to not there
+pub record State : Type 0 where
+  pub there : Bool
+  pub turned : ℕ
+  pub puts : List ℕ
+  pub takes : List ℕ
+
+-- before all moments
+abbrev pub opened : Bool → State
+opened b = record { there = b; turned = 0; puts = []; takes = [] }
+
+abbrev pub same : Bool → Bool → Bool
+same true b = b
+same false b = not b
+
+abbrev pub changes_to : Bool → State → List ℕ
+changes_to w s = if w then s.puts else s.takes
+
+-- the changes by which the key can turn now
+abbrev pub options : State → List ℕ
+options s = if s.there then s.takes else s.puts
+
+-- how many of these moments are not before one
+abbrev pub not_before : ℕ → List ℕ → ℕ
+not_before d [] = 0
+not_before d (x ∷ xs) = (if nat_lt x d then 0 else 1) + not_before d xs
+
+-- What is asked of the state at a moment: no change that ends by now has yet to turn; the state was seen since the look began, as it
+-- is now, or as the key has turned since, and so was in both; the key is left as it is.
+abbrev pub fits : ℕ → Event → State → Bool
+fits m (begins w end) s = true
+fits m (ends w) s = not_before (suc m) (changes_to w s) == length (changes_to w s)
+fits m (looks w since) s = same w s.there || not (nat_lt s.turned since)
+fits m (leaves w) s = same w s.there
+fits m idle s = true
+
+abbrev pub enters : Event → State → State
+enters (begins w end) s = if w then record s { puts = end ∷ s.puts } else record s { takes = end ∷ s.takes }
+enters (ends w) s = s
+enters (looks w since) s = s
+enters (leaves w) s = s
+enters idle s = s
+
+abbrev pub take_out : ℕ → List ℕ → List ℕ
+take_out e [] = []
+take_out e (x ∷ xs) = if x == e then xs else x ∷ take_out e xs
+
+-- the key turns by the change with that end, after the event of a moment
+abbrev pub turned_by : ℕ → ℕ → State → State
+turned_by m e s = if s.there then record { there = false; turned = m; puts = s.puts; takes = take_out e s.takes }
+    else record { there = true; turned = m; puts = take_out e s.puts; takes = s.takes }
+
+-- THE RULE: nothing turns before an event asks for it; then turns that change whose end is nearest.
+abbrev pub nearest : ℕ → List ℕ → ℕ
+nearest x [] = x
+nearest x (y ∷ ys) = min x (nearest y ys)
+
+abbrev pub turned_if : ℕ → State → List ℕ → Option State
+turned_if m s [] = None
+turned_if m s (x ∷ xs) = Some (turned_by m (nearest x xs) s)
+
+-- the state that the event finds, by so many turns at most
+abbrev pub settled : ℕ → ℕ → Event → Option State → Option State
+settled n m v None = None
+settled zero m v (Some s) = if fits (suc m) v s then Some s else None
+settled (suc n) m v (Some s) = if fits (suc m) v s then Some s else settled n m v (turned_if m s (options s))
+
+abbrev pub open_changes : State → ℕ
+open_changes s = length s.puts + length s.takes
+
+abbrev pub found : ℕ → Event → State → Option State
+found m v s = settled (open_changes s) m v (Some s)
+
+abbrev pub entered : Event → Option State → Option State
+entered v None = None
+entered v (Some t) = Some (enters v t)
+
+-- the state after the events from a moment on, or none where the rule fails
+abbrev pub ruled : ℕ → Option State → List Event → Option State
+ruled m None vs = None
+ruled m (Some s) [] = Some s
+ruled m (Some s) (v ∷ vs) = ruled (suc m) (entered v (found m v s)) vs
+
+abbrev pub rule_succeeds : Bool → List Event → Bool
+rule_succeeds opening events = is_some (ruled 0 (Some (opened opening)) events)

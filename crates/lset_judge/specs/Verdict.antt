@@ -1,0 +1,68 @@
+-- WHAT THE JUDGE SAYS of a history of calls and the keys left, and which histories it decides.
+use Rattle.std.specs.Prelude.{◌≡◌, ℕ, ◌≤◌, ◌==◌, ◌&&◌, Bool, true, false, List, Option, Some, None, All, IfSome, count_by}
+use Rattle.lset_words.specs.declared.Call.{Call}
+use Rattle.lset_words.specs.declared.Call.TheVariants.{Add, Remove, Contains, Ceiling}
+use Rattle.lset_words.specs.declared.Reply.{Reply}
+use Rattle.lset_words.specs.declared.Reply.TheVariants.{True, False, Full, At, Nothing}
+use Rattle.lset_words.specs.declared.history.CallRecord.{CallRecord}
+use Rattle.lset_words.specs.declared.history.Placed.{Placed}
+use Rattle.lset_history.specs.History.{HistoryValue}
+use Rattle.lset_history.specs.Faults.{Explains}
+use Rattle.lset_judge.specs.declared.verdict.Verdict.{Verdict}
+use Rattle.lset_judge.specs.declared.verdict.Verdict.TheVariants.{Linearizable, NotLinearizable, Undecided}
+
+-- SOME ORDER EXPLAINS the calls and leaves the keys
+abbrev pub IsExplained : HistoryValue → List ℕ → Type 0
+IsExplained h keys = (order : List Placed) × Explains h order keys
+
+-- NO ORDER EXPLAINS the calls and leaves the keys
+abbrev pub IsUnexplained : HistoryValue → List ℕ → Type 0
+IsUnexplained h keys = (order : List Placed) → Explains h order keys → ⊥
+
+-- a reply true or false
+abbrev pub is_truth : Reply → Bool
+is_truth True = true
+is_truth False = true
+is_truth Full = false
+is_truth (At x) = false
+is_truth Nothing = false
+
+-- and not to a ceiling
+abbrev pub is_plain : Call → Reply → Bool
+is_plain (Add k) r = is_truth r
+is_plain (Remove k) r = is_truth r
+is_plain (Contains k) r = is_truth r
+is_plain (Ceiling k) r = false
+
+-- an add that put its key in, or that is open and may
+abbrev pub is_true : Reply → Bool
+is_true True = true
+is_true False = false
+is_true Full = false
+is_true (At x) = false
+is_true Nothing = false
+
+abbrev pub is_true_or_open : Option (ℕ × Reply) → Bool
+is_true_or_open None = true
+is_true_or_open (Some e) = is_true e.1
+
+abbrev pub may_add : Call → Option (ℕ × Reply) → Bool
+may_add (Add k) ended = is_true_or_open ended
+may_add (Remove k) ended = false
+may_add (Contains k) ended = false
+may_add (Ceiling k) ended = false
+
+-- how many adds of a thread put their keys in, or may
+abbrev pub adds_of : ℕ → List CallRecord → ℕ
+adds_of thread calls = count_by (λ (x : CallRecord). may_add x.call x.ended && x.thread == thread) calls
+
+-- THE JUDGE DECIDES a history whose ended calls answer true or false, with quota for the adds of each thread.
+pub record IsJudged (h : HistoryValue) : Type 0 where
+  pub plain : All (λ (x : CallRecord). IfSome x.ended (λ (e : ℕ × Reply). is_plain x.call e.1 ≡ true)) h.calls
+  pub room : (thread : ℕ) → adds_of thread h.calls ≤ h.opening.quota
+
+-- what each verdict says
+abbrev pub IsVerdict : HistoryValue → List ℕ → Verdict → Type 0
+IsVerdict h keys Linearizable = IsExplained h keys
+IsVerdict h keys (NotLinearizable refusal) = IsUnexplained h keys
+IsVerdict h keys Undecided = IsJudged h → ⊥

@@ -1,0 +1,93 @@
+//! What the calls of a key do to it, and what happens of it at a moment.
+
+ghost use Rattle.std.specs.Prelude.{◌≡◌, ◌+◌};
+ghost use Rattle.lset_judge.specs.Events.{kind_of, open_kind, kind_if, until_if, begin_event, end_event, event_in};
+
+use lset_words::{Call, CallRecord, Reply};
+
+/// What a call does to its key.
+#[derive(Clone, Copy, Debug, PartialEq, Eq)]
+pub(crate) enum Kind {
+    /// It puts the key in, or takes it out.
+    Changes(bool),
+    /// It sees the key there, or not there.
+    Sees(bool),
+    /// Nothing is told.
+    Nothing,
+}
+
+/// What happens of a key at a moment.
+#[derive(Clone, Copy, Debug, PartialEq, Eq)]
+pub(crate) enum Event {
+    /// A change begins, to there or to not there, and the moment before which it takes effect.
+    Begins(bool, u64),
+    /// Such a change ends.
+    Ends(bool),
+    /// A call ends that saw the key there, or not there, and the moment at which it began.
+    Looks(bool, u64),
+    /// The key is left there, or not there.
+    Leaves(bool),
+    /// Nothing.
+    Idle,
+}
+
+fn ended_kind(call: Call, reply: Reply) -> Kind
+    ensures { result ≡ kind_of call reply }
+{
+    match (call, reply) {
+        (Call::Add(_), Reply::True) => Kind::Changes(true),
+        (Call::Remove(_), Reply::True) => Kind::Changes(false),
+        (Call::Add(_), Reply::False) | (Call::Contains(_), Reply::True) => Kind::Sees(true),
+        (Call::Add(_), Reply::Full) | (Call::Remove(_) | Call::Contains(_), Reply::False) => {
+            Kind::Sees(false)
+        }
+        (Call::Add(_), Reply::At(_) | Reply::Nothing)
+        | (Call::Remove(_) | Call::Contains(_), Reply::Full | Reply::At(_) | Reply::Nothing)
+        | (Call::Ceiling(_), _) => Kind::Nothing,
+    }
+}
+
+fn open_kind(call: Call) -> Kind
+    ensures { result ≡ open_kind call }
+{
+    match call {
+        Call::Add(_) => Kind::Changes(true),
+        Call::Remove(_) => Kind::Changes(false),
+        Call::Contains(_) | Call::Ceiling(_) => Kind::Nothing,
+    }
+}
+
+/// What a call does to its key; an open one may change it.
+pub(crate) fn kind_of(record: &CallRecord) -> Kind
+    ensures { result ≡ kind_if record.now.call record.now.ended }
+{
+    match record.ended {
+        None => open_kind(record.call),
+        Some((_, reply)) => ended_kind(record.call, reply),
+    }
+}
+
+/// Before which moment a call takes effect: an open one behind all others that have begun before it, where `latest` is the latest
+/// moment.
+fn until(record: &CallRecord, latest: u32) -> u64
+    ensures { result ≡ until_if latest record.now.begun record.now.ended }
+{
+    match record.ended {
+        None => u64::from(latest) + u64::from(record.begun),
+        Some((end, _)) => u64::from(end),
+    }
+}
+
+/// What a call is to its key at the moment at which it begins, or else ends.
+pub(crate) fn event_of(record: &CallRecord, moment: u32, latest: u32) -> Event
+    ensures { result ≡ event_in latest record.now moment }
+{
+    let begins = record.begun == moment;
+    match kind_of(record) {
+        Kind::Changes(to) if begins => Event::Begins(to, until(record, latest)),
+        Kind::Changes(to) => Event::Ends(to),
+        Kind::Sees(_) if begins => Event::Idle,
+        Kind::Sees(there) => Event::Looks(there, u64::from(record.begun)),
+        Kind::Nothing => Event::Idle,
+    }
+}

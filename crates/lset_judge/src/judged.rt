@@ -1,0 +1,83 @@
+//! Which histories the judge decides.
+
+ghost use Rattle.std.specs.Prelude.{slice_index, length, ◌≡◌, ◌≤◌, ◌<◌, ◌^◌, ℕ, IsTrue, ◌↔◌, All, IfSome, true};
+ghost use Rattle.lset_judge.specs.Verdict.{is_truth, is_plain, is_true_or_open, may_add, adds_of, IsJudged};
+
+use lset_history::History;
+use lset_words::{Call, CallRecord, MOST_THREADS, Reply};
+
+fn is_plain(call: Call, reply: Reply) -> bool
+    ensures { result ≡ is_plain call reply }
+{
+    match (call, reply) {
+        (Call::Add(_) | Call::Remove(_) | Call::Contains(_), Reply::True | Reply::False) => true,
+        (
+            Call::Add(_) | Call::Remove(_) | Call::Contains(_),
+            Reply::Full | Reply::At(_) | Reply::Nothing,
+        )
+        | (Call::Ceiling(_), _) => false,
+    }
+}
+
+fn ends_plain(record: &CallRecord) -> bool
+    ensures { IsTrue result ↔ IfSome record.now.ended (λ e. is_plain record.now.call e.1 ≡ true) }
+{
+    match record.ended {
+        Some((_, reply)) => is_plain(record.call, reply),
+        None => true,
+    }
+}
+
+fn may_add(record: &CallRecord) -> bool
+    ensures { result ≡ may_add record.now.call record.now.ended }
+{
+    match (record.call, record.ended) {
+        (Call::Add(_), None | Some((_, Reply::True))) => true,
+        (Call::Add(_), Some((_, Reply::False | Reply::Full | Reply::At(_) | Reply::Nothing)))
+        | (Call::Remove(_) | Call::Contains(_) | Call::Ceiling(_), _) => false,
+    }
+}
+
+/// Whether each ended call answered true or false, and none of them is a `ceiling`.
+fn all_plain(calls: &[CallRecord]) -> bool
+    ensures { IsTrue result ↔ All (λ x. IfSome x.ended (λ e. is_plain x.call e.1 ≡ true)) calls.now }
+{
+    calls.iter().all(|record| ends_plain(record))
+}
+
+/// The adds of each thread that put their keys in, or may.
+fn counted_adds(calls: &[CallRecord]) -> [u32; MOST_THREADS as usize]
+    requires threads { All (λ x. x.thread < MOST_THREADS) calls.now }
+    requires few { length calls.now < 2 ^ 32 }
+    ensures { (thread : ℕ) → thread < MOST_THREADS → slice_index result thread ≡ adds_of thread calls.now }
+{
+    let mut adds = [0u32; MOST_THREADS as usize];
+    for record in calls {
+        if may_add(record) {
+            adds[record.thread as usize] += 1;
+        }
+    }
+    adds
+}
+
+fn are_within(counts: &[u32], quota: u32) -> bool
+    ensures { IsTrue result ↔ All (λ n. n ≤ quota) counts.now }
+{
+    counts.iter().all(|count| *count <= quota)
+}
+
+/// Whether each thread has quota for its adds that put their keys in, and for an open one.
+fn has_room(history: &History) -> bool
+    ensures { IsTrue result ↔ ((thread : ℕ) → adds_of thread history.now.calls ≤ history.now.opening.quota) }
+{
+    let quota = history.quota();
+    are_within(&counted_adds(history.calls()), quota)
+}
+
+/// Whether the judge decides a history, so that `judge` does not answer `Undecided`: if each call that has ended answered true or false,
+/// and none is a `ceiling`; and if each thread has quota for all its `add`s that answered true or have not ended. It takes no memory.
+pub fn is_judged(history: &History) -> bool
+    ensures { IsTrue result ↔ IsJudged history.now }
+{
+    all_plain(history.calls()) && has_room(history)
+}

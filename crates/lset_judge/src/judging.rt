@@ -1,0 +1,177 @@
+//! Each key judged by the rule, over its marks.
+
+ghost use Rattle.std.specs.Prelude.{◌≡◌, ◌≢◌, ◌<◌, ◌++◌, [], ◌∷◌, ℕ, All, map, length, false, true, None, Some, is_none, is_some, IfOk, IfSome, slice_index_or, if◌then◌else◌, MatchOption};
+ghost use Rattle.std.specs.List.Sorted.{IsStrictlyIncreasing, IsNonDecreasingBy};
+ghost use Rattle.lset_words.specs.SequentialSet.{has_key};
+ghost use Rattle.lset_words.specs.History.{IsHistory};
+ghost use Rattle.lset_history.specs.History.{latest_moment};
+ghost use Rattle.lset_judge.specs.Rule.{leaves, opened};
+ghost use Rattle.lset_judge.specs.Events.{rule_explains, RulePasses};
+ghost use Rattle.lset_judge.specs.Marks.{ruled_on, noted_at, AreMarks, has_mark, no_mark, IsOneOf};
+ghost use Rattle.lset_judge.specs.Code.{state_of};
+ghost use Rattle.lset_judge.specs.Verdict.{IsJudged, IsExplained, IsUnexplained};
+
+use crate::Refusal;
+use crate::event::{Event, event_of};
+use crate::keys::is_among;
+use crate::marks::{Mark, has_mark, latest_moment, marks_of, run_end};
+use crate::rule::KeyState;
+use lset_history::History;
+use lset_words::{CallRecord, Key};
+use std::alloc::{AllocError, Global};
+
+/// Lets what happens at the marks of a key happen in turn; the moment of the first at which the rule fails.
+fn walk(
+    state: &mut KeyState,
+    calls: &[CallRecord],
+    latest: u32,
+    run: &[Mark],
+) -> Result<Option<u32>, AllocError>
+    requires known { All (λ m. m.call < length calls.now) run.now }
+    ensures { IfOk result (λ failed. ruled_on (Some (state_of state.old)) (map (noted_at latest calls.now) run.now)
+        ≡ (if is_none failed then Some (state_of state.new) else None)) }
+{
+    for mark in run {
+        let event = event_of(&calls[mark.call as usize], mark.moment, latest);
+        let before = u64::from(mark.moment.saturating_sub(1));
+        if !state.meet(before, event)? {
+            return Ok(Some(mark.moment));
+        }
+    }
+    Ok(None)
+}
+
+/// Where the rule fails on a key, by all marks of the key.
+fn judge_run(
+    alloc: Global,
+    history: &History,
+    keys: &[u32],
+    latest: u32,
+    run: &[Mark],
+) -> Result<Option<Refusal>, AllocError>
+    requires rising { IsStrictlyIncreasing keys.now }
+    requires known { All (λ m. m.call < length history.now.calls) run.now }
+    requires some { 0 < length run.now }
+    ensures judged { let key = (slice_index_or run.now 0 no_mark).key in IfOk result (λ refused. is_none refused
+        ≡ is_some (ruled_on (Some (opened (has_key key history.now.opening.keys)))
+        (map (noted_at latest history.now.calls) run.now ++ (latest, leaves (has_key key keys.now)) ∷ []))) }
+    ensures key { IfOk result (λ refused. IfSome refused (λ refusal. refusal.key.0 ≡ (slice_index_or run.now 0 no_mark).key)) }
+{
+    let key = run[0].key;
+    let mut state = KeyState::opened(alloc, is_among(history.opening(), key));
+    match walk(&mut state, history.calls(), latest, run)? {
+        Some(moment) => Ok(Some(Refusal {
+            key: Key(key),
+            moment: Some(moment),
+        })),
+        None => {
+            if state.settle(u64::from(latest), Event::Leaves(is_among(keys, key))) {
+                Ok(None)
+            } else {
+                Ok(Some(Refusal {
+                    key: Key(key),
+                    moment: None,
+                }))
+            }
+        }
+    }
+}
+
+/// A key of the first keys that is not among the others, and has no mark.
+fn lost_key(keys: &[u32], others: &[u32], marks: &[Mark]) -> Option<u32>
+    requires others { IsStrictlyIncreasing others.now }
+    requires sorted { IsNonDecreasingBy (λ m. m.key) marks.now }
+    ensures { MatchOption result
+        ((k : ℕ) → has_key k keys.now ≡ true → has_key k others.now ≡ false → has_mark k marks.now ≡ true)
+        (λ k. (has_key k keys.now ≡ true) × (has_key k others.now ≡ false) × (has_mark k marks.now ≡ false)) }
+{
+    for key in keys {
+        if !is_among(others, *key) && !has_mark(marks, *key) {
+            return Some(*key);
+        }
+    }
+    None
+}
+
+/// The refusal of which the moment is the earlier.
+fn earlier(first: Option<Refusal>, second: Option<Refusal>) -> Option<Refusal>
+    ensures { IsOneOf first second result }
+{
+    match (first, second) {
+        (Some(one), Some(other)) => {
+            if one.moment.unwrap_or(u32::MAX) <= other.moment.unwrap_or(u32::MAX) {
+                first
+            } else {
+                second
+            }
+        }
+        (Some(_), None) => first,
+        (None, _) => second,
+    }
+}
+
+/// Where the rule fails first among the keys that have a mark.
+fn first_of_runs(
+    alloc: Global,
+    history: &History,
+    keys: &[u32],
+    marks: &[Mark],
+) -> Result<Option<Refusal>, AllocError>
+    requires rising { IsStrictlyIncreasing keys.now }
+    requires marks { AreMarks history.now.calls marks.now }
+    ensures { IfOk result (λ refused. MatchOption refused
+        ((k : ℕ) → has_mark k marks.now ≡ true → rule_explains history.now keys.now k ≡ true)
+        (λ refusal. rule_explains history.now keys.now refusal.key.0 ≡ false)) }
+{
+    let calls = history.calls();
+    let latest = latest_moment(calls);
+    let mut first = None;
+    let mut start = 0;
+    while start < marks.len() {
+        let end = run_end(marks, start);
+        let found = judge_run(alloc, history, keys, latest, &marks[start..end])?;
+        first = earlier(first, found);
+        start = end;
+    }
+    Ok(first)
+}
+
+/// A key without a mark that is not left as it was at first.
+fn first_unmarked(opening: &[u32], keys: &[u32], marks: &[Mark]) -> Option<Refusal>
+    requires opens { IsStrictlyIncreasing opening.now }
+    requires rising { IsStrictlyIncreasing keys.now }
+    requires sorted { IsNonDecreasingBy (λ m. m.key) marks.now }
+    ensures { MatchOption result
+        ((k : ℕ) → has_mark k marks.now ≡ false → has_key k keys.now ≡ has_key k opening.now)
+        (λ refusal. (has_mark refusal.key.0 marks.now ≡ false) × (has_key refusal.key.0 keys.now ≢ has_key refusal.key.0 opening.now)) }
+{
+    let key = match lost_key(opening, keys, marks) {
+        Some(key) => key,
+        None => lost_key(keys, opening, marks)?,
+    };
+    Some(Refusal {
+        key: Key(key),
+        moment: None,
+    })
+}
+
+/// Why no order explains the history and leaves the keys: the first moment up to which the calls of a key have no order, in a history
+/// with `ceiling` and `full` too. If there is none and the judge decides the history (`is_judged`), some order explains it.
+///
+/// `keys` are the keys left; they rise. It sorts the moments of the calls once, and goes over them once: n log n steps for n calls.
+pub fn first_refused(
+    alloc: Global,
+    history: &History,
+    keys: &[u32],
+) -> Result<Option<Refusal>, AllocError>
+    requires { IsStrictlyIncreasing keys.now }
+    ensures refused { IfOk result (λ refused. IfSome refused (λ _. IsUnexplained history.now keys.now)) }
+    ensures passed { IfOk result (λ refused. refused ≡ None → IsJudged history.now → IsExplained history.now keys.now) }
+    ensures passes { IfOk result (λ refused. refused ≡ None → RulePasses history.now keys.now) }
+{
+    let marks = marks_of(alloc, history.calls())?;
+    match first_of_runs(alloc, history, keys, &marks)? {
+        Some(refusal) => Ok(Some(refusal)),
+        None => Ok(first_unmarked(history.opening(), keys, &marks)),
+    }
+}

@@ -1,0 +1,136 @@
+//! The rule: which pending change of a key takes effect, and when it has to.
+
+ghost use Rattle.std.specs.Prelude.{◌≡◌, ℕ, suc, ◌+◌, ◌<◌, ◌≤◌, ◌==◌, length, true, false, IfOk, Some, None, slice_index, if◌then◌else◌};
+ghost use Rattle.lset_judge.specs.Rule.{not_before, options, turned_if, fits, found, entered, opened};
+ghost use Rattle.lset_judge.specs.Code.{state_of};
+
+use crate::event::Event;
+use std::alloc::{AllocError, Global};
+
+/// The state of a key: whether it is there, and since when; and the pending changes that have not taken effect, by their ends.
+#[derive(Drop)]
+pub(crate) struct KeyState {
+    there: bool,
+    turned: u64,
+    puts: Vec<u64>,
+    takes: Vec<u64>,
+}
+
+fn none_due(ends: &[u64], before: u64) -> bool
+    ensures { result ≡ (not_before (suc (suc before)) ends.now == length ends.now) }
+{
+    for i in 0..ends.len() {
+        if ends[i].saturating_sub(1) <= before {
+            return false;
+        }
+    }
+    true
+}
+
+/// The first place of the least.
+fn nearest_place(ends: &[u64]) -> usize
+    requires { 0 < length ends.now }
+    ensures inside { result < length ends.now }
+    ensures least { (k : ℕ) → k < length ends.now → slice_index ends.now result ≤ slice_index ends.now k }
+    ensures first { (k : ℕ) → k < result → slice_index ends.now result < slice_index ends.now k }
+{
+    let mut place = 0;
+    for i in 1..ends.len() {
+        if ends[i] < ends[place] {
+            place = i;
+        }
+    }
+    place
+}
+
+impl KeyState {
+    /// A key that is there at first, or not.
+    pub(crate) fn opened(alloc: Global, there: bool) -> KeyState
+        ensures { state_of result ≡ opened there }
+    {
+        KeyState {
+            there,
+            turned: 0,
+            puts: Vec::new(alloc),
+            takes: Vec::new(alloc),
+        }
+    }
+
+    fn put(&mut self, before: u64) -> bool
+        requires { self.old.there ≡ false }
+        ensures { turned_if before (state_of self.old) (options (state_of self.old)) ≡ (if result then Some (state_of self.new) else None) }
+    {
+        if self.puts.is_empty() {
+            return false;
+        }
+        let place = nearest_place(&self.puts);
+        let _end = self.puts.remove(place);
+        self.there = true;
+        self.turned = before;
+        true
+    }
+
+    fn take(&mut self, before: u64) -> bool
+        requires { self.old.there ≡ true }
+        ensures { turned_if before (state_of self.old) (options (state_of self.old)) ≡ (if result then Some (state_of self.new) else None) }
+    {
+        if self.takes.is_empty() {
+            return false;
+        }
+        let place = nearest_place(&self.takes);
+        let _end = self.takes.remove(place);
+        self.there = false;
+        self.turned = before;
+        true
+    }
+
+    fn flip(&mut self, before: u64) -> bool
+        ensures { turned_if before (state_of self.old) (options (state_of self.old)) ≡ (if result then Some (state_of self.new) else None) }
+    {
+        if self.there {
+            self.take(before)
+        } else {
+            self.put(before)
+        }
+    }
+
+    fn fits(&self, before: u64, event: Event) -> bool
+        ensures { result ≡ fits (suc before) event (state_of self.now) }
+    {
+        match event {
+            Event::Ends(true) => none_due(&self.puts, before),
+            Event::Ends(false) => none_due(&self.takes, before),
+            Event::Looks(there, since) => self.there == there || self.turned >= since,
+            Event::Leaves(there) => self.there == there,
+            Event::Begins(_, _) | Event::Idle => true,
+        }
+    }
+
+    /// Lets changes take effect after a moment until the next one's event finds what it asks; whether it does.
+    pub(crate) fn settle(&mut self, before: u64, event: Event) -> bool
+        ensures { found before event (state_of self.old) ≡ (if result then Some (state_of self.new) else None) }
+    {
+        while !self.fits(before, event) {
+            if !self.flip(before) {
+                return false;
+            }
+        }
+        true
+    }
+
+    /// The event of the moment after `before`: whether the rule goes on.
+    pub(crate) fn meet(&mut self, before: u64, event: Event) -> Result<bool, AllocError>
+        ensures { IfOk result (λ goes_on. entered event (found before event (state_of self.old))
+            ≡ (if goes_on then Some (state_of self.new) else None)) }
+    {
+        if !self.settle(before, event) {
+            return Ok(false);
+        }
+        match event {
+            Event::Begins(true, end) => self.puts.insert(0, end)?,
+            Event::Begins(false, end) => self.takes.insert(0, end)?,
+            Event::Ends(_) | Event::Looks(_, _) | Event::Leaves(_) | Event::Idle => {}
+        }
+        Ok(true)
+    }
+}

@@ -1,0 +1,49 @@
+//! The verdict.
+
+ghost use Rattle.std.specs.Prelude.{◌≡◌, IfOk};
+ghost use Rattle.std.specs.List.Sorted.{IsStrictlyIncreasing};
+ghost use Rattle.lset_judge.specs.Events.{RulePasses};
+ghost use Rattle.lset_judge.specs.Verdict.{IsVerdict};
+
+use crate::{first_refused, is_judged};
+use lset_history::History;
+use lset_words::Key;
+use std::alloc::{AllocError, Global};
+
+/// Why no order explains the calls: a key, and how far its calls go.
+#[derive(Clone, Copy, Debug, PartialEq, Eq)]
+pub struct Refusal {
+    /// The key whose calls have no order.
+    pub key: Key,
+    /// The moment up to which they have none; `None` if they have one, and none that leaves the key as it is left.
+    pub moment: Option<u32>,
+}
+
+/// What the judge says.
+#[derive(Clone, Copy, Debug, PartialEq, Eq)]
+pub enum Verdict {
+    /// Some order explains the calls, from the opening keys, and leaves the keys.
+    Linearizable,
+    /// No order does.
+    NotLinearizable(Refusal),
+    /// Not known: the history is not one that the judge decides, and the rule fails on no key.
+    Undecided,
+}
+
+/// Whether some order linearizes the calls of a history from its opening keys, and leaves these keys: the answer is `Linearizable` exactly
+/// if one does, and `NotLinearizable` exactly if none does, for each history that the judge decides (`is_judged`). Of any other it says
+/// `NotLinearizable` only if none does, and else `Undecided`.
+///
+/// `keys` are the keys left; they rise. It fails only for want of memory, and takes some 12 bytes for each begin and end of a call.
+/// (Linearizability is Herlihy and Wing's; that it is told in n log n steps for n calls of a set, this project's own.)
+pub fn judge(alloc: Global, history: &History, keys: &[u32]) -> Result<Verdict, AllocError>
+    requires { IsStrictlyIncreasing keys.now }
+    ensures verdict { IfOk result (IsVerdict history.now keys.now) }
+    ensures undecided { IfOk result (λ v. v ≡ Verdict.Undecided → RulePasses history.now keys.now) }
+{
+    match first_refused(alloc, history, keys)? {
+        Some(refusal) => Ok(Verdict::NotLinearizable(refusal)),
+        None if is_judged(history) => Ok(Verdict::Linearizable),
+        None => Ok(Verdict::Undecided),
+    }
+}
