@@ -56,12 +56,14 @@ may_add (Ceiling k) ended = false
 abbrev pub adds_of : ℕ → List CallRecord → ℕ
 adds_of thread calls = count_by (λ (x : CallRecord). may_add x.call x.ended && x.thread == thread) calls
 
--- THE JUDGE DECIDES a history whose ended calls answer true or false, with quota for the adds of each thread.
+-- THE JUDGE DECIDES a history if each call that ended answered true or false, and none of them is a ceiling, and if each thread has
+-- quota for its adds that put their keys in, or may
 pub record IsJudged (h : HistoryValue) : Type 0 where
   pub plain : All (λ (x : CallRecord). IfSome x.ended (λ (e : ℕ × Reply). is_plain x.call e.1 ≡ true)) h.calls
   pub room : (thread : ℕ) → adds_of thread h.calls ≤ h.opening.quota
 
--- what each verdict says
+-- a verdict says that some order explains the calls and leaves the keys, that none does, or that this is not a history that the judge
+-- decides
 abbrev pub IsVerdict : HistoryValue → List ℕ → Verdict → Type 0
 IsVerdict h keys Linearizable = IsExplained h keys
 IsVerdict h keys (NotLinearizable refusal) = IsUnexplained h keys

