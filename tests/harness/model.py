@@ -306,59 +306,83 @@ def fits(call, reply, keys, count, quota):
             "remove": reply == "false" and not has, "contains": reply == ("true" if has else "false")}[call.word]
 
 
+def content(chain):
+    return {key for key, is_marked in chain if not is_marked}
+
+
+class Tracing:
+    """A run under way, and what a Run has of it so far."""
+
+    def __init__(self, plan):
+        self.plan, self.list = plan, List(plan.kind, plan.threads, plan.quota, plan.opening)
+        self.chain, self.counts = self.list.chain(), [0] * plan.threads
+        self.sets, self.tallies = [frozenset(plan.opening)], [tuple(self.counts)]
+        self.lines, self.calls, self.ends, self.points = [], [], {}, {}
+
+    def cause(self, t, is_begin):
+        """Why an event of a thread is refused, or None."""
+        if t >= self.plan.threads:
+            return "NoThread"
+        is_busy = self.list.threads[t].pc != 0
+        return ("Busy" if is_begin else "Idle") if is_busy == is_begin else None
+
+    def event(self, number, pieces):
+        """An event of a line: a begin, or a step."""
+        t, moment = int(pieces[1]), len(self.sets)
+        told = f"event {moment} line {number} thread {t} "
+        if pieces[0] == "begin":
+            call = Call(len(self.calls), t, pieces[2], int(pieces[3]), moment)
+            self.calls.append(call)
+            self.list.begin(t, call)
+            self.lines.append(f"{told}begin {call.word} {call.key} call {call.number} pc {self.list.threads[t].pc}")
+        else:
+            self.step(told, t, moment)
+        self.sets.append(frozenset(content(self.chain)))
+        self.tallies.append(tuple(self.counts))
+
+    def step(self, told, t, moment):
+        it, was = self.list.threads[t], content(self.chain)
+        before = dict(vars(it))
+        action, seen, reply = self.list.go(t)
+        later = self.list.chain()
+        now = content(later)
+        told += f"{access_text(action, seen)} pc {it.pc}{changes_text(before, vars(it))}"
+        for word, keys in [("put", now - was), ("took", was - now)]:
+            for key in keys:
+                told += f" {word} {key}"
+                self.points[it.call.number] = (moment, True)
+                self.counts[t] += word == "put"
+        if reply is not None:
+            self.end(it.call, reply, moment, now)
+            told += f" answer {reply} call {it.call.number} at {self.points[it.call.number][0]}"
+        self.lines.append(told)
+        if later != self.chain:
+            self.lines.append("chain" + "".join(f" {key}{'*' * mark}" for key, mark in later))
+            self.chain = later
+
+    def end(self, call, reply, moment, now):
+        """A call ends: one that has changed nothing has its point at the first moment that its reply fits."""
+        self.ends[call.number] = (moment, reply)
+        if call.number not in self.points:
+            states = zip([*self.sets, frozenset(now)], [*self.tallies, tuple(self.counts)])
+            fit = next(at for at, (held, tally) in enumerate(states)
+                       if at >= call.begun and fits(call, reply, held, tally[call.thread], self.plan.quota))
+            self.points[call.number] = (fit, False)
+
+
 def run_of(plan):
-    made = List(plan.kind, plan.threads, plan.quota, plan.opening)
-    keys, counts = set(plan.opening), [0] * plan.threads
-    sets, tallies, calls, ends, points, lines, refused = [frozenset(keys)], [tuple(counts)], [], {}, {}, [], None
-    chain = made.chain()
-    for number, pieces in plan.lines:
-        for _ in range(1 if pieces[0] == "begin" else int(pieces[2])):
-            t, moment = int(pieces[1]), len(sets)
-            cause = "NoThread" if t >= plan.threads else None
-            if not cause and (pieces[0] == "begin") == (made.threads[t].pc != 0):
-                cause = "Busy" if pieces[0] == "begin" else "Idle"
-            if cause:
-                refused = (number, cause)
-                break
-            it = made.threads[t]
-            told = f"event {moment} line {number} thread {t} "
-            if pieces[0] == "begin":
-                call = Call(len(calls), t, pieces[2], int(pieces[3]), moment)
-                calls.append(call)
-                made.begin(t, call)
-                lines.append(f"{told}begin {call.word} {call.key} call {call.number} pc {it.pc}")
-            else:
-                before, was, pc = dict(vars(it)), set(it_[0] for it_ in chain if not it_[1]), it.pc
-                action, seen, reply = made.go(t)
-                told += f"{access_text(action, seen)} pc {it.pc}{changes_text(before, vars(it))}"
-                later = made.chain()
-                now = set(it_[0] for it_ in later if not it_[1])
-                for word, keys_ in [("put", now - was), ("took", was - now)]:
-                    for key in keys_:
-                        told += f" {word} {key}"
-                        points[it.call.number] = (moment, True)
-                        counts[t] += word == "put"
-                if pc and reply is not None:
-                    call = it.call
-                    ends[call.number] = (moment, reply)
-                    if call.number not in points:
-                        states = zip([*sets, frozenset(now)], [*tallies, tuple(counts)])
-                        fit = next(at for at, (held, tally) in enumerate(states)
-                                   if at >= call.begun and fits(call, reply, held, tally[t], plan.quota))
-                        points[call.number] = (fit, False)
-                    told += f" answer {reply} call {call.number} at {points[call.number][0]}"
-                keys = now
-                lines.append(told)
-                if later != chain:
-                    lines.append("chain" + "".join(f" {key}{'*' * mark}" for key, mark in later))
-                    chain = later
-            sets.append(frozenset(keys))
-            tallies.append(tuple(counts))
-        if refused:
+    """The run of a schedule, up to the first event that is refused."""
+    run = Tracing(plan)
+    events = ((number, pieces) for number, pieces in plan.lines for _ in range(1 if pieces[0] == "begin" else int(pieces[2])))
+    refused = None
+    for number, pieces in events:
+        if cause := run.cause(int(pieces[1]), pieces[0] == "begin"):
+            refused = (number, cause)
             break
+        run.event(number, pieces)
     head = ["listset-trace 1", f"list {plan.kind}", f"threads {plan.threads}", f"quota {plan.quota}", *(f"opening {it}" for it in plan.opening)]
     last = f"refused line {refused[0]} {refused[1]}" if refused else "end"
-    return Run([*head, *lines, last], calls, ends, sets, points, refused, len(sets) - 1)
+    return Run([*head, *run.lines, last], run.calls, run.ends, run.sets, run.points, refused, len(run.sets) - 1)
 
 
 # ---- pictures
