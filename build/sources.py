@@ -11,7 +11,22 @@ BLOCK = re.compile(r"(?:pub )?(impl|trait)\b([^{;]*)")
 GHOST = re.compile(r"^\s+ghost (?!use\b)", re.M)
 CLAUSES = re.compile(r"\s*(?:(?://[^\n]*)\s*)*(?:requires|ensures)\b")
 END_OF_SIGNATURE = re.compile(r"\n\s*(?:requires|ensures|//)|\s*\{|;(?![^\[\]\n]*\])")
+NAME = r"[^\W\d][\w'\-]*"  # of the logic
+USE = re.compile(r"^\s*(?:ghost )?(?:pub )?use Rattle\.([^\s{;]+?)(?:\.\{([^}]*)\})?(?: as (" + NAME + r"))?;?[ ]*$", re.M)
 TEST = re.compile(r"^\s*#\[test\]$", re.M)
+
+
+def uses(text):
+    """What the `use` lines of a file bring in of the logic: names, and modules under another name."""
+    names, modules = {}, {}
+    for path, listed, other in USE.findall(text):
+        for entry in (listed or "").split(","):
+            given, _, here = entry.strip().partition(" as ")
+            if given:
+                names[here or given] = (path, given)
+        if not listed and other:
+            modules[other] = path
+    return names, modules
 
 
 def braced(text, start):

@@ -13,10 +13,10 @@ import hashlib
 import re
 
 from mutants import CRATES, Source, changed_functions, functions
+from sources import NAME as WORD
+from sources import uses
 
-WORD = r"[^\W\d][\w'\-]*"
 DEFINES = {"abbrev", "unfoldable", "opaque", "record", "data"}
-USE = re.compile(r"^\s*(?:ghost )?(?:pub )?use Rattle\.([^\s{;]+?)(?:\.\{([^}]*)\})?(?: as (" + WORD + r"))?;?[ ]*$", re.M)
 TYPE = re.compile(r"^(?:pub(?:\(crate\))? )?(?:struct|enum|trait|const|static|type) (\w+)")
 
 Module = collections.namedtuple("Module", "names modules items")
@@ -27,19 +27,6 @@ def bare(text, sign):
     """A text without its comments, its lines' ends and the like."""
     lines = (line.partition(sign)[0] if line.lstrip().startswith(sign) or f" {sign} " in line else line for line in text.split("\n"))
     return " ".join(" ".join(lines).split())
-
-
-def uses(text):
-    """What the `use` lines of a file bring in of the logic: names, and modules under another name."""
-    names, modules = {}, {}
-    for path, listed, other in USE.findall(text):
-        for entry in (listed or "").split(","):
-            given, _, here = entry.strip().partition(" as ")
-            if given:
-                names[here or given] = (path, given)
-        if not listed and other:
-            modules[other] = path
-    return names, modules
 
 
 def definitions(text):

@@ -16,13 +16,13 @@ from pathlib import Path
 TOP = Path(__file__).resolve().parent.parent.parent
 sys.path.insert(0, str(TOP / "build"))
 import sources  # noqa: E402
+from sources import NAME, uses  # noqa: E402
 
 BELIEVED = Path(__file__).resolve().parent / "believed.txt"
 SHORT = 12  # words
 ABBREVIATIONS = {"SVG", "KIND"}
 # Functions in a cell of a table, and the clauses in the parentheses behind them.
 SAID_BY = re.compile(r"((?:`\w+::[\w:{}, ]+`,? ?)+)(?:\(((?:`\w+`,? ?)+)\))?")
-NAME = r"[^\W\d][\w'\-]*"
 KINDS = {"abbrev", "unfoldable", "opaque", "record", "data"}
 # The rows of the table of lines: what a reader wants to understand, and the functions whose contracts that is.
 ROWS = [
@@ -37,20 +37,6 @@ ROWS = [
     ("`serve`", lambda crate, function: function == "serve"),
     ("everything: each public contract of each library", lambda crate, function: True),
 ]
-
-
-def uses(text):
-    """What the `use` lines of a file bring in: names, and modules under another name."""
-    names, modules = {}, {}
-    use = r"^\s*(?:ghost )?(?:pub )?use Rattle\.([^\s{;]+?)(?:\.\{([^}]*)\})?(?: as (" + NAME + r"))?;?[ ]*$"
-    for path, listed, other in re.findall(use, text, re.M):
-        for entry in (listed or "").split(","):
-            given, _, here = entry.strip().partition(" as ")
-            if given:
-                names[here or given] = (path, given)
-        if not listed and other:
-            modules[other] = path
-    return names, modules
 
 
 def items(text):
