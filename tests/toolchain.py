@@ -9,7 +9,7 @@ import shutil
 import subprocess
 import sys
 
-from harness.cases import TOP, same, test, when_named
+from harness.cases import TOP, comes, same, test, when_named
 
 SECONDS = 900
 LEAST = TOP / "tests" / "least_kit.txt"
@@ -115,13 +115,18 @@ class StandIn:
             (self.tree / it).parent.mkdir(parents=True, exist_ok=True)
             shutil.copy(TOP / it, self.tree / it)
 
-    def run(self, *words, status=0):
-        """Runs a script of the repository over the stand-in; gives what it said."""
+    def begun(self, *words):
+        """A script of the repository, begun over the stand-in."""
         environment = {**os.environ, "PATH": f"{self.kit / 'bin'}:{os.environ['PATH']}", "TMPDIR": str(self.room), "XDG_CACHE_HOME": str(self.room)}
-        how = {"stdin": subprocess.DEVNULL, "stdout": subprocess.PIPE, "stderr": subprocess.STDOUT, "text": True, "timeout": SECONDS}
-        done = subprocess.run(list(map(str, words)), cwd=self.tree, env=environment, **how)
-        same(done.returncode, status, f"the status of {' '.join(map(str, words))}, after {done.stdout[-2000:]}")
-        return done.stdout
+        how = {"stdin": subprocess.DEVNULL, "stdout": subprocess.PIPE, "stderr": subprocess.STDOUT, "text": True}
+        return subprocess.Popen(list(map(str, words)), cwd=self.tree, env=environment, **how)
+
+    def run(self, *words, status=0):
+        """Runs a script to its end; gives what it said."""
+        running = self.begun(*words)
+        said = running.communicate(timeout=SECONDS)[0]
+        same(running.returncode, status, f"the status of {' '.join(map(str, words))}, after {said[-2000:]}")
+        return said
 
 
 def mutants_are_tried(of, over):
@@ -169,6 +174,11 @@ def over_a_kit_without_rtlib(case):
     of = StandIn(case.room, is_bare=True)
     told = of.run("tests/version", "--toolchain")
     same("no check over the libraries of rt ci" in told, True, f"what is slower is told, in {told!r}")
+    stopped = of.begun("build/first_run")
+    comes(lambda: [*of.room.glob("first-run-*/proved/crates.txt")], "the copy of a first run")
+    stopped.terminate()
+    stopped.communicate(timeout=SECONDS)
+    same([*of.room.glob("first-run-*")], [], "what a first run that is stopped leaves")
     told = of.run("build/first_run")
     same("listset proved, 2 of 2, none left" in told, True, f"the crates are told, in {told!r}")
     mutants_are_tried(of, ["--over", of.tree])
