@@ -14,7 +14,7 @@ THREADS = 4
 
 def pairs(folder):
     """The schedules that have a report, but for those that are there to be refused, with both texts."""
-    refused = {line.split(":")[0] for line in (folder / "refused").read_text().splitlines()}
+    refused = {line.split(":")[0] for line in (folder / "refused-files.txt").read_text().splitlines()}
     for it in sorted(folder.glob("*.schedule")):
         if (report := it.with_suffix(".report")).exists() and it.name not in refused:
             yield it.read_bytes(), report.read_text()

@@ -11,8 +11,8 @@ const THREADS: usize = 4;
 /// The schedules that have a report, but for those that are there to be refused, with both texts.
 fn pairs() -> Vec<(String, String)> {
     let folder = std::env::var_os("LISTSET_EXAMPLES").map(PathBuf::from);
-    let folder = folder.unwrap_or_else(|| PathBuf::from(env!("CARGO_MANIFEST_DIR")).join("../../examples"));
-    let refused = read_to_string(folder.join("refused")).unwrap();
+    let folder = folder.unwrap_or_else(|| PathBuf::from(env!("CARGO_MANIFEST_DIR")).join("../../examples/schedules"));
+    let refused = read_to_string(folder.join("refused-files.txt")).unwrap();
     let is_right =
         |name: &str| name.ends_with(".schedule") && !refused.lines().any(|line| line.split(':').next() == Some(name));
     let files = read_dir(folder).unwrap().map(|it| it.unwrap());
