@@ -1,7 +1,7 @@
 -- The moments of calls beside the calls: each has its call, each call has its moments there, and no two are the same.
 use Rattle.std.proofs.Common.{◌≡◌, ℕ, zero, suc, ◌+◌, ◌<◌, ◌≤◌, List, [], ◌∷◌, ◌++◌, length, map, refl, sym, subst, ◌∙◌}
-use Rattle.std.proofs.Common.{ap, arith, true, ◌&&◌}
-use Rattle.std.specs.Prelude.{Option, Some, None, All, AllPairs, Contains, IfSome, nat_lt, not, is_none}
+use Rattle.std.proofs.Common.{ap, arith, true}
+use Rattle.std.specs.Prelude.{Option, Some, None, All, AllPairs, Contains, IfSome, nat_lt}
 use Rattle.std.specs.List.{AllByRecursion}
 use Rattle.std.proofs.lemmas.Bool.{and_parts, ltb-true}
 use Rattle.std.proofs.lemmas.List.{length-map, get_or-map}
@@ -12,7 +12,7 @@ use Rattle.lset_words.specs.declared.Reply.{Reply}
 use Rattle.lset_history.proofs.Lists.{Pairs, all_map, all_imply, all-append, all_across, pairs-append, pairs_std}
 use Rattle.lset_calls.specs.declared.clashes.Moment.{Moment}
 use Rattle.lset_calls.specs.declared.value.TimedCall.{TimedCall}
-use Rattle.lset_calls.specs.Calls.{IsCall, is_inside, ends_after, needs_point}
+use Rattle.lset_calls.specs.Calls.{IsCall, is_inside, ends_after}
 use Rattle.lset_calls.specs.Clashes.{moments_of, point_moments, end_moments, call_at}
 use Rattle.lset_calls.specs.Moments.{entries_of, entries_from, AreMomentsOf}
 use Rattle.lset_calls.proofs.Permuted.{pairs_permuted}
@@ -37,8 +37,7 @@ inside begun (Some z) o h =
 pub timed : (threads : ℕ) (x : TimedCall) → IsCall threads x → IsTimed x
 timed threads x c =
     let ends = and_parts (nat_lt x.thread threads) (ends_after x.begun x.ended) c.history in
-    let point = and_parts (is_inside x.begun x.point x.ended) (not (needs_point x.call x.ended && is_none x.point)) c.points in
-    let places = inside x.begun x.point x.ended point.0 in
+    let places = inside x.begun x.point x.ended c.points in
     record { counted = c.begun.0; point = places.0; end = ended_after x.begun x.ended ends.1; before_end = places.1 }
 
 -- each of its moments is counted

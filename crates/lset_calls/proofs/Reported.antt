@@ -9,6 +9,7 @@ use Rattle.lset_words.specs.declared.Reply.{Reply}
 use Rattle.lset_words.specs.declared.history.Placed.{Placed}
 use Rattle.lset_words.specs.Log.{TracedCall, record_of}
 use Rattle.lset_words.specs.Placement.{traced_at, no_traced, place_at, placed_of, by_moments, standing}
+use Rattle.lset_history.specs.History.{HistoryValue}
 use Rattle.lset_report.specs.declared.report.TheConstants.{MOST_CALLS}
 use Rattle.lset_report.specs.Report.{ReportValue}
 use Rattle.lset_calls.specs.declared.value.TimedCall.{TimedCall}
@@ -18,6 +19,7 @@ use Rattle.lset_calls.specs.Noting.{ChangeApart}
 use Rattle.lset_calls.specs.Placing.{same_count, HasBar, adds_before, ArePlaced}
 use Rattle.lset_calls.specs.Turns.{TurnsApart}
 use Rattle.lset_calls.specs.Reports.{contents, counts, StandsGiven, IsUpTo, IsPlacedUpTo, HasLeastVersion, IsReportOf}
+use Rattle.lset_calls.specs.Histories.{IsHistoryOf}
 use Rattle.lset_calls.specs.Sorted.{AreInTurn}
 use Rattle.lset_calls.proofs.Entries.{IsTimed}
 use Rattle.lset_calls.proofs.InTurn.{few_threads, apart, each, each_timed, point_of, strictly, ended_first, changes_apart, turns_apart}
@@ -132,6 +134,17 @@ module _ (c : CallsValue) (xs : List TimedCall) (are : AreCalls c) (turn : AreIn
       stands = stands;
       in_order = is last (all_upto last h);
     }
+
+  -- ---- THE HISTORY
+  pub recorded : (h : HistoryValue) → h.opening ≡ c.opening → h.calls ≡ map (λ x. record_of (traced x)) xs → IsHistoryOf c h
+  recorded h opening records = record {
+    accepted = turn.accepted;
+    opening_is = opening;
+    calls = calls;
+    same_calls = IsPermutation-map traced c.calls xs turn.same;
+    by_beginning = pairs_mapped traced (λ (x y : TracedCall). x.begun < y.begun) xs no_call rises;
+    history_is = records ∙ records_twice xs;
+  }
 
   -- ---- THE REPORT
   pub reported : (r : ReportValue) → HasLeastVersion r → r.kind ≡ c.kind → r.history.opening ≡ c.opening → r.keys ≡ c.keys

@@ -1,5 +1,5 @@
 -- Calls of a set with the points that were given for them, as a value.
-use Rattle.std.specs.Prelude.{◌≡◌, ℕ, ◌<◌, ◌≤◌, ◌^◌, ◌&&◌, nat_lt, not, is_none, Bool, true, false, List, length, Option, Some, None}
+use Rattle.std.specs.Prelude.{◌≡◌, ℕ, ◌<◌, ◌≤◌, ◌^◌, ◌&&◌, nat_lt, is_none, Bool, true, false, List, length, Option, Some, None}
 use Rattle.std.specs.Prelude.{if◌then◌else◌}
 use Rattle.std.specs.List.{AllByRecursion}
 use Rattle.lset_words.specs.declared.Kind.{Kind}
@@ -74,13 +74,16 @@ abbrev pub is_inside : ℕ → Option ℕ → Option (ℕ × Reply) → Bool
 is_inside begun None ended = true
 is_inside begun (Some point) ended = nat_lt begun point && ends_after point ended
 
--- an add or a remove that has answered true must have one
-abbrev pub needs_point : Call → Option (ℕ × Reply) → Bool
-needs_point call None = false
-needs_point call (Some end) = may_change call && is_true end.1
-
 abbrev pub has_point : TimedCall → Bool
-has_point x = is_inside x.begun x.point x.ended && not (needs_point x.call x.ended && is_none x.point)
+has_point x = is_inside x.begun x.point x.ended
+
+-- an add or a remove that has answered true, and no point was recorded for it
+abbrev pub has_changed : Call → Option (ℕ × Reply) → Bool
+has_changed call None = false
+has_changed call (Some end) = may_change call && is_true end.1
+
+abbrev pub lacks_point : TimedCall → Bool
+lacks_point x = has_changed x.call x.ended && is_none x.point
 
 -- it is of one of the threads, and ends after its beginning
 abbrev pub is_of_history : ℕ → TimedCall → Bool

@@ -1,13 +1,15 @@
 -- Which calls of a text cannot stand beside those of the lines above.
 use Rattle.std.specs.Prelude.{◌≡◌, ℕ, ◌+◌, ◌<◌, ◌⊎◌, ◌==◌, ◌&&◌, Bool, true, false, List, [], ◌∷◌, ◌++◌, length, take, Option, Some, None}
-use Rattle.std.specs.Prelude.{is_some, Contains as InList, IsSomeAnd, slice_index_or, count_by}
+use Rattle.std.specs.Prelude.{is_some, Contains as InList, IsSomeAnd, slice_index_or, count_by, position, Result, Ok, Err}
 use Rattle.lset_words.specs.declared.Call.{Call}
 use Rattle.lset_words.specs.declared.Call.TheVariants.{Add, Remove, Contains, Ceiling}
 use Rattle.lset_words.specs.declared.Reply.{Reply}
 use Rattle.lset_calls.specs.declared.value.TimedCall.{TimedCall}
+use Rattle.lset_calls.specs.declared.fault.CallsFault.{CallsFault}
+use Rattle.lset_calls.specs.declared.fault.CallsCause.TheVariants.{Point}
 use Rattle.lset_calls.specs.declared.fault.ClashFault.{ClashFault}
 use Rattle.lset_calls.specs.declared.fault.ClashFault.TheVariants as clash
-use Rattle.lset_calls.specs.Calls.{CallsValue, traced}
+use Rattle.lset_calls.specs.Calls.{CallsValue, traced, lacks_point}
 use Rattle.lset_text.specs.Texts.{first_line}
 
 -- the call with that number, by the lines of the text
@@ -93,3 +95,9 @@ IsRefusal c (clash.History line) = IsFirstRefused c line (ClashesAt c.calls)
 IsRefusal c (clash.Quota line) =
     IsFirstRefused c line (λ i. (ClashesAt c.calls i → ⊥) × PassesQuota c.opening.quota c.calls i)
 IsRefusal c clash.Memory = Unit {0}
+
+-- ---- WHETHER THE POINTS ARE GIVEN, or which call is the first that changed the set and has none
+abbrev pub PointsAreGiven : CallsValue → Result (Unit {0}) CallsFault → Type 0
+PointsAreGiven c (Ok done) = position lacks_point c.calls ≡ None
+PointsAreGiven c (Err e) =
+    (i : ℕ) × (position lacks_point c.calls ≡ Some i) × (e ≡ record { line = line_of_call c i; cause = Point })

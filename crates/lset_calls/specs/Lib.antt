@@ -2,6 +2,7 @@ pub mod Calls
 pub mod Texts
 pub mod Reading
 pub mod Clashes
+pub mod Histories
 pub mod Moments
 pub mod Noting
 pub mod Placing

@@ -22,7 +22,7 @@ use lset_words::MOST_THREADS;
 use std::alloc::{AllocError, Global};
 
 /// The line of the first opening key or call of a text.
-const FIRST_LINE: u64 = 5;
+pub const FIRST_LINE: u64 = 5;
 
 /// A beginning, a point or an end, and the index of its call by the lines of the text.
 #[derive(Clone, Copy)]

@@ -28,8 +28,8 @@ pub enum CallsCause {
     Opening,
     /// There is no such thread, or the call does not end after its beginning.
     History,
-    /// The point does not lie between the beginning and the end of the call, or an `add` or a `remove` that has answered
-    /// `true` has none.
+    /// The point does not lie between the beginning and the end of the call; or points are asked for, and an `add` or a `remove`
+    /// that has answered `true` has none.
     Point,
     /// The line has bytes and no newline, or the text has no byte left before the line `end`.
     NotEnded,

@@ -65,7 +65,7 @@ fn has_point(made: TimedCall) -> bool
 {
     match made.point {
         Some(point) => made.begun < point && ends_after(point, made),
-        None => !made.has_changed(),
+        None => true,
     }
 }
 

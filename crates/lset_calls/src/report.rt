@@ -4,6 +4,7 @@ ghost use Rattle.lset_words.specs.Log.{record_of};
 ghost use Rattle.lset_report.specs.Report as report;
 ghost use Rattle.lset_calls.specs.Calls.{AreCalls, view, traced};
 ghost use Rattle.lset_calls.specs.Clashes.{IsRefusal};
+ghost use Rattle.lset_calls.specs.Histories.{IsHistoryOf};
 ghost use Rattle.lset_calls.specs.Reports.{IsUpTo, IsPlacedUpTo, contents, counts, IsReportOf};
 ghost use Rattle.lset_calls.specs.Sorted.{AreInTurn};
 
@@ -51,6 +52,38 @@ fn order_of(alloc: Global, calls: &Calls, sorted: &[TimedCall]) -> Result<Vec<Pl
 {
     let places = places_of(alloc, &calls.opening, calls.quota, sorted)?;
     in_order(alloc, sorted, &places)
+}
+
+/// What was recorded of a set, without points: the history of its calls, and the keys that were left, as the text has them.
+#[derive(Drop)]
+pub struct Recording {
+    pub history: History,
+    pub keys: Vec<u32>,
+}
+
+/// The history of calls, which takes their begins and ends and leaves their points out, and the keys that were left.
+///
+/// The calls stand by their begins. `ClashFault::History` and `ClashFault::Quota` tell the first line whose call cannot stand beside
+/// those of the lines above; after an error the calls are gone. With n calls it sorts their moments, in about `n log n` steps, and
+/// allocates for them. (Herlihy and Wing's histories.)
+pub fn recording_of(alloc: Global, calls: Calls) -> Result<Recording, ClashFault>
+    requires { AreCalls (view calls) }
+    // What is told is the history of the calls, none of which is refused.
+    ensures told { IfOk result (λ r. IsHistoryOf (view calls) r.history) }
+    ensures keys { IfOk result (λ r. r.keys.items ≡ (view calls).keys) }
+    // Else the first line that is refused, and why, or want of memory.
+    ensures refused { IfErr result (IsRefusal (view calls)) }
+{
+    let moments = moments_in_turn(alloc, &calls)?;
+    if let Some(fault) = refusal(&calls, &moments) {
+        return Err(fault);
+    }
+    let sorted = by_beginning(alloc, &calls.calls)?;
+    let records = records_of(alloc, &sorted)?;
+    Ok(Recording {
+        history: History::from_calls(calls.threads, calls.quota, calls.opening, records),
+        keys: calls.keys,
+    })
 }
 
 /// The report of calls: their history, an order of them, and the keys of the text.

@@ -1,7 +1,10 @@
-ghost use Rattle.std.specs.Prelude.{◌≡◌};
-ghost use Rattle.lset_calls.specs.Calls.{may_change, needs_point, changed_by};
+ghost use Rattle.std.specs.Prelude.{◌≡◌, position};
+ghost use Rattle.lset_calls.specs.Clashes.{PointsAreGiven};
+ghost use Rattle.lset_calls.specs.Calls.{view, AreCalls, may_change, has_changed, lacks_point, changed_by};
 ghost use Rattle.lset_calls.specs.Clashes.{puts_in};
 
+use crate::clashes::FIRST_LINE;
+use crate::{CallsCause, CallsFault};
 use lset_words::{Call, Kind, Reply};
 
 /// A call of a set that was recorded: its thread, the moments of its beginning and its end, and the point that was given
@@ -35,13 +38,20 @@ fn may_change(call: Call) -> bool
 
 impl TimedCall {
     /// Whether the call is an `add` or a `remove` that has answered `true`.
-    pub(crate) fn has_changed(self) -> bool
-        ensures { result ≡ needs_point self.call self.ended }
+    fn has_changed(self) -> bool
+        ensures { result ≡ has_changed self.call self.ended }
     {
         match self.ended {
             Some((_, reply)) => may_change(self.call) && reply == Reply::True,
             None => false,
         }
+    }
+
+    /// Whether the call is such a change, and has no point.
+    pub fn lacks_point(self) -> bool
+        ensures { result ≡ lacks_point self }
+    {
+        self.has_changed() && self.point.is_none()
     }
 
     /// The moment at which the call changes the set, if it does: the point of an `add` or a `remove` that has answered
@@ -61,5 +71,28 @@ impl TimedCall {
         ensures { result ≡ puts_in self }
     {
         matches!(self.call, Call::Add(_)) && self.changed().is_some()
+    }
+}
+
+fn first_without_point(calls: &[TimedCall]) -> Option<usize>
+    ensures { result ≡ position lacks_point calls.now }
+{
+    calls.iter().position(|made| made.lacks_point())
+}
+
+impl Calls {
+    /// Tells whether each `add` and `remove` that has answered `true` has its point. The error is the line of the first that has
+    /// none, with `CallsCause::Point`. It does not allocate.
+    pub fn have_points(&self) -> Result<(), CallsFault>
+        requires { AreCalls (view self.now) }
+        ensures { PointsAreGiven (view self.now) result }
+    {
+        match first_without_point(&self.calls) {
+            Some(at) => Err(CallsFault::at(
+                FIRST_LINE + self.opening.len() as u64 + at as u64,
+                CallsCause::Point,
+            )),
+            None => Ok(()),
+        }
     }
 }

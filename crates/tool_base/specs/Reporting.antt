@@ -7,7 +7,7 @@ use Rattle.lset_calls.specs.declared.fault.ClashFault.{ClashFault}
 use Rattle.lset_calls.specs.Calls.{CallsValue, AreCalls}
 use Rattle.lset_calls.specs.Texts.{calls_text}
 use Rattle.lset_calls.specs.Reading.{reading}
-use Rattle.lset_calls.specs.Clashes.{IsRefusal}
+use Rattle.lset_calls.specs.Clashes.{IsRefusal, PointsAreGiven}
 use Rattle.lset_calls.specs.Reports.{IsReportOf}
 use Rattle.tool_base.specs.declared.streams.TheConstants.{LONGEST}
 use Rattle.tool_base.specs.declared.trouble.Trouble.{Trouble}
@@ -15,16 +15,23 @@ use Rattle.tool_base.specs.declared.trouble.Trouble.TheVariants.{LongReport}
 use Rattle.tool_base.specs.Trouble.{of_calls, of_clash}
 use Rattle.tool_base.specs.Tools.{Made, IsTaken, IsInputTrouble}
 
--- The bytes are the text of calls, and this is their report.
+-- The bytes are the text of calls, each change of which has its point, and this is their report.
 pub record IsReported (bytes : List ℕ) (c : CallsValue) (r : ReportValue) : Type 0 where
   pub calls : AreCalls c
   pub text : bytes ≡ calls_text c
+  pub points : PointsAreGiven c (Ok tt)
   pub report : IsReportOf c r
 
--- the first fault of the text, or of its calls beside each other
+-- the first change that has no point, or else the first call that cannot stand beside those above it
+abbrev pub IsFaultOfCalls : CallsValue → Trouble → Type 0
+IsFaultOfCalls c t =
+    ((fault : CallsFault) × (t ≡ of_calls fault) × PointsAreGiven c (Err fault))
+    ⊎ ((refusal : ClashFault) × (t ≡ of_clash refusal) × PointsAreGiven c (Ok tt) × IsRefusal c refusal)
+
+-- the first fault of the text, or else of its calls
 abbrev pub IsFirstFault : Result CallsValue CallsFault → Trouble → Type 0
 IsFirstFault (Err fault) t = t ≡ of_calls fault
-IsFirstFault (Ok c) t = (refusal : ClashFault) × (t ≡ of_clash refusal) × IsRefusal c refusal
+IsFirstFault (Ok c) t = IsFaultOfCalls c t
 
 -- the text of the report has more bytes than a text that is read may have
 abbrev pub IsOfLongReport : List ℕ → Trouble → Type 0

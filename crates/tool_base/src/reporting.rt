@@ -19,6 +19,7 @@ fn report_on(alloc: Global, bytes: &[u8]) -> Result<Answer, Trouble>
     ensures trouble { IfErr result (λ t. (t ≡ Memory) ⊎ IsFirstFault (reading bytes.now) t ⊎ (t ≡ LongReport)) }
 {
     let calls = read_calls(alloc, bytes)?;
+    calls.have_points()?;
     let report = report_of(alloc, calls)?;
     let text = write_report(alloc, &report)?;
     if text.len() > LONGEST {
@@ -28,8 +29,8 @@ fn report_on(alloc: Global, bytes: &[u8]) -> Result<Answer, Trouble>
 }
 
 /// Makes a report of the calls whose text the bytes are: its text, with status 0. The error is `TooLong` where there are more
-/// than `LONGEST` bytes, `Line` with the first fault of the text, or with the first line whose call cannot stand beside those of
-/// the lines above, `LongReport` where the report has more than `LONGEST` bytes, so that `check` could not read it, and `Memory`
+/// than `LONGEST` bytes, `Line` with the first fault of the text, or with its first change that has no point, or with the
+/// first line whose call cannot stand beside those of the lines above, `LongReport` where the report has more than `LONGEST` bytes, so that `check` could not read it, and `Memory`
 /// where memory was refused.
 pub fn reported(alloc: Global, bytes: &[u8]) -> Result<Answer, Trouble>
     ensures reports { Reports bytes.now (view result) }
