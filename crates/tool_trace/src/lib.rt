@@ -4,6 +4,7 @@
 //! replay finds how the events end and where the calls stand, a second one asks for no memory.
 #![tactic(auto)]
 
+mod again;
 mod chunks;
 mod events;
 mod heard;

@@ -3,8 +3,10 @@ ghost use Rattle.std.specs.Prelude.{⊤, false, IfOk, OnErr, OnOk};
 ghost use Rattle.std.specs.Io.KnownBytes.{Keeps};
 ghost use Rattle.lset_words.specs.Words.{Opens};
 ghost use Rattle.lset_schedule.specs.Plan.{IsSchedule, opening_in, view};
+ghost use Rattle.tool_trace.specs.Again.{HasPlaces};
 ghost use Rattle.tool_trace.specs.Tracing.{Grows, IsHeard};
 
+use crate::again::Again;
 use crate::chunks::{Chunk, is_full};
 use crate::events::put_event;
 use crate::heard::{head_of, put_last};
@@ -13,16 +15,13 @@ use lset_fine::FineList;
 use lset_lazy::LazyList;
 use lset_lock_free::LockFreeList;
 use lset_optimistic::OptimisticList;
-use lset_replay::{CallEnd, Deed, Listener, TracedEvent, trace_to};
-use lset_schedule::{Line, Schedule};
-use lset_steps::{Event, Machine, StepFault, World};
+use lset_replay::{Deed, Listener, TracedEvent, event_of, trace_to};
+use lset_schedule::Schedule;
+use lset_steps::{Machine, StepFault, World};
 use lset_words::{Kind, layout_opening};
 use std::alloc::{AllocError, Global};
 use std::io::Write;
 use tool_base::put as put_out;
-
-/// The most threads of a list.
-const MOST_THREADS: usize = 64;
 
 /// What a first pass over a schedule tells: the moment at which each call stands that ended, by its number, and how the events
 /// end.
@@ -70,66 +69,6 @@ pub fn known_of(alloc: Global, schedule: &Schedule) -> Result<Known, AllocError>
     })
 }
 
-/// How many events were told, and how many of them began a call; and the number of the last call that each thread began.
-#[derive(Clone, Copy)]
-struct Tally {
-    events: u32,
-    calls: u32,
-    last: [u32; MOST_THREADS],
-}
-
-impl Tally {
-    fn begin(&mut self, thread: u32) {
-        if let Some(last) = self.last.get_mut(thread as usize) {
-            *last = self.calls;
-        }
-        self.calls = self.calls.saturating_add(1);
-    }
-
-    fn call_of(&self, thread: u32) -> u32 {
-        self.last.get(thread as usize).copied().unwrap_or(0)
-    }
-}
-
-/// Makes an event in the world, and tells it; `None` where it is not enabled.
-fn tell<M: Machine>(
-    world: &mut World<M>,
-    tally: &mut Tally,
-    moments: &[u32],
-    line: u64,
-    event: Event,
-) -> Option<TracedEvent> {
-    let (thread, deed) = match event {
-        Event::Begin(thread, call) => (thread, Deed::Begin(call, tally.calls)),
-        Event::Go(thread) => {
-            let (action, seen) = world.next(thread)?;
-            (thread, Deed::Access(action, seen))
-        }
-    };
-    let before = world.holds(thread)?;
-    let told = world.step(event).ok()?;
-    if let Event::Begin(_, _) = event {
-        tally.begin(thread);
-    }
-    tally.events = tally.events.saturating_add(1);
-    let call = tally.call_of(thread);
-    let moment = moments.get(call as usize).copied().unwrap_or(0);
-    Some(TracedEvent {
-        line,
-        thread,
-        deed,
-        before,
-        after: world.holds(thread)?,
-        change: told.change,
-        end: told.answer.map(|reply| CallEnd {
-            call,
-            reply,
-            moment,
-        }),
-        chain: None,
-    })
-}
-
 fn write_out<W: Write>(output: &mut W, text: &[u8]) -> bool
     ensures { Grows (W.contents output.old) (W.contents output.new) }
 {
@@ -148,67 +87,6 @@ fn pour_full<W: Write>(chunk: &mut Chunk, output: &mut W) -> bool
     whole
 }
 
-/// The event that a line stands for, and how many times.
-fn event_of(line: Line) -> (Event, u32) {
-    match line {
-        Line::Begin(thread, call) => (Event::Begin(thread, call), 1),
-        Line::Go(thread, steps) => (Event::Go(thread), steps),
-    }
-}
-
-/// Writes the events of a line up to one that is not enabled: whether each write was done whole.
-fn write_line<M: Machine, W: Write>(
-    world: &mut World<M>,
-    tally: &mut Tally,
-    known: &Known,
-    number: u64,
-    line: Line,
-    chunk: &mut Chunk,
-    output: &mut W,
-) -> bool
-    ensures { Grows (W.contents output.old) (W.contents output.new) }
-{
-    let (event, times) = event_of(line);
-    for _done in 0..times {
-        let Some(told) = tell(world, tally, &known.moments, number, event) else {
-            return true;
-        };
-        if !pour_full(chunk, output) {
-            return false;
-        }
-        put_event(chunk, tally.events, &told);
-    }
-    true
-}
-
-/// Writes the events of a schedule, and how they end: whether each write was done whole.
-fn write_events<M: Machine, W: Write>(
-    world: &mut World<M>,
-    schedule: &Schedule,
-    known: &Known,
-    output: &mut W,
-) -> bool
-    ensures { Grows (W.contents output.old) (W.contents output.new) }
-{
-    let mut tally = Tally {
-        events: 0,
-        calls: 0,
-        last: [0; MOST_THREADS],
-    };
-    let mut chunk = Chunk::new();
-    let mut number = schedule.first_event_line();
-    for line in &schedule.lines {
-        if known.refused.is_some_and(|(refused, _)| refused < number) {
-            break;
-        }
-        if !write_line(world, &mut tally, known, number, *line, &mut chunk, output) {
-            return false;
-        }
-        number = number.saturating_add(1);
-    }
-    write_rest(&mut chunk, known.refused, output)
-}
-
 /// Writes what a chunk has, and how the events end.
 fn write_rest<W: Write>(
     chunk: &mut Chunk,
@@ -222,6 +100,39 @@ fn write_rest<W: Write>(
     }
     put_last(chunk, refused);
     write_out(output, chunk.as_str().as_bytes())
+}
+
+/// Writes the events of a schedule from its opening world on, up to one that is not enabled, and how they end: whether each write
+/// was done whole.
+fn write_events<M: Machine, W: Write>(
+    schedule: &Schedule,
+    known: &Known,
+    world: World<M>,
+    output: &mut W,
+) -> bool
+    requires { HasPlaces world }
+    ensures { Grows (W.contents output.old) (W.contents output.new) }
+{
+    let mut again = Again::new(known, world);
+    let mut chunk = Chunk::new();
+    let mut number = 0u32;
+    let mut from = schedule.first_event_line();
+    for line in &schedule.lines {
+        let (next, times) = event_of(from, *line);
+        for _done in 0..times {
+            let told = match again.tell(next) {
+                Ok(told) => told,
+                Err(cause) => return write_rest(&mut chunk, Some((next.line, cause)), output),
+            };
+            if !pour_full(&mut chunk, output) {
+                return false;
+            }
+            number = number.saturating_add(1);
+            put_event(&mut chunk, number, &told);
+        }
+        from = from.saturating_add(1);
+    }
+    write_rest(&mut chunk, None, output)
 }
 
 /// The same on the list of the machine `M`, with what stands before the events.
@@ -239,12 +150,12 @@ fn write_on<M: Machine, W: Write>(
     let Ok(layout) = layout_opening(schedule.threads, schedule.quota, keys.len() as u32) else {
         unreachable!();
     };
-    let mut world = World::<M>::opened(alloc, layout, keys)?;
+    let world = World::<M>::opened(alloc, layout, keys)?;
     let head = head_of(alloc, schedule)?;
     if !write_out(output, head.as_bytes()) {
         return Ok(false);
     }
-    Ok(write_events(&mut world, schedule, known, output))
+    Ok(write_events(schedule, known, world, output))
 }
 
 /// Writes the trace of a schedule, of which this is known, and tells whether each write was done whole. Where memory is refused
