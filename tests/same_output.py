@@ -8,9 +8,10 @@ and each text of calls of tests/transcripts/data; the examples, right and broken
 import os
 import shutil
 import subprocess
+import unittest
 
 from classic import sections
-from harness.cases import TOP, Wrong, cases, given, once, usable
+from harness.cases import NEEDS, TOP, Wrong, cases, given, once, usable
 from harness.cases import KINDS as LISTS
 
 KINDS = [*LISTS, "no-such-list"]
@@ -57,7 +58,7 @@ def forms(_room):
     """The program, and the other forms of it."""
     beside = given.beside or [ENGINE]
     if any(str(it).endswith(".js") for it in beside) and not shutil.which("node"):
-        raise Wrong("node is not installed, by which page/listset.js runs")
+        raise unittest.SkipTest(f"node is not installed: {NEEDS['node']}")
     return [Program(usable(given.program)), *(Program(str(it)) for it in beside)]
 
 

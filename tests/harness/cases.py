@@ -17,8 +17,11 @@ PROVED, UNPROVED = TOP / "crates/listset/out/listset", TOP / "crates/listset/out
 SECONDS = 60  # for each wait
 KINDS = ["coarse", "fine", "optimistic", "lazy", "lock-free"]
 
-# What the run is asked: its `program`, other forms of it (`beside`), whether a tenth will do (`few`), and its `room` for files.
-given = types.SimpleNamespace(program=None, beside=[], few=False, room=None)
+NEEDS = dict(it.split(": ", 1) for it in (TOP / "build/needs.txt").read_text().splitlines() if not it.startswith("#"))
+
+# What the run is asked: its `program`, other forms of it (`beside`), whether a tenth will do (`few`), whether tests are named; and its
+# `room` for files.
+given = types.SimpleNamespace(program=None, beside=[], few=False, is_named=False, room=None)
 _made, _lock = {}, threading.Lock()
 
 
@@ -96,6 +99,29 @@ def when_named(call):
     """A test so long that it is run only if a word names it."""
     call.is_long = True
     return call
+
+
+def needs(*tools):
+    """A test that is skipped if one of these commands is not installed."""
+
+    def over(call):
+        found = call.cases()
+        first = call
+
+        def tried(case, *asked):
+            if missing := [it for it in tools if not shutil.which(it)]:
+                raise unittest.SkipTest(f"{missing[0]} is not installed: {NEEDS[missing[0]]}")
+            first(case, *asked)
+
+        tried.__name__, tried.__module__, tried.cases = call.__name__, call.__module__, lambda: found
+        return tried
+
+    return over
+
+
+def lacking(why):
+    """What a test tells if what it needs is not built: it fails if a word names it, and is skipped else."""
+    raise Wrong(why) if given.is_named else unittest.SkipTest(why)
 
 
 def once(make):

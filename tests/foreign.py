@@ -1,0 +1,182 @@
+"""The sets and the judge from C, C++, Rust and Python, as foreign/build has built them into foreign/out, and the programs of
+docs/FOREIGN.md. A sanitizer that does not work here is left out: those for addresses and undefined behaviour, and in threads that for
+races. They see the callers; the libraries are not compiled with them.
+"""
+
+import os
+import re
+import shutil
+import subprocess
+import sys
+
+from harness.cases import TOP, Wrong, given, lacking, needs, test_on, usable
+
+FOREIGN, EXAMPLES = TOP / "foreign", TOP / "examples" / "schedules"
+TESTS, PREFIX = FOREIGN / "tests", FOREIGN / "out"
+TAKES_TURNS = True  # (each has more threads than there are processors)
+SECONDS = 600  # for each compiler and each program
+WARN = ["-Wall", "-Wextra", "-Werror", "-O1", "-g"]
+MEMORY, RACES = "-fsanitize=address,undefined", "-fsanitize=thread"
+WRAPPED = [f"-Wl,--wrap={it}" for it in ("malloc", "realloc", "free")]
+
+
+def well(*words, **how):
+    """What a program says that has to end with the status 0."""
+    done = ran(words, **how)
+    if done.returncode:
+        raise Wrong(f"{words[0]} ended with status {done.returncode}\n{done.stdout[-3000:]}{done.stderr[-3000:]}".strip())
+    return done.stdout
+
+
+def ran(words, **how):
+    return subprocess.run([*map(str, words)], capture_output=True, text=True, timeout=SECONDS, **{"stdin": subprocess.DEVNULL, **how})
+
+
+def texts():
+    return [*sorted(EXAMPLES.glob("*.schedule")), *sorted(EXAMPLES.glob("*.report"))]
+
+
+class Installed:
+    """The libraries as they are installed, and a room for what is made of them."""
+
+    def __init__(self, room):
+        if not PREFIX.exists():
+            lacking("foreign/out is missing: foreign/build --unproved builds the libraries")
+        self.room, self.library, self.share = room, PREFIX / "lib", PREFIX / "share" / "listset"
+        self.include = f"-I{PREFIX / 'include'}"
+
+    def works(self, sanitizer):
+        """Whether the compiler and this machine have a sanitizer."""
+        source, made = self.room / "small.c", self.room / "small"
+        source.write_text("int main(void) { return 0; }\n")
+        found = ran(["gcc", sanitizer, source, "-o", made]).returncode == 0 and ran([made]).returncode == 0
+        if not found:
+            print(f"foreign: {sanitizer} does not work here: left out", file=sys.stderr, flush=True)
+        return found
+
+    def built(self, name, *flags):
+        """A program of C over the static library."""
+        made = self.room / name.partition(".")[0]
+        well("gcc", "-std=c11", *WARN, *flags, self.include, TESTS / name, self.library / "liblistset.a", "-pthread", "-o", made)
+        return made
+
+    def flags(self):
+        """What a compiler is told of the installed library, by pkg-config where that is here."""
+        flags = [self.include, f"-L{self.library}", "-llistset"]
+        if shutil.which("pkg-config"):
+            how = {**os.environ, "PKG_CONFIG_PATH": str(self.library / "pkgconfig")}
+            flags = well("pkg-config", "--cflags", "--libs", "listset", env=how).split()
+        return [*flags, f"-Wl,-rpath,{self.library}"]
+
+    def page(self, language, ending, name="listset.?.?check"):
+        """The file of the program of docs/FOREIGN.md that calls the function of this name."""
+        found = re.findall(rf"^```{language}\n(.*?)^```$", (TOP / "docs" / "FOREIGN.md").read_text(), re.M | re.S)
+        found = [it for it in found if re.search(name, it)]
+        if len(found) != 1:
+            raise Wrong(f"docs/FOREIGN.md has {len(found)} programs in {language} that call {name}")
+        made = self.room / f"first.{ending}"
+        made.write_text(found[0])
+        return made
+
+    def first_program(self, language, *words, **how):
+        """What comes of a first program on a report that is right, and on one that is refused."""
+        for name, status, says in (("snip.report", 0, ""), ("snip.broken.report", 1, "refused ")):
+            with open(EXAMPLES / name) as report:
+                done = ran(words, stdin=report, **how)
+            if done.returncode != status or not done.stdout.startswith(says):
+                raise Wrong(f"the program in {language} of docs/FOREIGN.md on {name}: {done}")
+
+
+test = test_on(Installed)
+
+
+@needs("gcc")
+@test
+def words(it):
+    """A program in C has the bytes and statuses of the program on the words of same_output, by each library."""
+    shared, run_path = it.room / "shared", f"-Wl,-rpath,{it.library}"
+    well("gcc", "-std=c11", *WARN, it.include, TESTS / "words.c", f"-L{it.library}", "-llistset", run_path, "-o", shared)
+    well(TOP / "tests/run", "--program", usable(given.program), "--beside", it.built("words.c"), "--beside", shared, "same_output")
+
+
+@needs("gcc")
+@test
+def threads(it):
+    """The judge in eight threads."""
+    for flags in ([], [MEMORY], [RACES]):
+        if all(map(it.works, flags)):
+            well(it.built("threads.c", *flags), *texts())
+
+
+@needs("gcc")
+@test
+def memory(it):
+    """The judge, with each allocation refused in turn."""
+    schedule, report = EXAMPLES / "one-add.schedule", EXAMPLES / "one-add.report"
+    draft = min((TOP / "tests" / "transcripts" / "data" / "drafts").glob("*.draft"), key=lambda it: it.stat().st_size)
+    flags = [MEMORY] if it.works(MEMORY) else []
+    calls = TOP / "tests" / "transcripts" / "data" / "recorded" / "seen.calls"
+    well(it.built("memory.c", *flags, *WRAPPED), schedule, report, draft, calls)
+
+
+@needs("gcc")
+@test
+def sets(it):
+    """The lists in threads, beside models and counts, and recorded and judged: with more threads than processors, and a million calls."""
+    for flags, sizes in (([], [250_000, 4]), ([], [500, 64]), ([MEMORY], [5_000, 4]), ([RACES], [2_000, 4])):
+        if all(map(it.works, flags)):
+            well(it.built("sets.c", *flags), *sizes)
+    well(it.built("recorded.c"))
+
+
+@needs("gcc")
+@test
+def misuse(it):
+    """What the sets refuse, and their allocations refused in turn."""
+    flags = [MEMORY] if it.works(MEMORY) else []
+    well(it.built("misuse.c", *flags, *WRAPPED))
+
+
+@needs("gcc")
+@test
+def c(it):
+    made = it.room / "first"
+    well("gcc", "-std=c99", *WARN, it.page("c", "c"), *it.flags(), "-o", made)
+    it.first_program("c", made)
+
+
+@needs("g++")
+@test
+def cpp(it):
+    made, first, how = it.room / "made", it.room / "first", [MEMORY] if it.works(MEMORY) else []
+    for name in ("judge.cpp", "sets.cpp"):
+        well("g++", "-std=c++17", *WARN, *how, TESTS / name, *it.flags(), "-pthread", "-o", made)
+        well(made)
+    well("g++", "-std=c++17", *WARN, it.page("cpp", "cpp", "listset::open"), *it.flags(), "-pthread", "-o", first)
+    well(first)
+    well("g++", "-std=c++17", *WARN, it.page("cpp", "cpp"), *it.flags(), "-o", first)
+    it.first_program("cpp", first)
+
+
+@needs("cargo")
+@test
+def rust(it):
+    crate, target, cargo = it.share / "rust", ["--target-dir", it.room / "target"], ["cargo", "--offline"]
+    how = {**os.environ, "LISTSET_EXAMPLES": str(EXAMPLES)}
+    said = well(*cargo, "test", "--locked", *target, "--manifest-path", crate / "Cargo.toml", env=how)
+    passed = [line for line in said.splitlines() if line.startswith("test result: ok.") and " 0 passed" not in line]
+    if len(passed) != 3:
+        raise Wrong(f"cargo ran {len(passed)} kinds of tests:\n{said[-2000:]}")
+    manifest, page = it.room / "Cargo.toml", it.page("rust", "rs")
+    needs = f"[dependencies]\nlistset = {{ path = '{crate}' }}\n\n[[bin]]\nname = 'first'\npath = '{page}'\n"
+    manifest.write_text(f"[package]\nname = 'first'\nversion = '0.0.0'\nedition = '2021'\n\n{needs}")
+    well(*cargo, "build", *target, "--manifest-path", manifest)
+    it.first_program("rust", it.room / "target" / "debug" / "first")
+
+
+@test
+def python(it):
+    how = {"env": {**os.environ, "PYTHONPATH": str(it.share)}}
+    well(sys.executable, "-B", TESTS / "judge.py", EXAMPLES, **how)
+    well(sys.executable, "-B", TESTS / "sets.py", **how)
+    it.first_program("python", sys.executable, "-B", it.page("python", "py"), **how)
