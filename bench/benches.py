@@ -68,9 +68,11 @@ def program_of(name):
     return str(BUILT / name)
 
 
-def read(over):
+def read(over=None):
     """Reads each bench, without a proof, over the libraries that `rt ci` has just built in the repository `over`: that names and types
     still fit. Gives the status."""
+    if not over:
+        sys.exit("bench: --read takes the folder of a repository in which rt ci has built the libraries")
     sys.path.insert(0, str(TOP / "build"))
     import kit
 
