@@ -27,7 +27,7 @@ SHOWN = {
         "lset_history": ["check_order", "why_refused", "Oracle::opened", "Oracle::apply", "History::opened", "History::begin",
                          "History::end"],
         "lset_counts": ["counts_refute"],
-        "lset_parts": ["Parts::new", "Parts::add", "Parts::keys", "Parts::latest", "Parts::is_at_rest"],
+        "lset_parts": ["Parts::new", "Parts::judge", "Parts::add", "Parts::keys", "Parts::latest", "Parts::is_at_rest"],
     },
     "functions-steps": {
         "lset_words": ["layout"],

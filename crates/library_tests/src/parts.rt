@@ -3,6 +3,7 @@ ghost use Rattle.std.specs.Prelude.{ℕ, ◌<◌, length};
 ghost use Rattle.std.specs.List.Sorted.{IsStrictlyIncreasing};
 
 use lset_history::{History, Placed, check_order};
+use lset_judge::Verdict;
 use lset_parts::{PartFault, Parts};
 use lset_words::{Call, Key, Reply};
 use std::alloc::{AllocError, Global};
@@ -107,5 +108,49 @@ fn a_part_with_full(rt: HostRuntime) -> Result<(), Fail> {
         return Ok(());
     }
     assert!(rt; false, "the order is refused");
+    Ok(())
+}
+
+/// Two removes of key 5 that overlap: the first answers true, the second as told.
+fn two_removes<R: Abort>(rt: &R, alloc: Global, second: Reply) -> Result<History, Fail> {
+    let mut history = History::opened(alloc, 2, 1, Vec::from_slice(alloc, &[5])?);
+    for thread in 0..2u32 {
+        assert!(rt;
+            history
+                .begin(thread, Call::Remove(Key(5)), thread + 1)
+                .is_ok()
+        );
+    }
+    assert!(rt; history.end(0, Reply::True, 3).is_ok());
+    assert!(rt; history.end(1, second, 4).is_ok());
+    Ok(history)
+}
+
+#[test]
+fn parts_are_judged(rt: HostRuntime) -> Result<(), Fail> {
+    let alloc = rt.alloc();
+    let mut parts = Parts::new(Vec::from_slice(alloc, &[5])?);
+    let twice = two_removes(&rt, alloc, Reply::True)?;
+    let once = two_removes(&rt, alloc, Reply::False)?;
+    assert!(rt;
+        matches!(
+            parts.judge(alloc, 0, &twice, &[]),
+            Ok(Verdict::NotLinearizable(_))
+        )
+    );
+    assert!(rt;
+        matches!(
+            parts.judge(alloc, 0, &once, &[5]),
+            Ok(Verdict::NotLinearizable(_))
+        )
+    );
+    assert_eq!(rt; parts.keys(), [5].as_slice());
+    assert_eq!(rt;
+        parts.judge(alloc, 0, &once, &[]),
+        Ok(Verdict::Linearizable)
+    );
+    assert!(rt; parts.keys().is_empty());
+    assert_eq!(rt; parts.latest(), 4);
+    assert_eq!(rt; parts.judge(alloc, 4, &once, &[]), Err(PartFault::Opening));
     Ok(())
 }

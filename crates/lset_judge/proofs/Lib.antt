@@ -19,3 +19,7 @@ pub mod MarkOrder
 pub mod Runs
 pub mod Scanned
 pub mod Refusals
+pub mod Shifted
+pub mod Shifting
+pub mod InMoments
+pub mod KeyParts

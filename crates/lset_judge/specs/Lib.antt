@@ -3,3 +3,4 @@ pub mod Events
 pub mod Verdict
 pub mod Marks
 pub mod Code
+pub mod Locality

@@ -7,6 +7,8 @@
 //! project's own.)
 #![tactic(auto)]
 
+ghost use Rattle.lset_judge.specs.Locality.{KeysAreApart, QuotasDoNotMatter};
+
 mod event;
 mod judged;
 mod judging;
@@ -18,3 +20,19 @@ mod verdict;
 pub use judged::is_judged;
 pub use judging::first_refused;
 pub use verdict::{Refusal, Verdict, judge};
+
+/// Locality: put each key of a recording into one of several parts, and into each part the calls, the opening keys and the keys left
+/// of its keys. Some order explains the recording exactly if some order explains each part. So if `judge` says of each part that it
+/// is linearizable, the recording is, and if it says of one that it is not, the recording is not.
+///
+/// It holds for the histories that the judge decides: a `ceiling` reads many keys, and a quota counts adds of all. (Locality is
+/// Herlihy and Wing's: here each key is an object of its own.)
+pub fn keys_are_apart()
+    ensures { KeysAreApart }
+{}
+
+/// If some order explains a history that the judge decides under another quota, some order does under its own. So what the judge says
+/// of it holds for the set without a quota.
+pub fn quotas_do_not_matter()
+    ensures { QuotasDoNotMatter }
+{}

@@ -72,6 +72,14 @@ up_to_later began latest began' latest' l m x a = record {
 abbrev pub HasEnded : CallRecord → Type 0
 HasEnded x = IsSome x.ended
 
+pub has_no_full : (calls : List CallRecord) → All (λ (x : CallRecord). EndsFull x → ⊥) calls → HasNoFull calls
+has_no_full calls full k d b = none_ends_full (get_or calls k d).ended (full k d b)
+  where
+    none_ends_full : (e : Option (ℕ × Reply)) → (IsSomeAnd e (λ (d : ℕ × Reply). d.1 ≡ Full) → ⊥)
+        → IfSome e (λ (d : ℕ × Reply). d.1 ≢ Full)
+    none_ends_full None n = tt
+    none_ends_full (Some d) n = n
+
 abbrev PartHasNoFull : Part → Type 0
 PartHasNoFull p = HasNoFull p.history.calls
 
@@ -97,7 +105,7 @@ one_part_more kept new p same late full explained keys upto rest began latest tu
         rising = a.parts.rising;
         explained = All-append IsExplained ps (p ∷ []) a.parts.explained (one_all IsExplained p explained);
         no_full = All-append PartHasNoFull ps (p ∷ []) a.parts.no_full
-            (one_all PartHasNoFull p (λ k d b. none_ends_full (get_or p.history.calls k d).ended (full k d b)));
+            (one_all PartHasNoFull p (has_no_full p.history.calls full));
         opens = opens_more opening ps p a.parts.opens (same ∙ a.keys_are);
         cut = pairs_append ComesAfter ps (p ∷ []) a.parts.cut (one_pair ComesAfter p) cut;
       };
@@ -133,11 +141,6 @@ one_part_more kept new p same late full explained keys upto rest began latest tu
     mapped_ended xs k d b h =
         let many : length (map (call_since p.since) xs) ≡ length xs = length-map xs (call_since p.since) in
         subst HasEnded (get_or_mapped (call_since p.since) xs k d) (h k (call_since p.since d) (omega arith))
-
-    none_ends_full : (e : Option (ℕ × Reply)) → (IsSomeAnd e (λ (d : ℕ × Reply). d.1 ≡ Full) → ⊥)
-        → IfSome e (λ (d : ℕ × Reply). d.1 ≢ Full)
-    none_ends_full None n = tt
-    none_ends_full (Some d) n = n
 
 pub none_kept : (keys : List ℕ) → IsStrictlyIncreasing keys
     → IsKeptOf keys [] (record { keys = keys; began = 0; latest = 0; at_rest = true })

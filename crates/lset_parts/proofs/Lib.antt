@@ -9,3 +9,4 @@ pub mod Needed
 pub mod Histories
 pub mod Kept
 pub mod Moments
+pub mod Judged

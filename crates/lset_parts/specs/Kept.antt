@@ -6,8 +6,9 @@ use Rattle.lset_words.specs.declared.history.CallRecord.{CallRecord}
 use Rattle.lset_words.specs.declared.history.Placed.{Placed}
 use Rattle.lset_parts.specs.declared.parts.PartFault.{PartFault}
 use Rattle.lset_parts.specs.declared.parts.PartFault.TheVariants.{Opening, Late, Early, HasFull, Memory}
+use Rattle.lset_history.specs.History.{HistoryValue}
 use Rattle.lset_history.specs.Faults.{Explains}
-use Rattle.lset_parts.specs.Parts.{Part, AreParts, ExplainsWithoutQuota, HasNoFull, call_since, calls_of, whole_calls, keys_left}
+use Rattle.lset_parts.specs.Parts.{Part, AreParts, ExplainsWithoutQuota, HasNoFull, call_since, whole_calls, keys_left}
 
 -- the keys that the last part left, the latest beginning and the latest moment of the whole recording, and whether all of its calls
 -- have ended
@@ -39,13 +40,19 @@ EndsEarly began x = IsSomeAnd x.ended (λ (end : ℕ × Reply). end.0 < began)
 abbrev pub EndsFull : CallRecord → Type 0
 EndsFull x = IsSomeAnd x.ended (λ (end : ℕ × Reply). end.1 ≡ Full)
 
--- why the part does not follow those of which this is kept
-abbrev pub IsPartFault : KeptParts → Part → PartFault → Type 0
-IsPartFault kept p Late = 2 ^ 63 < p.since
-IsPartFault kept p Opening = p.history.opening.keys ≢ kept.keys
-IsPartFault kept p Early = Any (EndsEarly kept.began) (calls_of p)
-IsPartFault kept p HasFull = Any EndsFull p.history.calls
-IsPartFault kept p Memory = Unit {0}
+-- why a history, its moments counted since a moment of the whole recording, does not follow the parts of which this is kept
+abbrev pub IsPartFault : KeptParts → ℕ → HistoryValue → PartFault → Type 0
+IsPartFault kept since h Late = 2 ^ 63 < since
+IsPartFault kept since h Opening = h.opening.keys ≢ kept.keys
+IsPartFault kept since h Early = Any (EndsEarly kept.began) (map (call_since since) h.calls)
+IsPartFault kept since h HasFull = Any EndsFull h.calls
+IsPartFault kept since h Memory = Unit {0}
+
+-- it follows them
+pub record Follows (kept : KeptParts) (since : ℕ) (h : HistoryValue) : Type 0 where
+  pub opening : h.opening.keys ≡ kept.keys
+  pub none_early : All (λ (x : CallRecord). EndsEarly kept.began x → ⊥) (map (call_since since) h.calls)
+  pub none_full : All (λ (x : CallRecord). EndsFull x → ⊥) h.calls
 
 -- one order explains the whole, and leaves the keys that are kept
 abbrev pub WholeIsExplained : KeptParts → Type 0

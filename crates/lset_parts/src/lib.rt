@@ -1,5 +1,5 @@
 //! A long recording of a set, judged in parts: if each part has an order that explains it, and opens with the keys that the one
-//! before left, one order explains the whole recording. A part has at most a million calls, a recording any number of parts.
+//! before left, one order explains the whole recording. A recording has any number of parts.
 #![tactic(auto)]
 
 ghost use Rattle.lset_parts.specs.Parts.{PartsExplainTheWhole};

@@ -1,9 +1,12 @@
-ghost use Rattle.std.specs.Prelude.{◌≡◌, ℕ, ◌+◌, ◌≤◌, ◌<◌, ◌^◌, List, [], ◌∷◌, ◌++◌, map, All, Any, IfOk, OnOk, OnErr, IfErr, IsTrue, IfSome, IsSome, MatchBool, ◌↔◌};
+ghost use Rattle.std.specs.Prelude.{◌≡◌, ℕ, ◌+◌, ◌≤◌, ◌<◌, ◌^◌, List, [], ◌∷◌, ◌++◌, map, All, Any, IfOk, OnOk, OnErr, IfErr, IsTrue, IfSome, IfNone, IsSome, MatchBool, MatchOption, ◌↔◌};
 ghost use Rattle.std.specs.List.Sorted.{IsStrictlyIncreasing};
+ghost use Rattle.lset_words.specs.History.{IsHistory};
 ghost use Rattle.lset_parts.specs.Parts.{Part, IsExplained, HasNoFull, call_since};
-ghost use Rattle.lset_parts.specs.Kept.{IsKeptOf, WholeIsExplained, NextIsNeeded, IsPartFault, EndsEarly, EndsFull, IsUpTo};
+ghost use Rattle.lset_parts.specs.Judged.{IsPartVerdict};
+ghost use Rattle.lset_parts.specs.Kept.{IsKeptOf, Follows, WholeIsExplained, NextIsNeeded, IsPartFault, EndsEarly, EndsFull, IsUpTo};
 
 use lset_history::History;
+use lset_judge::{Verdict, judge};
 use lset_words::{CallRecord, Reply};
 use std::alloc::Global;
 use std::marker::Model;
@@ -157,10 +160,33 @@ impl Parts {
         ensures { NextIsNeeded self.now }
     {}
 
+    /// Why a history whose moments count from `since` does not follow the parts, if it does not.
+    fn find_fault(&self, since: u64, history: &History) -> Option<PartFault>
+        ensures clock { IfNone result (since ≤ 2 ^ 63) }
+        ensures history { IfNone result (IsHistory history.now.opening.threads history.now.calls) }
+        ensures opening { IfNone result (IsStrictlyIncreasing history.now.opening.keys) }
+        ensures cases { MatchOption result (Follows self.now since history.now) (IsPartFault self.now since history.now) }
+    {
+        if since > LAST_CLOCK {
+            return Some(PartFault::Late);
+        }
+        if history.opening() != self.keys.as_slice() {
+            return Some(PartFault::Opening);
+        }
+        if ends_early(history.calls(), since, self.began) {
+            return Some(PartFault::Early);
+        }
+        if has_full(history.calls()) {
+            return Some(PartFault::HasFull);
+        }
+        None
+    }
+
     /// Adds a part that some order explains: its history, whose moments count from the moment `since` of the whole recording, and
     /// the keys that it left. `since` is 0 if all parts have one clock, and `latest` if each has its own.
     ///
-    /// On an error nothing is changed. It allocates a copy of the keys, and keeps nothing of the calls but two moments.
+    /// On an error nothing is changed. It allocates a copy of the keys, and keeps nothing of the calls but two moments and whether
+    /// all of them have ended.
     pub fn add(
         &mut self,
         alloc: Global,
@@ -172,21 +198,11 @@ impl Parts {
         // What was kept of any parts is then kept of those parts and this one.
         ensures kept { OnOk result ((opening : List ℕ) (ps : List Part) → IsKeptOf opening ps self.old
             → IsKeptOf opening (ps ++ record { history = history.now; keys = keys.now; since = since } ∷ []) self.new) }
-        ensures refused { IfErr result
-            (IsPartFault self.old (record { history = history.now; keys = keys.now; since = since })) }
+        ensures refused { IfErr result (IsPartFault self.old since history.now) }
         ensures unchanged { OnErr result (self.new ≡ self.old) }
     {
-        if since > LAST_CLOCK {
-            return Err(PartFault::Late);
-        }
-        if history.opening() != self.keys.as_slice() {
-            return Err(PartFault::Opening);
-        }
-        if ends_early(history.calls(), since, self.began) {
-            return Err(PartFault::Early);
-        }
-        if has_full(history.calls()) {
-            return Err(PartFault::HasFull);
+        if let Some(fault) = self.find_fault(since, history) {
+            return Err(fault);
         }
         let Ok(left) = Vec::from_slice(alloc, keys) else {
             return Err(PartFault::Memory);
@@ -198,6 +214,37 @@ impl Parts {
         self.latest = latest;
         self.at_rest = at_rest;
         Ok(())
+    }
+
+    /// Judges a part, and adds it if some order explains it (`lset_judge::judge`). If none does and the parts before are at rest,
+    /// none explains the recording up to the end of this part. `keys` are the keys that the part left; they rise.
+    ///
+    /// `since` is as in `add`. Only `Linearizable` changes anything. It takes n log n steps for n calls of the part.
+    pub fn judge(
+        &mut self,
+        alloc: Global,
+        since: u64,
+        history: &History,
+        keys: &[u32],
+    ) -> Result<Verdict, PartFault>
+        requires { IsStrictlyIncreasing keys.now }
+        ensures verdict { IfOk result
+            (IsPartVerdict self.old self.new (record { history = history.now; keys = keys.now; since = since })) }
+        ensures refused { IfErr result (IsPartFault self.old since history.now) }
+        ensures unchanged { OnErr result (self.new ≡ self.old) }
+    {
+        if let Some(fault) = self.find_fault(since, history) {
+            return Err(fault);
+        }
+        match judge(alloc, history, keys) {
+            Ok(Verdict::Linearizable) => {
+                self.add(alloc, since, history, keys)?;
+                Ok(Verdict::Linearizable)
+            }
+            Ok(Verdict::NotLinearizable(refusal)) => Ok(Verdict::NotLinearizable(refusal)),
+            Ok(Verdict::Undecided) => Ok(Verdict::Undecided),
+            Err(_) => Err(PartFault::Memory),
+        }
     }
 }
 
