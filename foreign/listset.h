@@ -52,6 +52,10 @@ enum {
   LISTSET_NO_MEMORY = 3    /* malloc or realloc refused */
 };
 
+/* What this library is, in four lines: `listset` and the version; the kit and the logic; `commit` and that of the sources, or 40
+   zeros where they were no commit; `proof checked` where the library is proved, else `proof missing`. The text is constant. */
+const char *listset_version(void);
+
 /* The report of a schedule. */
 size_t listset_replay(const char *schedule, size_t length, char *room, size_t size, uint8_t *status);
 

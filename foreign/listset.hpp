@@ -23,6 +23,9 @@
 
 namespace listset {
 
+// What this library is, in the four lines of listset_version.
+inline std::string_view version() { return listset_version(); }
+
 // What the program `listset` prints of a text, and its exit status.
 struct said {
   std::string text;

@@ -18,7 +18,7 @@ The sets, for tests and teaching: a thread calls from a seat of its own, and one
     mine.gather(other)
     keys = mine.close()
 
-The library is that of the folder LISTSET_LIB where this is set, else that which `foreign/build` puts beside this file.
+The library is that of the folder LISTSET_LIB where this is set, else that beside this file.
 """
 
 import ctypes
@@ -27,7 +27,7 @@ import os
 import pathlib
 
 HERE = pathlib.Path(__file__).resolve().parent
-PLACES = [HERE / "out" / "lib", HERE.parent.parent / "lib"]
+PLACES = [HERE, HERE / "out" / "lib", HERE.parent.parent / "lib", pathlib.Path("/usr/lib")]
 FIRST_ROOM = 1 << 16  # bytes
 
 
@@ -48,6 +48,14 @@ def _library():
 
 
 _LIBRARY = _library()
+
+
+def version():
+    """What the library is, in the four lines of listset_version: its version, the kit and the logic, the commit of its sources, and
+    "proof checked" where it is proved, else "proof missing"."""
+    function = _LIBRARY.listset_version
+    function.restype = ctypes.c_char_p
+    return function().decode()
 
 
 def said(name, *texts):

@@ -1,4 +1,4 @@
-//! Finds liblistset.a: in the folder LISTSET_LIB where this is set, else where `foreign/build` puts it, beside this crate.
+//! Finds liblistset.a: in the folder LISTSET_LIB where this is set, else in this crate, or where `foreign/build` puts it beside it.
 use std::env;
 use std::path::{Path, PathBuf};
 
@@ -8,11 +8,10 @@ fn main() {
     let here = Path::new(&here);
     let places = match env::var_os("LISTSET_LIB") {
         Some(given) => vec![PathBuf::from(given)],
-        None => vec![here.join("../out/lib"), here.join("../../../lib")],
+        None => vec![here.join("lib"), here.join("../out/lib"), here.join("../../../lib")],
     };
-    let Some(found) = places.iter().find(|it| it.join("liblistset.a").exists()) else {
-        panic!("liblistset.a is in none of {places:?}: foreign/build makes it");
-    };
+    let found = places.iter().find(|it| it.join("liblistset.a").exists());
+    let found = found.unwrap_or_else(|| panic!("liblistset.a is in none of {places:?}: foreign/build makes it"));
     println!("cargo:rerun-if-changed={}", found.join("liblistset.a").display());
     println!("cargo:rustc-link-search=native={}", found.display());
     println!("cargo:rustc-link-lib=static=listset");

@@ -8,7 +8,7 @@ type OfRoom = unsafe extern "C" fn(*mut u8, usize, *mut u8) -> usize;
 type OfText = unsafe extern "C" fn(*const u8, usize, *mut u8, usize, *mut u8) -> usize;
 type OfTwoTexts = unsafe extern "C" fn(*const u8, usize, *const u8, usize, *mut u8, usize, *mut u8) -> usize;
 
-unsafe extern "C" {
+extern "C" {
     pub fn listset_replay(text: *const u8, length: usize, room: *mut u8, size: usize, status: *mut u8) -> usize;
     pub fn listset_report(text: *const u8, length: usize, room: *mut u8, size: usize, status: *mut u8) -> usize;
     pub fn listset_check(text: *const u8, length: usize, room: *mut u8, size: usize, status: *mut u8) -> usize;
@@ -38,6 +38,7 @@ unsafe extern "C" {
     ) -> usize;
     pub fn listset_examples(room: *mut u8, size: usize, status: *mut u8) -> usize;
     pub fn listset_faults(room: *mut u8, size: usize, status: *mut u8) -> usize;
+    pub fn listset_version() -> *const std::os::raw::c_char;
 }
 
 pub fn of_room(function: OfRoom) -> Result<String, Wrong> {

@@ -12,6 +12,7 @@
 //! Any number of threads may call at once.
 
 use std::error::Error;
+use std::ffi::CStr;
 use std::fmt::{self, Display};
 
 mod calls;
@@ -44,6 +45,14 @@ pub struct Window {
     pub from: Option<u32>,
     pub to: Option<u32>,
     pub width: Option<u32>,
+}
+
+/// What the library is, in four lines: `listset` and the version; the kit and the logic; `commit` and that of its sources, or 40
+/// zeros; `proof checked` where it is proved, else `proof missing`.
+pub fn version() -> &'static str {
+    // SAFETY: it gives a text that is constant and ends with a zero byte.
+    let told = unsafe { CStr::from_ptr(calls::listset_version()) };
+    told.to_str().expect("the version is of ASCII")
 }
 
 /// The report of a schedule.

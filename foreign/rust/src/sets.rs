@@ -14,7 +14,7 @@ struct Raw {
     at: *mut c_void,
 }
 
-unsafe extern "C" {
+extern "C" {
     fn listset_open(kind: u8, seats: u32, quota: u32, number: u64, keys: *const u32, count: usize, out: *mut Raw) -> u8;
     fn listset_split(seat: *mut Raw, out: *mut Raw) -> u8;
     fn listset_add(seat: *mut Raw, key: u32) -> u8;

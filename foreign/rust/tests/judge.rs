@@ -74,7 +74,7 @@ fn recorded_calls_are_judged() {
 #[test]
 fn what_is_wrong_comes_with_its_status() {
     let broken = broken_example("snip").unwrap();
-    let Err(Wrong { text, status }) = check(&broken) else { panic!("a broken report is taken") };
+    let Wrong { text, status } = check(&broken).expect_err("a broken report is taken");
     assert!(text.starts_with("refused ") && status == 1, "{text}");
     assert_eq!(example("none").unwrap_err().status, 2);
     assert_eq!(replay("").unwrap_err().status, 1);
