@@ -21,6 +21,20 @@ halved (suc b) low high next_low next_high h l g =
     let k : high - low < 2 ^ b * 2 = subst (λ z. high - low < z) (pow-suc 2 b) h in
     (omega arith, subst (λ z. next_high - next_low < 2 ^ z) (let e : b ≡ suc b - 1 = omega arith in e) (omega arith))
 
+-- a half is not too small: so many looks are needed
+pub half_needed : (k low high next_low next_high : ℕ) → 2 ^ k ≤ high - low + 1 → high - low ≤ 2 * (next_high - next_low) + 2
+    → 2 ^ (k - 1) ≤ next_high - next_low + 1
+half_needed zero low high next_low next_high h l = let one : 2 ^ (zero - 1) ≡ 1 = refl in omega arith
+half_needed (suc k) low high next_low next_high h l =
+    let g : 2 ^ k * 2 ≤ high - low + 1 = subst (λ z. z ≤ high - low + 1) (pow-suc 2 k) h in
+    subst (λ z. 2 ^ z ≤ next_high - next_low + 1) (let e : k ≡ suc k - 1 = omega arith in e) (omega arith)
+
+pub no_look_left : (k : ℕ) → 2 ^ k ≤ 1 → k ≡ 0
+no_look_left zero h = refl
+no_look_left (suc k) h =
+    let g : 2 ^ k * 2 ≤ 1 = subst (λ z. z ≤ 1) (pow-suc 2 k) h in
+    let p : 0 < 2 ^ k = pow-pos 2 k (lit< tt) in omega arith
+
 pub below_rises : (ms : List ℕ) → IsStrictlyIncreasing ms → (i j : ℕ) → i ≤ j → j < length ms → get_or ms i 0 ≤ get_or ms j 0
 below_rises ms rise i zero l below = let e : i ≡ 0 = omega arith in rw e (omega arith)
 below_rises ms rise i (suc j) l below = elim (last_or_before i j l) [

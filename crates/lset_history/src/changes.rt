@@ -1,4 +1,4 @@
-ghost use Rattle.std.specs.Prelude.{◌≡◌, ◌≤◌, ◌<◌, ◌^◌, ◌↔◌, ℕ, List, All, length, not, true, false, IsTrue, OnOk, OnErr, IfOk};
+ghost use Rattle.std.specs.Prelude.{◌≡◌, ◌+◌, ◌≤◌, ◌<◌, ◌^◌, ◌↔◌, ℕ, List, All, length, not, true, false, IsTrue, OnOk, OnErr, IfOk};
 ghost use Rattle.std.specs.List.Sorted.{IsStrictlyIncreasing};
 ghost use Rattle.lset_history.specs.Changes.{
   IsFirst,
@@ -67,6 +67,7 @@ fn count_upto(moments: &[u32], at: u32) -> (usize, u32)
     requires { IsStrictlyIncreasing moments.now }
     ensures count { IsCountUpTo moments.now at result.0 }
     ensures looked { (b : ℕ) → b ≤ 64 → length moments.now < 2 ^ b → result.1 ≤ b }
+    ensures needed { (b : ℕ) → 2 ^ b ≤ length moments.now + 1 → b ≤ result.1 }
 {
     let mut low = 0;
     let mut high = moments.len();
@@ -163,12 +164,13 @@ impl Changes {
     }
 
     /// The least moment from `from` to `to` at which `key` is in the set (`present`), or is not, if there is one;
-    /// and the number of noted moments that were looked at: at most 24 where the key has at most 1,000,000.
-    /// It takes no memory.
+    /// and the number of noted moments that were looked at: at most 24 where the key has at most 1,000,000, and never fewer
+    /// than a search among so many needs that compares one at a time. It takes no memory.
     pub fn first(&self, key: u32, present: bool, from: u32, to: u32) -> (Option<u32>, u32)
         requires { from ≤ to }
         ensures first { IsFirst (λ m. is_present (moments_of self.now) key m ≡ present) from to result.0 }
         ensures few { length (moments_of self.now key) ≤ 1000000 → result.1 ≤ 24 }
+        ensures needed { (b : ℕ) → 2 ^ b ≤ length (noted_of self.now key) + 1 → b ≤ result.1 }
     {
         let noted = self.noted(key);
         let (before, looked) = count_upto(noted, from);
@@ -234,12 +236,11 @@ impl Changes {
     fn is_against(&self, key: u32, found: Option<u32>, other: u32, moment: u32) -> bool
         ensures { result ≡ is_against (moments_of self.now) key found other moment }
     {
-        let present = self.was_present(other, moment);
         match found {
             _ if other < key => false,
             Some(found) if found < other => false,
-            Some(found) if found == other => !present,
-            _ => present,
+            Some(found) if found == other => !self.was_present(other, moment),
+            _ => self.was_present(other, moment),
         }
     }
 
@@ -280,7 +281,8 @@ impl Changes {
     }
 
     /// The least moment from `from` to `to` at which the least key of the set at or above `key` is `found`, or at which
-    /// there is none, if there is such a moment. It takes no memory.
+    /// there is none, if there is such a moment. It takes no memory. It looks at each change noted after `from`, also after
+    /// `to`: ask while no change after `to` has been noted, and many such searches take as long as their spans together.
     pub fn first_ceiling(&self, key: u32, found: Option<u32>, from: u32, to: u32) -> Option<u32>
         requires { from ≤ to }
         ensures first { IsFirst (λ m. IsCeiling (λ j. is_present (moments_of self.now) j m ≡ true) key found) from to result }

@@ -1,5 +1,5 @@
 use Rattle.std.proofs.Common.{◌≡◌, ◌+◌, ◌-◌, ◌/◌, ◌^◌, ◌<◌, ◌≤◌, length, get_or, subst, arith, rules}
-use Rattle.lset_history.proofs.Counting.{halved, below_rises}
+use Rattle.lset_history.proofs.Counting.{halved, half_needed, no_look_left, below_rises}
 use Rattle.lset_history.proofs.changes.count_upto.Goals as goal
 use Rattle.lset_history.proofs.changes.count_upto.Goals.{then-moments-middle, else-moments-middle}
 
@@ -36,6 +36,10 @@ loop-low-preserved c =
                   subst (λ z. c.if-moments-middle.high - c.if-moments-middle.low < 2 ^ z)
                       (let e : b - c.loop-low.looked - 1 ≡ b - (c.loop-low.looked + 1) = omega arith in e) h.1,
                 );
+            needed = λ b m. subst (λ z. 2 ^ z ≤ c.if-moments-middle.high - c.if-moments-middle.low + 1)
+                (let e : b - c.loop-low.looked - 1 ≡ b - (c.loop-low.looked + 1) = omega arith in e)
+                (half_needed (b - c.loop-low.looked) c.loop-low.low c.loop-low.high c.if-moments-middle.low
+                c.if-moments-middle.high (c.loop-low.invariant.needed b m) (omega arith));
           })
       | else-moments-middle w ↦ (
           let middle : c.if-moments-middle.low ≡ c.loop-low.low = w.low-is in
@@ -60,5 +64,15 @@ loop-low-preserved c =
                   subst (λ z. c.if-moments-middle.high - c.if-moments-middle.low < 2 ^ z)
                       (let e : b - c.loop-low.looked - 1 ≡ b - (c.loop-low.looked + 1) = omega arith in e) h.1,
                 );
+            needed = λ b m. subst (λ z. 2 ^ z ≤ c.if-moments-middle.high - c.if-moments-middle.low + 1)
+                (let e : b - c.loop-low.looked - 1 ≡ b - (c.loop-low.looked + 1) = omega arith in e)
+                (half_needed (b - c.loop-low.looked) c.loop-low.low c.loop-low.high c.if-moments-middle.low
+                c.if-moments-middle.high (c.loop-low.invariant.needed b m) (omega arith));
           })
     ]
+
+pub returns-clause-needed : goal.returns-clause-needed
+returns-clause-needed c = λ b m.
+    let over : c.loop-low.high ≤ c.loop-low.low = c.loop-low-test.false in
+    let left : 2 ^ (b - c.loop-low.looked) ≤ c.loop-low.high - c.loop-low.low + 1 = c.loop-low.invariant.needed b m in
+    let none : b - c.loop-low.looked ≡ 0 = no_look_left (b - c.loop-low.looked) (omega arith) in omega arith

@@ -1,4 +1,4 @@
-use Rattle.std.proofs.Common.{◌-◌, ◌≤◌, ◌<◌, ◌^◌, ℕ, length}
+use Rattle.std.proofs.Common.{◌+◌, ◌-◌, ◌≤◌, ◌<◌, ◌^◌, ℕ, length}
 use Rattle.std.specs.Prelude.{slice_index}
 use Rattle.lset_history.proofs.changes.count_upto.Given as goal
 
@@ -10,6 +10,7 @@ invariant-loop-low l = record {
   upto : (i : ℕ) → i < l.low → slice_index l.moments i ≤ l.at;
   past : (i : ℕ) → l.high ≤ i → i < length l.moments → l.at < slice_index l.moments i;
   looked : (b : ℕ) → b ≤ 64 → length l.moments < 2 ^ b → (l.looked ≤ b) × (l.high - l.low < 2 ^ (b - l.looked));
+  needed : (b : ℕ) → 2 ^ b ≤ length l.moments + 1 → 2 ^ (b - l.looked) ≤ l.high - l.low + 1;
 }
 
 abbrev pub decreases-loop-low : goal.decreases-loop-low
