@@ -5,6 +5,7 @@ use Rattle.std.specs.Prelude.{◌==◌, Option, Some, None, Contains, if◌then�
 use Rattle.std.specs.List.Sorted.{IsStrictlyIncreasing}
 use mathlib.Core.Bool.{beq}
 use Rattle.std.proofs.Math.Nat.{pow-suc}
+use Rattle.std.proofs.lemmas.Nat.{pow_pos}
 use Rattle.std.proofs.lemmas.Bool.{cases_Bool, false≢true, le-ltb}
 use Rattle.std.proofs.lemmas.List.Elements.{All-contains, All-from_get_or, Contains-get_or}
 use Rattle.lset_words.proofs.Numbers.{same_number, equal_test, unequal_test}
@@ -33,7 +34,7 @@ pub no_look_left : (k : ℕ) → 2 ^ k ≤ 1 → k ≡ 0
 no_look_left zero h = refl
 no_look_left (suc k) h =
     let g : 2 ^ k * 2 ≤ 1 = subst (λ z. z ≤ 1) (pow-suc 2 k) h in
-    let p : 0 < 2 ^ k = pow-pos 2 k (lit< tt) in omega arith
+    let p : 0 < 2 ^ k = pow_pos k in omega arith
 
 pub below_rises : (ms : List ℕ) → IsStrictlyIncreasing ms → (i j : ℕ) → i ≤ j → j < length ms → get_or ms i 0 ≤ get_or ms j 0
 below_rises ms rise i zero l below = let e : i ≡ 0 = omega arith in rw e (omega arith)
