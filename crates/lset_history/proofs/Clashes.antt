@@ -11,7 +11,7 @@ use Rattle.lset_words.specs.declared.history.Placed.{Placed}
 use Rattle.lset_words.specs.SequentialSet.{SetState, opening_set, reply_to}
 use Rattle.lset_words.specs.History.{call_numbered, no_call, IsHistory, Precedes}
 use Rattle.lset_history.specs.History.{HistoryValue}
-use Rattle.lset_history.specs.Faults.{Passes, RefusesFirst, IsUnknown, IsTwice, HasWrongReply, place_at, placed_call, set_left_by}
+use Rattle.lset_history.specs.Faults.{Passes, RefusesFirst, IsUnknown, IsTwice, HasWrongReply, place_at, placed_call}
 use Rattle.lset_history.specs.Checks.{HasKnownCalls}
 use Rattle.lset_history.specs.Refusals.{StandsBefore, AnsweredOtherwise, set_before}
 use Rattle.lset_history.proofs.Places.{IsWrong}

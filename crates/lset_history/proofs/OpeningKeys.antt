@@ -1,17 +1,10 @@
 -- Keys that rise, taken one by one into a tree and into the changes.
-use Rattle.std.proofs.Common.{◌≡◌, ℕ, zero, suc, ◌+◌, ◌<◌, ◌≤◌, ◌==◌, ◌||◌, Bool, true, false, List, [], ◌∷◌, ◌++◌, length, take}
-use Rattle.std.proofs.Common.{get_or, add-one, sym, refl, ap, ◌∙◌, arith}
-use Rattle.std.proofs.Math.Bool.{or-false}
-use Rattle.std.proofs.Math.Seq.{take-suc}
-use Rattle.std.specs.Prelude.{if◌then◌else◌}
+use Rattle.std.proofs.Common.{◌≡◌, ℕ, zero, suc, ◌+◌, ◌<◌, ◌≤◌, List, [], ◌∷◌, length, take}
+use Rattle.std.proofs.Common.{get_or, add-one, refl, ap, arith}
 use Rattle.std.specs.Ordering.{nat_cmp}
 use Rattle.std.specs.BTreeSet.{insert_key}
 use Rattle.std.specs.List.Sorted.{IsStrictlyIncreasing}
-use Rattle.std.proofs.lemmas.Bool.{ne_eqb, eq-eqb}
-use Rattle.lset_words.proofs.Numbers.{same_number, equal_test, unequal_test}
 use Rattle.lset_words.proofs.RisingLists.{RisesFrom, rises_from_increasing}
-use Rattle.lset_words.specs.SequentialSet.{has_key}
-use Rattle.lset_history.specs.Changes.{with_change, opened_moments}
 use Rattle.lset_history.proofs.KeySets.{greater}
 
 next_above : (lo : ℕ) (xs : List ℕ) (i : ℕ) → RisesFrom lo xs → i < length xs → lo ≤ get_or xs i 0

@@ -55,7 +55,9 @@ pub record MayEnd (h : HistoryValue) (number at : ℕ) : Type 0 where
 abbrev pub CannotEnd : HistoryValue → ℕ → ℕ → HistoryFault → Type 0
 CannotEnd h number at NotOpen = IsOpen h.calls number → ⊥
 CannotEnd h number at Time = IsOpen h.calls number × (IsLater h.calls at → ⊥)
-CannotEnd h number at fault = ⊥
+CannotEnd h number at NoThread = ⊥
+CannotEnd h number at Busy = ⊥
+CannotEnd h number at Memory = ⊥
 
 -- the call with that number, ended at a moment with a reply
 abbrev pub ended_with : CallRecord → ℕ × Reply → CallRecord

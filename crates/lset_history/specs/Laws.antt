@@ -49,8 +49,10 @@ LogsTellHistories = (op : Opening) (last : ℕ) (log : Log) (lists : ℕ → Lis
 
 -- the keys of a set stand in turn, where the answer to the call is the first of them
 abbrev pub RisesFor : Call → List ℕ → Type 0
+RisesFor (call.Add k) keys = Unit {0}
+RisesFor (call.Remove k) keys = Unit {0}
+RisesFor (call.Contains k) keys = Unit {0}
 RisesFor (call.Ceiling k) keys = IsStrictlyIncreasing keys
-RisesFor call keys = Unit {0}
 
 -- A reply fits just where the sequential set gives it and stays as it is.
 abbrev pub FitsAreReplies : Type 0

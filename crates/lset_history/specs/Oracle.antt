@@ -2,7 +2,7 @@
 use Rattle.std.specs.Prelude.{◌≡◌, ℕ, ◌≤◌, List, length, All}
 use Rattle.std.specs.List.Sorted.{IsStrictlyIncreasing}
 use Rattle.lset_words.specs.declared.Call.{Call}
-use Rattle.lset_words.specs.declared.Call.TheVariants.{Add}
+use Rattle.lset_words.specs.declared.Call.TheVariants.{Add, Remove, Contains, Ceiling}
 use Rattle.lset_words.specs.declared.Reply.{Reply}
 use Rattle.lset_words.specs.declared.Reply.TheVariants.{True}
 use Rattle.lset_words.specs.Words.{Opening}
@@ -29,7 +29,9 @@ pub record Answers (old new : OracleValue) (thread : ℕ) (call : Call) (reply :
 -- a call that puts its key in; no other call takes memory
 abbrev pub PutsIn : OracleValue → ℕ → Call → Type 0
 PutsIn o thread (Add k) = reply_to o.quota o.state thread (Add k) ≡ True
-PutsIn o thread call = ⊥
+PutsIn o thread (Remove k) = ⊥
+PutsIn o thread (Contains k) = ⊥
+PutsIn o thread (Ceiling k) = ⊥
 
 -- what a set keeps of itself
 pub record KeepsCounts (quota : ℕ) (s : SetState) : Type 0 where
