@@ -1,11 +1,9 @@
 """The plain loops of the proved crates as code.js: the functions that make the steps of calls, as they stand in the source, with
-the rows of its list's table that each line makes (docs/make/rows), so that the page shows each thread at its line."""
+the rows of its list's table that each line makes (docs/make/made_loops.py), so that the page shows each thread at its line."""
 import json
 import re
-import sys
-from importlib.machinery import SourceFileLoader
-from importlib.util import module_from_spec, spec_from_loader
 
+import made_loops
 import sources
 
 BEGINS = ("begin_at_head", "begin_locked")  # the first step of a call
@@ -13,15 +11,6 @@ HEAD = """// The proved loops of the lists as they stand in crates/, with the ro
 // show alone.
 "use strict";
 """
-
-
-def module_at(place):
-    """The script at this place, which has no ending, as a module."""
-    loader = SourceFileLoader("rows", str(place))
-    module = module_from_spec(spec_from_loader(loader.name, loader))
-    sys.modules[loader.name] = module
-    loader.exec_module(module)
-    return module
 
 
 def is_last(lines, number):
@@ -44,11 +33,11 @@ def steps_of(found, lines):
         yield told
 
 
-def code_of(rows, file):
+def code_of(file):
     """The functions of a file that have steps: each with its lines, its steps, and what it calls of the others at which line."""
-    source = sources.Source(rows.text_of(file))
+    source = sources.Source(made_loops.text_of(file))
     lines = source.lines
-    steps = [*steps_of([step for step in rows.lines_of(file) if step[-1]], lines)]
+    steps = [*steps_of([step for step in made_loops.lines_of(file) if step[-1]], lines)]
     made = {}
     for it in source.functions:
         own = [step for step in steps if it.top <= step["line"] <= it.last]
@@ -68,10 +57,9 @@ def function_text(code):
     return f"    {{ {told}, text: `\n{text}` }},\n"
 
 
-def code_text(place):
-    """The text of code.js, of the sources that docs/make/rows, which stands at this place, knows."""
-    rows = module_at(place)
-    files = dict.fromkeys(file for some in rows.LISTS.values() for file in some)
-    functions = [f'  "crates/{file}": [\n{"".join(map(function_text, code_of(rows, file)))}  ],\n' for file in files]
-    lists = [f'  "{name.replace("_", "-")}": {json.dumps([f"crates/{file}" for file in some])},\n' for name, some in rows.LISTS.items()]
+def code_text():
+    """The text of code.js."""
+    files = dict.fromkeys(file for some in made_loops.LISTS.values() for file in some)
+    functions = [f'  "crates/{file}": [\n{"".join(map(function_text, code_of(file)))}  ],\n' for file in files]
+    lists = [f'  "{name.replace("_", "-")}": {json.dumps([f"crates/{file}" for file in some])},\n' for name, some in made_loops.LISTS.items()]
     return f"{HEAD}\nconst CODE = {{\n{''.join(functions)}}};\n\nconst CODE_OF = {{\n{''.join(lists)}}};\n"

@@ -1,15 +1,11 @@
-#!/usr/bin/env python3
-"""Which line of a plain loop makes which row of its list's table, by the comments ('// row 3', '// rows 5, 6, 7') at these lines.
-
-    docs/make/rows           fails where a row has no line, a line of a step no row, or a row another step than its line
-    docs/make/rows --map     prints the map as JSON: list, row, and of each line its file, its number and its text
+"""Which line of a plain loop makes which row of its list's table, by the comments ('// row 3', '// rows 5, 6, 7') at these lines. It
+makes no part of a page, but docs/make/pages fails if a row has no line, a line of a step no row, or a row another step than its line;
+and page/build shows each thread at its line.
 
 A line of a step is one that calls a step of `Caller` with the place of the seat. What a row does is read from the lists'
 tables (`specs/`). The rows of a ceiling of the lists that mark are left to the interpreter.
 """
-import json
 import re
-import sys
 from pathlib import Path
 
 CRATES = Path(__file__).resolve().parent.parent.parent / "crates"
@@ -89,31 +85,19 @@ def misfit_of(step, node, rows, table):
     return None
 
 
-def main():
-    faults, made = [], {}
+def problems(_top):
+    """What is wrong with the lines of the loops, and rows that have none."""
     for name, files in LISTS.items():
-        table = rows_of(name)
-        found = made[name] = {row: [] for row in sorted(table)}
+        table, found = rows_of(name), set()
         for file in files:
             for number, code, step, node, rows in lines_of(file):
-                wrong = misfit_of(step, node, rows, table)
-                if wrong:
-                    faults.append(f"crates/{file}:{number}: {wrong}: {code}")
-                for row in rows if not wrong else []:
-                    found[row].append({"file": f"crates/{file}", "line": number, "text": code})
-        left = {row for row in found if not found[row]}
-        wanted = OF_THE_INTERPRETER & table.keys()
-        faults += [f"{name}: row {row} has no line" for row in sorted(left - wanted)]
-        faults += [f"{name}: row {row} has a line, and is said to be the interpreter's" for row in sorted(wanted - left)]
-    if "--map" in sys.argv[1:]:
-        print(json.dumps(made, indent=1))
-    for it in sorted({*faults}):
-        print(f"rows: {it}")
-    count = sum(len(lines) for rows in made.values() for lines in rows.values())
-    if "--map" not in sys.argv[1:]:
-        print(f"rows: {count} lines make the rows of {len(made)} tables" if not faults else f"rows: {len({*faults})} faults")
-    return 1 if faults else 0
+                if wrong := misfit_of(step, node, rows, table):
+                    yield f"crates/{file}:{number}: {wrong}: {code}"
+                else:
+                    found.update(rows)
+        left, wanted = table.keys() - found, OF_THE_INTERPRETER & table.keys()
+        yield from (f"{name}: row {row} has no line" for row in sorted(left - wanted))
+        yield from (f"{name}: row {row} has a line, and is said to be the interpreter's" for row in sorted(wanted - left))
 
 
-if __name__ == "__main__":
-    sys.exit(main())
+MADE = {}
