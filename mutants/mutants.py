@@ -271,14 +271,7 @@ def try_together(checks, crate, group):
     return {mutant: Verdict(CLAUSE, goal) for mutant, goal in goals.items() if goal}
 
 
-def tried(checks, crate, group):
-    """Makes a check of a group, and others of what it leaves, one by one; gives the verdict on each of its mutants."""
-    found = {}
-    for some in [group, *([it] for it in group)] if len(group) > 1 else [group]:
-        if some[0][1] and any(mutant not in found for mutant, _ in some):
-            found |= try_together(checks, crate, some)
-    for mutant, _ in group:
-        if mutant not in found:
-            texts = texts_with(mutant, checks.root / "crates" / crate)
-            found[mutant] = verdict_of(*checks.check(crate, texts), texts)
-    return found
+def try_whole(checks, crate, mutant):
+    """The verdict of a check of the whole crate with a mutant."""
+    texts = texts_with(mutant, checks.root / "crates" / crate)
+    return verdict_of(*checks.check(crate, texts), texts)
