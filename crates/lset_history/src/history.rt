@@ -7,6 +7,7 @@ ghost use Rattle.lset_history.specs.History.{MayBegin, CannotBegin, with_begun, 
 use crate::HistoryFault;
 use lset_words::{Call, CallRecord, MOST_THREADS, Reply};
 use std::alloc::Global;
+use std::fmt;
 use std::marker::Model;
 
 /// A history of calls (Herlihy and Wing): which thread began which call, and when, and when it ended with
@@ -20,6 +21,17 @@ pub struct History {
     calls: Vec<CallRecord>,
     busy: [bool; MOST_THREADS as usize],
     latest: u32,
+}
+
+impl fmt::Debug for History {
+    fn fmt<W: fmt::Write>(&self, f: &mut fmt::Formatter<W>) -> fmt::Result {
+        f.debug_struct("History")
+            .field("threads", &self.threads)
+            .field("quota", &self.quota)
+            .field("opening", &self.opening)
+            .field("calls", &self.calls)
+            .finish()
+    }
 }
 
 impl Model for History {

@@ -11,14 +11,19 @@ use lset_rule::{OwnSlots, Pause, Rounds, TableSeat, Words, interpret_within};
 use lset_steps::Machine;
 use lset_words::{Call, Reply};
 
-/// A machine whose calls can be bounded.
+/// A machine whose calls run on words that threads share, each loop of a call in a bounded number of rounds.
 ///
-/// A list that has its rows (`Machine`) meets this trait with no body: `impl Bounded for MyList {}`, by the interpreter. The
-/// five lists have their loops here, the same that `Running` makes with as many rounds as it takes.
+/// A list that has its rows (`Machine`) meets this trait with no body: `impl Bounded for MyList {}`, by the interpreter
+/// (`lset_rule::interpret_within`). A list may have a body of its own under the same contract: the five lists have their plain
+/// loops here.
+///
+/// - It asks `MayCall`: the place is a seat of the table with no call under way, and the slots are those in its view.
+/// - It owes `HasCalled`: the place is still that of this seat and table, the slots given back are those in its view, and
+///   the record grew by just this call (`Makes`), which began after all that the seat had seen and has answered.
 pub trait Bounded: Machine {
-    /// Makes a call of any kind, in at most `N::MOST` rounds of each of its loops, or answers `None`. Its arguments, and what
-    /// it asks and owes, are those of `Running::make_on`, without the handle. After `None` the call is still under way, with
-    /// the locks that it has, and the place makes no other.
+    /// Makes a call of any kind, in at most `N::MOST` rounds of each of its loops, or answers `None`. `table` are the words,
+    /// `place` is the seat's place among their views, and `slots` are those of its thread. After `None` the call is still under
+    /// way, with the locks that it has, and the place makes no other.
     fn make_within<P: Pause, N: Rounds>(
         table: &Words<Self>,
         place: &mut TableSeat,

@@ -15,7 +15,7 @@ ghost use Rattle.lset_live.specs.Seats.{is_true, reply_of};
 
 use crate::bounded::Bounded;
 use crate::closed::Closed;
-use crate::running::{Running, RunningReads, call_on};
+use crate::running::{Running, RunningReads};
 use crate::seat::Seat;
 use atomic_table::Table;
 use lset_linearizable::runs_are_linearizable;
@@ -23,8 +23,10 @@ use lset_rule::{Cutting, Follows, Learning, Opened, Pause, Rounds, Spin, TableSe
 use lset_steps::Machine;
 use lset_words::{Call, Key, Reply};
 use std::alloc::{AllocError, Global};
+use std::fmt;
 use std::marker::{Model, PhantomData};
 use std::sync::Wait;
+use thiserror::Error;
 
 /// A running set of the list `M` (Herlihy and Shavit's `Set`, with a quota). Threads share it by `&`, and each calls from
 /// a seat of its own. Contracts see its table, its threads and its quota.
@@ -49,10 +51,20 @@ impl<M: Machine> Model for LiveSet<M> {
 }
 
 /// A set that is not closed, since the seat does not hold all seats.
-#[derive(Drop)]
+#[derive(Drop, Error)]
+#[error("the seat does not hold all seats of the set")]
 pub struct SeatsOut<M: Machine> {
     pub set: LiveSet<M>,
     pub seat: Seat<M>,
+}
+
+impl<M: Machine> fmt::Debug for SeatsOut<M> {
+    fn fmt<W: fmt::Write>(&self, f: &mut fmt::Formatter<W>) -> fmt::Result {
+        f.debug_struct("SeatsOut")
+            .field("seats", &self.set.threads)
+            .field("held", &self.seat.held)
+            .finish_non_exhaustive()
+    }
 }
 
 impl<M: Machine> LiveSet<M> {
@@ -97,7 +109,7 @@ impl<M: Running> LiveSet<M> {
         ensures { HasAnswered M.table self.now seat.old call result seat.new }
     {
         runs_are_linearizable::<M>();
-        let (slots, reply) = call_on::<M, R, P>(
+        let (slots, reply) = M::make_on::<R, P>(
             rt,
             &self.table.shared,
             &mut seat.place,

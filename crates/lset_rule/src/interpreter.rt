@@ -4,14 +4,13 @@ ghost use Rattle.lset_words.specs.declared.Call.TheVariants.{Contains};
 ghost use Rattle.lset_rule.specs.Seats.{HasCalled, MayCall};
 
 use crate::pause::Pause;
-use crate::rounds::{Countless, Rounds, or_wait_forever};
+use crate::rounds::Rounds;
 use crate::row_steps::{Stepped, has_failed, one_step};
 use crate::slots::OwnSlots;
 use crate::word_steps::{TableSeat, Words, start_on};
 use lset_steps::{Machine, OpenReads};
 use lset_words::{Call, Key, Reply};
 use std::marker::Brand;
-use std::sync::Wait;
 
 /// What stands between two steps: the answer where there is one, and else the pause. (It is no function: after a call of one that
 /// may wait, as one that asks a pause, the compiler leads nowhere straight.)
@@ -68,27 +67,10 @@ pub fn interpret_within<M: Machine, P: Pause, N: Rounds>(
     None
 }
 
-/// The same under `Wait`: it makes as many rounds as it takes, and waits where the list does, as at a lock. Nothing is said
-/// about when it returns.
-pub fn interpret<M: Machine, R: Wait, P: Pause>(
-    rt: &R,
-    table: &Words<M>,
-    place: &mut TableSeat,
-    slots: OwnSlots,
-    call: Call,
-    pause: &P,
-) -> (OwnSlots, Reply)
-    requires { MayCall M.table table.now.table_id table.now.key slots place.old }
-    ensures { HasCalled M.table call place.old result place.new }
-{
-    let answer = interpret_within::<M, P, Countless>(table, place, slots, call, pause);
-    or_wait_forever(rt, answer)
-}
-
 /// Makes a whole `contains` of `key`, step by step, that waits for nobody and returns: for the lists whose walk meets each
 /// node at most once (`OpenReads`), which are those that mark nodes before they unlink them.
 ///
-/// `place`, `slots` and the answer are as those of [`interpret`].
+/// `place` and `slots` are as those of [`interpret_within`], and the answer is as one of it.
 pub fn interpret_read<M: OpenReads>(
     table: &Words<M>,
     place: &mut TableSeat,

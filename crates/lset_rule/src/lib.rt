@@ -15,7 +15,7 @@ mod slots;
 mod view;
 mod word_steps;
 
-pub use interpreter::{interpret, interpret_read, interpret_within};
+pub use interpreter::{interpret_read, interpret_within};
 pub use pause::{Pause, Spin};
 pub use rounds::{Countless, Rounds, or_wait_forever};
 pub use rule::{Asking, Cutting, Follows, Learning, Onward, Starting, Taking};

@@ -1,8 +1,8 @@
-//! Lists by their tables alone: their calls on threads are the default bodies of `Running`, the interpreter. What the plain
-//! loops are compared with, by tests and by `bench/run`.
+//! Lists by their tables alone: their calls on threads are the default bodies of `Bounded` and `Running`, the interpreter. What
+//! the plain loops are compared with, by tests and by `bench/run`.
 #![tactic(auto)]
 
-use lset_live::{Running, RunningReads};
+use lset_live::{Bounded, Running, RunningReads};
 use lset_steps::{Action, Fed, Local, Machine, OpenReads};
 use lset_words::{Call, Key, Kind};
 use std::marker::PhantomData;
@@ -46,6 +46,8 @@ impl<M: OpenReads> OpenReads for Stepped<M> {
 
     ghost walks = { M.walks };
 }
+
+impl<M: Machine> Bounded for Stepped<M> {}
 
 impl<M: Machine> Running for Stepped<M> {}
 
