@@ -18,9 +18,9 @@ use lset_live::{LiveSet, Running, Seat};
 use std::alloc::Global;
 use std::net::{TcpListener, TcpStream};
 use std::sync::Wait;
-use std::thread;
 use std::thread::{Scope, Threads};
 use std::time::Clock;
+use std::{fmt, thread};
 use thiserror::Error;
 
 /// Why connections were not served.
@@ -57,10 +57,19 @@ pub struct Served {
 
 /// Why connections were not served. The set and the seats come back where the seats do not hold all seats of the set, as
 /// no connection was accepted then.
-#[derive(Drop)]
+#[derive(Drop, Error)]
+#[error("{cause}")]
 pub struct ServeFault<M: Running> {
     pub cause: ServeCause,
     pub back: Option<(LiveSet<M>, Vec<Seat<M>>)>,
+}
+
+impl<M: Running> fmt::Debug for ServeFault<M> {
+    fn fmt<W: fmt::Write>(&self, f: &mut fmt::Formatter<W>) -> fmt::Result {
+        f.debug_struct("ServeFault")
+            .field("cause", &self.cause)
+            .finish_non_exhaustive()
+    }
 }
 
 /// Accepts so many connections and sends them on, numbered from 0.

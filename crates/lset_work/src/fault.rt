@@ -1,4 +1,5 @@
 use lset_live::{LiveSet, Running, Seat};
+use std::fmt;
 use thiserror::Error;
 
 /// Why programs were not run to their ends.
@@ -20,8 +21,17 @@ pub enum WorkCause {
 
 /// Why programs were not run to their ends. `back` has the set and the seats, as they were, where no thread was started:
 /// after `Programs`, and after `Memory` where the lists that the threads fill were not to be had.
-#[derive(Drop)]
+#[derive(Drop, Error)]
+#[error("{cause}")]
 pub struct WorkFault<M: Running> {
     pub cause: WorkCause,
     pub back: Option<(LiveSet<M>, Vec<Seat<M>>)>,
+}
+
+impl<M: Running> fmt::Debug for WorkFault<M> {
+    fn fmt<W: fmt::Write>(&self, f: &mut fmt::Formatter<W>) -> fmt::Result {
+        f.debug_struct("WorkFault")
+            .field("cause", &self.cause)
+            .finish_non_exhaustive()
+    }
 }
