@@ -39,7 +39,7 @@ SHOWN = {
         "lset_schedule": ["read_schedule", "write_schedule", "generate"],
         "lset_report": ["read_report", "write_report"],
         "lset_calls": ["read_calls", "report_of"],
-        "lset_points": [],
+        "lset_points": ["judge_by_points"],
         "lset_replay": ["replay", "replay_with_points", "trace"],
         "tool_draft": ["read_draft", "schedule_of"],
         "tool_show": ["picture_of_report"],

@@ -13,6 +13,8 @@ mod openings;
 #[cfg(test)]
 mod parts;
 #[cfg(test)]
+mod points;
+#[cfg(test)]
 mod runs;
 #[cfg(test)]
 mod schedule;

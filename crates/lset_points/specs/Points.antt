@@ -6,6 +6,7 @@ use Rattle.lset_words.specs.declared.Reply.TheVariants.{True}
 use Rattle.lset_words.specs.declared.history.Placed.{Placed}
 use Rattle.lset_words.specs.Log.{TracedCall, record_of}
 use Rattle.lset_words.specs.Placement.{traced_at}
+use Rattle.lset_history.specs.declared.fault.OrderFault.{OrderFault}
 use Rattle.lset_history.specs.Faults.{Explains, place_at}
 use Rattle.lset_history.specs.Points.{HasPoints}
 use Rattle.lset_report.specs.Report.{ReportValue}
@@ -42,3 +43,18 @@ pub record HasGivenPoints (calls : List TracedCall) (order : List Placed) (point
 abbrev pub PointsDecide : Type 0
 PointsDecide = (c : CallsValue) (r : ReportValue) (report : IsReportOf c r) (other : List Placed) (points : List ℕ)
     → AreCalls c → HasGivenPoints report.calls other points → Explains r.history other r.keys → Explains r.history r.order r.keys
+
+-- the order of the report explains it, or does not
+abbrev pub IsChecked : ReportValue → Option OrderFault → Type 0
+IsChecked r None = Explains r.history r.order r.keys
+IsChecked r (Some fault) = Explains r.history r.order r.keys → ⊥
+
+-- No order explains the report of these calls and makes each change at its point.
+abbrev pub NoOrderHasThePoints : CallsValue → ReportValue → Type 0
+NoOrderHasThePoints c r = (report : IsReportOf c r) (other : List Placed) (points : List ℕ)
+    → HasGivenPoints report.calls other points → Explains r.history other r.keys → ⊥
+
+-- the order of the report explains it, or it has a fault and no order with these points does
+abbrev pub IsDecided : CallsValue → ReportValue → Option OrderFault → Type 0
+IsDecided c r None = Explains r.history r.order r.keys
+IsDecided c r (Some fault) = NoOrderHasThePoints c r

@@ -1,7 +1,12 @@
-//! What the points decide that were given for calls of a set (`lset_calls::TimedCall::point`).
+//! What the points decide that were given for calls of a set (`lset_calls::TimedCall::point`): of calls with a `ceiling` or a `full`,
+//! of which `lset_judge` says nothing, whether any order has the changes at these points.
 #![tactic(auto)]
 
 ghost use Rattle.lset_points.specs.Points.{PointsDecide};
+
+mod pointed;
+
+pub use pointed::{Pointed, judge_by_points};
 
 /// The report of calls is complete for its points: if any order explains the calls, makes each change at the point that was given
 /// for it, and leaves the keys, then the order of the report does. So if `check_order` refuses the report of calls, no order has

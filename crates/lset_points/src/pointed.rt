@@ -1,0 +1,48 @@
+//! Calls, judged by the points that were given for their changes.
+
+ghost use Rattle.std.specs.Prelude.{◌≡◌, IfOk, IfErr};
+ghost use Rattle.lset_report.specs.Report as report;
+ghost use Rattle.lset_calls.specs.Calls.{AreCalls, view};
+ghost use Rattle.lset_calls.specs.Clashes.{IsRefusal};
+ghost use Rattle.lset_calls.specs.Reports.{IsReportOf};
+ghost use Rattle.lset_points.specs.Points.{IsChecked, IsDecided};
+
+use lset_calls::{Calls, ClashFault, report_of};
+use lset_history::{OrderFault, check_order};
+use lset_report::Report;
+use std::alloc::Global;
+
+/// The report of calls, and what is wrong first with its order, if anything is.
+#[derive(Drop)]
+pub struct Pointed {
+    pub report: Report,
+    pub fault: Option<OrderFault>,
+}
+
+/// What is wrong first with the order of a report, if anything is.
+fn fault_of(alloc: Global, made: &Report) -> Result<Option<OrderFault>, ClashFault>
+    ensures checked { IfOk result (IsChecked (report.view made.now)) }
+    ensures memory { IfErr result (λ e. e ≡ ClashFault.Memory) }
+{
+    match check_order(alloc, &made.history, &made.order, &made.keys) {
+        Ok(()) => Ok(None),
+        Err(OrderFault::Memory) => Err(ClashFault::Memory),
+        Err(fault) => Ok(Some(fault)),
+    }
+}
+
+/// Judges calls by the points that were given for their changes, `ceiling` and `full` too. If there is no fault, the order of the report
+/// explains the calls and the keys left. If there is one, no order does that makes each change at its point.
+///
+/// An error is that of `report_of`: the first line whose call cannot stand beside those of the lines above, or want of memory. With n
+/// calls it takes about n log n steps, and the memory of their report.
+pub fn judge_by_points(alloc: Global, calls: Calls) -> Result<Pointed, ClashFault>
+    requires { AreCalls (view calls) }
+    ensures told { IfOk result (λ p. IsReportOf (view calls) (report.view p.report)) }
+    ensures decided { IfOk result (λ p. IsDecided (view calls) (report.view p.report) p.fault) }
+    ensures refused { IfErr result (IsRefusal (view calls)) }
+{
+    let report = report_of(alloc, calls)?;
+    let fault = fault_of(alloc, &report)?;
+    Ok(Pointed { report, fault })
+}
