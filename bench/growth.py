@@ -1,5 +1,6 @@
 """How the time of each tool grows with its text, from a thousand events or calls to a million."""
 
+import itertools
 import os
 import tempfile
 
@@ -8,11 +9,13 @@ from measuring import RUNS, SEED, TIME, built, heading, memory_of, row, seconds_
 SIZES = (1_000, 10_000, 100_000, 1_000_000)
 KIND, STEPS = "lazy", "1"
 WINDOW = 100
+ADDS = 16_384  # of a thread
+TURNS = (("add 5", "true", True), ("remove 5", "true", True), ("ceiling 0", "nothing", False), ("contains 5", "false", False))
 MOST = 10.5  # times the time for ten times the events: some of the tools sort
 
 
 def growth():
-    """The table of replay, check, trace, show and draft. Gives the status: 1 where a time grows by more than it is to."""
+    """The table of replay, check, trace, show, draft and report. Gives the status: 1 where a time grows by more than it is to."""
     maker, tool = built("bench_schedule"), built("listset")
     heading("What", *(f"{n:,}" for n in SIZES), "Growth", "MB")
     with tempfile.TemporaryDirectory() as room:
@@ -25,13 +28,16 @@ def growth():
             f"`show`, the last {WINDOW}": {n: (windows[n], texts[n]["schedule"]) for n in SIZES},
             "`show`, all": {n: (["show"], texts[n]["schedule"]) for n in SIZES},
             "`draft`": {n: (["draft"], texts[n]["draft"]) for n in SIZES},
+            "`report`, a quarter ceilings": {n: (["report"], texts[n]["calls"]) for n in SIZES},
+            "`report`, ceilings before adds": {n: (["report"], texts[n]["ceilings"]) for n in SIZES},
         }
         return 1 if max([grown(what, tool, runs) for what, runs in rows.items()]) > MOST else 0
 
 
 def texts_of(maker, events, room):
-    """The files of a schedule of so many events, one a line, of the same as a draft, and of a report of so many calls."""
-    texts = {it: f"{room}/{events}.{it}" for it in ("schedule", "draft", "report")}
+    """The files of a schedule of so many events, one a line, of the same as a draft, of a report of so many calls, and of as many
+    recorded calls: threads in turn put 5 in, take it out and ask for it; and one asks while the set is empty, before all the adds."""
+    texts = {it: f"{room}/{events}.{it}" for it in ("schedule", "draft", "report", "calls", "ceilings")}
     seconds_of([maker, KIND, str(events), STEPS, SEED], os.devnull, texts["schedule"], 0)
     with open(texts["schedule"]) as schedule, open(texts["draft"], "w") as draft:
         draft.writelines(["listset-draft 2\n", *schedule.readlines()[1:]])
@@ -40,7 +46,27 @@ def texts_of(maker, events, room):
         report.writelines(f"call {n} 0 contains 5 {2 * n + 1} {2 * n + 2} false\n" for n in range(events))
         report.writelines(f"place {n} false\n" for n in range(events))
         report.write("end\n")
+    record(texts["calls"], (call_in_turn(n) for n in range(events)))
+    half = events // 2
+    asked = (f"call 0 ceiling 0 {2 * n + 1} - {2 * n + 2} nothing\n" for n in range(half))
+    put_in = (f"call {n // ADDS} add {n} {events + 3 * n + 1} {events + 3 * n + 2} {events + 3 * n + 3} true\n" for n in range(half))
+    record(texts["ceilings"], itertools.chain(asked, put_in))
     return texts
+
+
+def call_in_turn(number):
+    """The line of a recorded call, the next of four of a thread that makes so many adds."""
+    word, reply, changes = TURNS[number % len(TURNS)]
+    point = 3 * number + 2 if changes else "-"
+    return f"call {number // (ADDS * len(TURNS))} {word} {3 * number + 1} {point} {3 * number + 3} {reply}\n"
+
+
+def record(name, lines):
+    """Writes a file of recorded calls of 64 threads."""
+    with open(name, "w") as calls:
+        calls.write(f"listset-calls 2\nlist {KIND}\nthreads 64\nquota {ADDS}\n")
+        calls.writelines(lines)
+        calls.write("end\n")
 
 
 def grown(what, tool, runs):
