@@ -23,3 +23,4 @@ pub mod Shifted
 pub mod Shifting
 pub mod InMoments
 pub mod KeyParts
+pub mod Chosen

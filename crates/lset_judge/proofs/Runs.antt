@@ -49,7 +49,7 @@ module _ (threads : ℕ) (calls : List CallRecord) (history : IsHistory threads 
       (there ∙ sym (rw other refl), omega (arith, later, at), omega (arith, high, at))
 
   -- what a mark notes is the event of its moment
-  known_at : (marks : List Mark) → AreMarks calls marks → (i : ℕ) (d : Mark) → i < length marks
+  pub known_at : (marks : List Mark) → AreMarks calls marks → (i : ℕ) (d : Mark) → i < length marks
       → ((get_or marks i d).call < length calls) × ((get_or marks i d).key ≡ (key_of (call (get_or marks i d).call).call).0)
       × IsMoment (call (get_or marks i d).call) (get_or marks i d).moment
   known_at marks are i d low =

@@ -4,3 +4,4 @@ pub mod Verdict
 pub mod Marks
 pub mod Code
 pub mod Locality
+pub mod Window

@@ -58,36 +58,36 @@ fn open_kind(call: Call) -> Kind
 }
 
 /// What a call does to its key; an open one may change it.
-pub(crate) fn kind_of(record: &CallRecord) -> Kind
-    ensures { result ≡ kind_if record.now.call record.now.ended }
+pub(crate) fn kind_of(call_record: &CallRecord) -> Kind
+    ensures { result ≡ kind_if call_record.now.call call_record.now.ended }
 {
-    match record.ended {
-        None => open_kind(record.call),
-        Some((_, reply)) => ended_kind(record.call, reply),
+    match call_record.ended {
+        None => open_kind(call_record.call),
+        Some((_, reply)) => ended_kind(call_record.call, reply),
     }
 }
 
 /// Before which moment a call takes effect: an open one behind all others that have begun before it, where `latest` is the latest
 /// moment.
-fn until(record: &CallRecord, latest: u32) -> u64
-    ensures { result ≡ until_if latest record.now.begun record.now.ended }
+fn until(call_record: &CallRecord, latest: u32) -> u64
+    ensures { result ≡ until_if latest call_record.now.begun call_record.now.ended }
 {
-    match record.ended {
-        None => u64::from(latest) + u64::from(record.begun),
+    match call_record.ended {
+        None => u64::from(latest) + u64::from(call_record.begun),
         Some((end, _)) => u64::from(end),
     }
 }
 
 /// What a call is to its key at the moment at which it begins, or else ends.
-pub(crate) fn event_of(record: &CallRecord, moment: u32, latest: u32) -> Event
-    ensures { result ≡ event_in latest record.now moment }
+pub(crate) fn event_of(call_record: &CallRecord, moment: u32, latest: u32) -> Event
+    ensures { result ≡ event_in latest call_record.now moment }
 {
-    let begins = record.begun == moment;
-    match kind_of(record) {
-        Kind::Changes(to) if begins => Event::Begins(to, until(record, latest)),
+    let begins = call_record.begun == moment;
+    match kind_of(call_record) {
+        Kind::Changes(to) if begins => Event::Begins(to, until(call_record, latest)),
         Kind::Changes(to) => Event::Ends(to),
         Kind::Sees(_) if begins => Event::Idle,
-        Kind::Sees(there) => Event::Looks(there, u64::from(record.begun)),
+        Kind::Sees(there) => Event::Looks(there, u64::from(call_record.begun)),
         Kind::Nothing => Event::Idle,
     }
 }

@@ -19,19 +19,19 @@ fn is_plain(call: Call, reply: Reply) -> bool
     }
 }
 
-fn ends_plain(record: &CallRecord) -> bool
-    ensures { IsTrue result ↔ IfSome record.now.ended (λ e. is_plain record.now.call e.1 ≡ true) }
+fn ends_plain(call_record: &CallRecord) -> bool
+    ensures { IsTrue result ↔ IfSome call_record.now.ended (λ e. is_plain call_record.now.call e.1 ≡ true) }
 {
-    match record.ended {
-        Some((_, reply)) => is_plain(record.call, reply),
+    match call_record.ended {
+        Some((_, reply)) => is_plain(call_record.call, reply),
         None => true,
     }
 }
 
-fn may_add(record: &CallRecord) -> bool
-    ensures { result ≡ may_add record.now.call record.now.ended }
+fn may_add(call_record: &CallRecord) -> bool
+    ensures { result ≡ may_add call_record.now.call call_record.now.ended }
 {
-    match (record.call, record.ended) {
+    match (call_record.call, call_record.ended) {
         (Call::Add(_), None | Some((_, Reply::True))) => true,
         (Call::Add(_), Some((_, Reply::False | Reply::Full | Reply::At(_) | Reply::Nothing)))
         | (Call::Remove(_) | Call::Contains(_) | Call::Ceiling(_), _) => false,
@@ -42,7 +42,7 @@ fn may_add(record: &CallRecord) -> bool
 fn all_plain(calls: &[CallRecord]) -> bool
     ensures { IsTrue result ↔ All (λ x. IfSome x.ended (λ e. is_plain x.call e.1 ≡ true)) calls.now }
 {
-    calls.iter().all(|record| ends_plain(record))
+    calls.iter().all(|call_record| ends_plain(call_record))
 }
 
 /// The adds of each thread that put their keys in, or may.
@@ -52,9 +52,9 @@ fn counted_adds(calls: &[CallRecord]) -> [u32; MOST_THREADS as usize]
     ensures { (thread : ℕ) → thread < MOST_THREADS → slice_index result thread ≡ adds_of thread calls.now }
 {
     let mut adds = [0u32; MOST_THREADS as usize];
-    for record in calls {
-        if may_add(record) {
-            adds[record.thread as usize] += 1;
+    for call_record in calls {
+        if may_add(call_record) {
+            adds[call_record.thread as usize] += 1;
         }
     }
     adds

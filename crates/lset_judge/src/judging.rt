@@ -21,7 +21,7 @@ use lset_words::{CallRecord, Key};
 use std::alloc::{AllocError, Global};
 
 /// Lets what happens at the marks of a key happen in turn; the moment of the first at which the rule fails.
-fn walk(
+pub(crate) fn walk(
     state: &mut KeyState,
     calls: &[CallRecord],
     latest: u32,

@@ -19,18 +19,18 @@ pub(crate) struct Mark {
     pub(crate) call: u32,
 }
 
-fn push_marks(marks: &mut Vec<Mark>, call: u32, record: &CallRecord) -> Result<(), AllocError>
-    ensures { OnOk result (marks.new.items ≡ marks.old.items ++ marks_of call record.now) }
+fn push_marks(marks: &mut Vec<Mark>, call: u32, call_record: &CallRecord) -> Result<(), AllocError>
+    ensures { OnOk result (marks.new.items ≡ marks.old.items ++ marks_of call call_record.now) }
 {
-    let key = record.call.key().0;
-    if let Kind::Changes(_) = kind_of(record) {
+    let key = call_record.call.key().0;
+    if let Kind::Changes(_) = kind_of(call_record) {
         marks.push(Mark {
             key,
-            moment: record.begun,
+            moment: call_record.begun,
             call,
         })?;
     }
-    if let Some((end, _)) = record.ended {
+    if let Some((end, _)) = call_record.ended {
         marks.push(Mark {
             key,
             moment: end,
@@ -47,19 +47,19 @@ pub(crate) fn marks_of(alloc: Global, calls: &[CallRecord]) -> Result<Vec<Mark>,
     ensures { IfOk result (λ marks. AreMarks calls.now marks.items) }
 {
     let mut marks = Vec::new(alloc);
-    for (number, record) in calls.iter().enumerate() {
-        push_marks(&mut marks, number as u32, record)?;
+    for (number, call_record) in calls.iter().enumerate() {
+        push_marks(&mut marks, number as u32, call_record)?;
     }
     marks.sort_unstable_by_key(|mark| (mark.key, mark.moment));
     Ok(marks)
 }
 
-fn last_moment(record: &CallRecord) -> u32
-    ensures { result ≡ last_moment record.now }
+fn last_moment(call_record: &CallRecord) -> u32
+    ensures { result ≡ last_moment call_record.now }
 {
-    match record.ended {
-        None => record.begun,
-        Some((end, _)) => record.begun.max(end),
+    match call_record.ended {
+        None => call_record.begun,
+        Some((end, _)) => call_record.begun.max(end),
     }
 }
 
@@ -68,8 +68,8 @@ pub(crate) fn latest_moment(calls: &[CallRecord]) -> u32
     ensures { result ≡ latest_moment calls.now }
 {
     let mut latest = 0u32;
-    for record in calls {
-        latest = latest.max(last_moment(record));
+    for call_record in calls {
+        latest = latest.max(last_moment(call_record));
     }
     latest
 }

@@ -56,6 +56,11 @@ impl KeyState {
         }
     }
 
+    /// Whether the key is there now.
+    pub(crate) fn is_there(&self) -> bool {
+        self.there
+    }
+
     fn put(&mut self, before: u64) -> bool
         requires { self.old.there ≡ false }
         ensures { turned_if before (state_of self.old) (options (state_of self.old)) ≡ (if result then Some (state_of self.new) else None) }

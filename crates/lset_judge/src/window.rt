@@ -1,0 +1,247 @@
+//! The few calls that show why no order explains a history.
+
+ghost use Rattle.std.specs.Prelude.{◌≡◌, ◌<◌, ◌^◌, ℕ, All, IfOk, IfSome, IsTrue, length};
+ghost use Rattle.std.specs.List.Sorted.{IsStrictlyIncreasing};
+ghost use Rattle.lset_words.specs.Words.{key_of};
+ghost use Rattle.lset_words.specs.History.{IsHistory};
+ghost use Rattle.lset_judge.specs.Window.{AreChosen, HaveNone, ShowsNone};
+
+use crate::Refusal;
+use crate::event::{Event, Kind, event_of, kind_of};
+use crate::judging::walk;
+use crate::keys::is_among;
+use crate::marks::{Mark, latest_moment, marks_of};
+use crate::rule::KeyState;
+use lset_history::History;
+use lset_words::{CallRecord, Key};
+use std::alloc::{AllocError, Global};
+
+/// How many calls are looked at, at most, to find superfluous ones.
+const MOST_TRIED: u64 = 1 << 22;
+
+/// A few calls of one key that no order explains, from a moment at which no change of the key is pending.
+#[derive(Debug, Drop)]
+pub struct Window {
+    /// The key.
+    pub key: Key,
+    /// The moment before the first call: 0 as the set opens, and else one at which each change of the key that has begun has ended.
+    pub since: u32,
+    /// Whether the key is there at that moment.
+    pub there: bool,
+    /// How the key is left, if the calls have an order, and none that leaves it so.
+    pub left: Option<bool>,
+    /// The numbers of the calls in the history; they rise.
+    pub calls: Vec<u32>,
+}
+
+/// The calls with these numbers, if they rise, and are calls of the key.
+fn chosen(
+    alloc: Global,
+    calls: &[CallRecord],
+    numbers: &[u32],
+    key: Key,
+) -> Result<Option<Vec<CallRecord>>, AllocError>
+    requires { length calls.now < 2 ^ 32 }
+    ensures { IfOk result (λ found. IfSome found (λ v. AreChosen calls.now numbers.now key v.items)) }
+{
+    let mut chosen = Vec::new(alloc);
+    let mut next = 0;
+    for number in numbers {
+        let index = *number as usize;
+        if index < next || index >= calls.len() || calls[index].call.key().0 != key.0 {
+            return Ok(None);
+        }
+        chosen.push(calls[index])?;
+        next = index + 1;
+    }
+    Ok(Some(chosen))
+}
+
+/// Whether no order explains these calls of a key alone.
+fn have_none(
+    alloc: Global,
+    calls: &[CallRecord],
+    key: Key,
+    there: bool,
+    left: Option<bool>,
+) -> Result<bool, AllocError>
+    requires history { (threads : ℕ) × IsHistory threads calls.now }
+    requires own { All (λ x. key_of x.call ≡ key) calls.now }
+    requires few { length calls.now < 2 ^ 32 }
+    ensures { IfOk result (λ none. IsTrue none → HaveNone calls.now key.0 there left) }
+{
+    let marks = marks_of(alloc, calls)?;
+    let latest = latest_moment(calls);
+    let mut state = KeyState::opened(alloc, there);
+    match walk(&mut state, calls, latest, &marks)? {
+        Some(_) => Ok(true),
+        None => match left {
+            Some(left) => Ok(!state.settle(u64::from(latest), Event::Leaves(left))),
+            None => Ok(false),
+        },
+    }
+}
+
+/// Whether a window shows that no order explains a history.
+fn shows_none(alloc: Global, history: &History, window: &Window) -> Result<bool, AllocError>
+    ensures { IfOk result (λ shows. IsTrue shows → ShowsNone history.now window.now) }
+{
+    let calls = history.calls();
+    match chosen(alloc, calls, &window.calls, window.key)? {
+        Some(own) => have_none(alloc, &own, window.key, window.there, window.left),
+        None => Ok(false),
+    }
+}
+
+/// The last moment before another at which no change of the key is pending, and whether the key is there then.
+fn last_quiet(
+    alloc: Global,
+    calls: &[CallRecord],
+    marks: &[Mark],
+    opening: bool,
+    before: u32,
+) -> Result<(u32, bool), AllocError> {
+    let latest = latest_moment(calls);
+    let mut state = KeyState::opened(alloc, opening);
+    let mut quiet = (0, opening);
+    let mut pending = 0u32;
+    for mark in marks {
+        let Some(call_record) = calls.get(mark.call as usize) else {
+            break;
+        };
+        let event = event_of(call_record, mark.moment, latest);
+        if mark.moment >= before || !state.meet(u64::from(mark.moment.saturating_sub(1)), event)? {
+            break;
+        }
+        match event {
+            Event::Begins(_, _) => pending = pending.saturating_add(1),
+            Event::Ends(_) => pending = pending.saturating_sub(1),
+            Event::Looks(_, _) | Event::Leaves(_) | Event::Idle => {}
+        }
+        if pending == 0 {
+            quiet = (mark.moment, state.is_there());
+        }
+    }
+    Ok(quiet)
+}
+
+/// When the call begins that ends at a moment.
+fn begin_of(calls: &[CallRecord], end: u32) -> u32 {
+    for call_record in calls {
+        if let Some((moment, _)) = call_record.ended {
+            if moment == end {
+                return call_record.begun;
+            }
+        }
+    }
+    u32::MAX
+}
+
+/// The numbers of a key's calls that begin after one moment and before another.
+fn numbers_between(
+    alloc: Global,
+    calls: &[CallRecord],
+    key: Key,
+    since: u32,
+    before: u32,
+) -> Result<Vec<u32>, AllocError>
+    requires { length calls.now < 2 ^ 32 }
+{
+    let mut numbers = Vec::new(alloc);
+    for (number, call_record) in calls.iter().enumerate() {
+        if call_record.call.key().0 == key.0
+            && since < call_record.begun
+            && call_record.begun < before
+        {
+            numbers.push(number as u32)?;
+        }
+    }
+    Ok(numbers)
+}
+
+/// The numbers without those of calls that change nothing, among so many from a place on.
+fn without_looks(
+    alloc: Global,
+    calls: &[CallRecord],
+    numbers: &[u32],
+    from: usize,
+    size: usize,
+) -> Result<Vec<u32>, AllocError> {
+    let mut kept = Vec::new(alloc);
+    for (place, number) in numbers.iter().enumerate() {
+        let changes = match calls.get(*number as usize) {
+            Some(call_record) => matches!(kind_of(call_record), Kind::Changes(_)),
+            None => true,
+        };
+        if changes || place < from || place - from >= size {
+            kept.push(*number)?;
+        }
+    }
+    Ok(kept)
+}
+
+/// Leaves out calls that change nothing, where the others still have no order.
+fn shorten(alloc: Global, history: &History, window: &mut Window) -> Result<(), AllocError> {
+    let mut budget = MOST_TRIED;
+    let mut size = window.calls.len();
+    while size > 0 {
+        let mut at = 0;
+        while at < window.calls.len() && budget > 0 {
+            budget = budget.saturating_sub(window.calls.len() as u64);
+            let fewer = without_looks(alloc, history.calls(), &window.calls, at, size)?;
+            let tried = Window {
+                calls: fewer,
+                ..*window
+            };
+            if tried.calls.len() < window.calls.len() && shows_none(alloc, history, &tried)? {
+                *window = tried;
+            } else {
+                at = at.saturating_add(size);
+            }
+        }
+        size /= 2;
+    }
+    Ok(())
+}
+
+/// The calls that show why no order explains a history and leaves the keys, as `refusal` of `first_refused` has it: calls of its key, from
+/// the last moment at which no change of the key was pending, without those that change nothing and are not needed. These calls alone, from
+/// that state of the key, have no order; mostly they are two to four.
+///
+/// None if the refusal is not one of this history and these keys. It fails only for want of memory.
+pub fn window_of(
+    alloc: Global,
+    history: &History,
+    keys: &[u32],
+    refusal: Refusal,
+) -> Result<Option<Window>, AllocError>
+    requires { IsStrictlyIncreasing keys.now }
+    ensures { IfOk result (λ window. IfSome window (ShowsNone history.now)) }
+{
+    let calls = history.calls();
+    let key = refusal.key;
+    let end = refusal.moment.unwrap_or(u32::MAX);
+    let all = numbers_between(alloc, calls, key, 0, end)?;
+    let Some(own) = chosen(alloc, calls, &all, key)? else {
+        return Ok(None);
+    };
+    let marks = marks_of(alloc, &own)?;
+    let opening = is_among(history.opening(), key.0);
+    let (since, there) = last_quiet(alloc, &own, &marks, opening, begin_of(&own, end))?;
+    let mut window = Window {
+        key,
+        since,
+        there,
+        left: match refusal.moment {
+            Some(_) => None,
+            None => Some(is_among(keys, key.0)),
+        },
+        calls: numbers_between(alloc, calls, key, since, end)?,
+    };
+    shorten(alloc, history, &mut window)?;
+    if shows_none(alloc, history, &window)? {
+        Ok(Some(window))
+    } else {
+        Ok(None)
+    }
+}
