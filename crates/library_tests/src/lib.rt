@@ -7,6 +7,8 @@ mod breaking;
 #[cfg(test)]
 mod history;
 #[cfg(test)]
+mod judge;
+#[cfg(test)]
 mod laws;
 #[cfg(test)]
 mod openings;

@@ -1,6 +1,6 @@
 //! The few calls that show why no order explains a history.
 
-ghost use Rattle.std.specs.Prelude.{◌≡◌, ◌<◌, ◌^◌, ℕ, All, IfOk, IfSome, IsTrue, length};
+ghost use Rattle.std.specs.Prelude.{◌≡◌, ◌<◌, ◌^◌, ℕ, All, IfOk, IfSome, OnOk, IsTrue, length};
 ghost use Rattle.std.specs.List.Sorted.{IsStrictlyIncreasing};
 ghost use Rattle.lset_words.specs.Words.{key_of};
 ghost use Rattle.lset_words.specs.History.{IsHistory};
@@ -18,6 +18,9 @@ use std::alloc::{AllocError, Global};
 
 /// How many calls are looked at, at most, to find superfluous ones.
 const MOST_TRIED: u64 = 1 << 22;
+
+/// How many windows are tried: the last one begins as the set opens.
+const MOST_WINDOWS: u32 = 32;
 
 /// A few calls of one key that no order explains, from a moment at which no change of the key is pending.
 #[derive(Debug, Drop)]
@@ -181,7 +184,10 @@ fn without_looks(
 }
 
 /// Leaves out calls that change nothing, where the others still have no order.
-fn shorten(alloc: Global, history: &History, window: &mut Window) -> Result<(), AllocError> {
+fn shorten(alloc: Global, history: &History, window: &mut Window) -> Result<(), AllocError>
+    requires { ShowsNone history.now window.old }
+    ensures { OnOk result (ShowsNone history.now window.new) }
+{
     let mut budget = MOST_TRIED;
     let mut size = window.calls.len();
     while size > 0 {
@@ -227,21 +233,26 @@ pub fn window_of(
     };
     let marks = marks_of(alloc, &own)?;
     let opening = is_among(history.opening(), key.0);
-    let (since, there) = last_quiet(alloc, &own, &marks, opening, begin_of(&own, end))?;
-    let mut window = Window {
-        key,
-        since,
-        there,
-        left: match refusal.moment {
-            Some(_) => None,
-            None => Some(is_among(keys, key.0)),
-        },
-        calls: numbers_between(alloc, calls, key, since, end)?,
+    let left = match refusal.moment {
+        Some(_) => None,
+        None => Some(is_among(keys, key.0)),
     };
-    shorten(alloc, history, &mut window)?;
-    if shows_none(alloc, history, &window)? {
-        Ok(Some(window))
-    } else {
-        Ok(None)
+    let mut before = begin_of(&own, end);
+    for tries in 0..MOST_WINDOWS {
+        let (since, there) = last_quiet(alloc, &own, &marks, opening, before)?;
+        let mut window = Window {
+            key,
+            since,
+            there,
+            left,
+            calls: numbers_between(alloc, calls, key, since, end)?,
+        };
+        if shows_none(alloc, history, &window)? {
+            shorten(alloc, history, &mut window)?;
+            return Ok(Some(window));
+        }
+        // A call that began before the window may be needed: the next one begins earlier, twice as far back each time.
+        before = since.saturating_sub((1 << tries) - 1);
     }
+    Ok(None)
 }

@@ -1,0 +1,264 @@
+//! The judge beside a search of all orders, on 100,000 small histories; on runs of the five lists; and where it does not decide.
+
+use lset_coarse::CoarseList;
+use lset_fine::FineList;
+use lset_history::History;
+use lset_judge::{Refusal, Verdict, Window, is_judged, judge, window_of};
+use lset_lazy::LazyList;
+use lset_lock_free::LockFreeList;
+use lset_optimistic::OptimisticList;
+use lset_replay::replay;
+use lset_schedule::generate;
+use lset_steps::Machine;
+use lset_words::{Call, CallRecord, Key, Reply};
+use rand_core::{Rng, SeedableRng};
+use rand_pcg::Pcg32;
+use std::alloc::{AllocError, Global};
+use std::process::Abort;
+use std::test::Fail;
+
+const HISTORIES: u32 = 100_000;
+
+const THREADS: u32 = 3;
+
+const MOST_CALLS: usize = 7;
+
+/// The keys 0 and 1 of a set, a bit for each.
+fn keys_of(alloc: Global, set: usize) -> Result<Vec<u32>, AllocError> {
+    let mut keys = Vec::new(alloc);
+    for key in 0..2 {
+        if (set >> key) & 1 == 1 {
+            keys.push(key)?;
+        }
+    }
+    Ok(keys)
+}
+
+/// What a set of the two keys answers, and leaves.
+fn answered(set: usize, call: Call) -> (Reply, usize) {
+    let bit = 1usize << (call.key().0 % 2);
+    let is_there = set & bit != 0;
+    let (is_true, after) = match call {
+        Call::Add(_) => (!is_there, set | bit),
+        Call::Remove(_) => (is_there, set & !bit),
+        Call::Contains(_) | Call::Ceiling(_) => (is_there, set),
+    };
+    (if is_true { Reply::True } else { Reply::False }, after)
+}
+
+/// Whether a call may be the next of an order that has placed these calls: no other that ended before it began is still to come.
+fn is_free(calls: &[CallRecord], placed: usize, number: usize) -> bool {
+    for (other, earlier) in calls.iter().enumerate() {
+        if let Some((end, _)) = earlier.ended {
+            if (placed >> other) & 1 == 0 && end < calls[number].begun {
+                return false;
+            }
+        }
+    }
+    (placed >> number) & 1 == 0
+}
+
+fn are_ended_placed(calls: &[CallRecord], placed: usize) -> bool {
+    for (number, call) in calls.iter().enumerate() {
+        if call.ended.is_some() && (placed >> number) & 1 == 0 {
+            return false;
+        }
+    }
+    true
+}
+
+/// Marks what one more call reaches from a set after these calls: an ended call as it answered, and an open one with true.
+fn reach(calls: &[CallRecord], reached: &mut [[bool; 4]; 128], placed: usize, set: usize) {
+    for (number, call) in calls.iter().enumerate() {
+        let (reply, after) = answered(set, call.call);
+        let wanted = match call.ended {
+            Some((_, reply)) => reply,
+            None => Reply::True,
+        };
+        if reply == wanted && is_free(calls, placed, number) {
+            reached[placed | (1usize << number)][after] = true;
+        }
+    }
+}
+
+/// Whether some order of all ended calls, and of some open ones, has these replies and leaves this set.
+fn has_order(calls: &[CallRecord], opening: usize, left: usize) -> bool {
+    let mut reached = [[false; 4]; 128];
+    reached[0][opening] = true;
+    for placed in 0..128usize {
+        for set in 0..4usize {
+            if reached[placed][set] {
+                if set == left && are_ended_placed(calls, placed) {
+                    return true;
+                }
+                reach(calls, &mut reached, placed, set);
+            }
+        }
+    }
+    false
+}
+
+fn drawn_call(rng: &mut Pcg32) -> Call {
+    let key = Key(rng.next_u32() % 2);
+    match rng.next_u32() % 3 {
+        0 => Call::Add(key),
+        1 => Call::Remove(key),
+        _ => Call::Contains(key),
+    }
+}
+
+fn is_one_of(rng: &mut Pcg32, many: u32) -> bool {
+    rng.next_u32() % many == 0
+}
+
+/// A history of a set that is right, but for one reply of twelve; the set with which it opens, and the one that it leaves.
+fn drawn_history(alloc: Global, rng: &mut Pcg32) -> Result<(History, usize, usize), Fail> {
+    let opening = (rng.next_u32() % 4) as usize;
+    let mut set = opening;
+    let mut history = History::opened(alloc, THREADS, 7, keys_of(alloc, opening)?);
+    let mut open: [Option<(u32, Call, Option<Reply>)>; 3] = [None; 3];
+    for at in 1..18u32 {
+        let thread = rng.next_u32() % THREADS;
+        match open[thread as usize] {
+            None => {
+                if history.calls().len() < MOST_CALLS {
+                    let call = drawn_call(rng);
+                    let number = history.begin(thread, call, at)?;
+                    let (reply, after) = answered(set, call);
+                    let is_early = is_one_of(rng, 2);
+                    set = if is_early { after } else { set };
+                    open[thread as usize] = Some((number, call, is_early.then_some(reply)));
+                }
+            }
+            Some((number, call, early)) => {
+                let (late, after) = answered(set, call);
+                let reply = early.unwrap_or(late);
+                set = if early.is_none() { after } else { set };
+                let is_wrong = is_one_of(rng, 12);
+                let other = if reply == Reply::True {
+                    Reply::False
+                } else {
+                    Reply::True
+                };
+                history.end(number, if is_wrong { other } else { reply }, at)?;
+                open[thread as usize] = None;
+            }
+        }
+    }
+    let left = if is_one_of(rng, 4) {
+        (rng.next_u32() % 4) as usize
+    } else {
+        set
+    };
+    Ok((history, opening, left))
+}
+
+/// Whether the calls of a window have no order, whichever keys they leave, or if its key is left as it says.
+fn is_right(alloc: Global, history: &History, window: &Window) -> Result<bool, Fail> {
+    let mut alone = Vec::new(alloc);
+    for number in &window.calls {
+        alone.push(history.calls()[*number as usize])?;
+    }
+    let bit = 1usize << (window.key.0 % 2);
+    let opening = if window.there { bit } else { 0 };
+    let there = window.left != Some(false) && has_order(&alone, opening, bit);
+    let not_there = window.left != Some(true) && has_order(&alone, opening, 0);
+    Ok(!there && !not_there)
+}
+
+/// How many calls the window of a refusal has, which is right.
+fn window_size<R: Abort>(
+    rt: &R,
+    alloc: Global,
+    history: &History,
+    keys: &[u32],
+    refusal: Refusal,
+) -> Result<usize, Fail> {
+    let Some(window) = window_of(alloc, history, keys, refusal)? else {
+        return Ok(99);
+    };
+    assert!(rt; is_right(alloc, history, &window)?);
+    Ok(window.calls.len())
+}
+
+#[test]
+fn the_judge_is_right_of_small_histories(rt: HostRuntime) -> Result<(), Fail> {
+    let alloc = rt.alloc();
+    let mut rng = Pcg32::seed_from_u64(1);
+    let (mut with_order, mut shown) = (0u32, 0usize);
+    for number in 0..HISTORIES {
+        let (history, opening, left) = drawn_history(alloc, &mut rng)?;
+        let keys = keys_of(alloc, left)?;
+        let is_explained = has_order(history.calls(), opening, left);
+        match judge(alloc, &history, &keys)? {
+            Verdict::Linearizable => {
+                assert!(rt; is_explained, "history {number}");
+                with_order += 1;
+            }
+            Verdict::NotLinearizable(refusal) => {
+                assert!(rt; !is_explained, "history {number}");
+                let size = window_size(&rt, alloc, &history, &keys, refusal)?;
+                assert!(rt; size <= MOST_CALLS, "history {number}");
+                shown += size;
+            }
+            Verdict::Undecided => assert!(rt; false, "history {number}"),
+        }
+    }
+    let without = (HISTORIES - with_order) as usize;
+    assert!(rt;
+        with_order > 30_000 && without > 30_000,
+        "{with_order} with an order"
+    );
+    assert!(rt; shown < 4 * without, "{shown} calls shown of {without}");
+    Ok(())
+}
+
+/// Each random run of the list `M` is linearizable, also without the points of its calls.
+fn assert_linearizable<M: Machine, R: Abort>(rt: &R, alloc: Global) -> Result<(), Fail> {
+    for seed in 0..500 {
+        let schedule = generate::<M>(alloc, 4, 40, 40, 3, seed)?;
+        let report = replay(alloc, &schedule)?;
+        assert!(rt; is_judged(&report.history), "seed {seed}");
+        let verdict = judge(alloc, &report.history, &report.keys)?;
+        assert!(rt; verdict == Verdict::Linearizable, "seed {seed}");
+    }
+    Ok(())
+}
+
+#[test]
+fn runs_of_the_five_lists_are_linearizable(rt: HostRuntime) -> Result<(), Fail> {
+    let alloc = rt.alloc();
+    assert_linearizable::<CoarseList, _>(&rt, alloc)?;
+    assert_linearizable::<FineList, _>(&rt, alloc)?;
+    assert_linearizable::<OptimisticList, _>(&rt, alloc)?;
+    assert_linearizable::<LazyList, _>(&rt, alloc)?;
+    assert_linearizable::<LockFreeList, _>(&rt, alloc)
+}
+
+/// The history of one call of a set that opens with the key 5, and has room for no add.
+fn one_call(alloc: Global, call: Call, reply: Reply) -> Result<History, Fail> {
+    let mut history = History::opened(alloc, 1, 0, Vec::from_slice(alloc, &[5])?);
+    let number = history.begin(0, call, 1)?;
+    history.end(number, reply, 2)?;
+    Ok(history)
+}
+
+#[test]
+fn calls_that_the_judge_does_not_decide(rt: HostRuntime) -> Result<(), Fail> {
+    let alloc = rt.alloc();
+    let lost = Verdict::NotLinearizable(Refusal {
+        key: Key(5),
+        moment: None,
+    });
+    for (call, reply) in [
+        (Call::Ceiling(Key(1)), Reply::At(Key(5))),
+        (Call::Add(Key(6)), Reply::Full),
+    ] {
+        let history = one_call(alloc, call, reply)?;
+        assert!(rt; !is_judged(&history));
+        assert!(rt; judge(alloc, &history, &[])? == lost);
+    }
+    let history = one_call(alloc, Call::Ceiling(Key(1)), Reply::Nothing)?;
+    assert!(rt; judge(alloc, &history, &[5])? == Verdict::Undecided);
+    Ok(())
+}
