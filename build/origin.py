@@ -7,11 +7,19 @@ import re
 import verdict
 
 TOP = pathlib.Path(__file__).resolve().parent.parent
+SOURCE = TOP / "crates/lset_command/src/command_line.rt"  # the one place of the version
 IN_SOURCE = re.compile(r'^pub const VERSION: &str = "([^"\\]+)\\n([^"\\]+)";$', re.M)
-VERSION, KIT = IN_SOURCE.search((TOP / "crates/lset_command/src/command_line.rt").read_text()).groups()
 NO_COMMIT = "0" * 40
 PROVED, NOT_PROVED, UNKNOWN = PROOFS = "checked", "missing", "unknown"  # of one length: a program has a place of that length
 PLACE = "commit {}\nproof {}\n"
+
+
+def version_and_kit():
+    return IN_SOURCE.search(SOURCE.read_text()).groups()
+
+
+def version():
+    return version_and_kit()[0]
 
 
 def built(proof):
@@ -21,7 +29,8 @@ def built(proof):
 
 def told(proof):
     """All four lines, of what is built here now."""
-    return f"listset {VERSION}\n{KIT}\n{built(proof)}"
+    number, kit = version_and_kit()
+    return f"listset {number}\n{kit}\n{built(proof)}"
 
 
 def stamp(file, proof):

@@ -1,9 +1,10 @@
-"""The sets and the judge from C, C++, Rust and Python, as foreign/build has built them into foreign/out, and the programs of
-docs/FOREIGN.md. A sanitizer that does not work here is left out: those for addresses and undefined behaviour, and in threads that for
+"""The sets and the judge from C, C++, Rust and Python, as foreign/build has built them into foreign/out, or as they are below
+the folder LISTSET_PREFIX if that is set, and the programs of docs/FOREIGN.md. A sanitizer that does not work here is left out: those for addresses and undefined behaviour, and in threads that for
 races. They see the callers; the libraries are not compiled with them.
 """
 
 import os
+import pathlib
 import re
 import shutil
 import subprocess
@@ -12,7 +13,7 @@ import sys
 from harness.cases import TOP, Wrong, given, lacking, needs, test_on, usable
 
 FOREIGN, EXAMPLES = TOP / "foreign", TOP / "examples" / "schedules"
-TESTS, PREFIX = FOREIGN / "tests", FOREIGN / "out"
+TESTS, PREFIX = FOREIGN / "tests", pathlib.Path(os.environ.get("LISTSET_PREFIX", FOREIGN / "out"))
 TAKES_TURNS = True  # (each has more threads than there are processors)
 SECONDS = 600  # for each compiler and each program
 WARN = ["-Wall", "-Wextra", "-Werror", "-O1", "-g"]

@@ -283,7 +283,7 @@ def the_program_is_built_once(repository):
     run = wants(repository.listset("trace"), output="kept: trace\n// listset\n", tells=[KEPT], no=[BUILDING])
     same(run.stderr.count("\n"), 1, "lines of standard error")
     same(repository.builds(), 1, "builds")
-    same(sorted(it.name for it in repository.out.iterdir()), ["listset", "listset.text", "lock", "sources.sum"], "what is kept")
+    same(sorted(it.name for it in repository.out.iterdir()), ["listset", "listset.o", "listset.text", "lock", "sources.sum"], "what is kept")
     wants(repository.without("rt").listset("check"), output="kept: check\n// listset\n")
 
 

@@ -2,11 +2,16 @@
 //! comes back.
 #![tactic(auto)]
 
+use lset_command::VERSION;
 use lset_dispatch::run_words;
 use std::alloc::{AllocError, Global};
-use std::io;
+use std::io::{self, Write};
 use std::process::ExitCode;
-use tool_base::{Trouble, deliver};
+use tool_base::{Trouble, deliver, put};
+
+// The commit of the sources, and whether they are proved, where the program was built by what knows that: it puts words of these
+// lengths here (build/origin.py).
+const BUILT: &str = "commit 0000000000000000000000000000000000000000\nproof unknown\n";
 
 /// The words after the program's name.
 fn words_given(rt: &HostRuntime) -> io::Result<Vec<String>> {
@@ -27,6 +32,23 @@ fn end_without_words(rt: &HostRuntime) -> ExitCode {
     ExitCode::from(deliver(rt.alloc(), Err(Trouble::Memory), output, faults))
 }
 
+/// Prints what `--version` prints, and below it where the program comes from. Gives the exit status.
+fn tell_origin<W: Write, F: Write>(alloc: Global, output: &mut W, faults: &mut F) -> u8 {
+    let is_whole = put(output, b"listset ")
+        && put(output, VERSION.as_bytes())
+        && put(output, b"\n")
+        && put(output, BUILT.as_bytes());
+    if is_whole {
+        0
+    } else {
+        deliver(alloc, Err(Trouble::CannotWrite), output, faults)
+    }
+}
+
+fn asks_for_origin(words: &[&str]) -> bool {
+    words.len() == 2 && words[0] == "--version" && words[1] == "--long"
+}
+
 // The runtime starts threads and opens sockets only where `main` itself passes it on.
 fn main(rt: HostRuntime) -> ExitCode {
     let Ok(given) = words_given(&rt) else {
@@ -36,5 +58,8 @@ fn main(rt: HostRuntime) -> ExitCode {
         return end_without_words(&rt);
     };
     let (input, output, faults) = (&mut rt.reader(), &mut io::writer(&rt), &mut rt.stderr());
+    if asks_for_origin(&words) {
+        return ExitCode::from(tell_origin(rt.alloc(), output, faults));
+    }
     ExitCode::from(run_words(&rt, rt.alloc(), &words, input, output, faults))
 }

@@ -1,0 +1,97 @@
+"""The packages of a release: files, by their names and bytes, in the forms that tar, dpkg and pip read. The same files make the same
+bytes, by no clock and no owner but those that are given."""
+
+import base64
+import gzip
+import hashlib
+import io
+import pathlib
+import tarfile
+import zipfile
+
+NO_LICENCE = "No licence is given: the owner has not chosen one. All rights are reserved."
+PROGRAMS = ("bin/", "usr/bin/")
+MEMBER = "{:<16}{:<12}{:<6}{:<6}{:<8}{:<10}`\n"  # the head of a member of an ar archive
+
+
+def files_below(folder, to="", leave=()):
+    """The files below a folder, named from `to` on, but for those in folders, or of names, in `leave`."""
+    found = (it for it in sorted(folder.rglob("*")) if it.is_file() and it.suffix != ".pyc")
+    return {f"{to}{it.relative_to(folder)}": it.read_bytes() for it in found if not set(it.relative_to(folder).parts) & set(leave)}
+
+
+def packed(content):
+    return gzip.compress(content, 9, mtime=0)
+
+
+def tar(files, root, when):
+    """A .tar.gz of the files below the folder `root`, all of the time `when`, in seconds."""
+    made = io.BytesIO()
+    folders = {str(it) for name in files for it in pathlib.PurePosixPath(root + name).parents} - {"."}
+    with tarfile.open(fileobj=made, mode="w", format=tarfile.USTAR_FORMAT) as archive:
+        for folder in sorted(folders):
+            info = tarfile.TarInfo(folder)
+            info.type, info.mode, info.mtime = tarfile.DIRTYPE, 0o755, when
+            archive.addfile(info)
+        for name, content in sorted(files.items()):
+            info = tarfile.TarInfo(root + name)
+            info.size, info.mtime, info.mode = len(content), when, 0o755 if name.startswith(PROGRAMS) else 0o644
+            archive.addfile(info, io.BytesIO(content))
+    return packed(made.getvalue())
+
+
+def deb(files, version, about, when):
+    """A package of Debian, for amd64: an ar archive of the version of its form, what dpkg is told, and the files below /."""
+    control = f"""Package: listset
+Version: {version}
+Architecture: amd64
+Maintainer: Ribdamson maintainers <ribdamson@localhost>
+Section: devel
+Priority: optional
+Installed-Size: {sum(map(len, files.values())) // 1024}
+Depends: libc6 (>= 2.17)
+Suggests: python3, nodejs
+Description: concurrent list sets, and a judge of recorded calls
+ Replays, checks, draws and generates schedules of concurrent list sets, runs
+ and serves such sets. It has a library for C, C++, Rust and Python, and a page.
+ {about}.
+ {NO_LICENCE}
+"""
+    sums = "".join(f"{hashlib.md5(content).hexdigest()}  {name}\n" for name, content in sorted(files.items()))
+    told = {"control": control, "md5sums": sums, "triggers": "activate-noawait ldconfig\n"}
+    inner = tar({name: text.encode() for name, text in told.items()}, "./", when)
+    members = {"debian-binary": b"2.0\n", "control.tar.gz": inner, "data.tar.gz": tar(files, "./", when)}
+    made = [b"!<arch>\n"]
+    for name, content in members.items():
+        made += [MEMBER.format(name, when, 0, 0, 100644, len(content)).encode(), content, b"\n" * (len(content) % 2)]
+    return b"".join(made)
+
+
+def wheel(files, version, tag, about):
+    """A wheel of Python with these files, for the machines that `tag` names."""
+    info = f"listset-{version}.dist-info"
+    head = f"Metadata-Version: 2.1\nName: listset\nVersion: {version}\nSummary: Concurrent list sets and a judge of recorded calls\n"
+    told = {
+        "METADATA": f"{head}License: {NO_LICENCE}\nRequires-Python: >=3.9\n\n{about}.\n",
+        "WHEEL": f"Wheel-Version: 1.0\nGenerator: build/release\nRoot-Is-Purelib: false\nTag: {tag}\n",
+        "top_level.txt": "listset\n",
+    }
+    files = {**files, **{f"{info}/{name}": text.encode() for name, text in told.items()}}
+    lines = [f"{name},sha256={sum_in_wheel(content)},{len(content)}\n" for name, content in files.items()]
+    files[f"{info}/RECORD"] = "".join([*lines, f"{info}/RECORD,,\n"]).encode()
+    made = io.BytesIO()
+    with zipfile.ZipFile(made, "w", zipfile.ZIP_DEFLATED) as archive:
+        for name, content in files.items():
+            entry = zipfile.ZipInfo(name)  # of 1980, the first year that a zip file knows
+            entry.external_attr, entry.compress_type = 0o100644 << 16, zipfile.ZIP_DEFLATED
+            archive.writestr(entry, content)
+    return made.getvalue()
+
+
+def sum_in_wheel(content):
+    return base64.urlsafe_b64encode(hashlib.sha256(content).digest()).rstrip(b"=").decode()
+
+
+def sums(files):
+    """The file SHA256SUMS of these files, for `sha256sum -c`."""
+    return "".join(f"{hashlib.sha256(content).hexdigest()}  {name}\n" for name, content in sorted(files.items())).encode()

@@ -1,0 +1,246 @@
+"""The packages of a release, made as a trial of what stands built, unpacked where no toolchain is, and used as their reader would."""
+
+import contextlib
+import os
+import pathlib
+import re
+import shutil
+import socket
+import subprocess
+import sys
+import tarfile
+import unittest
+
+from foreign import ran, well
+from harness.cases import TOP, UNPROVED, each, given, needs, once, same, test
+
+sys.path.insert(0, str(TOP / "build"))
+import origin  # noqa: E402
+
+SCHEDULES = TOP / "examples" / "schedules"
+NAMES = ["snip", "opens-with-keys", "read-in-anothers-step", "two-removers"]
+MAKERS = ["release", "verdict.py", "origin.py", "packages.py", "manual.py", "kit.py"]
+ROOT = os.environ.get("LISTSET_ROOT")  # a folder with a Debian in it, of debootstrap
+# no folder of the Rattle toolchain
+PATH = os.pathsep.join(it for it in os.environ["PATH"].split(os.pathsep) if not (pathlib.Path(it) / "rt").exists())
+BARE = {"PATH": PATH, "HOME": os.environ.get("HOME", "/"), "LANG": "C.UTF-8"}
+OF_PYTHON = """import listset, sys
+print(listset.version(), end="")
+listset.check(listset.replay(listset.gen("lazy", 2, 4, 10, 5, 1)))
+try:
+    listset.check(open(sys.argv[1]).read())
+except listset.Wrong as wrong:
+    print(wrong.text.strip(), wrong.status)
+"""
+OF_RUST = """fn main() {
+    print!("{}", listset::version());
+    let report = std::fs::read(std::env::args().nth(1).expect("a file")).expect("it is read");
+    let wrong = listset::check(report).expect_err("it is broken");
+    println!("{} {}", wrong.text.trim_end(), wrong.status);
+}
+"""
+MANIFEST = """[package]
+name = "own"
+version = "0.0.0"
+edition = "2021"
+
+[dependencies]
+listset = { path = "@CRATE@" }
+"""
+
+
+def proof():
+    return origin.NOT_PROVED if pathlib.Path(given.program or "").resolve() == UNPROVED.resolve() else origin.PROVED
+
+
+def words_of_trial():
+    return [TOP / "build" / "release", *(["--unproved"] if proof() == origin.NOT_PROVED else []), "--trial"]
+
+
+def dist(room):
+    made = pathlib.Path(room) / "dist"
+    well(*words_of_trial(), made)
+    return made
+
+
+def package(pattern):
+    found = [*once(dist).glob(pattern)]
+    same(len(found), 1, f"the number of files {pattern}")
+    return found[0]
+
+
+def unpacked(pattern, folder):
+    """The folder of a package that is a .tar.gz."""
+    with tarfile.open(package(pattern)) as archive:
+        archive.extractall(folder)
+    return folder / f"listset-{origin.version()}"
+
+
+def replays(program, enter, **how):
+    """That the program of a package gives the bytes of the one that is tested."""
+    for name in NAMES:
+        text = (SCHEDULES / f"{name}.schedule").read_text()
+        same(well(*enter, "replay", stdin=None, input=text, **how), well(program, "replay", stdin=None, input=text), name)
+
+
+def told_of_broken(program):
+    """What a judge says of itself and of a broken report, as the programs here print it."""
+    done = ran([program, "check", SCHEDULES / "snip.broken.report"])
+    return f"{origin.told(proof())}{(done.stdout + done.stderr).strip()} {done.returncode}\n"
+
+
+@test
+def the_same_bytes_come_twice(case):
+    first, again = once(dist), dist(case.room)
+    same(sorted(it.name for it in again.iterdir()), sorted(it.name for it in first.iterdir()), "the files")
+    for file in first.iterdir():
+        same((again / file.name).read_bytes() == file.read_bytes(), True, f"{file.name} has the same bytes")
+    well("sha256sum", "--check", "--strict", "SHA256SUMS", cwd=first)
+    told = origin.told(proof())
+    same((first / "PROVENANCE").read_text()[: len(told)], told, "PROVENANCE")
+
+
+@contextlib.contextmanager
+def clone(room):
+    """A clone of this repository, with its makers of packages as they are, committed; and the commit."""
+    at = room / "clone"
+    well("git", "clone", "--quiet", "--shared", TOP, at)
+    for name in MAKERS:
+        shutil.copy(TOP / "build" / name, at / "build" / name)
+    git = ["git", "-C", at, "-c", "user.name=n", "-c", "user.email=n@localhost"]
+    well(*git, "add", "build")
+    well(*git, "commit", "--quiet", "--allow-empty", "-m", "tried")
+    yield at, well(*git, "rev-parse", "HEAD").strip()
+
+
+def few_tools(room):
+    """A PATH with little more than Python."""
+    (room / "few").mkdir()
+    for tool in ("git", "python3", "env", "bash", "rt"):
+        if shutil.which(tool):
+            (room / "few" / tool).symlink_to(shutil.which(tool))
+    return str(room / "few")
+
+
+REFUSALS = {
+    "no_gate": "no gate has ended over a commit here: run ./gate",
+    "older_gate": "the last gate was over the commit 111111111111, and this is @: run ./gate",
+    "failed_gate": "the last gate failed: 9 passed, 2 failed",
+    "others_built": "crates/listset/out/listset.o is not what the gate has tried: run ./gate",
+    "a_missing_tool": "the command gcc is missing: install Debian's package gcc",
+    "a_change": "the tree has changes (1, the first: M README.md): commit them, and run ./gate",
+}
+
+
+@each(REFUSALS)
+def nothing_is_made(case, name):
+    with clone(case.room) as (at, commit):
+        verdict, path = f"commit {commit}\nday 2026-01-01\npassed 9\nfailed 0\ncrates/listset/out/listset.o {'0' * 64}\n", os.environ["PATH"]
+        if name == "older_gate":
+            verdict = verdict.replace(commit, "1" * 40)
+        elif name == "failed_gate":
+            verdict = verdict.replace("failed 0", "failed 2")
+        elif name == "a_missing_tool":
+            path = few_tools(case.room)
+        elif name == "a_change":
+            (at / "README.md").write_text("changed\n")
+        if name != "no_gate":
+            (at / ".git" / "gate-verdict").write_text(verdict)
+        done = ran([at / "build" / "release"], env={**os.environ, "PATH": path})
+        line = f"build/release: {REFUSALS[name].replace('@', commit[:12])}; nothing was made\n"
+        same((done.returncode, done.stderr, done.stdout), (1, line, ""), "status, error and output")
+        same([*at.glob("dist*"), *at.glob(".dist*")], [], "what is made")
+
+
+@test
+def a_folder_that_cannot_be_made_is_told(case):
+    file = case.room / "file"
+    file.write_text("")
+    done = ran([*words_of_trial(), file / "dist"])
+    same((done.returncode, done.stderr.count("\n"), "nothing was made" in done.stderr), (1, 1, True), f"what comes of {done}")
+    same(([*case.room.iterdir()], file.read_text()), ([file], ""), "what is there")
+
+
+@test
+def the_program_is_alone_in_its_root(case):
+    """It replays, runs four threads and serves a session where nothing but its package is."""
+    top = unpacked("*-linux-x86_64.tar.gz", case.room)
+    if os.geteuid():
+        raise unittest.SkipTest("only root may chroot")
+    enter = [shutil.which("chroot"), top, "/bin/listset"]
+    same(well(*enter, "--version", "--long", env={}), origin.told(proof()), "--version --long")
+    replays(case.program, enter, env={})
+    same(well(*enter, "run", "lock-free", 4, 1000, 1000, 50, 7, env={}).splitlines()[0], "calls 4000", "the calls of four threads")
+    how = {"stdin": subprocess.DEVNULL, "stdout": subprocess.PIPE, "text": True, "env": {}}
+    with subprocess.Popen([*map(str, [*enter, "serve", "lazy", 1, 8, 0, 1])], **how) as process:
+        port = int(re.search(r"(\d+)$", process.stdout.readline().strip())[1])
+        with socket.create_connection(("127.0.0.1", port), 30) as client:
+            client.sendall(b"ADD 5\nCONTAINS 5\nQUIT\n")
+            answers = b"".join(iter(lambda: client.recv(4096), b""))
+        same(answers, b"TRUE\nTRUE\nBYE\n", "a session")
+        same(process.stdout.read().splitlines()[-1], "key 5", "what it leaves")
+
+
+@each(["c", "cpp", "rust", "python"])
+def a_language_takes_the_unpacked_library(case, language):
+    how = {"env": {**BARE, "LISTSET_PREFIX": str(unpacked("*-linux-x86_64.tar.gz", case.room))}}
+    well(TOP / "tests" / "run", "--program", case.program, f"foreign/{language}", **how)
+
+
+@test
+def the_man_page_and_the_completions_are_read(case):
+    top = unpacked("*-linux-x86_64.tar.gz", case.room) / "share"
+    if shutil.which("man"):
+        page = well("man", "-l", top / "man/man1/listset.1.gz", env={**BARE, "MANWIDTH": "200"})
+        same("listset serve" in page and "--width <N>" in page, True, f"the man page: {page[:2000]}")
+    asked = "COMP_WORDS=(listset show --w); COMP_CWORD=2; _listset listset --w; echo ${COMPREPLY[*]}"
+    same(well("bash", "-c", f"source {top}/bash-completion/completions/listset; {asked}", env=BARE), "--width\n", "a completion")
+    for shell, file in (("zsh", "zsh/vendor-completions/_listset"), ("fish", "fish/vendor_completions.d/listset.fish")):
+        if shutil.which(shell):
+            well(shell, "-n", top / file, env=BARE)
+
+
+@needs("dpkg-deb")
+@test
+def the_deb_is_installed(case):
+    """In LISTSET_ROOT, if that is given; else it is unpacked."""
+    file, top = package("*.deb"), case.room / "deb"
+    well("dpkg-deb", "--extract", file, top)
+    control = well("dpkg-deb", "--field", file)
+    same(f"Version: {origin.version()}\n" in control and "No licence is given" in control, True, f"its control: {control}")
+    same(well(top / "usr/bin/listset", "--version", "--long", env=BARE), origin.told(proof()), "--version --long")
+    if ROOT is None:
+        return
+    shutil.copy(file, pathlib.Path(ROOT) / "root")
+    well("chroot", ROOT, "dpkg", "--install", f"/root/{file.name}")
+    replays(case.program, ["chroot", ROOT, "listset"])
+    well("chroot", ROOT, "dpkg", "--remove", "listset")
+    same([str(it) for it in pathlib.Path(ROOT).glob("usr/**/*listset*")], [], "what is left of it")
+
+
+@test
+def the_wheel_is_installed(case):
+    file, top = package("*.whl"), case.room / "wheel"
+    if ran([sys.executable, "-m", "pip", "--version"]).returncode:
+        raise unittest.SkipTest("pip is not installed")
+    well(sys.executable, "-m", "pip", "install", "--no-index", "--no-deps", "--quiet", "--target", top, file, env=BARE)
+    how = {"env": {**BARE, "PYTHONPATH": str(top)}}
+    same(well(sys.executable, "-B", "-c", OF_PYTHON, SCHEDULES / "snip.broken.report", **how), told_of_broken(case.program), "the judge")
+
+
+@needs("cargo")
+@test
+def the_crate_is_built_offline(case):
+    own = case.room / "own"
+    (own / "src").mkdir(parents=True)
+    (own / "src" / "main.rs").write_text(OF_RUST)
+    (own / "Cargo.toml").write_text(MANIFEST.replace("@CRATE@", str(unpacked("*.crate", case.room))))
+    well("cargo", "build", "--offline", "--quiet", cwd=own, env=BARE)
+    same(well(own / "target/debug/own", SCHEDULES / "snip.broken.report", env=BARE), told_of_broken(case.program), "the judge")
+
+
+@needs("node")
+@test
+def the_page_in_one_file_has_the_engine(case):
+    page, script = package("listset-page-*.html"), TOP / "tests" / "harness" / "one_file.js"
+    replays(case.program, ["node", script, page], env=BARE)
