@@ -15,7 +15,7 @@ use std::alloc::Global;
 use std::io::{Read, Write};
 
 /// The line about an order with this fault. Want of memory is no fault of the order.
-fn refusal_text(alloc: Global, fault: OrderFault) -> Result<Vec<u8>, Trouble>
+pub fn refusal_text(alloc: Global, fault: OrderFault) -> Result<Vec<u8>, Trouble>
     ensures of_the_order { OnOk result (fault ≢ order.Memory) }
     ensures line { IfOk result (λ text. text.items ≡ refusal_text fault) }
     ensures memory { IfErr result (λ trouble. trouble ≡ Memory) }

@@ -14,7 +14,7 @@ mod trouble;
 mod values;
 
 pub use answer::{Answer, deliver, line_of_trouble};
-pub use checking::{checked, tool_check};
+pub use checking::{checked, refusal_text, tool_check};
 pub use faults::{FAULTS, faults_told, tool_faults};
 pub use generating::{generated, tool_gen};
 pub use moments::{DEFAULT_WIDTH, MOST_MOMENT, MOST_WIDTH, Moments, read_moments, read_width};

@@ -1,0 +1,53 @@
+-- What is made of a text whose calls were read.
+use Rattle.std.proofs.Common.{◌≡◌, ℕ, ◌⊎◌, inl, inr, List, Ok, Err, sym, subst, ap, ◌∙◌}
+use Rattle.std.specs.Prelude.{Result, IfOk, IfErr}
+use Rattle.lset_calls.specs.declared.fault.CallsFault.{CallsFault}
+use Rattle.lset_calls.specs.Calls.{CallsValue, AreCalls}
+use Rattle.lset_calls.specs.Texts.{calls_text}
+use Rattle.lset_calls.specs.Reading.{reading}
+use Rattle.lset_judge.specs.declared.verdict.Verdict.TheVariants.{Undecided}
+use Rattle.tool_base.specs.declared.answer.Answer.{Answer}
+use Rattle.tool_base.specs.declared.trouble.Trouble.{Trouble}
+use Rattle.tool_base.specs.declared.trouble.Trouble.TheVariants.{Memory}
+use Rattle.tool_base.specs.Tools.{IsTaken, IsInputTrouble, view}
+use Rattle.tool_judge.specs.Judging.{IsJudgedAs, IsAnswerByPoints, IsFaultOfCalls, IsFirstFault, Judges}
+
+-- a trouble with its calls is one with the text
+pub refused : (bytes : List ℕ) (c : CallsValue) (t : Trouble) → IsTaken bytes → reading bytes ≡ Ok c
+    → (t ≡ Memory) ⊎ IsFaultOfCalls c t → Judges bytes (Err t)
+refused bytes c t taken e (inl m) = inl (subst (λ x. IsInputTrouble bytes x) (sym m) tt)
+refused bytes c t taken e (inr f) = inr (taken, subst (λ r. IsFirstFault r t) (sym e) f)
+
+pub told : (bytes : List ℕ) (c : CallsValue) (t : Trouble) → reading bytes ≡ Ok c
+    → (t ≡ Memory) ⊎ IsFaultOfCalls c t → (t ≡ Memory) ⊎ IsFirstFault (reading bytes) t
+told bytes c t e (inl m) = inl m
+told bytes c t e (inr f) = inr (subst (λ r. IsFirstFault r t) (sym e) f)
+
+calls_in : CallsValue → Result CallsValue CallsFault → CallsValue
+calls_in c (Ok d) = d
+calls_in c (Err e) = c
+
+-- a text that is read twice tells the same calls
+pub read_twice : (bytes : List ℕ) (c d : CallsValue) → reading bytes ≡ Ok c → reading bytes ≡ Ok d → c ≡ d
+unfolding calls_in
+read_twice bytes c d e f = ap (calls_in c) (sym e ∙ f)
+
+-- what the points answer, if the judge does not decide
+pub by_points : (bytes : List ℕ) (c d : CallsValue) (calls : ℕ) (left : List ℕ) (r : Result Answer Trouble) → IsTaken bytes
+    → AreCalls c → bytes ≡ calls_text c → reading bytes ≡ Ok c → reading bytes ≡ Ok d → IsJudgedAs c calls left Undecided
+    → IfOk (view r) (IsAnswerByPoints d calls left) → IfErr r (λ t. (t ≡ Memory) ⊎ IsFaultOfCalls d t) → Judges bytes (view r)
+by_points bytes c d calls left (Ok a) taken are text e f judged answer trouble = (
+  taken,
+  c,
+  are,
+  text,
+  (
+    calls,
+    left,
+    Undecided,
+    judged,
+    subst (λ z. IsAnswerByPoints z calls left
+        (record { text = a.text.items; status = a.status })) (sym (read_twice bytes c d e f)) answer,
+  ),
+)
+by_points bytes c d calls left (Err t) taken are text e f judged answer trouble = refused bytes d t taken f trouble

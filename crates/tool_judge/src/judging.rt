@@ -1,0 +1,133 @@
+ghost use Rattle.std.specs.Prelude.{◌≡◌, ◌≢◌, ◌⊎◌, IfOk, IfErr, IfSome};
+ghost use Rattle.lset_calls.specs.Calls.{AreCalls, view};
+ghost use Rattle.lset_calls.specs.Reading.{reading};
+ghost use Rattle.lset_report.specs.Report as reports;
+ghost use Rattle.tool_base.specs.Tools.{Ends, IsTaken};
+ghost use Rattle.tool_base.specs.Tools as tools;
+ghost use Rattle.tool_base.specs.declared.trouble.Trouble.TheVariants.{CannotRead, Memory};
+ghost use Rattle.tool_judge.specs.Judging.{IsAnswerByPoints, IsAnswerOnOrder, IsFaultOfCalls, IsFirstFault, IsJudgedAs, Judges};
+
+use crate::keys::keys_of;
+use crate::texts::{ok_text, reason_text, refused_text};
+use lset_calls::{Calls, Recording, read_calls, recording_of, report_of};
+use lset_history::check_order;
+use lset_judge::{Verdict, judge};
+use lset_report::Report;
+use std::alloc::Global;
+use std::io::{Read, Write};
+use tool_base::{Answer, LONGEST, Trouble, deliver, input_of};
+
+/// The answer by the order of a report and the keys that were left.
+fn answer_by_order(
+    alloc: Global,
+    report: &Report,
+    left: &[u32],
+    calls: usize,
+) -> Result<Answer, Trouble>
+    ensures answer { IfOk (tools.view result) (IsAnswerOnOrder (record (reports.view report.now) { keys = left.now }) calls) }
+    ensures memory { IfErr result (λ t. t ≡ Memory) }
+{
+    match check_order(alloc, &report.history, &report.order, left) {
+        Ok(()) => Ok(Answer {
+            text: ok_text(alloc, calls)?,
+            status: 0,
+        }),
+        Err(fault) => Ok(Answer {
+            text: refused_text(alloc, fault)?,
+            status: 1,
+        }),
+    }
+}
+
+/// The answer by the points that were recorded.
+fn by_points(alloc: Global, calls: Calls, left: &[u32], count: usize) -> Result<Answer, Trouble>
+    requires { AreCalls (view calls) }
+    ensures answer { IfOk (tools.view result) (IsAnswerByPoints (view calls) count left.now) }
+    ensures trouble { IfErr result (λ t. (t ≡ Memory) ⊎ IsFaultOfCalls (view calls) t) }
+{
+    calls.have_points()?;
+    let report = report_of(alloc, calls)?;
+    answer_by_order(alloc, &report, left, count)
+}
+
+/// What the judge says of a recording: how many calls it has, the keys that were left, and the verdict.
+#[derive(Drop)]
+struct JudgedCalls {
+    calls: usize,
+    left: Vec<u32>,
+    verdict: Verdict,
+}
+
+fn judge_calls(alloc: Global, calls: Calls) -> Result<JudgedCalls, Trouble>
+    requires { AreCalls (view calls) }
+    ensures judged { IfOk result (λ j. IsJudgedAs (view calls) j.calls j.left.items j.verdict) }
+    ensures trouble { IfErr result (λ t. (t ≡ Memory) ⊎ IsFaultOfCalls (view calls) t) }
+{
+    let Recording { history, keys } = recording_of(alloc, calls)?;
+    let left = keys_of(keys);
+    let verdict = judge(alloc, &history, &left)?;
+    Ok(JudgedCalls {
+        calls: history.calls().len(),
+        left,
+        verdict,
+    })
+}
+
+/// The answer on the recorded calls whose text the bytes are.
+fn answer_on(alloc: Global, bytes: &[u8]) -> Result<Answer, Trouble>
+    requires { IsTaken bytes.now }
+    ensures judges { Judges bytes.now (tools.view result) }
+    ensures trouble { IfErr result (λ t. (t ≡ Memory) ⊎ IsFirstFault (reading bytes.now) t) }
+{
+    let judged = judge_calls(alloc, read_calls(alloc, bytes)?)?;
+    match judged.verdict {
+        Verdict::Linearizable => Ok(Answer {
+            text: ok_text(alloc, judged.calls)?,
+            status: 0,
+        }),
+        Verdict::NotLinearizable(refusal) => Ok(Answer {
+            text: reason_text(alloc, refusal)?,
+            status: 1,
+        }),
+        Verdict::Undecided => {
+            by_points(alloc, read_calls(alloc, bytes)?, &judged.left, judged.calls)
+        },
+    }
+}
+
+/// Judges the recorded calls whose text the bytes are: `ok N calls` with status 0 if some order of them explains all replies and leaves
+/// the keys, and `not linearizable`, with the key and the moment that show it, with status 1 if none does. Calls with `ceiling` or
+/// `full` that begins and ends do not decide are judged by their points. The error is `TooLong` for more than `LONGEST` bytes, `Line`
+/// with the first fault of the text, or with the first line whose call cannot stand beside those of the lines above, and `Memory` if
+/// memory was refused.
+pub fn judge_bytes(alloc: Global, bytes: &[u8]) -> Result<Answer, Trouble>
+    ensures judges { Judges bytes.now (tools.view result) }
+    ensures read { IfErr result (λ t. t ≢ CannotRead) }
+{
+    if bytes.len() > LONGEST {
+        return Err(Trouble::TooLong);
+    }
+    answer_on(alloc, bytes)
+}
+
+fn judge_input<R: Read>(alloc: Global, input: &mut R) -> Result<Answer, Trouble>
+    ensures { IfSome (R.remaining input.old) (λ bytes. Judges bytes (tools.view result)) }
+{
+    let bytes = input_of(alloc, input)?;
+    judge_bytes(alloc, &bytes)
+}
+
+/// Judges the recorded calls on the input: writes the answer on the output, or one line about what is wrong on `faults`, and gives the
+/// exit status: 0 if `ok` was written, 3 if memory was refused, else 1. A failing write on `faults` leaves the status as it is.
+pub fn tool_judge<R: Read, W: Write, F: Write>(
+    alloc: Global,
+    input: &mut R,
+    output: &mut W,
+    faults: &mut F,
+) -> u8
+    ensures { Ends (λ made. IfSome (R.remaining input.old) (λ bytes. Judges bytes made))
+        (W.contents output.old) (W.contents output.new) (F.contents faults.old) (F.contents faults.new) result }
+{
+    let made = judge_input(alloc, input);
+    deliver(alloc, made, output, faults)
+}

@@ -1,0 +1,11 @@
+//! `listset judge`: whether any order explains recorded calls of a set.
+//!
+//! A recording is read, its calls become a history, and `lset_judge` decides it by the begins and ends alone. A recording with `ceiling`
+//! or `full` that it cannot decide is judged by the points that were recorded, as `report` and `check` do.
+#![tactic(auto)]
+
+mod judging;
+mod keys;
+mod texts;
+
+pub use judging::{judge_bytes, tool_judge};
