@@ -5,6 +5,8 @@
 #[cfg(test)]
 mod breaking;
 #[cfg(test)]
+mod changes;
+#[cfg(test)]
 mod history;
 #[cfg(test)]
 mod judge;
