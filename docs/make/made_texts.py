@@ -34,7 +34,7 @@ EXAMPLES = {
     ("Line", "report"): "`place 0 maybe`; `place 0 true` below a `key` line; in version 1 `place 0 at-5`",
     ("Number", "report"): "`place 01 true`",
     ("History", "report"): "`call 1 0 add 7 8 9 true` below `call 0 0 add 5 1 8 true`: moment 8 is taken",
-    ("Point", "calls"): "`call 0 add 5 1 - 8 true`",
+    ("Point", "calls"): "`call 0 add 5 1 8 8 true`",
 }
 # Limits: the constant, its crate, and what is told past it.
 LIMITS = [
