@@ -12,7 +12,7 @@ import tarfile
 import unittest
 
 from foreign import ran, well
-from harness.cases import TOP, UNPROVED, each, given, needs, once, same, test
+from harness.cases import TOP, UNPROVED, each, given, lacking, needs, once, same, test
 
 sys.path.insert(0, str(TOP / "build"))
 import origin  # noqa: E402
@@ -58,8 +58,13 @@ def words_of_trial():
 
 
 def dist(room):
+    """The packages, in a folder of this room. A machine that cannot make them skips the tests, and so does a clone with nothing built."""
     made = pathlib.Path(room) / "dist"
-    well(*words_of_trial(), made)
+    done = ran([*words_of_trial(), made])
+    if "install Debian's package" in done.stderr:
+        raise unittest.SkipTest(done.stderr.strip())
+    if done.returncode:
+        lacking(done.stderr.strip())
     return made
 
 
