@@ -10,54 +10,33 @@ ghost use Rattle.lset_live.specs.Explained.{IsOneLegalOrder};
 ghost use Rattle.lset_words.specs.Records.{fresh};
 ghost use Rattle.lset_work.specs.Programs.{worked};
 
+use anyhow::Result;
 use lset_lazy::LazyList;
-use lset_live::{OpenFault, Running, open_with};
+use lset_live::{Running, open_with};
 use lset_lock_free::LockFreeList;
-use lset_replay::{ReplayFault, replay};
+use lset_replay::replay;
 use lset_report::Report;
-use lset_schedule::{ScheduleFault, read_schedule};
+use lset_schedule::read_schedule;
 use lset_words::{Call, Key};
-use lset_work::{Always, Outcome, WorkCause, work};
-use std::alloc::{AllocError, AllocFailed, Global};
+use lset_work::{Always, Outcome, work};
+use std::alloc::Global;
 use std::io;
 use std::sync::Wait;
 use std::thread::Threads;
-use thiserror::Error;
 
 /// One thread alone, on a CoarseList: an `add` in its seven steps.
 const SCHEDULE: &str =
     "listset-schedule 1\nlist coarse\nthreads 1\nquota 1\nbegin 0 add 5\ngo 0 7\n";
 
-/// Why there is no outcome, or no report.
-#[derive(Debug, Drop, Error)]
-enum Refusal {
-    #[error("{0}")]
-    Open(#[from] OpenFault),
-    #[error("{0}")]
-    Work(#[from] WorkCause),
-    #[error("{0}")]
-    Schedule(#[from] ScheduleFault),
-    #[error("{0}")]
-    Replay(#[from] ReplayFault),
-    #[error("out of memory")]
-    Memory(#[from] AllocError),
-}
-
-impl<T: Drop> From<AllocFailed<T>> for Refusal {
-    fn from(_error: AllocFailed<T>) -> Refusal {
-        Refusal::Memory(AllocError)
-    }
-}
-
 /// What two threads make of a list that opens with these keys, with two slots for each: the replies to each one's calls, and the
 /// keys that are left.
-fn two_threads<M: Running + Send + Sync, R: Threads + Wait + Sync>(
+fn two_threads<M: Running + Send + Sync + Drop, R: Threads + Wait + Sync>(
     rt: &R,
     alloc: Global,
     keys: &[u32],
     first: [Call; 2],
     second: [Call; 2],
-) -> Result<Outcome, Refusal>
+) -> Result<Outcome>
     // one legal order has just these calls with these replies, each thread's in its order, and leaves the keys
     ensures { IfOk result (λ o. IsOneLegalOrder (record { threads = 2; quota = 2; keys = keys.now })
         (worked (fresh 0 ∷ fresh 1 ∷ []) (first ∷ second ∷ []) (map (λ v. v.items) o.replies.items)) o.keys.items) }
@@ -66,17 +45,11 @@ fn two_threads<M: Running + Send + Sync, R: Threads + Wait + Sync>(
     let mut programs = Vec::new(alloc);
     programs.push(first.to_vec(alloc)?)?;
     programs.push(second.to_vec(alloc)?)?;
-    match work(rt, alloc, set, seats, programs, &Always) {
-        Ok(outcome) => Ok(outcome),
-        Err(fault) => Err(Refusal::Work(fault.cause)),
-    }
+    Ok(work(rt, alloc, set, seats, programs, &Always)?)
 }
 
 /// Two lives of one set: a LazyList opens empty, and the keys that it leaves open a LockFreeList.
-fn two_lives<R: Threads + Wait + Sync>(
-    rt: &R,
-    alloc: Global,
-) -> Result<(Outcome, Outcome), Refusal> {
+fn two_lives<R: Threads + Wait + Sync>(rt: &R, alloc: Global) -> Result<(Outcome, Outcome)> {
     let first = [Call::Add(Key(5)), Call::Add(Key(7))];
     let second = [Call::Add(Key(9)), Call::Remove(Key(9))];
     let left = two_threads::<LazyList, R>(rt, alloc, &[], first, second)?;
@@ -87,7 +60,7 @@ fn two_lives<R: Threads + Wait + Sync>(
 }
 
 /// The report of the schedule that has this text.
-fn replayed(alloc: Global, text: &str) -> Result<Report, Refusal>
+fn replayed(alloc: Global, text: &str) -> Result<Report>
     // the text is a schedule's, and the report's order linearizes its calls and leaves its keys
     ensures { IfOk result (λ r. (p : Plan) × IsSchedule p × (text.now ≡ schedule_text p) × IsExplained (view r)) }
 {
@@ -102,10 +75,10 @@ fn main(rt: HostRuntime) -> io::Result<()> {
             "the replies {:?} leave the keys {:?}\nopened with these, the replies {:?} leave {:?}",
             left.replies, left.keys, again.replies, again.keys
         )?,
-        Err(refusal) => println!(rt; "no outcome: {refusal}")?,
+        Err(error) => println!(rt; "no outcome: {error}")?,
     }
     match replayed(rt.alloc(), SCHEDULE) {
         Ok(report) => println!(rt; "the schedule's run leaves the keys {:?}", report.keys),
-        Err(refusal) => println!(rt; "no report: {refusal}"),
+        Err(error) => println!(rt; "no report: {error}"),
     }
 }

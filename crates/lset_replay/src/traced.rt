@@ -1,5 +1,6 @@
 use lset_steps::{Action, ChainKey, Local, StepFault};
 use lset_words::{Call, Key, Kind, Reply};
+use std::fmt;
 
 /// What an event of a run did: a thread began a call, which has this number in the history, or made one access and saw this value
 /// (of a store, the value stored; of an exchange, what the word held before).
@@ -7,6 +8,32 @@ use lset_words::{Call, Key, Kind, Reply};
 pub enum Deed {
     Begin(Call, u32),
     Access(Action, u64),
+}
+
+/// An access is printed by its action, as `Load { word: 5, seen: 12 }`.
+impl fmt::Debug for Deed {
+    fn fmt<W: fmt::Write>(&self, f: &mut fmt::Formatter<W>) -> fmt::Result {
+        match self {
+            Deed::Begin(call, number) => f.debug_tuple("Begin").field(call).field(number).finish(),
+            Deed::Access(action, seen) => print_access(f, *action, *seen),
+        }
+    }
+}
+
+fn print_access<W: fmt::Write>(
+    f: &mut fmt::Formatter<W>,
+    action: Action,
+    seen: u64,
+) -> fmt::Result {
+    let (name, word) = match action {
+        Action::Load(word) => ("Load", word),
+        Action::Store(word, _) => ("Store", word),
+        Action::Exchange(word, _, _) => ("Exchange", word),
+    };
+    f.debug_struct(name)
+        .field("word", &word)
+        .field("seen", &seen)
+        .finish_non_exhaustive()
 }
 
 /// The end of a call: its number in the history, its reply, and the moment at which it stands in the order.
@@ -32,9 +59,24 @@ pub struct TracedEvent {
     pub chain: Option<Vec<ChainKey>>,
 }
 
+/// Of what the thread holds only the row is printed to which the event led.
+impl fmt::Debug for TracedEvent {
+    fn fmt<W: fmt::Write>(&self, f: &mut fmt::Formatter<W>) -> fmt::Result {
+        f.debug_struct("TracedEvent")
+            .field("line", &self.line)
+            .field("thread", &self.thread)
+            .field("deed", &self.deed)
+            .field("row", &self.after.pc)
+            .field("change", &self.change)
+            .field("end", &self.end)
+            .field("chain", &self.chain)
+            .finish_non_exhaustive()
+    }
+}
+
 /// The events of a schedule, whose set opens with the keys `opening`, one after another, up to the first that is not enabled;
 /// and of that one, the number of its line and the first cause.
-#[derive(Drop)]
+#[derive(Debug, Drop)]
 pub struct Trace {
     pub kind: Kind,
     pub threads: u32,

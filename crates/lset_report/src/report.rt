@@ -18,7 +18,7 @@ pub const MOST_KEYS_OPENED: usize = 2_097_152;
 /// and the keys with which its set opened, an order of the calls that linearizes the history, and the keys that are
 /// left, rising. The order and the keys of a report that was read from a text may be any. A report of `Version::One`
 /// has a text only where it has no opening keys, no call `ceiling` and none of its replies, `at-5` or `nothing`.
-#[derive(Drop)]
+#[derive(Debug, Drop)]
 pub struct Report {
     pub version: Version,
     pub kind: Kind,
