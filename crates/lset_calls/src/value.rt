@@ -20,7 +20,7 @@ pub struct TimedCall {
 
 /// What was recorded of a set: the kind of list that it is compared with, its threads, 1 to 64, the quota of each, 0 to
 /// 16,384, the keys with which it opened, rising, its calls in any order, and the keys that were left.
-#[derive(Drop)]
+#[derive(Debug, Drop)]
 pub struct Calls {
     pub kind: Kind,
     pub threads: u32,
