@@ -137,6 +137,7 @@ REFUSALS = {
 }
 
 
+@needs("gcc")
 @each(REFUSALS)
 def nothing_is_made(case, name):
     with clone(case.room) as (at, commit):
