@@ -141,7 +141,8 @@ REFUSALS = {
 @each(REFUSALS)
 def nothing_is_made(case, name):
     with clone(case.room) as (at, commit):
-        verdict, path = f"commit {commit}\nday 2026-01-01\npassed 9\nfailed 0\ncrates/listset/out/listset.o {'0' * 64}\n", os.environ["PATH"]
+        verdict = f"commit {commit}\nday 2026-01-01\npassed 9\nfailed 0\ncrates/listset/out/listset.o {'0' * 64}\n"
+        path = os.environ["PATH"]
         if name == "older_gate":
             verdict = verdict.replace(commit, "1" * 40)
         elif name == "failed_gate":

@@ -130,7 +130,8 @@ def unknown():
     found |= {name: module([("f", [I64], [I64], code)]) for name, code in codes.items()}
     memories = {"32 bits": b"\0\1", "maximum": b"\5\1\2", "shared": b"\7\1\2", "none": b""}
     found |= {f"memory: {name}": module([one], memory=it) for name, it in memories.items()}
-    data = {"passive": b"\1\1x", "by a global": b"\0\x23\1\x0b\1x", "far": b"\0\x42" + leb(1 << 31, True) + b"\x0b\1x", "before 0": b"\0\x42\x7f\x0b\1x"}
+    data = {"passive": b"\1\1x", "by a global": b"\0\x23\1\x0b\1x", "before 0": b"\0\x42\x7f\x0b\1x"}
+    data["far"] = b"\0\x42" + leb(1 << 31, True) + b"\x0b\1x"
     found |= {f"data: {name}": module([one], data=it) for name, it in data.items()}
     sections = {0: [b"name"], 2: [b"\1e\1f\0\0"], 4: [b"\x70\0\1"], 8: [b""], 9: [b"\0\x41\0\x0b\1\0"], 12: [b""], 13: [b"\0\0"]}
     found |= {f"section {kind}": module([one], more=[(kind, items)]) for kind, items in sections.items()}
