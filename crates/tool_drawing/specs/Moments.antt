@@ -1,5 +1,5 @@
 -- Where a picture ends.
-use Rattle.std.specs.Prelude.{ℕ, ◌==◌, nat_le, ◌&&◌, ◌||◌, not, Bool, false, List, length, Option, Some, None}
+use Rattle.std.specs.Prelude.{ℕ, ◌<◌, ◌⊎◌, All, IfSome, ◌==◌, nat_le, ◌&&◌, ◌||◌, not, Bool, false, List, length, Option, Some, None}
 use Rattle.std.specs.List.{list_any}
 use Rattle.lset_words.specs.declared.Reply.{Reply}
 use Rattle.lset_words.specs.declared.history.CallRecord.{CallRecord}
@@ -28,3 +28,17 @@ is_past calls points m = is_told calls points && not (list_any (reaches m) calls
 -- A MOMENT IS PAST THE LAST of a picture where calls begin, stand or end, and none does at this moment or later.
 abbrev pub is_past_the_last : PictureValue → ℕ → Bool
 is_past_the_last p m = is_past p.history.calls (points_of p) m
+
+-- all moments of a call lie before this one
+pub record IsCallBefore (m : ℕ) (x : CallRecord) : Type 0 where
+  pub begun : x.begun < m
+  pub ended : IfSome x.ended (λ (end : ℕ × Reply). end.0 < m)
+
+abbrev pub IsPointBefore : ℕ → Point → Type 0
+IsPointBefore m q = q.moment < m
+
+-- THE SAME IN WORDS: something happens in the picture, and all that happens comes before this moment.
+pub record IsPastTheLast (p : PictureValue) (m : ℕ) : Type 0 where
+  pub told : (0 < length p.history.calls) ⊎ (0 < length (points_of p))
+  pub calls : All (IsCallBefore m) p.history.calls
+  pub points : All (IsPointBefore m) (points_of p)

@@ -1,8 +1,8 @@
 //! The moments at which something happens in a picture.
-ghost use Rattle.std.specs.Prelude.{◌≡◌};
+ghost use Rattle.std.specs.Prelude.{◌≡◌, ◌↔◌, IsTrue};
 ghost use Rattle.tool_drawing.specs.Pictures.{view};
 ghost use Rattle.std.specs.List.{list_any};
-ghost use Rattle.tool_drawing.specs.Moments.{ends_from, reaches, stands_from, is_told, is_past, is_past_the_last};
+ghost use Rattle.tool_drawing.specs.Moments.{ends_from, reaches, stands_from, is_told, is_past, is_past_the_last, IsPastTheLast};
 
 use crate::picture::points_of;
 use crate::{MOST_COLUMNS, Picture, Window};
@@ -57,7 +57,8 @@ fn is_past(calls: &[CallRecord], points: &[Point], from: u32) -> bool
 /// Whether a moment, counted from 1, comes after the last one at which a call of the picture begins, stands or ends, so that a
 /// window from there has no column. Of a picture without calls no moment does.
 pub fn is_past_the_last(picture: &Picture, from: u32) -> bool
-    ensures { result ≡ is_past_the_last (view picture.now) from }
+    ensures test { result ≡ is_past_the_last (view picture.now) from }
+    ensures exactly { IsTrue result ↔ IsPastTheLast (view picture.now) from }
 {
     is_past(picture.history.calls(), points_of(picture), from)
 }
