@@ -153,6 +153,25 @@ fn drawn_history(alloc: Global, rng: &mut Pcg32) -> Result<(History, usize, usiz
     Ok((history, opening, left))
 }
 
+/// Whether each order of the calls of a window's key up to its moment leaves the key as the window has it.
+fn is_forced(alloc: Global, history: &History, window: &Window) -> Result<bool, Fail> {
+    let bit = 1usize << (window.key.0 % 2);
+    let mut before = Vec::new(alloc);
+    for call in history.calls() {
+        if call.call.key() == window.key && call.begun <= window.since {
+            before.push(*call)?;
+        }
+    }
+    let mut opening = 0;
+    for key in history.opening() {
+        if *key == window.key.0 {
+            opening = bit;
+        }
+    }
+    let other = if window.there { 0 } else { bit };
+    Ok(!has_order(&before, opening, other))
+}
+
 /// Whether the calls of a window have no order, whichever keys they leave, or if its key is left as it says.
 fn is_right(alloc: Global, history: &History, window: &Window) -> Result<bool, Fail> {
     let mut alone = Vec::new(alloc);
@@ -178,6 +197,7 @@ fn window_size<R: Abort>(
         return Ok(99);
     };
     assert!(rt; is_right(alloc, history, &window)?);
+    assert!(rt; is_forced(alloc, history, &window)?);
     Ok(window.calls.len())
 }
 

@@ -1,7 +1,13 @@
 -- Some calls of a history, all of one key, are a history by themselves; and the rule on all of their marks judges it.
 use Rattle.std.proofs.Common.{◌≡◌, ℕ, zero, suc, ◌+◌, ◌-◌, ◌<◌, ◌≤◌, List, [], ◌∷◌, ◌++◌, Bool, true, false, refl, sym, ap, ◌∙◌, arith, subst}
 use Rattle.std.proofs.Common.{length, get_or, map, take}
-use Rattle.std.specs.Prelude.{All, Some, is_some, if◌then◌else◌, slice_range, IfOk, IsTrue, Result, Ok, Err}
+use Rattle.std.specs.Prelude.{All, Some, is_some, if◌then◌else◌, slice_range, IfOk, IsTrue, Result, Ok, Err, ◌==◌, ◌&&◌, nat_le}
+use Rattle.std.proofs.lemmas.List.Elements.{All-filter, filter_passes}
+use Rattle.std.proofs.lemmas.List.Kept.{AllPairs-filter}
+use Rattle.std.proofs.lemmas.List.Sums.{length-filter, count_by-le-length}
+use mathlib.Core.Bool.{beq}
+use Rattle.lset_words.specs.declared.history.Placed.{Placed}
+use Rattle.lset_history.specs.Faults.{Explains}
 use Rattle.std.specs.declared.alloc.AllocError.{AllocError}
 use Rattle.std.proofs.Math.Seq.{take-length}
 use Rattle.std.proofs.lemmas.List.{length-map, get_or-map}
@@ -12,16 +18,18 @@ use Rattle.lset_words.specs.declared.history.CallRecord.{CallRecord}
 use Rattle.lset_words.specs.SequentialSet.{has_key}
 use Rattle.lset_words.specs.Words.{key_of}
 use Rattle.lset_words.specs.History.{IsHistory, call_numbered, no_call}
-use Rattle.lset_words.proofs.Numbers.{equal_test}
+use Rattle.lset_words.proofs.Numbers.{equal_test, same_number}
 use Rattle.lset_history.specs.History.{HistoryValue, latest_moment}
 use Rattle.lset_history.proofs.Histories.{Follows, IsCall, calls_of, pairs_of, history_of}
 use Rattle.lset_judge.specs.declared.marks.Mark.{Mark}
-use Rattle.lset_judge.specs.Rule.{opened, leaves}
+use Rattle.lset_judge.specs.Rule.{State, opened, leaves, same}
+use Rattle.lset_judge.proofs.Orders.{rule_refutes}
+use Rattle.lset_judge.proofs.Noting.{quiet_left}
 use Rattle.lset_judge.specs.Events.{rule_explains}
 use Rattle.lset_judge.specs.Marks.{ruled_on, noted_at, AreMarks}
 use Rattle.lset_judge.specs.declared.window.Window.{Window}
 use Rattle.lset_judge.specs.Verdict.{IsUnexplained}
-use Rattle.lset_judge.specs.Window.{AreChosen, calls_numbered, HaveNone, ShowsNone}
+use Rattle.lset_judge.specs.Window.{AreChosen, calls_numbered, HaveNone, ShowsNone, calls_by, IsForced, IsSameWindow}
 use Rattle.lset_judge.proofs.Runs.{IsRunOf, known_at, run_judges}
 
 -- ---- one more
@@ -127,3 +135,62 @@ shows h w items history c (Ok none) f = λ is. record {
       }) keys) c.are
       (f is h.opening.threads h.opening.quota keys (chosen_history h.calls w.calls.items w.key items c h.opening.threads history) left);
 }
+
+-- ---- the calls of a key that begin by a moment
+
+first_true : (a b : Bool) → (a && b) ≡ true → a ≡ true
+first_true true b e = refl
+first_true false b e = e
+
+pub by_history : (threads key moment : ℕ) (calls : List CallRecord) → IsHistory threads calls → IsHistory threads (calls_by key moment calls)
+by_history threads key moment calls history =
+    let p = λ (x : CallRecord). (key_of x.call).0 == key && nat_le x.begun moment in
+    history_of threads (calls_by key moment calls) (All-filter p (IsCall threads) calls (calls_of threads calls history))
+    (AllPairs-filter Follows p calls (pairs_of threads calls history))
+
+pub by_own : (key : Key) (moment : ℕ) (calls : List CallRecord) → All (λ (x : CallRecord). key_of x.call ≡ key) (calls_by key.0 moment calls)
+by_own key moment calls i d low =
+    let p = λ (x : CallRecord). (key_of x.call).0 == key.0 && nat_le x.begun moment in
+    let x : CallRecord = get_or (calls_by key.0 moment calls) i d in
+    let same : (key_of x.call).0 ≡ key.0 = same_number _ _ (first_true _ _ (filter_passes p calls i d low)) in
+    ap (λ n. record { 0 = n }) same
+
+pub by_few : (key moment : ℕ) (calls : List CallRecord) → length (calls_by key moment calls) ≤ length calls
+by_few key moment calls =
+    let p = λ (x : CallRecord). (key_of x.call).0 == key && nat_le x.begun moment in
+    let a = length-filter p calls in let b = count_by-le-length p calls in omega (arith, a, b)
+
+-- EACH ORDER of them leaves the key as the rule does, where no change is pending then
+pub left_forced : (threads : ℕ) (calls : List CallRecord) (history : IsHistory threads calls) (key : Key) (own : All (λ (x : CallRecord). key_of x.call ≡ key) calls)
+    (marks : List Mark) (are : AreMarks calls marks) (opening : Bool) (quota : ℕ) (order : List Placed) (keys : List ℕ) (t : State)
+    → ruled_on (Some (opened opening)) (map (noted_at (latest_moment calls) calls) marks) ≡ Some t → t.puts ≡ [] → t.takes ≡ []
+    → Explains (record { opening = record { threads = threads; quota = quota; keys = if opening then key.0 ∷ [] else [] }; calls = calls }) order keys
+    → has_key key.0 keys ≡ t.there
+left_forced threads calls history key own marks are opening quota order keys t walked puts takes e =
+    let h : HistoryValue = record { opening = record { threads = threads; quota = quota; keys = if opening then key.0 ∷ [] else [] }; calls = calls } in
+    let fits : same (has_key key.0 keys) t.there ≡ true =
+    sym (quiet_left (opened opening) t (map (noted_at (latest_moment calls) calls) marks) (latest_moment calls) (has_key key.0 keys) walked puts takes)
+    ∙ sym (alone_judged threads calls history key own marks are opening quota keys) ∙ rule_refutes h keys order history e key.0 in
+    alike (has_key key.0 keys) t.there fits
+  where
+    alike : (a b : Bool) → same a b ≡ true → a ≡ b
+    alike true b e = sym e
+    alike false true e = e
+    alike false false e = refl
+
+abbrev Forces : HistoryValue → List Placed → List ℕ → Key → ℕ → Bool → Type 0
+Forces h order keys key moment there = Explains (record {
+  opening = record { threads = h.opening.threads; quota = h.opening.quota; keys = if has_key key.0 h.opening.keys then key.0 ∷ [] else [] };
+  calls = calls_by key.0 moment h.calls;
+}) order keys → has_key key.0 keys ≡ there
+
+pub forced_same : (h : HistoryValue) (old new : Window) → IsSameWindow old new → IsForced h old → IsForced h new
+forced_same h old new s f order keys =
+    subst (Forces h order keys new.key new.since) (sym s.there) (subst (λ m. Forces h order keys new.key m old.there) (sym s.since)
+    (subst (λ k. Forces h order keys k old.since old.there) (sym s.key) (f order keys)))
+
+pub same_bool : (a b : Bool) → beq a b ≡ true → a ≡ b
+same_bool true true e = refl
+same_bool true false e = sym e
+same_bool false true e = e
+same_bool false false e = refl

@@ -5,7 +5,7 @@ use Rattle.std.specs.Prelude.{Option, Some, None, is_some, is_none, if◌then◌
 use Rattle.std.proofs.lemmas.Bool.{cases_order}
 use Rattle.lset_words.specs.SequentialSet.{has_key}
 use Rattle.lset_history.specs.History.{HistoryValue, latest_moment}
-use Rattle.lset_judge.specs.Rule.{Event, leaves, idle, State, found, entered, ruled, open_changes, opened}
+use Rattle.lset_judge.specs.Rule.{Event, leaves, idle, State, found, entered, ruled, settled, open_changes, opened, same}
 use Rattle.lset_judge.specs.Events.{events_on, event_at, rule_explains}
 use Rattle.lset_judge.specs.Marks.{Noted, ruled_on}
 use Rattle.lset_judge.proofs.Leading.{at_once}
@@ -156,3 +156,15 @@ module _ (there there' : Bool) (s t : State) (xs xs' : List Noted) (failed : Opt
       kept : (o : Option State) → is_some o ≡ is_some (ruled_on (entered (leaves left') o) [])
       kept None = refl
       kept (Some v) = refl
+
+-- A KEY OF WHICH NO CHANGE IS PENDING is left as it is.
+pub quiet_left : (s t : State) (xs : List Noted) (last : ℕ) (w : Bool) → ruled_on (Some s) xs ≡ Some t → t.puts ≡ [] → t.takes ≡ []
+    → is_some (ruled_on (Some s) (xs ++ (last, leaves w) ∷ [])) ≡ same w t.there
+quiet_left s t xs last w e puts takes =
+    let none : open_changes t ≡ 0 = (let a = ap length puts in let b = ap length takes in omega (arith, a, b)) in
+    ap is_some (on_both (Some s) xs ((last, leaves w) ∷ []) ∙ ap (λ o. ruled_on o ((last, leaves w) ∷ [])) e)
+    ∙ ap (λ n. is_some (ruled_on (entered (leaves w) (settled n last (leaves w) (Some t))) [])) none ∙ chosen (same w t.there)
+  where
+    chosen : (b : Bool) → is_some (ruled_on (entered (leaves w) (if b then Some t else None)) []) ≡ b
+    chosen true = refl
+    chosen false = refl

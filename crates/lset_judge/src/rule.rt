@@ -1,6 +1,6 @@
 //! The rule: which pending change of a key takes effect, and when it has to.
 
-ghost use Rattle.std.specs.Prelude.{◌≡◌, ℕ, suc, ◌+◌, ◌<◌, ◌≤◌, ◌==◌, length, true, false, IfOk, Some, None, slice_index, if◌then◌else◌};
+ghost use Rattle.std.specs.Prelude.{◌≡◌, ◌↔◌, [], IsTrue, ℕ, suc, ◌+◌, ◌<◌, ◌≤◌, ◌==◌, length, true, false, IfOk, Some, None, slice_index, if◌then◌else◌};
 ghost use Rattle.lset_judge.specs.Rule.{not_before, options, turned_if, fits, found, entered, opened};
 ghost use Rattle.lset_judge.specs.Code.{state_of};
 
@@ -57,8 +57,17 @@ impl KeyState {
     }
 
     /// Whether the key is there now.
-    pub(crate) fn is_there(&self) -> bool {
+    pub(crate) fn is_there(&self) -> bool
+        ensures { result ≡ (state_of self.now).there }
+    {
         self.there
+    }
+
+    /// Whether each change that has begun has taken effect.
+    pub(crate) fn is_quiet(&self) -> bool
+        ensures { IsTrue result ↔ (((state_of self.now).puts ≡ []) × ((state_of self.now).takes ≡ [])) }
+    {
+        self.puts.is_empty() && self.takes.is_empty()
     }
 
     fn put(&mut self, before: u64) -> bool

@@ -4,7 +4,7 @@ ghost use Rattle.std.specs.Prelude.{◌≡◌, ◌<◌, ◌^◌, ℕ, All, IfOk,
 ghost use Rattle.std.specs.List.Sorted.{IsStrictlyIncreasing};
 ghost use Rattle.lset_words.specs.Words.{key_of};
 ghost use Rattle.lset_words.specs.History.{IsHistory};
-ghost use Rattle.lset_judge.specs.Window.{AreChosen, HaveNone, ShowsNone};
+ghost use Rattle.lset_judge.specs.Window.{AreChosen, HaveNone, ShowsNone, calls_by, LeaveIt, IsForced, IsSameWindow};
 
 use crate::Refusal;
 use crate::event::{Event, Kind, event_of, kind_of};
@@ -92,6 +92,63 @@ fn shows_none(alloc: Global, history: &History, window: &Window) -> Result<bool,
     let calls = history.calls();
     match chosen(alloc, calls, &window.calls, window.key)? {
         Some(own) => have_none(alloc, &own, window.key, window.there, window.left),
+        None => Ok(false),
+    }
+}
+
+/// The calls of a key that begin by a moment.
+fn calls_by(
+    alloc: Global,
+    calls: &[CallRecord],
+    key: Key,
+    moment: u32,
+) -> Result<Vec<CallRecord>, AllocError>
+    ensures { IfOk result (λ found. found.items ≡ calls_by key.0 moment calls.now) }
+{
+    let mut found = Vec::new(alloc);
+    for call_record in calls {
+        if call_record.call.key().0 == key.0 && call_record.begun <= moment {
+            found.push(*call_record)?;
+        }
+    }
+    Ok(found)
+}
+
+/// Whether the key of these calls is there after them, if each order of them leaves it so.
+fn left_by(
+    alloc: Global,
+    calls: &[CallRecord],
+    key: Key,
+    opening: bool,
+) -> Result<Option<bool>, AllocError>
+    requires history { (threads : ℕ) × IsHistory threads calls.now }
+    requires own { All (λ x. key_of x.call ≡ key) calls.now }
+    requires few { length calls.now < 2 ^ 32 }
+    ensures { IfOk result (λ left. IfSome left (LeaveIt calls.now key.0 opening)) }
+{
+    let marks = marks_of(alloc, calls)?;
+    let latest = latest_moment(calls);
+    let mut state = KeyState::opened(alloc, opening);
+    match walk(&mut state, calls, latest, &marks)? {
+        Some(_) => Ok(None),
+        None => {
+            if state.is_quiet() {
+                Ok(Some(state.is_there()))
+            } else {
+                Ok(None)
+            }
+        }
+    }
+}
+
+/// Whether each order of the calls before a window leaves its key as the window has it.
+fn is_forced(alloc: Global, history: &History, window: &Window) -> Result<bool, AllocError>
+    ensures { IfOk result (λ forced. IsTrue forced → IsForced history.now window.now) }
+{
+    let opening = is_among(history.opening(), window.key.0);
+    let before = calls_by(alloc, history.calls(), window.key, window.since)?;
+    match left_by(alloc, &before, window.key, opening)? {
+        Some(there) => Ok(there == window.there),
         None => Ok(false),
     }
 }
@@ -186,7 +243,8 @@ fn without_looks(
 /// Leaves out calls that change nothing, where the others still have no order.
 fn shorten(alloc: Global, history: &History, window: &mut Window) -> Result<(), AllocError>
     requires { ShowsNone history.now window.old }
-    ensures { OnOk result (ShowsNone history.now window.new) }
+    ensures shows { OnOk result (ShowsNone history.now window.new) }
+    ensures same { OnOk result (IsSameWindow window.old window.new) }
 {
     let mut budget = MOST_TRIED;
     let mut size = window.calls.len();
@@ -222,7 +280,8 @@ pub fn window_of(
     refusal: Refusal,
 ) -> Result<Option<Window>, AllocError>
     requires { IsStrictlyIncreasing keys.now }
-    ensures { IfOk result (λ window. IfSome window (ShowsNone history.now)) }
+    ensures shows { IfOk result (λ window. IfSome window (ShowsNone history.now)) }
+    ensures forced { IfOk result (λ window. IfSome window (IsForced history.now)) }
 {
     let calls = history.calls();
     let key = refusal.key;
@@ -247,7 +306,7 @@ pub fn window_of(
             left,
             calls: numbers_between(alloc, calls, key, since, end)?,
         };
-        if shows_none(alloc, history, &window)? {
+        if shows_none(alloc, history, &window)? && is_forced(alloc, history, &window)? {
             shorten(alloc, history, &mut window)?;
             return Ok(Some(window));
         }

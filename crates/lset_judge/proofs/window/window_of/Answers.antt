@@ -4,7 +4,7 @@ use Rattle.std.specs.declared.alloc.Global.{Global}
 use Rattle.lset_words.specs.declared.history.CallRecord.{CallRecord}
 use Rattle.lset_words.specs.History.{IsHistory}
 use Rattle.lset_judge.specs.Window.{AreChosen}
-use Rattle.lset_judge.proofs.Chosen.{chosen_history, chosen_few}
+use Rattle.lset_judge.proofs.Chosen.{chosen_history, chosen_few, forced_same}
 use Rattle.lset_judge.proofs.window.window_of.Goals as goal
 
 pub marks_of-requires-clause-history : goal.marks_of-requires-clause-history
@@ -26,3 +26,7 @@ marks_of-requires-clause-few c =
     let same = ap length c.deref-2.ensures.value in
     let all = c.calls-calls.ensures.few in let calls = ap length c.calls-calls.ensures.value in
     omega (arith, few, same, all, calls)
+
+pub returns-then-branch-2-clause-forced : goal.returns-then-branch-2-clause-forced
+returns-then-branch-2-clause-forced c =
+    forced_same c.args.history.now _ c.shorten.new.window c.in_ok-shorten.ensures.same (c.in_ok-is_forced.ensures c.if-branch-2.true)
