@@ -1,6 +1,7 @@
 -- What is made of a text whose calls were read.
-use Rattle.std.proofs.Common.{◌≡◌, ℕ, ◌⊎◌, inl, inr, List, Ok, Err, sym, subst, ap, ◌∙◌}
+use Rattle.std.proofs.Common.{◌≡◌, ℕ, ◌⊎◌, inl, inr, List, length, Ok, Err, sym, subst, ap, ◌∙◌}
 use Rattle.std.specs.Prelude.{Result, IfOk, IfErr}
+use Rattle.lset_history.specs.History.{HistoryValue}
 use Rattle.lset_calls.specs.declared.fault.CallsFault.{CallsFault}
 use Rattle.lset_calls.specs.Calls.{CallsValue, AreCalls}
 use Rattle.lset_calls.specs.Texts.{calls_text}
@@ -9,7 +10,7 @@ use Rattle.lset_judge.specs.declared.verdict.Verdict.TheVariants.{Undecided}
 use Rattle.tool_base.specs.declared.answer.Answer.{Answer}
 use Rattle.tool_base.specs.declared.trouble.Trouble.{Trouble}
 use Rattle.tool_base.specs.declared.trouble.Trouble.TheVariants.{Memory}
-use Rattle.tool_base.specs.Tools.{IsTaken, IsInputTrouble, view}
+use Rattle.tool_base.specs.Tools.{AnswerValue, IsTaken, IsInputTrouble, view}
 use Rattle.tool_judge.specs.Judging.{IsJudgedAs, IsAnswerByPoints, IsFaultOfCalls, IsFirstFault, Judges}
 
 -- a trouble with its calls is one with the text
@@ -33,21 +34,23 @@ unfolding calls_in
 read_twice bytes c d e f = ap (calls_in c) (sym e ∙ f)
 
 -- what the points answer, if the judge does not decide
-pub by_points : (bytes : List ℕ) (c d : CallsValue) (calls : ℕ) (left : List ℕ) (r : Result Answer Trouble) → IsTaken bytes
-    → AreCalls c → bytes ≡ calls_text c → reading bytes ≡ Ok c → reading bytes ≡ Ok d → IsJudgedAs c calls left Undecided
-    → IfOk (view r) (IsAnswerByPoints d calls left) → IfErr r (λ t. (t ≡ Memory) ⊎ IsFaultOfCalls d t) → Judges bytes (view r)
-by_points bytes c d calls left (Ok a) taken are text e f judged answer trouble = (
-  taken,
-  c,
-  are,
-  text,
-  (
-    calls,
-    left,
-    Undecided,
-    judged,
-    subst (λ z. IsAnswerByPoints z calls left
-        (record { text = a.text.items; status = a.status })) (sym (read_twice bytes c d e f)) answer,
-  ),
-)
-by_points bytes c d calls left (Err t) taken are text e f judged answer trouble = refused bytes d t taken f trouble
+pub by_points : (bytes : List ℕ) (c d : CallsValue) (h : HistoryValue) (calls : ℕ) (left : List ℕ) (r : Result Answer Trouble)
+    → IsTaken bytes → AreCalls c → bytes ≡ calls_text c → reading bytes ≡ Ok c → reading bytes ≡ Ok d
+    → IsJudgedAs c h left Undecided → calls ≡ length h.calls → IfOk (view r) (IsAnswerByPoints d calls left)
+    → IfErr r (λ t. (t ≡ Memory) ⊎ IsFaultOfCalls d t) → Judges bytes (view r)
+by_points bytes c d h calls left (Ok a) taken are text e f judged count answer trouble =
+    let value : AnswerValue = record { text = a.text.items; status = a.status } in (
+      taken,
+      c,
+      are,
+      text,
+      (
+        h,
+        left,
+        Undecided,
+        judged,
+        subst (λ n. IsAnswerByPoints c n left value) count
+            (subst (λ z. IsAnswerByPoints z calls left value) (sym (read_twice bytes c d e f)) answer),
+      ),
+    )
+by_points bytes c d h calls left (Err t) taken are text e f judged count answer trouble = refused bytes d t taken f trouble

@@ -1,14 +1,18 @@
 -- What `judge` makes of an input.
-use Rattle.std.specs.Prelude.{◌≡◌, ℕ, ◌⊎◌, List, ◌++◌, codes, length, Option, Some, None, Result, Ok, Err, Contains}
+use Rattle.std.specs.Prelude.{◌≡◌, ℕ, ◌⊎◌, List, [], ◌∷◌, ◌++◌, map, codes, length, Bool, true, false, IfSome, Option, Some, None, Result, Ok, Err, Contains}
 use Rattle.std.specs.List.Sorted.{IsStrictlyIncreasing}
 use Rattle.std.specs.Fmt.{decimal}
+use Rattle.lset_words.specs.declared.history.CallRecord.{CallRecord}
+use Rattle.lset_words.specs.History.{call_numbered}
+use Rattle.lset_text.specs.Parts.{text_of}
 use Rattle.lset_history.specs.declared.fault.OrderFault.{OrderFault}
 use Rattle.lset_history.specs.History.{HistoryValue}
 use Rattle.lset_report.specs.Report.{ReportValue}
 use Rattle.lset_calls.specs.declared.fault.CallsFault.{CallsFault}
 use Rattle.lset_calls.specs.declared.fault.ClashFault.{ClashFault}
 use Rattle.lset_calls.specs.Calls.{CallsValue, AreCalls}
-use Rattle.lset_calls.specs.Texts.{calls_text}
+use Rattle.lset_calls.specs.declared.value.TimedCall.{TimedCall}
+use Rattle.lset_calls.specs.Texts.{calls_text, call_line}
 use Rattle.lset_calls.specs.Reading.{reading}
 use Rattle.lset_calls.specs.Clashes.{IsRefusal, PointsAreGiven}
 use Rattle.lset_calls.specs.Histories.{IsHistoryOf}
@@ -16,7 +20,11 @@ use Rattle.lset_calls.specs.Reports.{IsReportOf}
 use Rattle.lset_judge.specs.declared.verdict.Refusal.{Refusal}
 use Rattle.lset_judge.specs.declared.verdict.Verdict.{Verdict}
 use Rattle.lset_judge.specs.declared.verdict.Verdict.TheVariants.{Linearizable, NotLinearizable, Undecided}
+use Rattle.lset_judge.specs.declared.window.Window.{Window}
 use Rattle.lset_judge.specs.Verdict.{IsVerdict}
+use Rattle.lset_judge.specs.Window.{ShowsNone}
+use Rattle.tool_judge.specs.declared.judging.Decision.{Decision}
+use Rattle.tool_judge.specs.declared.judging.Decision.TheVariants.{Answered, ByPoints}
 use Rattle.tool_base.specs.declared.trouble.Trouble.{Trouble}
 use Rattle.tool_base.specs.Trouble.{of_calls, of_clash}
 use Rattle.tool_base.specs.Tools.{AnswerValue, Made, IsTaken, IsInputTrouble}
@@ -47,6 +55,30 @@ extent None = codes " and leaves it as it was left\n"
 abbrev pub reason_text : Refusal → List ℕ
 reason_text r = calls_of_key r.key.0 ++ extent r.moment
 
+-- a call of the window, as a recording without points has it
+abbrev pub without_point : CallRecord → TimedCall
+without_point x = record { thread = x.thread; call = x.call; begun = x.begun; point = None; ended = x.ended }
+
+abbrev pub state_words : Bool → List ℕ
+state_words true = codes " is there at moment "
+state_words false = codes " is not there at moment "
+
+abbrev pub state_line : Window → List ℕ
+state_line w = codes "key " ++ decimal w.key.0 ++ state_words w.there ++ decimal w.since
+
+abbrev pub alone_line : List ℕ
+alone_line = codes "these calls alone have no order:"
+
+abbrev pub shown_call : List CallRecord → ℕ → List ℕ
+shown_call calls number = call_line (without_point (call_numbered calls number))
+
+abbrev pub window_lines : List CallRecord → Window → List (List ℕ)
+window_lines calls w = state_line w ∷ alone_line ∷ map (shown_call calls) w.calls.items
+
+abbrev pub window_text : List CallRecord → Option Window → List ℕ
+window_text calls None = []
+window_text calls (Some w) = text_of (window_lines calls w)
+
 -- the answer by the points that were recorded: whether the report's order explains the calls; if not, none that has the changes at
 -- these points does (`lset_points`)
 abbrev pub no_other_order : List ℕ
@@ -67,27 +99,36 @@ abbrev pub IsAnswerByPoints : CallsValue → ℕ → List ℕ → AnswerValue �
 IsAnswerByPoints c calls left answer =
     (r : ReportValue) × IsReportOf c r × PointsAreGiven c (Ok tt) × IsAnswerOnOrder (record r { keys = left }) calls answer
 
--- what is written of a verdict: the reason goes on with calls that show it
-abbrev pub HasAnswer : CallsValue → ℕ → List ℕ → AnswerValue → Verdict → Type 0
-HasAnswer c calls left answer Linearizable = answer ≡ record { text = ok_text calls; status = 0 }
-HasAnswer c calls left answer (NotLinearizable refusal) =
-    (answer.status ≡ 1) × (shown : List ℕ) × (answer.text ≡ reason_text refusal ++ shown)
-HasAnswer c calls left answer Undecided = IsAnswerByPoints c calls left answer
-
--- ---- what is made of an input
-
 -- THE JUDGE SAYS this of recorded calls, with the keys that were left: their history is judged
-pub record IsJudgedAs (c : CallsValue) (calls : ℕ) (left : List ℕ) (verdict : Verdict) : Type 0 where
-  pub history : HistoryValue
-  pub history_is : IsHistoryOf c history
-  pub calls_is : calls ≡ length history.calls
+pub record IsJudgedAs (c : CallsValue) (h : HistoryValue) (left : List ℕ) (verdict : Verdict) : Type 0 where
+  pub history_is : IsHistoryOf c h
   pub left_is : AreKeysOf c.keys left
-  pub verdict_is : IsVerdict history left verdict
+  pub verdict_is : IsVerdict h left verdict
 
--- the answer on recorded calls
+-- a refusal goes on with a few calls of its key that have no order, if they were found
+abbrev pub IsRefusedAnswer : HistoryValue → Refusal → AnswerValue → Type 0
+IsRefusedAnswer h refusal answer =
+    (window : Option Window) × IfSome window (ShowsNone h)
+    × (answer ≡ record { text = reason_text refusal ++ window_text h.calls window; status = 1 })
+
+-- what is written of a verdict
+abbrev pub HasAnswer : CallsValue → HistoryValue → List ℕ → AnswerValue → Verdict → Type 0
+HasAnswer c h left answer Linearizable = answer ≡ record { text = ok_text (length h.calls); status = 0 }
+HasAnswer c h left answer (NotLinearizable refusal) = IsRefusedAnswer h refusal answer
+HasAnswer c h left answer Undecided = IsAnswerByPoints c (length h.calls) left answer
+
+-- THE ANSWER ON RECORDED CALLS
 abbrev pub IsAnswerOn : CallsValue → AnswerValue → Type 0
 IsAnswerOn c answer =
-    (calls : ℕ) × (left : List ℕ) × (verdict : Verdict) × IsJudgedAs c calls left verdict × HasAnswer c calls left answer verdict
+    (h : HistoryValue) × (left : List ℕ) × (verdict : Verdict) × IsJudgedAs c h left verdict × HasAnswer c h left answer verdict
+
+-- the answer, or the keys left and the number of calls for the points to decide
+abbrev pub IsDecision : CallsValue → Decision → Type 0
+IsDecision c (Answered answer) = IsAnswerOn c (record { text = answer.text.items; status = answer.status })
+IsDecision c (ByPoints left calls) =
+    (h : HistoryValue) × IsJudgedAs c h left.items Undecided × (calls ≡ length h.calls)
+
+-- ---- what is made of an input
 
 -- the first call that cannot stand beside those above it, or, where the points are asked for, the first change that has none
 abbrev pub IsFaultOfCalls : CallsValue → Trouble → Type 0

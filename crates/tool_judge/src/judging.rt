@@ -1,17 +1,21 @@
-ghost use Rattle.std.specs.Prelude.{◌≡◌, ◌≢◌, ◌⊎◌, IfOk, IfErr, IfSome};
+ghost use Rattle.std.specs.Prelude.{◌≡◌, ◌≢◌, ◌⊎◌, Option, IfOk, IfErr, IfSome};
+ghost use Rattle.std.specs.List.Sorted.{IsStrictlyIncreasing};
+ghost use Rattle.lset_judge.specs.Window.{ShowsNone};
+ghost use Rattle.lset_judge.specs.declared.window.Window.{Window};
 ghost use Rattle.lset_calls.specs.Calls.{AreCalls, view};
 ghost use Rattle.lset_calls.specs.Reading.{reading};
 ghost use Rattle.lset_report.specs.Report as reports;
 ghost use Rattle.tool_base.specs.Tools.{Ends, IsTaken};
 ghost use Rattle.tool_base.specs.Tools as tools;
 ghost use Rattle.tool_base.specs.declared.trouble.Trouble.TheVariants.{CannotRead, Memory};
-ghost use Rattle.tool_judge.specs.Judging.{IsAnswerByPoints, IsAnswerOnOrder, IsFaultOfCalls, IsFirstFault, IsJudgedAs, Judges};
+ghost use Rattle.tool_judge.specs.Judging.{IsAnswerByPoints, IsAnswerOnOrder, IsDecision, IsFaultOfCalls, IsFirstFault, IsRefusedAnswer, Judges, window_text};
 
 use crate::keys::keys_of;
 use crate::texts::{ok_text, reason_text, refused_text};
+use crate::windows::window_text;
 use lset_calls::{Calls, Recording, read_calls, recording_of, report_of};
-use lset_history::check_order;
-use lset_judge::{Verdict, judge};
+use lset_history::{History, check_order};
+use lset_judge::{Refusal, Verdict, judge, window_of};
 use lset_report::Report;
 use std::alloc::Global;
 use std::io::{Read, Write};
@@ -50,27 +54,65 @@ fn by_points(alloc: Global, calls: Calls, left: &[u32], count: usize) -> Result<
     answer_by_order(alloc, &report, left, count)
 }
 
-/// What the judge says of a recording: how many calls it has, the keys that were left, and the verdict.
-#[derive(Drop)]
-struct JudgedCalls {
-    calls: usize,
-    left: Vec<u32>,
-    verdict: Verdict,
+/// A few calls that show why no order explains the history, as lines; none if they were not found.
+fn shown(
+    alloc: Global,
+    history: &History,
+    left: &[u32],
+    refusal: Refusal,
+) -> Result<Vec<u8>, Trouble>
+    requires { IsStrictlyIncreasing left.now }
+    ensures shown { IfOk result (λ text. (window : Option Window) × IfSome window (ShowsNone history.now)
+        × (text.items ≡ window_text history.now.calls window)) }
+    ensures memory { IfErr result (λ t. t ≡ Memory) }
+{
+    match window_of(alloc, history, left, refusal)? {
+        Some(window) => Ok(window_text(alloc, history, &window)?),
+        None => Ok(Vec::new(alloc)),
+    }
 }
 
-fn judge_calls(alloc: Global, calls: Calls) -> Result<JudgedCalls, Trouble>
+/// The answer on a history that no order explains.
+fn refused(
+    alloc: Global,
+    history: &History,
+    left: &[u32],
+    refusal: Refusal,
+) -> Result<Answer, Trouble>
+    requires { IsStrictlyIncreasing left.now }
+    ensures answer { IfOk (tools.view result) (λ a. IsRefusedAnswer history.now refusal a) }
+    ensures memory { IfErr result (λ t. t ≡ Memory) }
+{
+    let mut text = reason_text(alloc, refusal)?;
+    text.extend_from_slice(&shown(alloc, history, left, refusal)?)?;
+    Ok(Answer { text, status: 1 })
+}
+
+/// What the judge answers: an answer, or that the points decide, with the keys left and how many calls there are.
+#[derive(Drop)]
+enum Decision {
+    Answered(Answer),
+    ByPoints(Vec<u32>, usize),
+}
+
+fn decide(alloc: Global, calls: Calls) -> Result<Decision, Trouble>
     requires { AreCalls (view calls) }
-    ensures judged { IfOk result (λ j. IsJudgedAs (view calls) j.calls j.left.items j.verdict) }
+    ensures decided { IfOk result (IsDecision (view calls)) }
     ensures trouble { IfErr result (λ t. (t ≡ Memory) ⊎ IsFaultOfCalls (view calls) t) }
 {
     let Recording { history, keys } = recording_of(alloc, calls)?;
     let left = keys_of(keys);
-    let verdict = judge(alloc, &history, &left)?;
-    Ok(JudgedCalls {
-        calls: history.calls().len(),
-        left,
-        verdict,
-    })
+    let count = history.calls().len();
+    match judge(alloc, &history, &left)? {
+        Verdict::Linearizable => Ok(Decision::Answered(Answer {
+            text: ok_text(alloc, count)?,
+            status: 0,
+        })),
+        Verdict::NotLinearizable(refusal) => Ok(Decision::Answered(refused(
+            alloc, &history, &left, refusal,
+        )?)),
+        Verdict::Undecided => Ok(Decision::ByPoints(left, count)),
+    }
 }
 
 /// The answer on the recorded calls whose text the bytes are.
@@ -79,19 +121,12 @@ fn answer_on(alloc: Global, bytes: &[u8]) -> Result<Answer, Trouble>
     ensures judges { Judges bytes.now (tools.view result) }
     ensures trouble { IfErr result (λ t. (t ≡ Memory) ⊎ IsFirstFault (reading bytes.now) t) }
 {
-    let judged = judge_calls(alloc, read_calls(alloc, bytes)?)?;
-    match judged.verdict {
-        Verdict::Linearizable => Ok(Answer {
-            text: ok_text(alloc, judged.calls)?,
-            status: 0,
-        }),
-        Verdict::NotLinearizable(refusal) => Ok(Answer {
-            text: reason_text(alloc, refusal)?,
-            status: 1,
-        }),
-        Verdict::Undecided => {
-            by_points(alloc, read_calls(alloc, bytes)?, &judged.left, judged.calls)
-        },
+    let decided = decide(alloc, read_calls(alloc, bytes)?)?;
+    match decided {
+        Decision::Answered(answer) => Ok(answer),
+        Decision::ByPoints(left, count) => {
+            by_points(alloc, read_calls(alloc, bytes)?, &left, count)
+        }
     }
 }
 

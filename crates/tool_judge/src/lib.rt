@@ -7,5 +7,6 @@
 mod judging;
 mod keys;
 mod texts;
+mod windows;
 
 pub use judging::{judge_bytes, tool_judge};
