@@ -14,8 +14,8 @@ use Rattle.clap.specs.declared.Arg.{Arg}
 use Rattle.clap.specs.declared.Command as clap
 use Rattle.clap.specs.declared.Command.TheViews.{out-Command}
 use Rattle.lset_command.specs.declared.command_line.Command.{Command}
-use Rattle.lset_command.specs.declared.command_line.Command.TheVariants.{Replay, Report, Check, Show, Trace, Draft, Example, Gen}
-use Rattle.lset_command.specs.declared.command_line.Command.TheVariants.{Run, Serve, Faults}
+use Rattle.lset_command.specs.declared.command_line.Command.TheVariants.{Replay, Judge, Report, Check, Show, Trace, Draft, Example}
+use Rattle.lset_command.specs.declared.command_line.Command.TheVariants.{Gen, Run, Serve, Faults}
 use Rattle.lset_command.specs.declared.command_line.Options.{Options}
 use Rattle.lset_command.specs.declared.command_line.Words.{Words}
 
@@ -27,7 +27,7 @@ flag_rule name = record (new_rule name) { long = Some name; action = Some SetTru
 abbrev pub option_rule : Text → Rule
 option_rule name = record (new_rule name) { long = Some name; value_names = 1 }
 
--- `report [FILE]`, `check [FILE]` and `draft [FILE]`
+-- `judge [FILE]`, `report [FILE]`, `check [FILE]` and `draft [FILE]`
 abbrev pub file_app : Text → App
 file_app name = with_rule (new_app name) (new_rule (codes "FILE"))
 
@@ -94,8 +94,9 @@ listset =
     with_subcommand (with_subcommand (with_subcommand (with_subcommand (with_subcommand
     (with_subcommand (with_subcommand
     (with_subcommand (with_subcommand (with_subcommand
-    (with_subcommand (on_top (λ s. record s { no_binary_name = true; has_version = true }) (new_app (codes "listset")))
+    (with_subcommand (with_subcommand (on_top (λ s. record s { no_binary_name = true; has_version = true }) (new_app (codes "listset")))
     replay_app.top)
+    (file_app (codes "judge")).top)
     (file_app (codes "report")).top)
     (file_app (codes "check")).top)
     show_app.top)
@@ -174,7 +175,8 @@ options_in rows = record {
 -- the command of a name; a parse of the program's words finds the names of `listset` alone
 unfoldable pub command_named : Text → Command
 command_named name =
-    if bytes_eq name (codes "report") then Report
+    if bytes_eq name (codes "judge") then Judge
+    else (if bytes_eq name (codes "report") then Report
     else (if bytes_eq name (codes "check") then Check
     else (if bytes_eq name (codes "show") then Show
     else (if bytes_eq name (codes "trace") then Trace
@@ -184,7 +186,7 @@ command_named name =
     else (if bytes_eq name (codes "run") then Run
     else (if bytes_eq name (codes "serve") then Serve
     else (if bytes_eq name (codes "faults") then Faults
-    else Replay)))))))))
+    else Replay))))))))))
 
 -- a command with its values, its flags and its options
 pub record Choice : Type 0 where
@@ -219,6 +221,7 @@ first_value choice = slice_get choice.values 0
 -- the word for what a command reads: its first value, or the sixth of `serve`, if it has one; the other commands read nothing
 abbrev pub file_by : Command → List Text → Option Text
 file_by Replay values = slice_get values 0
+file_by Judge values = slice_get values 0
 file_by Report values = slice_get values 0
 file_by Check values = slice_get values 0
 file_by Show values = slice_get values 0

@@ -25,6 +25,8 @@ const SERVE_FILE: usize = 5;
 pub enum Command {
     /// Replays a schedule. It is the command where no word is given.
     Replay,
+    /// Judges recorded calls.
+    Judge,
     /// Makes a report of calls.
     Report,
     /// Checks the order of a report.
@@ -82,14 +84,15 @@ impl Words {
         Some(self.values.first()?.as_str())
     }
 
-    /// The word for what the command reads, where there is one: the first value of `replay`, `report`, `check`, `show`, `trace`
-    /// and `draft`, which read the standard input without one, and the sixth of `serve`, which reads nothing without one. The
+    /// The word for what the command reads, where there is one: the first value of `replay`, `judge`, `report`, `check`, `show`,
+    /// `trace` and `draft`, which read the standard input without one, and the sixth of `serve`, which reads nothing without one. The
     /// others read nothing.
     pub fn file(&self) -> Option<&str>
         ensures { option_map (λ path. path.now) result ≡ file_of (choice_in self.now) }
     {
         match self.command {
             Command::Replay
+            | Command::Judge
             | Command::Report
             | Command::Check
             | Command::Show
@@ -438,6 +441,19 @@ fn replay_command<'a>(alloc: Global) -> Result<clap::Command<'a>, AllocError>
     and_arg(command, lacks_option(alloc))
 }
 
+fn judge_command<'a>(alloc: Global) -> Result<clap::Command<'a>, AllocError>
+    ensures app { IfOk result (λ c. app_of c ≡ file_app (codes "judge")) }
+    ensures local { IfOk result (λ c. (out-Command c).has_globals ≡ false) }
+{
+    file_command(
+        alloc,
+        "judge",
+        "Judges recorded calls of a set: whether any order explains their replies and leaves the keys",
+        "The calls; standard input where it is - or left out",
+        "Begins and ends decide; points are asked for with a reply ceiling or full alone. Status 0 for ok, 1 for not linearizable.\n\nExample: listset judge a.calls",
+    )
+}
+
 fn report_command<'a>(alloc: Global) -> Result<clap::Command<'a>, AllocError>
     ensures app { IfOk result (λ c. app_of c ≡ file_app (codes "report")) }
     ensures local { IfOk result (λ c. (out-Command c).has_globals ≡ false) }
@@ -485,6 +501,7 @@ fn program_command<'a>(alloc: Global, faults_help: &'a str) -> Result<clap::Comm
         .no_binary_name(true)
         .bin_name("listset");
     let program = and_subcommand(program, replay_command(alloc));
+    let program = and_subcommand(program, judge_command(alloc));
     let program = and_subcommand(program, report_command(alloc));
     let program = and_subcommand(program, check_command(alloc));
     let program = and_subcommand(program, show_command(alloc));
@@ -600,7 +617,9 @@ fn no_options() -> Options
 fn command_named(name: &str) -> Command
     ensures { result ≡ command_named name.now }
 {
-    if name == "report" {
+    if name == "judge" {
+        Command::Judge
+    } else if name == "report" {
         Command::Report
     } else if name == "check" {
         Command::Check

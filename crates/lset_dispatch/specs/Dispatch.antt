@@ -7,8 +7,8 @@ use Rattle.clap.specs.declared.error.kind.ErrorKind.{ErrorKind}
 use Rattle.clap.specs.declared.error.kind.ErrorKind.TheVariants.{OutOfMemory, DisplayHelp, DisplayVersion}
 use Rattle.lset_command.specs.CommandLine.{Choice, OptionValues, choice_of, file_by, listset, path_of}
 use Rattle.lset_command.specs.declared.command_line.Command.{Command}
-use Rattle.lset_command.specs.declared.command_line.Command.TheVariants.{Replay, Report, Check, Show, Trace, Draft, Example, Gen}
-use Rattle.lset_command.specs.declared.command_line.Command.TheVariants.{Run, Serve, Faults}
+use Rattle.lset_command.specs.declared.command_line.Command.TheVariants.{Replay, Judge, Report, Check, Show, Trace, Draft, Example}
+use Rattle.lset_command.specs.declared.command_line.Command.TheVariants.{Gen, Run, Serve, Faults}
 use Rattle.tool_base.specs.declared.trouble.ValueName.{ValueName}
 use Rattle.tool_base.specs.declared.trouble.Trouble.TheVariants.{CannotRead, Memory, Bad}
 use Rattle.tool_base.specs.Tools.{Made, Ends, AppendsFront}
@@ -17,6 +17,7 @@ use Rattle.tool_base.specs.Reporting.{Reports}
 use Rattle.tool_base.specs.Checking.{Checks}
 use Rattle.tool_base.specs.Generating.{Generates}
 use Rattle.tool_base.specs.Faults.{TellsFaults}
+use Rattle.tool_judge.specs.Judging.{Judges}
 use Rattle.tool_drawing.specs.declared.picture.Window.{Window}
 use Rattle.tool_show.specs.declared.asking.Form.{Form}
 use Rattle.tool_show.specs.Asking.{asked_of}
@@ -68,6 +69,7 @@ ServesBy (Some word) values input old first made = serve.ServesWith (serve.serve
 -- the old to the first: `serve` writes the line that names its port, the others write nothing.
 abbrev pub DoesBy : Command → List Text → OptionValues → Option (List ℕ) → Option (List ℕ) → Option (List ℕ) → Made → Type 0
 DoesBy Replay values options input old first made = (first ≡ old) × ReplaysBy options input made
+DoesBy Judge values options input old first made = (first ≡ old) × IfSome input (λ bytes. Judges bytes made)
 DoesBy Report values options input old first made = (first ≡ old) × IfSome input (λ bytes. Reports bytes made)
 DoesBy Check values options input old first made = (first ≡ old) × IfSome input (λ bytes. Checks bytes made)
 DoesBy Show values options input old first made = (first ≡ old) × ShowsBy options input made

@@ -15,6 +15,7 @@ use tool_base::{Trouble, deliver, tool_check, tool_faults, tool_gen, tool_replay
 use tool_broken::{tool_replay_broken, tool_show_broken, tool_trace_broken};
 use tool_draft::tool_draft;
 use tool_examples::tool_example;
+use tool_judge::tool_judge;
 use tool_run::tool_run;
 use tool_serve::{tool_serve, tool_serve_with};
 use tool_show::{read_asked, tool_show};
@@ -83,8 +84,8 @@ fn trace<R: Read, W: Write, F: Write>(
     }
 }
 
-/// Does the command of the words with its tool, `replay`, `report`, `check`, `show`, `trace` and `draft` on the input, the others on
-/// their values, and `serve` with the keys of the input where the words have one for it. Gives the tool's exit status. `run` and
+/// Does the command of the words with its tool, `replay`, `judge`, `report`, `check`, `show`, `trace` and `draft` on the input, the
+/// others on their values, and `serve` with the keys of the input where the words have one for it. Gives the tool's exit status. `run` and
 /// `serve` start threads on `rt`, and wait for them; `serve` listens there.
 pub fn run_command<
     H: Net<Listener = TcpListener, Stream = TcpStream> + Threads + Wait + Clock + Sync,
@@ -98,6 +99,7 @@ pub fn run_command<
     let options = &words.options;
     match words.command {
         Command::Replay => replay(alloc, options, input, output, faults),
+        Command::Judge => tool_judge(alloc, input, output, faults),
         Command::Report => tool_report(alloc, input, output, faults),
         Command::Check => tool_check(alloc, input, output, faults),
         Command::Show => show(alloc, options, input, output, faults),

@@ -1,8 +1,8 @@
 use Rattle.std.proofs.Common.{◌≡◌, ◌∙◌, Some, None, ap, map, refl}
 use Rattle.std.specs.String.{string_bytes}
 use Rattle.lset_command.specs.CommandLine.{file_by, options_of}
-use Rattle.lset_command.specs.declared.command_line.Command.TheVariants.{Replay, Report, Check, Show, Trace, Draft, Example, Gen}
-use Rattle.lset_command.specs.declared.command_line.Command.TheVariants.{Run, Serve, Faults}
+use Rattle.lset_command.specs.declared.command_line.Command.TheVariants.{Replay, Judge, Report, Check, Show, Trace, Draft, Example}
+use Rattle.lset_command.specs.declared.command_line.Command.TheVariants.{Gen, Run, Serve, Faults}
 use Rattle.tool_examples.specs.Exampling.{Exampled}
 use Rattle.lset_dispatch.proofs.Endings.{at_command, at_once, served, with_argument}
 use Rattle.lset_dispatch.proofs.command.run_command.Goals as goal
@@ -10,6 +10,10 @@ use Rattle.lset_dispatch.proofs.command.run_command.Goals as goal
 pub returns-in-Replay : goal.returns-in-Replay
 returns-in-Replay g c =
     at_command _ _ _ _ _ _ Replay _ _ _ _ c.in-Replay.is refl (at_once _ _ _ _ _ _ c.replay.ensures)
+
+pub returns-in-Judge : goal.returns-in-Judge
+returns-in-Judge g c =
+    at_command _ _ _ _ _ _ Judge _ _ _ _ c.in-Judge.is refl (at_once _ _ _ _ _ _ c.tool_judge.ensures)
 
 pub returns-in-Report : goal.returns-in-Report
 returns-in-Report g c =
