@@ -1,5 +1,6 @@
 // A lazy list, whose nodes are never given back; and by the variable WRONG of the environment one with a bug: `lost-update` takes no
-// lock, `no-validation` does not look again under its locks, `no-mark` looks at links alone, `used-again` uses a node at once again.
+// lock, `no-validation` does not look again under its locks, `no-mark` looks at links alone, `used-again` uses a node at once again,
+// `check-then-act` answers by a look before its locks. It opens with the key of the variable OPENING, where there is one.
 #pragma once
 #include <atomic>
 #include <cstdlib>
@@ -18,7 +19,7 @@ struct Node {
 class LazyList {
     const std::string wrong = getenv("WRONG") ? getenv("WRONG") : "";
     const bool locks = wrong != "lost-update", looks_again = wrong != "no-validation", looks_at_marks = wrong != "no-mark";
-    const bool uses_again = wrong == "used-again";
+    const bool uses_again = wrong == "used-again", acts_on_a_look = wrong == "check-then-act";
     Node tail{1L << 40, nullptr}, head{-1, &tail};
     std::mutex lock_of_free;
     std::vector<Node *> free;
@@ -47,8 +48,7 @@ class LazyList {
         }
     }
 
-public:
-    bool add(long key) {
+    bool put_in(long key) {
         return changed(key, [=](Node *before, Node *at) {
             bool is_absent = at->key != key;
             if (is_absent) before->next = made(key, at);
@@ -56,7 +56,7 @@ public:
         });
     }
 
-    bool remove(long key) {
+    bool take_out(long key) {
         return changed(key, [=](Node *before, Node *at) {
             if (at->key != key) return false;
             at->marked = true;
@@ -67,6 +67,25 @@ public:
             }
             return true;
         });
+    }
+
+public:
+    LazyList() {
+        if (const char *key = getenv("OPENING")) put_in(atol(key));
+    }
+
+    bool add(long key) {
+        if (!acts_on_a_look) return put_in(key);
+        bool was_absent = !contains(key);
+        if (was_absent) put_in(key);
+        return was_absent;
+    }
+
+    bool remove(long key) {
+        if (!acts_on_a_look) return take_out(key);
+        bool was_there = contains(key);
+        if (was_there) take_out(key);
+        return was_there;
     }
 
     bool contains(long key) {

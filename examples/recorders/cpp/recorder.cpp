@@ -4,7 +4,6 @@
 #include <charconv>
 #include <cstdio>
 #include <cstring>
-#include <mutex>
 #include <random>
 #include <thread>
 #include <vector>
@@ -16,23 +15,17 @@ bool remove(unsigned key) { return set.remove(key); }
 bool contains(unsigned key) { return set.contains(key); }
 
 enum Call { ADD, REMOVE, CONTAINS };
-struct Row { unsigned thread; Call call; unsigned key, begin, point, end; bool reply; };
+struct Row { unsigned thread; Call call; unsigned key, begin, end; bool reply; };
 std::atomic<unsigned> tickets{0}, numbers{0}, there{0};
-std::mutex locks[1024];  // of the keys; those that are 1024 apart share one
 
 void run(std::vector<Row> &rows, unsigned threads, unsigned calls, unsigned keys, unsigned seed) {
     std::mt19937 draw(seed);
     for (there++; there < threads;) std::this_thread::yield();  // none begins before all are there
     for (unsigned thread = numbers++, added = 0; rows.size() < calls && thread < 64;) {
         Call call = Call(draw() % 3);
-        unsigned key = draw() % keys, begin = ++tickets, point = 0;
-        std::unique_lock<std::mutex> lock(locks[key % 1024], std::defer_lock);
-        if (call != CONTAINS) lock.lock();
+        unsigned key = draw() % keys, begin = ++tickets;
         bool reply = call == ADD ? add(key) : call == REMOVE ? remove(key) : contains(key);
-        if (call == CONTAINS) lock.lock();
-        else if (reply) point = ++tickets;
-        lock.unlock();
-        rows.push_back({thread, call, key, begin, point, ++tickets, reply});
+        rows.push_back({thread, call, key, begin, ++tickets, reply});
         if (call == ADD && reply && ++added == 16384) thread = numbers++, added = 0;  // its quota is used
     }
 }
@@ -51,16 +44,17 @@ int main(int count, char **words) {
         fputs("recorder: THREADS CALLS KEYS SEED, where THREADS is from 1 to 64, and KEYS not 0\n", stderr);
         return 2;
     }
+    printf("listset-calls 2\nlist lazy\nthreads 64\nquota 16384\n");
+    for (unsigned key = 0; key < keys; key++)
+        if (contains(key)) printf("opening %u\n", key);
     std::vector<std::vector<Row>> rows(threads);
     std::vector<std::thread> started;
     for (unsigned i = 0; i < threads; i++) started.emplace_back(run, std::ref(rows[i]), threads, calls, keys, 64 * seed + i);
     for (auto &thread : started) thread.join();
-    printf("listset-calls 2\nlist lazy\nthreads 64\nquota 16384\n");
     for (auto &of_thread : rows)
         for (auto &it : of_thread) {
-            printf("call %u %s %u %u ", it.thread, it.call == ADD ? "add" : it.call == REMOVE ? "remove" : "contains", it.key, it.begin);
-            it.point ? printf("%u", it.point) : printf("-");
-            printf(" %u %s\n", it.end, it.reply ? "true" : "false");
+            const char *call = it.call == ADD ? "add" : it.call == REMOVE ? "remove" : "contains";
+            printf("call %u %s %u %u - %u %s\n", it.thread, call, it.key, it.begin, it.end, it.reply ? "true" : "false");
         }
     for (unsigned key = 0; key < keys; key++)
         if (contains(key)) printf("key %u\n", key);

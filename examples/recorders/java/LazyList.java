@@ -3,12 +3,14 @@ import java.util.concurrent.locks.ReentrantLock;
 
 /**
  * A lazy list, and by the variable WRONG of the environment one with a bug: lost-update takes no lock, no-validation does not look
- * again under its locks, no-mark looks at links alone, used-again uses a node at once again.
+ * again under its locks, no-mark looks at links alone, used-again uses a node at once again, check-then-act answers by a look before
+ * its locks. It opens with the key of the variable OPENING, where there is one.
  */
 final class LazyList {
     private static final String WRONG = System.getenv().getOrDefault("WRONG", "");
     private static final boolean LOCKS = !WRONG.equals("lost-update"), LOOKS_AGAIN = !WRONG.equals("no-validation");
     private static final boolean LOOKS_AT_MARKS = !WRONG.equals("no-mark"), USES_AGAIN = WRONG.equals("used-again");
+    private static final boolean ACTS_ON_A_LOOK = WRONG.equals("check-then-act");
 
     @SuppressWarnings("serial")
     private static final class Node extends ReentrantLock {
@@ -67,7 +69,7 @@ final class LazyList {
         }
     }
 
-    boolean add(long key) {
+    private boolean putIn(long key) {
         return changed(key, (before, at) -> {
             boolean isAbsent = at.key != key;
             if (isAbsent) {
@@ -77,7 +79,7 @@ final class LazyList {
         });
     }
 
-    boolean remove(long key) {
+    private boolean takeOut(long key) {
         return changed(key, (before, at) -> {
             if (at.key != key) {
                 return false;
@@ -89,6 +91,35 @@ final class LazyList {
             }
             return true;
         });
+    }
+
+    LazyList() {
+        String key = System.getenv("OPENING");
+        if (key != null) {
+            putIn(Long.parseLong(key));
+        }
+    }
+
+    boolean add(long key) {
+        if (!ACTS_ON_A_LOOK) {
+            return putIn(key);
+        }
+        boolean wasAbsent = !contains(key);
+        if (wasAbsent) {
+            putIn(key);
+        }
+        return wasAbsent;
+    }
+
+    boolean remove(long key) {
+        if (!ACTS_ON_A_LOOK) {
+            return takeOut(key);
+        }
+        boolean wasThere = contains(key);
+        if (wasThere) {
+            takeOut(key);
+        }
+        return wasThere;
     }
 
     boolean contains(long key) {

@@ -13,9 +13,8 @@ final class Recorder {
     static boolean contains(int key) { return set.contains(key); }
 
     enum Call { add, remove, contains }
-    record Row(int thread, Call call, int key, int begin, int point, int end, boolean reply) { }
+    record Row(int thread, Call call, int key, int begin, int end, boolean reply) { }
     static final AtomicInteger tickets = new AtomicInteger(), numbers = new AtomicInteger(), there = new AtomicInteger();
-    static final Object[] locks = Stream.generate(Object::new).limit(1024).toArray(); // keys that are 1024 apart share one
 
     static void run(List<Row> rows, int threads, int calls, int keys, SplittableRandom draw) {
         there.incrementAndGet();
@@ -23,15 +22,9 @@ final class Recorder {
         int thread = numbers.getAndIncrement(), added = 0;
         while (rows.size() < calls && thread < 64) {
             Call call = Call.values()[draw.nextInt(3)];
-            int key = draw.nextInt(keys), begin = tickets.incrementAndGet(), point = 0;
-            boolean reply = call == Call.contains && contains(key);
-            synchronized (locks[key % 1024]) {
-                if (call != Call.contains) {
-                    reply = call == Call.add ? add(key) : remove(key);
-                    point = reply ? tickets.incrementAndGet() : 0;
-                }
-            }
-            rows.add(new Row(thread, call, key, begin, point, tickets.incrementAndGet(), reply));
+            int key = draw.nextInt(keys), begin = tickets.incrementAndGet();
+            boolean reply = call == Call.add ? add(key) : call == Call.remove ? remove(key) : contains(key);
+            rows.add(new Row(thread, call, key, begin, tickets.incrementAndGet(), reply));
             if (call == Call.add && reply && ++added == 16384) { // its quota is used
                 thread = numbers.getAndIncrement();
                 added = 0;
@@ -54,14 +47,15 @@ final class Recorder {
             System.err.println("Recorder: THREADS CALLS KEYS SEED, where THREADS is from 1 to 64, and KEYS not 0");
             System.exit(2);
         }
+        StringBuilder text = new StringBuilder("listset-calls 2\nlist lazy\nthreads 64\nquota 16384\n");
+        IntStream.range(0, given[2]).filter(Recorder::contains).forEach(key -> text.append("opening " + key + "\n"));
         List<List<Row>> rows = Stream.generate(() -> (List<Row>) new ArrayList<Row>()).limit(given[0]).toList();
         List<Thread> started = IntStream.range(0, given[0]).mapToObj(i -> new Thread(() ->
             run(rows.get(i), given[0], given[1], given[2], new SplittableRandom(64L * given[3] + i)))).toList();
         started.forEach(Thread::start);
         for (Thread thread : started) thread.join();
-        StringBuilder text = new StringBuilder("listset-calls 2\nlist lazy\nthreads 64\nquota 16384\n");
         rows.stream().flatMap(List::stream).forEach(it -> text.append("call " + it.thread + " " + it.call + " " + it.key + " "
-            + it.begin + " " + (it.point == 0 ? "-" : it.point) + " " + it.end + " " + it.reply + "\n"));
+            + it.begin + " - " + it.end + " " + it.reply + "\n"));
         IntStream.range(0, given[2]).filter(Recorder::contains).forEach(key -> text.append("key " + key + "\n"));
         System.out.print(text.append("end\n"));
     }

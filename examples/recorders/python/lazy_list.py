@@ -1,5 +1,6 @@
 """A lazy list, and by the variable WRONG of the environment one with a bug: `lost-update` takes no lock, `no-validation` does not
-look again under its locks, `no-mark` looks at links alone, `used-again` uses a node at once again."""
+look again under its locks, `no-mark` looks at links alone, `used-again` uses a node at once again, `check-then-act` answers by a look
+before its locks. It opens with the key of the variable OPENING, where there is one."""
 import contextlib
 import os
 import threading
@@ -25,6 +26,8 @@ def tried(lock):
 class LazyList:
     def __init__(self):
         self.head, self.free = Node(-1, Node(float("inf"), None)), []
+        if "OPENING" in os.environ:
+            self.changed(int(os.environ["OPENING"]), self.put_in)
 
     def made(self, key, following):
         if not self.free:
@@ -55,7 +58,7 @@ class LazyList:
                     return change(key, before, at)
 
     def add(self, key):
-        return self.changed(key, self.put_in)
+        return self.looked_first(key, False, self.put_in) if WRONG == "check-then-act" else self.changed(key, self.put_in)
 
     def put_in(self, key, before, at):
         if at.key == key:
@@ -64,7 +67,13 @@ class LazyList:
         return True
 
     def remove(self, key):
-        return self.changed(key, self.take_out)
+        return self.looked_first(key, True, self.take_out) if WRONG == "check-then-act" else self.changed(key, self.take_out)
+
+    def looked_first(self, key, wanted, change):
+        is_wanted = self.contains(key) == wanted
+        if is_wanted:
+            self.changed(key, change)
+        return is_wanted
 
     def take_out(self, key, before, at):
         if at.key != key:

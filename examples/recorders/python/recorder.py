@@ -12,7 +12,6 @@ ADD, REMOVE, CONTAINS = "add", "remove", "contains"
 CALLS = {ADD: SET.add, REMOVE: SET.remove, CONTAINS: SET.contains}
 
 tickets, numbers = itertools.count(1), itertools.count()  # of each, `next` is one step
-locks = [threading.Lock() for _ in range(1024)]  # of the keys; those that are 1024 apart share one
 
 
 def run(rows, there, calls, keys, draw):
@@ -20,16 +19,9 @@ def run(rows, there, calls, keys, draw):
     thread, added = next(numbers), 0
     while len(rows) < calls and thread < 64:
         call, key = draw.choice([*CALLS]), draw.randrange(keys)
-        begin, point, lock = next(tickets), "-", locks[key % 1024]
-        if call == CONTAINS:
-            reply = CALLS[call](key)
-            with lock:
-                pass
-        else:
-            with lock:
-                reply = CALLS[call](key)
-                point = next(tickets) if reply else "-"
-        rows.append((thread, call, key, begin, point, next(tickets), str(reply).lower()))
+        begin = next(tickets)
+        reply = CALLS[call](key)
+        rows.append((thread, call, key, begin, "-", next(tickets), str(reply).lower()))
         added += call == ADD and reply
         if added == 16384:  # its quota is used
             thread, added = next(numbers), 0
@@ -37,6 +29,8 @@ def run(rows, there, calls, keys, draw):
 
 def main(threads, calls, keys, seed):
     sys.setswitchinterval(1e-6)
+    print("listset-calls 2\nlist lazy\nthreads 64\nquota 16384")
+    print("".join(f"opening {key}\n" for key in range(keys) if CALLS[CONTAINS](key)), end="")
     rows, there = [[] for _ in range(threads)], threading.Barrier(threads)
     draws = [random.Random(64 * seed + i) for i in range(threads)]
     started = [threading.Thread(target=run, args=(it, there, calls, keys, draw)) for it, draw in zip(rows, draws)]
@@ -44,7 +38,6 @@ def main(threads, calls, keys, seed):
         thread.start()
     for thread in started:
         thread.join()
-    print("listset-calls 2\nlist lazy\nthreads 64\nquota 16384")
     for row in itertools.chain(*rows):
         print("call", *row)
     print(*(f"key {key}" for key in range(keys) if CALLS[CONTAINS](key)), "end", sep="\n")

@@ -1,5 +1,6 @@
 //! A lazy list, and by the variable WRONG of the environment one with a bug: `lost-update` takes no lock, `no-validation` does not
-//! look again under its locks, `no-mark` looks at links alone, `used-again` uses a node at once again.
+//! look again under its locks, `no-mark` looks at links alone, `used-again` uses a node at once again, `check-then-act` answers by a
+//! look before its locks. It opens with the key of the variable OPENING, where there is one.
 use std::sync::atomic::{AtomicBool, AtomicU64, AtomicUsize, Ordering::SeqCst};
 use std::sync::Mutex;
 
@@ -25,14 +26,40 @@ pub struct LazyList {
 impl LazyList {
     pub fn new(most_adds: u32) -> Self {
         let mut nodes = vec![];
-        nodes.resize_with(most_adds as usize + 2, Node::default);
+        nodes.resize_with(most_adds as usize + 3, Node::default);
         nodes[HEAD].next.store(TAIL, SeqCst);
         nodes[TAIL].key.store(u64::MAX, SeqCst);
         let wrong = std::env::var("WRONG").unwrap_or_default();
-        LazyList { nodes, used: AtomicUsize::new(2), free: Mutex::default(), wrong }
+        let list = LazyList { nodes, used: AtomicUsize::new(2), free: Mutex::default(), wrong };
+        if let Ok(key) = std::env::var("OPENING") {
+            list.put_in(key.parse().expect("OPENING is a key"));
+        }
+        list
     }
 
     pub fn add(&self, key: u32) -> bool {
+        if self.wrong != "check-then-act" {
+            return self.put_in(key);
+        }
+        let was_absent = !self.contains(key);
+        if was_absent {
+            self.put_in(key);
+        }
+        was_absent
+    }
+
+    pub fn remove(&self, key: u32) -> bool {
+        if self.wrong != "check-then-act" {
+            return self.take_out(key);
+        }
+        let was_there = self.contains(key);
+        if was_there {
+            self.take_out(key);
+        }
+        was_there
+    }
+
+    fn put_in(&self, key: u32) -> bool {
         self.changed(key, |before, at| {
             let is_absent = !self.has(at, key);
             if is_absent {
@@ -42,7 +69,7 @@ impl LazyList {
         })
     }
 
-    pub fn remove(&self, key: u32) -> bool {
+    fn take_out(&self, key: u32) -> bool {
         self.changed(key, |before, at| {
             let is_there = self.has(at, key);
             if is_there {

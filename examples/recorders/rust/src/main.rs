@@ -4,7 +4,7 @@ mod draws;
 mod lazy_list;
 
 use std::sync::atomic::{AtomicU32, Ordering::SeqCst};
-use std::sync::{Barrier, Mutex};
+use std::sync::Barrier;
 
 struct Set(lazy_list::LazyList);
 
@@ -15,24 +15,20 @@ impl Set {
     fn contains(&self, key: u32) -> bool { self.0.contains(key) }
 }
 
-struct Row { thread: u32, call: &'static str, key: u32, begin: u32, point: Option<u32>, end: u32, reply: bool }
+struct Row { thread: u32, call: &'static str, key: u32, begin: u32, end: u32, reply: bool }
 static TICKETS: AtomicU32 = AtomicU32::new(1);
 static NUMBERS: AtomicU32 = AtomicU32::new(0);
 
 fn next(of: &AtomicU32) -> u32 { of.fetch_add(1, SeqCst) }
 
-fn run(set: &Set, locks: &[Mutex<()>], calls: u32, keys: u32, mut draws: draws::Draws) -> Vec<Row> {
+fn run(set: &Set, calls: u32, keys: u32, mut draws: draws::Draws) -> Vec<Row> {
     let (mut thread, mut added, mut rows) = (next(&NUMBERS), 0, Vec::new());
     while rows.len() < calls as usize && thread < 64 {
         let (call, key) = (["add", "remove", "contains"][draws.below(3) as usize], draws.below(keys));
-        let (begin, lock) = (next(&TICKETS), &locks[key as usize % 1024]);
-        let looked = call == "contains" && set.contains(key);
-        let held = lock.lock();
-        let changed = match call { "add" => set.add(key), "remove" => set.remove(key), _ => false };
-        let point = changed.then(|| next(&TICKETS));
-        drop(held);
-        rows.push(Row { thread, call, key, begin, point, end: next(&TICKETS), reply: looked || changed });
-        added += u32::from(call == "add" && changed);
+        let begin = next(&TICKETS);
+        let reply = match call { "add" => set.add(key), "remove" => set.remove(key), _ => set.contains(key) };
+        rows.push(Row { thread, call, key, begin, end: next(&TICKETS), reply });
+        added += u32::from(call == "add" && reply);
         if added == 16384 { (thread, added) = (next(&NUMBERS), 0) } // its quota is used
     }
     rows
@@ -48,17 +44,16 @@ fn main() {
         }
     };
     let there = &Barrier::new(threads as usize); // none begins before all are there
-    let locks: &Vec<Mutex<()>> = &(0..1024).map(|_| Mutex::new(())).collect(); // of the keys; those that are 1024 apart share one
     let set = &Set::new(threads * calls);
+    let mut text = String::from("listset-calls 2\nlist lazy\nthreads 64\nquota 16384\n");
+    (0..keys).filter(|&key| set.contains(key)).for_each(|key| text += &format!("opening {key}\n"));
     let draws = (0..threads).map(|i| draws::Draws(64 * u64::from(seed) + u64::from(i)));
     let rows: Vec<Row> = std::thread::scope(|scope| {
-        let started: Vec<_> = draws.map(|it| scope.spawn(move || { there.wait(); run(set, locks, calls, keys, it) })).collect();
+        let started: Vec<_> = draws.map(|it| scope.spawn(move || { there.wait(); run(set, calls, keys, it) })).collect();
         started.into_iter().flat_map(|it| it.join().expect("a thread has ended")).collect()
     });
-    let mut text = String::from("listset-calls 2\nlist lazy\nthreads 64\nquota 16384\n");
-    for Row { thread, call, key, begin, point, end, reply } in rows {
-        let point = point.map_or("-".to_string(), |it| it.to_string());
-        text += &format!("call {thread} {call} {key} {begin} {point} {end} {reply}\n");
+    for Row { thread, call, key, begin, end, reply } in rows {
+        text += &format!("call {thread} {call} {key} {begin} - {end} {reply}\n");
     }
     (0..keys).filter(|&key| set.contains(key)).for_each(|key| text += &format!("key {key}\n"));
     print!("{text}end\n");
