@@ -188,7 +188,7 @@ def help_and_the_version_start_no_build(repository):
     for words, told in asked.items():
         run = wants(repository.listset(*words.split()), output=told_by_transcripts(told), tells=["transcripts"])
         same(run.stderr.count("\n"), 1, "lines of standard error")
-    same(len(commands), 12, "commands")
+    same(len(commands), 13, "commands")
 
 
 @test

@@ -43,7 +43,7 @@ listset: line L: CAUSE, of a report, status 1
   NotEnded  The text ends before the line 'end', or the line has no newline at its end.
 
 listset: line L: CAUSE, of calls, status 1
-  Header    Line 1 is not 'listset-calls 2'. The word report makes a report of calls.
+  Header    Line 1 is not 'listset-calls 2'. The words judge and report read calls, check reads a report.
   Kind      As in a schedule.
   Threads   As in a schedule.
   Quota     As in a schedule; or the line is an add with which those of its thread that changed the set are more than its quota.
@@ -53,7 +53,8 @@ listset: line L: CAUSE, of calls, status 1
   Opening   The opening key is not above the one in the line before.
   History   There is no such thread, the end is not after the beginning, or a line above has one of the moments or a call of
             the thread that overlaps.
-  Point     The point does not lie between beginning and end, or an add or a remove that answered true has none.
+  Point     The point does not lie between beginning and end. Or an add or a remove that answered true has none, for report, and
+            for judge where ceiling or full stand among the calls.
   NotEnded  The text ends before the line 'end', or the line has no newline at its end.
 
 listset: line L: CAUSE, of the keys with which serve opens, status 1
@@ -63,7 +64,13 @@ listset: line L: CAUSE, of the keys with which serve opens, status 1
   Opening   The key is not above the one before.
   NotEnded  The line has no newline at its end.
 
-refused FAULT ID, of the order in a report, status 1
+not linearizable, of judge, status 1
+  no order explains the calls of key K up to moment M
+            The calls that had ended by moment M have replies that fit no order.
+  no order explains the calls of key K and leaves it as it was left
+            Each order leaves the key and there is no line 'key K', or the other way round.
+
+refused FAULT ID, of the order in a report, or of judge by the points of the calls, status 1
   Unknown     No call has this number.
   Twice       The call stands at an earlier place too.
   Missing     The call has ended, and stands at no place.
