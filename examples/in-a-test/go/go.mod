@@ -1,0 +1,3 @@
+module listset.example/judge
+
+go 1.18

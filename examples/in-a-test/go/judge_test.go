@@ -1,0 +1,149 @@
+package judge
+
+import (
+	"errors"
+	"runtime"
+	"strings"
+	"sync"
+	"sync/atomic"
+	"testing"
+)
+
+// MySet is right: a map under a lock.
+type MySet struct {
+	lock sync.Mutex
+	keys map[uint32]bool
+}
+
+func NewMySet() *MySet { return &MySet{keys: map[uint32]bool{}} }
+
+func (it *MySet) Add(key uint32) bool {
+	it.lock.Lock()
+	defer it.lock.Unlock()
+	was := it.keys[key]
+	it.keys[key] = true
+	return !was
+}
+
+func (it *MySet) Remove(key uint32) bool {
+	it.lock.Lock()
+	defer it.lock.Unlock()
+	was := it.keys[key]
+	delete(it.keys, key)
+	return was
+}
+
+func (it *MySet) Contains(key uint32) bool {
+	it.lock.Lock()
+	defer it.lock.Unlock()
+	return it.keys[key]
+}
+
+func TestIsLinearizable(t *testing.T) { Check(t, NewMySet) }
+
+func TestMayOpenWithKeys(t *testing.T) {
+	opens := func() *MySet { return &MySet{keys: map[uint32]bool{1: true, 3: true}} }
+	Check(t, opens, Options{Threads: 4, Calls: 200, Keys: 4, Runs: 3})
+}
+
+func TestGoesOnPastAQuota(t *testing.T) {
+	Check(t, NewMySet, Options{Threads: 1, Calls: 120000, Keys: 1, Runs: 1})
+}
+
+func isRefused[S Set](t *testing.T, make func() S) {
+	var refused *NotLinearizable
+	verdict, err := Judge(make, Usual())
+	if !errors.As(err, &refused) || !strings.HasPrefix(refused.Said, "not linearizable") {
+		t.Fatal("it has to be refused:", verdict, err)
+	}
+	t.Log(refused)
+}
+
+// CheckThenAct has each half under the lock, and not the two together.
+type CheckThenAct struct{ *MySet }
+
+func (it CheckThenAct) Add(key uint32) bool {
+	isNew := !it.Contains(key)
+	runtime.Gosched()
+	return isNew && (it.MySet.Add(key) || true)
+}
+
+func (it CheckThenAct) Remove(key uint32) bool {
+	isThere := it.Contains(key)
+	runtime.Gosched()
+	return isThere && (it.MySet.Remove(key) || true)
+}
+
+func TestCheckThenActIsRefused(t *testing.T) {
+	isRefused(t, func() CheckThenAct { return CheckThenAct{NewMySet()} })
+}
+
+// LostLock is a bit for each key in one word; its Remove has lost the lock.
+type LostLock struct {
+	word uint32
+	lock sync.Mutex
+}
+
+func (it *LostLock) Contains(key uint32) bool { return atomic.LoadUint32(&it.word)>>key&1 == 1 }
+
+func (it *LostLock) Add(key uint32) bool {
+	it.lock.Lock()
+	defer it.lock.Unlock()
+	word := atomic.LoadUint32(&it.word)
+	atomic.StoreUint32(&it.word, word|1<<key)
+	return word>>key&1 == 0
+}
+
+func (it *LostLock) Remove(key uint32) bool {
+	word := atomic.LoadUint32(&it.word)
+	runtime.Gosched()
+	atomic.StoreUint32(&it.word, word&^(1<<key))
+	return word>>key&1 == 1
+}
+
+func TestLostLockIsRefused(t *testing.T) { isRefused(t, func() *LostLock { return &LostLock{} }) }
+
+// DoubleRemove has two removes of one key that both answer true, since neither takes the key away in one step.
+type DoubleRemove struct{ isThere [4]uint32 }
+
+func (it *DoubleRemove) Contains(key uint32) bool { return atomic.LoadUint32(&it.isThere[key]) == 1 }
+
+func (it *DoubleRemove) Add(key uint32) bool { return atomic.SwapUint32(&it.isThere[key], 1) == 0 }
+
+func (it *DoubleRemove) Remove(key uint32) bool {
+	if !it.Contains(key) {
+		return false
+	}
+	runtime.Gosched()
+	atomic.StoreUint32(&it.isThere[key], 0)
+	return true
+}
+
+func TestDoubleRemoveIsRefused(t *testing.T) {
+	isRefused(t, func() *DoubleRemove { return &DoubleRemove{} })
+}
+
+// FailsToAdd panics.
+type FailsToAdd struct{ *MySet }
+
+func (FailsToAdd) Add(uint32) bool { panic("no memory") }
+
+func TestWhatGivesNoVerdictIsOneSentence(t *testing.T) {
+	says := func(words string, err error) {
+		if err == nil || err.Error() != words {
+			t.Errorf("%v, not %s", err, words)
+		}
+	}
+	of := func(how Options) error { _, err := Judge(NewMySet, how); return err }
+	few := Options{Threads: 2, Calls: 9, Keys: 4, Runs: 1}
+	says("Threads is 65, and has to be 1 to 64", of(Options{65, 9, 4, 20, 1, 1}))
+	says("Calls is 0, and has to be 1 to 1000000", of(Options{2, 0, 4, 20, 1, 1}))
+	says("Threads times Calls is 1000002, and has to be 1 to 1000000", of(Options{2, 500001, 4, 20, 1, 1}))
+	says("Keys is 0, and has to be 1 to 1048576", of(Options{2, 9, 0, 20, 1, 1}))
+	says("Pauses is 101, and has to be 0 to 100", of(Options{2, 9, 4, 101, 1, 1}))
+	says("Runs is 0, and has to be 1 to 1000000", of(Options{2, 9, 4, 20, 0, 1}))
+	_, err := Judge(func() *MySet { panic("no room") }, few)
+	says("the set could not be made: no room", err)
+	_, err = Judge(func() FailsToAdd { return FailsToAdd{NewMySet()} }, few)
+	says("a call of the set failed: no memory", err)
+}

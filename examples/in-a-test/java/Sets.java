@@ -1,0 +1,82 @@
+import java.util.AbstractSet;
+import java.util.Iterator;
+import java.util.Map;
+import java.util.Set;
+import java.util.concurrent.ConcurrentHashMap;
+import java.util.concurrent.ConcurrentSkipListSet;
+import java.util.concurrent.atomic.AtomicInteger;
+import java.util.concurrent.atomic.AtomicIntegerArray;
+
+/** A right set, and wrong ones that have to be refused. The tests of this folder are over them. */
+final class Sets {
+    private Sets() { }
+
+    static final class OpensWithKeys extends ConcurrentSkipListSet<Integer> {
+        OpensWithKeys() { super(Set.of(1, 3)); }
+    }
+
+    /** Each call of the map is one step, and two in turn are not. */
+    static final class CheckThenAct extends AbstractSet<Integer> {
+        private final Map<Integer, Boolean> map = new ConcurrentHashMap<>();
+
+        @Override public boolean add(Integer key) {
+            boolean isNew = !contains(key);
+            Thread.yield();
+            if (isNew) map.put(key, true);
+            return isNew;
+        }
+
+        @Override public boolean remove(Object key) {
+            boolean isThere = contains(key);
+            Thread.yield();
+            if (isThere) map.remove(key);
+            return isThere;
+        }
+
+        @Override public boolean contains(Object key) { return map.containsKey(key); }
+
+        @Override public Iterator<Integer> iterator() { return map.keySet().iterator(); }
+
+        @Override public int size() { return map.size(); }
+    }
+
+    /** A bit for each key in one word, whose remove has lost the lock. */
+    static final class LostLock {
+        private final AtomicInteger word = new AtomicInteger();
+
+        boolean contains(int key) { return (word.get() >> key & 1) == 1; }
+
+        synchronized boolean add(int key) {
+            int seen = word.get();
+            word.set(seen | 1 << key);
+            return (seen >> key & 1) == 0;
+        }
+
+        boolean remove(int key) {
+            int seen = word.get();
+            Thread.yield();
+            word.set(seen & ~(1 << key));
+            return (seen >> key & 1) == 1;
+        }
+    }
+
+    /** Two removes of one key both answer true, since neither takes the key away in one step. */
+    static final class DoubleRemove {
+        private final AtomicIntegerArray isThere = new AtomicIntegerArray(4);
+
+        boolean contains(int key) { return isThere.get(key) == 1; }
+
+        boolean add(int key) { return isThere.getAndSet(key, 1) == 0; }
+
+        boolean remove(int key) {
+            if (!contains(key)) return false;
+            Thread.yield();
+            isThere.set(key, 0);
+            return true;
+        }
+    }
+
+    static final class FailsToAdd extends ConcurrentSkipListSet<Integer> {
+        @Override public boolean add(Integer key) { throw new IllegalStateException("no memory"); }
+    }
+}

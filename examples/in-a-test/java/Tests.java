@@ -1,0 +1,61 @@
+import java.util.Set;
+import java.util.concurrent.ConcurrentHashMap;
+import java.util.concurrent.ConcurrentSkipListSet;
+import java.util.function.Supplier;
+
+/** The tests as a program of their own: {@code javac Judge.java Sets.java Tests.java && java Tests} */
+final class Tests {
+    private static final Judge.Options ALL = new Judge.Options(), FEW = ALL.ofSize(2, 9, 4).ofRuns(1, 1);
+    private static boolean hasFailed;
+
+    private static void isRefused(String name, Supplier<Judge.Verdict> judged) {
+        try {
+            fail(name + ": " + judged.get());
+        } catch (Judge.NotLinearizable refused) {
+            System.out.println(name + ": " + refused.getMessage());
+            if (!refused.said.startsWith("not linearizable") || !refused.recording.startsWith("listset-calls 2")) fail(name);
+        }
+    }
+
+    private static void says(String words, Supplier<? extends Set<Integer>> make, Judge.Options how) {
+        try {
+            fail(words + ": " + Judge.judge(make, how));
+        } catch (Judge.NoVerdict why) {
+            if (!why.getMessage().equals(words)) fail(words + ": " + why.getMessage());
+        }
+    }
+
+    private static void fail(String why) {
+        hasFailed = true;
+        System.out.println("FAILED: " + why);
+    }
+
+    private static Set<Integer> notMade() { throw new IllegalStateException("no room"); }
+
+    private static void all() {
+        System.out.println("ConcurrentSkipListSet: " + Judge.judge(ConcurrentSkipListSet::new));
+        System.out.println("ConcurrentHashMap: " + Judge.judge(ConcurrentHashMap::newKeySet));
+        System.out.println("OpensWithKeys: " + Judge.judge(Sets.OpensWithKeys::new, ALL.ofRuns(3, 1)));
+        System.out.println("past a quota: " + Judge.judge(ConcurrentSkipListSet::new, ALL.ofSize(1, 120_000, 1).ofRuns(1, 1)));
+        isRefused("CheckThenAct", () -> Judge.judge(Sets.CheckThenAct::new));
+        isRefused("LostLock", () -> Judge.judge(Sets.LostLock::new, Sets.LostLock::add, Sets.LostLock::remove, Sets.LostLock::contains, ALL));
+        isRefused("DoubleRemove", () ->
+            Judge.judge(Sets.DoubleRemove::new, Sets.DoubleRemove::add, Sets.DoubleRemove::remove, Sets.DoubleRemove::contains, ALL));
+        says("threads is 65, and has to be 1 to 64", ConcurrentSkipListSet::new, FEW.ofSize(65, 9, 4));
+        says("threads times calls is 0, and has to be 1 to 1000000", ConcurrentSkipListSet::new, FEW.ofSize(2, 0, 4));
+        says("keys is 0, and has to be 1 to 1048576", ConcurrentSkipListSet::new, FEW.ofSize(2, 9, 0));
+        says("pauses is 101, and has to be 0 to 100", ConcurrentSkipListSet::new, new Judge.Options(2, 9, 4, 101, 1, 1));
+        says("runs is 0, and has to be 1 to 1000000", ConcurrentSkipListSet::new, FEW.ofRuns(0, 1));
+        says("the set could not be made: java.lang.IllegalStateException: no room", Tests::notMade, FEW);
+        says("a call of the set failed: java.lang.IllegalStateException: no memory", Sets.FailsToAdd::new, FEW);
+    }
+
+    public static void main(String[] words) {
+        try {
+            all();
+        } catch (RuntimeException | AssertionError why) {
+            fail(why.getMessage());
+        }
+        System.exit(hasFailed ? 1 : 0);
+    }
+}

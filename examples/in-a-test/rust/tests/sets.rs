@@ -1,0 +1,145 @@
+//! A right set, and three wrong ones that have to be refused.
+use listset_judge::{judge, Failure, Options};
+use std::collections::BTreeSet;
+use std::sync::atomic::{AtomicBool, AtomicU64, Ordering::SeqCst};
+use std::sync::{Mutex, RwLock};
+use std::thread::yield_now;
+
+#[derive(Default)]
+struct MySet(Mutex<BTreeSet<u32>>);
+
+impl MySet {
+    fn new() -> Self { Self::default() }
+    fn add(&self, key: u32) -> bool { self.0.lock().unwrap().insert(key) }
+    fn remove(&self, key: u32) -> bool { self.0.lock().unwrap().remove(&key) }
+    fn contains(&self, key: u32) -> bool { self.0.lock().unwrap().contains(&key) }
+}
+
+#[test]
+fn my_set_is_linearizable() {
+    println!("{}", judge!(MySet).unwrap());
+}
+
+#[test]
+fn a_set_is_linearizable_by_closures_and_may_open_with_keys() {
+    let make = || RwLock::new(BTreeSet::from([1, 3]));
+    let options = Options { threads: 4, calls: 200, runs: 3, ..Options::default() };
+    listset_judge::judge(
+        make,
+        |set, key| set.write().unwrap().insert(key),
+        |set, key| set.write().unwrap().remove(&key),
+        |set, key| set.read().unwrap().contains(&key),
+        options,
+    )
+    .unwrap();
+}
+
+#[test]
+fn a_thread_goes_on_past_its_quota() {
+    let options = Options { threads: 1, calls: 120_000, keys: 1, pauses: 0, runs: 1, ..Options::default() };
+    let verdict = judge!(MySet, options).unwrap();
+    assert!(verdict.to_string().contains("that is few"));
+}
+
+fn is_refused(judged: Result<listset_judge::Verdict, Failure>) {
+    match judged {
+        Err(refused @ Failure::NotLinearizable { .. }) => println!("{refused}"),
+        other => panic!("it has to be refused: {other:?}"),
+    }
+}
+
+/// Each half is under the lock, and not the two together.
+struct CheckThenAct(MySet);
+
+impl CheckThenAct {
+    fn new() -> Self { Self(MySet::new()) }
+    fn contains(&self, key: u32) -> bool { self.0.contains(key) }
+    fn add(&self, key: u32) -> bool {
+        let is_new = !self.contains(key);
+        yield_now();
+        if is_new { self.0.add(key); }
+        is_new
+    }
+    fn remove(&self, key: u32) -> bool {
+        let is_there = self.contains(key);
+        yield_now();
+        if is_there { self.0.remove(key); }
+        is_there
+    }
+}
+
+#[test]
+fn check_then_act_is_refused() {
+    is_refused(judge!(CheckThenAct));
+}
+
+/// A bit for each key in one word, whose `remove` has lost the lock.
+#[derive(Default)]
+struct LostLock { word: AtomicU64, lock: Mutex<()> }
+
+impl LostLock {
+    fn new() -> Self { Self::default() }
+    fn contains(&self, key: u32) -> bool { self.word.load(SeqCst) >> key & 1 == 1 }
+    fn add(&self, key: u32) -> bool {
+        let _held = self.lock.lock().unwrap();
+        let word = self.word.load(SeqCst);
+        self.word.store(word | 1 << key, SeqCst);
+        word >> key & 1 == 0
+    }
+    fn remove(&self, key: u32) -> bool {
+        let word = self.word.load(SeqCst);
+        yield_now();
+        self.word.store(word & !(1 << key), SeqCst);
+        word >> key & 1 == 1
+    }
+}
+
+#[test]
+fn a_lost_lock_is_refused() {
+    is_refused(judge!(LostLock));
+}
+
+/// Two removes of one key both answer `true`, since neither takes the key away in one step.
+#[derive(Default)]
+struct DoubleRemove([AtomicBool; 4]);
+
+impl DoubleRemove {
+    fn new() -> Self { Self::default() }
+    fn contains(&self, key: u32) -> bool { self.0[key as usize].load(SeqCst) }
+    fn add(&self, key: u32) -> bool { !self.0[key as usize].swap(true, SeqCst) }
+    fn remove(&self, key: u32) -> bool {
+        let is_there = self.contains(key);
+        yield_now();
+        if is_there { self.0[key as usize].store(false, SeqCst); }
+        is_there
+    }
+}
+
+#[test]
+fn a_double_remove_is_refused() {
+    is_refused(judge!(DoubleRemove));
+}
+
+/// It cannot be made, or its `add` fails.
+struct Fails;
+
+impl Fails {
+    fn new() -> Self { panic!("no room") }
+    fn add(&self, _: u32) -> bool { panic!("no memory") }
+    fn remove(&self, _: u32) -> bool { false }
+    fn contains(&self, _: u32) -> bool { false }
+}
+
+#[test]
+fn what_gives_no_verdict_is_one_sentence() {
+    let said = |judged: Result<listset_judge::Verdict, Failure>| judged.unwrap_err().to_string();
+    let few = || Options { threads: 2, calls: 9, runs: 1, ..Options::default() };
+    assert_eq!(said(judge!(MySet, Options { threads: 65, ..few() })), "threads is 65, and has to be 1 to 64");
+    assert_eq!(said(judge!(MySet, Options { calls: 0, ..few() })), "threads times calls is 0, and has to be 1 to 1000000");
+    assert_eq!(said(judge!(MySet, Options { keys: 0, ..few() })), "keys is 0, and has to be 1 to 1048576");
+    assert_eq!(said(judge!(MySet, Options { pauses: 101, ..few() })), "pauses is 101, and has to be 0 to 100");
+    assert_eq!(said(judge!(MySet, Options { runs: 0, ..few() })), "runs is 0, and has to be 1 to 1000000");
+    assert_eq!(said(judge!(Fails, few())), "the set could not be made: no room");
+    let failing = listset_judge::judge(|| Fails, Fails::add, Fails::remove, Fails::contains, few());
+    assert_eq!(said(failing), "a call of the set failed: no memory");
+}

@@ -1,0 +1,121 @@
+"""The judge in a test of one's own: the forms of examples/in-a-test, by their own tests, in each language that is installed.
+
+A right set has to be `ok` there, and three wrong ones refused. If there is no judge, or one that answers something else, these tests
+have to fail with a sentence that says so. Every wait is bounded.
+"""
+
+import importlib.util
+import os
+import pathlib
+import shutil
+import subprocess
+import sys
+import unittest
+
+from harness.cases import NEEDS, TOP, Wrong, each
+
+FORMS = TOP / "examples" / "in-a-test"
+SECONDS = 300  # for each compiler, and for each run of tests
+JUNIT = pathlib.Path("/usr/share/java/junit-platform-console-standalone.jar")
+# What is no judge, and what a form has to say then: `{}` is its path.
+NO_VERDICT = "{} gave no verdict, but said: %s. Take a listset that has the word judge"
+NO_JUDGES = {
+    "missing": ("", "LISTSET names {}, which cannot be run: build listset, and name it there"),
+    "old": ("#!/bin/sh\necho 'error: unrecognized subcommand' >&2\nexit 2\n", NO_VERDICT % "error: unrecognized subcommand"),
+    "silent": ("#!/bin/sh\nexit 0\n", NO_VERDICT % "nothing"),
+    "ok that fails": ("#!/bin/sh\necho ok 9 calls\nexit 1\n", NO_VERDICT % "ok 9 calls"),
+    "refusal that passes": ("#!/bin/sh\necho not linearizable\n", NO_VERDICT % "not linearizable"),
+}
+
+
+def ran(where, words, judge=None):
+    """The status of a command, with this judge or with none, and what it said."""
+    environment = {name: it for name, it in os.environ.items() if name not in ("LISTSET", "RUST_BACKTRACE")}
+    environment |= {"LISTSET": str(judge)} if judge else {}
+    how = {"stdin": subprocess.DEVNULL, "stdout": subprocess.PIPE, "stderr": subprocess.STDOUT, "text": True, "timeout": SECONDS}
+    done = subprocess.run([*map(str, words)], cwd=where, env=environment, **how)
+    return done.returncode, done.stdout
+
+
+def built(where, *words):
+    status, said = ran(where, words)
+    if status:
+        raise Wrong(f"{words[0]} ended with status {status}\n{said[-3000:]}")
+
+
+# ---- of each language what builds its tests; it gives where they are run, and by which words
+
+
+def rust(room):
+    words = ["cargo", "test", "--offline", "--locked", "--target-dir", room / "target", "--manifest-path", FORMS / "rust" / "Cargo.toml"]
+    built(room, *words, "--no-run")
+    return room, words
+
+
+def cpp(room):
+    built(FORMS / "cpp", "g++", "-O1", "-Wall", "-Wextra", "-Werror", "-std=c++17", "-pthread", "tests.cpp", "-o", room / "tests")
+    return room, [room / "tests"]
+
+
+def googletest(room):
+    built(FORMS / "cpp", "g++", "-std=c++17", "-pthread", "googletest.cpp", "-lgtest", "-lgtest_main", "-o", room / "tests")
+    return room, [room / "tests"]
+
+
+def python(_):
+    return FORMS / "python", [sys.executable, "-B", "-m", "unittest", "test_sets"]
+
+
+def pytest(_):
+    return FORMS / "python", [sys.executable, "-B", "-m", "pytest", "-q", "-p", "no:cacheprovider", "test_sets.py"]
+
+
+def java(room):
+    built(FORMS / "java", "javac", "-Xlint:all,-serial", "-Werror", "-d", room, "Judge.java", "Sets.java", "Tests.java")
+    return room, ["java", "-cp", room, "Tests"]
+
+
+def junit(room):
+    built(FORMS / "java", "javac", "-cp", JUNIT, "-d", room, "Judge.java", "Sets.java", "SetsTest.java")
+    return room, ["java", "-jar", JUNIT, "-cp", room, "--scan-classpath", "--disable-banner"]
+
+
+def go(room):
+    shutil.copytree(FORMS / "go", room / "go")
+    built(room / "go", "env", "GOPROXY=off", f"GOCACHE={room / 'cache'}", "go", "test", "-c", "-o", room / "tests")
+    return room, [room / "tests"]
+
+
+LANGUAGES = {"Rust": rust, "C++": cpp, "GoogleTest": googletest, "Python": python, "pytest": pytest, "Java": java, "JUnit": junit, "Go": go}
+TOOLS = {"Rust": ["cargo"], "C++": ["g++"], "GoogleTest": ["g++"], "Java": ["javac", "java"], "JUnit": ["javac", "java"], "Go": ["go"]}
+LIBRARIES = {
+    "GoogleTest": ("Debian's package libgtest-dev", pathlib.Path("/usr/include/gtest/gtest.h").exists),
+    "pytest": ("Debian's package python3-pytest", lambda: importlib.util.find_spec("pytest")),
+    "JUnit": ("Debian's package junit5", JUNIT.exists),
+}
+
+
+def look_for(language):
+    """Skips the case of a language that is not installed."""
+    if missing := [it for it in TOOLS.get(language, []) if not shutil.which(it)]:
+        raise unittest.SkipTest(f"{missing[0]} is not installed: {NEEDS[missing[0]]}")
+    package, is_there = LIBRARIES.get(language, ("", lambda: True))
+    if not is_there():
+        raise unittest.SkipTest(f"{language} is not installed: {package}")
+
+
+@each(LANGUAGES)
+def a_form_judges(case, language):
+    look_for(language)
+    where, words = LANGUAGES[language](case.room)
+    status, said = ran(where, words, case.program)
+    if status:
+        raise Wrong(f"the tests ended with status {status}\n{said[-3000:]}")
+    for name, (script, due) in list(NO_JUDGES.items())[: 1 if language in LIBRARIES else None]:
+        judge = case.room / f"judge {name}"
+        if script:
+            judge.write_text(script)
+            judge.chmod(0o755)
+        status, said = ran(where, words, judge)
+        if status == 0 or due.format(judge) not in said:
+            raise Wrong(f"with a judge that is {name}: status {status}\n{said[-3000:]}")
