@@ -43,6 +43,14 @@ def built(where, *words):
         raise Wrong(f"{words[0]} ended with status {status}\n{said[-3000:]}")
 
 
+def made(path, script):
+    """The path of a script that can be run; if it is empty, of none."""
+    if script:
+        path.write_text(script)
+        path.chmod(0o755)
+    return path
+
+
 # ---- of each language what builds its tests; it gives where they are run, and by which words
 
 
@@ -108,14 +116,11 @@ def look_for(language):
 def a_form_judges(case, language):
     look_for(language)
     where, words = LANGUAGES[language](case.room)
-    status, said = ran(where, words, case.program)
+    status, said = ran(where, words, made(case.room / "judge", f"#!/bin/sh\necho progress >&2\nexec '{case.program}' \"$@\"\n"))
     if status:
         raise Wrong(f"the tests ended with status {status}\n{said[-3000:]}")
     for name, (script, due) in list(NO_JUDGES.items())[: 1 if language in LIBRARIES else None]:
-        judge = case.room / f"judge {name}"
-        if script:
-            judge.write_text(script)
-            judge.chmod(0o755)
+        judge = made(case.room / f"judge {name}", script)
         status, said = ran(where, words, judge)
         if status == 0 or due.format(judge) not in said:
             raise Wrong(f"with a judge that is {name}: status {status}\n{said[-3000:]}")

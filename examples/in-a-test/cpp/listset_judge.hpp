@@ -189,27 +189,35 @@ template <class F> auto tried(const char *words, F call) {
 
 // ---- the judge
 
-// The status of `PROGRAM judge -` and what it said, or -1 if it cannot be run. Its input and output are files without a name.
+inline std::string all_of(FILE *from) {
+    std::string text;
+    char some[4096];
+    rewind(from);
+    for (size_t got; (got = fread(some, 1, sizeof some, from)) > 0;) text.append(some, got);
+    while (!text.empty() && text.back() == '\n') text.pop_back();
+    return text;
+}
+
+// The status of `PROGRAM judge -` and what it said, or -1 if it cannot be run. Its input and outputs are files without a name.
 inline int answer(const std::string &program, const std::string &recording, std::string &said) {
     struct closing { void operator()(FILE *it) const { fclose(it); } };
-    std::unique_ptr<FILE, closing> in(tmpfile()), out(tmpfile());
-    if (!in || !out || fwrite(recording.data(), 1, recording.size(), in.get()) != recording.size()) throw no_verdict("there is no room for temporary files");
+    std::unique_ptr<FILE, closing> in(tmpfile()), out(tmpfile()), errors(tmpfile());
+    if (!in || !out || !errors || fwrite(recording.data(), 1, recording.size(), in.get()) != recording.size())
+        throw no_verdict("there is no room for temporary files");
     rewind(in.get());
     posix_spawn_file_actions_t actions;
     posix_spawn_file_actions_init(&actions);
     posix_spawn_file_actions_adddup2(&actions, fileno(in.get()), 0);
     posix_spawn_file_actions_adddup2(&actions, fileno(out.get()), 1);
-    posix_spawn_file_actions_adddup2(&actions, fileno(out.get()), 2);
+    posix_spawn_file_actions_adddup2(&actions, fileno(errors.get()), 2);
     std::string words[] = {program, "judge", "-"};
     char *const argv[] = {words[0].data(), words[1].data(), words[2].data(), nullptr};
     pid_t child;
     int status, failed = posix_spawnp(&child, argv[0], &actions, nullptr, argv, environ);
     posix_spawn_file_actions_destroy(&actions);
     if (failed || waitpid(child, &status, 0) != child) return -1;
-    rewind(out.get());
-    char some[4096];
-    for (size_t got; (got = fread(some, 1, sizeof some, out.get())) > 0;) said.append(some, got);
-    while (!said.empty() && said.back() == '\n') said.pop_back();
+    said = all_of(out.get());
+    if (said.empty()) said = all_of(errors.get());
     return WIFEXITED(status) ? WEXITSTATUS(status) : 128;
 }
 

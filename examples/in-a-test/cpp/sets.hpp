@@ -24,6 +24,23 @@ struct Standard {
     size_t count(unsigned key) { std::lock_guard held(lock); return keys.count(key); }
 };
 
+// Calls wait for each other.
+struct Slow : MySet {
+    std::mutex slow;
+    template <class F> bool slowly(F call) {
+        std::lock_guard held(slow);
+        std::this_thread::yield();
+        return call();
+    }
+    bool add(unsigned key) { return slowly([&] { return MySet::add(key); }); }
+    bool remove(unsigned key) { return slowly([&] { return MySet::remove(key); }); }
+    bool contains(unsigned key) { return slowly([&] { return MySet::contains(key); }); }
+};
+
+struct FindsAll : MySet {
+    bool contains(unsigned) { return true; }
+};
+
 // Each half is under the lock, and not the two together.
 struct CheckThenAct : MySet {
     bool add(unsigned key) {

@@ -10,10 +10,11 @@ void expect(bool is_so, const char *what) {
     if (!is_so) failed++, std::cout << "FAILED: " << what << "\n";
 }
 
-template <class S> void is_right(const char *name, listset::options how = {}) {
+template <class S> listset::verdict is_right(const char *name, listset::options how = {}) {
     auto verdict = listset::judge<S>(how);
     std::cout << name << ": " << verdict << "\n";
-    expect(bool(verdict), name);
+    expect(verdict && verdict.calls == uint64_t(how.threads) * how.calls * how.runs, name);
+    return verdict;
 }
 
 template <class S> void is_refused(const char *name) {
@@ -34,7 +35,10 @@ template <class S> void says(const char *words, listset::options how) {
 void all() {
     is_right<MySet>("MySet");
     is_right<Standard>("Standard", {4, 200, 4, 20, 3, 1});
-    is_right<MySet>("past a quota", {1, 120000, 1, 0, 1, 1});
+    expect(is_right<Slow>("Slow", {8, 200, 4, 20, 3, 1}).overlapped > 0, "calls that wait overlap");
+    expect(is_right<MySet>("past a quota", {1, 120000, 1, 0, 1, 1}).overlapped == 0, "calls in turn do not");
+    auto of = [](unsigned seed) { return listset::judge<FindsAll>({1, 50, 4, 20, 1, seed}).recording; };
+    expect(of(1) == of(1) && of(1) != of(2), "a seed gives the same calls again");
     is_refused<CheckThenAct>("CheckThenAct");
     is_refused<LostLock>("LostLock");
     is_refused<DoubleRemove>("DoubleRemove");

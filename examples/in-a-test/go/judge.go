@@ -284,9 +284,9 @@ func refused(recording string) (string, error) {
 	if !isNamed {
 		program = "listset"
 	}
-	var out bytes.Buffer
+	var out, errs bytes.Buffer
 	command := exec.Command(program, "judge", "-")
-	command.Stdin, command.Stdout, command.Stderr = strings.NewReader(recording), &out, &out
+	command.Stdin, command.Stdout, command.Stderr = strings.NewReader(recording), &out, &errs
 	err := command.Run()
 	var ended *exec.ExitError
 	if err != nil && !errors.As(err, &ended) {
@@ -296,6 +296,9 @@ func refused(recording string) (string, error) {
 		return "", errors.New("there is no listset in PATH: build it, and put it there or name it by LISTSET")
 	}
 	status, said := command.ProcessState.ExitCode(), strings.TrimSpace(out.String())
+	if said == "" {
+		said = strings.TrimSpace(errs.String())
+	}
 	switch {
 	case status == 0 && strings.HasPrefix(said, "ok "):
 		return "", nil

@@ -41,13 +41,60 @@ func (it *MySet) Contains(key uint32) bool {
 
 func TestIsLinearizable(t *testing.T) { Check(t, NewMySet) }
 
+func isRight[S Set](t *testing.T, make func() S, how Options) Verdict {
+	verdict, err := Judge(make, how)
+	if err != nil || verdict.Calls != how.Threads*how.Calls*how.Runs {
+		t.Fatal(verdict, err)
+	}
+	return verdict
+}
+
+// Slow has calls that wait for each other.
+type Slow struct {
+	*MySet
+	slow sync.Mutex
+}
+
+func (it *Slow) Add(key uint32) bool {
+	it.slow.Lock()
+	defer it.slow.Unlock()
+	runtime.Gosched()
+	return it.MySet.Add(key)
+}
+
+func TestCallsThatWaitOverlap(t *testing.T) {
+	if isRight(t, func() *Slow { return &Slow{MySet: NewMySet()} }, Usual()).Overlapped == 0 {
+		t.Fatal("none overlapped")
+	}
+}
+
+// FindsAll is wrong in one thread too.
+type FindsAll struct{ *MySet }
+
+func (FindsAll) Contains(uint32) bool { return true }
+
+func TestASeedGivesTheSameCallsAgain(t *testing.T) {
+	of := func(seed int64) (found *NotLinearizable) {
+		_, err := Judge(func() FindsAll { return FindsAll{NewMySet()} }, Options{1, 50, 4, 20, 1, seed})
+		if !errors.As(err, &found) {
+			t.Fatal(err)
+		}
+		return found
+	}
+	if of(1).Recording != of(1).Recording || of(1).Recording == of(2).Recording {
+		t.Fatal("other calls")
+	}
+}
+
 func TestMayOpenWithKeys(t *testing.T) {
 	opens := func() *MySet { return &MySet{keys: map[uint32]bool{1: true, 3: true}} }
 	Check(t, opens, Options{Threads: 4, Calls: 200, Keys: 4, Runs: 3})
 }
 
 func TestGoesOnPastAQuota(t *testing.T) {
-	Check(t, NewMySet, Options{Threads: 1, Calls: 120000, Keys: 1, Runs: 1})
+	if isRight(t, NewMySet, Options{Threads: 1, Calls: 120000, Keys: 1, Runs: 1}).Overlapped > 0 {
+		t.Fatal("calls in turn do not overlap")
+	}
 }
 
 func isRefused[S Set](t *testing.T, make func() S) {

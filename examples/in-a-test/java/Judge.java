@@ -100,14 +100,15 @@ public final class Judge {
                                     BiPredicate<S, Integer> contains, Options how) {
         how.check();
         Calls<S> calls = new Calls<>(add, remove, contains);
-        long overlapped = 0;
+        long count = 0, overlapped = 0;
         for (long seed = how.seed; seed < how.seed + how.runs; seed++) {
             Run run = recorded(made(make), calls, how, seed);
             String recording = run.text(), said = refused(recording);
             if (said != null) throw new NotLinearizable(seed, said, recording);
+            count += run.rows.size();
             overlapped += run.overlapped();
         }
-        return new Verdict((long) how.runs * how.threads * how.calls, overlapped);
+        return new Verdict(count, overlapped);
     }
 
     private static <S> S made(Supplier<? extends S> make) {
@@ -229,13 +230,16 @@ public final class Judge {
     /** What the judge says of a recording that no order explains, or null if one does. */
     private static String refused(String recording) {
         String named = System.getenv("LISTSET"), program = named == null ? "listset" : named;
-        Path file = null;
+        Path file = null, errors = null;
         try {
             file = Files.createTempFile("listset-", ".calls");
+            errors = Files.createTempFile("listset-", ".errors");
             Files.writeString(file, recording);
-            Process child = started(program, file, named != null);
-            String said = new String(child.getInputStream().readAllBytes()).strip();
+            ProcessBuilder command = new ProcessBuilder(program, "judge", file.toString()).redirectError(errors.toFile());
+            Process child = started(command, named);
+            String out = new String(child.getInputStream().readAllBytes()).strip();
             int status = child.waitFor();
+            String said = out.isEmpty() ? Files.readString(errors).strip() : out;
             if (status == 0 && said.startsWith("ok ")) return null;
             if (status == 1 && said.startsWith("not linearizable")) return said;
             String first = said.isEmpty() ? "nothing" : said.lines().findFirst().get();
@@ -244,14 +248,15 @@ public final class Judge {
             throw new NoVerdict("the judge could not be asked: ", why);
         } finally {
             if (file != null) file.toFile().delete();
+            if (errors != null) errors.toFile().delete();
         }
     }
 
-    private static Process started(String program, Path file, boolean isNamed) {
+    private static Process started(ProcessBuilder command, String named) {
         try {
-            return new ProcessBuilder(program, "judge", file.toString()).redirectErrorStream(true).start();
+            return command.start();
         } catch (IOException none) {
-            throw new NoVerdict(isNamed ? "LISTSET names " + program + ", which cannot be run: build listset, and name it there"
+            throw new NoVerdict(named != null ? "LISTSET names " + named + ", which cannot be run: build listset, and name it there"
                 : "there is no listset in PATH: build it, and put it there or name it by LISTSET");
         }
     }

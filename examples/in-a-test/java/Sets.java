@@ -76,6 +76,23 @@ final class Sets {
         }
     }
 
+    /** Its calls wait for each other. */
+    static final class Slow extends ConcurrentSkipListSet<Integer> {
+        @Override public synchronized boolean add(Integer key) {
+            Thread.yield();
+            return super.add(key);
+        }
+
+        @Override public synchronized boolean remove(Object key) {
+            Thread.yield();
+            return super.remove(key);
+        }
+    }
+
+    static final class FindsAll extends ConcurrentSkipListSet<Integer> {
+        @Override public boolean contains(Object key) { return true; }
+    }
+
     static final class FailsToAdd extends ConcurrentSkipListSet<Integer> {
         @Override public boolean add(Integer key) { throw new IllegalStateException("no memory"); }
     }

@@ -8,6 +8,21 @@ final class Tests {
     private static final Judge.Options ALL = new Judge.Options(), FEW = ALL.ofSize(2, 9, 4).ofRuns(1, 1);
     private static boolean hasFailed;
 
+    private static Judge.Verdict isRight(String name, Supplier<? extends Set<Integer>> make, Judge.Options how) {
+        Judge.Verdict verdict = Judge.judge(make, how);
+        System.out.println(name + ": " + verdict);
+        if (verdict.calls() != (long) how.threads() * how.calls() * how.runs()) fail(name);
+        return verdict;
+    }
+
+    private static String recordingOf(long seed) {
+        try {
+            return Judge.judge(Sets.FindsAll::new, ALL.ofSize(1, 50, 4).ofRuns(1, seed)).toString();
+        } catch (Judge.NotLinearizable refused) {
+            return refused.recording;
+        }
+    }
+
     private static void isRefused(String name, Supplier<Judge.Verdict> judged) {
         try {
             fail(name + ": " + judged.get());
@@ -33,10 +48,13 @@ final class Tests {
     private static Set<Integer> notMade() { throw new IllegalStateException("no room"); }
 
     private static void all() {
-        System.out.println("ConcurrentSkipListSet: " + Judge.judge(ConcurrentSkipListSet::new));
-        System.out.println("ConcurrentHashMap: " + Judge.judge(ConcurrentHashMap::newKeySet));
-        System.out.println("OpensWithKeys: " + Judge.judge(Sets.OpensWithKeys::new, ALL.ofRuns(3, 1)));
-        System.out.println("past a quota: " + Judge.judge(ConcurrentSkipListSet::new, ALL.ofSize(1, 120_000, 1).ofRuns(1, 1)));
+        isRight("ConcurrentSkipListSet", ConcurrentSkipListSet::new, ALL);
+        isRight("ConcurrentHashMap", ConcurrentHashMap::newKeySet, ALL);
+        isRight("OpensWithKeys", Sets.OpensWithKeys::new, ALL.ofRuns(3, 1));
+        if (isRight("Slow", Sets.Slow::new, ALL.ofRuns(3, 1)).overlapped() == 0) fail("calls that wait overlap");
+        Judge.Options longer = ALL.ofSize(1, 120_000, 1).ofRuns(1, 1);
+        if (isRight("past a quota", ConcurrentSkipListSet::new, longer).overlapped() > 0) fail("calls in turn do not overlap");
+        if (!recordingOf(1).equals(recordingOf(1)) || recordingOf(1).equals(recordingOf(2))) fail("a seed gives the same calls again");
         isRefused("CheckThenAct", () -> Judge.judge(Sets.CheckThenAct::new));
         isRefused("LostLock", () -> Judge.judge(Sets.LostLock::new, Sets.LostLock::add, Sets.LostLock::remove, Sets.LostLock::contains, ALL));
         isRefused("DoubleRemove", () ->

@@ -57,7 +57,7 @@ def judge(make, *, threads=8, calls=1000, keys=4, pauses=20, runs=20, seed=1):
     check(threads=(threads, 1, 64), calls=(calls, 1, 1_000_000), keys=(keys, 1, 1_048_576), pauses=(pauses, 0, 100), runs=(runs, 1, 1_000_000))
     check(**{"threads times calls": (threads * calls, 1, 1_000_000)})
     judged = [judged_run(make, Run(threads, calls, keys, pauses, one)) for one in range(seed, seed + runs)]
-    return Verdict(threads * calls * runs, sum(judged))
+    return Verdict(*map(sum, zip(*judged)))
 
 
 def check(**ranges):
@@ -67,7 +67,7 @@ def check(**ranges):
 
 
 def judged_run(make, run):
-    """How many calls of a run overlapped a change of their key."""
+    """How many calls a run has, and how many of them overlapped a change of their key."""
     try:
         made = make()
     except Exception as why:
@@ -76,7 +76,7 @@ def judged_run(make, run):
     recording = run.text()
     if said := refused(recording):
         raise NotLinearizable(run.seed, said, recording)
-    return run.overlapped()
+    return len(run.rows), run.overlapped()
 
 
 # ---- a run, recorded
@@ -173,7 +173,7 @@ def refused(recording):
     except OSError:
         where = f"LISTSET names {named}, which cannot be run: build listset, and name it there"
         raise NoVerdict(where if named else "there is no listset in PATH: build it, and put it there or name it by LISTSET") from None
-    said = (done.stdout + done.stderr).strip()
+    said = (done.stdout or done.stderr).strip()
     if done.returncode == 0 and said.startswith("ok "):
         return None
     if done.returncode == 1 and said.startswith("not linearizable"):

@@ -93,6 +93,11 @@ class DoubleRemove:
         return True
 
 
+class FindsAll(MySet):
+    def __contains__(self, key):
+        return True
+
+
 class FailsToAdd(MySet):
     def add(self, key):
         raise MemoryError("no memory")
@@ -104,7 +109,25 @@ def cannot_be_made():
 
 class Sets(unittest.TestCase):
     def test_my_set_is_linearizable(self):
-        print(listset_judge.judge(MySet, **FEW))
+        verdict = listset_judge.judge(MySet, **FEW)
+        print(verdict)
+        self.assertEqual(verdict.calls, 20_000)
+        self.assertGreater(verdict.overlapped, 0)
+
+    def test_a_thread_goes_on_past_its_quota(self):
+        verdict = listset_judge.judge(MySet, threads=1, calls=120_000, keys=1, pauses=0, runs=1)
+        self.assertEqual(verdict.overlapped, 0)
+        self.assertIn("that is few", str(verdict))
+
+    def test_a_seed_gives_the_same_calls_again(self):
+        first, again, other = map(self.recording_of, (1, 1, 2))
+        self.assertEqual(first, again)
+        self.assertNotEqual(first, other)
+
+    def recording_of(self, seed):
+        with self.assertRaises(listset_judge.NotLinearizable) as refused:
+            listset_judge.judge(FindsAll, threads=1, calls=50, runs=1, seed=seed)
+        return refused.exception.recording
 
     def test_a_set_may_open_with_keys(self):
         listset_judge.judge(OpensWithKeys, threads=2, calls=100, runs=2)

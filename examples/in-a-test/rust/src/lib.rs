@@ -296,7 +296,7 @@ fn answer(program: &str, recording: &str) -> std::io::Result<(Option<i32>, Strin
     std::thread::scope(|scope| {
         scope.spawn(move || input.write_all(recording.as_bytes())); // (one that has ended reads no further)
         let ended = child.wait_with_output()?;
-        let said = [ended.stdout, ended.stderr].concat();
+        let said = if ended.stdout.is_empty() { ended.stderr } else { ended.stdout };
         Ok((ended.status.code(), String::from_utf8_lossy(&said).trim().to_string()))
     })
 }

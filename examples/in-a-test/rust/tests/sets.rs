@@ -17,7 +17,29 @@ impl MySet {
 
 #[test]
 fn my_set_is_linearizable() {
-    println!("{}", judge!(MySet).unwrap());
+    let verdict = judge!(MySet).unwrap();
+    println!("{verdict}");
+    assert_eq!(verdict.calls, 160_000);
+}
+
+#[test]
+fn calls_that_wait_overlap() {
+    let make = || Mutex::new(BTreeSet::new());
+    let slowly = |set: &Mutex<BTreeSet<u32>>, call: &dyn Fn(&mut BTreeSet<u32>) -> bool| {
+        let mut held = set.lock().unwrap();
+        yield_now();
+        call(&mut held)
+    };
+    let options = Options { calls: 200, runs: 3, ..Options::default() };
+    let verdict = listset_judge::judge(
+        make,
+        |set, key| slowly(set, &|keys| keys.insert(key)),
+        |set, key| slowly(set, &|keys| keys.remove(&key)),
+        |set, key| slowly(set, &|keys| keys.contains(&key)),
+        options,
+    );
+    let verdict = verdict.unwrap();
+    assert!(verdict.overlapped > 0 && verdict.overlapped <= verdict.calls, "{verdict}");
 }
 
 #[test]
@@ -38,7 +60,19 @@ fn a_set_is_linearizable_by_closures_and_may_open_with_keys() {
 fn a_thread_goes_on_past_its_quota() {
     let options = Options { threads: 1, calls: 120_000, keys: 1, pauses: 0, runs: 1, ..Options::default() };
     let verdict = judge!(MySet, options).unwrap();
-    assert!(verdict.to_string().contains("that is few"));
+    assert!(verdict.overlapped == 0 && verdict.to_string().contains("that is few"), "{verdict}");
+}
+
+#[test]
+fn a_seed_gives_the_same_calls_again() {
+    let of = |seed| {
+        let options = Options { threads: 1, calls: 50, runs: 1, seed, ..Options::default() };
+        match listset_judge::judge(MySet::new, MySet::add, MySet::remove, |_, _| true, options) {
+            Err(Failure::NotLinearizable { recording, .. }) => recording,
+            other => panic!("{other:?}"),
+        }
+    };
+    assert!(of(1) == of(1) && of(1) != of(2));
 }
 
 fn is_refused(judged: Result<listset_judge::Verdict, Failure>) {
