@@ -72,7 +72,7 @@ inline void check(const options &it) {
         {"keys", it.keys, 1, 1048576}, {"pauses", it.pauses, 0, 100}, {"runs", it.runs, 1, 1000000}};
     for (auto &[name, given, least, most] : ranges)
         if (given < least || given > most)
-            throw no_verdict(std::string(name) + " is " + std::to_string(given) + ", and has to be " + std::to_string(least) + " to " + std::to_string(most));
+            throw no_verdict(name + (" is " + std::to_string(given)) + ", and has to be " + std::to_string(least) + " to " + std::to_string(most));
 }
 
 // The three calls, by the names that the set has for them.

@@ -68,15 +68,20 @@ def check(**ranges):
 
 def judged_run(make, run):
     """How many calls a run has, and how many of them overlapped a change of their key."""
-    try:
-        made = make()
-    except Exception as why:
-        raise NoVerdict(f"the set could not be made: {why}") from why
-    run.record(made)
+    made = tried("the set could not be made", make)
+    tried("a call of the set failed", run.record, made)
     recording = run.text()
     if said := refused(recording):
         raise NotLinearizable(run.seed, said, recording)
     return len(run.rows), run.overlapped()
+
+
+def tried(words, call, *given):
+    """What a call gives; if it raises, a NoVerdict of these words and what was raised."""
+    try:
+        return call(*given)
+    except Exception as why:
+        raise NoVerdict(f"{words}: {why}") from why
 
 
 # ---- a run, recorded
@@ -104,7 +109,7 @@ class Run:
         finally:
             sys.setswitchinterval(before)
         if self.raised:
-            raise NoVerdict(f"a call of the set failed: {self.raised[0]}") from self.raised[0]
+            raise self.raised[0]
         self.rows, self.left = sorted(itertools.chain(*rows)), [key for key in range(self.keys) if contains(key)]
 
     def call(self, replies_of, thread, rows):

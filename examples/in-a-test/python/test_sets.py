@@ -156,6 +156,7 @@ class Sets(unittest.TestCase):
             (cannot_be_made, {}, "the set could not be made: no room"),
             (FailsToAdd, {}, "a call of the set failed: no memory"),
             (set, {"keys": 1}, "a call of the set failed: "),
+            (object, {}, "a call of the set failed: 'object' object has no attribute"),
         ):
             with self.subTest(said), self.assertRaises(listset_judge.NoVerdict) as found:
                 listset_judge.judge(make, **{"threads": 2, "calls": 9, "runs": 1, **how})
