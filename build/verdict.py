@@ -10,6 +10,9 @@ import subprocess
 TOP = pathlib.Path(__file__).resolve().parent.parent
 TRIED = ["crates/listset/out/listset.o", "foreign/out/lib/liblistset.a", "foreign/out/lib/liblistset.so", "page/listset.wasm"]
 
+# the verdicts on planted mutants that a gate has tried again, and how many are fresh
+WRITTEN = {"mutants/tried.tsv", "docs/TRIED.md"}
+
 
 def git(*words):
     """What git says, or nothing where it has nothing to say or is not there."""
@@ -19,8 +22,8 @@ def git(*words):
 
 
 def changes():
-    """The lines of git about what is changed here, and not committed."""
-    return git("status", "--porcelain").splitlines()
+    """The lines of git about what is changed here, and not committed, but for what the gate itself writes."""
+    return [it for it in git("status", "--porcelain").splitlines() if it.split()[-1] not in WRITTEN]
 
 
 def clean_commit():
