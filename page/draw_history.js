@@ -81,10 +81,23 @@ function drawBarText(call, scale, left, right, y) {
   const point = call.at === null || !isShown(call, scale) ? -99 : scale.x(call.at) - left;
   const start = point > wide + 14 || point < -8 ? 6 : point + 13;
   const room = scale.now < (call.ended ?? Infinity) ? scale.edge - left : right - left;
-  if (room <= wide + start) return "";
+  if (room <= wide + start) return drawShortText(call, scale, left, room, y, isTold);
   const done = call.ended !== null && call.ended <= scale.count;
   const reply = isTold ? tag("tspan", { class: done ? "reply" : "reply later" }, ` ${call.reply}`) : "";
   return tag("text", { x: left + start, y: y + 5 }, callText(call), reply);
+}
+
+// Where a bar has no room for its call, a short form above it: +5, -5, 5? and its reply by one letter; nothing where that has none.
+const SHORT = { add: (key) => `+${key}`, remove: (key) => `\u2212${key}`, contains: (key) => `${key}?`, ceiling: (key) => `\u2308${key}\u2309` };
+const SHORT_REPLY = { true: "t", false: "f", full: "full", nothing: "none" };
+
+function drawShortText({ operation, key, reply, ended }, scale, left, room, y, isTold) {
+  const text = SHORT[operation](key);
+  const said = isTold ? ` ${SHORT_REPLY[reply] ?? reply}` : "";
+  if (room < 7 * (text.length + said.length)) return "";
+  const above = y - scale.lane * 0.34 - 3;
+  const done = ended !== null && ended <= scale.count;
+  return tag("text", { x: left + 1, y: above, style: "font-size:11px" }, text, said && tag("tspan", { class: done ? "reply" : "reply later" }, said));
 }
 
 // Whether the point of a call is drawn.

@@ -42,7 +42,13 @@ function wholeName({ trace, event }, name) {
 
 // What comes of an event. Each says its part, or nothing.
 const OUTCOMES = {
-  change({ trace, event, held }) {
+  // In a broken list, a node may go in behind one that is out of the chain, and a key stay in it that is taken out.
+  change({ trace, state, event, held }) {
+    const isIn = (key) => state.chain().some((name) => String(state.nodes[name].key) === String(key) && !state.nodes[name].link.endsWith("*"));
+    if (event.put !== undefined && !isIn(event.put))
+      return `<b>This should put ${event.put} into the set, but its node is not in the chain: ${event.put} is lost.</b>`;
+    if (event.took !== undefined && isIn(event.took))
+      return `<b>This should take ${event.took} out of the set, but the chain still has it.</b>`;
     if (event.put !== undefined) return `<b>This puts ${event.put} into the set</b>, with slot ${held.used} of ${trace.quota}.`;
     if (event.took !== undefined) return `<b>This takes ${event.took} out of the set.</b>`;
     return "";
@@ -103,7 +109,7 @@ const OUTCOMES = {
 
   walk({ trace, event, held, row }) {
     if (event.deed !== "load" || row === undefined) return "";
-    if (row.below !== undefined) return walkAtKey(event, held, row);
+    if (row.below !== undefined) return walkAtKey(event, held);
     if (row.then.includes("node = next(s)")) return `The second walk comes to ${held.node}.`;
     if (row.then.includes("node is pred")) return secondWalkAtKey(held, row);
     if (!row.then.includes("curr = next(s)")) return "";
@@ -135,10 +141,13 @@ const OUTCOMES = {
   },
 };
 
-function walkAtKey(event, held, row) {
+// By the keys, and not by the row that comes next: a broken list goes on at another row than the table says.
+const isBelow = (saw, key) => keyNumber(saw) < Number(key);
+
+function walkAtKey(event, held) {
   const owner = ownerIn(event.word);
   const { key } = held.call;
-  if (held.pc === row.below) return `${keyText(event.saw)} is below ${key}: the walk goes on.`;
+  if (isBelow(event.saw, key)) return `${keyText(event.saw)} is below ${key}: the walk goes on.`;
   if (event.saw === String(key)) return `<b>The walk stops at ${owner},</b> which has its key.`;
   return `<b>The walk stops at ${owner},</b> the first whose key is above ${key}.`;
 }
