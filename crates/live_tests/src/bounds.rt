@@ -85,6 +85,20 @@ fn a_read_has_rounds(rt: HostRuntime) {
     at_each_list!(reads_in_rounds, rt);
 }
 
+/// A seat that has taken another in has rounds for its calls as before.
+fn goes_on_with_two<M: Bounded, R: Abort>(rt: &R, alloc: Global) {
+    let (set, mut zero, one) = opened::<M, R>(rt, alloc);
+    set.gather(&mut zero, one);
+    let made = set.call_within::<Spin, Hundred>(zero, Call::Remove(Key(30)), &Spin::new());
+    let (both, reply) = made.expect(rt, "a seat that has taken another in gives up");
+    assert!(rt; reply == Reply::True && both.held() == 2);
+}
+
+#[test]
+fn a_gathered_seat_has_rounds(rt: HostRuntime) {
+    at_each_list!(goes_on_with_two, rt);
+}
+
 /// A call that had too few rounds keeps its locks: another that comes to one gives up too.
 fn gives_up_at_a_lock<M: Bounded, R: Abort>(rt: &R, alloc: Global, call: Call) {
     let (set, zero, one) = opened::<M, R>(rt, alloc);
