@@ -14,12 +14,10 @@
 
 const fs = require("fs");
 const path = require("path");
-const { NO_ENGINE, NOT_RUN, inPage, loadScripts, startedEngine } = require("./in_node.js");
+const { NO_ENGINE, NOT_RUN, inPage, startedEngine } = require("./in_node.js");
 
 const MOST_BYTES = 10000000;
 const BOOK = path.join(__dirname, "book.course");
-const SCRIPTS = ["rows", "classics", "trace", "schedule_text", "state", "address", "svg", "draw_history", "run", "goal_words",
-  "lesson_text", "judge_lesson", "judge_answer", "break_it", "hand_in", "course_link"];
 const USAGE = "node page/check_lessons.js FILE .., with courses among the files or none; or --link COURSE";
 
 class Trouble extends Error {}
@@ -89,8 +87,8 @@ function studentsIn(texts, courses) {
   return [...students.values()];
 }
 
-// Says what is missing of a student's, and how much is solved; whether that is all.
-function isWhole(ask, { name, parts, faults, courses }) {
+// Says what is missing of a student's, and how much is solved; whether that is all, and the schedules that solve something.
+function toldStudent(ask, { name, parts, faults, courses }) {
   for (const { file, line, fault } of faults) say(`${name}: ${file}, line ${line}: ${fault}`);
   const verdicts = parts.map((part) => ({ ...part, ...inPage("judgedPart")(ask, part.lessons, part.line) }));
   const solved = new Set(verdicts.filter(({ isSolved }) => isSolved).map(({ task }) => task));
@@ -102,13 +100,35 @@ function isWhole(ask, { name, parts, faults, courses }) {
   for (const lesson of open.filter((one) => !verdicts.some(({ task }) => task === one))) say(`${name}: ${lesson}: not handed in`);
   const [judgedRight, broken] = ["judge ", "break "].map((word) => [...solved].filter((task) => task.startsWith(word)).length);
   const very = new Set(verdicts.filter(({ isVeryAnswer }) => isVeryAnswer).map(({ task }) => task)).size;
+  const shown = [...new Set(verdicts.map(({ ofExample }) => ofExample ?? null))].filter((example) => example !== null);
   const more = [
     judgedRight > 0 ? `${counted(judgedRight, "order")} judged right` : "",
     broken > 0 ? `${counted(broken, "list")} broken` : "",
+    shown.length > 0 ? `of these ${shown.length} by the very schedule of an example: ${shown.join(", ")}` : "",
     very > 0 ? `${very} by the very schedule of the lesson's answer, which may be its shortest` : "",
   ];
-  say([`${name}: ${lessons.length - open.length} of ${lessons.length} solved`, ...more.filter((part) => part !== "")].join("; "));
-  return open.length === 0 && faults.length === 0 && wrong.length === 0 && courses.size > 0;
+  const solvedLessons = courses.size > 0 ? `${lessons.length - open.length} of ${lessons.length} solved` : "not counted: name the course on the command line";
+  say([`${name}: ${solvedLessons}`, ...more.filter((part) => part !== "")].join("; "));
+  const schedules = verdicts.filter(({ isSolved, isVeryAnswer }) => isSolved && !isVeryAnswer).map(({ task, schedule }) => ({ task, schedule }));
+  return { isAll: open.length === 0 && faults.length === 0 && wrong.length === 0 && courses.size > 0, name, schedules };
+}
+
+// Tells which students have handed in the same schedules, to the byte, and of which tasks; not those of a lesson's own answer.
+function tellSame(students) {
+  const byText = new Map();
+  for (const { name, schedules } of students) {
+    for (const { task, schedule } of schedules.filter((one) => one.schedule !== undefined)) {
+      const same = byText.get(`${task}\n${schedule}`) ?? { task, names: new Set() };
+      byText.set(`${task}\n${schedule}`, same);
+      same.names.add(name);
+    }
+  }
+  const tasks = new Map();
+  for (const { task, names } of byText.values()) {
+    const whose = [...names].join(", ");
+    if (names.size > 1) tasks.set(whose, [...(tasks.get(whose) ?? []), task]);
+  }
+  for (const [whose, some] of tasks) say(`the same schedules: ${whose} (${some.join(", ")})`);
 }
 
 async function toldLink(file) {
@@ -135,7 +155,9 @@ async function checked(ask, words) {
   }
   if (courses.length === 0) courses.push(toldCourse(ask, { file: "book.course", number: 1, text: textOf(BOOK) }));
   const students = studentsIn(handed, courses);
-  const whole = students.filter((student) => isWhole(ask, student)).length;
+  const told = students.map((student) => toldStudent(ask, student));
+  const whole = told.filter(({ isAll }) => isAll).length;
+  tellSame(told);
   if (students.length > 1) say(`${whole} of ${students.length} students have solved all`);
   if (isBad) return 2;
   return whole === students.length ? 0 : 1;
@@ -148,7 +170,6 @@ async function main(words) {
     }
     const engine = await startedEngine();
     if (engine === null) return [NO_ENGINE, tell(NOT_RUN)][0];
-    loadScripts(...SCRIPTS.map((name) => `${name}.js`));
     return await checked((name, ...given) => engine.ask(name, ...given), words);
   } catch (fault) {
     if (!(fault instanceof Trouble)) throw fault;

@@ -1,4 +1,4 @@
-// For the tools in node: the engine as the module of this folder, and the scripts of the page that need no browser.
+// The page in node, where a tool or a test works without a browser: what its modules export, and the engine.
 "use strict";
 
 const fs = require("fs");
@@ -8,22 +8,22 @@ const vm = require("vm");
 const NO_ENGINE = 70; // the status of a tool that has none
 const NOT_RUN = "this node does not run the WebAssembly module; version 18 does";
 
-const inPage = (words) => vm.runInThisContext(words);
+const bundle = { names: null };
 
-// Runs scripts of the page, in this order; what they declare is had by `inPage`.
-function loadScripts(...names) {
-  for (const name of names) {
-    const file = path.join(__dirname, name);
-    vm.runInThisContext(fs.readFileSync(file, "utf8"), { filename: file });
-  }
+// What some words mean in the page: a name that a module exports, or an expression of such names.
+function inPage(words) {
+  const file = path.join(__dirname, "page.js");
+  bundle.names ??= vm.runInThisContext(`${fs.readFileSync(file, "utf8")}\nlistsets`, { filename: file });
+  const { names } = bundle;
+  if (Object.hasOwn(names, words)) return names[words];
+  return new Function(...Object.keys(names), `return (${words});`)(...Object.values(names));
 }
 
-// The engine, or null where node does not run it.
+// The engine, or null if node does not run it.
 async function startedEngine() {
   const bytes = fs.readFileSync(path.join(__dirname, "listset.wasm"));
   if (!WebAssembly.validate(bytes)) return null;
-  loadScripts("calls.js");
   return new (inPage("Engine"))(await WebAssembly.compile(bytes));
 }
 
-module.exports = { NO_ENGINE, NOT_RUN, inPage, loadScripts, startedEngine };
+module.exports = { NO_ENGINE, NOT_RUN, inPage, startedEngine };

@@ -1,4 +1,4 @@
-"""What docs/CLASSIC.md says, as classics.js: of each example its question, what it turns on, at which events, what goes wrong
+"""What docs/CLASSIC.md says, as made/classics.js: of each example its question, what it turns on, at which events, what goes wrong
 without it, and which lists of its kind lack that check; and the kind of each list that lacks one."""
 import re
 
@@ -20,7 +20,7 @@ def turns_of(section):
 
 
 def classics_text(page):
-    """The text of classics.js for the text of docs/CLASSIC.md."""
+    """The text of made/classics.js for the text of docs/CLASSIC.md."""
     lacking = dict(LACKING.findall(page))
     kinds = {kind.replace("-", ""): kind for kind in lacking.values()}
     classics = {}
@@ -35,4 +35,4 @@ def classics_text(page):
                           "turns": turns_of(section), "lacks": lacks}
     return ("// What docs/CLASSIC.md says, by page/build: of each example its question, what it turns on, at which events, what goes\n"
             "// wrong without it, and which lists of its kind lack that check; and the kind of each list that lacks one.\n"
-            f'"use strict";\n\nconst CLASSICS = {in_lines(classics)};\n\nconst LACKING = {in_lines(lacking)};\n')
+            f"\nexport const CLASSICS = {in_lines(classics)};\n\nexport const LACKING = {in_lines(lacking)};\n")

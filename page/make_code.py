@@ -1,4 +1,4 @@
-"""The plain loops of the proved crates as code.js: the functions that make the steps of calls, as they stand in the source, with
+"""The plain loops of the proved crates as made/code.js: the functions that make the steps of calls, as they stand in the source, with
 the rows of its list's table that each line makes (docs/make/made_loops.py), so that the page shows each thread at its line."""
 import json
 import re
@@ -9,7 +9,6 @@ import sources
 BEGINS = ("begin_at_head", "begin_locked")  # the first step of a call
 HEAD = """// The proved loops of the lists as they stand in crates/, with the rows of its list's table that each line makes, by page/build: for
 // show alone.
-"use strict";
 """
 
 
@@ -58,8 +57,8 @@ def function_text(code):
 
 
 def code_text():
-    """The text of code.js."""
+    """The text of made/code.js."""
     files = dict.fromkeys(file for some in made_loops.LISTS.values() for file in some)
     functions = [f'  "crates/{file}": [\n{"".join(map(function_text, code_of(file)))}  ],\n' for file in files]
     lists = [f'  "{name.replace("_", "-")}": {json.dumps([f"crates/{file}" for file in some])},\n' for name, some in made_loops.LISTS.items()]
-    return f"{HEAD}\nconst CODE = {{\n{''.join(functions)}}};\n\nconst CODE_OF = {{\n{''.join(lists)}}};\n"
+    return f"{HEAD}\nexport const CODE = {{\n{''.join(functions)}}};\n\nexport const CODE_OF = {{\n{''.join(lists)}}};\n"

@@ -260,8 +260,8 @@ def page_of(source, text, runs, broken):
 
 
 def docs_made(top):
-    """The pages by name, from docs/, page/traces.js and examples/schedules/lacks; and of each the rows that no example makes."""
-    runs = Runs((top / "page" / "traces.js").read_text(encoding="utf-8"))
+    """The pages by name, from docs/, page/made/traces.js and examples/schedules/lacks; and of each the rows that no example makes."""
+    runs = Runs((top / "page" / "made" / "traces.js").read_text(encoding="utf-8"))
     broken = {it.stem: it.read_text(encoding="utf-8") for it in (top / "examples" / "schedules" / "lacks").glob("*.schedule")}
     made = {name: page_of(it, (top / "docs" / it).read_text(encoding="utf-8"), runs, broken) for it, name in PAGES.items()}
     for name, (text, _) in made.items():

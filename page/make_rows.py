@@ -1,4 +1,4 @@
-"""The rows of docs/TABLES.md as rows.js: the texts that the page shows beside a thread's row, and what its sentences need of
+"""The rows of docs/TABLES.md as made/rows.js: the texts that the page shows beside a thread's row, and what its sentences need of
 them."""
 import json
 import re
@@ -86,7 +86,7 @@ def calls_of(section, reads):
 
 
 def rows_text(tables):
-    """The text of rows.js for the text of docs/TABLES.md."""
+    """The text of made/rows.js for the text of docs/TABLES.md."""
     sections = {part.split("\n", 1)[0].strip(): part for part in tables.split("\n## ")}
     reads = reads_of(sections["Reads without locks"])
     lists = {}
@@ -97,4 +97,4 @@ def rows_text(tables):
         lists[kind] = {"name": name, "registers": registers_in(rows.values()), "adds": adds, "removes": removes,
                        "calls": calls_of(sections[name], own), "rows": rows}
     return ("// The rows of the step tables, from docs/TABLES.md by page/build: for show alone, no state is computed from them.\n"
-            f'"use strict";\n\nconst LISTS = {in_lines(lists)};\n')
+            f"\nexport const LISTS = {in_lines(lists)};\n")

@@ -1,4 +1,4 @@
-// node page/make_traces.js: traces.js, which has what the engine of this folder says of the classic examples: the list of their
+// node page/make_traces.js: made/traces.js, which has what the engine of this folder says of the classic examples: the list of their
 // names, and the trace of each. A browser that cannot run the engine shows the examples from it.
 "use strict";
 
@@ -17,8 +17,8 @@ function tracesText() {
   });
   return (
     "// What the engine prints of the classic examples, by make_traces.js: shown where a browser cannot run it.\n" +
-    `"use strict";\n\nconst EXAMPLES = \`\n${list}\`.slice(1);\n\nconst TRACES = {\n${lines.join("")}};\n`
+    `\nexport const EXAMPLES = \`\n${list}\`.slice(1);\n\nexport const TRACES = {\n${lines.join("")}};\n`
   );
 }
 
-fs.writeFileSync(path.join(__dirname, "traces.js"), tracesText());
+fs.writeFileSync(path.join(__dirname, "made", "traces.js"), tracesText());

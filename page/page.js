@@ -1,8 +1,539 @@
-// The page: what it holds, how it runs a text by the engine, and how it is drawn. It computes no step of a list.
+// The modules of src/ and made/ in one script, by page/build: nothing else of the page is global.
 "use strict";
 
-const LINE_HEIGHT = 21;
-const MANY_EVENTS = 20000; // so many run beside the page, with a button to cancel that
+const listsets = (() => {
+// older.js
+const $older = (() => {
+Object.hasOwn ??= (object, name) => Object.prototype.hasOwnProperty.call(object, name);
+
+function defineMissing(prototype, methods) {
+  for (const [name, value] of Object.entries(methods)) {
+    if (!(name in prototype)) Object.defineProperty(prototype, name, { value, configurable: true, writable: true });
+  }
+}
+
+function itemAt(index) {
+  return this[index < 0 ? this.length + index : index];
+}
+
+defineMissing(String.prototype, { at: itemAt });
+defineMissing(Array.prototype, {
+  at: itemAt,
+  findLast(isWanted) {
+    return [...this].reverse().find((item) => isWanted(item));
+  },
+});
+return {  };
+})();
+
+// made/classics.js
+const $made_classics = (() => {
+// What docs/CLASSIC.md says, by page/build: of each example its question, what it turns on, at which events, what goes
+// wrong without it, and which lists of its kind lack that check; and the kind of each list that lacks one.
+
+const CLASSICS = {
+  "failed-tries": {
+    "question": "Two threads add one key at the same time. Which of them puts it in?",
+    "turnsOn": "A try of a lock that is taken is a step too, and leaves the thread at its row. Thread 1 stands at row 1 until the lock is given back, and then finds the key.",
+    "without": "Both walk over one old link, and the second write drops the node of the first (lock).",
+    "turns": [4, 15],
+    "lacks": ["lock"]
+  },
+  "full": {
+    "question": "A thread with one slot adds 5, removes it and adds 7. Is there room for 7?",
+    "turnsOn": "No: each slot is used once, so that no thread meets a node that holds another key than before. full changes nothing, and fits at the begin of its call.",
+    "without": "A slot that is used again changes the key of a node at which others may stand (new-slot). A quota that ends too soon answers full while a slot is free (last-slot).",
+    "turns": [14, 19],
+    "lacks": []
+  },
+  "hand-over-hand": {
+    "question": "Thread 0 has locked the head and 9, to put 5 between them. Thread 1 wants to take out 9. How far does it come?",
+    "turnsOn": "Not even to the head, until thread 0 gives that lock back. Then it goes hand over hand: it gives the head's lock back only when it has that of 5.",
+    "without": "A walk that holds no lock can stand at a node that is out, and lose the key that it puts behind it (hand-over-hand). So can a walk beside a remove that locks pred alone (second-lock).",
+    "turns": [17, 28],
+    "lacks": ["hand-over-hand", "second-lock"]
+  },
+  "same-gap": {
+    "question": "Both threads have walked without locks to the gap between head and tail. Thread 1 was first. What does thread 0 do once it has its two locks?",
+    "turnsOn": "It looks at pred again: the head leads to the node of 7 now. So it gives its locks back and walks again.",
+    "without": "A validation that is content to come to pred, wherever that leads, links 5 to the tail, and 7 is lost.",
+    "turns": [12, 17],
+    "lacks": []
+  },
+  "stale-pred": {
+    "question": "Thread 0 has found pred = 3 and curr = tail. Thread 1 takes out 3, whose node still leads to the tail. May thread 0 write?",
+    "turnsOn": "No: a node that is out keeps its link. Thread 0 walks once more from the head, and this walk passes the key of pred without having met it.",
+    "without": "5 goes in behind a node that is gone (second-walk). A walk that looks for the key of pred, and not for the node, may meet another node with that key (same-node).",
+    "turns": [24, 30],
+    "lacks": ["second-walk", "same-node"]
+  },
+  "marked-in-chain": {
+    "question": "Thread 1 has marked the node of 5 and has not yet unlinked it. Thread 0 walks to that node. What does its contains of 5 answer?",
+    "turnsOn": "false: the key went out of the set with the mark. That the node is still in the chain is housekeeping. contains reads its link, sees the mark, and takes no lock for it.",
+    "without": "true would fit none of its moments (mark-in-contains). But the remove is still open, and an order with the contains before it explains both. For that list nobody knows a history that no order explains.",
+    "turns": [20, 24],
+    "lacks": ["mark-in-contains"]
+  },
+  "marked-pred": {
+    "question": "As in stale-pred, but this list has no second walk. What tells thread 0?",
+    "turnsOn": "The mark in the link of pred, which a remove sets before it unlinks. One load does the work of OptimisticList's second walk.",
+    "without": "5 goes in behind the node of 3, which is out (marks-in-validation).",
+    "turns": [25, 31],
+    "lacks": ["marks-in-validation"]
+  },
+  "read-in-anothers-step": {
+    "question": "Just after each of thread 0's own events, 5 is in the set. Its contains answers false. Is that right?",
+    "turnsOn": "Yes: between two of them thread 1 took 5 out, and put it in again with another node. The call stands at event 23, a step of thread 1.",
+    "without": "Whoever looks for its point among its own steps finds none, and calls a right list wrong. check refuses the order that puts the contains last.",
+    "turns": [23, 36, 39],
+    "lacks": []
+  },
+  "ceiling-in-anothers-step": {
+    "question": "Just after each of thread 0's own events the least key from 6 on is none, or 7. Its ceiling of 6 answers 9. Is that right?",
+    "turnsOn": "Yes: it was 9 from event 15 until event 38, all steps of thread 1. The walk stood at the node of 5 when that was taken out, and its link still leads to 9.",
+    "without": "A ceiling that began again at each mark would answer 7 here, which is no better; and removes of smaller keys could send it back.",
+    "turns": [15, 38, 43],
+    "lacks": []
+  },
+  "opens-with-keys": {
+    "question": "Two keys are there at first, one is taken out, one is put in. Why does the last add answer full?",
+    "turnsOn": "The thread's one slot is n2. The opening keys stand in nodes of their own and count as nobody's adds, and a remove gives no slot back.",
+    "without": "A set that counts opening keys as adds answers full to the add of 7; one that gives slots back takes 8 in. check refuses either reply.",
+    "turns": [25, 36],
+    "lacks": []
+  },
+  "two-removers": {
+    "question": "Two threads have found the node of 5, unmarked, and want to take it out. Who has removed it?",
+    "turnsOn": "The one whose exchange sets the mark. The other's compares link and mark in one, and fails. It walks again and answers false.",
+    "without": "A remove that marks a marked node answers true too, and 5 is taken out twice (mark-in-remove).",
+    "turns": [18, 20],
+    "lacks": ["mark-in-remove"]
+  },
+  "snip": {
+    "question": "Thread 0 has marked the node of 5 and stops there. Thread 1 wants to put in 7 behind it. Does it have to wait?",
+    "turnsOn": "No: thread 1 takes the marked node out itself. The exchange of thread 0 fails then, and it answers true all the same, since its mark stands.",
+    "without": "An add that ignores the mark links 7 in behind the node of 5, and goes out with it (mark-in-add). Without marks no add could know (mark).",
+    "turns": [17, 23],
+    "lacks": ["mark-in-add", "mark"]
+  },
+  "tries-again": {
+    "question": "Both threads are at the gap between head and tail, each with a node ready. Thread 1 is first. What becomes of thread 0's node?",
+    "turnsOn": "Its exchange expects the tail, sees the node of 7, and fails. It walks again and writes the same slot anew: nobody has seen it, so it is not used up.",
+    "without": "With a store in place of the exchange the head would lead to 5, and 7 would be lost.",
+    "turns": [14, 20],
+    "lacks": []
+  },
+  "left-in-chain": {
+    "question": "Thread 1's remove of 5 has answered. Which nodes are in the chain, and what does a contains of 5 answer that begins only then?",
+    "turnsOn": "The node of 5 is still there, marked: the head led to 3 when the remover tried to unlink it. The next add or remove that walks there takes it out. contains sees the mark: false.",
+    "without": "It answers true (mark-at-key). The remove had ended before, and nobody puts 5 in again: no order helps.",
+    "turns": [21, 27],
+    "lacks": ["mark-at-key"]
+  },
+  "ceiling-meets-mark": {
+    "question": "Thread 0's ceiling of 3 has come to the node of 5. Before it looks at the mark, thread 1 takes 5 out. What does it answer, and where does that fit?",
+    "turnsOn": "The mark is looked at last (row 25). It finds one, begins again at the head, and comes to the tail: nothing, which fits from the mark on.",
+    "without": "Here 5 would be right too, since the remove was begun after the ceiling. But a mark may be older: see the next example.",
+    "turns": [18, 20],
+    "lacks": []
+  },
+  "ceiling-left-in-chain": {
+    "question": "The remove of 5 has ended, and its node is still in the chain. What may a ceiling of 4 answer, and how often may it walk?",
+    "turnsOn": "Not 5: the mark sends it back to the head, as often as it meets that node. Thread 1's walk takes it out; the second walk answers 7, put in after the call had begun.",
+    "without": "It answers 5, which nobody puts in again: no order helps. LazyList's ceiling wants the same look (mark-in-ceiling).",
+    "turns": [27, 33, 43],
+    "lacks": []
+  },
+  "behind-the-walk": {
+    "question": "Thread 0 has read the link of the head, which leads to 9. Thread 1 puts 5 in between. May its ceiling of 3 answer 9?",
+    "turnsOn": "Yes: at that moment no key lay between. It fits already at the begin of the call, before the add, which ended earlier.",
+    "without": "No check is left out here. Each node of the walk was in the chain, with the link that was read, at some moment of the call. Over other links it could pass a key that was always there.",
+    "turns": [9, 16],
+    "lacks": []
+  },
+  "nothing-in-anothers-step": {
+    "question": "Just after each of thread 0's own events 7 is in the set. Its ceiling of 6 answers that there is no key. Is that right?",
+    "turnsOn": "Yes: between two of them thread 1 took out 7 and then 5, and put 7 in again. The link of the node of 5 led to the tail when it was marked, and no exchange changes a marked link.",
+    "without": "No check is left out here either: the link beside the mark was in the chain during the call.",
+    "turns": [11, 28],
+    "lacks": []
+  }
+};
+
+const LACKING = {
+  "lock": "coarse",
+  "second-lock": "fine",
+  "hand-over-hand": "fine",
+  "second-walk": "optimistic",
+  "same-node": "optimistic",
+  "marks-in-validation": "lazy",
+  "mark-in-contains": "lazy",
+  "mark-in-ceiling": "lazy",
+  "mark": "lock-free",
+  "mark-in-add": "lock-free",
+  "mark-in-remove": "lock-free",
+  "mark-at-key": "lock-free",
+  "new-slot": "lock-free",
+  "last-slot": "lock-free"
+};
+return { CLASSICS, LACKING };
+})();
+
+// made/rows.js
+const $made_rows = (() => {
+// The rows of the step tables, from docs/TABLES.md by page/build: for show alone, no state is computed from them.
+
+const LISTS = {
+  "coarse": {
+    "name": "CoarseList",
+    "registers": ["pred", "curr", "succ", "ckey"],
+    "adds": 5,
+    "removes": 8,
+    "calls": {
+      "add": {"rows": [1, 2, 3, 4, 5, 6, 7, 10], "registers": ["pred", "curr", "ckey"]},
+      "remove": {"rows": [1, 2, 3, 4, 8, 9, 10], "registers": ["pred", "curr", "succ", "ckey"]},
+      "contains": {"rows": [1, 2, 3, 4, 10], "registers": ["pred", "curr", "ckey"]},
+      "ceiling": {"rows": [1, 2, 3, 4, 10], "registers": ["pred", "curr", "ckey"]}
+    },
+    "rows": {
+      "1": {"step": "try list.lock", "then": "2", "book": "lock the list"},
+      "2": {
+        "step": "load head.link",
+        "then": "pred = head, curr = next(s); 3",
+        "book": "pred is the head, curr its next"
+      },
+      "3": {
+        "step": "load curr.key",
+        "then": "ckey = s; below K: 4; else decide",
+        "book": "test of the loop, then of the key",
+        "below": 4
+      },
+      "4": {
+        "step": "load curr.link",
+        "then": "pred = curr, curr = next(s); 3",
+        "book": "one node further"
+      },
+      "5": {"step": "store K in own.key", "then": "6", "book": "the new node's key"},
+      "6": {"step": "store curr in own.link", "then": "7", "book": "its next"},
+      "7": {"step": "store own in pred.link", "then": "+k, reply true; 10", "book": "link it in"},
+      "8": {"step": "load curr.link", "then": "succ = next(s); 9", "book": "read curr's next"},
+      "9": {"step": "store succ in pred.link", "then": "-k, reply true; 10", "book": "unlink curr"},
+      "10": {"step": "store 0 in list.lock", "then": "answers", "book": "unlock the list"}
+    }
+  },
+  "fine": {
+    "name": "FineList",
+    "registers": ["pred", "curr", "succ", "ckey"],
+    "adds": 7,
+    "removes": 10,
+    "calls": {
+      "add": {"rows": [1, 2, 3, 4, 5, 6, 7, 8, 9, 12, 13], "registers": ["pred", "curr", "ckey"]},
+      "remove": {"rows": [1, 2, 3, 4, 5, 6, 10, 11, 12, 13], "registers": ["pred", "curr", "succ", "ckey"]},
+      "contains": {"rows": [1, 2, 3, 4, 5, 6, 12, 13], "registers": ["pred", "curr", "ckey"]},
+      "ceiling": {"rows": [1, 2, 3, 4, 5, 6, 12, 13], "registers": ["pred", "curr", "ckey"]}
+    },
+    "rows": {
+      "1": {"step": "try head.lock", "then": "pred = head; 2", "book": "lock the head"},
+      "2": {"step": "load head.link", "then": "curr = next(s); 3", "book": "curr is its next"},
+      "3": {"step": "try curr.lock", "then": "4", "book": "lock curr, with pred still locked"},
+      "4": {
+        "step": "load curr.key",
+        "then": "ckey = s; below K: 5; else decide",
+        "book": "test of the loop, then of the key",
+        "below": 5
+      },
+      "5": {"step": "store 0 in pred.lock", "then": "6", "book": "unlock pred: hand over hand"},
+      "6": {
+        "step": "load curr.link",
+        "then": "pred = curr, curr = next(s); 3",
+        "book": "one node further"
+      },
+      "7": {"step": "store K in own.key", "then": "8", "book": "the new node's key"},
+      "8": {"step": "store curr in own.link", "then": "9", "book": "its next"},
+      "9": {"step": "store own in pred.link", "then": "+k, reply true; 12", "book": "link it in"},
+      "10": {"step": "load curr.link", "then": "succ = next(s); 11", "book": "read curr's next"},
+      "11": {"step": "store succ in pred.link", "then": "-k, reply true; 12", "book": "unlink curr"},
+      "12": {"step": "store 0 in curr.lock", "then": "13", "book": "unlock curr"},
+      "13": {"step": "store 0 in pred.lock", "then": "answers", "book": "unlock pred"}
+    }
+  },
+  "optimistic": {
+    "name": "OptimisticList",
+    "registers": ["pred", "curr", "succ", "node", "pkey", "ckey"],
+    "adds": 9,
+    "removes": 12,
+    "calls": {
+      "add": {
+        "rows": [1, 2, 3, 4, 5, 6, 7, 8, 9, 10, 11, 14, 15],
+        "registers": ["pred", "curr", "node", "pkey", "ckey"]
+      },
+      "remove": {
+        "rows": [1, 2, 3, 4, 5, 6, 7, 8, 12, 13, 14, 15],
+        "registers": ["pred", "curr", "succ", "node", "pkey", "ckey"]
+      },
+      "contains": {
+        "rows": [1, 2, 3, 4, 5, 6, 7, 8, 14, 15],
+        "registers": ["pred", "curr", "node", "pkey", "ckey"]
+      },
+      "ceiling": {
+        "rows": [1, 2, 3, 4, 5, 6, 7, 8, 14, 15],
+        "registers": ["pred", "curr", "node", "pkey", "ckey"]
+      }
+    },
+    "rows": {
+      "1": {
+        "step": "load head.link",
+        "then": "pred = head, pkey = 0, curr = next(s); 2",
+        "book": "start of a try"
+      },
+      "2": {
+        "step": "load curr.key",
+        "then": "ckey = s; below K: 3; else 4",
+        "book": "test of the loop",
+        "below": 3
+      },
+      "3": {
+        "step": "load curr.link",
+        "then": "pred = curr, pkey = ckey, curr = next(s); 2",
+        "book": "one node further"
+      },
+      "4": {"step": "try pred.lock", "then": "5", "book": "lock pred"},
+      "5": {
+        "step": "try curr.lock",
+        "then": "node = head; where pred is the head: 8; else 6",
+        "book": "lock curr; validate from the head"
+      },
+      "6": {"step": "load node.link", "then": "node = next(s); 7", "book": "one node further"},
+      "7": {
+        "step": "load node.key",
+        "then": "above pkey: reply none, 14; node is pred: 8; else 6",
+        "book": "is pred met, or passed",
+        "invalid": 14
+      },
+      "8": {
+        "step": "load pred.link",
+        "then": "it leads to curr: decide on ckey; else reply none, 14",
+        "book": "does pred still lead to curr",
+        "invalid": 14
+      },
+      "9": {"step": "store K in own.key", "then": "10", "book": "the new node's key"},
+      "10": {"step": "store curr in own.link", "then": "11", "book": "its next"},
+      "11": {"step": "store own in pred.link", "then": "+k, reply true; 14", "book": "link it in"},
+      "12": {"step": "load curr.link", "then": "succ = next(s); 13", "book": "read curr's next"},
+      "13": {"step": "store succ in pred.link", "then": "-k, reply true; 14", "book": "unlink curr"},
+      "14": {"step": "store 0 in pred.lock", "then": "15", "book": "unlock pred"},
+      "15": {
+        "step": "store 0 in curr.lock",
+        "then": "without a reply: 1; else answers",
+        "book": "unlock curr; if not valid, try again",
+        "again": 1
+      }
+    }
+  },
+  "lazy": {
+    "name": "LazyList",
+    "registers": ["pred", "curr", "succ", "ckey"],
+    "adds": 8,
+    "removes": 11,
+    "calls": {
+      "add": {
+        "rows": [1, 2, 3, 4, 5, 6, 7, 8, 9, 10, 13, 14],
+        "registers": ["pred", "curr", "succ", "ckey"]
+      },
+      "remove": {"rows": [1, 2, 3, 4, 5, 6, 7, 11, 12, 13, 14], "registers": ["pred", "curr", "succ", "ckey"]},
+      "contains": {"rows": [20, 21, 22], "registers": ["curr"]},
+      "ceiling": {"rows": [23, 24, 25], "registers": ["curr", "ckey"]}
+    },
+    "rows": {
+      "1": {"step": "load head.link", "then": "pred = head, curr = next(s); 2", "book": "start of a try"},
+      "2": {
+        "step": "load curr.key",
+        "then": "ckey = s; below K: 3; else 4",
+        "book": "test of the loop",
+        "below": 3
+      },
+      "3": {
+        "step": "load curr.link",
+        "then": "pred = curr, curr = next(s); 2",
+        "book": "one node further"
+      },
+      "4": {"step": "try pred.lock", "then": "5", "book": "lock pred"},
+      "5": {"step": "try curr.lock", "then": "6", "book": "lock curr"},
+      "6": {
+        "step": "load pred.link",
+        "then": "curr, unmarked: 7; else reply none, 13",
+        "book": "pred is not marked, leads to curr",
+        "invalid": 13
+      },
+      "7": {
+        "step": "load curr.link",
+        "then": "marked: reply none, 13; else succ = next(s), decide on ckey",
+        "book": "curr is not marked",
+        "invalid": 13
+      },
+      "8": {"step": "store K in own.key", "then": "9", "book": "the new node's key"},
+      "9": {"step": "store curr in own.link", "then": "10", "book": "its next"},
+      "10": {"step": "store own in pred.link", "then": "+k, reply true; 13", "book": "link it in"},
+      "11": {"step": "store succ* in curr.link", "then": "-k; 12", "book": "mark curr: it is removed"},
+      "12": {"step": "store succ in pred.link", "then": "reply true; 13", "book": "unlink curr"},
+      "13": {"step": "store 0 in curr.lock", "then": "14", "book": "unlock curr"},
+      "14": {
+        "step": "store 0 in pred.lock",
+        "then": "without a reply: 1; else answers",
+        "book": "unlock pred; if not valid, try again",
+        "again": 1
+      },
+      "20": {
+        "step": "load curr.link",
+        "then": "curr = next(s); 21",
+        "book": "one node further, marked or not"
+      },
+      "21": {
+        "step": "load curr.key",
+        "then": "below K: 20; K: 22; else answers false",
+        "book": "test of the loop, then of the key",
+        "below": 20
+      },
+      "22": {
+        "step": "load curr.link",
+        "then": "marked: answers false; else answers true",
+        "book": "is the node of the key marked"
+      },
+      "23": {
+        "step": "load curr.link",
+        "then": "curr = next(s); 24",
+        "book": "one node further, marked or not"
+      },
+      "24": {
+        "step": "load curr.key",
+        "then": "ckey = s; below K: 23; the tail's: answers that there is none; else 25",
+        "book": "stop at the first key not below K",
+        "below": 23
+      },
+      "25": {
+        "step": "load curr.link",
+        "then": "marked: curr = head, 23; else answers the key of ckey",
+        "book": "if marked, start again",
+        "again": 23
+      }
+    }
+  },
+  "lock-free": {
+    "name": "LockFreeList",
+    "registers": ["pred", "curr", "succ", "ckey"],
+    "adds": 5,
+    "removes": 8,
+    "calls": {
+      "add": {"rows": [1, 2, 3, 4, 5, 6, 7], "registers": ["pred", "curr", "succ"]},
+      "remove": {"rows": [1, 2, 3, 4, 8, 9, 10], "registers": ["pred", "curr", "succ"]},
+      "contains": {"rows": [20, 21, 22], "registers": ["curr"]},
+      "ceiling": {"rows": [23, 24, 25], "registers": ["curr", "ckey"]}
+    },
+    "rows": {
+      "1": {"step": "load head.link", "then": "pred = head, curr = next(s); 2", "book": "start of find"},
+      "2": {
+        "step": "load curr.link",
+        "then": "succ = next(s); marked: 3; else 4",
+        "book": "read next and mark together"
+      },
+      "3": {
+        "step": "exchange pred.link from curr to succ",
+        "then": "success: curr = succ, 2; else 1",
+        "book": "snip the marked curr; if that fails, start again",
+        "again": 1
+      },
+      "4": {
+        "step": "load curr.key",
+        "then": "below K: pred = curr, curr = succ, 2; else decide",
+        "book": "test of the loop, then of the key",
+        "below": 2
+      },
+      "5": {"step": "store K in own.key", "then": "6", "book": "the new node's key"},
+      "6": {"step": "store curr in own.link", "then": "7", "book": "its next"},
+      "7": {
+        "step": "exchange pred.link from curr to own",
+        "then": "success: +k, answers true; else 1",
+        "book": "link it in; if that fails, start again, with the same slot",
+        "again": 1
+      },
+      "8": {"step": "load curr.link", "then": "succ = next(s); 9", "book": "read curr's next"},
+      "9": {
+        "step": "exchange curr.link from succ to succ*",
+        "then": "success: -k, 10; else 1",
+        "book": "mark curr: it is removed; if that fails, start again",
+        "again": 1
+      },
+      "10": {
+        "step": "exchange pred.link from curr to succ",
+        "then": "answers true whatever was seen",
+        "book": "one try to unlink it; a later find does it else"
+      },
+      "20": {
+        "step": "load curr.link",
+        "then": "curr = next(s); 21",
+        "book": "one node further, marked or not"
+      },
+      "21": {
+        "step": "load curr.key",
+        "then": "below K: 20; K: 22; else answers false",
+        "book": "test of the loop, then of the key",
+        "below": 20
+      },
+      "22": {
+        "step": "load curr.link",
+        "then": "marked: answers false; else answers true",
+        "book": "is the node of the key marked"
+      },
+      "23": {
+        "step": "load curr.link",
+        "then": "curr = next(s); 24",
+        "book": "one node further, marked or not"
+      },
+      "24": {
+        "step": "load curr.key",
+        "then": "ckey = s; below K: 23; the tail's: answers that there is none; else 25",
+        "book": "stop at the first key not below K",
+        "below": 23
+      },
+      "25": {
+        "step": "load curr.link",
+        "then": "marked: curr = head, 23; else answers the key of ckey",
+        "book": "if marked, start again",
+        "again": 23
+      }
+    }
+  }
+};
+return { LISTS };
+})();
+
+// page/dom.js
+const $page_dom = (() => {
+const byId = (id) => document.getElementById(id);
+
+function redraw(box, html) {
+  const before = box.contains(document.activeElement) ? document.activeElement : null;
+  const keyOf = (part) => JSON.stringify({ ...part.dataset, name: part.tagName });
+  const key = before === null ? "" : keyOf(before);
+  if (typeof html === "string") box.innerHTML = html;
+  else box.replaceChildren(...html);
+  if (before === null) return;
+  const parts = [...box.querySelectorAll("button, select, input, a, [tabindex]")];
+  const isOfSame = (part) => part.dataset.of !== undefined && part.dataset.of === before.dataset.of;
+  (parts.find((part) => keyOf(part) === key) ?? parts.find(isOfSame) ?? parts[0] ?? box).focus();
+}
+
+const setAble = (id, isAble) => byId(id).setAttribute("aria-disabled", String(!isAble));
+
+function setHidden(part, isHidden, other) {
+  if (isHidden && part === document.activeElement) other.focus();
+  part.hidden = isHidden;
+}
+return { byId, redraw, setAble, setHidden };
+})();
+
+// run/faults.js
+const $run_faults = (() => {
 const CAUSES = {
   Header: 'line 1 is to be "listset-schedule 1", or "listset-schedule 2", which has ceilings and opening keys',
   Kind: 'line 2 is to be "list" and one of coarse, fine, optimistic, lazy, lock-free',
@@ -18,12 +549,725 @@ const CAUSES = {
   NoThread: "there is no such thread",
   Busy: "the thread has a call open",
   Idle: "the thread has no call open",
+  Waits: "the thread waits for a lock of another one, and does not come there",
   Lost: "the list is broken so far that this step names no word of it",
 };
-const NO_ENGINE = "The engine is not here: no schedule can be run and no report checked. A file of listset trace can be opened.";
-const EMPTY_TRACE = "listset-trace 1\nlist lazy\nthreads 2\nquota 4\nend\n";
+return { CAUSES };
+})();
 
-// What the page holds: the engine, the trace that is shown, the state after `count` of its events.
+// run/markup.js
+const $run_markup = (() => {
+const SIGNS = { "&": "&amp;", "<": "&lt;", ">": "&gt;", '"': "&quot;" };
+const escaped = (text) => String(text).replace(/[&<>"]/g, (sign) => SIGNS[sign]);
+
+function tag(name, attributes, ...content) {
+  const given = Object.entries(attributes).map(([attribute, value]) => ` ${attribute}="${escaped(value)}"`);
+  return `<${name}${given.join("")}>${content.join("")}</${name}>`;
+}
+
+const label = (attributes, text) => tag("text", attributes, escaped(text));
+const title = (text) => tag("title", {}, escaped(text));
+const colourOf = (thread) => `thread-${thread % 8}`;
+const chipOf = (thread) => tag("span", { class: `chip ${colourOf(thread)}` }, `t${thread}`);
+const keyText = (key) => String(key).replace("-inf", "−∞").replace("+inf", "+∞");
+const said = (value) => (value.endsWith("*") ? `${value.slice(0, -1)}, marked` : keyText(value));
+const callText = (call) => `${call.operation}(${call.key})`;
+const openReply = "true"; // an open call that stands in the order has changed the set
+return { escaped, tag, label, title, colourOf, chipOf, keyText, said, callText, openReply };
+})();
+
+// run/trace.js
+const $run_trace = (() => {
+const HEADER_LINES = 4;
+const END = "end\n"; // the last line, if no event is refused
+const NODE_REGISTERS = ["pred", "curr", "succ", "node"];
+const KEY_REGISTERS = ["pkey", "ckey"];
+const CALL_WORDS = ["add", "remove", "contains", "ceiling"];
+const MOST_NUMBER = 4294967295;
+
+class Trace {
+  constructor(text, version = 1, before = null) {
+    const [, kind, lacks = null, threads, quota] =
+      /^listset-trace 1\nlist (\S+)\n(?:lacks (\S+)\n)?threads (\d+)\nquota (\d+)\n/.exec(text);
+    Object.assign(this, { text, version, kind, lacks, threads: Number(threads), quota: Number(quota) });
+    this.opening = [];
+    this.starts = []; // of each event, where its line begins
+    this.calls = [];
+    this.callsOf = Array.from({ length: this.threads }, () => []);
+    this.changes = []; // the events that change the set
+    this.starred = []; // the numbers of those whose line tells of a mark
+    this.refused = null;
+    this.before = before !== null && goesOn(this, before) ? before : null;
+    if (this.before === null) this.scan(0);
+    else this.takeOver();
+    if (this.opening.length > 0) this.version = 2;
+    this.order = orderOf(this.calls);
+  }
+
+  get total() {
+    return this.starts.length;
+  }
+
+  takeOver() {
+    const { opening, starts, calls, callsOf, changes, starred, text } = this.before;
+    const own = { opening, starts: [...starts], calls: [...calls], changes: [...changes], starred: [...starred] };
+    Object.assign(this, own, { callsOf: callsOf.map((some) => [...some]) });
+    this.scan(text.length - END.length);
+  }
+
+  scan(from) {
+    const { text } = this;
+    for (let at = from; at < text.length; ) {
+      const end = text.indexOf("\n", at);
+      const line = text.slice(at, end);
+      if (line.startsWith("event ")) this.note(line, this.starts.push(at));
+      else if (line.startsWith("opening ")) this.opening.push(Number(line.slice("opening ".length)));
+      else if (line.startsWith("refused ")) this.refused = { line: Number(line.split(" ")[2]), cause: line.split(" ")[3] };
+      at = end + 1;
+    }
+  }
+
+  note(line, number) {
+    if (line.includes("*")) this.starred.push(number);
+    if (line.includes(" begin ")) this.noteCall(line.split(" "), number);
+    const isChange = line.includes(" put ") || line.includes(" took ");
+    const isAnswer = line.includes(" answer ");
+    if (!isChange && !isAnswer) return;
+    const event = this.event(number);
+    if (isChange) {
+      this.changes.push(event);
+      Object.assign(event.call, { at: number, changes: true });
+    }
+    if (isAnswer) Object.assign(event.call, { at: event.at, ended: number, reply: event.answer });
+  }
+
+  noteCall([, , , , , thread, , operation, key], begun) {
+    const call = { id: this.calls.length, thread: Number(thread), operation, key: Number(key), begun };
+    if (operation === "ceiling") this.version = 2;
+    Object.assign(call, { ended: null, at: null, changes: false, reply: null });
+    this.calls.push(call);
+    this.callsOf[call.thread].push(call);
+  }
+
+  callAt(thread, number) {
+    const calls = this.callsOf[thread];
+    let [least, most] = [0, calls.length - 1];
+    while (least < most) {
+      const middle = (least + most + 1) >> 1;
+      if (calls[middle].begun <= number) least = middle;
+      else most = middle - 1;
+    }
+    return calls[least];
+  }
+
+  lineOf(number) {
+    const start = this.starts[number - 1];
+    return this.text.slice(start, this.text.indexOf("\n", start));
+  }
+
+  event(number) {
+    const pieces = this.lineOf(number).split(" ");
+    const event = { number, line: Number(pieces[3]), thread: Number(pieces[5]), deed: pieces[6], changes: {} };
+    event.call = this.callAt(event.thread, number);
+    let at = event.deed === "begin" ? 11 : 8;
+    if (event.deed !== "begin") event.word = pieces[7];
+    if (event.deed === "store") event.to = pieces[at++];
+    for (; pieces[at] !== "pc"; at += 2) event[pieces[at]] = pieces[at + 1];
+    for (; at < pieces.length; at += 2) tellIn(event, pieces[at], pieces[at + 1]);
+    return event;
+  }
+
+  events() {
+    return this.starts.map((_, index) => this.event(index + 1));
+  }
+}
+
+function tellIn(event, name, value) {
+  if (name === "answer") event.answer = value;
+  else if (name === "put" || name === "took" || name === "at") event[name] = Number(value);
+  else if (name === "pc" || name === "used") event.changes[name] = Number(value);
+  else if (name !== "call") event.changes[name] = value;
+}
+
+function goesOn({ text, version }, before) {
+  return before.version === version && before.text.endsWith(`\n${END}`) && text.startsWith(before.text.slice(0, -END.length));
+}
+
+const firstOpeningNode = (trace) => 2 + trace.threads * trace.quota;
+
+function eventsInCommon(one, other) {
+  const header = ({ kind, threads, quota, opening }) => [kind, threads, quota, ...opening].join();
+  if (header(one) !== header(other)) return 0;
+  const most = Math.min(one.total, other.total);
+  const deedOf = (trace, number) => trace.lineOf(number).replace(/^event \d+ line \d+/, "");
+  let count = 0;
+  while (count < most && deedOf(one, count + 1) === deedOf(other, count + 1)) count++;
+  return count;
+}
+
+function orderOf(calls) {
+  const placed = calls.filter((call) => call.at !== null);
+  return placed.sort((one, other) => one.at - other.at || Number(other.changes) - Number(one.changes) || one.id - other.id);
+}
+return { HEADER_LINES, NODE_REGISTERS, KEY_REGISTERS, CALL_WORDS, MOST_NUMBER, Trace, firstOpeningNode, eventsInCommon };
+})();
+
+// run/judged.js
+const $run_judged = (() => {
+const { callText, openReply } = $run_markup;
+const { HEADER_LINES } = $run_trace;
+const MOST_JUDGED = 60; // events of a run that is judged
+const COUNTED = "no order explains this report: "; // how the line of `show` begins that counting refutes a report
+
+const LEVELS = {
+  points: { task: "The replies are shown. Where does each call take effect?", hidden: ["change", "effect"] },
+  replies: {
+    task: "What does each call answer, and where does it take effect?",
+    hidden: ["change", "reply", "leftInChain", "effect"],
+  },
+  claim: { task: "May a set answer this? Give an order that explains the report, or say that there is none.", hidden: [] },
+};
+
+function exerciseOf(text, level, isWhole = true) {
+  const lines = text.trimEnd().split("\n");
+  const linesOf = (word) => lines.filter((line) => line.startsWith(`${word} `));
+  const calls = linesOf("call").map(callOfLine);
+  return {
+    level,
+    isWhole,
+    calls,
+    places: linesOf("place").map((line) => line.split(" ").slice(1).join("-")),
+    reportText: text,
+    head: [...lines.slice(0, HEADER_LINES), ...linesOf("opening")],
+    callLines: linesOf("call"),
+    keyLines: linesOf("key"),
+    threads: Number(lines[2].split(" ")[1]),
+    last: Math.max(1, ...calls.flatMap((call) => [call.begun, call.ended ?? 0])),
+  };
+}
+
+function callOfLine(line) {
+  const [, id, thread, operation, key, begun, ended, reply = null] = line.split(" ");
+  const end = ended === "open" ? null : Number(ended);
+  return { id: Number(id), thread: Number(thread), operation, key: Number(key), begun: Number(begun), ended: end, reply };
+}
+
+const nameOfCall = (call) => `${callText(call)} of t${call.thread}`;
+const lastMoment = (exercise, call) => call.ended ?? exercise.last;
+
+function repliesOf(exercise, { operation }) {
+  if (operation === "add") return ["true", "false", "full"];
+  if (operation !== "ceiling") return ["true", "false"];
+  const named = [...exercise.head, ...exercise.callLines].map((line) => /^(?:opening|call \d+ \d+ add) (\d+)/.exec(line)?.[1]);
+  const keys = [...new Set(named.filter((key) => key !== undefined).map(Number))].sort((one, other) => one - other);
+  return ["nothing", ...keys.map((key) => `at-${key}`)];
+}
+
+class OwnAnswer {
+  constructor(exercise) {
+    this.exercise = exercise;
+    this.points = new Map(); // by the call's number: { at, turn }
+    this.replies = new Map();
+    this.turn = 0;
+    this.isNone = false;
+  }
+
+  place(call, at) {
+    const within = Math.min(Math.max(Math.round(2 * at) / 2, call.begun), lastMoment(this.exercise, call));
+    if (this.points.get(call.id)?.at !== within) this.points.set(call.id, { at: within, turn: this.turn++ });
+  }
+
+  take(call) {
+    this.points.delete(call.id);
+  }
+
+  say(call, reply) {
+    this.replies.set(call.id, reply);
+  }
+
+  replyOf(call) {
+    if (call.ended === null) return openReply;
+    return this.exercise.level === "replies" ? (this.replies.get(call.id) ?? null) : call.reply;
+  }
+
+  order() {
+    const calls = this.exercise.calls.filter(({ id }) => this.points.has(id));
+    const placed = calls.map((call) => ({ call, ...this.points.get(call.id) }));
+    placed.sort((one, other) => one.at - other.at || one.turn - other.turn);
+    return placed.map(({ call, at }) => ({ call, at, reply: this.replyOf(call) }));
+  }
+
+  unsaid() {
+    return this.exercise.calls.filter((call) => call.ended !== null && (!this.points.has(call.id) || this.replyOf(call) === null));
+  }
+}
+
+function reportOfAnswer(answer) {
+  const { head, callLines, keyLines } = answer.exercise;
+  const places = answer.order().map(({ call, reply }) => `place ${call.id} ${reply}`);
+  return [...head, ...callLines, ...places, ...keyLines, "end", ""].join("\n");
+}
+
+function verdictOn(ask, answer) {
+  const unsaid = answer.unsaid();
+  if (answer.isNone) return verdictOnClaim(ask, answer.exercise);
+  const nothing = { isRight: null, clash: null, report: null };
+  if (unsaid.length > 0) return { ...nothing, says: `Still to be said: ${unsaid.map(nameOfCall).join(", ")}.` };
+  const report = reportOfAnswer(answer);
+  const checked = ask("listset_check", report).text.trim();
+  if (checked === "ok") return { isRight: true, clash: null, report, says: rightInWords(answer) };
+  const told = ask("listset_show", report).text.split("\n").find((line) => line.startsWith("refused "));
+  const clash = Number(/^refused \w+ (\d+)/.exec(checked)?.[1] ?? -1);
+  return { isRight: false, clash, report, says: faultInWords(answer, told) };
+}
+
+function verdictOnClaim(ask, { isWhole, reportText }) {
+  const said = (isRight, says) => ({ isRight, clash: null, report: null, says });
+  const there = "There is one: this is a run of a list that is proved to have an order for each of its runs. Find it.";
+  if (isWhole) return said(false, there);
+  const isCounted = ask("listset_show", reportText).text.includes(`\n${COUNTED}`);
+  if (isCounted) return said(true, "Right: no order explains this report (proved by counting). A broken list gave it.");
+  return said(null, "Counting does not tell: a broken list gave this report, and another order may explain it.");
+}
+
+function rightInWords(answer) {
+  if (!answer.exercise.isWhole) return "check says ok: this order explains the report, so this schedule does not break the list.";
+  const own = answer.order().map(({ call, reply }) => `${call.id}-${reply}`);
+  const isSame = own.join() === answer.exercise.places.join();
+  const also = isSame ? "It is the order that the replayer gives, too." : "The replayer gives another one: both explain the run.";
+  return `check says ok: this order explains the run. ${also}`;
+}
+
+function faultInWords(answer, line) {
+  const order = answer.order();
+  const named = (id) => nameOfCall(answer.exercise.calls[Number(id)]);
+  const bySet = /^refused WrongReply (\d+): place (\d+) says (\S+), and .*?the set is (\{.*\}) and answers (\S+)$/.exec(line);
+  if (bySet !== null) {
+    const [, id, place, reply, set, other] = bySet;
+    const before = Number(place) === 1 ? "before your first call" : `after ${named(order[place - 2].call.id)} in your order`;
+    return `${named(id)} cannot answer ${reply} there: ${before} the set is ${set}, and it would answer ${other}.`;
+  }
+  const byRun = /^refused WrongReply (\d+): place \d+ says (\S+), and the history says/.exec(line);
+  if (byRun !== null) return `${named(byRun[1])} does not answer ${byRun[2]} in this run. Look at what it sees before it answers.`;
+  const early = /^refused TooEarly (\d+): it begins at (\d+) and stands before call (\d+), which ended at (\d+)$/.exec(line);
+  if (early !== null) {
+    const [, late, begun, first, ended] = early;
+    const stands = `in your order it stands before ${named(first)}, which ended at event ${ended}`;
+    return `${named(late)} begins at event ${begun}, and ${stands}.`;
+  }
+  const leaves = /^refused WrongSet: the order leaves (\{.*\}), and the keys are (\{.*\})$/.exec(line);
+  if (leaves !== null) return `Your order leaves the set ${leaves[1]}, and at the end of this run it is ${leaves[2]}.`;
+  return line;
+}
+
+const wordOfAnswer = (answer) => (answer.isNone ? "none" : answer.order().map(({ call, reply }) => `${call.id}-${reply}`).join());
+
+function answerOfWord(exercise, word) {
+  const answer = new OwnAnswer(exercise);
+  if (word === "none") return Object.assign(answer, { isNone: true });
+  let at = 0;
+  for (const piece of word.split(",")) {
+    const [, id, reply] = /^(\d{1,5})-([a-z0-9-]+)$/.exec(piece) ?? [];
+    const call = exercise.calls[id];
+    if (call === undefined || answer.points.has(call.id)) return null;
+    at = Math.max(at, call.begun);
+    answer.points.set(call.id, { at, turn: answer.turn++ });
+    answer.say(call, reply);
+  }
+  return answer;
+}
+return { MOST_JUDGED, COUNTED, LEVELS, exerciseOf, nameOfCall, lastMoment, repliesOf, OwnAnswer, reportOfAnswer, verdictOn, wordOfAnswer, answerOfWord };
+})();
+
+// run/schedule_text.js
+const $run_schedule_text = (() => {
+const { HEADER_LINES } = $run_trace;
+const MOST_STEPS = 10000; // of one line
+
+const titleOf = (version) => `listset-schedule ${version}`;
+const versionOf = (schedule) => (schedule.startsWith(`${titleOf(2)}\n`) ? 2 : 1);
+
+function scheduleLines(trace, count) {
+  const lines = [titleOf(trace.version), `list ${trace.kind}`, `threads ${trace.threads}`, `quota ${trace.quota}`];
+  for (const key of trace.opening) lines.push(`opening ${key}`);
+  let [steps, before] = [0, null];
+  for (let number = 1; number <= count; number++) {
+    const event = trace.event(number);
+    const goesOn = before === event.line;
+    steps = goesOn ? steps + 1 : 1;
+    if (event.deed === "begin") lines.push(`begin ${event.thread} ${event.call.operation} ${event.call.key}`);
+    else if (goesOn) lines[lines.length - 1] = `go ${event.thread} ${steps}`;
+    else lines.push(`go ${event.thread} ${steps}`);
+    before = event.line;
+  }
+  return lines;
+}
+
+const scheduleOfTrace = (trace, count = trace.total) => [...scheduleLines(trace, count), ""].join("\n");
+
+function scheduleAndLine(trace, count, line, text = null) {
+  const isWhole = text !== null && count === trace.total && trace.refused === null;
+  const lines = isWhole ? text.trimEnd().split("\n") : scheduleLines(trace, count);
+  const last = lines[lines.length - 1].split(" ");
+  const added = line.split(" ");
+  const isPlain = last[0] === "go" && added[0] === "go" && last[1] === added[1] && Number(added[2]) > 0;
+  const joins = isPlain && Number(last[2]) + Number(added[2]) <= MOST_STEPS;
+  if (added[2] === "ceiling") lines[0] = titleOf(2);
+  if (joins) lines[lines.length - 1] = `go ${last[1]} ${Number(last[2]) + Number(added[2])}`;
+  else lines.push(line);
+  return lines.join("\n") + "\n";
+}
+
+function openingIn(schedule) {
+  const lines = schedule.split("\n").slice(HEADER_LINES);
+  const count = lines.findIndex((line) => !line.startsWith("opening "));
+  return lines.slice(0, count === -1 ? lines.length : count).map((line) => line.slice("opening ".length));
+}
+
+function withOpening(schedule, keys) {
+  const lines = schedule.split("\n");
+  lines.splice(HEADER_LINES, openingIn(schedule).length, ...keys.map((key) => `opening ${key}`));
+  if (keys.length > 0 && lines[0] === titleOf(1)) lines[0] = titleOf(2);
+  return lines.join("\n");
+}
+
+function eventsAsked(text) {
+  let count = 0;
+  for (const [, steps] of text.matchAll(/^(?:begin |go \d+ (\d+)$)/gm)) count += Number(steps ?? 1);
+  return count;
+}
+return { titleOf, versionOf, scheduleOfTrace, scheduleAndLine, openingIn, withOpening, eventsAsked };
+})();
+
+// run/state.js
+const $run_state = (() => {
+const { firstOpeningNode } = $run_trace;
+const BEGUN = { came: 0, pred: "head", curr: "head", succ: "head", node: "head", pkey: "-inf", ckey: "-inf", reply: "none" };
+const AT_REST = { pc: 0, used: 0, call: null, ...BEGUN };
+const linkTarget = (link) => link.replace("*", "");
+const keyNumber = (key) => (key === "-inf" ? -1 : key === "+inf" ? Infinity : Number(key));
+
+const MOST_UNDONE = 20000; // events that can be gone back; what lies further back is made again from the start
+
+class State {
+  constructor(trace) {
+    this.trace = trace;
+    this.begin();
+  }
+
+  begin() {
+    const { trace } = this;
+    this.count = 0;
+    this.lock = "free"; // the list's own lock
+    this.nodes = openingNodes(trace);
+    this.threads = Array.from({ length: trace.threads }, () => ({ ...AT_REST }));
+    this.undo = [];
+  }
+
+  goOn(trace) {
+    this.trace = trace;
+    return this;
+  }
+
+  moveTo(count) {
+    if (count < this.count - this.undo.length) this.begin();
+    while (this.count < count) this.apply(this.trace.event(++this.count), count - this.count < MOST_UNDONE);
+    while (this.count > count) {
+      this.count--;
+      for (const [holder, name, before] of this.undo.pop().reverse()) holder[name] = before;
+    }
+  }
+
+  apply(event, isKept) {
+    const done = [];
+    const set = (holder, name, value) => {
+      if (isKept) done.push([holder, name, holder[name]]);
+      holder[name] = value;
+    };
+    const thread = this.threads[event.thread];
+    if (event.deed === "begin") {
+      for (const name in BEGUN) set(thread, name, BEGUN[name]);
+      set(thread, "call", event.call);
+    } else set(thread, "came", thread.pc);
+    for (const name in event.changes) set(thread, name, event.changes[name]);
+    if (event.deed === "store" || (event.deed === "exchange" && event.saw === event.from)) this.write(event, set);
+    if (!isKept) this.undo = [];
+    else if (this.undo.push(done) > 2 * MOST_UNDONE) this.undo.splice(0, MOST_UNDONE);
+  }
+
+  write(event, set) {
+    const [owner, field] = event.word.split(".");
+    if (owner === "list") return set(this, field, event.to);
+    const node = (this.nodes[owner] ??= newNode());
+    set(node, field, event.to);
+    if (field !== "link" || !node.reached) return;
+    const target = (this.nodes[linkTarget(event.to)] ??= newNode());
+    if (!target.reached) set(target, "reached", true);
+  }
+
+  locks() {
+    const held = {};
+    const add = (lock, word) => lock !== "free" && (held[lock] ??= []).push(word);
+    add(this.lock, "list.lock");
+    const locked = Object.entries(this.nodes).filter(([, node]) => node.lock !== "free");
+    locked.sort(([, one], [, other]) => keyNumber(one.key) - keyNumber(other.key));
+    for (const [name, node] of locked) add(node.lock, `${name}.lock`);
+    return held;
+  }
+
+  chain() {
+    const found = new Set(["head"]);
+    for (let name = "head"; name !== "tail"; ) {
+      name = linkTarget(this.nodes[name].link);
+      if (found.has(name) || !(name in this.nodes)) break;
+      found.add(name);
+    }
+    return [...found];
+  }
+}
+
+function openingNodes(trace) {
+  const first = firstOpeningNode(trace);
+  const nameOf = (index) => (index < trace.opening.length ? `n${first + index}` : "tail");
+  const nodes = {
+    head: { key: "-inf", link: nameOf(0), lock: "free", reached: true },
+    tail: { key: "+inf", link: "tail", lock: "free", reached: true },
+  };
+  trace.opening.forEach((key, index) => {
+    nodes[nameOf(index)] = { key: String(key), link: nameOf(index + 1), lock: "free", reached: true };
+  });
+  return nodes;
+}
+
+const newNode = () => ({ key: "-inf", link: "head", lock: "free", reached: false });
+const isWritten = (node) => node.key !== "-inf" || node.link !== "head" || node.lock !== "free";
+const ownerOf = (trace, name) => Math.floor((Number(name.slice(1)) - 2) / trace.quota);
+
+function contentsIn(trace, first, last) {
+  const keys = new Set(trace.opening);
+  const part = (from) => ({ from, to: last + 1, keys: [...keys].sort((one, other) => one - other) });
+  const toggle = (event) => (event.put !== undefined ? keys.add(event.put) : keys.delete(event.took));
+  const before = trace.changes.filter((event) => event.number < first);
+  before.forEach(toggle);
+  const parts = [part(first)];
+  for (const event of trace.changes.slice(before.length)) {
+    if (event.number > last) break;
+    toggle(event);
+    parts[parts.length - 1].to = event.number;
+    parts.push(part(event.number));
+  }
+  return parts;
+}
+return { linkTarget, keyNumber, State, isWritten, ownerOf, contentsIn };
+})();
+
+// run/sentences.js
+const $run_sentences = (() => {
+const { LISTS } = $made_rows;
+const { callText, chipOf, keyText, said } = $run_markup;
+const { keyNumber, ownerOf } = $run_state;
+const { firstOpeningNode } = $run_trace;
+const isLock = (word) => word.endsWith(".lock");
+const mono = (text) => `<b class="mono">${text}</b>`;
+const isDone = (event) => event.deed === "store" || (event.deed === "exchange" && event.saw === event.from);
+const isFailed = (event) => event.deed === "exchange" && event.saw !== event.from;
+const ownerIn = (word) => word.split(".")[0];
+const isLinkOf = (event) => event.word?.endsWith(".link");
+
+function deedText(event, row) {
+  const word = event.word && mono(event.word);
+  if (event.deed === "begin") return `begins ${callText(event.call)}.`;
+  if (event.deed === "load") return `reads ${word}: ${said(event.saw)}.`;
+  if (event.deed === "store") return isLock(event.word) ? `gives ${word} back.` : `writes ${word} := ${said(event.to)}.`;
+  const exchange = `${said(event.from)} → ${said(event.to)}`;
+  if (event.saw === event.from) return isLock(event.word) ? `takes ${word}.` : `exchanges ${word}: ${exchange}.`;
+  const where = event.changes.pc === row ? `it stays at row ${row}` : `all the same it goes on to row ${event.changes.pc}`;
+  if (isLock(event.word)) return `tries ${word}, which ${event.saw} has: ${where}.`;
+  return `tries to exchange ${word}: ${exchange}, but finds ${said(event.saw)}.`;
+}
+
+function marksOf(trace) {
+  if (trace.marks !== undefined) return trace.marks;
+  trace.marks = new Map();
+  for (const event of trace.starred.map((number) => trace.event(number))) {
+    if (isLinkOf(event) && event.to?.endsWith("*") && isDone(event)) trace.marks.set(ownerIn(event.word), event);
+  }
+  return trace.marks;
+}
+
+function wholeName({ trace, event }, name) {
+  const whose = isOpeningNode(trace, name) ? "the opening node" : `${chipOf(ownerOf(trace, name))}'s node`;
+  const mark = marksOf(trace).get(name);
+  if (mark === undefined || mark.number > event.number) return `${whose} ${name}`;
+  return `${whose} ${name}, which ${chipOf(mark.thread)} marked at event ${mark.number},`;
+}
+
+const OUTCOMES = {
+  change({ trace, state, event, held }) {
+    const hasKey = ({ key, link }, wanted) => String(key) === String(wanted) && !link.endsWith("*");
+    const isIn = (key) => state.chain().some((name) => hasKey(state.nodes[name], key));
+    if (event.put !== undefined && !isIn(event.put))
+      return `<b>This should put ${event.put} into the set, but its node is not in the chain: ${event.put} is lost.</b>`;
+    if (event.took !== undefined && isIn(event.took))
+      return `<b>This should take ${event.took} out of the set, but the chain still has it.</b>`;
+    if (event.put !== undefined) return `<b>This puts ${event.put} into the set</b>, with slot ${held.used} of ${trace.quota}.`;
+    if (event.took !== undefined) return `<b>This takes ${event.took} out of the set.</b>`;
+    return "";
+  },
+
+  mark({ event }) {
+    if (!isLinkOf(event) || !event.to?.endsWith("*") || !isDone(event)) return "";
+    return `${ownerIn(event.word)} is marked now, and still in the chain.`;
+  },
+
+  unlink(moment) {
+    const { state, event, before } = moment;
+    const gone = before.curr;
+    if (!isLinkOf(event) || !isDone(event) || gone === "tail" || gone === ownerIn(event.word)) return "";
+    if (state.nodes[gone].link.replace("*", "") !== event.to || state.chain().includes(gone)) return "";
+    return `<b>This takes ${wholeName(moment, gone)} out of the chain.</b>`;
+  },
+
+  leftInChain({ state, event, before }) {
+    if (!isFailed(event) || event.answer === undefined) return "";
+    if (!state.chain().includes(before.curr)) return `${before.curr} is out of the chain already.`;
+    return `<b>${before.curr} is left in the chain, marked,</b> for a later walk to take out.`;
+  },
+
+  validation({ event, held, row }) {
+    if (row?.invalid === undefined || held.pc !== row.invalid || held.reply !== "none") return "";
+    const owner = ownerIn(event.word);
+    let reason = `${owner} leads to ${said(event.saw)} now, not to ${held.curr}`;
+    if (event.saw.endsWith("*")) reason = `${owner} is marked`;
+    if (event.word.endsWith(".key")) reason = `the second walk is past the key of ${held.pred} and has not met it`;
+    return `<b>The validation fails:</b> ${reason}. It gives its locks back and walks again.`;
+  },
+
+  valid({ held, row }) {
+    if (row?.invalid === undefined || !row.then.includes("decide on")) return "";
+    return held.pc === row.invalid && held.reply === "none" ? "" : "The validation holds.";
+  },
+
+  again({ event, held, row }) {
+    if (row?.again === undefined || held.pc !== row.again || event.answer !== undefined) return "";
+    const reason = event.saw?.endsWith("*") && event.deed === "load" ? `${ownerIn(event.word)} is marked: it` : "It";
+    return `<b>${reason} begins its walk again${/with the same slot/.test(row.book) ? ", with the same slot" : ""}.</b>`;
+  },
+
+  markMet({ trace, state, event, held, row }) {
+    if (event.deed !== "load" || !event.saw.endsWith("*") || [row?.invalid, row?.again].includes(held.pc)) return "";
+    const owner = ownerIn(event.word);
+    const where = state.chain().includes(owner) ? "and still" : "and no longer";
+    if (event.answer !== undefined) return `<b>${owner} is marked</b>, ${where} in the chain.`;
+    if (event.changes.curr !== undefined) return `${owner} is marked, and the walk goes on over it.`;
+    const next = LISTS[trace.kind].rows[held.pc]?.step ?? "";
+    if (next.startsWith("exchange pred.link")) return `<b>${owner} is marked:</b> it goes on to take it out.`;
+    return next.startsWith("exchange curr.link") ? `<b>${owner} is marked already:</b> its exchange is going to fail.` : "";
+  },
+
+  walk({ trace, event, held, row }) {
+    if (event.deed !== "load" || row === undefined) return "";
+    if (row.below !== undefined) return walkAtKey(event, held);
+    if (row.then.includes("node = next(s)")) return `The second walk comes to ${held.node}.`;
+    if (row.then.includes("node is pred")) return secondWalkAtKey(held, row);
+    if (!row.then.includes("curr = next(s)")) return "";
+    const opening = isOpeningNode(trace, held.curr) ? ", the node of an opening key" : "";
+    return `The walk comes to ${held.curr}${opening}.`;
+  },
+
+  decision({ trace, event, held, before }) {
+    const { adds, removes } = LISTS[trace.kind];
+    if (event.answer !== undefined || held.reply !== "none" || before.pc === held.pc) return "";
+    const { operation, key } = held.call;
+    if (operation === "add" && held.pc === adds) return `${key} is not there: it goes on to put it in.`;
+    if (operation === "remove" && held.pc === removes) return `${key} is there: it goes on to take it out.`;
+    return "";
+  },
+
+  reply({ trace, event }) {
+    const { reply } = event.changes;
+    if (reply === undefined || reply === "none" || event.answer !== undefined) return "";
+    const slots = { 0: "it has no slot", 1: "its one slot is used" }[trace.quota] ?? `its ${trace.quota} slots are used`;
+    const used = reply === "full" ? `: ${slots}` : "";
+    return `<b>It will answer ${reply}</b>${used}.`;
+  },
+
+  locks({ state, event }) {
+    if (!event.word || !isLock(event.word) || !isDone(event) || event.answer !== undefined) return "";
+    const own = state.locks()[`t${event.thread}`];
+    return own === undefined ? "It has no lock now." : `It has ${own.join(" and ")}.`;
+  },
+};
+
+const isBelow = (saw, key) => keyNumber(saw) < Number(key);
+
+function walkAtKey(event, held) {
+  const owner = ownerIn(event.word);
+  const { key } = held.call;
+  if (isBelow(event.saw, key)) return `${keyText(event.saw)} is below ${key}: the walk goes on.`;
+  if (event.saw === String(key)) return `<b>The walk stops at ${owner},</b> which has its key.`;
+  return `<b>The walk stops at ${owner},</b> the first whose key is above ${key}.`;
+}
+
+function secondWalkAtKey(held, row) {
+  if (held.pc === row.invalid) return "";
+  if (held.node === held.pred) return `The second walk meets pred, ${held.pred}.`;
+  return `It has not met pred, ${held.pred}: the second walk goes on.`;
+}
+
+const isOpeningNode = (trace, name) => /^n/.test(name) && Number(name.slice(1)) >= firstOpeningNode(trace);
+
+function effectText({ trace, event }, hidden) {
+  const { call } = event;
+  if (event.answer === undefined) return "";
+  const answers = `<b>${callText(call)} answers ${hidden.includes("reply") ? "… what?" : event.answer}</b>`;
+  const mayFitNowhere = trace.lacks !== null && !call.changes && call.at === event.number;
+  if (hidden.includes("effect") || mayFitNowhere) return hidden.includes("reply") ? answers : `${answers}.`;
+  if (call.at === event.number) return `${answers}, and takes effect here.`;
+  const other = trace.event(call.at).thread;
+  const whose = other === event.thread ? "" : `, <b>a step of t${other}</b>`;
+  return `${answers}; it took effect at event ${call.at}${whose}.`;
+}
+
+function openingText(trace) {
+  if (trace.opening.length === 0) return "Before the first event the list is empty and every thread is at rest.";
+  const some = trace.opening.slice(0, 20).join(", ");
+  return `Before the first event the set is {${some}${trace.opening.length > 20 ? ", …" : ""}} and every thread is at rest.`;
+}
+
+function momentAt(state, count) {
+  const { trace } = state;
+  const event = count > 0 ? trace.event(count) : null;
+  state.moveTo(Math.max(count - 1, 0));
+  const before = event === null ? null : { ...state.threads[event.thread] };
+  state.moveTo(count);
+  if (event === null) return { trace, state, event };
+  const row = event.deed === "begin" ? undefined : LISTS[trace.kind].rows[before.pc];
+  return { trace, state, event, before, held: state.threads[event.thread], row };
+}
+
+function sentenceOf(moment, hidden = []) {
+  const { trace, event } = moment;
+  if (event === null) return `${openingText(trace)}${trace.total === 0 ? " Let one begin a call." : ""}`;
+  if (event.deed === "begin") return `${chipOf(event.thread)} ${deedText(event)}`;
+  const told = Object.keys(OUTCOMES).filter((name) => !hidden.includes(name));
+  const outcomes = told.map((name) => OUTCOMES[name](moment));
+  const parts = [chipOf(event.thread), deedText(event, moment.before.pc), ...outcomes, effectText(moment, hidden)];
+  return parts.filter((text) => text !== "").join(" ");
+}
+return { isLock, mono, isFailed, ownerIn, momentAt, sentenceOf };
+})();
+
+// page/now.js
+const $page_now = (() => {
+const { byId } = $page_dom;
+const { CAUSES } = $run_faults;
+const { LEVELS } = $run_judged;
+const { scheduleOfTrace } = $run_schedule_text;
+const { momentAt } = $run_sentences;
+const { State } = $run_state;
+const NO_ENGINE = "The engine is not here: no schedule can be run and no report checked. A file of listset trace can be opened.";
+
 const page = {
   engine: null,
   trace: null,
@@ -36,35 +1280,2899 @@ const page = {
   example: "", // whose text that is
   name: "", // under which a work is kept
   begun: "", // the text with which the work began
-  lacks: null, // the name of the broken list on which it is run (break_it.js), or null
+  lacks: null, // the name of the broken list on which it is run (run/broken.js), or null
+  verdict: null, // on the run of a broken list
+  exercise: null, // the one of "Judge yourself", while it is open
   allThreads: false,
   hides: true, // what is to come
-  view: null, // lecture, list or history, where only that is shown
+  view: null, // lecture, list or history, if only that is shown
 };
-const byId = (id) => document.getElementById(id);
 
-function show() {
-  const { trace, state, count } = page;
-  const moment = momentAt(state, count);
-  showBar(moment);
-  showBreaking();
-  byId("list").innerHTML = drawList(state, moment.event, byId("stage").clientWidth, listHeight());
+const listeners = { shown: [], taken: [], ran: [], kept: [] };
+const on = (what, ...deeds) => listeners[what].push(...deeds);
+
+function announce(what, ...given) {
+  for (const deed of listeners[what]) deed(...given);
+}
+
+const show = () => announce("shown", momentAt(page.state, page.count));
+const isJudging = () => page.exercise !== null;
+const hiddenOutcomes = () => (isJudging() ? LEVELS[page.exercise.level].hidden : []);
+
+function goTo(count) {
+  page.count = Math.max(0, Math.min(page.trace.total, count));
+  tell("");
+  show();
+}
+
+function tell(text) {
+  byId("told").innerHTML = text;
+}
+
+function takeTrace(trace, at, source) {
+  const { refused } = trace;
+  const state = trace.before !== null && trace.before === page.trace ? page.state.goOn(trace) : new State(trace);
+  trace.before = null; // its text is not kept any longer
+  Object.assign(page, { trace, state, source, lacks: trace.lacks });
+  document.body.classList.toggle("breaking", trace.lacks !== null);
+  announce("taken", trace);
+  if (refused === null) tellFault(null, "", "", false);
+  else tellFault(refused.line, refused.cause, `line ${refused.line}: ${refused.cause}`, false);
+  goTo(typeof at === "function" ? at(trace) : at);
+}
+
+function takeScheduleOfTrace() {
+  page.text = page.begun = byId("schedule").value = scheduleOfTrace(page.trace);
+  byId("opening").value = page.trace.opening.join(" ");
+}
+
+function askNow(name, ...texts) {
+  if (page.engine === null) return { status: 1, text: NO_ENGINE };
+  try {
+    return page.engine.ask(name, ...texts);
+  } catch (fault) {
+    return { status: 1, text: fault.message };
+  }
+}
+
+function tellFault(line, cause, said, isOld = true) {
+  page.faultLine = line;
+  page.isRun = !isOld;
+  byId("stage").classList.toggle("old", isOld);
+  byId("old").hidden = !isOld;
+  byId("fault").textContent = cause in CAUSES ? `${said}: ${CAUSES[cause]}` : said;
+}
+
+function tellLine(text) {
+  const found = /^listset: line (\d+): (\w+)$/.exec(text);
+  if (found !== null) tellFault(Number(found[1]), found[2], text);
+  else tellFault(null, "", text);
+}
+return { NO_ENGINE, page, on, announce, show, isJudging, hiddenOutcomes, goTo, tell, takeTrace, takeScheduleOfTrace, askNow, tellFault, tellLine };
+})();
+
+// page/kept.js
+const $page_kept = (() => {
+const { byId } = $page_dom;
+const { announce, page } = $page_now;
+const KEPT = "listset-page-2";
+const KEPT_BEFORE = "listset-page"; // one text, as the page kept it before
+const MOST_WORKS = 60; // the oldest ones go
+
+function keptUnder(name) {
+  try {
+    return JSON.parse(localStorage.getItem(name));
+  } catch {
+    return null;
+  }
+}
+
+function keepUnder(name, value) {
+  try {
+    localStorage.setItem(name, JSON.stringify(value));
+    return true;
+  } catch {
+    return false;
+  }
+}
+
+const isText = (value) => typeof value === "string";
+const isWork = (kept) => typeof kept?.text === "string" && typeof kept.box === "string" && Number.isInteger(kept.count);
+
+const works = {
+  byName: new Map(),
+  isKept: true,
+
+  load() {
+    const kept = keptUnder(KEPT);
+    const before = keptUnder(KEPT_BEFORE);
+    const entries = Array.isArray(kept) ? kept : isWork(before) ? [["my schedule", before]] : [];
+    const isGood = (entry) => Array.isArray(entry) && typeof entry[0] === "string" && isWork(entry[1]);
+    this.byName = new Map(entries.filter(isGood));
+  },
+
+  set(name, work) {
+    this.byName.delete(name);
+    this.byName.set(name, work);
+    const names = [...this.byName.keys()];
+    for (const old of names.slice(0, Math.max(0, names.length - MOST_WORKS))) this.byName.delete(old);
+    this.isKept = keepUnder(KEPT, [...this.byName]);
+  },
+
+  nameOf(text, lacks = null) {
+    return [...this.byName].findLast(([, work]) => work.text === text && (work.lacks ?? null) === lacks)?.[0] ?? null;
+  },
+
+  newName(word) {
+    for (let number = 1; ; number++) {
+      const name = number === 1 ? word : `${word} ${number}`;
+      if (!this.byName.has(name)) return name;
+    }
+  },
+};
+
+function keepWork() {
+  const box = byId("schedule").value;
+  const isLookedAt = box === page.text && page.text === page.begun;
+  if (page.engine === null || page.text === "" || isLookedAt) return;
+  const before = works.byName.get(page.name);
+  if (before?.text === page.text && before.box === box && before.count === page.count) return;
+  works.set(page.name, { text: page.text, box, count: page.count, lacks: page.lacks });
+  announce("kept");
+}
+return { keptUnder, keepUnder, isText, works, keepWork };
+})();
+
+// activities/broken_kept.js
+const $activities_broken_kept = (() => {
+const { LACKING } = $made_classics;
+const { isText, keepUnder, keptUnder } = $page_kept;
+const { page } = $page_now;
+const BROKEN = "listset-broken";
+const SHOWN = "listset-shown-breaks";
+const NAMED = "listset-named-checks";
+
+const isBrokenLine = ([name, line]) => Object.hasOwn(LACKING, name) && isText(line);
+const brokenLines = () => Object.entries(keptUnder(BROKEN) ?? {}).filter(isBrokenLine);
+const keepBrokenLine = (name, line) => keepUnder(BROKEN, { ...keptUnder(BROKEN), [name]: line });
+const noteShown = (name, schedule) => keepUnder(SHOWN, { ...keptUnder(SHOWN), [name]: schedule });
+
+function isShownBreak(name, schedule) {
+  if (page.text === page.begun) return true;
+  const shown = keptUnder(SHOWN)?.[name];
+  return typeof shown === "string" && schedule.trimEnd().startsWith(shown.trimEnd());
+}
+
+const isNamed = (name) => (keptUnder(NAMED) ?? []).includes(name);
+const keepNamed = (name) => keepUnder(NAMED, [...new Set([...(keptUnder(NAMED) ?? []), name])]);
+return { brokenLines, keepBrokenLine, noteShown, isShownBreak, isNamed, keepNamed };
+})();
+
+// data/levels.js
+const $data_levels = (() => {
+const GRADES = ["Warm up", "One thread waits", "Look twice"];
+
+const BREAK_LEVELS = {
+  lock: {
+    grade: 0,
+    story: "One thread at a time, they say. Let two of them meet.",
+    hints: [
+      "Two adds of different keys, both between 3 and 7.",
+      "Let both threads walk to the same place: pred is the node of 3, curr that of 7.",
+      "Stop t0 just before it writes pred.next. Let t1 do its whole add. Then let t0 end.",
+    ],
+    lacks: "It goes on although another thread has the lock.",
+    others: ["It gives the lock back before it writes the link.", "It writes the link of pred before that of its own node."],
+    shortest: [20, 2],
+  },
+  "mark-in-remove": {
+    grade: 0,
+    story: "Two threads take out one key. One of them should be told that it came too late.",
+    hints: [
+      "Two removes of the same key, 3.",
+      "Let both threads find the node of 3 before either of them marks it.",
+      "Stop t0 before the exchange that sets the mark; let t1 go past its own; then let both end.",
+    ],
+    shortest: [14, 2],
+  },
+  mark: {
+    grade: 0,
+    story: "Taking out a node is one exchange here. Fast. Too fast?",
+    hints: [
+      "An add of 5, and a remove of the node in front of it.",
+      "The add's pred is to be the node of 3, which the other thread takes out.",
+      "Stop t0 before the exchange that links 5 in. Let t1 remove 3. Then one step of t0.",
+    ],
+    shortest: [15, 2],
+  },
+  "last-slot": {
+    grade: 0,
+    story: "Each thread may put in two keys in its life. This list is mean.",
+    hints: [
+      "One thread is enough. It adds.",
+      "Two adds of different keys.",
+      "Let t0 add 4 to its end, and then 5 to its end. What does it answer?",
+    ],
+    shortest: [17, 2],
+  },
+  "new-slot": {
+    grade: 0,
+    story: "Each key that is put in wants a node of its own. Does it get one?",
+    hints: [
+      "One thread is enough. It adds.",
+      "Two adds of different keys, one after the other.",
+      "Let t0 add 4 to its end, and then 5 to its end. Where is 4?",
+    ],
+    shortest: [20, 2],
+  },
+  "second-lock": {
+    grade: 1,
+    story: "Hand over hand, the book says: two locks at a time. This one holds one hand in its pocket.",
+    hints: [
+      "An add of 5 beside a remove of 3, its neighbour.",
+      "The add is to hold the node of 3 while the other thread takes that node out.",
+      "Let t1 go on with its add until just before it writes pred.next, with 3 as its pred. Then try a remove of 3 by t0.",
+    ],
+    shortest: [21, 2],
+  },
+  "hand-over-hand": {
+    grade: 1,
+    story: "A walk should never stand without a lock, not for one moment.",
+    hints: [
+      "An add of 5 beside a remove of 3, its neighbour.",
+      "There is a moment in which the walk of the add holds no lock. Find it.",
+      "Stop t1 on its way from the node of 3 to that of 7. Let t0 remove 3. Then let t1 go on.",
+    ],
+    shortest: [24, 2],
+  },
+  "second-walk": {
+    grade: 1,
+    story: "It locks two nodes, and looks again. But what does it look at?",
+    hints: [
+      "An add of 5 beside a remove of 3, its neighbour.",
+      "The node that the add has found as pred may be out of the list before it is locked.",
+      "Stop t0 at row 4, before it locks pred, which is the node of 3. Let t1 remove 3. Then let t0 end.",
+    ],
+    shortest: [23, 2],
+  },
+  "marks-in-validation": {
+    grade: 1,
+    story: "Marks are set here. Does everybody read them?",
+    hints: [
+      "An add of 5 beside a remove of 3, its neighbour.",
+      "The node that the add has found as pred may be removed before it is locked.",
+      "Stop t0 at row 4, before it locks pred, which is the node of 3. Let t1 remove 3. Then let t0 end.",
+    ],
+    shortest: [25, 2],
+  },
+  "mark-in-add": {
+    grade: 1,
+    story: "The mark forbids to change a link. Somebody does not care.",
+    hints: [
+      "An add of 5, and a remove of the node in front of it.",
+      "The remove is to have marked the node of 3, and no more.",
+      "Stop t0 before its last exchange. Let t1 remove 3 until it has set the mark. Then let t0 end.",
+    ],
+    shortest: [17, 2],
+  },
+  "same-node": {
+    grade: 2,
+    story: "The second walk looks for pred. It meets something that looks like it.",
+    hints: [
+      "Three calls: an add of 5, and of the other thread a remove and an add of one key.",
+      "The node of 3 goes out, and another node of 3 comes in.",
+      "Stop t0 at row 4, before it locks pred, the old node of 3. Let t1 remove 3 and add 3 again. Then let t0 end.",
+    ],
+    shortest: [36, 3],
+  },
+  "mark-at-key": {
+    grade: 2,
+    story: "A marked node can stay in the chain for a while. Who reads it there?",
+    hints: [
+      "Three calls: an add of 5, a remove of 7, and then a contains of 7.",
+      "A remove that loses its last exchange leaves its node in the chain, marked.",
+      "Stop t0 before it links 5 in. Let t1 remove 7 up to its last exchange. Link 5 in, let t1 end. Then ask for 7.",
+    ],
+    shortest: [26, 3],
+  },
+  "mark-in-ceiling": {
+    grade: 2,
+    story: "ceiling(2) asks for the least key from 2 on. Here an order that check refuses is enough: counting cannot tell more.",
+    hints: [
+      "A remove of 3, and a ceiling of 2. Let something end in between.",
+      "The remove has marked the node of 3 and has not ended. A contains of 3 answers false. And then the ceiling?",
+      "Stop t0 after it set the mark. Let t1 ask contains(3), and then ceiling(2).",
+    ],
+    shortest: [16, 3],
+  },
+  "mark-in-contains": {
+    grade: 3,
+    story: "Here contains does not look at the mark. No schedule is known after which no order explains the calls. Why not?",
+    hints: [
+      "A remove of 3, and a contains of 3 by the other thread.",
+      "The remove has set its mark and is still open. So it may come after the contains.",
+      "When the remove has ended, can a new contains still meet its node? In this list a remove ends after the node is out.",
+    ],
+    shortest: null,
+  },
+};
+
+const LACKS_IN_WORDS = {
+  "second-lock": "A remove locks pred alone, and not the node that it takes out.",
+  "hand-over-hand": "A walk gives one lock back before it has the next.",
+  "second-walk": "After the locks it does not walk again: pred may be out of the list.",
+  "same-node": "The second walk looks for the key of pred, and not for the node itself.",
+  "marks-in-validation": "The validation does not look at the marks.",
+  "mark-in-contains": "A contains does not look at the mark of its node.",
+  "mark-in-ceiling": "A ceiling does not look at the mark of its node.",
+  mark: "A remove unlinks its node without marking it first.",
+  "mark-in-add": "An add links its node in behind a marked one.",
+  "mark-in-remove": "A remove marks a node that is marked already.",
+  "mark-at-key": "A contains does not look at the mark of the node with its key.",
+  "new-slot": "An add writes into the node of the key before.",
+  "last-slot": "An add answers full while a slot is free.",
+};
+return { GRADES, BREAK_LEVELS, LACKS_IN_WORDS };
+})();
+
+// made/traces.js
+const $made_traces = (() => {
+// What the engine prints of the classic examples, by make_traces.js: shown where a browser cannot run it.
+
+const EXAMPLES = `
+failed-tries              coarse      two adds of one key: the second's tries of the lock fail
+full                      coarse      an add beyond its thread's quota; a remove gives no slot back
+hand-over-hand            fine        a remover waits for an adder before it, then goes hand over hand
+same-gap                  optimistic  two adds into one gap: the second sees the changed link and walks again
+stale-pred                optimistic  pred is taken out after the walk: the second walk does not find it
+marked-in-chain           lazy        contains answers false, and the key's node is still in the chain
+marked-pred               lazy        pred is marked after the walk: its link gives it away
+read-in-anothers-step     lazy        contains stands in the step of the thread that removed its key
+ceiling-in-anothers-step  lazy        the answer of ceiling fits after steps of the other thread, and after none of its own
+opens-with-keys           lazy        two opening keys take no slot, and the remove of one gives none back
+two-removers              lock-free   two removes of one key: one marks, the other walks again and answers false
+snip                      lock-free   an add takes out the node that a remove has marked
+tries-again               lock-free   an exchange fails, and the add walks again with the same slot
+left-in-chain             lock-free   a remove has ended, and its node is still in the chain: contains answers false
+ceiling-meets-mark        lock-free   the node at which ceiling stops is marked: it walks again and answers nothing
+ceiling-left-in-chain     lock-free   ceiling stops at the node of a remove that has ended: it may not answer that key
+behind-the-walk           lock-free   a key comes in behind the walk of ceiling, which answers the key above it
+nothing-in-anothers-step  lock-free   ceiling answers nothing, and a key is there just after each of its own steps
+`.slice(1);
+
+const TRACES = {
+  "failed-tries": `
+listset-trace 1
+list coarse
+threads 2
+quota 4
+event 1 line 5 thread 0 begin add 5 call 0 pc 1
+event 2 line 6 thread 1 begin add 5 call 1 pc 1
+event 3 line 7 thread 0 exchange list.lock from free to t0 saw free pc 2
+event 4 line 8 thread 1 exchange list.lock from free to t1 saw t0 pc 1
+event 5 line 8 thread 1 exchange list.lock from free to t1 saw t0 pc 1
+event 6 line 8 thread 1 exchange list.lock from free to t1 saw t0 pc 1
+event 7 line 9 thread 0 load head.link saw tail pc 3 curr tail
+event 8 line 9 thread 0 load tail.key saw +inf pc 5 ckey +inf
+event 9 line 9 thread 0 store n2.key 5 pc 6
+event 10 line 9 thread 0 store n2.link tail pc 7
+event 11 line 9 thread 0 store head.link n2 pc 10 used 1 reply true put 5
+event 12 line 9 thread 0 store list.lock free pc 0 answer true call 0 at 11
+event 13 line 10 thread 1 exchange list.lock from free to t1 saw free pc 2
+event 14 line 10 thread 1 load head.link saw n2 pc 3 curr n2
+event 15 line 10 thread 1 load n2.key saw 5 pc 10 ckey 5 reply false
+event 16 line 10 thread 1 store list.lock free pc 0 answer false call 1 at 11
+end
+`.slice(1),
+  "full": `
+listset-trace 1
+list coarse
+threads 1
+quota 1
+event 1 line 5 thread 0 begin add 5 call 0 pc 1
+event 2 line 6 thread 0 exchange list.lock from free to t0 saw free pc 2
+event 3 line 6 thread 0 load head.link saw tail pc 3 curr tail
+event 4 line 6 thread 0 load tail.key saw +inf pc 5 ckey +inf
+event 5 line 6 thread 0 store n2.key 5 pc 6
+event 6 line 6 thread 0 store n2.link tail pc 7
+event 7 line 6 thread 0 store head.link n2 pc 10 used 1 reply true put 5
+event 8 line 6 thread 0 store list.lock free pc 0 answer true call 0 at 7
+event 9 line 7 thread 0 begin remove 5 call 1 pc 1
+event 10 line 8 thread 0 exchange list.lock from free to t0 saw free pc 2
+event 11 line 8 thread 0 load head.link saw n2 pc 3 curr n2
+event 12 line 8 thread 0 load n2.key saw 5 pc 8 ckey 5
+event 13 line 8 thread 0 load n2.link saw tail pc 9 succ tail
+event 14 line 8 thread 0 store head.link tail pc 10 reply true took 5
+event 15 line 8 thread 0 store list.lock free pc 0 answer true call 1 at 14
+event 16 line 9 thread 0 begin add 7 call 2 pc 1
+event 17 line 10 thread 0 exchange list.lock from free to t0 saw free pc 2
+event 18 line 10 thread 0 load head.link saw tail pc 3 curr tail
+event 19 line 10 thread 0 load tail.key saw +inf pc 10 ckey +inf reply full
+event 20 line 10 thread 0 store list.lock free pc 0 answer full call 2 at 16
+end
+`.slice(1),
+  "hand-over-hand": `
+listset-trace 1
+list fine
+threads 2
+quota 4
+event 1 line 5 thread 1 begin add 9 call 0 pc 1
+event 2 line 6 thread 1 exchange head.lock from free to t1 saw free pc 2
+event 3 line 6 thread 1 load head.link saw tail pc 3 curr tail
+event 4 line 6 thread 1 exchange tail.lock from free to t1 saw free pc 4
+event 5 line 6 thread 1 load tail.key saw +inf pc 7 ckey +inf
+event 6 line 6 thread 1 store n6.key 9 pc 8
+event 7 line 6 thread 1 store n6.link tail pc 9
+event 8 line 6 thread 1 store head.link n6 pc 12 used 1 reply true put 9
+event 9 line 6 thread 1 store tail.lock free pc 13
+event 10 line 6 thread 1 store head.lock free pc 0 answer true call 0 at 8
+event 11 line 7 thread 0 begin add 5 call 1 pc 1
+event 12 line 8 thread 1 begin remove 9 call 2 pc 1
+event 13 line 9 thread 0 exchange head.lock from free to t0 saw free pc 2
+event 14 line 9 thread 0 load head.link saw n6 pc 3 curr n6
+event 15 line 9 thread 0 exchange n6.lock from free to t0 saw free pc 4
+event 16 line 9 thread 0 load n6.key saw 9 pc 7 ckey 9
+event 17 line 10 thread 1 exchange head.lock from free to t1 saw t0 pc 1
+event 18 line 10 thread 1 exchange head.lock from free to t1 saw t0 pc 1
+event 19 line 11 thread 0 store n2.key 5 pc 8
+event 20 line 11 thread 0 store n2.link n6 pc 9
+event 21 line 11 thread 0 store head.link n2 pc 12 used 1 reply true put 5
+event 22 line 11 thread 0 store n6.lock free pc 13
+event 23 line 11 thread 0 store head.lock free pc 0 answer true call 1 at 21
+event 24 line 12 thread 1 exchange head.lock from free to t1 saw free pc 2
+event 25 line 12 thread 1 load head.link saw n2 pc 3 curr n2
+event 26 line 12 thread 1 exchange n2.lock from free to t1 saw free pc 4
+event 27 line 12 thread 1 load n2.key saw 5 pc 5 ckey 5
+event 28 line 12 thread 1 store head.lock free pc 6
+event 29 line 12 thread 1 load n2.link saw n6 pc 3 pred n2 curr n6
+event 30 line 12 thread 1 exchange n6.lock from free to t1 saw free pc 4
+event 31 line 12 thread 1 load n6.key saw 9 pc 10 ckey 9
+event 32 line 12 thread 1 load n6.link saw tail pc 11 succ tail
+event 33 line 12 thread 1 store n2.link tail pc 12 reply true took 9
+event 34 line 12 thread 1 store n6.lock free pc 13
+event 35 line 12 thread 1 store n2.lock free pc 0 answer true call 2 at 33
+end
+`.slice(1),
+  "same-gap": `
+listset-trace 1
+list optimistic
+threads 2
+quota 4
+event 1 line 5 thread 0 begin add 5 call 0 pc 1
+event 2 line 6 thread 1 begin add 7 call 1 pc 1
+event 3 line 7 thread 0 load head.link saw tail pc 2 curr tail
+event 4 line 7 thread 0 load tail.key saw +inf pc 4 ckey +inf
+event 5 line 8 thread 1 load head.link saw tail pc 2 curr tail
+event 6 line 8 thread 1 load tail.key saw +inf pc 4 ckey +inf
+event 7 line 9 thread 1 exchange head.lock from free to t1 saw free pc 5
+event 8 line 9 thread 1 exchange tail.lock from free to t1 saw free pc 8
+event 9 line 9 thread 1 load head.link saw tail pc 9
+event 10 line 9 thread 1 store n6.key 7 pc 10
+event 11 line 9 thread 1 store n6.link tail pc 11
+event 12 line 9 thread 1 store head.link n6 pc 14 used 1 reply true put 7
+event 13 line 9 thread 1 store head.lock free pc 15
+event 14 line 9 thread 1 store tail.lock free pc 0 answer true call 1 at 12
+event 15 line 10 thread 0 exchange head.lock from free to t0 saw free pc 5
+event 16 line 10 thread 0 exchange tail.lock from free to t0 saw free pc 8
+event 17 line 10 thread 0 load head.link saw n6 pc 14
+event 18 line 10 thread 0 store head.lock free pc 15
+event 19 line 10 thread 0 store tail.lock free pc 1
+event 20 line 10 thread 0 load head.link saw n6 pc 2 curr n6
+event 21 line 10 thread 0 load n6.key saw 7 pc 4 ckey 7
+event 22 line 10 thread 0 exchange head.lock from free to t0 saw free pc 5
+event 23 line 10 thread 0 exchange n6.lock from free to t0 saw free pc 8
+event 24 line 10 thread 0 load head.link saw n6 pc 9
+event 25 line 10 thread 0 store n2.key 5 pc 10
+event 26 line 10 thread 0 store n2.link n6 pc 11
+event 27 line 10 thread 0 store head.link n2 pc 14 used 1 reply true put 5
+event 28 line 10 thread 0 store head.lock free pc 15
+event 29 line 10 thread 0 store n6.lock free pc 0 answer true call 0 at 27
+end
+`.slice(1),
+  "stale-pred": `
+listset-trace 1
+list optimistic
+threads 2
+quota 4
+event 1 line 5 thread 1 begin add 3 call 0 pc 1
+event 2 line 6 thread 1 load head.link saw tail pc 2 curr tail
+event 3 line 6 thread 1 load tail.key saw +inf pc 4 ckey +inf
+event 4 line 6 thread 1 exchange head.lock from free to t1 saw free pc 5
+event 5 line 6 thread 1 exchange tail.lock from free to t1 saw free pc 8
+event 6 line 6 thread 1 load head.link saw tail pc 9
+event 7 line 6 thread 1 store n6.key 3 pc 10
+event 8 line 6 thread 1 store n6.link tail pc 11
+event 9 line 6 thread 1 store head.link n6 pc 14 used 1 reply true put 3
+event 10 line 6 thread 1 store head.lock free pc 15
+event 11 line 6 thread 1 store tail.lock free pc 0 answer true call 0 at 9
+event 12 line 7 thread 0 begin add 5 call 1 pc 1
+event 13 line 8 thread 0 load head.link saw n6 pc 2 curr n6
+event 14 line 8 thread 0 load n6.key saw 3 pc 3 ckey 3
+event 15 line 8 thread 0 load n6.link saw tail pc 2 pred n6 curr tail pkey 3
+event 16 line 8 thread 0 load tail.key saw +inf pc 4 ckey +inf
+event 17 line 9 thread 1 begin remove 3 call 2 pc 1
+event 18 line 10 thread 1 load head.link saw n6 pc 2 curr n6
+event 19 line 10 thread 1 load n6.key saw 3 pc 4 ckey 3
+event 20 line 10 thread 1 exchange head.lock from free to t1 saw free pc 5
+event 21 line 10 thread 1 exchange n6.lock from free to t1 saw free pc 8
+event 22 line 10 thread 1 load head.link saw n6 pc 12
+event 23 line 10 thread 1 load n6.link saw tail pc 13 succ tail
+event 24 line 10 thread 1 store head.link tail pc 14 reply true took 3
+event 25 line 10 thread 1 store head.lock free pc 15
+event 26 line 10 thread 1 store n6.lock free pc 0 answer true call 2 at 24
+event 27 line 11 thread 0 exchange n6.lock from free to t0 saw free pc 5
+event 28 line 11 thread 0 exchange tail.lock from free to t0 saw free pc 6
+event 29 line 11 thread 0 load head.link saw tail pc 7 node tail
+event 30 line 11 thread 0 load tail.key saw +inf pc 14
+event 31 line 11 thread 0 store n6.lock free pc 15
+event 32 line 11 thread 0 store tail.lock free pc 1
+event 33 line 11 thread 0 load head.link saw tail pc 2 pred head pkey -inf
+event 34 line 11 thread 0 load tail.key saw +inf pc 4
+event 35 line 11 thread 0 exchange head.lock from free to t0 saw free pc 5
+event 36 line 11 thread 0 exchange tail.lock from free to t0 saw free pc 8 node head
+event 37 line 11 thread 0 load head.link saw tail pc 9
+event 38 line 11 thread 0 store n2.key 5 pc 10
+event 39 line 11 thread 0 store n2.link tail pc 11
+event 40 line 11 thread 0 store head.link n2 pc 14 used 1 reply true put 5
+event 41 line 11 thread 0 store head.lock free pc 15
+event 42 line 11 thread 0 store tail.lock free pc 0 answer true call 1 at 40
+end
+`.slice(1),
+  "marked-in-chain": `
+listset-trace 1
+list lazy
+threads 2
+quota 4
+event 1 line 5 thread 1 begin add 5 call 0 pc 1
+event 2 line 6 thread 1 load head.link saw tail pc 2 curr tail
+event 3 line 6 thread 1 load tail.key saw +inf pc 4 ckey +inf
+event 4 line 6 thread 1 exchange head.lock from free to t1 saw free pc 5
+event 5 line 6 thread 1 exchange tail.lock from free to t1 saw free pc 6
+event 6 line 6 thread 1 load head.link saw tail pc 7
+event 7 line 6 thread 1 load tail.link saw tail pc 8 succ tail
+event 8 line 6 thread 1 store n6.key 5 pc 9
+event 9 line 6 thread 1 store n6.link tail pc 10
+event 10 line 6 thread 1 store head.link n6 pc 13 used 1 reply true put 5
+event 11 line 6 thread 1 store tail.lock free pc 14
+event 12 line 6 thread 1 store head.lock free pc 0 answer true call 0 at 10
+event 13 line 7 thread 1 begin remove 5 call 1 pc 1
+event 14 line 8 thread 1 load head.link saw n6 pc 2 curr n6
+event 15 line 8 thread 1 load n6.key saw 5 pc 4 ckey 5
+event 16 line 8 thread 1 exchange head.lock from free to t1 saw free pc 5
+event 17 line 8 thread 1 exchange n6.lock from free to t1 saw free pc 6
+event 18 line 8 thread 1 load head.link saw n6 pc 7
+event 19 line 8 thread 1 load n6.link saw tail pc 11 succ tail
+event 20 line 8 thread 1 store n6.link tail* pc 12 took 5
+event 21 line 9 thread 0 begin contains 5 call 2 pc 20
+event 22 line 10 thread 0 load head.link saw n6 pc 21 curr n6
+event 23 line 10 thread 0 load n6.key saw 5 pc 22
+event 24 line 10 thread 0 load n6.link saw tail* pc 0 answer false call 2 at 21
+event 25 line 11 thread 1 store head.link tail pc 13 reply true
+event 26 line 11 thread 1 store n6.lock free pc 14
+event 27 line 11 thread 1 store head.lock free pc 0 answer true call 1 at 20
+end
+`.slice(1),
+  "marked-pred": `
+listset-trace 1
+list lazy
+threads 2
+quota 4
+event 1 line 5 thread 1 begin add 3 call 0 pc 1
+event 2 line 6 thread 1 load head.link saw tail pc 2 curr tail
+event 3 line 6 thread 1 load tail.key saw +inf pc 4 ckey +inf
+event 4 line 6 thread 1 exchange head.lock from free to t1 saw free pc 5
+event 5 line 6 thread 1 exchange tail.lock from free to t1 saw free pc 6
+event 6 line 6 thread 1 load head.link saw tail pc 7
+event 7 line 6 thread 1 load tail.link saw tail pc 8 succ tail
+event 8 line 6 thread 1 store n6.key 3 pc 9
+event 9 line 6 thread 1 store n6.link tail pc 10
+event 10 line 6 thread 1 store head.link n6 pc 13 used 1 reply true put 3
+event 11 line 6 thread 1 store tail.lock free pc 14
+event 12 line 6 thread 1 store head.lock free pc 0 answer true call 0 at 10
+event 13 line 7 thread 0 begin add 5 call 1 pc 1
+event 14 line 8 thread 0 load head.link saw n6 pc 2 curr n6
+event 15 line 8 thread 0 load n6.key saw 3 pc 3 ckey 3
+event 16 line 8 thread 0 load n6.link saw tail pc 2 pred n6 curr tail
+event 17 line 8 thread 0 load tail.key saw +inf pc 4 ckey +inf
+event 18 line 9 thread 1 begin remove 3 call 2 pc 1
+event 19 line 10 thread 1 load head.link saw n6 pc 2 curr n6
+event 20 line 10 thread 1 load n6.key saw 3 pc 4 ckey 3
+event 21 line 10 thread 1 exchange head.lock from free to t1 saw free pc 5
+event 22 line 10 thread 1 exchange n6.lock from free to t1 saw free pc 6
+event 23 line 10 thread 1 load head.link saw n6 pc 7
+event 24 line 10 thread 1 load n6.link saw tail pc 11 succ tail
+event 25 line 10 thread 1 store n6.link tail* pc 12 took 3
+event 26 line 10 thread 1 store head.link tail pc 13 reply true
+event 27 line 10 thread 1 store n6.lock free pc 14
+event 28 line 10 thread 1 store head.lock free pc 0 answer true call 2 at 25
+event 29 line 11 thread 0 exchange n6.lock from free to t0 saw free pc 5
+event 30 line 11 thread 0 exchange tail.lock from free to t0 saw free pc 6
+event 31 line 11 thread 0 load n6.link saw tail* pc 13
+event 32 line 11 thread 0 store tail.lock free pc 14
+event 33 line 11 thread 0 store n6.lock free pc 1
+event 34 line 11 thread 0 load head.link saw tail pc 2 pred head
+event 35 line 11 thread 0 load tail.key saw +inf pc 4
+event 36 line 11 thread 0 exchange head.lock from free to t0 saw free pc 5
+event 37 line 11 thread 0 exchange tail.lock from free to t0 saw free pc 6
+event 38 line 11 thread 0 load head.link saw tail pc 7
+event 39 line 11 thread 0 load tail.link saw tail pc 8 succ tail
+event 40 line 11 thread 0 store n2.key 5 pc 9
+event 41 line 11 thread 0 store n2.link tail pc 10
+event 42 line 11 thread 0 store head.link n2 pc 13 used 1 reply true put 5
+event 43 line 11 thread 0 store tail.lock free pc 14
+event 44 line 11 thread 0 store head.lock free pc 0 answer true call 1 at 42
+end
+`.slice(1),
+  "read-in-anothers-step": `
+listset-trace 1
+list lazy
+threads 2
+quota 4
+event 1 line 5 thread 1 begin add 5 call 0 pc 1
+event 2 line 6 thread 1 load head.link saw tail pc 2 curr tail
+event 3 line 6 thread 1 load tail.key saw +inf pc 4 ckey +inf
+event 4 line 6 thread 1 exchange head.lock from free to t1 saw free pc 5
+event 5 line 6 thread 1 exchange tail.lock from free to t1 saw free pc 6
+event 6 line 6 thread 1 load head.link saw tail pc 7
+event 7 line 6 thread 1 load tail.link saw tail pc 8 succ tail
+event 8 line 6 thread 1 store n6.key 5 pc 9
+event 9 line 6 thread 1 store n6.link tail pc 10
+event 10 line 6 thread 1 store head.link n6 pc 13 used 1 reply true put 5
+event 11 line 6 thread 1 store tail.lock free pc 14
+event 12 line 6 thread 1 store head.lock free pc 0 answer true call 0 at 10
+event 13 line 7 thread 0 begin contains 5 call 1 pc 20
+event 14 line 8 thread 0 load head.link saw n6 pc 21 curr n6
+event 15 line 8 thread 0 load n6.key saw 5 pc 22
+event 16 line 9 thread 1 begin remove 5 call 2 pc 1
+event 17 line 10 thread 1 load head.link saw n6 pc 2 curr n6
+event 18 line 10 thread 1 load n6.key saw 5 pc 4 ckey 5
+event 19 line 10 thread 1 exchange head.lock from free to t1 saw free pc 5
+event 20 line 10 thread 1 exchange n6.lock from free to t1 saw free pc 6
+event 21 line 10 thread 1 load head.link saw n6 pc 7
+event 22 line 10 thread 1 load n6.link saw tail pc 11 succ tail
+event 23 line 10 thread 1 store n6.link tail* pc 12 took 5
+event 24 line 10 thread 1 store head.link tail pc 13 reply true
+event 25 line 10 thread 1 store n6.lock free pc 14
+event 26 line 10 thread 1 store head.lock free pc 0 answer true call 2 at 23
+event 27 line 11 thread 1 begin add 5 call 3 pc 1
+event 28 line 12 thread 1 load head.link saw tail pc 2 curr tail
+event 29 line 12 thread 1 load tail.key saw +inf pc 4 ckey +inf
+event 30 line 12 thread 1 exchange head.lock from free to t1 saw free pc 5
+event 31 line 12 thread 1 exchange tail.lock from free to t1 saw free pc 6
+event 32 line 12 thread 1 load head.link saw tail pc 7
+event 33 line 12 thread 1 load tail.link saw tail pc 8 succ tail
+event 34 line 12 thread 1 store n7.key 5 pc 9
+event 35 line 12 thread 1 store n7.link tail pc 10
+event 36 line 12 thread 1 store head.link n7 pc 13 used 2 reply true put 5
+event 37 line 12 thread 1 store tail.lock free pc 14
+event 38 line 12 thread 1 store head.lock free pc 0 answer true call 3 at 36
+event 39 line 13 thread 0 load n6.link saw tail* pc 0 answer false call 1 at 23
+end
+`.slice(1),
+  "ceiling-in-anothers-step": `
+listset-trace 1
+list lazy
+threads 2
+quota 2
+opening 5
+event 1 line 6 thread 0 begin ceiling 6 call 0 pc 23
+event 2 line 7 thread 0 load head.link saw n6 pc 24 curr n6
+event 3 line 7 thread 0 load n6.key saw 5 pc 23 ckey 5
+event 4 line 8 thread 1 begin add 9 call 1 pc 1
+event 5 line 9 thread 1 load head.link saw n6 pc 2 curr n6
+event 6 line 9 thread 1 load n6.key saw 5 pc 3 ckey 5
+event 7 line 9 thread 1 load n6.link saw tail pc 2 pred n6 curr tail
+event 8 line 9 thread 1 load tail.key saw +inf pc 4 ckey +inf
+event 9 line 9 thread 1 exchange n6.lock from free to t1 saw free pc 5
+event 10 line 9 thread 1 exchange tail.lock from free to t1 saw free pc 6
+event 11 line 9 thread 1 load n6.link saw tail pc 7
+event 12 line 9 thread 1 load tail.link saw tail pc 8 succ tail
+event 13 line 9 thread 1 store n4.key 9 pc 9
+event 14 line 9 thread 1 store n4.link tail pc 10
+event 15 line 9 thread 1 store n6.link n4 pc 13 used 1 reply true put 9
+event 16 line 9 thread 1 store tail.lock free pc 14
+event 17 line 9 thread 1 store n6.lock free pc 0 answer true call 1 at 15
+event 18 line 10 thread 1 begin remove 5 call 2 pc 1
+event 19 line 11 thread 1 load head.link saw n6 pc 2 curr n6
+event 20 line 11 thread 1 load n6.key saw 5 pc 4 ckey 5
+event 21 line 11 thread 1 exchange head.lock from free to t1 saw free pc 5
+event 22 line 11 thread 1 exchange n6.lock from free to t1 saw free pc 6
+event 23 line 11 thread 1 load head.link saw n6 pc 7
+event 24 line 11 thread 1 load n6.link saw n4 pc 11 succ n4
+event 25 line 11 thread 1 store n6.link n4* pc 12 took 5
+event 26 line 11 thread 1 store head.link n4 pc 13 reply true
+event 27 line 11 thread 1 store n6.lock free pc 14
+event 28 line 11 thread 1 store head.lock free pc 0 answer true call 2 at 25
+event 29 line 12 thread 1 begin add 7 call 3 pc 1
+event 30 line 13 thread 1 load head.link saw n4 pc 2 curr n4
+event 31 line 13 thread 1 load n4.key saw 9 pc 4 ckey 9
+event 32 line 13 thread 1 exchange head.lock from free to t1 saw free pc 5
+event 33 line 13 thread 1 exchange n4.lock from free to t1 saw free pc 6
+event 34 line 13 thread 1 load head.link saw n4 pc 7
+event 35 line 13 thread 1 load n4.link saw tail pc 8 succ tail
+event 36 line 13 thread 1 store n5.key 7 pc 9
+event 37 line 13 thread 1 store n5.link n4 pc 10
+event 38 line 13 thread 1 store head.link n5 pc 13 used 2 reply true put 7
+event 39 line 13 thread 1 store n4.lock free pc 14
+event 40 line 13 thread 1 store head.lock free pc 0 answer true call 3 at 38
+event 41 line 14 thread 0 load n6.link saw n4* pc 24 curr n4
+event 42 line 14 thread 0 load n4.key saw 9 pc 25 ckey 9
+event 43 line 14 thread 0 load n4.link saw tail pc 0 answer at-9 call 0 at 15
+end
+`.slice(1),
+  "opens-with-keys": `
+listset-trace 1
+list lazy
+threads 1
+quota 1
+opening 5
+opening 9
+event 1 line 7 thread 0 begin remove 5 call 0 pc 1
+event 2 line 8 thread 0 load head.link saw n3 pc 2 curr n3
+event 3 line 8 thread 0 load n3.key saw 5 pc 4 ckey 5
+event 4 line 8 thread 0 exchange head.lock from free to t0 saw free pc 5
+event 5 line 8 thread 0 exchange n3.lock from free to t0 saw free pc 6
+event 6 line 8 thread 0 load head.link saw n3 pc 7
+event 7 line 8 thread 0 load n3.link saw n4 pc 11 succ n4
+event 8 line 8 thread 0 store n3.link n4* pc 12 took 5
+event 9 line 8 thread 0 store head.link n4 pc 13 reply true
+event 10 line 8 thread 0 store n3.lock free pc 14
+event 11 line 8 thread 0 store head.lock free pc 0 answer true call 0 at 8
+event 12 line 9 thread 0 begin ceiling 0 call 1 pc 23
+event 13 line 10 thread 0 load head.link saw n4 pc 24 curr n4
+event 14 line 10 thread 0 load n4.key saw 9 pc 25 ckey 9
+event 15 line 10 thread 0 load n4.link saw tail pc 0 answer at-9 call 1 at 12
+event 16 line 11 thread 0 begin add 7 call 2 pc 1
+event 17 line 12 thread 0 load head.link saw n4 pc 2 curr n4
+event 18 line 12 thread 0 load n4.key saw 9 pc 4 ckey 9
+event 19 line 12 thread 0 exchange head.lock from free to t0 saw free pc 5
+event 20 line 12 thread 0 exchange n4.lock from free to t0 saw free pc 6
+event 21 line 12 thread 0 load head.link saw n4 pc 7
+event 22 line 12 thread 0 load n4.link saw tail pc 8 succ tail
+event 23 line 12 thread 0 store n2.key 7 pc 9
+event 24 line 12 thread 0 store n2.link n4 pc 10
+event 25 line 12 thread 0 store head.link n2 pc 13 used 1 reply true put 7
+event 26 line 12 thread 0 store n4.lock free pc 14
+event 27 line 12 thread 0 store head.lock free pc 0 answer true call 2 at 25
+event 28 line 13 thread 0 begin add 8 call 3 pc 1
+event 29 line 14 thread 0 load head.link saw n2 pc 2 curr n2
+event 30 line 14 thread 0 load n2.key saw 7 pc 3 ckey 7
+event 31 line 14 thread 0 load n2.link saw n4 pc 2 pred n2 curr n4
+event 32 line 14 thread 0 load n4.key saw 9 pc 4 ckey 9
+event 33 line 14 thread 0 exchange n2.lock from free to t0 saw free pc 5
+event 34 line 14 thread 0 exchange n4.lock from free to t0 saw free pc 6
+event 35 line 14 thread 0 load n2.link saw n4 pc 7
+event 36 line 14 thread 0 load n4.link saw tail pc 13 succ tail reply full
+event 37 line 14 thread 0 store n4.lock free pc 14
+event 38 line 14 thread 0 store n2.lock free pc 0 answer full call 3 at 28
+end
+`.slice(1),
+  "two-removers": `
+listset-trace 1
+list lock-free
+threads 2
+quota 4
+event 1 line 5 thread 0 begin add 5 call 0 pc 1
+event 2 line 6 thread 0 load head.link saw tail pc 2 curr tail
+event 3 line 6 thread 0 load tail.link saw tail pc 4 succ tail
+event 4 line 6 thread 0 load tail.key saw +inf pc 5
+event 5 line 6 thread 0 store n2.key 5 pc 6
+event 6 line 6 thread 0 store n2.link tail pc 7
+event 7 line 6 thread 0 exchange head.link from tail to n2 saw tail pc 0 used 1 put 5 answer true call 0 at 7
+event 8 line 7 thread 0 begin remove 5 call 1 pc 1
+event 9 line 8 thread 1 begin remove 5 call 2 pc 1
+event 10 line 9 thread 0 load head.link saw n2 pc 2 curr n2
+event 11 line 9 thread 0 load n2.link saw tail pc 4 succ tail
+event 12 line 9 thread 0 load n2.key saw 5 pc 8
+event 13 line 9 thread 0 load n2.link saw tail pc 9
+event 14 line 10 thread 1 load head.link saw n2 pc 2 curr n2
+event 15 line 10 thread 1 load n2.link saw tail pc 4 succ tail
+event 16 line 10 thread 1 load n2.key saw 5 pc 8
+event 17 line 10 thread 1 load n2.link saw tail pc 9
+event 18 line 11 thread 1 exchange n2.link from tail to tail* saw tail pc 10 took 5
+event 19 line 11 thread 1 exchange head.link from n2 to tail saw n2 pc 0 answer true call 2 at 18
+event 20 line 12 thread 0 exchange n2.link from tail to tail* saw tail* pc 1
+event 21 line 12 thread 0 load head.link saw tail pc 2 curr tail
+event 22 line 12 thread 0 load tail.link saw tail pc 4
+event 23 line 12 thread 0 load tail.key saw +inf pc 0 reply false answer false call 1 at 18
+end
+`.slice(1),
+  "snip": `
+listset-trace 1
+list lock-free
+threads 2
+quota 4
+event 1 line 5 thread 0 begin add 5 call 0 pc 1
+event 2 line 6 thread 0 load head.link saw tail pc 2 curr tail
+event 3 line 6 thread 0 load tail.link saw tail pc 4 succ tail
+event 4 line 6 thread 0 load tail.key saw +inf pc 5
+event 5 line 6 thread 0 store n2.key 5 pc 6
+event 6 line 6 thread 0 store n2.link tail pc 7
+event 7 line 6 thread 0 exchange head.link from tail to n2 saw tail pc 0 used 1 put 5 answer true call 0 at 7
+event 8 line 7 thread 0 begin remove 5 call 1 pc 1
+event 9 line 8 thread 0 load head.link saw n2 pc 2 curr n2
+event 10 line 8 thread 0 load n2.link saw tail pc 4 succ tail
+event 11 line 8 thread 0 load n2.key saw 5 pc 8
+event 12 line 8 thread 0 load n2.link saw tail pc 9
+event 13 line 8 thread 0 exchange n2.link from tail to tail* saw tail pc 10 took 5
+event 14 line 9 thread 1 begin add 7 call 2 pc 1
+event 15 line 10 thread 1 load head.link saw n2 pc 2 curr n2
+event 16 line 10 thread 1 load n2.link saw tail* pc 3 succ tail
+event 17 line 10 thread 1 exchange head.link from n2 to tail saw n2 pc 2 curr tail
+event 18 line 10 thread 1 load tail.link saw tail pc 4
+event 19 line 10 thread 1 load tail.key saw +inf pc 5
+event 20 line 10 thread 1 store n6.key 7 pc 6
+event 21 line 10 thread 1 store n6.link tail pc 7
+event 22 line 10 thread 1 exchange head.link from tail to n6 saw tail pc 0 used 1 put 7 answer true call 2 at 22
+event 23 line 11 thread 0 exchange head.link from n2 to tail saw n6 pc 0 answer true call 1 at 13
+end
+`.slice(1),
+  "tries-again": `
+listset-trace 1
+list lock-free
+threads 2
+quota 4
+event 1 line 5 thread 0 begin add 5 call 0 pc 1
+event 2 line 6 thread 1 begin add 7 call 1 pc 1
+event 3 line 7 thread 0 load head.link saw tail pc 2 curr tail
+event 4 line 7 thread 0 load tail.link saw tail pc 4 succ tail
+event 5 line 7 thread 0 load tail.key saw +inf pc 5
+event 6 line 7 thread 0 store n2.key 5 pc 6
+event 7 line 7 thread 0 store n2.link tail pc 7
+event 8 line 8 thread 1 load head.link saw tail pc 2 curr tail
+event 9 line 8 thread 1 load tail.link saw tail pc 4 succ tail
+event 10 line 8 thread 1 load tail.key saw +inf pc 5
+event 11 line 8 thread 1 store n6.key 7 pc 6
+event 12 line 8 thread 1 store n6.link tail pc 7
+event 13 line 8 thread 1 exchange head.link from tail to n6 saw tail pc 0 used 1 put 7 answer true call 1 at 13
+event 14 line 9 thread 0 exchange head.link from tail to n2 saw n6 pc 1
+event 15 line 9 thread 0 load head.link saw n6 pc 2 curr n6
+event 16 line 9 thread 0 load n6.link saw tail pc 4
+event 17 line 9 thread 0 load n6.key saw 7 pc 5
+event 18 line 9 thread 0 store n2.key 5 pc 6
+event 19 line 9 thread 0 store n2.link n6 pc 7
+event 20 line 9 thread 0 exchange head.link from n6 to n2 saw n6 pc 0 used 1 put 5 answer true call 0 at 20
+end
+`.slice(1),
+  "left-in-chain": `
+listset-trace 1
+list lock-free
+threads 2
+quota 4
+event 1 line 5 thread 0 begin add 5 call 0 pc 1
+event 2 line 6 thread 0 load head.link saw tail pc 2 curr tail
+event 3 line 6 thread 0 load tail.link saw tail pc 4 succ tail
+event 4 line 6 thread 0 load tail.key saw +inf pc 5
+event 5 line 6 thread 0 store n2.key 5 pc 6
+event 6 line 6 thread 0 store n2.link tail pc 7
+event 7 line 6 thread 0 exchange head.link from tail to n2 saw tail pc 0 used 1 put 5 answer true call 0 at 7
+event 8 line 7 thread 0 begin add 3 call 1 pc 1
+event 9 line 8 thread 0 load head.link saw n2 pc 2 curr n2
+event 10 line 8 thread 0 load n2.link saw tail pc 4 succ tail
+event 11 line 8 thread 0 load n2.key saw 5 pc 5
+event 12 line 8 thread 0 store n3.key 3 pc 6
+event 13 line 8 thread 0 store n3.link n2 pc 7
+event 14 line 9 thread 1 begin remove 5 call 2 pc 1
+event 15 line 10 thread 1 load head.link saw n2 pc 2 curr n2
+event 16 line 10 thread 1 load n2.link saw tail pc 4 succ tail
+event 17 line 10 thread 1 load n2.key saw 5 pc 8
+event 18 line 10 thread 1 load n2.link saw tail pc 9
+event 19 line 10 thread 1 exchange n2.link from tail to tail* saw tail pc 10 took 5
+event 20 line 11 thread 0 exchange head.link from n2 to n3 saw n2 pc 0 used 2 put 3 answer true call 1 at 20
+event 21 line 12 thread 1 exchange head.link from n2 to tail saw n3 pc 0 answer true call 2 at 19
+event 22 line 13 thread 0 begin contains 5 call 3 pc 20
+event 23 line 14 thread 0 load head.link saw n3 pc 21 curr n3
+event 24 line 14 thread 0 load n3.key saw 3 pc 20
+event 25 line 14 thread 0 load n3.link saw n2 pc 21 curr n2
+event 26 line 14 thread 0 load n2.key saw 5 pc 22
+event 27 line 14 thread 0 load n2.link saw tail* pc 0 answer false call 3 at 22
+end
+`.slice(1),
+  "ceiling-meets-mark": `
+listset-trace 1
+list lock-free
+threads 2
+quota 4
+event 1 line 5 thread 1 begin add 5 call 0 pc 1
+event 2 line 6 thread 1 load head.link saw tail pc 2 curr tail
+event 3 line 6 thread 1 load tail.link saw tail pc 4 succ tail
+event 4 line 6 thread 1 load tail.key saw +inf pc 5
+event 5 line 6 thread 1 store n6.key 5 pc 6
+event 6 line 6 thread 1 store n6.link tail pc 7
+event 7 line 6 thread 1 exchange head.link from tail to n6 saw tail pc 0 used 1 put 5 answer true call 0 at 7
+event 8 line 7 thread 0 begin ceiling 3 call 1 pc 23
+event 9 line 8 thread 0 load head.link saw n6 pc 24 curr n6
+event 10 line 8 thread 0 load n6.key saw 5 pc 25 ckey 5
+event 11 line 9 thread 1 begin remove 5 call 2 pc 1
+event 12 line 10 thread 1 load head.link saw n6 pc 2 curr n6
+event 13 line 10 thread 1 load n6.link saw tail pc 4 succ tail
+event 14 line 10 thread 1 load n6.key saw 5 pc 8
+event 15 line 10 thread 1 load n6.link saw tail pc 9
+event 16 line 10 thread 1 exchange n6.link from tail to tail* saw tail pc 10 took 5
+event 17 line 10 thread 1 exchange head.link from n6 to tail saw n6 pc 0 answer true call 2 at 16
+event 18 line 11 thread 0 load n6.link saw tail* pc 23 curr head
+event 19 line 11 thread 0 load head.link saw tail pc 24 curr tail
+event 20 line 11 thread 0 load tail.key saw +inf pc 0 ckey +inf answer nothing call 1 at 16
+end
+`.slice(1),
+  "ceiling-left-in-chain": `
+listset-trace 1
+list lock-free
+threads 2
+quota 4
+event 1 line 5 thread 0 begin add 5 call 0 pc 1
+event 2 line 6 thread 0 load head.link saw tail pc 2 curr tail
+event 3 line 6 thread 0 load tail.link saw tail pc 4 succ tail
+event 4 line 6 thread 0 load tail.key saw +inf pc 5
+event 5 line 6 thread 0 store n2.key 5 pc 6
+event 6 line 6 thread 0 store n2.link tail pc 7
+event 7 line 6 thread 0 exchange head.link from tail to n2 saw tail pc 0 used 1 put 5 answer true call 0 at 7
+event 8 line 7 thread 0 begin add 3 call 1 pc 1
+event 9 line 8 thread 0 load head.link saw n2 pc 2 curr n2
+event 10 line 8 thread 0 load n2.link saw tail pc 4 succ tail
+event 11 line 8 thread 0 load n2.key saw 5 pc 5
+event 12 line 8 thread 0 store n3.key 3 pc 6
+event 13 line 8 thread 0 store n3.link n2 pc 7
+event 14 line 9 thread 1 begin remove 5 call 2 pc 1
+event 15 line 10 thread 1 load head.link saw n2 pc 2 curr n2
+event 16 line 10 thread 1 load n2.link saw tail pc 4 succ tail
+event 17 line 10 thread 1 load n2.key saw 5 pc 8
+event 18 line 10 thread 1 load n2.link saw tail pc 9
+event 19 line 10 thread 1 exchange n2.link from tail to tail* saw tail pc 10 took 5
+event 20 line 11 thread 0 exchange head.link from n2 to n3 saw n2 pc 0 used 2 put 3 answer true call 1 at 20
+event 21 line 12 thread 1 exchange head.link from n2 to tail saw n3 pc 0 answer true call 2 at 19
+event 22 line 13 thread 0 begin ceiling 4 call 3 pc 23
+event 23 line 14 thread 0 load head.link saw n3 pc 24 curr n3
+event 24 line 14 thread 0 load n3.key saw 3 pc 23 ckey 3
+event 25 line 14 thread 0 load n3.link saw n2 pc 24 curr n2
+event 26 line 14 thread 0 load n2.key saw 5 pc 25 ckey 5
+event 27 line 14 thread 0 load n2.link saw tail* pc 23 curr head
+event 28 line 15 thread 1 begin add 7 call 4 pc 1
+event 29 line 16 thread 1 load head.link saw n3 pc 2 curr n3
+event 30 line 16 thread 1 load n3.link saw n2 pc 4 succ n2
+event 31 line 16 thread 1 load n3.key saw 3 pc 2 pred n3 curr n2
+event 32 line 16 thread 1 load n2.link saw tail* pc 3 succ tail
+event 33 line 16 thread 1 exchange n3.link from n2 to tail saw n2 pc 2 curr tail
+event 34 line 16 thread 1 load tail.link saw tail pc 4
+event 35 line 16 thread 1 load tail.key saw +inf pc 5
+event 36 line 16 thread 1 store n6.key 7 pc 6
+event 37 line 16 thread 1 store n6.link tail pc 7
+event 38 line 16 thread 1 exchange n3.link from tail to n6 saw tail pc 0 used 1 put 7 answer true call 4 at 38
+event 39 line 17 thread 0 load head.link saw n3 pc 24 curr n3
+event 40 line 17 thread 0 load n3.key saw 3 pc 23 ckey 3
+event 41 line 17 thread 0 load n3.link saw n6 pc 24 curr n6
+event 42 line 17 thread 0 load n6.key saw 7 pc 25 ckey 7
+event 43 line 17 thread 0 load n6.link saw tail pc 0 answer at-7 call 3 at 38
+end
+`.slice(1),
+  "behind-the-walk": `
+listset-trace 1
+list lock-free
+threads 2
+quota 4
+event 1 line 5 thread 1 begin add 9 call 0 pc 1
+event 2 line 6 thread 1 load head.link saw tail pc 2 curr tail
+event 3 line 6 thread 1 load tail.link saw tail pc 4 succ tail
+event 4 line 6 thread 1 load tail.key saw +inf pc 5
+event 5 line 6 thread 1 store n6.key 9 pc 6
+event 6 line 6 thread 1 store n6.link tail pc 7
+event 7 line 6 thread 1 exchange head.link from tail to n6 saw tail pc 0 used 1 put 9 answer true call 0 at 7
+event 8 line 7 thread 0 begin ceiling 3 call 1 pc 23
+event 9 line 8 thread 0 load head.link saw n6 pc 24 curr n6
+event 10 line 9 thread 1 begin add 5 call 2 pc 1
+event 11 line 10 thread 1 load head.link saw n6 pc 2 curr n6
+event 12 line 10 thread 1 load n6.link saw tail pc 4 succ tail
+event 13 line 10 thread 1 load n6.key saw 9 pc 5
+event 14 line 10 thread 1 store n7.key 5 pc 6
+event 15 line 10 thread 1 store n7.link n6 pc 7
+event 16 line 10 thread 1 exchange head.link from n6 to n7 saw n6 pc 0 used 2 put 5 answer true call 2 at 16
+event 17 line 11 thread 0 load n6.key saw 9 pc 25 ckey 9
+event 18 line 11 thread 0 load n6.link saw tail pc 0 answer at-9 call 1 at 8
+end
+`.slice(1),
+  "nothing-in-anothers-step": `
+listset-trace 1
+list lock-free
+threads 2
+quota 1
+opening 5
+opening 7
+event 1 line 7 thread 0 begin ceiling 6 call 0 pc 23
+event 2 line 8 thread 0 load head.link saw n4 pc 24 curr n4
+event 3 line 8 thread 0 load n4.key saw 5 pc 23 ckey 5
+event 4 line 9 thread 1 begin remove 7 call 1 pc 1
+event 5 line 10 thread 1 load head.link saw n4 pc 2 curr n4
+event 6 line 10 thread 1 load n4.link saw n5 pc 4 succ n5
+event 7 line 10 thread 1 load n4.key saw 5 pc 2 pred n4 curr n5
+event 8 line 10 thread 1 load n5.link saw tail pc 4 succ tail
+event 9 line 10 thread 1 load n5.key saw 7 pc 8
+event 10 line 10 thread 1 load n5.link saw tail pc 9
+event 11 line 10 thread 1 exchange n5.link from tail to tail* saw tail pc 10 took 7
+event 12 line 10 thread 1 exchange n4.link from n5 to tail saw n5 pc 0 answer true call 1 at 11
+event 13 line 11 thread 1 begin remove 5 call 2 pc 1
+event 14 line 12 thread 1 load head.link saw n4 pc 2 curr n4
+event 15 line 12 thread 1 load n4.link saw tail pc 4 succ tail
+event 16 line 12 thread 1 load n4.key saw 5 pc 8
+event 17 line 12 thread 1 load n4.link saw tail pc 9
+event 18 line 12 thread 1 exchange n4.link from tail to tail* saw tail pc 10 took 5
+event 19 line 12 thread 1 exchange head.link from n4 to tail saw n4 pc 0 answer true call 2 at 18
+event 20 line 13 thread 1 begin add 7 call 3 pc 1
+event 21 line 14 thread 1 load head.link saw tail pc 2 curr tail
+event 22 line 14 thread 1 load tail.link saw tail pc 4 succ tail
+event 23 line 14 thread 1 load tail.key saw +inf pc 5
+event 24 line 14 thread 1 store n3.key 7 pc 6
+event 25 line 14 thread 1 store n3.link tail pc 7
+event 26 line 14 thread 1 exchange head.link from tail to n3 saw tail pc 0 used 1 put 7 answer true call 3 at 26
+event 27 line 15 thread 0 load n4.link saw tail* pc 24 curr tail
+event 28 line 15 thread 0 load tail.key saw +inf pc 0 ckey +inf answer nothing call 0 at 11
+end
+`.slice(1),
+};
+return { EXAMPLES, TRACES };
+})();
+
+// page/example.js
+const $page_example = (() => {
+const { EXAMPLES } = $made_traces;
+const { byId } = $page_dom;
+const { announce, page } = $page_now;
+function exampleText(name) {
+  if (page.engine === null || name === "") return null;
+  const answer = page.engine.ask("listset_example", name);
+  return answer.status === 0 ? answer.text : null;
+}
+
+function chooseExample(name) {
+  page.example = name;
+  announce("kept");
+}
+
+const exampleNames = () => [...byId("example-options").children].map((option) => option.value);
+
+function fillExamples() {
+  const list = page.engine === null ? EXAMPLES : page.engine.ask("listset_examples", "").text;
+  for (const line of list.trimEnd().split("\n")) {
+    const [name, kind] = line.split(/ +/);
+    byId("example-options").append(new Option(`${name} (${kind})`, name));
+  }
+}
+return { exampleText, chooseExample, exampleNames, fillExamples };
+})();
+
+// engine/engine.js
+const $engine_engine = (() => {
+const FIRST_ROOM = 1 << 22; // bytes handed to the engine for its answer, at first
+const LARGE_MEMORY = 1 << 28; // past so many bytes an instance is not used again
+
+class Engine {
+  constructor(module) {
+    this.module = module;
+    this.instance = null;
+  }
+
+  static async start() {
+    return new Engine(await WebAssembly.compile(await engineBytes()));
+  }
+
+  ask(name, ...texts) {
+    const encoder = new TextEncoder();
+    return this.askBytes(name, ...texts.map((text) => encoder.encode(text)));
+  }
+
+  askBytes(name, ...given) {
+    if (this.instance === null || this.instance.exports.memory.buffer.byteLength > LARGE_MEMORY) {
+      this.instance = new WebAssembly.Instance(this.module, {});
+    }
+    try {
+      return answerOf(this.instance.exports, name, given);
+    } catch (fault) {
+      this.instance = null; // after a trap the memory is not looked at again
+      throw new Error(`the engine stopped: ${fault.message}`);
+    }
+  }
+}
+
+async function engineBytes() {
+  if (typeof ENGINE === "undefined" && location.protocol === "file:") await loadScript("engine.js");
+  if (typeof ENGINE !== "undefined") return Uint8Array.from(atob(ENGINE), (letter) => letter.charCodeAt(0));
+  const answer = await fetch("listset.wasm");
+  if (!answer.ok) throw new Error(`listset.wasm: ${answer.status} ${answer.statusText}`);
+  return answer.arrayBuffer();
+}
+
+function loadScript(src) {
+  return new Promise((done, fail) => {
+    const onerror = () => fail(new Error(`${src} is not beside the page`));
+    document.head.append(Object.assign(document.createElement("script"), { src, onload: done, onerror }));
+  });
+}
+
+function optionWords({ from, to, width }) {
+  return wordsOf([from, to, width].map((text) => (text === undefined ? "" : `=${text}`)));
+}
+
+function wordsOf(words) {
+  return words.join("\0");
+}
+
+function answerOf(engine, name, given) {
+  const texts = textsOf(engine, engine[name].length, given);
+  let answer = answerInRoom(engine, name, texts, FIRST_ROOM);
+  if (answer.bytes === null) answer = answerInRoom(engine, name, texts, answer.length);
+  texts.forEach(([block]) => engine.page_free(block));
+  if (answer.bytes === null) throw new Error("two answers to one text");
+  return { status: answer.status, text: new TextDecoder().decode(answer.bytes), bytes: answer.bytes };
+}
+
+function textsOf(engine, parameters, given) {
+  return Array.from({ length: (parameters - 3) / 2 }, (_, at) => {
+    const text = given[at] ?? new Uint8Array(0);
+    const block = blockOf(engine, text.length);
+    new Uint8Array(engine.memory.buffer, Number(block), text.length).set(text);
+    return [block, BigInt(text.length)];
+  });
+}
+
+function answerInRoom(engine, name, texts, room) {
+  const out = blockOf(engine, room);
+  const status = blockOf(engine, 1);
+  const count = Number(engine[name](...texts.flat(), out, BigInt(room), status));
+  const memory = engine.memory.buffer;
+  const bytes = count <= room ? new Uint8Array(memory, Number(out), count).slice() : null;
+  const said = new Uint8Array(memory, Number(status), 1)[0];
+  engine.page_free(out);
+  engine.page_free(status);
+  return { bytes, length: count, status: said };
+}
+
+function blockOf(engine, length) {
+  const block = engine.page_alloc(BigInt(Math.max(length, 1)));
+  if (!block) throw new Error("no memory");
+  return block;
+}
+return { FIRST_ROOM, LARGE_MEMORY, Engine, optionWords, wordsOf, answerOf, textsOf, answerInRoom, blockOf };
+})();
+
+// engine/worker.js
+const $engine_worker = (() => {
+const { answerInRoom, answerOf, blockOf, Engine, FIRST_ROOM, LARGE_MEMORY, textsOf } = $engine_engine;
+const EVENT_ROOM = 96; // bytes of a trace's line, so that the engine is asked once
+
+const workerText = (room) => `"use strict";
+const FIRST_ROOM = ${room};
+const LARGE_MEMORY = ${LARGE_MEMORY};
+${[Engine, answerOf, textsOf, answerInRoom, blockOf].join("\n")}
+onmessage = ({ data: { module, name, given } }) => {
+  try {
+    const { status, bytes } = new Engine(module).askBytes(name, given);
+    postMessage({ status, bytes }, [bytes.buffer]);
+  } catch (fault) {
+    postMessage({ status: 1, bytes: new TextEncoder().encode(fault.message) });
+  }
+};`;
+
+function askInWorker(module, name, text, events) {
+  const place = URL.createObjectURL(new Blob([workerText(FIRST_ROOM + EVENT_ROOM * events)], { type: "text/javascript" }));
+  const worker = new Worker(place);
+  const came = new Promise((done) => {
+    worker.onerror = () => done(null);
+    worker.onmessage = ({ data }) => done({ status: data.status, text: new TextDecoder().decode(data.bytes) });
+    worker.postMessage({ module, name, given: new TextEncoder().encode(text) });
+  });
+  const answer = came.finally(() => {
+    worker.terminate();
+    URL.revokeObjectURL(place);
+  });
+  return { worker, answer };
+}
+return { askInWorker };
+})();
+
+// page/long_run.js
+const $page_long_run = (() => {
+const { askInWorker } = $engine_worker;
+const { byId } = $page_dom;
+const { askNow, page, tellFault } = $page_now;
+const { eventsAsked } = $run_schedule_text;
+const MANY_EVENTS = 20000; // so many run beside the page, with a button to cancel that
+const LONG_TEXT = 200000; // characters of a report that has no picture here
+const longRun = { worker: null, timer: 0 };
+
+async function askLong(name, text) {
+  const events = eventsAsked(text);
+  if (text.length < LONG_TEXT && events < MANY_EVENTS) return askNow(name, text);
+  try {
+    const { worker, answer } = askInWorker(page.engine.module, name, text, events);
+    longRun.worker = worker;
+    const came = await answer;
+    if (came !== null) return came;
+  } catch {
+  }
+  await new Promise((done) => requestAnimationFrame(() => setTimeout(done)));
+  return askNow(name, text);
+}
+
+async function runLong(text, asked, take) {
+  stopLong();
+  const begun = Date.now();
+  const tellTime = () => {
+    const seconds = Math.round((Date.now() - begun) / 1000);
+    byId("long-said").textContent = `running ${asked.toLocaleString("en")} events: ${seconds} s`;
+  };
+  tellTime();
+  longRun.timer = setInterval(tellTime, 1000);
+  byId("long").hidden = false;
+  const answer = await askLong("listset_trace", text);
+  if (page.text !== text || byId("long").hidden) return;
+  stopLong();
+  take(answer);
+}
+
+function stopLong() {
+  clearInterval(longRun.timer);
+  longRun.worker?.terminate();
+  longRun.worker = null;
+  if (byId("long").contains(document.activeElement)) byId("slider").focus();
+  byId("long").hidden = true;
+}
+
+function cancelLong() {
+  stopLong();
+  tellFault(null, "", "The run was cancelled. Run begins it again.");
+}
+return { MANY_EVENTS, LONG_TEXT, askLong, runLong, stopLong, cancelLong };
+})();
+
+// page/play.js
+const $page_play = (() => {
+const { CLASSICS } = $made_classics;
+const { byId } = $page_dom;
+const { goTo, page } = $page_now;
+const SPEEDS = { slow: 1600, medium: 700, fast: 200 }; // milliseconds of one event
+let playing = null;
+let playsTo = Infinity; // the event at which it stops by itself
+
+const wantsLessMotion = () => matchMedia("(prefers-reduced-motion: reduce)").matches;
+
+function showPlay() {
+  byId("play").textContent = playing === null ? "Play" : "Pause";
+  byId("play").setAttribute("aria-pressed", String(playing !== null));
+  byId("said").setAttribute("aria-live", playing === null ? "polite" : "off");
+}
+
+function stopPlay() {
+  clearInterval(playing);
+  playing = null;
+  showPlay();
+}
+
+function startPlay(last = Infinity) {
+  playsTo = last;
+  if (page.trace.total === 0) return;
+  if (page.count === page.trace.total) goTo(0);
+  playing = setInterval(playOn, SPEEDS[byId("speed").value]);
+  showPlay();
+}
+
+function playOn() {
+  goTo(page.count + 1);
+  if (page.count === page.trace.total || page.count === playsTo) stopPlay();
+}
+
+const togglePlay = () => (playing === null ? startPlay() : stopPlay());
+
+function changeSpeed() {
+  if (playing === null) return;
+  stopPlay();
+  startPlay();
+}
+
+function goByHand(count) {
+  stopPlay();
+  goTo(count);
+}
+
+function goToTurn(step) {
+  const turns = CLASSICS[page.example]?.turns ?? [];
+  const changes = (event) => event.put !== undefined || event.took !== undefined || event.answer !== undefined;
+  let count = page.count + step;
+  while (count > 0 && count < page.trace.total && !changes(page.trace.event(count)) && !turns.includes(count)) count += step;
+  goByHand(count);
+}
+return { wantsLessMotion, stopPlay, startPlay, togglePlay, changeSpeed, goByHand, goToTurn };
+})();
+
+// run/broken.js
+const $run_broken = (() => {
+const { LACKING } = $made_classics;
+const { LISTS } = $made_rows;
+const { COUNTED, exerciseOf, nameOfCall } = $run_judged;
+const { escaped } = $run_markup;
+const { scheduleOfTrace, titleOf } = $run_schedule_text;
+const { isFailed, isLock, momentAt, sentenceOf } = $run_sentences;
+const { State } = $run_state;
+const { eventsInCommon, Trace } = $run_trace;
+const LACKING_THREADS = 2;
+const LACKING_QUOTA = 2;
+const LACKING_OPENING = [3, 7]; // what such a list opens with, until the reader changes that
+const EXPLAINED = "Explained: this schedule does not break it.";
+const BY_POINTS =
+  "Not by its points: check refuses the order by the moments that the table names. Another order may explain these replies: try";
+const UNEXPLAINED = "No order of these calls explains that (proved by counting).";
+const TO_BREAK = "No order explains what the calls answer (proved by counting)."; // the condition of a lesson
+
+const UNCOUNTED = ["mark-in-contains", "mark-in-ceiling"];
+const NO_TASK = "mark-in-contains";
+const isToldOf = (lacks, { kind }) => kind === "broken" || (kind === "points" && UNCOUNTED.includes(lacks));
+const isTaskDone = (lacks, verdict) => isToldOf(lacks, verdict) && lacks !== NO_TASK;
+
+const askList = (ask, name, lacks, ...texts) => (lacks === null ? ask(name, ...texts) : ask(`${name}_lacking`, lacks, ...texts));
+
+const lackingOf = (kind) => Object.keys(LACKING).filter((name) => LACKING[name] === kind);
+
+function titleOfLacking(name) {
+  const kind = LACKING[name];
+  const names = lackingOf(kind);
+  const which = names.length === 1 ? "" : ` ${names.indexOf(name) + 1}`;
+  return `${LISTS[kind].name}${which} lacks one check`;
+}
+
+function startOfLacking(name) {
+  const set = [titleOf(2), `list ${LACKING[name]}`, `threads ${LACKING_THREADS}`, `quota ${LACKING_QUOTA}`];
+  return [...set, ...LACKING_OPENING.map((key) => `opening ${key}`), ""].join("\n");
+}
+
+function verdictOnLacking(ask, lacks, schedule) {
+  const { status, text } = ask("listset_replay_lacking", lacks, schedule);
+  if (status !== 0) return { kind: "refused", says: `The schedule is refused: ${text.trim()}`, report: null };
+  if (ask("listset_check", text).text === "ok\n") return { kind: "explained", says: EXPLAINED, report: text };
+  const counted = countedIn(ask("listset_show", text).text);
+  if (counted === null) return { kind: "points", says: BY_POINTS, report: text };
+  return { kind: "broken", says: `Broken: ${countInWords(text, counted)}. ${UNEXPLAINED}`, report: text };
+}
+
+const countedIn = (drawn) => drawn.split("\n").find((line) => line.startsWith(COUNTED))?.slice(COUNTED.length) ?? null;
+
+function countInWords(report, counted) {
+  const exercise = exerciseOf(report, "claim");
+  const [, key, number] = /^count the adds (?:and the removes of (\d+)|.* of call (\d+)) /.exec(counted);
+  if (key !== undefined) {
+    const isLeft = exercise.keyLines.includes(`key ${key}`);
+    return `${changesInWords(exercise, Number(key), Infinity)}, and the set ${isLeft ? "has" : "lacks"} it`;
+  }
+  const call = exercise.calls[number];
+  const says = `${nameOfCall(call)} answers ${call.reply}`;
+  if (call.reply === "full") {
+    const own = exercise.calls.filter((other) => other.thread === call.thread && isChange("add", other));
+    return `${says}, and its thread had put in ${own.length} of the ${exercise.head[3].replace("quota ", "")} keys of its quota`;
+  }
+  const read = Number(/^at-(\d+)$/.exec(call.reply)?.[1] ?? call.key);
+  return `${says}, and before it ${changesInWords(exercise, read, call.begun)}`;
+}
+
+const isChange = (operation, call) => call.operation === operation && call.reply === "true";
+const timesInWords = (count) => ["never", "once", "twice"][count] ?? `${count} times`;
+
+function changesInWords({ head, calls }, key, before) {
+  const count = (operation) => calls.filter((call) => isChange(operation, call) && call.key === key && call.ended < before).length;
+  const [puts, takes] = [timesInWords(count("add")), timesInWords(count("remove"))];
+  const put = puts === "never" ? "never put in" : `put in ${puts}`;
+  const taken = takes === "never" ? "never taken out" : `taken out ${takes}`;
+  return `${key} was ${head.includes(`opening ${key}`) ? "there at first, " : ""}${put} and ${taken}`;
+}
+
+function departureOf(ask, trace) {
+  const answer = ask("listset_trace", scheduleOfTrace(trace));
+  const whole = new Trace(answer.text, trace.version);
+  const event = eventsInCommon(trace, whole) + 1;
+  if (event > trace.total) return null;
+  const rows = [trace, whole].map((one) => (event > one.total ? null : one.event(event).changes.pc));
+  const told = (one) => {
+    if (event > one.total) return "makes no such event.";
+    const goesOn = rows[0] === rows[1] ? "" : rowInWords(one, event);
+    return `${sentenceOf(momentAt(new State(one), event))}${goesOn}`;
+  };
+  return { event, here: told(trace), whole: told(whole) };
+}
+
+function rowInWords(trace, number) {
+  const event = trace.event(number);
+  const row = event.changes.pc;
+  const { step } = LISTS[trace.kind].rows[row] ?? { step: "which the whole list has not" };
+  const isSaid = event.deed === "exchange" && isFailed(event) && isLock(event.word);
+  return row === 0 || isSaid ? "" : ` It goes on at row ${row}, ${escaped(step)}.`;
+}
+return { EXPLAINED, TO_BREAK, UNCOUNTED, NO_TASK, isToldOf, isTaskDone, askList, titleOfLacking, startOfLacking, verdictOnLacking, departureOf };
+})();
+
+// page/run_text.js
+const $page_run_text = (() => {
+const { byId } = $page_dom;
+const { works } = $page_kept;
+const { MANY_EVENTS, runLong, stopLong } = $page_long_run;
+const { announce, askNow, NO_ENGINE, page, takeTrace, tell, tellFault, tellLine } = $page_now;
+const { stopPlay } = $page_play;
+const { askList } = $run_broken;
+const { eventsAsked, openingIn, versionOf } = $run_schedule_text;
+const { Trace } = $run_trace;
+function runText(text, at, told = "") {
+  stopPlay();
+  page.text = text;
+  byId("schedule").value = text;
+  byId("opening").value = openingIn(text).join(" ");
+  if (page.engine === null) return tellFault(null, "", NO_ENGINE);
+  const asked = eventsAsked(text);
+  if (asked >= MANY_EVENTS && page.lacks === null) return runLong(text, asked, (answer) => takeAnswer(answer, text, at, told));
+  stopLong();
+  takeAnswer(askList(askNow, "listset_trace", page.lacks, text), text, at, told);
+}
+
+function takeAnswer(answer, text, at, told) {
+  const source = page.lacks === null ? "run by the proved replayer" : "a run of a broken list";
+  if (answer.text.startsWith("listset-trace")) takeTrace(new Trace(answer.text, versionOf(text), page.trace), at, source);
+  else tellLine(answer.text.trim());
+  tell(works.isKept ? told : `${told} This browser keeps nothing: save the schedule before you leave the page.`);
+  announce("ran");
+}
+return { runText };
+})();
+
+// draw/glide.js
+const $draw_glide = (() => {
+const TIME = 260; // milliseconds
+const EASE = { duration: TIME, easing: "cubic-bezier(.2, .7, .2, 1)" };
+
+const wantsStill = () => matchMedia("(prefers-reduced-motion: reduce)").matches;
+
+function placesIn(box) {
+  const places = new Map();
+  for (const part of box.querySelectorAll("[data-part]")) {
+    const { x = "0", y = "0", to = "" } = part.dataset;
+    places.set(part.dataset.part, { x: Number(x), y: Number(y), to, d: part.querySelector("path")?.getAttribute("d") ?? "" });
+  }
+  return places;
+}
+
+function glideArrow(part, before) {
+  const path = part.querySelector("path");
+  if (path === null || path.getAttribute("d") === before.d) return;
+  if (part.dataset.to === before.to) {
+    const forms = [before.d, path.getAttribute("d")].map((d) => ({ d: `path("${d}")` }));
+    path.animate(forms, EASE);
+  } else {
+    const length = path.getTotalLength();
+    const strokeDasharray = `${length} ${length}`;
+    path.animate([{ strokeDasharray, strokeDashoffset: length }, { strokeDasharray, strokeDashoffset: 0 }], EASE);
+  }
+}
+
+function glide(box, draw, isNear) {
+  const before = isNear && !wantsStill() && !document.hidden ? placesIn(box) : null;
+  draw();
+  if (before === null || before.size === 0) return;
+  for (const part of box.querySelectorAll("[data-part]")) {
+    const was = before.get(part.dataset.part);
+    if (was === undefined) part.animate([{ opacity: 0 }, { opacity: 1 }], EASE);
+    else if (part.dataset.part.startsWith("link ")) glideArrow(part, was);
+    else {
+      const [dx, dy] = [was.x - Number(part.dataset.x), was.y - Number(part.dataset.y)];
+      if (dx !== 0 || dy !== 0) part.animate([{ translate: `${dx}px ${dy}px` }, { translate: "0 0" }], EASE);
+    }
+  }
+}
+return { glide };
+})();
+
+// draw/history.js
+const $draw_history = (() => {
+const { callText, chipOf, colourOf, label, openReply, tag, title } = $run_markup;
+const { contentsIn } = $run_state;
+const HISTORY_LEFT = 50;
+const HISTORY_RIGHT = 16;
+const LEAST_STEP = 7; // pixels of one event
+
+function windowOf(total, count, room) {
+  const most = Math.max(30, Math.floor(room / LEAST_STEP));
+  if (total <= most) return { first: 1, last: Math.max(total, 1) };
+  const third = Math.floor(most / 3);
+  const wanted = (Math.floor(Math.max(count - 1, 0) / third) - 1) * third + 1;
+  const first = Math.max(1, Math.min(total - most + 1, wanted));
+  return { first, last: first + most - 1 };
+}
+
+function scaleOf(trace, count, width, hides = false) {
+  const { first, last } = windowOf(trace.total, count, width - HISTORY_LEFT - HISTORY_RIGHT);
+  const step = (width - HISTORY_LEFT - HISTORY_RIGHT) / (last - first + 1);
+  const lane = trace.threads > 12 ? 24 : trace.threads > 6 ? 32 : 42;
+  return {
+    first,
+    last,
+    step,
+    lane,
+    width,
+    count,
+    now: hides ? count : Infinity, // the last event of which something is told
+    edge: width - HISTORY_RIGHT,
+    height: 12 + trace.threads * lane,
+    x: (moment) => HISTORY_LEFT + (moment - first + 0.5) * step,
+    y: (thread) => 8 + thread * lane + lane / 2,
+  };
+}
+
+const isReached = (call, count) => call.at <= count && (call.changes || (call.ended !== null && call.ended <= count));
+
+function drawLane(scale, thread) {
+  const y = scale.y(thread);
+  const badge = tag("rect", { x: 2, y: y - 10, width: 38, height: 20, rx: 4 }) + label({ x: 21, y: y + 5 }, `t${thread}`);
+  return (
+    tag("line", { class: "lane", x1: HISTORY_LEFT - 6, x2: scale.edge, y1: y, y2: y }) +
+    tag("g", { class: `badge ${colourOf(thread)}` }, badge)
+  );
+}
+
+function callInWords(call, now) {
+  const isOpen = call.ended === null || call.ended > now;
+  const events = isOpen && now < Infinity ? `from event ${call.begun} on` : `events ${call.begun} to ${call.ended ?? "the end"}`;
+  return `call ${call.id}: t${call.thread} ${callText(call)} ${isOpen ? "still open" : call.reply}, ${events}`;
+}
+
+function drawBar(call, scale) {
+  const { first, last, count, now } = scale;
+  const half = scale.lane * 0.34;
+  const y = scale.y(call.thread);
+  const left = call.begun < first ? HISTORY_LEFT - 6 : scale.x(call.begun);
+  const isOpen = call.ended === null || call.ended > now;
+  const end = call.ended === null || call.ended > last ? scale.edge : scale.x(call.ended);
+  const right = isOpen && now <= last ? Math.min(end, scale.x(now)) : end;
+  const state = `${call.begun <= count ? "begun" : "later"}${isOpen ? " open" : ""}`;
+  return tag(
+    "g",
+    { class: `bar ${state} ${colourOf(call.thread)}` },
+    title(callInWords(call, now)),
+    tag("rect", { x: left, y: y - half, width: Math.max(right - left, 4), height: 2 * half, rx: 4 }),
+    drawBarText(call, scale, left, right, y),
+  );
+}
+
+function drawBarText(call, scale, left, right, y) {
+  const isTold = call.reply !== null && call.ended <= scale.now;
+  const text = `${callText(call)}${isTold ? ` ${call.reply}` : ""}`;
+  const wide = 8 * text.length;
+  const point = call.at === null || !isShown(call, scale) ? -99 : scale.x(call.at) - left;
+  const start = point > wide + 14 || point < -8 ? 6 : point + 13;
+  const room = scale.now < (call.ended ?? Infinity) ? scale.edge - left : right - left;
+  if (room <= wide + start) return drawShortText(call, scale, left, room, y, isTold);
+  const done = call.ended !== null && call.ended <= scale.count;
+  const reply = isTold ? tag("tspan", { class: done ? "reply" : "reply later" }, ` ${call.reply}`) : "";
+  return tag("text", { x: left + start, y: y + 5 }, callText(call), reply);
+}
+
+const SHORT = {
+  add: (key) => `+${key}`,
+  remove: (key) => `\u2212${key}`,
+  contains: (key) => `${key}?`,
+  ceiling: (key) => `\u2308${key}\u2309`,
+};
+const SHORT_REPLY = { true: "t", false: "f", full: "full", nothing: "none" };
+
+function drawShortText({ operation, key, reply, ended }, scale, left, room, y, isTold) {
+  const text = SHORT[operation](key);
+  const said = isTold ? ` ${SHORT_REPLY[reply] ?? reply}` : "";
+  if (room < 7 * (text.length + said.length)) return "";
+  const above = y - scale.lane * 0.34 - 3;
+  const done = ended !== null && ended <= scale.count;
+  const answer = said && tag("tspan", { class: done ? "reply" : "reply later" }, said);
+  return tag("text", { class: "short", x: left + 1, y: above }, text, answer);
+}
+
+const isShown = (call, scale) => scale.now === Infinity || isReached(call, scale.now);
+
+function drawPoint(call, scale) {
+  const x = scale.x(call.at);
+  const y = scale.y(call.thread);
+  const state = isReached(call, scale.count) ? "reached" : "later";
+  const how = call.changes ? "changes the set at" : "changes nothing; its reply fits at";
+  return tag(
+    "g",
+    { class: `point ${state} ${colourOf(call.thread)}` },
+    title(`call ${call.id}, ${callText(call)}, ${how} event ${call.at}`),
+    tag("line", { x1: x, x2: x, y1: y, y2: scale.height }),
+    tag("circle", { cx: x, cy: y, r: 6.5 }),
+    call.changes ? "" : tag("circle", { class: "hole", cx: x, cy: y, r: 3 }),
+  );
+}
+
+function drawCursor(scale, bottom) {
+  if (scale.count < scale.first || scale.count > scale.last) return "";
+  const x = scale.x(scale.count);
+  return tag("line", { class: "cursor", x1: x, x2: x, y1: 0, y2: bottom });
+}
+
+function drawCalls(trace, scale) {
+  const { first, last, width, height } = scale;
+  const isIn = (call) => call.begun <= Math.min(last, scale.now) && (call.ended === null || call.ended >= first);
+  const shown = trace.calls.filter(isIn);
+  const placed = shown.filter((call) => call.at !== null && call.at >= first && call.at <= last && isShown(call, scale));
+  const lanes = Array.from({ length: trace.threads }, (_, thread) => drawLane(scale, thread));
+  const bars = shown.map((call) => drawBar(call, scale));
+  const points = placed.map((call) => drawPoint(call, scale));
+  const begun = shown.filter((call) => call.begun <= scale.count);
+  const words = begun.length === 0 ? "no call has begun" : begun.slice(-20).map((call) => callInWords(call, scale.now)).join("; ");
+  const frame = { width, height, role: "img", "aria-label": `the history of the calls: ${words}` };
+  return tag("svg", frame, ...lanes, ...bars, ...points, drawCursor(scale, height));
+}
+
+function drawContent(part, scale) {
+  const left = part.from <= scale.first ? HISTORY_LEFT - 6 : scale.x(part.from);
+  const end = part.to > scale.last ? scale.edge : scale.x(part.to);
+  const right = scale.now < part.to && scale.now <= scale.last ? Math.max(left, scale.x(Math.max(scale.now, scale.first))) : end;
+  const all = `{${part.keys.join(", ")}}`;
+  const free = scale.now < part.to ? scale.edge : right; // right of what is shown now nothing stands
+  const room = Math.floor((free - left - 10) / 8);
+  const text = all.length <= room ? all : room > 6 ? `${all.slice(0, room - 2)}…` : "";
+  const isNow = scale.count < part.to && (scale.count >= part.from || part.from <= scale.first);
+  return tag(
+    "g",
+    { class: isNow ? "content now" : "content" },
+    title(all),
+    tag("rect", { x: left, y: 0, width: Math.max(right - left, 1), height: 24 }),
+    label({ x: left + 5, y: 17 }, text),
+  );
+}
+
+function drawWindow(scale, total, x) {
+  if (scale.first === 1 && scale.last >= total) return "";
+  const place = x > scale.width / 2 ? { x: 4, "text-anchor": "start" } : { x: scale.edge, "text-anchor": "end" };
+  return label({ class: "note", y: 42, ...place }, `events ${scale.first} to ${scale.last} of ${total}`);
+}
+
+function drawContents(trace, scale) {
+  const told = contentsIn(trace, scale.first, scale.last).filter((part) => part.from <= Math.max(scale.now, scale.first));
+  const parts = told.map((part) => drawContent(part, scale));
+  const now = told.findLast((part) => part.from <= Math.max(scale.count, scale.first));
+  const x = Math.min(Math.max(scale.x(scale.count), HISTORY_LEFT + 12), scale.width - 44);
+  const number = scale.count > 0 ? label({ class: "number", x, y: 42 }, `event ${scale.count}`) : "";
+  const name = label({ class: "name", x: 6, y: 17 }, trace.lacks === null ? "set" : "told");
+  const what = trace.lacks === null ? "the set" : "what the calls tell of the set";
+  const words = `${what} after event ${scale.count}: {${now.keys.slice(0, 40).join(", ")}}`;
+  const frame = { width: scale.width, height: 50, role: "img", "aria-label": words };
+  return tag("svg", frame, name, ...parts, drawCursor(scale, 24), number, drawWindow(scale, trace.total, x));
+}
+
+function drawOrder(trace, count, hides = false) {
+  const reached = trace.order.filter((call) => isReached(call, count));
+  const order = hides ? reached : trace.order;
+  const total = order.length;
+  if (total === 0) return hides ? "No call stands in the order yet." : "No call stands in the order.";
+  const first = Math.max(0, Math.min(reached.length - 8, total - 14));
+  const last = Math.min(total, first + 22);
+  const items = order.slice(first, last).map((call) => {
+    const isAnswered = call.ended !== null && (!hides || call.ended <= count);
+    const reply = isAnswered ? call.reply : openReply;
+    const state = isReached(call, count) ? "reached" : "later";
+    return `<li class="${state}">${chipOf(call.thread)} ${callText(call)} <b>${reply}</b></li>`;
+  });
+  const before = first > 0 ? `<li class="later">${first} before …</li>` : "";
+  const after = last < total ? `<li class="later">… ${total - last} more</li>` : "";
+  return `<ol>${before}${items.join("")}${after}</ol>`;
+}
+return { HISTORY_LEFT, scaleOf, SHORT, SHORT_REPLY, drawCalls, drawContents, drawOrder };
+})();
+
+// draw/list.js
+const $draw_list = (() => {
+const { LISTS } = $made_rows;
+const { callText, colourOf, keyText, label, said, tag, title } = $run_markup;
+const { ownerIn } = $run_sentences;
+const { isWritten, keyNumber, linkTarget, ownerOf } = $run_state;
+const { NODE_REGISTERS } = $run_trace;
+const NODE_WIDTH = 94;
+const NODE_HEIGHT = 54;
+const LINK_WIDTH = 24;
+const GAP = 48;
+const LEAST_GAP = 12; // between nodes that are not in the chain
+const FOLD_WIDTH = 84;
+const TOP = 58;
+const LOCK_HEIGHT = 31; // of what stands above a node
+const MOST_UNFOLDED = 14; // a longer chain is folded
+const MOST_ASIDE = 10; // nodes drawn that are not in the chain
+const MOST_POINTING = 6; // threads whose registers are drawn
+const SIGN_WIDTH = 8.6; // of a register's label
+
+function pointersOf(state, event) {
+  const inCall = state.threads.map((held, thread) => ({ held, thread })).filter(({ held }) => held.pc !== 0);
+  inCall.sort((one, other) => Number(other.thread === event?.thread) - Number(one.thread === event?.thread));
+  const { calls } = LISTS[state.trace.kind];
+  return inCall.slice(0, MOST_POINTING).map(({ held, thread }) => {
+    const registers = calls[held.call.operation].registers.filter((name) => NODE_REGISTERS.includes(name));
+    const at = {};
+    for (const name of registers) if (isPointing(held, name)) (at[held[name]] ??= []).push(name);
+    return { thread, at };
+  });
+}
+
+const isPointing = (held, name) => held[name] !== "head" || (name === "pred" && held.curr !== "head");
+
+function importantNodes(state, event, pointers) {
+  const important = new Set(["head", "tail"]);
+  if (event?.word) important.add(event.word.split(".")[0]);
+  for (const { at } of pointers) Object.keys(at).forEach((name) => important.add(name));
+  const locked = Object.values(state.locks()).flat().map(ownerIn).filter((name) => name !== "list");
+  locked.slice(0, 8).forEach((name) => important.add(name));
+  return important;
+}
+
+function foldedChain(chain, important) {
+  if (chain.length <= MOST_UNFOLDED) return chain.map((name) => ({ name }));
+  const isNear = (index) => chain.slice(Math.max(index - 1, 0), index + 2).some((name) => important.has(name));
+  const items = [];
+  chain.forEach((name, index) => {
+    const last = items[items.length - 1];
+    if (isNear(index)) items.push({ name });
+    else if (last?.folded) last.folded.push(name);
+    else items.push({ folded: [name] });
+  });
+  return items.flatMap((item) => (item.folded?.length === 1 ? [{ name: item.folded[0] }] : [item]));
+}
+
+function placesOfChain(items) {
+  const places = {};
+  let x = 16;
+  for (const item of items) {
+    item.x = x;
+    const width = item.folded ? FOLD_WIDTH : NODE_WIDTH;
+    for (const name of item.folded ?? [item.name]) places[name] = { x, y: TOP, width, folded: !!item.folded };
+    x += width + GAP;
+  }
+  return { places, width: x - GAP + 16 };
+}
+
+function nodesAside(state, chain, important) {
+  const inChain = new Set(chain);
+  const aside = Object.keys(state.nodes).filter((name) => !inChain.has(name) && isWritten(state.nodes[name]));
+  const rank = (name) => (important.has(name) ? 2 : state.nodes[name].reached ? 0 : 1);
+  const latest = [...aside].reverse().sort((one, other) => rank(other) - rank(one));
+  return { shown: latest.slice(0, MOST_ASIDE), more: Math.max(0, aside.length - MOST_ASIDE) };
+}
+
+function placeAside(state, chain, shown, places, y) {
+  const taken = [];
+  const byKey = [...shown].sort((one, other) => keyNumber(state.nodes[one].key) - keyNumber(state.nodes[other].key));
+  for (const name of byKey) {
+    const key = keyNumber(state.nodes[name].key);
+    const before = chain.filter((other) => keyNumber(state.nodes[other].key) < key);
+    const place = places[before[before.length - 1] ?? "head"];
+    let x = place.x + (place.width + GAP) / 2;
+    while (taken.some((other) => Math.abs(other - x) < NODE_WIDTH + LEAST_GAP)) x += NODE_WIDTH + 16;
+    places[name] = { x, y, width: NODE_WIDTH, aside: true, lane: taken.length % 3 };
+    taken.push(x);
+  }
+  return taken.length === 0 ? 0 : Math.max(...taken) + NODE_WIDTH + 16;
+}
+
+function kindOf(state, name, place) {
+  if (!state.nodes[name].reached) return `own ${colourOf(ownerOf(state.trace, name))}`;
+  return place.aside ? "out" : "in";
+}
+
+function nodeInWords(node, name, kind) {
+  const where = { in: "", out: ", taken out" }[kind] ?? ", not in the list yet";
+  return `${name}: key ${keyText(node.key)}, link ${said(node.link)}, lock ${node.lock}${where}`;
+}
+
+function drawNode(state, name, place, event) {
+  const node = state.nodes[name];
+  const { x, y } = place;
+  const kind = kindOf(state, name, place);
+  const isMarked = node.link.endsWith("*");
+  const [hot, field] = event?.word?.split(".") ?? [];
+  const size = { x, y, width: NODE_WIDTH, height: NODE_HEIGHT, rx: 5 };
+  const box = isMarked ? { ...size, class: "box marked", style: "fill:url(#hatch)" } : { ...size, class: "box" };
+  const side = x + NODE_WIDTH - LINK_WIDTH;
+  return tag(
+    "g",
+    { class: `node ${kind}`, "data-part": `node ${name}`, "data-x": x, "data-y": y },
+    title(nodeInWords(node, name, kind)),
+    hot === name ? drawHot(x, y) : "",
+    tag("rect", box),
+    tag("line", { class: "side", x1: side, x2: side, y1: y, y2: y + NODE_HEIGHT }),
+    drawKey(node, (x + side) / 2, y + 34, hot === name && field === "key"),
+    label({ class: "name", x: x + 2, y: y - 10 }, name),
+    isMarked ? label({ class: "cross", x: side + LINK_WIDTH / 2, y: y + 34 }, "✗") : "",
+    node.lock === "free" ? "" : drawLock(node.lock, x + NODE_WIDTH - 38, y - 28),
+  );
+}
+
+const drawHot = (x, y) =>
+  tag("rect", { "data-hot": x, class: "hot", x: x - 6, y: y - 6, width: NODE_WIDTH + 12, height: NODE_HEIGHT + 12, rx: 9 });
+
+function drawKey(node, x, y, isTouched) {
+  const text = keyText(node.key);
+  const size = text.length > 7 ? 11 : text.length > 4 ? 16 : 21;
+  return label({ class: isTouched ? "key touched" : "key", x, y, style: `font-size:${size}px` }, text);
+}
+
+function drawLock(lock, x, y) {
+  const thread = Number(lock.slice(1));
+  return tag(
+    "g",
+    { class: `lock ${colourOf(thread)}`, transform: `translate(${x},${y})` },
+    title(`locked by t${thread}`),
+    tag("path", { d: "M12 9 v-3 a6 6 0 0 1 12 0 v3" }),
+    tag("rect", { x: 0, y: 8, width: 36, height: 18, rx: 4 }),
+    label({ x: 18, y: 22 }, `t${thread}`),
+  );
+}
+
+function drawFold(item) {
+  const { x } = item;
+  const count = item.folded.length;
+  return tag(
+    "g",
+    { class: "fold" },
+    title(`${count} nodes of the chain that no thread looks at`),
+    tag("rect", { x, y: TOP + 9, width: FOLD_WIDTH, height: NODE_HEIGHT - 18, rx: 18 }),
+    label({ x: x + FOLD_WIDTH / 2, y: TOP + NODE_HEIGHT / 2 + 5 }, `… ${count} …`),
+  );
+}
+
+function drawLink(state, name, places, event) {
+  const { link, reached } = state.nodes[name];
+  const target = linkTarget(link);
+  const from = places[name];
+  const to = places[target];
+  if (!to || from.folded || name === "tail" || (target === "head" && !reached)) return "";
+  const kind = event?.word === `${name}.link` ? "hot" : from.aside ? "out" : "in";
+  const isMarked = link.endsWith("*");
+  const x = from.x + NODE_WIDTH - (isMarked ? 1 : LINK_WIDTH / 2);
+  const y = from.y + NODE_HEIGHT / 2;
+  return tag(
+    "g",
+    { class: `link ${kind}${from.aside ? " aside" : ""}`, "data-part": `link ${name}`, "data-to": target },
+    title(`${name}.link: ${said(link)}`),
+    isMarked ? "" : tag("circle", { cx: x, cy: y, r: 4 }),
+    tag("path", { d: pathOf(from, to, x, y), "marker-end": `url(#tip-${kind})` }),
+  );
+}
+
+function pathOf(from, to, x1, y1) {
+  if (from.aside && !to.aside) return pathUp(from, to, x1, y1);
+  const isNext = to.x > from.x && to.x - from.x < 2 * (NODE_WIDTH + LEAST_GAP);
+  if (from.aside && !isNext) return pathOver(from, to, x1, y1);
+  return `M${x1} ${y1} L${to.x - 3} ${to.y + NODE_HEIGHT / 2}`;
+}
+
+function bent(start, ...turns) {
+  const at = [...start];
+  const corners = turns.map((turn, index) => {
+    at[index % 2] = turn;
+    return ` L${at[0]} ${at[1]}`;
+  });
+  return `M${start[0]} ${start[1]}${corners.join("")}`;
+}
+
+function pathUp(from, to, x1, y1) {
+  const beside = from.x + NODE_WIDTH + 8;
+  const under = from.y - 34 - 6 * from.lane;
+  const gap = to.x - 32 + 7 * from.lane;
+  const y2 = to.y + NODE_HEIGHT - (to.folded ? 14 : 7) - 6 * from.lane;
+  return bent([x1, y1], beside, under, gap, y2, to.x - 3);
+}
+
+function pathOver(from, to, x1, y1) {
+  return bent([x1, y1], from.x + NODE_WIDTH + 8, from.y - 34 - 6 * from.lane, to.x + 48, to.y - 3);
+}
+
+function roomsUnder(state, items, shown) {
+  const risen = new Set(shown.map((name) => linkTarget(state.nodes[name].link)));
+  const rooms = {};
+  items.forEach(({ name }, index) => {
+    const next = items[index + 1];
+    const isCrossed = next !== undefined && (next.folded ?? [next.name]).some((other) => risen.has(other));
+    rooms[name] = NODE_WIDTH + (isCrossed ? 0 : GAP - 6);
+  });
+  return rooms;
+}
+
+function labelTexts(thread, registers, room) {
+  const texts = [];
+  for (const register of registers) {
+    const joined = `${texts[texts.length - 1]}, ${register}`;
+    if (texts.length > 0 && joined.length * SIGN_WIDTH <= room) texts[texts.length - 1] = joined;
+    else texts.push(`▲ t${thread} ${register}`);
+  }
+  return texts;
+}
+
+function pointerLabels(pointers, places, rooms) {
+  const labels = [];
+  const add = (thread, name, text) => {
+    const { x, y } = places[name];
+    const own = { thread, name, text, row: y, left: x, right: x + SIGN_WIDTH * text.length + 8, lane: 0 };
+    const isBeside = (other) => other.left >= own.right || own.left >= other.right;
+    const isInTheWay = (other) => other.row === own.row && other.lane === own.lane && !isBeside(other);
+    while (labels.some(isInTheWay)) own.lane++;
+    labels.push(own);
+  };
+  for (const { thread, at } of pointers) {
+    for (const name in at) {
+      if (!places[name] || places[name].folded) continue;
+      for (const text of labelTexts(thread, at[name], rooms[name] ?? NODE_WIDTH)) add(thread, name, text);
+    }
+  }
+  return labels;
+}
+
+function drawPointer({ thread, name, text, left, lane }, places) {
+  const y = places[name].y + NODE_HEIGHT + 21 + 18 * lane;
+  const named = { class: "pointer-of", "data-part": `sign ${text.split(",")[0]}`, "data-x": left, "data-y": y };
+  return tag("g", named, label({ class: `pointer ${colourOf(thread)}`, x: left, y }, text));
+}
+
+function drawListLock(state) {
+  if (state.trace.kind !== "coarse") return "";
+  const lock = state.lock === "free" ? label({ x: 110, y: 20 }, "free") : drawLock(state.lock, 110, -2);
+  return label({ class: "name", x: 16, y: 20 }, "the list's lock") + lock;
+}
+
+const ARROW = { viewBox: "0 0 10 10", refX: 9, refY: 5, markerWidth: 11, markerHeight: 11, markerUnits: "userSpaceOnUse" };
+const drawTip = (kind) =>
+  tag("marker", { id: `tip-${kind}`, class: `tip ${kind}`, ...ARROW, orient: "auto" }, tag("path", { d: "M0 0 L10 5 L0 10 z" }));
+const HATCH = { id: "hatch", width: 7, height: 7, patternUnits: "userSpaceOnUse", patternTransform: "rotate(45)" };
+const DEFINITIONS = tag(
+  "defs",
+  {},
+  tag(
+    "pattern",
+    HATCH,
+    tag("rect", { class: "ground", width: 7, height: 7 }),
+    tag("line", { class: "stripe", x1: 0, x2: 0, y1: 0, y2: 7 }),
+  ),
+  ...["in", "out", "hot"].map(drawTip),
+);
+
+function arranged(state, event) {
+  const chain = state.chain();
+  const pointers = pointersOf(state, event);
+  const important = importantNodes(state, event, pointers);
+  const items = foldedChain(chain, important);
+  const { places, width } = placesOfChain(items);
+  const { shown, more } = nodesAside(state, chain, important);
+  const rooms = roomsUnder(state, items, shown);
+  const lanesUnder = (labels, row) => Math.max(0, ...labels.filter((own) => own.row === row).map((own) => own.lane + 1));
+  const below = TOP + NODE_HEIGHT + 18 * lanesUnder(pointerLabels(pointers, places, rooms), TOP) + 62;
+  const right = placeAside(state, chain, shown, places, below);
+  const labels = pointerLabels(pointers, places, rooms);
+  const bottom = shown.length > 0 ? below : TOP;
+  const names = [...items.filter((item) => item.name).map((item) => item.name), ...shown];
+  const height = bottom + NODE_HEIGHT + 18 * lanesUnder(labels, bottom) + 14;
+  const wide = Math.max(width, right, 420, ...labels.map((own) => own.right));
+  return { chain, items, places, labels, names, more, width: wide, height };
+}
+
+function drawList(state, event, room, most = Infinity, least = { width: 0, height: 0 }, own = "") {
+  const { chain, items, places, labels, names, more, width: wide, height: high } = arranged(state, event);
+  const width = Math.max(wide, least.width);
+  const whole = Math.max(high, least.height);
+  const above = state.trace.kind === "coarse" ? -4 : TOP - LOCK_HEIGHT; // the list's own lock stands there
+  const height = whole - above;
+  const folds = items.map((item, index) => (item.folded ? drawFold(item) + drawFoldLink(item, items[index + 1]) : ""));
+  const nodes = names.map((name) => drawNode(state, name, places[name], event));
+  const links = names.map((name) => drawLink(state, name, places, event));
+  const pointers = labels.map((own) => drawPointer(own, places));
+  const scale = Math.max(0.8, Math.min(1.6, (room - 4) / width, most / height));
+  const frame = {
+    width: width * scale,
+    height: height * scale,
+    viewBox: `0 ${above} ${width} ${height}`,
+    role: "img",
+    "aria-label": listInWords(chain, state),
+  };
+  const drawn = tag("svg", frame, DEFINITIONS, ...nodes, ...folds, ...links, ...pointers, drawListLock(state));
+  const named = own === "" ? drawn : drawn.replace(/(url\(#|id=")(tip|hatch)/g, `$1${own}-$2`);
+  return named + (more > 0 ? tag("p", { class: "note" }, `and ${more} more nodes that are not in the chain`) : "");
+}
+
+function drawFoldLink(item, next) {
+  const y = TOP + NODE_HEIGHT / 2;
+  const path = { d: `M${item.x + FOLD_WIDTH} ${y} L${next.x - 3} ${y}`, "marker-end": "url(#tip-in)" };
+  return tag("g", { class: "link in" }, tag("path", path));
+}
+
+function listInWords(chain, state) {
+  const inside = chain.filter((name) => name !== "head" && name !== "tail").map((name) => state.nodes[name]);
+  const keys = inside.map((node) => keyText(node.key) + (node.link.endsWith("*") ? " marked" : ""));
+  const more = keys.length > 40 ? ", and more" : "";
+  const list = keys.length === 0 ? "the list is empty" : `the list: ${keys.slice(0, 40).join(", ")}${more}`;
+  const locks = state.locks();
+  const threads = state.threads.map((held, thread) => threadInWords(state, held, thread, locks)).filter((text) => text !== "");
+  return [list, ...threads.slice(0, 12)].join("; ");
+}
+
+function threadInWords(state, held, thread, locks) {
+  if (held.pc === 0) return "";
+  const { registers } = LISTS[state.trace.kind].calls[held.call.operation];
+  const set = registers.filter((name) => NODE_REGISTERS.includes(name) && isPointing(held, name));
+  const at = set.map((name) => `${name} ${held[name]}`).join(", ");
+  const own = locks[`t${thread}`];
+  const has = own === undefined ? "" : `; t${thread} has ${own.join(" and ")}`;
+  return `t${thread} ${callText(held.call)} at row ${held.pc}${at === "" ? "" : `: ${at}`}${has}`;
+}
+return { NODE_WIDTH, SIGN_WIDTH, arranged, drawList };
+})();
+
+// made/code.js
+const $made_code = (() => {
+// The proved loops of the lists as they stand in crates/, with the rows of its list's table that each line makes, by page/build: for
+// show alone.
+
+const CODE = {
+  "crates/lset_loops/src/coarse.rt": [
+    { name: "walk", first: 16, steps: [{"line": 26, "rows": [2]}, {"line": 28, "rows": [3]}, {"line": 32, "rows": [4]}], calls: [], text: `
+/// Walks from the head to the first key that is not below that of the call.
+fn walk<O: Origin, P: Pause, N: Rounds>(
+    caller: &Caller<CoarseList, O, P>,
+    place: &mut TableSeat,
+) -> Option<Found>
+    requires { AtHead O.begun caller.now.slots place.old }
+    ensures { IfSome result (λ f. StopsAt O.begun caller.now.slots f place.new) }
+{
+    let key = caller.key;
+    let mut pred = Node::head();
+    let mut curr = Node::behind(caller.load_link(place, pred)); // row 2
+    for _ in 0..N::MOST {
+        let word = caller.load_key(place, curr); // row 3
+        if word >= key {
+            return Some(Found { pred, curr, word });
+        }
+        let link = caller.load_link(place, curr); // row 4
+        pred = curr;
+        curr = Node::behind(link);
+    }
+    None
+}` },
+    { name: "act", first: 39, steps: [{"line": 50, "rows": [5, 6, 7]}, {"line": 54, "rows": [8]}, {"line": 55, "rows": [9]}], calls: [], text: `
+/// Does what the call does at the key that was found.
+fn act<O: Origin, P: Pause>(
+    caller: &Caller<CoarseList, O, P>,
+    place: &mut TableSeat,
+    found: Found,
+) -> (OwnSlots, Reply)
+    requires { StopsAt O.begun caller.now.slots found place.old }
+    ensures { Leaves O.begun result place.new }
+{
+    match decide(caller.call, found.word, caller.slots) {
+        Decision::PutIn => {
+            caller.put_in(place, found); // rows 5, 6, 7
+            (one_more(caller.slots), Reply::True)
+        }
+        Decision::TakeOut => {
+            let link = caller.load_link(place, found.curr); // row 8
+            caller.store_link(place, found.pred, Node::behind(link)); // row 9
+            (caller.slots, Reply::True)
+        }
+        Decision::Answer(reply) => (caller.slots, reply),
+    }
+}` },
+    { name: "make", first: 62, steps: [{"line": 81, "rows": [1]}, {"line": 84, "rows": [10]}], calls: [[82, "walk"], [83, "act"]], text: `
+fn make<O: Origin, P: Pause, N: Rounds>(
+    table: &Words<CoarseList>,
+    place: &mut TableSeat,
+    slots: OwnSlots,
+    call: Call,
+    pause: &P,
+) -> Option<(OwnSlots, Reply)>
+    requires begins { MayBegin coarse O.begun slots place.old }
+    requires call { IsCall O.begun call table.now.table_id table.now.key }
+    ensures { IfSome result (λ r. HasAnswered coarse O.begun r place.new) }
+{
+    let caller = Caller::<'_, CoarseList, O, P> {
+        table,
+        pause,
+        slots,
+        call,
+        key: call.key().word(),
+        origin: PhantomData,
+    };
+    caller.begin_locked::<N>(place, LOCK)?; // row 1
+    let found = walk::<O, P, N>(&caller, place)?;
+    let answer = act(&caller, place, found);
+    caller.release_last(place, LOCK); // row 10
+    Some(answer)
+}` },
+  ],
+  "crates/lset_loops/src/fine.rt": [
+    { name: "walk", first: 17, steps: [{"line": 27, "rows": [2]}, {"line": 29, "rows": [3]}, {"line": 30, "rows": [4]}, {"line": 34, "rows": [5]}, {"line": 35, "rows": [6]}], calls: [], text: `
+/// Walks hand over hand from the head, which is locked, to the first key that is not below that of the call.
+fn walk<O: Origin, P: Pause, N: Rounds>(
+    caller: &Caller<FineList, O, P>,
+    place: &mut TableSeat,
+) -> Option<Found>
+    requires { AtHead O.begun caller.now.slots place.old }
+    ensures { IfSome result (λ f. StopsAt O.begun caller.now.slots f place.new) }
+{
+    let key = caller.key;
+    let mut pred = Node::head();
+    let mut curr = Node::behind(caller.load_link(place, pred)); // row 2
+    for _ in 0..N::MOST {
+        caller.lock::<N>(place, curr)?; // row 3
+        let word = caller.load_key(place, curr); // row 4
+        if word >= key {
+            return Some(Found { pred, curr, word });
+        }
+        caller.unlock(place, pred); // row 5
+        let link = caller.load_link(place, curr); // row 6
+        pred = curr;
+        curr = Node::behind(link);
+    }
+    None
+}` },
+    { name: "act", first: 42, steps: [{"line": 53, "rows": [7, 8, 9]}, {"line": 57, "rows": [10]}, {"line": 58, "rows": [11]}], calls: [], text: `
+/// Does what the call does at the key that was found, between two nodes that it has locked.
+fn act<O: Origin, P: Pause>(
+    caller: &Caller<FineList, O, P>,
+    place: &mut TableSeat,
+    found: Found,
+) -> (OwnSlots, Reply)
+    requires { StopsAt O.begun caller.now.slots found place.old }
+    ensures { Leaves O.begun found result place.new }
+{
+    match decide(caller.call, found.word, caller.slots) {
+        Decision::PutIn => {
+            caller.put_in(place, found); // rows 7, 8, 9
+            (one_more(caller.slots), Reply::True)
+        }
+        Decision::TakeOut => {
+            let link = caller.load_link(place, found.curr); // row 10
+            caller.store_link(place, found.pred, Node::behind(link)); // row 11
+            (caller.slots, Reply::True)
+        }
+        Decision::Answer(reply) => (caller.slots, reply),
+    }
+}` },
+    { name: "make", first: 65, steps: [{"line": 84, "rows": [1]}, {"line": 87, "rows": [12]}, {"line": 88, "rows": [13]}], calls: [[85, "walk"], [86, "act"]], text: `
+fn make<O: Origin, P: Pause, N: Rounds>(
+    table: &Words<FineList>,
+    place: &mut TableSeat,
+    slots: OwnSlots,
+    call: Call,
+    pause: &P,
+) -> Option<(OwnSlots, Reply)>
+    requires begins { MayBegin fine O.begun slots place.old }
+    requires call { IsCall O.begun call table.now.table_id table.now.key }
+    ensures { IfSome result (λ r. HasAnswered fine O.begun r place.new) }
+{
+    let caller = Caller::<'_, FineList, O, P> {
+        table,
+        pause,
+        slots,
+        call,
+        key: call.key().word(),
+        origin: PhantomData,
+    };
+    caller.begin_locked::<N>(place, lock_index(HEAD))?; // row 1
+    let found = walk::<O, P, N>(&caller, place)?;
+    let answer = act(&caller, place, found);
+    caller.unlock(place, found.curr); // row 12
+    caller.unlock_last(place, found.pred); // row 13
+    Some(answer)
+}` },
+  ],
+  "crates/lset_loops/src/optimistic.rt": [
+    { name: "walk", first: 23, steps: [{"line": 38, "rows": [2]}, {"line": 43, "rows": [3]}], calls: [], text: `
+/// Walks from the head, whose link led to \`first\`, to the first key that is not below that of the call.
+#[inline(always)]
+fn walk<O: Origin, P: Pause, N: Rounds>(
+    caller: &Caller<OptimisticList, O, P>,
+    place: &mut TableSeat,
+    first: Node,
+) -> Option<Stopped>
+    requires { AtKey O.begun caller.now.slots 0 first.number 0 place.old }
+    ensures { IfSome result (λ f. StopsAt O.begun caller.now.slots f place.new) }
+{
+    let key = caller.key;
+    let mut pred = Node::head();
+    let mut before = 0;
+    let mut curr = first;
+    for _ in 0..N::MOST {
+        let word = caller.load_key(place, curr); // row 2
+        if word >= key {
+            let found = Found { pred, curr, word };
+            return Some(Stopped { found, before });
+        }
+        let link = caller.load_link(place, curr); // row 3
+        pred = curr;
+        before = word;
+        curr = Node::behind(link);
+    }
+    None
+}` },
+    { name: "reaches", first: 51, steps: [{"line": 69, "rows": [6]}, {"line": 71, "rows": [7]}], calls: [], text: `
+/// Walks a second time from the head, as far as \`pred\`. Answers whether it came there: not where it saw a key above that of
+/// \`pred\`.
+#[inline(always)]
+fn reaches<O: Origin, P: Pause, N: Rounds>(
+    caller: &Caller<OptimisticList, O, P>,
+    place: &mut TableSeat,
+    stopped: Stopped,
+) -> Option<bool>
+    requires { HasLocked O.begun caller.now.slots stopped place.old }
+    ensures { IfSome result (λ r. HasReached O.begun caller.now.slots stopped.found r place.new) }
+{
+    let pred = stopped.found.pred.number;
+    let before = stopped.before;
+    if pred == HEAD {
+        return Some(true);
+    }
+    let mut node = Node::head();
+    for _ in 0..N::MOST {
+        let link = caller.load_link(place, node); // row 6
+        node = Node::behind(link);
+        let word = caller.load_key(place, node); // row 7
+        if word > before {
+            return Some(false);
+        }
+        if node.number == pred {
+            return Some(true);
+        }
+    }
+    None
+}` },
+    { name: "validate", first: 82, steps: [{"line": 95, "rows": [8]}], calls: [[92, "reaches"]], text: `
+/// Whether \`pred\` is still in the list and leads to \`curr\`, both of which are locked.
+fn validate<O: Origin, P: Pause, N: Rounds>(
+    caller: &Caller<OptimisticList, O, P>,
+    place: &mut TableSeat,
+    stopped: Stopped,
+) -> Option<bool>
+    requires { HasLocked O.begun caller.now.slots stopped place.old }
+    ensures { IfSome result (λ r. HasValidated O.begun caller.now.slots stopped.found r place.new) }
+{
+    let found = stopped.found;
+    if !reaches::<O, P, N>(caller, place, stopped)? {
+        return Some(false);
+    }
+    let link = caller.load_link(place, found.pred); // row 8
+    if link / 2 != found.curr.number {
+        return Some(false);
+    }
+    Some(true)
+}` },
+    { name: "act", first: 102, steps: [{"line": 113, "rows": [9, 10, 11]}, {"line": 117, "rows": [12]}, {"line": 118, "rows": [13]}], calls: [], text: `
+/// Does what the call does at the key that was found, between two nodes that it has locked.
+fn act<O: Origin, P: Pause>(
+    caller: &Caller<OptimisticList, O, P>,
+    place: &mut TableSeat,
+    found: Found,
+) -> (OwnSlots, Reply)
+    requires { AreNeighbours O.begun caller.now.slots found place.old }
+    ensures { Leaves O.begun found result place.new }
+{
+    match decide(caller.call, found.word, caller.slots) {
+        Decision::PutIn => {
+            caller.put_in(place, found); // rows 9, 10, 11
+            (one_more(caller.slots), Reply::True)
+        }
+        Decision::TakeOut => {
+            let link = caller.load_link(place, found.curr); // row 12
+            caller.store_link(place, found.pred, Node::behind(link)); // row 13
+            (caller.slots, Reply::True)
+        }
+        Decision::Answer(reply) => (caller.slots, reply),
+    }
+}` },
+    { name: "make", first: 125, steps: [{"line": 144, "rows": [1], "begins": true, "answers": false}, {"line": 148, "rows": [4]}, {"line": 149, "rows": [5]}, {"line": 152, "rows": [14], "begins": false, "answers": true}, {"line": 153, "rows": [15], "begins": false, "answers": true}, {"line": 156, "rows": [14], "begins": false, "answers": false}, {"line": 157, "rows": [15], "begins": false, "answers": false}, {"line": 158, "rows": [1], "begins": false, "answers": false}], calls: [[146, "walk"], [150, "validate"], [151, "act"]], text: `
+fn make<O: Origin, P: Pause, N: Rounds>(
+    table: &Words<OptimisticList>,
+    place: &mut TableSeat,
+    slots: OwnSlots,
+    call: Call,
+    pause: &P,
+) -> Option<(OwnSlots, Reply)>
+    requires begins { MayBegin optimistic O.begun slots place.old }
+    requires call { IsCall O.begun call table.now.table_id table.now.key }
+    ensures { IfSome result (λ r. HasAnswered optimistic O.begun r place.new) }
+{
+    let caller = Caller::<'_, OptimisticList, O, P> {
+        table,
+        pause,
+        slots,
+        call,
+        key: call.key().word(),
+        origin: PhantomData,
+    };
+    let mut link = caller.begin_at_head(place); // row 1
+    for _ in 0..N::MOST {
+        let stopped = walk::<O, P, N>(&caller, place, Node::behind(link))?;
+        let found = stopped.found;
+        caller.lock::<N>(place, found.pred)?; // row 4
+        caller.lock::<N>(place, found.curr)?; // row 5
+        if validate::<O, P, N>(&caller, place, stopped)? {
+            let answer = act(&caller, place, found);
+            caller.unlock(place, found.pred); // row 14
+            caller.unlock_last(place, found.curr); // row 15
+            return Some(answer);
+        }
+        caller.unlock(place, found.pred); // row 14
+        caller.unlock(place, found.curr); // row 15
+        link = caller.load_link(place, Node::head()); // row 1
+    }
+    None
+}` },
+  ],
+  "crates/lset_loops/src/lazy.rt": [
+    { name: "walk", first: 18, steps: [{"line": 32, "rows": [2]}, {"line": 36, "rows": [3]}], calls: [], text: `
+/// Walks from the head, whose link led to \`first\`, to the first key that is not below that of the call.
+#[inline(always)]
+fn walk<O: Origin, P: Pause, N: Rounds>(
+    caller: &Caller<LazyList, O, P>,
+    place: &mut TableSeat,
+    first: Node,
+) -> Option<Found>
+    requires { AtKey O.begun caller.now.slots 0 first.number place.old }
+    ensures { IfSome result (λ f. StopsAt O.begun caller.now.slots f place.new) }
+{
+    let key = caller.key;
+    let mut pred = Node::head();
+    let mut curr = first;
+    for _ in 0..N::MOST {
+        let word = caller.load_key(place, curr); // row 2
+        if word >= key {
+            return Some(Found { pred, curr, word });
+        }
+        let link = caller.load_link(place, curr); // row 3
+        pred = curr;
+        curr = Node::behind(link);
+    }
+    None
+}` },
+    { name: "validate", first: 43, steps: [{"line": 52, "rows": [6]}, {"line": 56, "rows": [7]}], calls: [], text: `
+/// Whether \`pred\` leads to \`curr\`, and neither has a mark: then the answer is the node behind \`curr\`.
+fn validate<O: Origin, P: Pause>(
+    caller: &Caller<LazyList, O, P>,
+    place: &mut TableSeat,
+    found: Found,
+) -> Option<Node>
+    requires { HasLocked O.begun caller.now.slots found place.old }
+    ensures { HasValidated O.begun caller.now.slots found result place.new }
+{
+    let before = caller.load_link(place, found.pred); // row 6
+    if before != 2 * found.curr.number {
+        return None;
+    }
+    let after = caller.load_link(place, found.curr); // row 7
+    if after % 2 != 0 {
+        return None;
+    }
+    Some(Node::behind(after))
+}` },
+    { name: "act", first: 63, steps: [{"line": 75, "rows": [8, 9, 10]}, {"line": 79, "rows": [11]}, {"line": 80, "rows": [12]}], calls: [], text: `
+/// Does what the call does at the key that was found, between two nodes that it has locked.
+fn act<O: Origin, P: Pause>(
+    caller: &Caller<LazyList, O, P>,
+    place: &mut TableSeat,
+    found: Found,
+    succ: Node,
+) -> (OwnSlots, Reply)
+    requires { AreNeighbours O.begun caller.now.slots found succ place.old }
+    ensures { Leaves O.begun found result place.new }
+{
+    match decide(caller.call, found.word, caller.slots) {
+        Decision::PutIn => {
+            caller.put_in(place, found); // rows 8, 9, 10
+            (one_more(caller.slots), Reply::True)
+        }
+        Decision::TakeOut => {
+            caller.store_mark(place, found.curr, succ); // row 11
+            caller.store_link(place, found.pred, succ); // row 12
+            (caller.slots, Reply::True)
+        }
+        Decision::Answer(reply) => (caller.slots, reply),
+    }
+}` },
+    { name: "make", first: 87, steps: [{"line": 107, "rows": [1], "begins": true, "answers": false}, {"line": 110, "rows": [4]}, {"line": 111, "rows": [5]}, {"line": 115, "rows": [13], "begins": false, "answers": true}, {"line": 116, "rows": [14], "begins": false, "answers": true}, {"line": 120, "rows": [13], "begins": false, "answers": false}, {"line": 121, "rows": [14], "begins": false, "answers": false}, {"line": 122, "rows": [1], "begins": false, "answers": false}], calls: [[109, "walk"], [112, "validate"], [114, "act"]], text: `
+fn make<O: Origin, P: Pause, N: Rounds>(
+    table: &Words<LazyList>,
+    place: &mut TableSeat,
+    slots: OwnSlots,
+    call: Call,
+    pause: &P,
+) -> Option<(OwnSlots, Reply)>
+    requires begins { MayBegin lazy O.begun slots place.old }
+    requires call { IsCall O.begun call table.now.table_id table.now.key }
+    requires walks { first_row O.begun.call ≡ 1 }
+    ensures { IfSome result (λ r. HasAnswered lazy O.begun r place.new) }
+{
+    let caller = Caller::<'_, LazyList, O, P> {
+        table,
+        pause,
+        slots,
+        call,
+        key: call.key().word(),
+        origin: PhantomData,
+    };
+    let mut link = caller.begin_at_head(place); // row 1
+    for _ in 0..N::MOST {
+        let found = walk::<O, P, N>(&caller, place, Node::behind(link))?;
+        caller.lock::<N>(place, found.pred)?; // row 4
+        caller.lock::<N>(place, found.curr)?; // row 5
+        match validate(&caller, place, found) {
+            Some(succ) => {
+                let answer = act(&caller, place, found, succ);
+                caller.unlock(place, found.curr); // row 13
+                caller.unlock_last(place, found.pred); // row 14
+                return Some(answer);
+            }
+            None => {
+                caller.unlock(place, found.curr); // row 13
+                caller.unlock(place, found.pred); // row 14
+                link = caller.load_link(place, Node::head()); // row 1
+            }
+        }
+    }
+    None
+}` },
+  ],
+  "crates/lset_loops/src/reads.rt": [
+    { name: "make", first: 44, steps: [{"line": 64, "rows": [20], "begins": true, "answers": false}, {"line": 66, "rows": [21]}, {"line": 72, "rows": [22]}, {"line": 75, "rows": [20], "begins": false, "answers": false}], calls: [], text: `
+fn make<M: ReadsByRows, O: Origin, P: Pause>(
+    table: &Words<M>,
+    place: &mut TableSeat,
+    slots: OwnSlots,
+    key: Key,
+    pause: &P,
+) -> (OwnSlots, Reply)
+    requires begins { MayBegin M.table O.begun slots place.old }
+    requires call { IsCall O.begun (Contains key) table.now.table_id table.now.key }
+    ensures { HasAnswered M.table O.begun result place.new }
+{
+    let target = key.word();
+    let caller = Caller::<'_, M, O, P> {
+        table,
+        pause,
+        slots,
+        call: Call::Contains(key),
+        key: target,
+        origin: PhantomData,
+    };
+    let mut curr = Node::behind(caller.begin_at_head(place)); // row 20
+    loop {
+        let word = caller.look_at_key(place, curr); // row 21
+        if word > target {
+            return (slots, Reply::False);
+        }
+        caller.goes_on();
+        if word == target {
+            let mark = caller.look_at_link(place, curr); // row 22
+            return (slots, reply_by_mark(mark));
+        }
+        let link = caller.look_at_link(place, curr); // row 20
+        caller.goes_on();
+        curr = Node::behind(link);
+    }
+}` },
+  ],
+  "crates/lset_loops/src/lock_free.rt": [
+    { name: "find", first: 17, steps: [{"line": 31, "rows": [2]}, {"line": 34, "rows": [3]}, {"line": 40, "rows": [1], "begins": false, "answers": false}, {"line": 43, "rows": [4]}], calls: [], text: `
+/// Walks from the head, whose link led to \`first\`, to the first key that is not below that of the call, and takes marked
+/// nodes out on its way (Herlihy and Shavit's \`find\`).
+fn find<O: Origin, P: Pause, N: Rounds>(
+    caller: &Caller<LockFreeList, O, P>,
+    place: &mut TableSeat,
+    first: Node,
+) -> Option<Found>
+    requires { AtLink O.begun caller.now.slots 0 first.number place.old }
+    ensures { IfSome result (λ f. StopsAt O.begun caller.now.slots f place.new) }
+{
+    let key = caller.key;
+    let mut pred = Node::head();
+    let mut curr = first;
+    for _ in 0..N::MOST {
+        let link = caller.load_link(place, curr); // row 2
+        let succ = Node::behind(link);
+        if link % 2 != 0 {
+            if caller.exchange_link(place, pred, curr, succ) { // row 3
+                caller.goes_on();
+                curr = succ;
+                continue;
+            }
+            pred = Node::head();
+            curr = Node::behind(caller.load_link(place, pred)); // row 1
+            continue;
+        }
+        let word = caller.look_at_key(place, curr); // row 4
+        if word >= key {
+            return Some(Found { pred, curr, word });
+        }
+        caller.goes_on();
+        pred = curr;
+        curr = succ;
+    }
+    None
+}` },
+    { name: "attempt", first: 54, steps: [{"line": 66, "rows": [5, 6]}, {"line": 67, "rows": [7]}, {"line": 74, "rows": [8]}, {"line": 75, "rows": [9]}, {"line": 79, "rows": [10]}], calls: [], text: `
+/// Does what the call does at the key that was found. \`None\` where a link was another by then.
+fn attempt<O: Origin, P: Pause>(
+    caller: &Caller<LockFreeList, O, P>,
+    place: &mut TableSeat,
+    found: Found,
+) -> Option<(OwnSlots, Reply)>
+    requires { StopsAt O.begun caller.now.slots found place.old }
+    ensures { HasTried O.begun caller.now.slots result place.new }
+{
+    match decide(caller.call, found.word, caller.slots) {
+        Decision::PutIn => {
+            caller.goes_on();
+            let node = caller.fill_slot(place, found.curr); // rows 5, 6
+            if !caller.exchange_link(place, found.pred, found.curr, node) { // row 7
+                return None;
+            }
+            Some((one_more(caller.slots), Reply::True))
+        }
+        Decision::TakeOut => {
+            caller.goes_on();
+            let succ = Node::behind(caller.load_link(place, found.curr)); // row 8
+            if !caller.exchange_mark(place, found.curr, succ) { // row 9
+                return None;
+            }
+            caller.goes_on();
+            caller.exchange_link_last(place, found.pred, found.curr, succ); // row 10
+            Some((caller.slots, Reply::True))
+        }
+        Decision::Answer(reply) => Some((caller.slots, reply)),
+    }
+}` },
+    { name: "make", first: 86, steps: [{"line": 106, "rows": [1], "begins": true, "answers": false}, {"line": 111, "rows": [1], "begins": false, "answers": false}], calls: [[108, "find"], [109, "attempt"]], text: `
+fn make<O: Origin, P: Pause, N: Rounds>(
+    table: &Words<LockFreeList>,
+    place: &mut TableSeat,
+    slots: OwnSlots,
+    call: Call,
+    pause: &P,
+) -> Option<(OwnSlots, Reply)>
+    requires begins { MayBegin lock_free O.begun slots place.old }
+    requires call { IsCall O.begun call table.now.table_id table.now.key }
+    requires walks { first_row O.begun.call ≡ 1 }
+    ensures { IfSome result (λ r. HasAnswered lock_free O.begun r place.new) }
+{
+    let caller = Caller::<'_, LockFreeList, O, P> {
+        table,
+        pause,
+        slots,
+        call,
+        key: call.key().word(),
+        origin: PhantomData,
+    };
+    let mut link = caller.begin_at_head(place); // row 1
+    for _ in 0..N::MOST {
+        let found = find::<O, P, N>(&caller, place, Node::behind(link))?;
+        match attempt(&caller, place, found) {
+            Some(answer) => return Some(answer),
+            None => link = caller.load_link(place, Node::head()), // row 1
+        }
+    }
+    None
+}` },
+  ],
+};
+
+const CODE_OF = {
+  "coarse": ["crates/lset_loops/src/coarse.rt"],
+  "fine": ["crates/lset_loops/src/fine.rt"],
+  "optimistic": ["crates/lset_loops/src/optimistic.rt"],
+  "lazy": ["crates/lset_loops/src/lazy.rt", "crates/lset_loops/src/reads.rt"],
+  "lock-free": ["crates/lset_loops/src/lock_free.rt", "crates/lset_loops/src/reads.rt"],
+};
+return { CODE, CODE_OF };
+})();
+
+// draw/listing.js
+const $draw_listing = (() => {
+const { CODE, CODE_OF } = $made_code;
+const { LISTS } = $made_rows;
+const { callText, chipOf, escaped, tag } = $run_markup;
+function stepsAt(functions, row) {
+  return functions.flatMap((code) => code.steps.filter(({ rows }) => rows.includes(row)).map((step) => ({ code, ...step })));
+}
+
+function codeOf(kind, { operation }) {
+  const { rows } = LISTS[kind].calls[operation];
+  const file = CODE_OF[kind].find((name) => rows.every((row) => stepsAt(CODE[name], row).length > 0));
+  return file === undefined ? null : { file, functions: CODE[file] };
+}
+
+function stepOf(functions, held) {
+  let found = stepsAt(functions, held.pc);
+  const came = stepsAt(functions, held.came).map(({ code }) => code.name);
+  const tests = [
+    ({ begins = false }) => begins === (held.came === 0),
+    ({ answers = false }) => answers === (held.reply !== "none"),
+    ({ code }) => came.includes(code.name),
+    ({ code }) => code.calls.some(([, name]) => came.includes(name)),
+  ];
+  for (const test of tests) if (found.length > 1 && found.some(test)) found = found.filter(test);
+  return found[0];
+}
+
+function callersOf(functions, name) {
+  const calls = functions.flatMap((code) => code.calls.map(([line, called]) => ({ line, called, name: code.name })));
+  const direct = calls.filter(({ called }) => called === name);
+  return [...direct.map(({ line }) => line), ...direct.flatMap((caller) => callersOf(functions, caller.name))];
+}
+
+const rowText = (kind, number) => {
+  const { step, then, book } = LISTS[kind].rows[number];
+  return `row ${number}: ${escaped(step)} <span class="then">→ ${escaped(then)}</span> <small>${escaped(book)}</small>`;
+};
+
+function standingText(kind, threads) {
+  const rows = [...new Set(threads.map(({ held }) => held.pc))];
+  const chips = (row) => threads.filter(({ held }) => held.pc === row).map(({ thread }) => chipOf(thread)).join(" ");
+  return rows.map((row) => tag("p", {}, `${chips(row)} ${rowText(kind, row)}`)).join("");
+}
+
+function lineItem(number, text, isSaid, kind, threads) {
+  const here = threads.filter(({ step }) => step.line === number);
+  const inside = threads.filter(({ callers }) => callers.includes(number));
+  const shown = [tag("i", {}, number), tag("code", isSaid ? { class: "said-of-it" } : {}, escaped(text)), standingText(kind, here)];
+  const isOfEvent = here.some(({ isMoved }) => isMoved);
+  if (here.length > 0) return tag("li", { class: isOfEvent ? "here moved" : "here", "aria-current": "step" }, ...shown);
+  return tag("li", inside.length > 0 ? { class: "inside" } : {}, ...shown);
+}
+
+function functionOf(code, kind, threads) {
+  const lines = code.text.trimStart().split("\n");
+  const body = lines.indexOf("{");
+  const items = lines.map((text, index) => lineItem(code.first + index, text, index < body, kind, threads));
+  return tag("ol", { class: "code" }, ...items);
+}
+
+function fileOf(file, functions, kind, threads) {
+  const calls = threads.map(({ thread, held }) => `${chipOf(thread)} ${callText(held.call)}`).join(" ");
+  return tag("section", {}, tag("h3", {}, `${calls} <small>${file}</small>`), ...functions.map((code) => functionOf(code, kind, threads)));
+}
+
+function rowsOf(kind, { thread, held }) {
+  const items = LISTS[kind].calls[held.call.operation].rows.map((number) => {
+    const given = number === held.pc ? { class: "here", "aria-current": "step" } : {};
+    return tag("li", given, rowText(kind, number));
+  });
+  const head = tag("h3", {}, `${chipOf(thread)} ${callText(held.call)} <small>by the interpreter, row by row</small>`);
+  return tag("section", {}, head, tag("ol", { class: "rows" }, ...items));
+}
+
+function drawListing({ trace, state, event }) {
+  const { kind } = trace;
+  const open = state.threads.map((held, thread) => ({ held, thread })).filter(({ held }) => held.pc !== 0);
+  if (open.length === 0) return tag("p", { class: "note" }, "No call is open.");
+  const byFile = new Map();
+  for (const one of open) {
+    const file = codeOf(kind, one.held.call)?.file;
+    byFile.set(file, [...(byFile.get(file) ?? []), one]);
+  }
+  const byRows = (byFile.get(undefined) ?? []).map((one) => rowsOf(kind, one));
+  byFile.delete(undefined);
+  const parts = [...byFile].map(([file, threads]) => {
+    const standing = threads.map(({ held, thread }) => {
+      const step = stepOf(CODE[file], held);
+      return { held, thread, step, callers: callersOf(CODE[file], step.code.name), isMoved: thread === event?.thread };
+    });
+    return fileOf(file, CODE[file], kind, standing);
+  });
+  return tag("div", { class: "listings" }, ...parts, ...byRows);
+}
+return { codeOf, stepOf, drawListing };
+})();
+
+// draw/room.js
+const $draw_room = (() => {
+const MOST_LOOKED_AT = 300; // events; of a longer run the room grows as it is shown
+const LEAST = { width: 500, height: 170, atWork: 260 }; // at work a node may come to stand below the chain
+
+const known = { trace: null, kind: "", threads: 0, total: 0, width: 0, height: 0, isOwn: false };
+
+function roomOf(trace, sizeAt, now, wide, isAtWork) {
+  if (known.trace !== trace) {
+    const isLonger = known.trace !== null && known.kind === trace.kind && known.threads === trace.threads && known.isOwn;
+    const kept = isLonger ? known : { width: Math.min(LEAST.width, wide), height: isAtWork ? LEAST.atWork : LEAST.height };
+    const { kind, threads, total } = trace;
+    const from = isLonger ? Math.min(known.total, total) : 0; // the room of what is before is known
+    Object.assign(known, { trace, kind, threads, total, width: kept.width, height: kept.height, isOwn: true });
+    if (total <= MOST_LOOKED_AT) for (let count = from; count <= total; count++) grow(sizeAt(count));
+  }
+  grow(now);
+  return known;
+}
+
+const forgetRoom = () => Object.assign(known, { trace: null, isOwn: false });
+
+function grow({ width, height }) {
+  known.width = Math.max(known.width, width);
+  known.height = Math.max(known.height, height);
+}
+return { roomOf, forgetRoom };
+})();
+
+// draw/table.js
+const $draw_table = (() => {
+const { LISTS } = $made_rows;
+const { chipOf, escaped, tag } = $run_markup;
+function drawTable({ trace, state, event, before }) {
+  const made = event === null || event.deed === "begin" ? null : before.pc;
+  const at = new Map();
+  state.threads.forEach((held, thread) => at.set(held.pc, [...(at.get(held.pc) ?? []), thread]));
+  const lines = Object.entries(LISTS[trace.kind].rows).map(([number, row]) => {
+    const here = (at.get(Number(number)) ?? []).map(chipOf).join(" ");
+    const by = made === Number(number) ? ` <small>made by</small> ${chipOf(event.thread)}` : "";
+    const cells = [here, `<b>${number}</b>${by}`, escaped(row.step), escaped(row.then), `<small>${escaped(row.book)}</small>`];
+    return tag("tr", by === "" ? {} : { class: "moved" }, ...cells.map((text) => tag("td", {}, text)));
+  });
+  const heads = ["next", "row", "step", "then", "in the book"].map((text) => tag("th", { scope: "col" }, text));
+  return tag("table", {}, tag("thead", {}, tag("tr", {}, ...heads)), tag("tbody", {}, ...lines));
+}
+return { drawTable };
+})();
+
+// draw/threads.js
+const $draw_threads = (() => {
+const { LISTS } = $made_rows;
+const { callText, chipOf, keyText, tag } = $run_markup;
+const MOST_ROWS = 8; // of more threads only those with an open call are shown at first
+
+function threadsShown(state, event, all) {
+  const every = state.threads.map((_, thread) => thread);
+  if (all || every.length <= MOST_ROWS) return every;
+  return every.filter((thread) => state.threads[thread].pc !== 0 || thread === event?.thread);
+}
+
+function callCell(held, moved, event, hidesReplies) {
+  if (held.pc !== 0) return callText(held.call);
+  if (moved && event.answer !== undefined) return `${callText(held.call)} <b>${hidesReplies ? "…" : event.answer}</b>`;
+  return '<span class="pale">at rest</span>';
+}
+
+function rowCell(held, kind) {
+  if (held.pc === 0) return "";
+  const row = LISTS[kind].rows[held.pc];
+  return `<b>${held.pc}</b> ${row ? `${row.step} <small>${row.book}</small>` : ""}`;
+}
+
+const hasRegister = (kind, call, name) => LISTS[kind].calls[call.operation].registers.includes(name);
+
+function registerCell(held, name, moved, event, kind) {
+  if (held.pc === 0 || !hasRegister(kind, held.call, name)) return "";
+  const value = keyText(held[name]);
+  if (moved && event.changes[name] !== undefined) return `<b class="new">${value}</b>`;
+  return held[name] === "head" || held[name] === "-inf" ? `<span class="pale">${value}</span>` : value;
+}
+
+function threadRow(state, thread, event, hidesReplies) {
+  const { kind, quota } = state.trace;
+  const held = state.threads[thread];
+  const moved = event?.thread === thread;
+  const cells = [
+    tag("td", {}, callCell(held, moved, event, hidesReplies)),
+    tag("td", { class: "next" }, rowCell(held, kind)),
+    ...LISTS[kind].registers.map((name) => tag("td", {}, registerCell(held, name, moved, event, kind))),
+    tag("td", {}, held.pc !== 0 && held.reply !== "none" && !hidesReplies ? held.reply : ""),
+    tag("td", {}, `${held.used} of ${quota}`),
+  ];
+  return tag("tr", moved ? { class: "moved" } : {}, tag("th", { scope: "row" }, chipOf(thread)), ...cells);
+}
+
+function drawThreads(state, event, all, hidesReplies = false) {
+  const { registers } = LISTS[state.trace.kind];
+  const heads = ["thread", "call", "next row of the table", ...registers, "reply", "slots used"];
+  const rows = threadsShown(state, event, all).map((thread) => threadRow(state, thread, event, hidesReplies));
+  if (rows.length === 0) rows.push(`<tr><td colspan="${heads.length}" class="pale">every thread is at rest</td></tr>`);
+  const head = tag("tr", {}, ...heads.map((text) => tag("th", { scope: "col" }, text)));
+  return tag("table", {}, tag("thead", {}, head), tag("tbody", {}, ...rows));
+}
+return { MOST_ROWS, drawThreads };
+})();
+
+// page/places.js
+const $page_places = (() => {
+const { byId } = $page_dom;
+const { isJudging, page } = $page_now;
+const where = { activity: "watch", screen: "stage" };
+const isAtMap = () => where.screen === "map";
+const isAtWork = () => where.activity === "learn" || where.activity === "break"; // there the moves stand below the picture
+
+function goToPlace(activity, screen) {
+  Object.assign(where, { activity, screen });
+  Object.assign(document.body.dataset, { activity, screen });
+  for (const link of document.querySelectorAll("nav [data-to]")) {
+    if (link.dataset.to === activity) link.setAttribute("aria-current", "page");
+    else link.removeAttribute("aria-current");
+  }
+}
+
+function activityOfRun() {
+  if (isJudging()) return "judge";
+  if (/^lesson /.test(page.name)) return "learn";
+  return page.lacks === null ? "watch" : "break";
+}
+
+function leaveMap() {
+  if (isAtMap()) goToPlace(activityOfRun(), "stage");
+}
+
+function showStage() {
+  if (!isAtMap()) goToPlace(activityOfRun(), "stage");
+}
+
+function setProgress(id, done, total) {
+  byId(id).textContent = `${done}/${total}`;
+  byId(id).setAttribute("aria-label", `${done} of ${total}`);
+}
+
+function setView(view) {
+  page.view = view;
+  document.body.classList.remove("view", "lecture", "list", "history");
+  if (view !== null) document.body.classList.add("view", view);
+}
+return { where, isAtMap, isAtWork, goToPlace, leaveMap, showStage, setProgress, setView };
+})();
+
+// page/view.js
+const $page_view = (() => {
+const { LISTS } = $made_rows;
+const { glide } = $draw_glide;
+const { drawCalls, drawContents, drawOrder, scaleOf } = $draw_history;
+const { arranged, drawList, NODE_WIDTH } = $draw_list;
+const { drawListing } = $draw_listing;
+const { roomOf } = $draw_room;
+const { drawTable } = $draw_table;
+const { drawThreads, MOST_ROWS } = $draw_threads;
+const { byId, setAble } = $page_dom;
+const { hiddenOutcomes, isJudging, page } = $page_now;
+const { isAtWork } = $page_places;
+const { momentAt, sentenceOf } = $run_sentences;
+const LINE_HEIGHT = 21;
+
+function showRun(moment) {
+  showList(moment);
   scrollToTouched();
   showThreads(moment.event);
   showTable(moment);
   showListing(moment);
-  if (isJudging()) judging.draw();
-  else showHistory(moment.event);
-  drawMoves(state, page.engine !== null);
-  const goesOn = `Each goes on from event ${count}; what came after it is dropped.`;
-  byId("moves-note").textContent = goesOn;
+  if (!isJudging()) showHistory(moment.event);
   scrollToLine(moment.event);
-  showMarks();
-  keepSoon();
-  tellShown();
 }
 
-// The names, the question, the sentence and the bar above the picture.
+const glided = { trace: null, count: 0 };
+
+function showList({ state, event }) {
+  const { trace, count } = page;
+  const wide = byId("list").clientWidth;
+  if (wide === 0) return; // it is not there: a map is shown, or the history alone
+  const sizeAt = (number) => arranged(state, momentAt(state, number).event);
+  const room = roomOf(trace, sizeAt, arranged(state, event), wide, isAtWork());
+  state.moveTo(count);
+  const isNear = glided.trace === trace && Math.abs(glided.count - count) === 1 && byId("speed").value !== "fast";
+  Object.assign(glided, { trace, count });
+  const draw = () => (byId("list").innerHTML = drawList(state, event, wide, listHeight(), room));
+  glide(byId("list"), draw, isNear);
+}
+
+const MOST_MEASURED = 300; // events of a run whose sentences are measured
+const sentences = { trace: null, wide: 0 };
+
+function keepRoomForSentences(state, count) {
+  const box = byId("said");
+  const { trace } = page;
+  if (box.clientWidth === 0 || (sentences.trace === trace && sentences.wide === box.clientWidth)) return;
+  Object.assign(sentences, { trace, wide: box.clientWidth });
+  box.style.minHeight = "";
+  if (trace.total > MOST_MEASURED) return;
+  const lengthOf = (sentence) => sentence.replace(/<[^>]*>/g, "").length;
+  const all = Array.from({ length: trace.total + 1 }, (_, number) => sentenceOf(momentAt(state, number)));
+  state.moveTo(count);
+  box.innerHTML = all.reduce((one, other) => (lengthOf(other) > lengthOf(one) ? other : one));
+  box.style.minHeight = `${box.offsetHeight + 1}px`; // (that is rounded)
+}
+
 function showBar(moment) {
   const { trace, count } = page;
   const { total } = trace;
@@ -72,6 +4180,7 @@ function showBar(moment) {
   byId("title").textContent = `${name}, ${trace.threads} thread${trace.threads > 1 ? "s" : ""}`;
   document.title = `${page.example === "" ? page.name : page.example}, event ${count}: ${name}`;
   byId("source").textContent = page.source;
+  keepRoomForSentences(moment.state, count);
   byId("said").innerHTML = sentenceOf(moment, hiddenOutcomes());
   const slider = byId("slider");
   Object.assign(slider, { max: total, value: count });
@@ -79,7 +4188,6 @@ function showBar(moment) {
   byId("where").textContent = `event ${count} of ${total}`;
   for (const name of ["first", "back"]) setAble(name, count > 0);
   for (const name of ["next", "last"]) setAble(name, count < total);
-  showQuestion();
 }
 
 function showThreads(event) {
@@ -89,14 +4197,12 @@ function showThreads(event) {
   byId("all-threads").textContent = page.allThreads ? "only those with an open call" : `show all ${page.trace.threads}`;
 }
 
-// The table of the list's rows, while it is unfolded.
 function showTable(moment) {
   const which = page.lacks === null ? "" : ", which lacks nothing";
   byId("table-title").textContent = `The table of ${LISTS[page.trace.kind].name}${which}`;
   if (byId("table-box").open) byId("table").innerHTML = drawTable(moment);
 }
 
-// The code of the open calls, while it is unfolded, scrolled to the line of the thread that has moved.
 function showListing(moment) {
   if (!byId("listing-box").open) return;
   const box = byId("listing");
@@ -120,15 +4226,14 @@ function showHistory(event) {
   if (y < box.scrollTop + 20 || y > box.scrollTop + box.clientHeight - 20) box.scrollTop = y - box.clientHeight / 2;
 }
 
-// Where the page is as wide as a table, controls, list and history stand on one screen: what is above and below the list leaves so
-// many pixels for it.
 function listHeight() {
-  if (page.view !== null || innerWidth <= 940) return Infinity;
-  const below = isJudging() ? 390 : 280;
-  return Math.max(150, innerHeight - byId("list").getBoundingClientRect().top - scrollY - below);
+  if (page.view === "list" || page.view === "history" || innerWidth <= 940) return Infinity;
+  if (page.view === "lecture") return Math.max(200, innerHeight / 1.5 - 345 - byId("question-box").clientHeight);
+  const isAtWork = byId("moves-box").parentElement.id === "moves-wide";
+  const below = isJudging() ? 430 : byId("bar").clientHeight + 76 + 42 * Math.min(page.trace.threads, 6) + (isAtWork ? 0 : 30);
+  return Math.max(isJudging() ? 190 : 260, innerHeight - byId("list").getBoundingClientRect().top - scrollY - below);
 }
 
-// Keeps the node of the event in sight where the list is wider than the page.
 function scrollToTouched() {
   const box = byId("list");
   const touched = box.querySelector("[data-hot]");
@@ -138,18 +4243,30 @@ function scrollToTouched() {
   if (x < box.scrollLeft + 60 || x > box.scrollLeft + box.clientWidth - 60) box.scrollLeft = x - box.clientWidth / 2;
 }
 
+const editor = { isSeen: true };
+
+function watchEditor() {
+  const look = ([{ isIntersecting }]) => {
+    editor.isSeen = isIntersecting;
+    if (!isIntersecting || page.trace === null) return;
+    scrollToLine(page.count > 0 ? page.trace.event(page.count) : null);
+    showMarks();
+  };
+  new IntersectionObserver(look).observe(byId("editor"));
+}
+
 function scrollToLine(event) {
   const box = byId("schedule");
-  if (event === null || document.activeElement === box || box.value !== page.text) return;
+  if (!editor.isSeen || event === null || document.activeElement === box || box.value !== page.text) return;
   const y = LINE_HEIGHT * (event.line - 1);
   if (y < box.scrollTop || y > box.scrollTop + box.clientHeight - 2 * LINE_HEIGHT) box.scrollTop = y - box.clientHeight / 2;
 }
 
-// Marks the line of the event and the line with a fault, while the box has the text that was run.
 function showMarks() {
   const box = byId("schedule");
   const isStale = box.value !== page.text;
-  const mark = (line, kind) => `<div class="${kind}" style="top:${6 + LINE_HEIGHT * (line - 1) - box.scrollTop}px"></div>`;
+  const top = editor.isSeen ? box.scrollTop : 0;
+  const mark = (line, kind) => `<div class="${kind}" style="top:${6 + LINE_HEIGHT * (line - 1) - top}px"></div>`;
   const event = page.count > 0 ? page.trace.event(page.count) : null;
   const lines = [];
   if (event !== null && page.isRun) lines.push(mark(event.line, "event"));
@@ -158,89 +4275,4236 @@ function showMarks() {
   byId("run").classList.toggle("stale", isStale);
   byId("run").textContent = isStale ? "Run the changes" : "Run";
 }
+return { showRun, showBar, watchEditor, showMarks };
+})();
 
-function goTo(count) {
-  page.count = Math.max(0, Math.min(page.trace.total, count));
+// run/moments.js
+const $run_moments = (() => {
+const { State } = $run_state;
+class Run {
+  constructor(trace) {
+    const state = new State(trace);
+    const keys = new Set(trace.opening);
+    this.calls = trace.calls;
+    this.moments = trace.events().map((event) => momentAfter(state, keys, event));
+  }
+
+  ofCall(call) {
+    return this.moments.filter(({ event }) => event.call === call);
+  }
+
+  lastOf(call) {
+    return this.moments[call.ended - 1];
+  }
+
+  restsOf(thread) {
+    const steps = this.moments.filter(({ event }) => event.thread === thread);
+    return steps.map((step, at) => {
+      const next = steps[at + 1]?.event.number ?? this.moments.length + 1;
+      return { step, others: this.moments.slice(step.event.number, next - 1) };
+    });
+  }
+
+  nodeOf(call) {
+    return call.changes ? nodeOf(this.moments[call.at - 1].event) : null;
+  }
+
+  isTakenOut(node, { event, chain }) {
+    return this.moments[event.number - 2]?.chain.includes(node) === true && !chain.includes(node);
+  }
+}
+
+function momentAfter(state, keys, event) {
+  const row = state.threads[event.thread].pc;
+  state.moveTo(event.number);
+  if (event.put !== undefined) keys.add(event.put);
+  if (event.took !== undefined) keys.delete(event.took);
+  const thread = { ...state.threads[event.thread] };
+  const linkOfPred = state.nodes[thread.pred]?.link;
+  return { event, row, thread, linkOfPred, chain: state.chain(), locks: locksIn(state), keys: new Set(keys) };
+}
+
+function locksIn(state) {
+  const words = [state, ...Object.values(state.nodes)];
+  return words.map(({ lock }) => lock).filter((lock) => lock !== "free");
+}
+
+const locksOf = (moment, thread) => moment.locks.filter((lock) => lock === `t${thread}`).length;
+const nodeOf = (event) => event.word.split(".")[0];
+const isFailedStep = ({ event }) => event.deed === "exchange" && event.saw !== event.from;
+const isFailedTry = (moment) => isFailedStep(moment) && moment.event.word.endsWith(".lock");
+const isMarkSeen = ({ event }) => event.saw !== undefined && event.saw.endsWith("*");
+const isReadOfLink = ({ event }) => event.deed === "load" && event.word.endsWith(".link");
+const isInChain = (moment) => moment.chain.includes(nodeOf(moment.event));
+
+const isWithin = (call, { step, others }) =>
+  call.begun > step.event.number && call.ended !== null && call.ended <= step.event.number + others.length;
+return { Run, locksOf, nodeOf, isFailedStep, isFailedTry, isMarkSeen, isReadOfLink, isInChain, isWithin };
+})();
+
+// course/goal_words.js
+const $course_goal_words = (() => {
+const { isFailedStep, isFailedTry, isInChain, isMarkSeen, isReadOfLink, isWithin, locksOf, nodeOf } = $run_moments;
+class GoalFault extends Error {
+  constructor(line, fault) {
+    super(fault);
+    this.line = line; // from 1, among the lines of the goal
+  }
+}
+
+const isRising = (one, other) => one !== null && other !== null && one < other;
+const endOf = (found) => (found.event ? found.event.number : (found.ended ?? Infinity));
+const answeredKey = (call) => Number(call.reply?.slice("at-".length));
+const hasSmaller = (call, { keys }) => [...keys].some((key) => call.key <= key && key < answeredKey(call));
+
+const CALL_CLAUSES = [
+  [/^(add|remove|contains|ceiling)$/, (call, [operation]) => call.operation === operation],
+  [/^key (\d+)$/, (call, [key]) => call.key === Number(key)],
+  [/^answers a key$/, (call) => call.reply?.startsWith("at-") === true],
+  [/^answers (true|false|full|nothing|at-\d+)$/, (call, [reply]) => call.reply === reply],
+  [/^ended$/, (call) => call.ended !== null],
+  [/^open$/, (call) => call.ended === null],
+  [/^begins after ([A-Z]\w*)$/, (call, [other]) => other.begun < call.begun],
+  [/^takes effect after ([A-Z]\w*)$/, (call, [other]) => isRising(other.at, call.at)],
+  [/^ends during ([A-Z]\w*)$/, (call, [other]) => other.begun < endOf(call) && endOf(call) < (other.ended ?? Infinity)],
+  [/^within ([A-Z]\w*)$/, (call, [rest]) => isWithin(call, rest)],
+  [/^its key always in the set$/, (call, _, run) => run.ofCall(call).every(({ keys }) => keys.has(call.key))],
+  [/^a smaller key always in the set$/, (call, _, run) => run.ofCall(call).every((moment) => hasSmaller(call, moment))],
+  [/^its node in the chain at its end$/, (call, _, run) => run.lastOf(call)?.chain.includes(run.nodeOf(call)) === true],
+];
+const STEP_CLAUSES = [
+  [/^row (\d+)$/, (step, [row]) => step.row === Number(row)],
+  [/^to row (\d+)$/, (step, [row]) => step.thread.pc === Number(row)],
+  [/^without a reply$/, (step) => step.thread.reply === "none"],
+  [/^fails$/, (step) => isFailedStep(step)],
+  [/^tries in vain a lock of (\d+)$/, (step, [thread]) => isFailedTry(step) && step.event.saw === `t${thread}`],
+  [/^sees a mark$/, (step) => isMarkSeen(step)],
+  [/^reads a link$/, (step) => isReadOfLink(step)],
+  [/^in the chain$/, (step) => isInChain(step)],
+  [/^out of the chain$/, (step) => !isInChain(step)],
+  [/^holding (\d+)$/, (step, [count]) => locksOf(step, step.event.thread) === Number(count)],
+  [/^last$/, (step) => step.event.answer !== undefined],
+  [/^pred leads to curr$/, (step) => step.linkOfPred === step.thread.curr],
+  [/^at another node than ([A-Z]\w*)$/, (step, [other]) => nodeOf(step.event) !== nodeOf(other.event)],
+  [/^after ([A-Z]\w*)$/, (step, [other]) => step.event.number > endOf(other)],
+  [/^by another thread than ([A-Z]\w*)$/, (step, [other]) => step.event.thread !== (other.event ?? other).thread],
+  [/^in ([A-Z]\w*)$/, (step, [rest]) => rest.others.includes(step)],
+  [/^takes out the node of ([A-Z]\w*)$/, (step, [call], run) => run.isTakenOut(run.nodeOf(call), step)],
+];
+const REST_CLAUSES = [[/^holding (\d+)$/, (rest, [count]) => locksOf(rest.step, rest.step.event.thread) === Number(count)]];
+const CLAUSES = { call: CALL_CLAUSES, step: STEP_CLAUSES, rest: REST_CLAUSES };
+const NAMED = { "begins after": "call", "takes effect after": "call", "ends during": "call", within: "rest", in: "rest",
+  "at another node than": "step", "takes out the node of": "call" };
+const GOAL_FORMS = '"call C of 0: ..", "step S in C: ..", "rest R of 0", "3 steps of 1: ..", "all calls ended", "say .."';
+const GOAL_LINE = /^(?:(call|step|rest) ([A-Z]\w*)|(\d+) (call|step)s?)(?: (of|in) (\w+))?(?:: (.+))?$/;
+
+function readGoalLine(text, number, names) {
+  const fail = (fault) => {
+    throw new GoalFault(number, fault);
+  };
+  if (text.startsWith("say ")) return { says: text.slice("say ".length).trim() };
+  if (text === "all calls ended") return { isWhole: (run) => run.calls.every((call) => call.ended !== null) };
+  const parts = GOAL_LINE.exec(text) ?? fail(`"${text}" is no line of a goal, as ${GOAL_FORMS}`);
+  const [, kind, name, count, kinds, join, whose, clauses = ""] = parts;
+  const sort = kind ?? kinds;
+  const known = (word) => names.get(word) ?? fail(`nothing above is named ${word}`);
+  if (join === "in" && known(whose) !== "call") fail(`${whose} is no call`);
+  if (join === "of" && !/^\d+$/.test(whose)) fail(`${whose} is no thread`);
+  const isNew = name !== undefined && !names.has(name);
+  if (name !== undefined && !isNew && names.get(name) !== sort) fail(`${name} is a ${names.get(name)}`);
+  if (name !== undefined && !isNew && join !== undefined) fail(`${name} is found above: "${kind} ${name}: .." asks for more of it`);
+  if (sort === "rest" && isNew && join !== "of") fail('a rest is that of a thread: "rest R of 0"');
+  if (sort !== "step" && join === "in") fail(`a ${sort} is "of" a thread`);
+  const tests = clausesIn(clauses).map((clause) => readClause(sort, clause, known, fail));
+  if (isNew) names.set(name, sort);
+  return { sort, name, isNew, count: count === undefined ? null : Number(count), join, whose, tests, clauses: clausesIn(clauses) };
+}
+
+const clausesIn = (text) => text.split(",").map((clause) => clause.trim()).filter((clause) => clause !== "");
+
+function formOf([pattern]) {
+  const bare = pattern.source.replace(/^\^|\$$/g, "").replaceAll("([A-Z]\\w*)", "X").replace(/\\d\+/g, "N");
+  return bare.replace(/\(([^)]*)\)/g, "$1");
+}
+
+const formsOf = (sort) => CLAUSES[sort].map(formOf).join(", ");
+
+function readClause(sort, clause, known, fail) {
+  const isOf = ([pattern]) => pattern.test(clause);
+  const [words, test] = CLAUSES[sort].find(isOf) ?? fail(`"${clause}" is no clause of a ${sort}, which are ${formsOf(sort)}`);
+  const given = words.exec(clause).slice(1);
+  for (const word of given.filter((one) => /^[A-Z]/.test(one))) {
+    const [found, wanted] = [known(word), NAMED[clause.slice(0, clause.lastIndexOf(" "))]];
+    if (wanted !== undefined && found !== wanted) fail(`${word} is a ${found}, and a ${wanted} is due there`);
+  }
+  return (found, run, bound) => test(found, given.map((word) => bound.get(word) ?? word), run);
+}
+
+function readGoal(lines) {
+  const names = new Map();
+  const read = lines.map((line, index) => readGoalLine(line, index + 1, names));
+  if (read.at(-1)?.says === undefined) throw new GoalFault(lines.length, 'a goal ends with a line "say .."');
+  return read;
+}
+
+function foundBy(line, run, bound) {
+  if (line.name !== undefined && !line.isNew) return [bound.get(line.name)];
+  const thread = line.join === "of" ? Number(line.whose) : null;
+  if (line.sort === "rest") return run.restsOf(thread);
+  if (line.sort === "call") return run.calls.filter((call) => thread === null || call.thread === thread);
+  const steps = line.join === "in" ? run.ofCall(bound.get(line.whose)) : run.moments;
+  return steps.filter(({ event }) => event.deed !== "begin" && (thread === null || event.thread === thread));
+}
+
+function canMeet(lines, run, bound = new Map(), at = 0) {
+  if (at === lines.length) return true;
+  const line = lines[at];
+  if (line.says !== undefined) return canMeet(lines, run, bound, at + 1);
+  if (line.isWhole !== undefined) return line.isWhole(run) && canMeet(lines, run, bound, at + 1);
+  const fits = foundBy(line, run, bound).filter((found) => line.tests.every((test) => test(found, run, bound)));
+  if (line.count !== null) return fits.length >= line.count && canMeet(lines, run, bound, at + 1);
+  return fits.some((found) => canMeet(lines, run, new Map(bound).set(line.name, found), at + 1));
+}
+
+function conditionsOf(goal, run) {
+  const ends = goal.map(({ says }, index) => ({ says, index })).filter(({ says }) => says !== undefined);
+  return ends.map(({ says, index }) => {
+    const isMet = canMeet(goal.slice(0, index), run);
+    return { says, isMet, missing: isMet ? null : missingLine(goal, index, run) };
+  });
+}
+
+function missingLine(goal, end, run) {
+  const begin = goal.findLastIndex(({ says }, index) => says !== undefined && index < end) + 1;
+  if (end - begin < 2) return null;
+  let at = begin;
+  while (canMeet(goal.slice(0, at + 1), run)) at++;
+  return lineInWords(goal, at);
+}
+
+function lineInWords(goal, at) {
+  const line = goal[at];
+  if (line.isWhole !== undefined) return "all calls have answered";
+  const nouns = new Map();
+  for (const above of goal.slice(0, at)) if (above.isNew) nouns.set(above.name, `the ${nounOf(above, nouns)}`);
+  const noun = nounOf(line, nouns);
+  const article = /^[aeiou]/.test(noun) ? "an" : "a";
+  const counted = line.count === 1 ? `${article} ${noun}` : `${line.count} times a ${noun}`;
+  const subject = line.count !== null ? counted : line.isNew ? `${article} ${noun}` : nouns.get(line.name);
+  const told = (clause) => clause.replace(/\b[A-Z]\w*/g, (name) => nouns.get(name) ?? name).replace(/(lock of) (\d+)/, "$1 thread $2");
+  return [subject, ...line.clauses.filter((clause) => !isOperation(clause) || !line.isNew).map(told)].join(", ");
+}
+
+const isOperation = (clause) => /^(add|remove|contains|ceiling)$/.test(clause);
+
+function nounOf({ sort, join, whose, clauses }, nouns) {
+  if (sort === "rest") return `time in which thread ${whose} makes no step`;
+  const noun = sort === "step" ? "step" : (clauses.find(isOperation) ?? "call");
+  if (join === undefined) return noun;
+  return join === "of" ? `${noun} of thread ${whose}` : `${noun} in ${nouns.get(whose)}`;
+}
+return { GoalFault, CLAUSES, readGoal, conditionsOf };
+})();
+
+// course/course_text.js
+const $course_course_text = (() => {
+const { LACKING } = $made_classics;
+const { GoalFault, readGoal } = $course_goal_words;
+const { titleOf } = $run_schedule_text;
+const COURSE_TITLE = "listset-course 1";
+const MOST_COURSE = 1000000; // characters of a course
+const LESSON_WORDS = {
+  lesson: { form: /^[a-z][a-z0-9-]{0,40}$/, says: "a name of small letters, digits and -" },
+  title: { form: /^.{1,80}$/, says: "a title of 1 to 80 letters" },
+  list: { form: /^(coarse|fine|optimistic|lazy|lock-free)$/, says: "coarse, fine, optimistic, lazy or lock-free" },
+  lacks: { form: /^[a-z][a-z-]{0,40}$/, says: "the name of a broken list", isOptional: true },
+  threads: { form: /^([1-9]|[1-5]\d|6[0-4])$/, says: "a number from 1 to 64" },
+  quota: { form: /^(0|[1-9]\d{0,4})$/, says: "a number, the nodes that a thread may put in" },
+  opening: { form: /^\d+( \d+)*$/, says: "keys, rising, with a space between", isOptional: true },
+  start: { isBlock: true, isOptional: true },
+  question: { isBlock: true },
+  teaches: { isBlock: true, isOptional: true },
+  hint: { isBlock: true, isOptional: true },
+  answer: { isBlock: true, isOptional: true },
+  goal: { isBlock: true },
+  "dead-ends": { isBlock: true, isOptional: true },
+};
+const WORDS = Object.keys(LESSON_WORDS);
+
+class CourseReader {
+  constructor(text) {
+    this.faults = [];
+    this.name = "";
+    this.lessons = [];
+    this.block = null; // the part to which lines belong that begin with two spaces
+    const given = text.replace(/^\ufeff/, "").split("\n");
+    const lines = given.map((line, index) => ({ line: line.replaceAll("\t", "  ").trimEnd(), number: index + 1 }));
+    const [title, ...rest] = lines.filter(({ line }) => line !== "" && !line.startsWith("#"));
+    if (title?.line !== COURSE_TITLE) return this.fault(title?.number ?? 1, `"${COURSE_TITLE}" is due here`);
+    rest.forEach(({ line, number }) => this.take(line, number));
+    if (this.name === "") this.fault(title.number, 'the line "course NAME" is due below it');
+    if (this.lessons.length === 0) this.fault(title.number, "there is no lesson below");
+  }
+
+  fault(line, fault) {
+    this.faults.push({ line, fault });
+  }
+
+  take(line, number) {
+    if (line.startsWith("  ")) {
+      if (this.block === null) this.fault(number, "this line belongs to no word: a word that stands alone is due above it");
+      else this.block.lines.push({ line: line.trim(), number });
+      return;
+    }
+    const word = line.split(" ")[0];
+    const value = line.slice(word.length).trim();
+    this.block = null;
+    if (word === "course" && this.lessons.length === 0) this.name = value.slice(0, 80);
+    else if (Object.hasOwn(LESSON_WORDS, word)) this.takeWord(word, value, number);
+    else this.fault(number, `"${word.slice(0, 40)}" is no word of a lesson: one of ${WORDS.join(", ")}`);
+  }
+
+  takeWord(word, value, number) {
+    const { form, says, isBlock } = LESSON_WORDS[word];
+    const part = { number, value, lines: [] };
+    if (isBlock) this.block = part;
+    if (isBlock && value !== "") this.fault(number, `what "${word}" says is due in the lines below it, each after two spaces`);
+    if (!isBlock && !form.test(value)) this.fault(number, `"${value.slice(0, 60)}" is no ${word}: it is ${says}`);
+    if (word === "lesson") return this.lessons.push({ lesson: part });
+    const parts = this.lessons[this.lessons.length - 1];
+    if (parts === undefined) return this.fault(number, `"lesson NAME" is due above "${word}"`);
+    const before = Object.keys(parts).pop();
+    if (word in parts) return this.fault(number, `"${word}" stands in this lesson already, at line ${parts[word].number}`);
+    if (WORDS.indexOf(word) < WORDS.indexOf(before)) this.fault(number, `"${word}" is due above "${before}"`);
+    parts[word] = part;
+  }
+
+  lessonOf(parts) {
+    const isDue = (word) => !LESSON_WORDS[word].isOptional && !(word === "goal" && "lacks" in parts);
+    const missing = WORDS.filter((word) => !(word in parts) && isDue(word));
+    if (missing.length > 0) {
+      this.fault(parts.lesson.number, `the lesson lacks ${missing.map((word) => `"${word}"`).join(", ")}`);
+      return null;
+    }
+    const linesOf = (word) => (parts[word]?.lines ?? []).map(({ line }) => line);
+    const events = ["start", "answer"].flatMap((word) => parts[word]?.lines ?? []); // with their numbers
+    const lacks = parts.lacks?.value ?? null;
+    if (lacks !== null && LACKING[lacks] !== parts.list.value) {
+      const own = Object.keys(LACKING).filter((name) => LACKING[name] === parts.list.value);
+      const there = own.length === 0 ? "none is broken" : `the broken ones lack ${own.join(", ")}`;
+      this.fault(parts.lacks.number, `there is no ${parts.list.value} list that lacks "${lacks}": ${there}`);
+      return null;
+    }
+    const goal = "goal" in parts ? this.goalOf(parts.goal) : [];
+    const deadEnds = this.deadEndsOf(parts["dead-ends"]);
+    if (goal === null || deadEnds === null) return null;
+    const lesson = { name: parts.lesson.value, line: parts.lesson.number, lacks, goal, deadEnds };
+    for (const word of ["title", "list"]) lesson[word] = parts[word].value;
+    for (const word of ["threads", "quota"]) lesson[word] = Number(parts[word].value);
+    for (const word of ["question", "teaches", "hint"]) lesson[word] = linesOf(word).join(" ");
+    const opening = parts.opening?.value.split(" ") ?? [];
+    return { ...lesson, opening, start: linesOf("start"), answer: linesOf("answer"), events };
+  }
+
+  goalOf({ number, lines }) {
+    try {
+      return readGoal(lines.map(({ line }) => line));
+    } catch (found) {
+      if (!(found instanceof GoalFault)) throw found;
+      this.fault(lines[found.line - 1]?.number ?? number, found.message);
+      return null;
+    }
+  }
+
+  deadEndsOf(part) {
+    if (part === undefined) return [];
+    const ends = [[]];
+    for (const line of part.lines) {
+      ends[ends.length - 1].push(line);
+      if (line.line.startsWith("say ")) ends.push([]);
+    }
+    const goals = ends.filter((lines) => lines.length > 0).map((lines) => this.goalOf({ number: part.number, lines }));
+    return goals.includes(null) ? null : goals;
+  }
+}
+
+function readCourse(text) {
+  const reader = new CourseReader(text.slice(0, MOST_COURSE));
+  if (text.length > MOST_COURSE) reader.fault(1, `a course has at most ${MOST_COURSE} letters`);
+  const lessons = reader.lessons.map((parts) => reader.lessonOf(parts)).filter((lesson) => lesson !== null);
+  const twice = lessons.filter((lesson, index) => lessons.findIndex(({ name }) => name === lesson.name) < index);
+  for (const { name, line } of twice) reader.fault(line, `there is a lesson ${name} above`);
+  return { name: reader.name, lessons, faults: reader.faults };
+}
+
+function lessonText({ list, threads, quota, opening }, lines) {
+  const isOfVersionTwo = opening.length > 0 || lines.some((line) => line.includes(" ceiling "));
+  const header = [titleOf(isOfVersionTwo ? 2 : 1), `list ${list}`, `threads ${threads}`, `quota ${quota}`];
+  return [...header, ...opening.map((key) => `opening ${key}`), ...lines, ""].join("\n");
+}
+return { COURSE_TITLE, readCourse, lessonText };
+})();
+
+// run/draft.js
+const $run_draft = (() => {
+const { Trace } = $run_trace;
+const MOST_TRIED = 1000; // steps of a thread that does not come to where it is sent, to see for what it waits
+const DRAFT_LINE = /^go \d+ (?:out|to \d+)$/m;
+
+function scheduleOfDraft(ask, text, lacks = null) {
+  if (!DRAFT_LINE.test(text)) return { text, fault: null };
+  if (lacks !== null) return scheduleOfLackingDraft(ask, lacks, text);
+  const made = ask("listset_draft", text.replace(/^listset-(?:schedule|draft) [12]$/m, "listset-draft 2"));
+  return made.status === 0 ? { text: made.text, fault: null } : { text: null, fault: made.text.trim() };
+}
+
+function stepsOfLacking(ask, lacks, lines, [thread, row]) {
+  const fault = (cause) => ({ count: null, fault: `listset: line ${lines.length + 1}: ${cause}` });
+  const { text } = ask("listset_trace_lacking", lacks, `${[...lines, `go ${thread} ${MOST_TRIED}`].join("\n")}\n`);
+  if (!text.startsWith("listset-trace")) return { count: null, fault: text.trim() };
+  const steps = new Trace(text).events().filter(({ line }) => line === lines.length + 1);
+  const end = steps.findIndex(({ answer }) => answer !== undefined);
+  const at = row === undefined ? end : steps.findIndex(({ answer, changes }) => answer === undefined && changes.pc === Number(row));
+  if (at !== -1) return { count: at + 1, fault: null };
+  return fault(end !== -1 || steps.length === 0 ? "Idle" : "Waits");
+}
+
+function scheduleOfLackingDraft(ask, lacks, text) {
+  const lines = [];
+  for (const line of text.split("\n").slice(0, -1)) {
+    const asked = /^go (\d+) (?:out|to (\d+))$/.exec(line);
+    const { count, fault } = asked === null ? { count: null, fault: null } : stepsOfLacking(ask, lacks, lines, asked.slice(1));
+    if (fault !== null) return { text: null, fault };
+    lines.push(asked === null ? line : `go ${asked[1]} ${count}`);
+  }
+  return { text: [...lines, ""].join("\n"), fault: null };
+}
+return { MOST_TRIED, scheduleOfDraft };
+})();
+
+// course/lesson.js
+const $course_lesson = (() => {
+const { lessonText, readCourse } = $course_course_text;
+const { conditionsOf } = $course_goal_words;
+const { askList, TO_BREAK, verdictOnLacking } = $run_broken;
+const { scheduleOfDraft } = $run_draft;
+const { CAUSES } = $run_faults;
+const { Run } = $run_moments;
+const { eventsAsked, versionOf } = $run_schedule_text;
+const { HEADER_LINES, Trace } = $run_trace;
+const MOST_EVENTS = 1000; // of a solution
+const OTHER_SET = "The list, the number of threads, the quota and the opening keys are to be those of the lesson.";
+
+const setOf = (schedule) => schedule.split("\n").slice(1).filter((line) => !/^(begin|go) /.test(line)).join("\n");
+
+function runOfSchedule(ask, schedule, lacks) {
+  const made = askList(ask, "listset_trace", lacks, schedule).text;
+  if (!made.startsWith("listset-trace")) return { trace: null, fault: `the schedule is refused: ${made.trim()}` };
+  const trace = new Trace(made, versionOf(schedule));
+  if (trace.refused === null) return { trace, fault: null };
+  return { trace: null, fault: `line ${trace.refused.line} of the schedule is refused: ${trace.refused.cause}` };
+}
+
+const unjudged = (reason) => ({ isSolved: false, reason, conditions: [], deadEnd: null });
+
+function judged(ask, lesson, schedule) {
+  if (setOf(schedule) !== setOf(lesson.begun)) return unjudged(OTHER_SET);
+  if (eventsAsked(schedule) > MOST_EVENTS) return unjudged(`A solution has at most ${MOST_EVENTS} events.`);
+  const { trace, fault } = runOfSchedule(ask, schedule, lesson.lacks);
+  if (trace === null) return unjudged(`${fault[0].toUpperCase()}${fault.slice(1)}.`);
+  const run = new Run(trace);
+  const conditions = conditionsOfLesson(ask, lesson, schedule, run);
+  const isSolved = conditions.every(({ isMet }) => isMet);
+  return { isSolved, reason: null, conditions, deadEnd: isSolved ? null : deadEndIn(lesson, run) };
+}
+
+const conditionTexts = ({ goal, lacks }) =>
+  [...goal.map(({ says }) => says), lacks === null ? undefined : TO_BREAK].filter((says) => says !== undefined);
+
+function conditionsOfLesson(ask, { goal, lacks }, schedule, run) {
+  const conditions = conditionsOf(goal, run);
+  if (lacks === null) return conditions;
+  return [...conditions, { says: TO_BREAK, isMet: verdictOnLacking(ask, lacks, schedule).kind === "broken" }];
+}
+
+function deadEndIn(lesson, run) {
+  const met = lesson.deadEnds.map((lines) => conditionsOf(lines, run)[0]).find(({ isMet }) => isMet);
+  return met?.says ?? null;
+}
+
+function missingIn({ reason, conditions }) {
+  const missing = conditions.find(({ isMet }) => !isMet);
+  return reason ?? (missing === undefined ? null : `missing: ${missing.says}`);
+}
+
+function troubleOf(ask, lesson) {
+  const start = scheduleOfDraft(ask, lessonText(lesson, lesson.start), lesson.lacks);
+  if (start.fault !== null) return refusedLine(lesson, "start", start.fault);
+  lesson.begun = start.text;
+  const begin = runOfSchedule(ask, start.text, lesson.lacks);
+  if (begin.trace === null) return refusedLine(lesson, "start", begin.fault);
+  const met = conditionsOfLesson(ask, lesson, start.text, new Run(begin.trace));
+  if (met.every(({ isMet }) => isMet)) return { line: lesson.line, says: "its start meets the goal already" };
+  lesson.solution = null;
+  if (lesson.answer.length === 0) return null;
+  const answer = scheduleOfDraft(ask, lessonText(lesson, [...lesson.start, ...lesson.answer]), lesson.lacks);
+  if (answer.fault !== null) return refusedLine(lesson, "answer", answer.fault);
+  lesson.solution = answer.text;
+  const verdict = judged(ask, lesson, answer.text);
+  if (verdict.isSolved) return null;
+  if (verdict.reason !== null) return refusedLine(lesson, "answer", verdict.reason);
+  return { line: lesson.line, says: `its answer does not solve it: ${missingIn(verdict)}` };
+}
+
+function refusedLine(lesson, part, fault) {
+  const [, number, cause] = /line (\d+)(?: of the schedule is refused)?: (\w+)/i.exec(fault) ?? [];
+  const given = lesson.events[Number(number) - HEADER_LINES - lesson.opening.length - 1];
+  if (given === undefined || !(cause in CAUSES)) return { line: lesson.line, says: `its ${part} is refused: ${fault}` };
+  return { line: given.number, says: `its ${part} is refused at "${given.line}": ${CAUSES[cause]}` };
+}
+
+function triedCourse(ask, text) {
+  const { name, lessons, faults } = readCourse(text);
+  for (const lesson of faults.length === 0 ? lessons : []) {
+    const fault = troubleOf(ask, lesson);
+    if (fault !== null) faults.push({ line: fault.line, fault: `${lesson.name}: ${fault.says}` });
+  }
+  return { name, lessons, text, faults: faults.sort((one, other) => one.line - other.line) };
+}
+return { MOST_EVENTS, OTHER_SET, setOf, unjudged, judged, conditionTexts, missingIn, triedCourse };
+})();
+
+// page/work.js
+const $page_work = (() => {
+const { forgetRoom } = $draw_room;
+const { byId, setAble } = $page_dom;
+const { chooseExample, exampleText } = $page_example;
+const { keepWork, works } = $page_kept;
+const { setOf } = $course_lesson;
+const { askNow, page, tellLine } = $page_now;
+const { leaveMap } = $page_places;
+const { runText } = $page_run_text;
+const { showMarks } = $page_view;
+const { titleOfLacking } = $run_broken;
+const { scheduleOfDraft } = $run_draft;
+const { eventsAsked, scheduleAndLine, withOpening } = $run_schedule_text;
+const { eventsInCommon } = $run_trace;
+const work = { before: [], after: [] }; // the schedules before, for Undo, and those that were undone, for Redo
+
+function present() {
+  const { text, count, example, name, begun, lacks } = page;
+  return { text, count, example, name, begun, lacks };
+}
+
+function showUndo() {
+  setAble("undo", work.before.length > 0);
+  setAble("redo", work.after.length > 0);
+}
+
+function forgetBefore() {
+  work.before = [];
+  showUndo();
+}
+
+function keepBefore() {
+  if (page.text !== "") work.before.push(present());
+  work.after = [];
+  showUndo();
+}
+
+function exchangeWork(from, others) {
+  const wanted = page.engine === null ? undefined : from.pop();
+  if (wanted === undefined) return;
+  others.push(present());
+  showUndo();
+  takeName(wanted.name, wanted.begun, wanted.lacks);
+  chooseExample(wanted.example);
+  runText(wanted.text, wanted.count);
+}
+
+const undo = () => exchangeWork(work.before, work.after);
+const redo = () => exchangeWork(work.after, work.before);
+
+function takeName(name, begun, lacks = null) {
+  keepWork();
+  forgetRoom();
+  Object.assign(page, { name, begun, lacks });
+  leaveMap();
+}
+
+function openText(text, at, name = works.newName("my schedule"), told = "", lacks = null) {
+  keepWork();
+  keepBefore();
+  takeName(name, text, lacks);
+  chooseExample("");
+  runText(text, at, told);
+}
+
+function openWork(name) {
+  const { text, box, count, lacks = null } = works.byName.get(name);
+  openText(text, count, name, "", lacks);
+  page.begun = "";
+  if (box !== text) byId("schedule").value = box;
+  showMarks();
+}
+
+const newSchedule = (list, threads, quota) =>
+  openText(`listset-schedule 1\nlist ${list}\nthreads ${threads}\nquota ${quota}\n`, 0, works.newName("my schedule"));
+
+function runBox() {
+  const box = byId("schedule").value;
+  const { text, fault } = scheduleOfDraft(askNow, box === "" || box.endsWith("\n") ? box : `${box}\n`, page.lacks);
+  if (fault !== null) return tellLine(fault);
+  const { trace, count } = page;
+  if (text !== page.text) keepBefore();
+  if (text !== exampleText(page.example)) chooseExample("");
+  if (/^lesson /.test(page.name) && setOf(text) !== setOf(page.text)) leaveLesson(text);
+  const at = (made) => (made.refused === null ? Math.min(count, eventsInCommon(trace, made)) : made.total);
+  runText(text, at);
+}
+
+function leaveLesson(text) {
+  byId("schedule").value = page.text;
+  takeName(works.newName("my schedule"), text, page.lacks);
+}
+
+function runWithOpening() {
+  const keys = byId("opening").value.split(/[\s,]+/).filter((key) => key !== "");
+  byId("schedule").value = withOpening(byId("schedule").value, keys);
+  runBox();
+}
+
+function goOn(line, count = 1, told = "") {
+  const text = scheduleAndLine(page.trace, page.count, line, page.isRun ? page.text : null);
+  const at = page.count + count;
+  keepBefore();
+  chooseExample("");
+  runText(text, at, told);
+}
+
+function showHeader(trace) {
+  byId("new-list").value = trace.kind;
+  byId("new-threads").value = trace.threads;
+  byId("new-quota").value = trace.quota;
+}
+
+function openLacking(name, schedule, told = "") {
+  openText(schedule, eventsAsked(schedule), works.newName(titleOfLacking(name)), told, name);
+}
+return { work, forgetBefore, keepBefore, undo, redo, takeName, openText, openWork, newSchedule, runBox, runWithOpening, goOn, showHeader, openLacking };
+})();
+
+// page/menu.js
+const $page_menu = (() => {
+const { CLASSICS } = $made_classics;
+const { TRACES } = $made_traces;
+const { byId, redraw } = $page_dom;
+const { chooseExample, exampleText } = $page_example;
+const { keepWork, works } = $page_kept;
+const { isJudging, page, takeScheduleOfTrace, takeTrace } = $page_now;
+const { runText } = $page_run_text;
+const { showMarks } = $page_view;
+const { keepBefore, openLacking, openWork, takeName } = $page_work;
+const { startOfLacking } = $run_broken;
+const { tag } = $run_markup;
+const { eventsAsked } = $run_schedule_text;
+const { Trace } = $run_trace;
+const WORK = "work: ";
+
+function fillWorks() {
+  const options = [...works.byName].reverse().map(([name, { text }]) => {
+    const [, list] = text.split("\n");
+    return new Option(`${name} (${list?.slice("list ".length)}): ${eventsAsked(text)} events`, `${WORK}${name}`);
+  });
+  byId("work-options").replaceChildren(...options);
+  byId("work-options").hidden = options.length === 0 || page.engine === null;
+  const chosen = page.example === "" ? `${WORK}${page.name}` : page.example;
+  const isThere = page.example !== "" || works.byName.has(page.name);
+  byId("nothing-kept").textContent = page.name; // what was opened, and not changed yet
+  byId("examples").value = isThere ? chosen : "";
+}
+
+function chooseInList(value) {
+  if (value.startsWith(WORK)) openWork(value.slice(WORK.length));
+  else if (value.startsWith(BREAK)) openLacking(value.slice(BREAK.length), startOfLacking(value.slice(BREAK.length)));
+  else if (value !== "") pickExample(value, 0);
+}
+
+function pickExample(name, count) {
+  if (page.engine === null) return pickKept(name, count);
+  const text = exampleText(name);
+  keepWork();
+  keepBefore();
+  takeName(works.newName(`from ${name}`), text);
+  chooseExample(name);
+  runText(text, count);
+}
+
+function pickKept(name, count) {
+  chooseExample(name);
+  takeTrace(new Trace(TRACES[name]), count, "a trace that is kept beside the page");
+  takeScheduleOfTrace();
+  showMarks();
+}
+
+function showQuestion() {
+  const classic = CLASSICS[page.example];
+  byId("question-box").hidden = classic === undefined;
+  byId("see-broken").hidden = page.engine === null || !(classic?.lacks.length > 0);
+  const box = byId("turns-box");
+  if (classic === undefined || box.dataset.example !== page.example) {
+    box.open = byId("without-box").open = false;
+    box.dataset.example = page.example;
+  }
+  const { total } = page.trace;
+  const turns = box.open && !isJudging() ? (classic?.turns ?? []) : [];
+  const place = (event) => `left: calc(8px + (100% - 16px) * ${event / total})`;
+  byId("ticks").innerHTML = turns.map((event) => `<i style="${place(event)}"></i>`).join("");
+  if (classic === undefined) return;
+  byId("question").textContent = classic.question;
+  byId("turns-on").textContent = classic.turnsOn;
+  byId("without").textContent = classic.without;
+  const here = (event) => (event === page.count ? { "aria-current": "true" } : {});
+  redraw(byId("turns"), turns.map((event) => tag("button", { "data-event": event, ...here(event) }, event)).join(" "));
+}
+const BREAK = "break: ";
+return { fillWorks, chooseInList, pickExample, pickKept, showQuestion, BREAK };
+})();
+
+// run/address.js
+const $run_address = (() => {
+const { LACKING } = $made_classics;
+const LONGEST_ADDRESS = 30000; // characters; a longer schedule has no address
+const SHORT_WORDS = { begin: "b", go: "g" };
+const LONG_WORDS = { b: "begin", g: "go" };
+const SHORT_EVENT = String.raw`(b\d+\.[a-z]+\.\d+|g\d+\.\d+)`;
+const ADDRESS_PARTS = {
+  example: /^[a-z-]+$/,
+  list: /^[A-Za-z-]+$/,
+  threads: /^\d+$/,
+  quota: /^\d+$/,
+  version: /^\d+$/,
+  opening: /^\d+(\.\d+)*$/,
+  s: new RegExp(`^(${SHORT_EVENT}(,${SHORT_EVENT})*)?$`),
+  event: /^\d+$/,
+  lacks: /^\d+$/,
+  view: /^(lecture|list|history)$/,
+  course: /^[A-Za-z0-9_-]+$/,
+  sides: /^(coarse|fine|optimistic|lazy|lock-free)\.(coarse|fine|optimistic|lazy|lock-free)$/,
+  calls: /^(\d\d?\.[a-z]+\.\d+(,|$))+$/,
+  turns: /^(\d\d?(\.\d\d?)*)?$/,
+  watch: /^$/,
+  learn: /^[a-z0-9-]*$/,
+  judge: /^$/,
+  break: /^\d*$/,
+  compare: /^$/,
+  read: /^$/,
+  seed: /^(coarse|fine|optimistic|lazy|lock-free)\.\d{1,2}\.\d{1,2}\.\d{1,2}\.\d{1,9}$/,
+};
+
+class AddressFault extends Error {}
+
+const neededVersion = (lines) => (lines.some((line) => /^(opening |begin \d+ ceiling )/.test(line)) ? 2 : 1);
+
+function addressOf(text, event, lacks = null) {
+  if (text.length > 2 * LONGEST_ADDRESS) return null; // an address has more than half of the letters
+  const [title, list, threads, quota, ...lines] = text.split("\n").slice(0, -1);
+  const isOpening = (line) => line.startsWith("opening ");
+  const opening = lines.filter(isOpening).map((line) => line.slice("opening ".length));
+  const events = lines.filter((line) => !isOpening(line)).map(shortLine);
+  const version = title?.split(" ")[1];
+  const parts = [`list=${list?.split(" ")[1]}`, `threads=${threads?.split(" ")[1]}`, `quota=${quota?.split(" ")[1]}`];
+  if (version !== String(neededVersion(lines))) parts.push(`version=${version}`);
+  if (opening.length > 0) parts.push(`opening=${opening.join(".")}`);
+  parts.push(`s=${events.join()}`, `event=${event}`);
+  if (lacks !== null) parts.push(`lacks=${Object.keys(LACKING).indexOf(lacks) + 1}`);
+  const address = `#${parts.join("&")}`;
+  return address.length <= LONGEST_ADDRESS && isAddressOf(address, text) ? address : null;
+}
+
+const shortLine = (line) => {
+  const [word, ...values] = line.split(" ");
+  return `${SHORT_WORDS[word] ?? word}${values.join(".")}`;
+};
+
+const longLine = (short) => `${LONG_WORDS[short[0]]} ${short.slice(1).replaceAll(".", " ")}`;
+
+function isAddressOf(address, text) {
+  try {
+    return readAddress(address).text === text;
+  } catch (fault) {
+    if (!(fault instanceof AddressFault)) throw fault;
+    return false;
+  }
+}
+
+const exampleAddress = (name, event) => `#example=${name}&event=${event}`;
+
+function readAddress(hash) {
+  const { view = null, course = null, lacks: number, seed = null, ...rest } = partsOf(hash);
+  const { place, isJudged, parts } = placeOf(rest, seed);
+  const lacks = number === undefined ? null : Object.keys(LACKING)[number - 1];
+  if (lacks === undefined) throw new AddressFault(`there is no broken list ${number}`);
+  const own = { view, course, sides: null, lacks, place, seed, isJudged };
+  const named = { example: parts.example ?? null, text: null, event: Number(parts.event ?? 0), ...own };
+  if (parts.sides !== undefined) return { ...named, sides: parts };
+  const ofSchedule = Object.keys(parts).filter((name) => name !== "event" && name !== "example");
+  if (named.example !== null && ofSchedule.length > 0) {
+    throw new AddressFault(`the address names an example, and has "${ofSchedule[0]}" too`);
+  }
+  if (ofSchedule.length > 0) named.text = textOfParts(parts);
+  return named;
+}
+
+function placeOf(parts, seed) {
+  const isRun = seed !== null || parts.example !== undefined || parts.list !== undefined;
+  const name = ["watch", "learn", "judge", "break", "compare", "read"].find((one) => parts[one] !== undefined);
+  if (name === undefined) return { place: null, isJudged: false, parts };
+  const { [name]: value, ...others } = parts;
+  const isJudged = name === "judge" && isRun;
+  return { place: isJudged ? null : [name, value], isJudged, parts: others };
+}
+
+function partsOf(hash) {
+  const parts = {};
+  for (const [name, value] of new URLSearchParams(hash.replace(/^#/, ""))) {
+    if (!Object.hasOwn(ADDRESS_PARTS, name)) throw new AddressFault(`the address has a part "${name}", which is none`);
+    if (name in parts) throw new AddressFault(`the address has "${name}" twice`);
+    if (!ADDRESS_PARTS[name].test(value)) throw new AddressFault(`"${value.slice(0, 60)}" is no ${name} of an address`);
+    parts[name] = value;
+  }
+  return parts;
+}
+
+function textOfParts(parts) {
+  const missing = ["list", "threads", "quota"].find((name) => parts[name] === undefined);
+  if (missing !== undefined) throw new AddressFault(`the address has no "${missing}"`);
+  const opening = (parts.opening?.split(".") ?? []).map((key) => `opening ${key}`);
+  const events = (parts.s ? parts.s.split(",") : []).map(longLine);
+  const lines = [...opening, ...events];
+  const title = `listset-schedule ${parts.version ?? neededVersion(lines)}`;
+  return [title, `list ${parts.list}`, `threads ${parts.threads}`, `quota ${parts.quota}`, ...lines, ""].join("\n");
+}
+return { LONGEST_ADDRESS, AddressFault, addressOf, longLine, exampleAddress, readAddress };
+})();
+
+// activities/break_map.js
+const $activities_break_map = (() => {
+const { LACKING } = $made_classics;
+const { LISTS } = $made_rows;
+const { brokenLines } = $activities_broken_kept;
+const { BREAK_LEVELS, GRADES, LACKS_IN_WORDS } = $data_levels;
+const { byId } = $page_dom;
+const { BREAK } = $page_menu;
+const { page } = $page_now;
+const { setProgress } = $page_places;
+const { forgetBefore, openLacking } = $page_work;
+const { AddressFault } = $run_address;
+const { startOfLacking, titleOfLacking } = $run_broken;
+const { escaped, tag } = $run_markup;
+const ORDER = Object.keys(BREAK_LEVELS);
+const counted = ORDER.filter((name) => BREAK_LEVELS[name].grade < GRADES.length);
+const numberOf = (name) => ORDER.indexOf(name) + 1;
+const addressOfLevel = (name) => `#break=${numberOf(name)}`;
+const wordOf = (name) => BREAK_LEVELS[name].lacks ?? LACKS_IN_WORDS[name];
+
+function titleOfLevel(name) {
+  const grade = GRADES[BREAK_LEVELS[name].grade];
+  return grade === undefined ? "To think about" : `Level ${numberOf(name)} of ${counted.length} · ${grade}`;
+}
+
+function drawBreakMap() {
+  const broken = new Set(brokenLines().map(([name]) => name));
+  setProgress("nav-break", counted.filter((name) => broken.has(name)).length, counted.length);
+  const card = (name) => {
+    const isDone = broken.has(name);
+    const { grade, story } = BREAK_LEVELS[name];
+    const number = isDone ? "✓" : grade < GRADES.length ? numberOf(name) : "?";
+    const parts = [tag("span", { class: "number" }, number), tag("b", {}, LISTS[LACKING[name]].name)];
+    const words = tag("small", {}, escaped(isDone ? wordOf(name) : story));
+    return tag("li", {}, tag("a", { href: addressOfLevel(name), class: isDone ? "done" : "" }, ...parts, words));
+  };
+  const group = (title, names) => `<h2>${title}</h2>${tag("ol", { class: "cards" }, ...names.map(card))}`;
+  const groups = GRADES.map((title, grade) => group(title, ORDER.filter((name) => BREAK_LEVELS[name].grade === grade)));
+  const rest = group("To think about", ORDER.filter((name) => !counted.includes(name)));
+  byId("map-break").innerHTML = `<h1>Break a list</h1><p class="lead">Each of these lists lacks one check of the whole one. Move the threads
+    until no order of the calls explains what they answered. Then say what is missing.</p>${groups.join("")}${rest}`;
+}
+
+function fillBreaks() {
+  const broken = new Set(brokenLines().map(([name]) => name));
+  const textOf = (name) => `${broken.has(name) ? "✓ " : ""}${titleOfLacking(name)}`;
+  byId("break-options-list").replaceChildren(...Object.keys(LACKING).map((name) => new Option(textOf(name), `${BREAK}${name}`)));
+  drawBreakMap();
+}
+
+function openLevel(number) {
+  const name = ORDER[number - 1];
+  if (name === undefined) throw new AddressFault(`there is no level ${number}`);
+  openLacking(name, startOfLacking(name));
+  forgetBefore();
+  return true;
+}
+
+function showTaskOfBreak() {
+  const at = ORDER.indexOf(page.lacks);
+  const to = (index) => (ORDER[index] === undefined ? null : addressOfLevel(ORDER[index]));
+  return { before: to(at - 1), all: ["#break", "All levels"], next: to(at + 1) };
+}
+return { ORDER, numberOf, addressOfLevel, wordOf, titleOfLevel, drawBreakMap, fillBreaks, openLevel, showTaskOfBreak };
+})();
+
+// draw/judged.js
+const $draw_judged = (() => {
+const { SHORT, SHORT_REPLY } = $draw_history;
+const { lastMoment, nameOfCall } = $run_judged;
+const { callText, chipOf, colourOf, escaped, label, tag } = $run_markup;
+const JUDGE_LEFT = 50;
+const JUDGE_RIGHT = 20;
+const JUDGE_LANE = 54;
+const SLOT_WIDTH = 60; // of the words of a point
+
+function judgeScale({ last, threads }, width) {
+  const step = (width - JUDGE_LEFT - JUDGE_RIGHT) / last;
+  return {
+    step,
+    width,
+    height: 10 + threads * JUDGE_LANE,
+    x: (moment) => JUDGE_LEFT + (moment - 0.5) * step,
+    y: (thread) => 5 + thread * JUDGE_LANE + JUDGE_LANE / 2 + 6,
+    momentAt: (x) => (x - JUDGE_LEFT) / step + 0.5,
+  };
+}
+
+const momentInWords = (at) => (Number.isInteger(at) ? `at ${at}` : `after ${Math.floor(at)}`);
+
+function drawJudgedLane(scale, thread) {
+  const y = scale.y(thread);
+  const badge = tag("rect", { x: 2, y: y - 10, width: 38, height: 20, rx: 4 }) + label({ x: 21, y: y + 5 }, `t${thread}`);
+  const lane = { class: "lane", x1: JUDGE_LEFT - 6, x2: scale.width - JUDGE_RIGHT, y1: y, y2: y };
+  return tag("line", lane) + tag("g", { class: `badge ${colourOf(thread)}` }, badge);
+}
+
+function drawJudgedCall(call, { answer, exercise, verdict, scale }) {
+  const y = scale.y(call.thread);
+  const left = scale.x(call.begun) - scale.step / 2;
+  const right = scale.x(lastMoment(exercise, call)) + scale.step / 2;
+  const point = answer.points.get(call.id);
+  const reply = call.ended === null ? "(open)" : (answer.replyOf(call) ?? "?");
+  const isClash = verdict?.clash === call.id;
+  const where = point === undefined ? "not placed yet" : momentInWords(point.at);
+  const slider = {
+    role: "slider",
+    tabindex: 0,
+    "data-call": call.id,
+    "aria-label": `where ${nameOfCall(call)}, ${reply === "?" ? "its reply not said yet" : reply}, takes effect`,
+    "aria-valuemin": call.begun,
+    "aria-valuemax": lastMoment(exercise, call),
+    "aria-valuenow": point?.at ?? call.begun,
+    "aria-valuetext": `${where}${isClash ? ", and clashes there" : ""}`,
+    class: `bar own ${colourOf(call.thread)}${isClash ? " clash" : ""}${call.ended === null ? " open" : ""}`,
+  };
+  const bar = tag("rect", { x: left, y: y - 15, width: Math.max(right - left, 12), height: 30, rx: 4 });
+  const isNarrow = 8 * (callText(call).length + reply.length + 1) > right - left;
+  const text = isNarrow ? `${SHORT[call.operation](call.key)} ${SHORT_REPLY[reply] ?? reply}` : `${callText(call)} ${reply}`;
+  const name = label({ class: "call", x: left + 2, y: y - 19 }, text);
+  return tag("g", slider, bar, name, point === undefined ? "" : drawOwnPoint(call, point.at, y, scale));
+}
+
+function drawOwnPoint(call, at, y, scale) {
+  const x = scale.x(at);
+  const stem = tag("line", { x1: x, x2: x, y1: y - 15, y2: y + 15 });
+  const beside = x + SLOT_WIDTH > scale.width ? { x: x - 11, "text-anchor": "end" } : { x: x + 11 };
+  const words = label({ ...beside, y: y + 5 }, momentInWords(at));
+  return tag("g", { class: `point own ${colourOf(call.thread)}` }, stem, tag("circle", { cx: x, cy: y, r: 8 }), words);
+}
+
+function drawJudged(judged) {
+  const { exercise, scale, moment } = judged;
+  const lanes = Array.from({ length: exercise.threads }, (_, thread) => drawJudgedLane(scale, thread));
+  const at = exercise.level === "claim" ? moment : judged.count;
+  const line = { class: "cursor", x1: scale.x(at), x2: scale.x(at), y1: 0, y2: scale.height };
+  const frame = { width: scale.width, height: scale.height, role: "group", "aria-label": "the calls, each with a point to place" };
+  const calls = exercise.calls.map((call) => drawJudgedCall(call, judged));
+  return tag("svg", frame, ...lanes, at === 0 ? "" : tag("line", line), ...calls);
+}
+
+function drawOwnOrder(answer) {
+  const order = answer.order();
+  if (order.length === 0) return "Press on a bar, and drag: there the call takes effect. Or go to it by Tab, and use the arrows.";
+  const items = order.map(({ call, at, reply }) => {
+    return `<li>${chipOf(call.thread)} ${callText(call)} <b>${escaped(reply ?? "?")}</b> <small>${momentInWords(at)}</small></li>`;
+  });
+  return `<ol>${items.join("")}</ol>`;
+}
+
+function momentOfReport({ calls, last }, moment) {
+  if (moment === 0) return `Before the first of ${last} moments.`;
+  const begun = calls.find((call) => call.begun === moment);
+  const ended = calls.find((call) => call.ended === moment);
+  if (begun !== undefined) return `Moment ${moment}: ${chipOf(begun.thread)} begins ${callText(begun)}.`;
+  if (ended !== undefined) return `Moment ${moment}: ${chipOf(ended.thread)} ${callText(ended)} answers <b>${ended.reply}</b>.`;
+  const open = calls.filter((call) => call.begun < moment && (call.ended ?? Infinity) > moment);
+  const names = open.map((call) => `${callText(call)} of ${chipOf(call.thread)}`);
+  return `Moment ${moment}: a step. ${names.length === 0 ? "No call is open." : `Open: ${names.join(", ")}.`}`;
+}
+return { judgeScale, drawJudged, drawOwnOrder, momentOfReport };
+})();
+
+// activities/judging.js
+const $activities_judging = (() => {
+const { CLASSICS } = $made_classics;
+const { drawJudged, drawOwnOrder, judgeScale, momentOfReport } = $draw_judged;
+const { byId, redraw } = $page_dom;
+const { keepUnder, keptUnder } = $page_kept;
+const { askNow, isJudging, page, show, tell } = $page_now;
+const { addressOf } = $run_address;
+const { exerciseOf, LEVELS, MOST_JUDGED, OwnAnswer, repliesOf, verdictOn, wordOfAnswer } = $run_judged;
+const { callText, chipOf, escaped } = $run_markup;
+const JUDGED = "listset-judged"; // in the browser's storage: of each run and level the order that was right
+
+const HALF_STEPS = { ArrowLeft: -0.5, ArrowDown: -0.5, ArrowRight: 0.5, ArrowUp: 0.5 };
+const SLIDER_KEYS = { ...HALF_STEPS, PageDown: -5, PageUp: 5, Home: -Infinity, End: Infinity };
+const judgePart = (name) => byId(`judge-${name}`);
+
+class Judging {
+  begin(level) {
+    if (page.lacks !== null) return this.take(exerciseOf(page.verdict.report, "claim", false));
+    const broken = page.example === "" ? null : page.engine.ask("listset_broken_example", page.example);
+    const isBroken = level === "claim" && broken?.status === 0 && Math.random() < 0.5;
+    const report = isBroken ? broken.text : page.engine.ask("listset_replay", page.text).text;
+    this.take(exerciseOf(report, level, !isBroken));
+  }
+
+  take(exercise) {
+    page.exercise = exercise;
+    Object.assign(this, { exercise, answer: new OwnAnswer(exercise) });
+    Object.assign(this, { held: null, verdict: null, tries: 0, moment: 0, told: LEVELS[exercise.level].task });
+    document.body.classList.toggle("claim", exercise.level === "claim");
+    document.body.classList.add("judging");
+    if (page.lacks === null) judgePart("level").value = exercise.level;
+    show();
+  }
+
+  end() {
+    page.exercise = null;
+    document.body.classList.remove("judging", "claim");
+  }
+
+
+  callAt(event) {
+    const id = event.target.closest("[data-call]")?.dataset.call;
+    return id === undefined ? null : this.exercise.calls[Number(id)];
+  }
+
+  grasp(event) {
+    const call = this.callAt(event);
+    if (call === null) return;
+    event.preventDefault();
+    judgePart("bars").setPointerCapture(event.pointerId);
+    this.held = call;
+    this.drag(event);
+  }
+
+  drag(event) {
+    const left = judgePart("bars").firstElementChild.getBoundingClientRect().left;
+    this.place(this.held, this.scale.momentAt(event.clientX - left));
+  }
+
+  place(call, at) {
+    this.answer.place(call, at);
+    this.changed();
+    judgePart("bars").querySelector(`[data-call="${call.id}"]`).focus();
+  }
+
+  press(event) {
+    const call = this.callAt(event);
+    const by = SLIDER_KEYS[event.key];
+    if (call === null || event.ctrlKey || event.altKey || event.metaKey) return;
+    if (event.key === "Delete" || event.key === "Backspace") {
+      this.answer.take(call);
+      this.changed();
+    } else if (by === undefined) return;
+    else this.place(call, this.answer.points.has(call.id) ? this.answer.points.get(call.id).at + by : call.begun);
+    event.preventDefault();
+  }
+
+  say(call, reply) {
+    this.answer.say(call, reply);
+    this.changed();
+  }
+
+  changed() {
+    this.verdict = null;
+    this.draw();
+  }
+
+  judge(isNone) {
+    this.answer.isNone = isNone;
+    this.verdict = verdictOn(askNow, this.answer);
+    if (this.verdict.isRight === false) this.tries++;
+    if (this.verdict.isRight && this.exercise.isWhole) this.keep();
+    this.answer.isNone = false;
+    this.draw();
+  }
+
+  keep() {
+    const run = page.example === "" ? addressOf(page.text, page.count) : page.example;
+    this.line = `judge ${run} ${this.exercise.level} ${wordOfAnswer(this.answer)}`;
+    if (run !== null) keepUnder(JUDGED, { ...keptUnder(JUDGED), [`${run} ${this.exercise.level}`]: this.line });
+  }
+
+
+  draw() {
+    const { level, calls } = this.exercise;
+    this.count = page.count;
+    this.scale = judgeScale(this.exercise, Math.max(300, judgePart("bars").clientWidth));
+    judgePart("task").textContent = this.told;
+    judgePart("none").hidden = level !== "claim";
+    redraw(judgePart("bars"), drawJudged(this));
+    const asked = level === "replies" ? calls.filter((call) => call.ended !== null) : [];
+    redraw(judgePart("replies"), asked.map((call) => this.replyBox(call)));
+    judgePart("order").innerHTML = drawOwnOrder(this.answer);
+    this.drawMoment();
+    this.drawVerdict();
+  }
+
+  replyBox(call) {
+    const choice = document.createElement("select");
+    choice.dataset.call = call.id;
+    choice.append(new Option("?", ""), ...repliesOf(this.exercise, call).map((reply) => new Option(reply, reply)));
+    choice.value = this.answer.replies.get(call.id) ?? "";
+    choice.onchange = () => this.say(call, choice.value === "" ? undefined : choice.value);
+    const box = document.createElement("label");
+    box.innerHTML = `${chipOf(call.thread)} ${callText(call)} answers `;
+    box.append(choice);
+    return box;
+  }
+
+  drawMoment() {
+    const slider = judgePart("moment");
+    const said = momentOfReport(this.exercise, this.moment);
+    Object.assign(slider, { max: this.exercise.last, value: this.moment });
+    slider.setAttribute("aria-valuetext", said.replace(/<[^>]*>/g, ""));
+    judgePart("said").innerHTML = said;
+  }
+
+  drawVerdict() {
+    const { verdict, tries } = this;
+    const kind = { true: "right", false: "wrong" }[verdict?.isRight] ?? "";
+    judgePart("verdict").className = kind;
+    judgePart("verdict").textContent = verdict?.says ?? "";
+    judgePart("tries").textContent = tries === 0 ? "" : `${tries} ${tries === 1 ? "try" : "tries"} refused`;
+    judgePart("hint").textContent = kind === "wrong" && tries >= 2 && this.exercise.level !== "claim" ? hintOfRun() : "";
+    const isKept = kind === "right" && this.exercise.isWhole;
+    judgePart("line").innerHTML = isKept ? `Kept, and handed in with the lessons: <code>${escaped(this.line)}</code>` : "";
+    const drawn = verdict?.report == null ? "" : askNow("listset_show_svg", verdict.report).text;
+    judgePart("picture-box").hidden = !drawn.startsWith("<svg ");
+    judgePart("picture").innerHTML = judgePart("picture-box").hidden ? "" : drawn;
+  }
+}
+
+const judging = new Judging();
+const drawJudging = () => isJudging() && judging.draw();
+
+function endJudging() {
+  if (!isJudging()) return;
+  judging.end();
+  if (byId("judge").contains(document.activeElement)) byId("judge-begin").focus();
+}
+
+function hintOfRun() {
+  const turns = CLASSICS[page.example]?.turns;
+  if (turns !== undefined) return `It turns at the events ${turns.join(", ")}.`;
+  const changes = page.trace.changes.map(({ number }) => number);
+  return changes.length === 0 ? "No event changes the set." : `The set changes at the events ${changes.join(", ")}.`;
+}
+
+function beginJudging() {
+  const { trace } = page;
+  if (page.engine === null) return tell("The engine is not here: nothing can be judged.");
+  if (!page.isRun || trace.refused !== null) return tell("A run with a refused event is not judged: take the red line out first.");
+  if (trace.calls.length === 0) return tell("There is no call to judge yet.");
+  if (trace.total > MOST_JUDGED) return tell(`Judged are runs of at most ${MOST_JUDGED} events: this one has ${trace.total}.`);
   tell("");
+  judging.begin(judgePart("level").value);
+  judgePart("level").focus();
+}
+
+function listenToJudging() {
+  byId("judge-begin").onclick = beginJudging;
+  judgePart("level").append(...Object.keys(LEVELS).map((level) => new Option(level, level)));
+  judgePart("level").value = "replies";
+  judgePart("level").onchange = judgePart("again").onclick = () => judging.begin(judgePart("level").value);
+  judgePart("ask").onclick = () => judging.judge(false);
+  judgePart("none").onclick = () => judging.judge(true);
+  judgePart("moment").oninput = () => {
+    judging.moment = Number(judgePart("moment").value);
+    judging.draw();
+  };
+  judgePart("end").onclick = () => {
+    endJudging();
+    show();
+  };
+  const bars = judgePart("bars");
+  bars.onpointerdown = (event) => judging.grasp(event);
+  bars.onpointermove = (event) => judging.held !== null && judging.drag(event);
+  bars.onpointerup = bars.onpointercancel = () => (judging.held = null);
+  bars.onkeydown = (event) => judging.press(event);
+}
+return { JUDGED, judging, drawJudging, endJudging, beginJudging, listenToJudging };
+})();
+
+// activities/break_level.js
+const $activities_break_level = (() => {
+const { CLASSICS, LACKING } = $made_classics;
+const { addressOfLevel, fillBreaks, numberOf, openLevel, ORDER, titleOfLevel, wordOf } = $activities_break_map;
+const { brokenLines, isNamed, isShownBreak, keepBrokenLine, keepNamed, noteShown } = $activities_broken_kept;
+const { beginJudging } = $activities_judging;
+const { BREAK_LEVELS, GRADES } = $data_levels;
+const { byId, redraw, setAble, setHidden } = $page_dom;
+const { exampleText } = $page_example;
+const { askNow, goTo, page } = $page_now;
+const { goByHand } = $page_play;
+const { openLacking } = $page_work;
+const { addressOf } = $run_address;
+const { departureOf, isTaskDone, isToldOf, NO_TASK, UNCOUNTED, verdictOnLacking } = $run_broken;
+const { escaped, tag } = $run_markup;
+const { scheduleOfTrace, versionOf } = $run_schedule_text;
+const { Trace } = $run_trace;
+const MOST_BROKEN = 1000; // events of a run that is judged
+const level = { lacks: null, trace: null, hints: 0, wrong: new Set() };
+
+function showBreaking() {
+  const { trace } = page;
+  byId("break-box").hidden = trace.lacks === null;
+  document.body.classList.remove("won");
+  if (trace.lacks === null) byId("break-win").hidden = true;
+  if (trace.lacks === null) return;
+  if (level.trace === trace) return drawLevel(trace, page.verdict);
+  level.trace = trace;
+  page.verdict = verdictOfRun(trace);
+  if (isTaskDone(trace.lacks, page.verdict)) keepBroken(trace);
+  drawBreaking(trace, page.verdict);
+}
+
+function verdictOfRun(trace) {
+  if (trace.refused !== null) return { kind: "refused", says: "The schedule is refused: take the red line out first." };
+  if (trace.total > MOST_BROKEN) return { kind: "refused", says: `Judged are at most ${MOST_BROKEN} events: this run has ${trace.total}.` };
+  return verdictOnLacking(askNow, trace.lacks, scheduleOfTrace(trace));
+}
+
+function keepBroken(trace) {
+  const schedule = scheduleOfTrace(trace);
+  const address = addressOf(schedule, trace.total);
+  const isKept = brokenLines().some(([name]) => name === trace.lacks);
+  if (address === null || isKept || isShownBreak(trace.lacks, schedule)) return;
+  keepBrokenLine(trace.lacks, `break ${trace.lacks} ${address}`);
+  fillBreaks();
+}
+
+function drawBreaking(trace, verdict) {
+  const { lacks } = trace;
+  drawDeparture(isToldOf(lacks, verdict));
+  drawLevel(trace, verdict);
+  document.body.classList.toggle("refuted", verdict.kind === "broken");
+  const line = Object.fromEntries(brokenLines())[lacks];
+  byId("break-line").innerHTML = line === undefined ? "" : `Kept, and handed in with the lessons: <code>${escaped(line)}</code>`;
+}
+
+function drawDeparture(isBroken) {
+  const found = isBroken && isNamed(page.lacks) ? departureOf(askNow, page.trace) : null;
+  byId("break-departs").hidden = found === null;
+  if (found === null) return;
+  byId("break-event").textContent = `event ${found.event}`;
+  byId("break-event").dataset.event = found.event;
+  byId("break-here").innerHTML = found.here;
+  byId("break-whole").innerHTML = found.whole;
+}
+
+
+const TO_DO = "· Go on until no order of the calls explains what they answered.";
+const HOLDS = "Not broken yet.";
+const won = (says, why) => ({ kind: "won", says, why });
+const holds = (says, why = "") => ({ kind: "holds", says, why });
+
+function stateOf(trace, verdict) {
+  const { lacks } = trace;
+  const isPoints = verdict.kind === "points";
+  if (verdict.kind === "refused") return holds(verdict.says);
+  if (isToldOf(lacks, verdict) && isShownBreak(lacks, scheduleOfTrace(trace))) return stateOfShown();
+  if (isPoints && lacks === NO_TASK) {
+    return holds("Refused by its points, and not broken.", "Another order explains these replies. Why is there always one?");
+  }
+  if (isPoints && UNCOUNTED.includes(lacks)) return won("Refused by its points.", "Counting cannot tell more of this list.");
+  if (isToldOf(lacks, verdict)) return won("Broken!", countOf(verdict));
+  const isAnswered = trace.calls.some(({ ended }) => ended !== null);
+  if (!isAnswered) return { kind: "", says: "Nothing has answered yet.", why: "Let a thread begin a call, and go on." };
+  const explained = "An order explains all answers so far.";
+  return holds(HOLDS, isPoints ? "Its own order is refused, but another one may explain the answers." : explained);
+}
+
+const countOf = ({ says }) => says.replace(/^Broken: /, "").replace(/and the set (has|lacks) it/, "and the list $1 it");
+
+function stateOfShown() {
+  const says = page.count === page.trace.total ? "Broken, as shown." : "Step on, and look.";
+  return { kind: "shown", says, why: "This way was shown: it does not count. Find one of your own." };
+}
+
+
+function drawLevel(trace, verdict) {
+  const name = trace.lacks;
+  if (level.lacks !== name) Object.assign(level, { lacks: name, hints: 0, wrong: new Set() });
+  const { story, grade } = BREAK_LEVELS[name];
+  const shown = stateOf(trace, verdict);
+  const isWon = shown.kind === "won";
+  byId("break-story").textContent = story;
+  byId("break-title").textContent = titleOfLevel(name);
+  byId("break-question").textContent = GRADES[grade] === undefined ? "" : TO_DO;
+  byId("break-state").className = shown.kind;
+  if (byId("break-verdict").textContent !== shown.says) byId("break-verdict").textContent = shown.says; // a reader hears it once
+  byId("break-why").textContent = shown.why;
+  byId("break-judge").hidden = verdict.kind !== "points";
+  drawHints(name, isWon);
+  byId("break-win").hidden = !isWon;
+  document.body.classList.toggle("won", isWon);
+  if (isWon) drawWin(trace);
+}
+
+function drawHints(name, isWon) {
+  const { hints } = BREAK_LEVELS[name];
+  const isLeft = level.hints < hints.length;
+  setHidden(byId("break-hint"), isWon, byId("break-again"));
+  byId("break-hint").textContent = isLeft ? `Hint ${level.hints + 1} of ${hints.length}` : "No more hints";
+  setAble("break-hint", isLeft);
+  const items = hints.slice(0, level.hints).map((hint) => tag("li", {}, escaped(hint)));
+  if (byId("break-hints").children.length !== items.length) byId("break-hints").innerHTML = items.join("");
+}
+
+function drawWin({ lacks, total, calls }) {
+  const { shortest } = BREAK_LEVELS[lacks];
+  const own = `${total} events, ${calls.length} ${calls.length === 1 ? "call" : "calls"}`;
+  const isShorter = shortest !== null && total < shortest[0];
+  const best = shortest === null ? "" : isShorter ? `Shorter than the known one, of ${shortest[0]}.` : `The known one has ${shortest[0]}.`;
+  byId("break-count").innerHTML = `You did it with <b>${own}</b>. ${best}`;
+  const next = ORDER[ORDER.indexOf(lacks) + 1];
+  byId("break-next").hidden = next === undefined;
+  if (next !== undefined) byId("break-next").href = addressOfLevel(next);
+  byId("break-next").classList.toggle("primary", isNamed(lacks));
+  drawAsk(lacks);
+}
+
+function drawAsk(name) {
+  const kin = ORDER.filter((other) => LACKING[other] === LACKING[name]);
+  const words = [...new Set([...kin.map(wordOf), ...(BREAK_LEVELS[name].others ?? [])])].sort();
+  const isTold = isNamed(name);
+  const button = (word) => {
+    const kind = isTold ? "right" : level.wrong.has(word) ? "wrong" : "";
+    const unable = kind === "" ? {} : { "aria-disabled": "true" };
+    return tag("button", { "data-word": word, class: kind, ...unable }, escaped(word));
+  };
+  redraw(byId("break-options"), words.filter((word) => !isTold || word === wordOf(name)).map(button).join(""));
+  if (isTold) byId("break-told").textContent = "Right. That check is missing.";
+  else if (level.wrong.size === 0) byId("break-told").textContent = "";
+}
+
+function answerAsk(word) {
+  const name = page.lacks;
+  if (word === wordOf(name)) keepNamed(name);
+  else level.wrong.add(word);
+  drawBreaking(page.trace, page.verdict);
+  if (!isNamed(name)) byId("break-told").textContent = "No, it does that. Look for the line of the code at which it does something else.";
+}
+
+
+function openWithoutCheck() {
+  const [name] = CLASSICS[page.example].lacks;
+  const example = exampleText(page.example);
+  const trace = new Trace(askNow("listset_trace_lacking", name, example).text, versionOf(example));
+  const schedule = scheduleOfTrace(trace);
+  noteShown(name, schedule);
+  openLacking(name, schedule, "The same schedule, on a list without the check. Step on.");
+  const departs = departureOf(askNow, page.trace);
+  if (departs !== null) goTo(departs.event - 1);
+}
+
+function listenToBreaking() {
+  byId("see-broken").onclick = openWithoutCheck;
+  byId("break-judge").onclick = beginJudging;
+  byId("break-event").onclick = () => goByHand(Number(byId("break-event").dataset.event));
+  byId("break-again").onclick = () => openLevel(numberOf(page.lacks));
+  byId("break-options").onclick = ({ target }) => target.dataset.word !== undefined && answerAsk(target.dataset.word);
+  byId("break-hint").onclick = () => {
+    level.hints = Math.min(level.hints + 1, BREAK_LEVELS[page.lacks].hints.length);
+    drawLevel(page.trace, page.verdict);
+  };
+}
+return { showBreaking, listenToBreaking };
+})();
+
+// page/steps.js
+const $page_steps = (() => {
+const { askNow, page, tell } = $page_now;
+const { goOn } = $page_work;
+const { askList } = $run_broken;
+const { MOST_TRIED, scheduleOfDraft } = $run_draft;
+const { callText, chipOf, escaped } = $run_markup;
+const { scheduleAndLine } = $run_schedule_text;
+const { isFailed, isLock, mono } = $run_sentences;
+const { Trace } = $run_trace;
+const isAtRest = (thread) => page.state.threads[thread].pc === 0;
+const tellRest = (thread) => tell(`${chipOf(thread)} is at rest: let it begin a call first, by its row of buttons.`);
+
+function oneStep(thread) {
+  if (isAtRest(thread)) tellRest(thread);
+  else goOn(`go ${thread} 1`);
+}
+
+function stepsToEnd(thread, told = `ended ${callText(page.state.threads[thread].call ?? {})}`) {
+  if (isAtRest(thread)) return tellRest(thread);
+  const { count, fault } = stepsOfDraft(`go ${thread} out`);
+  if (count === null) stepsToLock(thread, fault, "its call has not ended");
+  else goOn(`go ${thread} ${count}`, count, `${chipOf(thread)} ${told}.`);
+}
+
+function stepsToRow(thread, row) {
+  if (isAtRest(thread)) return tellRest(thread);
+  const { count, fault } = stepsOfDraft(`go ${thread} to ${row}`);
+  if (count !== null) goOn(`go ${thread} ${count}`, count, `${chipOf(thread)} is at row ${row}.`);
+  else if (fault.endsWith(": Idle")) stepsToEnd(thread, `ended its call before it came to row ${row}`);
+  else stepsToLock(thread, fault, `it has not come to row ${row}`);
+}
+
+function stepsOfDraft(line) {
+  const { text, fault } = scheduleOfDraft(askNow, scheduleAndLine(page.trace, page.count, line), page.lacks);
+  return fault === null ? { count: Number(text.trimEnd().split(" ").at(-1)), fault } : { count: null, fault };
+}
+
+function stepsToLock(thread, fault, notYet) {
+  const text = scheduleAndLine(page.trace, page.count, `go ${thread} ${MOST_TRIED}`);
+  const answer = askList(askNow, "listset_trace", page.lacks, text);
+  if (!fault.endsWith(": Waits") || !answer.text.startsWith("listset-trace")) {
+    return tell(`No steps: the engine says "${escaped(fault)}".`);
+  }
+  const events = new Trace(answer.text).events().slice(page.count);
+  const waits = waitsAt(events);
+  const line = waits < events.length ? waitingText(thread, events[waits]) : `${chipOf(thread)} made ${events.length} steps`;
+  if (waits === 0) tell(`${line}, and ${notYet}.`);
+  else goOn(`go ${thread} ${waits}`, waits, `${line}, and ${notYet}.`);
+}
+
+function waitsAt(events) {
+  let first = events.length;
+  while (first > 0 && isFailed(events[first - 1]) && isLock(events[first - 1].word)) first--;
+  return first;
+}
+
+const waitingText = (thread, event) =>
+  `${chipOf(thread)} waits at row ${event.changes.pc} for ${mono(event.word)}, which ${chipOf(Number(event.saw.slice(1)))} has`;
+return { isAtRest, tellRest, oneStep, stepsToEnd, stepsToRow };
+})();
+
+// page/moves.js
+const $page_moves = (() => {
+const { LISTS } = $made_rows;
+const { byId, redraw } = $page_dom;
+const { page } = $page_now;
+const { oneStep, stepsToEnd, stepsToRow } = $page_steps;
+const { goOn } = $page_work;
+const { callText, chipOf, colourOf } = $run_markup;
+const { CALL_WORDS, MOST_NUMBER } = $run_trace;
+const chosenCalls = {}; // of each thread, the call that was last chosen for it
+const chosenRows = {}; // and the row to which it is to go
+const chosenOf = (thread) => (chosenCalls[thread] ??= { operation: "add", key: "5" });
+
+function drawMovesNow({ trace, state }) {
+  drawMoves(state, page.engine !== null);
+  const isLater = page.count < trace.total;
+  byId("moves-note").textContent = isLater ? `From event ${page.count} on; what comes after it is dropped.` : "";
+}
+
+function drawMoves(state, isAble) {
+  const rows = state.threads.map((held, thread) => {
+    const row = document.createElement("div");
+    row.className = "row";
+    row.dataset.thread = thread;
+    row.classList.add(colourOf(thread));
+    row.setAttribute("role", "group");
+    row.setAttribute("aria-label", `thread ${thread}`);
+    row.innerHTML = chipOf(thread);
+    row.append(...(held.pc !== 0 ? stepControls(state, thread) : beginControls(thread)));
+    row.querySelectorAll("button, select, input").forEach((control) => (control.dataset.of = thread));
+    if (!isAble) row.querySelectorAll("button, select, input").forEach((control) => (control.disabled = true));
+    return row;
+  });
+  redraw(byId("moves"), rows);
+}
+
+function buttonOf(text, deed, title, onclick) {
+  const button = document.createElement("button");
+  Object.assign(button, { textContent: text, title, onclick });
+  button.setAttribute("aria-label", `${text}, thread ${title.match(/\d+/)[0]}`);
+  button.dataset.deed = deed;
+  return button;
+}
+
+function rowFor(state, thread) {
+  const held = state.threads[thread];
+  const { rows } = LISTS[state.trace.kind].calls[held.call.operation];
+  if (rows.includes(chosenRows[thread])) return chosenRows[thread];
+  return rows[(rows.indexOf(held.pc) + 1) % rows.length];
+}
+
+function stepControls(state, thread) {
+  const { calls, rows } = LISTS[state.trace.kind];
+  const held = state.threads[thread];
+  const row = document.createElement("select");
+  for (const number of calls[held.call.operation].rows) row.append(new Option(`${number} ${rows[number].step}`, number));
+  row.value = rowFor(state, thread);
+  row.dataset.deed = "row";
+  row.setAttribute("aria-label", `row of thread ${thread}`);
+  row.onchange = () => (chosenRows[thread] = Number(row.value));
+  const next = document.createElement("small");
+  next.textContent = `next: ${rows[held.pc]?.step ?? ""}`;
+  const untilRow = document.createElement("span");
+  const goUntil = () => stepsToRow(thread, Number(row.value));
+  untilRow.append(buttonOf("until row", "until", `thread ${thread} until it stands at this row (the keys r ${thread})`, goUntil), row);
+  const call = document.createElement("span");
+  Object.assign(call, { className: "call", textContent: callText(held.call) });
+  return [
+    call,
+    buttonOf("one step", "one", `go ${thread} 1 (the key ${thread})`, () => oneStep(thread)),
+    buttonOf("to its end", "end", `thread ${thread} to the end of its call (the keys e ${thread})`, () => stepsToEnd(thread)),
+    untilRow,
+    next,
+  ];
+}
+
+function beginControls(thread) {
+  const chosen = chosenOf(thread);
+  const operation = document.createElement("select");
+  for (const word of CALL_WORDS) operation.append(new Option(word));
+  operation.value = chosen.operation;
+  operation.setAttribute("aria-label", `call of thread ${thread}`);
+  operation.onchange = () => (chosen.operation = operation.value);
+  const key = document.createElement("input");
+  Object.assign(key, { type: "number", min: 0, max: MOST_NUMBER, value: chosen.key });
+  key.setAttribute("aria-label", `key of thread ${thread}'s call`);
+  key.oninput = () => (chosen.key = key.value);
+  const begin = () => goOn(`begin ${thread} ${chosen.operation} ${chosen.key}`);
+  return [operation, key, buttonOf("begin", "begin", `begin ${thread} ..`, begin)];
+}
+return { drawMovesNow, rowFor };
+})();
+
+// page/keys.js
+const $page_keys = (() => {
+const { byId } = $page_dom;
+const { rowFor } = $page_moves;
+const { page, show, tell } = $page_now;
+const { isAtMap, setView, where } = $page_places;
+const { goByHand, goToTurn, togglePlay } = $page_play;
+const { isAtRest, oneStep, stepsToEnd, stepsToRow, tellRest } = $page_steps;
+const { redo, undo } = $page_work;
+const ASKS = {
+  e: { told: "To the end of its call: which thread? Press its digit, or t and two digits.", deed: (thread) => stepsToEnd(thread) },
+  r: {
+    told: "Until its row: which thread? Press its digit, or t and two digits.",
+    deed: (thread) => stepsToRow(thread, rowFor(page.state, thread)),
+  },
+};
+const awaited = { deed: null, digits: null }; // digits: those of a thread from 10 on, as far as they are there
+
+const PLAIN_KEYS = { p: togglePlay, u: undo, y: redo, "?": toggleKeys };
+
+const keysOf = {}; // of an activity that has keys of its own, what they do
+
+function pressKey(event) {
+  if (/^(TEXTAREA|INPUT|SELECT)$/.test(event.target.tagName) && event.target.id !== "slider") return;
+  if (event.ctrlKey || event.metaKey || event.altKey || event.target.closest("[role=slider]") !== null) return;
+  if (event.key === "Escape" && page.view !== null) return toggleLecture();
+  if (where.activity in keysOf) return keysOf[where.activity](event);
+  if (isAtMap() && event.key !== "?") return;
+  const { total } = page.trace;
+  const far = page.view === "lecture" ? 1 : 10; // what a lecturer's pointer sends
+  const steps = { ArrowRight: 1, ArrowLeft: -1, PageDown: far, PageUp: -far, Home: -total, End: total };
+  if (event.key in steps) {
+    event.preventDefault();
+    if (event.shiftKey && event.key.startsWith("Arrow")) goToTurn(steps[event.key]);
+    else goByHand(page.count + steps[event.key]);
+  } else if (event.key === " " && !/^(BUTTON|SUMMARY|A)$/.test(event.target.tagName)) {
+    event.preventDefault();
+    togglePlay();
+  } else if (byId("single-keys").checked || event.key === "?") pressLetter(event);
+}
+
+function pressLetter(event) {
+  const { key } = event;
+  if (key in PLAIN_KEYS) {
+    event.preventDefault();
+    PLAIN_KEYS[key]();
+  } else if (page.engine === null) return;
+  else if (/^[0-9]$/.test(key)) return pressDigit(key);
+  else if (key in ASKS) return waitFor(key, null, ASKS[key].told);
+  else if (key === "t") return waitFor(awaited.deed, "", "Which thread? Press its two digits.");
+  waitFor(null, null, "");
+}
+
+function waitFor(deed, digits, told) {
+  Object.assign(awaited, { deed, digits });
+  if (told !== "") tell(told);
+}
+
+function pressDigit(digit) {
+  const digits = `${awaited.digits ?? ""}${digit}`;
+  if (awaited.digits !== null && digits.length < 2) return (awaited.digits = digits);
+  const thread = Number(digits);
+  const deed = ASKS[awaited.deed]?.deed ?? oneStep;
+  waitFor(null, null, "");
+  if (thread >= page.trace.threads) return tell(`There is no thread ${thread}.`);
+  if (isAtRest(thread)) return tellRest(thread);
+  deed(thread);
+}
+
+function toggleKeys() {
+  byId("key-help").hidden = !byId("key-help").hidden;
+  byId("keys").setAttribute("aria-expanded", String(!byId("key-help").hidden));
+}
+
+function toggleLecture() {
+  setView(page.view === null ? "lecture" : null);
+  show();
+}
+return { keysOf, pressKey, toggleKeys, toggleLecture };
+})();
+
+// page/visit.js
+const $page_visit = (() => {
+const { keepWork } = $page_kept;
+const { page, tell } = $page_now;
+const { isAtMap, where } = $page_places;
+const { addressOf, exampleAddress } = $run_address;
+const { escaped } = $run_markup;
+const MOMENT = 400; // milliseconds: the bar follows once nothing has moved for so long, since browsers refuse quick changes of it
+const visit = { timer: 0, text: null, isRead: false, naming: (address) => address };
+
+function ownAddress() {
+  const address = page.example === "" ? addressOf(page.text, page.count, page.lacks) : exampleAddress(page.example, page.count);
+  const placed = visit.naming(address);
+  return placed === null || page.view === null ? placed : `${placed}&view=${page.view}`;
+}
+
+function keepSoon() {
+  clearTimeout(visit.timer);
+  visit.timer = setTimeout(keepNow, MOMENT);
+}
+
+function keepNow() {
+  clearTimeout(visit.timer);
+  keepWork();
+  if (visit.isRead && page.isRun && page.text !== "" && !isAtMap()) setAddress();
+}
+
+function keepAddressOf(activity, address) {
+  clearTimeout(visit.timer);
+  const own = page.view === null ? address : `${address}&view=${page.view}`;
+  visit.timer = setTimeout(() => where.activity === activity && history.replaceState(null, "", own), MOMENT);
+}
+
+function setAddress() {
+  const address = ownAddress();
+  const isNew = visit.text !== null && visit.text !== page.text;
+  visit.text = page.text;
+  if (!isNew && location.hash === (address ?? "")) return;
+  const kept = address === null ? { text: page.text, count: page.count, lacks: page.lacks } : null;
+  const place = address ?? location.pathname + location.search;
+  try {
+    history[isNew ? "pushState" : "replaceState"](kept, "", place);
+  } catch {
+    history[isNew ? "pushState" : "replaceState"](null, "", place); // a state may be too large for a browser
+  }
+}
+
+async function copyLink() {
+  const address = page.isRun ? ownAddress() : null;
+  if (address === null) return tell("This schedule has no link: it is refused, or too long for an address. Save it as a file.");
+  const link = location.href.replace(/#.*$/, "") + address;
+  tell(`Copy this link: <code>${escaped(link)}</code>`);
+  if (await copied(link)) tell(`The link is copied: <code>${escaped(link)}</code>`);
+}
+
+async function copied(text) {
+  try {
+    await navigator.clipboard.writeText(text);
+    return true;
+  } catch {
+    return false;
+  }
+}
+return { visit, ownAddress, keepSoon, keepNow, keepAddressOf, copyLink, copied };
+})();
+
+// run/sides.js
+const $run_sides = (() => {
+const { titleOf } = $run_schedule_text;
+const { State } = $run_state;
+const { Trace } = $run_trace;
+const MOST_TURNS = 500;
+
+class ProgramFault extends Error {}
+
+function readProgram(text) {
+  const program = [];
+  for (const line of text.split("\n").filter((one) => one.trim() !== "")) {
+    const [, thread, calls] = /^\s*t?(\d+)\s*:\s*(.+?)\s*$/.exec(line) ?? [];
+    const isLine = thread !== undefined && Number(thread) < 64;
+    if (!isLine) throw new ProgramFault(`"${line.slice(0, 60)}" is no line as "0: add 5, remove 5"`);
+    for (const call of calls.split(",").map((one) => one.trim())) {
+      const [, operation, key] = /^(add|remove|contains|ceiling) (\d+)$/.exec(call) ?? [];
+      if (key === undefined) throw new ProgramFault(`"${call.slice(0, 40)}" is no call as "add 5"`);
+      (program[Number(thread)] ??= []).push(`${operation} ${key}`);
+    }
+  }
+  if (program.length === 0) throw new ProgramFault('a program has lines as "0: add 5, remove 5"');
+  return Array.from(program, (calls) => calls ?? []);
+}
+
+function programText(program) {
+  const lines = program.map((calls, thread) => (calls.length === 0 ? "" : `${thread}: ${calls.join(", ")}\n`));
+  return lines.join("");
+}
+
+const programOf = (trace) => trace.callsOf.map((calls) => calls.map(({ operation, key }) => `${operation} ${key}`));
+
+class Side {
+  constructor(ask, kind, { program, quota, opening }) {
+    Object.assign(this, { ask, kind, lines: [], counts: [0] });
+    const set = [titleOf(2), `list ${kind}`, `threads ${program.length}`, `quota ${quota}`];
+    this.head = [...set, ...opening.map((key) => `opening ${key}`)];
+    this.run();
+  }
+
+  get schedule() {
+    return [...this.head, ...this.lines, ""].join("\n");
+  }
+
+  run() {
+    const { text } = this.ask("listset_trace", this.schedule);
+    if (!text.startsWith("listset-trace")) throw new ProgramFault(text.trim());
+    this.trace = new Trace(text, 2);
+    this.state = new State(this.trace);
+    this.state.moveTo(this.trace.total);
+  }
+
+  isOpen(thread) {
+    return this.state.threads[thread].pc !== 0;
+  }
+
+  take(line) {
+    if (line !== null) {
+      this.lines.push(line);
+      this.run();
+    }
+    this.counts.push(this.trace.total);
+  }
+}
+
+class Sides {
+  constructor(ask, kinds, { program, quota, opening }) {
+    this.program = program;
+    this.turns = [];
+    this.sides = kinds.map((kind) => new Side(ask, kind, { program, quota, opening }));
+  }
+
+  linesOf(thread) {
+    if (thread >= this.program.length) return null;
+    const isOpen = this.sides.map((side) => side.isOpen(thread));
+    if (isOpen.includes(true)) return isOpen.map((open) => (open ? `go ${thread} 1` : null));
+    const next = this.program[thread]?.[this.sides[0].trace.callsOf[thread].length];
+    return next === undefined ? null : this.sides.map(() => `begin ${thread} ${next}`);
+  }
+
+  turn(thread) {
+    const lines = this.linesOf(thread);
+    if (lines === null || this.turns.length === MOST_TURNS) return false;
+    this.sides.forEach((side, at) => side.take(lines[at]));
+    this.turns.push(thread);
+    return true;
+  }
+}
+return { ProgramFault, readProgram, programText, Sides };
+})();
+
+// activities/compare.js
+const $activities_compare = (() => {
+const { LISTS } = $made_rows;
+const { drawCalls, drawContents, scaleOf } = $draw_history;
+const { drawList } = $draw_list;
+const { byId, redraw } = $page_dom;
+const { toggleLecture } = $page_keys;
+const { askNow, page } = $page_now;
+const { goToPlace, where } = $page_places;
+const { copied, keepAddressOf } = $page_visit;
+const { addressOf, readAddress } = $run_address;
+const { chipOf, escaped, tag } = $run_markup;
+const { momentAt, sentenceOf } = $run_sentences;
+const { ProgramFault, programText, readProgram, Sides } = $run_sides;
+const PRESETS = [
+  ["Who waits?", "#sides=coarse.lazy&quota=4&calls=0.add.5,1.contains.5&turns=0.0.0.0.1.1.1"],
+  ["Two removes of neighbours", "#sides=fine.optimistic&quota=4&opening=3.5.7&calls=0.remove.3,1.remove.7&turns=0.0.0.1.1.1"],
+  ["A reader beside a writer", "#sides=lazy.lock-free&quota=4&opening=3.5.7&calls=0.remove.5,1.contains.5&turns=0.0.0.0.0.1.1"],
+];
+
+function drawCompare() {
+  byId("sides-presets").innerHTML = PRESETS.map(([name, href]) => tag("a", { class: "button", href }, escaped(name))).join(" ");
+}
+
+function openCompare(named) {
+  goToPlace("compare", "map");
+  if (named === null && shownSides.sides !== null) drawSides();
+  else openSides(named ?? readAddress(PRESETS[0][1]).sides);
+  return true;
+}
+
+const sidesPart = (name) => byId(`sides-${name}`);
+
+const shownSides = { sides: null, at: 0, quota: 4, opening: [] }; // at: how many turns are shown
+
+function beginSides(turns = []) {
+  try {
+    const program = readProgram(sidesPart("program").value);
+    const opening = sidesPart("opening").value.split(/[\s,]+/).filter((key) => key !== "");
+    const kinds = ["one", "other"].map((name) => sidesPart(name).value);
+    Object.assign(shownSides, { sides: new Sides(askNow, kinds, { program, quota: shownSides.quota, opening }), at: 0, opening });
+    for (const thread of turns) if (!shownSides.sides.turn(thread)) break;
+    shownSides.at = shownSides.sides.turns.length;
+    sidesPart("told").textContent = "";
+    drawSides();
+  } catch (fault) {
+    if (!(fault instanceof ProgramFault)) throw fault;
+    sidesPart("told").textContent = fault.message;
+  }
+}
+
+function turnOf(thread) {
+  const { sides, at } = shownSides;
+  const turns = sides.turns.slice(0, at);
+  if (at < sides.turns.length) beginSides(turns);
+  const isMade = shownSides.sides.turn(thread);
+  shownSides.at = shownSides.sides.turns.length;
+  drawSides();
+  if (!isMade) sidesPart("told").innerHTML = `${chipOf(thread)} has made all its calls in both.`;
+}
+
+function drawSide(side, thread, place) {
+  const count = side.counts[shownSides.at];
+  const moment = momentAt(side.state, count);
+  const hasWaited = shownSides.at > 0 && count === side.counts[shownSides.at - 1];
+  const said = hasWaited ? `${chipOf(thread)} has answered, and waits for the other.` : sentenceOf(moment);
+  const width = Math.max(320, sidesPart("pictures").clientWidth / (innerWidth < 940 ? 1 : 2) - 48);
+  const scale = scaleOf(side.trace, count, width, page.hides);
+  side.said = said;
+  return tag(
+    "section",
+    { "aria-label": LISTS[side.kind].name },
+    tag("h3", {}, `${LISTS[side.kind].name} <small>${count} events</small>`),
+    tag("p", { class: hasWaited ? "said waits" : "said" }, said),
+    tag("div", { class: "scrolls" }, drawSideList(side, moment.event, width, place)),
+    tag("div", { class: "scrolls" }, drawCalls(side.trace, scale), drawContents(side.trace, scale)),
+    tag("p", { class: "note" }, tag("a", { class: "button", href: addressOf(side.schedule, count) ?? "#" }, "Watch this run")),
+  );
+}
+
+function drawSideList({ state }, event, width, place) {
+  const most = page.view === "lecture" ? 300 : 250;
+  return drawList(state, event, width, most, { width: 0, height: 0 }, `side-${place}`);
+}
+
+function pressForSides(event) {
+  const { sides, at } = shownSides;
+  const by = { ArrowRight: 1, PageDown: 1, ArrowLeft: -1, PageUp: -1, Home: -Infinity, End: Infinity }[event.key];
+  if (sides === null) return;
+  if (by !== undefined) {
+    event.preventDefault();
+    shownSides.at = Math.min(Math.max(at + by, 0), sides.turns.length);
+    drawSides();
+  } else if (/^[0-9]$/.test(event.key) && byId("single-keys").checked && Number(event.key) < sides.program.length) {
+    turnOf(Number(event.key));
+  }
+}
+
+function drawSides() {
+  const { sides, at } = shownSides;
+  const buttons = sides.program.map((_, thread) => tag("button", { "data-thread": thread }, `${chipOf(thread)} next step`));
+  redraw(sidesPart("turns"), buttons.join(" "));
+  Object.assign(sidesPart("slider"), { max: sides.turns.length, value: at });
+  const words = `turn ${at} of ${sides.turns.length}`;
+  sidesPart("slider").setAttribute("aria-valuetext", words);
+  sidesPart("where").textContent = words;
+  sidesPart("pictures").innerHTML = sides.sides.map((side, place) => drawSide(side, sides.turns[at - 1], place)).join("");
+  sidesPart("heard").innerHTML = sides.sides.map((side) => `${LISTS[side.kind].name}: ${side.said}`).join(" ");
+  keepAddressOf("compare", addressOfSides());
+}
+
+function showSides() {
+  if (where.activity === "compare" && shownSides.sides !== null) drawSides();
+}
+
+function addressOfSides() {
+  const { sides, quota, opening } = shownSides;
+  const calls = sides.program.flatMap((own, thread) => own.map((call) => `${thread}.${call.replace(" ", ".")}`));
+  const parts = [`sides=${sides.sides.map(({ kind }) => kind).join(".")}`, `quota=${quota}`];
+  if (opening.length > 0) parts.push(`opening=${opening.join(".")}`);
+  return `#${[...parts, `calls=${calls.join()}`, `turns=${sides.turns.join(".")}`].join("&")}`;
+}
+
+function openSides({ sides, calls, turns = "", quota = "4", opening = "" }) {
+  const program = [];
+  for (const call of (calls ?? "").split(",").filter((one) => one !== "")) {
+    const [thread, operation, key] = call.split(".");
+    (program[Number(thread)] ??= []).push(`${operation} ${key}`);
+  }
+  [sidesPart("one").value, sidesPart("other").value] = sides.split(".");
+  sidesPart("program").value = programText(Array.from(program, (own) => own ?? []));
+  sidesPart("opening").value = opening.replaceAll(".", " ");
+  shownSides.quota = Number(quota);
+  beginSides(turns.split(".").filter((thread) => thread !== "").map(Number));
+}
+
+async function copySides() {
+  const link = location.href.replace(/#.*$/, "") + addressOfSides();
+  const isCopied = await copied(link);
+  sidesPart("told").innerHTML = `${isCopied ? "The link is copied" : "Copy this link"}: <code>${escaped(link)}</code>`;
+}
+
+function listenToSides() {
+  for (const name of ["one", "other"]) {
+    sidesPart(name).append(...Object.entries(LISTS).map(([kind, { name: words }]) => new Option(words, kind)));
+    sidesPart(name).onchange = () => beginSides();
+  }
+  sidesPart("other").value = "lock-free";
+  sidesPart("begin").onclick = () => beginSides();
+  sidesPart("link").onclick = copySides;
+  sidesPart("lecture").onclick = toggleLecture;
+  sidesPart("back").onclick = () => pressForSides({ key: "ArrowLeft", preventDefault() {} });
+  sidesPart("turns").onclick = ({ target }) => {
+    const thread = target.closest("[data-thread]")?.dataset.thread;
+    if (thread !== undefined) turnOf(Number(thread));
+  };
+  sidesPart("slider").oninput = () => {
+    shownSides.at = Number(sidesPart("slider").value);
+    drawSides();
+  };
+}
+return { drawCompare, openCompare, shownSides, pressForSides, showSides, addressOfSides, listenToSides };
+})();
+
+// made/book.js
+const $made_book = (() => {
+// The lessons of book.course, by page/build.
+
+const BOOK_NAME = "The twelve lessons of the five lists";
+const BOOK = [
+  "listset-course 1",
+  "# A course of lessons, as text. Copy this file, change it, and open it on the page (Learn, Open a course) or try it with",
+  "#     node page/check_lessons.js FILE",
+  "# A line that begins with # is passed over. After \"course NAME\" one lesson stands below another. Its words, in this order:",
+  "#   lesson      a name of its own, of small letters, digits and -",
+  "#   title       as the student reads it",
+  "#   list        coarse, fine, optimistic, lazy or lock-free",
+  "#   lacks       the name of a check that the list lacks (docs/CLASSIC.md): a solution breaks it. No goal is due then",
+  "#   threads, quota, opening     as in a schedule; the opening keys with a space between; none where the line is missing",
+  "#   start       the schedule's lines with which the student begins",
+  "#   question    what is asked; teaches: what it shows, once it is solved; hint; answer: the lines that solve it, after the start",
+  "#   goal        what the run of a solution shows; dead-ends: ways that lead nowhere, and what to say of them",
+  "# Below start, question, teaches, hint, answer, goal and dead-ends stand lines of their own, each after two spaces. Of these all",
+  "# but question and goal may be missing. In start and answer \"go 0 to 4\" goes on until thread 0 stands at row 4, and \"go 1 out\"",
+  "# until the call of thread 1 has ended. A lesson is tried when it is read: its start must not reach the goal, its answer must.",
+  "#",
+  "# A goal is a list of lines. Each finds something in the run and gives it a name, or asks for more of what has a name:",
+  "#   call C of 0: contains, answers false      a call of thread 0 (\"call C: ..\" one of any thread)",
+  "#   step S in C: last, sees a mark            a step of that call (\"step S of 0: ..\", \"step S: ..\")",
+  "#   rest R of 0: holding 2                    a time in which thread 0 makes no step, and has two locks",
+  "#   5 steps of 1: tries in vain a lock of 0   at least five such steps; \"3 calls of 1: ..\" three such calls",
+  "#   all calls ended                           no call is left open",
+  "#   say ..                                    a condition as the student reads it: all lines above it can be met at once",
+  "# Of a call: add, remove, contains, ceiling, key K, answers true (false, full, nothing, at-K), answers a key, ended, open,",
+  "#   begins after X, takes effect after X, ends during X, within R, its key always in the set, a smaller key always in the set,",
+  "#   its node in the chain at its end",
+  "# Of a step: row N (it makes this row), to row N (and goes to that), without a reply, fails, tries in vain a lock of T,",
+  "#   sees a mark, reads a link, in the chain, out of the chain (its node is), holding N (its thread has so many locks), last,",
+  "#   pred leads to curr, at another node than S, after X, by another thread than X, in R, takes out the node of C",
+  "# Of a rest: holding N",
+  "# Dead ends are goals, one below another, each up to its line \"say ..\", which is told where the run of a wrong try has it.",
+  "",
+  "course The twelve lessons of the five lists",
+  "",
+  "lesson one-lock",
+  "title The one lock",
+  "list coarse",
+  "threads 3",
+  "quota 4",
+  "start",
+  "  begin 0 add 5",
+  "  begin 1 add 6",
+  "  begin 2 add 7",
+  "question",
+  "  Three adds have begun: first that of thread 0, last that of thread 2. Let them take effect in the",
+  "  opposite order, and let thread 0 try the lock in vain both while thread 2 has it and while thread 1",
+  "  has it. All three answer true.",
+  "teaches",
+  "  Coarse-grained synchronization: one lock for the whole list, held from the first read to the last",
+  "  write. A try that fails is a step too. Linearizability asks that each call takes effect at one",
+  "  moment between its begin and its answer, its linearization point: of two calls that overlap either",
+  "  may come first, whichever began first.",
+  "hint",
+  "  A call takes effect while its thread has the lock. Thread 0 has begun, but it has made no step yet.",
+  "answer",
+  "  go 2 1",
+  "  go 0 1",
+  "  go 2 6",
+  "  go 1 1",
+  "  go 0 1",
+  "  go 1 6",
+  "  go 0 7",
+  "goal",
+  "  call A of 0: add",
+  "  call B of 1: add, begins after A",
+  "  call C of 2: add, begins after B",
+  "  say The threads 0, 1 and 2 begin an add each, in this order.",
+  "  1 steps in A: tries in vain a lock of 2",
+  "  say That of thread 0 tries the lock in vain while thread 2 has it.",
+  "  1 steps in A: tries in vain a lock of 1",
+  "  say It does so while thread 1 has it, too.",
+  "  call B: takes effect after C",
+  "  call A: takes effect after B",
+  "  say That of thread 2 takes effect first, that of thread 0 last.",
+  "  call A: answers true",
+  "  call B: answers true",
+  "  call C: answers true",
+  "  say All three answer true.",
+  "dead-ends",
+  "  call A of 0: add, key 5, ended",
+  "  call B of 1: add, open",
+  "  say The add of thread 0 has answered before that of thread 1. Undo to where thread 0 has not got the lock.",
+  "  call A of 0: add, key 5, ended",
+  "  call B of 1: add, takes effect after A",
+  "  say The add of thread 0 has taken effect before that of thread 1. Undo, or press Start over.",
+  "",
+  "lesson hand-over-hand",
+  "title Hand over hand",
+  "list fine",
+  "threads 2",
+  "quota 4",
+  "opening 3 6 9",
+  "start",
+  "  begin 0 contains 9",
+  "  begin 1 contains 9",
+  "question",
+  "  Both threads look for 9. Let thread 1 follow thread 0 so closely that it has to wait at two",
+  "  different nodes, each time with one lock in its hand and for a lock that thread 0 has. Then let all",
+  "  calls answer.",
+  "teaches",
+  "  Fine-grained synchronization, hand over hand: a thread gives back the lock of pred only when it has",
+  "  that of curr. So the threads in the list stay in the order in which they came in. Nobody overtakes,",
+  "  and nobody changes the node at which another stands.",
+  "hint",
+  "  Thread 0 has two locks when it stands at row 4 or 5. Let it go one node further each time thread 1",
+  "  has tried in vain.",
+  "answer",
+  "  go 0 8",
+  "  go 1 3",
+  "  go 0 3",
+  "  go 1 5",
+  "  go 0 3",
+  "  go 1 8",
+  "goal",
+  "  call C of 1",
+  "  step S in C: tries in vain a lock of 0, holding 1",
+  "  say Thread 1 has one lock and tries in vain for another, which thread 0 has.",
+  "  step T in C: tries in vain a lock of 0, holding 1, at another node than S",
+  "  say It does so at two different nodes in one call.",
+  "  all calls ended",
+  "  say And no call is left open.",
+  "dead-ends",
+  "  call A of 0: contains, key 9, ended",
+  "  call B of 1: contains, key 9, ended",
+  "  say Both have answered, and thread 1 did not wait twice. Undo, or press Start over.",
+  "",
+  "lesson two-at-once",
+  "title Two at once",
+  "list fine",
+  "threads 2",
+  "quota 4",
+  "opening 3 6 9",
+  "start",
+  "  begin 0 remove 9",
+  "question",
+  "  Thread 0 is to remove 9. Stop it where it has two locks; then let thread 1 begin an add and end it",
+  "  with true, while thread 0 makes no step.",
+  "teaches",
+  "  What many locks gain over one: calls in different parts of the list go on at the same time. What",
+  "  they do not gain: nobody passes the thread that stands still, so only the part before it is free.",
+  "hint",
+  "  Thread 1 passes all nodes before the gap of its key, and locks the one behind the gap too. Which",
+  "  nodes are free?",
+  "answer",
+  "  go 0 12",
+  "  begin 1 add 1",
+  "  go 1 9",
+  "goal",
+  "  call A of 1: add, answers true",
+  "  say Thread 1 has an add that answers true.",
+  "  rest R of 0: holding 2",
+  "  call A: within R",
+  "  say From its begin to its answer thread 0 has two locks and makes no step.",
+  "dead-ends",
+  "  call R of 0: remove, key 9, ended",
+  "  say The remove has answered: thread 0 has its two locks no more. Undo, or let it begin another call.",
+  "  call A of 1: add, answers true",
+  "  rest R of 0: holding 1",
+  "  call A: within R",
+  "  say While that add began and answered, thread 0 had one lock alone. Let it go on until it has two.",
+  "",
+  "lesson changed-link",
+  "title The changed link",
+  "list optimistic",
+  "threads 2",
+  "quota 4",
+  "opening 3 9",
+  "start",
+  "  begin 0 remove 9",
+  "question",
+  "  Thread 0 is to remove 9. Let its validation fail because pred does not lead to curr any more, and",
+  "  let its remove answer true in the end.",
+  "teaches",
+  "  Optimistic synchronization: walk without locks, lock pred and curr, and then validate, that is, look",
+  "  whether what the walk found still holds. Where it does not, give the locks back and start again.",
+  "  Here it is the last part of the validation that fails: pred.next == curr.",
+  "hint",
+  "  Thread 0 has found 3 and 9 when it comes to row 4. What can thread 1 put between them before thread",
+  "  0 has its locks?",
+  "answer",
+  "  go 0 4",
+  "  begin 1 add 5",
+  "  go 1 14",
+  "  go 0 24",
+  "goal",
+  "  call C of 0",
+  "  step S in C: row 8, to row 14, without a reply",
+  "  say A validation of thread 0 fails: pred does not lead to curr.",
+  "  call C: remove, answers true",
+  "  say The call in which it fails is a remove that answers true.",
+  "dead-ends",
+  "  call R of 0: remove, answers true",
+  "  say The remove has answered true without such a failure. Undo to where it has not taken its locks yet.",
+  "  call R of 0: remove, answers false",
+  "  say The remove has answered false: its key is gone. Undo, or let it remove another key.",
+  "",
+  "lesson lost-pred",
+  "title The lost predecessor",
+  "list optimistic",
+  "threads 2",
+  "quota 4",
+  "opening 3 9",
+  "start",
+  "  begin 0 add 5",
+  "question",
+  "  Thread 0 is to add 5. Let its second walk miss pred, at a moment at which the link of pred leads to",
+  "  curr all the same; and let its add answer true in the end.",
+  "teaches",
+  "  Why OptimisticList walks twice. A removed node keeps its link, so pred.next == curr alone does not",
+  "  tell whether pred is still reachable from the head. A validation by the link alone would put 5",
+  "  behind a removed node, and the key would be lost.",
+  "hint",
+  "  pred has to be a node that thread 1 can remove. When is the last moment for that?",
+  "answer",
+  "  go 0 4",
+  "  begin 1 remove 3",
+  "  go 1 9",
+  "  go 0 16",
+  "goal",
+  "  call C of 0",
+  "  step S in C: row 7, to row 14, without a reply",
+  "  say The second walk of a call of thread 0 goes past the key of pred and has not met pred.",
+  "  step S: pred leads to curr",
+  "  say At that moment the link of pred leads to curr.",
+  "  call C: add, answers true",
+  "  say The call is an add that answers true.",
+  "dead-ends",
+  "  call A of 0: add, answers true",
+  "  say The add has answered true, and its second walk did not miss pred in this way. Undo to where it has found its place.",
+  "",
+  "lesson marked-in-chain",
+  "title Marked, and still in the chain",
+  "list lazy",
+  "threads 2",
+  "quota 4",
+  "opening 5",
+  "start",
+  "  begin 1 remove 5",
+  "question",
+  "  Let a contains of thread 0 find the node of its key in the chain, and answer false.",
+  "teaches",
+  "  Lazy synchronization: a remove marks the node (the logical removal), and then unlinks it (the",
+  "  physical removal). The mark is its linearization point: a key is in the set exactly as long as an",
+  "  unmarked node of the chain has it.",
+  "hint",
+  "  Between which two rows of its remove has thread 1 marked the node and not unlinked it yet?",
+  "answer",
+  "  go 1 7",
+  "  begin 0 contains 5",
+  "  go 0 3",
+  "goal",
+  "  call C of 0: contains, answers false",
+  "  step S in C: last",
+  "  say A contains of thread 0 answers false.",
+  "  step S: sees a mark",
+  "  say Its last step reads the link of the node that has its key, and sees the mark.",
+  "  step S: in the chain",
+  "  say That node is in the chain then.",
+  "dead-ends",
+  "  call C of 0: contains, answers true",
+  "  say This contains has answered true: the node had no mark yet. Undo to where it has not looked at the mark.",
+  "  call R of 1: remove, ended",
+  "  call C of 0: contains, begins after R",
+  "  say That remove has ended, so its node is out of the chain. Undo to where the node is marked.",
+  "",
+  "lesson stopped-thread",
+  "title The stopped thread",
+  "list lazy",
+  "threads 3",
+  "quota 4",
+  "opening 5",
+  "start",
+  "  begin 0 remove 5",
+  "  begin 1 add 7",
+  "question",
+  "  Stop thread 0 for a while. In this time let thread 1 try five times in vain for a lock that thread 0",
+  "  has, and let thread 2 begin a contains and end it.",
+  "teaches",
+  "  add and remove of LazyList block: one thread that stops with a lock can hold them up for ever.",
+  "  contains is wait-free: it takes no lock, and ends after a bounded number of its own steps, whatever",
+  "  the other threads do.",
+  "hint",
+  "  Which two nodes does thread 1 lock to add 7? With the lock of the head alone thread 0 is not in its",
+  "  way.",
+  "answer",
+  "  go 0 5",
+  "  go 1 9",
+  "  begin 2 contains 5",
+  "  go 2 3",
+  "goal",
+  "  rest R of 0",
+  "  5 steps of 1: tries in vain a lock of 0, in R",
+  "  say While thread 0 makes no step, thread 1 tries five times in vain for a lock that thread 0 has.",
+  "  call C of 2: contains, within R",
+  "  say In the same time a contains of thread 2 begins and answers.",
+  "dead-ends",
+  "  call R of 0: remove, ended",
+  "  say The remove of thread 0 has answered: it has no lock any more. Undo, or let it begin another call.",
+  "  call A of 1: add, ended",
+  "  say The add of thread 1 has answered: it did not have to wait for so long. Undo to where thread 0 has both its locks.",
+  "",
+  "lesson over-removed-nodes",
+  "title Over removed nodes",
+  "list lazy",
+  "threads 2",
+  "quota 4",
+  "opening 5 9",
+  "start",
+  "  begin 0 contains 9",
+  "  go 0 2",
+  "question",
+  "  Thread 0 looks for 9 and has come to 5. Let it read the link of a node that is out of the chain, and",
+  "  answer true.",
+  "teaches",
+  "  A walk without locks may stand at a node that is removed meanwhile. That does no harm: the node",
+  "  keeps its link, which leads on to larger keys and back into the chain, and it is not used again as",
+  "  long as a thread may stand there (in the book by garbage collection, here since each slot is used",
+  "  once).",
+  "hint",
+  "  At which node does thread 0 stand, and what can thread 1 do with it?",
+  "answer",
+  "  begin 1 remove 5",
+  "  go 1 10",
+  "  go 0 3",
+  "goal",
+  "  call C of 0: contains",
+  "  step S in C: reads a link, out of the chain",
+  "  say A contains of thread 0 reads the link of a node that is out of the chain.",
+  "  call C: answers true",
+  "  say It answers true.",
+  "dead-ends",
+  "  call C of 0: contains, ended",
+  "  say This contains has answered, and it read no link of a removed node on its way, or found its key gone. Undo, or press Start over.",
+  "",
+  "lesson in-anothers-step",
+  "title In the step of another thread",
+  "list lazy",
+  "threads 2",
+  "quota 4",
+  "opening 5",
+  "start",
+  "  begin 0 contains 5",
+  "question",
+  "  Let contains(5) of thread 0 answer false, although 5 is in the set just after each of its own",
+  "  events, from the begin to the answer.",
+  "teaches",
+  "  The linearization point of a contains that answers false need not be one of its own steps: here it",
+  "  is a step of thread 1. Which one it is can be told only afterwards, from what the other threads did.",
+  "hint",
+  "  Between two events of thread 0, thread 1 may end two calls.",
+  "answer",
+  "  go 0 2",
+  "  begin 1 remove 5",
+  "  go 1 10",
+  "  begin 1 add 5",
+  "  go 1 11",
+  "  go 0 1",
+  "goal",
+  "  call C of 0: contains, answers false",
+  "  say A contains of thread 0 answers false.",
+  "  call C: its key always in the set",
+  "  say Just after each of its own events its key is in the set.",
+  "dead-ends",
+  "  call C of 0: contains, answers true",
+  "  say This contains has answered true: it saw its key. Undo to where it has not looked at the mark yet.",
+  "  call C of 0: contains, answers false",
+  "  say It answers false, but just after one of its own events its key was not in the set. Put it in again before that event.",
+  "",
+  "lesson left-to-others",
+  "title Left to others",
+  "list lock-free",
+  "threads 2",
+  "quota 4",
+  "opening 5",
+  "start",
+  "  begin 1 remove 5",
+  "question",
+  "  Let a remove answer true while its node is still in the chain. Then let another thread take this",
+  "  node out.",
+  "teaches",
+  "  Non-blocking synchronization: mark and link are exchanged together, by one compareAndSet. A remove",
+  "  that has marked its node tries once to unlink it. Where that fails, find does it, that is, the walk",
+  "  of a later add or remove: so nobody waits for the remover.",
+  "hint",
+  "  The one try of thread 1 fails where the link of its pred has changed since its walk. And a contains",
+  "  takes no node out.",
+  "answer",
+  "  begin 0 add 3",
+  "  go 0 5",
+  "  go 1 5",
+  "  go 0 1",
+  "  go 1 1",
+  "  begin 0 add 7",
+  "  go 0 10",
+  "goal",
+  "  call C: remove, answers true",
+  "  say A remove answers true.",
+  "  call C: its node in the chain at its end",
+  "  say Just after its answer its node is in the chain.",
+  "  step S: after C, by another thread than C, takes out the node of C",
+  "  say Later another thread takes this node out.",
+  "dead-ends",
+  "  call C: remove, answers true",
+  "  step S in C: takes out the node of C",
+  "  say This remove has taken its node out itself, by its last step. Undo to before that, and let the link of its pred change first.",
+  "",
+  "lesson not-wait-free",
+  "title Lock-free is not wait-free",
+  "list lock-free",
+  "threads 2",
+  "quota 4",
+  "start",
+  "  begin 0 add 5",
+  "question",
+  "  Let an add of thread 0 fail three times to link its node in, and let thread 1 end three calls while",
+  "  it is open.",
+  "teaches",
+  "  Lock-free: infinitely often some call ends. Each failed exchange of this add is owed to another",
+  "  thread, which has changed the link. Wait-free would say that every call ends after finitely many of",
+  "  its own steps. An add of this list is not: others may change the link before each of its exchanges.",
+  "hint",
+  "  Each time thread 0 is about to exchange the link of pred (row 7), let thread 1 change that link",
+  "  first.",
+  "answer",
+  "  go 0 5",
+  "  begin 1 add 9",
+  "  go 1 6",
+  "  go 0 6",
+  "  begin 1 add 8",
+  "  go 1 6",
+  "  go 0 6",
+  "  begin 1 add 7",
+  "  go 1 6",
+  "  go 0 1",
+  "goal",
+  "  call A of 0: add",
+  "  3 steps in A: row 7, fails",
+  "  say An add of thread 0 fails three times to link its node in.",
+  "  3 calls of 1: ended, ends during A",
+  "  say While that add is open, thread 1 ends three calls.",
+  "dead-ends",
+  "  call A of 0: add, ended",
+  "  say That add has answered. Undo to where it is about to exchange the link of pred.",
+  "",
+  "lesson ceiling-in-anothers-step",
+  "title A ceiling in another thread's step",
+  "list lock-free",
+  "threads 2",
+  "quota 4",
+  "opening 5 7 9",
+  "start",
+  "  begin 0 ceiling 6",
+  "question",
+  "  ceiling(6) asks for the least key from 6 on. Let that of thread 0 answer 9, although just after each",
+  "  of its own events the set has a smaller key from 6 on.",
+  "teaches",
+  "  ceiling is a call of this project and not of the book: the walk of contains, up to the first key",
+  "  that is not below its own. It takes no lock; where the node at which it stops is marked, it starts",
+  "  again, and so it is not wait-free. Its linearization point, too, may be a step of another thread.",
+  "hint",
+  "  A removed node keeps the link that it had at its removal. At which node can thread 0 stand, and",
+  "  where has that node to lead?",
+  "answer",
+  "  go 0 2",
+  "  begin 1 remove 7",
+  "  go 1 8",
+  "  begin 1 remove 5",
+  "  go 1 6",
+  "  begin 1 add 7",
+  "  go 1 6",
+  "  go 0 3",
+  "goal",
+  "  call C of 0: ceiling, answers a key",
+  "  say A ceiling of thread 0 answers a key.",
+  "  call C: a smaller key always in the set",
+  "  say Just after each of its own events the set has a smaller key that is not below the one asked for.",
+  "dead-ends",
+  "  call C of 0: ceiling, answers at-7",
+  "  say This ceiling has answered 7. Undo to where it stands at the node of 5.",
+  "  call C of 0: ceiling, answers at-9",
+  "  say It answers 9, but just after one of its own events no smaller key from 6 on was in the set. Put one in before that event.",
+  "",
+].join("\n");
+return { BOOK_NAME, BOOK };
+})();
+
+// activities/kept_lessons.js
+const $activities_kept_lessons = (() => {
+const { BOOK_NAME } = $made_book;
+const { isText, keepUnder, keptUnder } = $page_kept;
+const LESSONS_KEPT = "listset-lessons-2";
+const LESSONS_KEPT_BEFORE = "listset-lessons-1"; // the book's alone, as the page kept them before
+const textsKept = (kept) => Object.entries(kept ?? {}).filter(([, text]) => isText(text));
+const namesKept = (kept) => (Array.isArray(kept) ? kept.filter(isText) : []);
+
+const learning = { panel: null }; // the panel of the lessons, once it is there
+
+class KeptLessons {
+  constructor() {
+    const kept = keptUnder(LESSONS_KEPT) ?? { isOpen: false, of: { [BOOK_NAME]: keptUnder(LESSONS_KEPT_BEFORE) } };
+    this.isOpen = kept.isOpen === true;
+    this.student = isText(kept.student) ? kept.student : "";
+    this.course = isText(kept.course) ? kept.course : BOOK_NAME;
+    this.courses = new Map(textsKept(kept.courses));
+    this.of = new Map(Object.entries(kept.of ?? {}).map(([name, own]) => [name, ownOf(own)]));
+  }
+
+  ofCourse(name) {
+    if (!this.of.has(name)) this.of.set(name, ownOf({}));
+    return this.of.get(name);
+  }
+
+  save() {
+    const { isOpen, student, course } = this;
+    const toObject = ({ chosen, solutions, looked }) => ({ chosen, solutions: Object.fromEntries(solutions), looked: [...looked] });
+    const of = Object.fromEntries([...this.of].map(([name, own]) => [name, toObject(own)]));
+    return keepUnder(LESSONS_KEPT, { isOpen, student, course, courses: Object.fromEntries(this.courses), of });
+  }
+}
+
+function ownOf(kept) {
+  return {
+    chosen: isText(kept?.chosen) ? kept.chosen : "",
+    solutions: new Map(textsKept(kept?.solutions)),
+    looked: new Set(namesKept(kept?.looked)),
+  };
+}
+return { learning, KeptLessons };
+})();
+
+// activities/learn_map.js
+const $activities_learn_map = (() => {
+const { LISTS } = $made_rows;
+const { learning } = $activities_kept_lessons;
+const { byId } = $page_dom;
+const { works } = $page_kept;
+const { setProgress } = $page_places;
+const { forgetBefore, openText, openWork } = $page_work;
+const { AddressFault } = $run_address;
+const { escaped, tag } = $run_markup;
+const lessonPart = (name) => byId(`lesson-${name}`);
+const panel = () => learning.panel;
+const addressOfLesson = ({ name }) => `#learn=${name}`;
+const solvedOf = ({ lessons }) => lessons.filter(({ name }) => panel().isSolved(name)).length;
+
+function drawLearnMap() {
+  if (panel() === null) return;
+  const { course } = panel();
+  const box = byId("map-learn");
+  if (box.querySelector(".drawn") === null) {
+    box.append(Object.assign(document.createElement("div"), { className: "drawn" }), byId("lesson-folds"));
+  }
+  const lead = "In each lesson you move the threads, until the run shows what is asked. There is more than one way.";
+  const parts = [
+    tag("h1", {}, escaped(course.name)),
+    tag("p", { class: "lead" }, lead),
+    progressOf(course),
+    tag("p", { class: "line" }, linkToNext(course)),
+    tag("ol", { class: "cards" }, ...course.lessons.map(cardOf)),
+  ];
+  box.querySelector(".drawn").innerHTML = parts.join("");
+}
+
+function progressOf(course) {
+  const [solved, total] = [solvedOf(course), course.lessons.length];
+  const bar = tag("i", { style: `width:${(100 * solved) / total}%` });
+  return tag("div", { class: "progress", role: "img", "aria-label": `${solved} of ${total} solved` }, bar);
+}
+
+function linkToNext(course) {
+  const first = course.lessons.find(({ name }) => !panel().isSolved(name));
+  if (first === undefined) return "";
+  const word = solvedOf(course) === 0 ? "Begin" : "Go on";
+  return tag("a", { class: "button primary", href: addressOfLesson(first) }, `${word} with ${escaped(first.title)}`);
+}
+
+function cardOf(lesson, index) {
+  const isSolved = panel().isSolved(lesson.name);
+  const kind = [isSolved ? "done" : "", lesson === panel().lesson ? "here" : ""].join(" ").trim();
+  const solved = isSolved ? tag("span", { class: "unseen" }, " (solved)") : "";
+  const parts = [
+    tag("span", { class: "number" }, isSolved ? "✓" : index + 1),
+    tag("b", {}, escaped(lesson.title), solved),
+    tag("small", {}, LISTS[lesson.list].name),
+  ];
+  return tag("li", {}, tag("a", { href: addressOfLesson(lesson), class: kind }, ...parts));
+}
+
+function drawStrip() {
+  if (panel() === null) return;
+  const { course, lesson } = panel();
+  const [solved, total] = [solvedOf(course), course.lessons.length];
+  setProgress("nav-learn", solved, total);
+  const marks = course.lessons.map((one, index) => {
+    const isSolved = panel().isSolved(one.name);
+    const label = `lesson ${index + 1}, ${one.title}${isSolved ? ", solved" : ""}`;
+    const given = { href: addressOfLesson(one), title: one.title, tabindex: -1, "aria-label": label, class: isSolved ? "done" : "" };
+    return tag("a", one === lesson ? { ...given, "aria-current": "step" } : given, isSolved ? "✓" : index + 1);
+  });
+  byId("lesson-levels").innerHTML = marks.join("") + tag("small", { id: "lesson-count" }, `${solved} of ${total} solved`);
+}
+
+function openLesson(name, text, event) {
+  const lesson = panel().course.lessons.find((one) => one.name === name);
+  if (lesson === undefined) throw new AddressFault(`this course has no lesson "${name}"`);
+  panel().choose(lesson);
+  if (text !== null) openText(text, event, panel().ownWorkOf(text) ?? works.newName(panel().workName()), "", lesson.lacks);
+  else if (panel().ownWork() !== null) openWork(panel().ownWork());
+  else panel().begin();
+  forgetBefore();
+  return true;
+}
+
+function showTaskOfLearn() {
+  const { course, lesson } = panel();
+  const at = course.lessons.indexOf(lesson);
+  const to = (index) => (course.lessons[index] === undefined ? null : addressOfLesson(course.lessons[index]));
+  return { before: to(at - 1), all: ["#learn", "All lessons"], next: to(at + 1) };
+}
+return { lessonPart, drawLearnMap, drawStrip, openLesson, showTaskOfLearn };
+})();
+
+// course/course_link.js
+const $course_course_link = (() => {
+const { AddressFault, LONGEST_ADDRESS } = $run_address;
+async function passed(bytes, stream) {
+  return new Uint8Array(await new Response(new Blob([bytes]).stream().pipeThrough(stream)).arrayBuffer());
+}
+
+async function courseAddress(text) {
+  const lines = text.split("\n").filter((line) => line.trim() !== "" && !line.startsWith("#"));
+  const bytes = await passed(new TextEncoder().encode(`${lines.join("\n")}\n`), new CompressionStream("deflate-raw"));
+  const letters = btoa(Array.from(bytes, (byte) => String.fromCharCode(byte)).join(""));
+  const address = `#course=${letters.replaceAll("+", "-").replaceAll("/", "_").replace(/=+$/, "")}`;
+  return address.length <= LONGEST_ADDRESS ? address : null;
+}
+
+async function courseOfAddress(letters) {
+  try {
+    const bytes = Uint8Array.from(atob(letters.replaceAll("-", "+").replaceAll("_", "/")), (letter) => letter.charCodeAt(0));
+    return new TextDecoder().decode(await passed(bytes, new DecompressionStream("deflate-raw")));
+  } catch {
+    throw new AddressFault("the course of the address cannot be unpacked: the link is cut");
+  }
+}
+return { courseAddress, courseOfAddress };
+})();
+
+// run/check_trace.js
+const $run_check_trace = (() => {
+const { LACKING } = $made_classics;
+const { LISTS } = $made_rows;
+const { CALL_WORDS, firstOpeningNode, HEADER_LINES, KEY_REGISTERS, MOST_NUMBER, NODE_REGISTERS } = $run_trace;
+const MOST_THREADS = 64;
+const MOST_QUOTA = 16384;
+const MOST_OPENING = 1048576;
+const REPLY_WORDS = ["true", "false", "full", "nothing"]; // and at-X of a key X
+const REFUSALS = ["NoThread", "Busy", "Idle", "Lost"];
+
+class TraceFault extends Error {
+  constructor(line, wanted) {
+    super(`line ${line}: ${wanted}`);
+  }
+}
+
+class Pieces {
+  constructor(text, line) {
+    this.pieces = text.split(" ");
+    this.line = line;
+    this.at = 0;
+  }
+
+  fail(wanted) {
+    throw new TraceFault(this.line, wanted);
+  }
+
+  take(wanted) {
+    if (this.at === this.pieces.length) this.fail(`${wanted} is missing`);
+    return this.pieces[this.at++];
+  }
+
+  expect(word) {
+    if (this.take(`"${word}"`) !== word) this.fail(`"${word}" is due in place of "${this.pieces[this.at - 1]}"`);
+  }
+
+  isNext(word) {
+    if (this.pieces[this.at] !== word) return false;
+    this.at++;
+    return true;
+  }
+
+  oneOf(words, wanted) {
+    const piece = this.take(wanted);
+    if (!words.includes(piece)) this.fail(`"${piece}" is no ${wanted}`);
+    return piece;
+  }
+
+  number(least, most, wanted) {
+    const piece = this.take(wanted);
+    const value = Number(piece);
+    if (!isNumber(piece) || value < least || value > most) {
+      this.fail(`"${piece}" is no ${wanted} (a number from ${least} to ${most})`);
+    }
+    return value;
+  }
+
+  end() {
+    if (this.at < this.pieces.length) this.fail(`"${this.pieces[this.at]}" is too much`);
+  }
+}
+
+function isNode(name, trace) {
+  if (name === "head" || name === "tail") return true;
+  const number = /^n(0|[1-9][0-9]{0,7})$/.exec(name);
+  return number !== null && Number(number[1]) >= 2 && Number(number[1]) < firstOpeningNode(trace) + trace.opening.length;
+}
+
+const isThread = (word, trace) => /^t(0|[1-9][0-9]?)$/.test(word) && Number(word.slice(1)) < trace.threads;
+const isNumber = (word) => /^(0|[1-9][0-9]{0,9})$/.test(word) && Number(word) <= MOST_NUMBER;
+const isKey = (word) => word === "-inf" || word === "+inf" || isNumber(word);
+const isReply = (word) => REPLY_WORDS.includes(word) || (word.startsWith("at-") && isNumber(word.slice(3)));
+
+function takeWord(pieces, trace) {
+  const word = pieces.take("a word of the table");
+  const [owner, field, more] = word.split(".");
+  const ofList = owner === "list" && ["lock", "threads", "quota"].includes(field);
+  const ofNode = ["key", "link", "lock"].includes(field) && isNode(owner, trace);
+  if (more !== undefined || !(ofList || ofNode)) pieces.fail(`"${word}" is no word of the table`);
+  return word;
+}
+
+function takeValue(pieces, word, trace) {
+  const value = pieces.take(`a value of ${word}`);
+  const field = word.split(".")[1];
+  const good = {
+    lock: () => value === "free" || isThread(value, trace),
+    key: () => isKey(value),
+    link: () => isNode(value.replace(/\*$/, ""), trace),
+    threads: () => value === String(trace.threads),
+    quota: () => value === String(trace.quota),
+  }[field]();
+  if (!good) pieces.fail(`"${value}" is no value of ${word}`);
+  return value;
+}
+
+function takeReply(pieces) {
+  const reply = pieces.take("a reply");
+  if (!isReply(reply)) pieces.fail(`"${reply}" is no reply`);
+  return reply;
+}
+
+function takeChanges(pieces, trace) {
+  pieces.expect("pc");
+  pieces.number(0, 255, "row");
+  for (const name of NODE_REGISTERS) {
+    if (!pieces.isNext(name)) continue;
+    const node = pieces.take("a node");
+    if (!isNode(node, trace)) pieces.fail(`"${node}" is no node`);
+  }
+  for (const name of KEY_REGISTERS) {
+    if (!pieces.isNext(name)) continue;
+    const key = pieces.take("a key");
+    if (!isKey(key)) pieces.fail(`"${key}" is no key`);
+  }
+  if (pieces.isNext("used")) pieces.number(0, trace.quota, "count of slots");
+  if (pieces.isNext("reply") && !pieces.isNext("none")) takeReply(pieces);
+}
+
+function takeBegin(pieces, number, thread, trace) {
+  if (trace.open[thread] !== null) pieces.fail(`thread ${thread} begins a call and has one open`);
+  pieces.oneOf(CALL_WORDS, "call");
+  pieces.number(0, MOST_NUMBER, "key");
+  pieces.expect("call");
+  const id = pieces.number(trace.calls, trace.calls, "number of the next call");
+  pieces.expect("pc");
+  pieces.number(1, 255, "row");
+  trace.calls++;
+  trace.open[thread] = { id, begun: number, changedAt: null };
+}
+
+function takeAccess(pieces, number, thread, deed, trace) {
+  const call = trace.open[thread];
+  if (call === null) pieces.fail(`thread ${thread} makes a step and has no call open`);
+  const word = takeWord(pieces, trace);
+  if (deed === "store") takeValue(pieces, word, trace);
+  if (deed === "exchange") {
+    pieces.expect("from");
+    takeValue(pieces, word, trace);
+    pieces.expect("to");
+    takeValue(pieces, word, trace);
+  }
+  if (deed !== "store") {
+    pieces.expect("saw");
+    takeValue(pieces, word, trace);
+  }
+  takeChanges(pieces, trace);
+  if (pieces.isNext("put") || pieces.isNext("took")) {
+    pieces.number(0, MOST_NUMBER, "key");
+    call.changedAt = number;
+  }
+  if (pieces.isNext("answer")) takeReplied(pieces, number, thread, trace);
+}
+
+function takeReplied(pieces, number, thread, trace) {
+  const { id, begun, changedAt } = trace.open[thread];
+  takeReply(pieces);
+  pieces.expect("call");
+  pieces.number(id, id, "number of the thread's call");
+  pieces.expect("at");
+  pieces.number(changedAt ?? begun, changedAt ?? number, "moment of the call");
+  trace.open[thread] = null;
+}
+
+function takeEvent(pieces, trace) {
+  const number = pieces.number(trace.events + 1, trace.events + 1, "number of the next event");
+  const head = HEADER_LINES + trace.opening.length;
+  pieces.expect("line");
+  trace.line = pieces.number(Math.max(trace.line, head + 1), Math.max(trace.line, head) + 1, "line of the schedule");
+  pieces.expect("thread");
+  const thread = pieces.number(0, trace.threads - 1, "thread");
+  const deed = pieces.oneOf(["begin", "load", "store", "exchange"], "deed");
+  if (deed === "begin") takeBegin(pieces, number, thread, trace);
+  else takeAccess(pieces, number, thread, deed, trace);
+  pieces.end();
+  trace.events++;
+}
+
+function takeChain(pieces) {
+  while (pieces.at < pieces.pieces.length) {
+    const piece = pieces.take("a key");
+    const key = piece.replace(/\*$/, "");
+    if (!isKey(key) || key.endsWith("inf")) pieces.fail(`"${piece}" is no key of a chain`);
+  }
+}
+
+function takeRefusal(pieces, trace) {
+  pieces.expect("line");
+  pieces.number(HEADER_LINES + trace.opening.length + 1, MOST_NUMBER, "line of the schedule");
+  pieces.oneOf(REFUSALS, "cause");
+  pieces.end();
+}
+
+function takeHeader(lines) {
+  const header = (number, word) => {
+    const pieces = new Pieces(lines[number - 1] ?? "", number);
+    pieces.expect(word);
+    return pieces;
+  };
+  const words = ["listset-trace", "list", ...(lines[2]?.startsWith("lacks ") ? ["lacks"] : []), "threads", "quota"];
+  const [title, list, ...more] = words.map((word, at) => header(at + 1, word));
+  const [threads, quota] = more.slice(-2);
+  title.expect("1");
+  const kind = list.oneOf(Object.keys(LISTS), "list");
+  const names = Object.keys(LACKING).filter((name) => LACKING[name] === kind);
+  if (more.length === 3) more[0].oneOf(names, `check that a ${kind} list lacks`);
+  const trace = {
+    threads: threads.number(1, MOST_THREADS, "number of threads"),
+    quota: quota.number(0, MOST_QUOTA, "quota"),
+  };
+  [title, list, ...more].forEach((pieces) => pieces.end());
+  const opening = takeOpening(lines, words.length);
+  return { ...trace, head: words.length, opening, open: Array(trace.threads).fill(null), events: 0, calls: 0, line: 0 };
+}
+
+function takeOpening(lines, head) {
+  const keys = [];
+  for (let number = head + 1; lines[number - 1]?.startsWith("opening "); number++) {
+    const pieces = new Pieces(lines[number - 1], number);
+    pieces.expect("opening");
+    const least = keys.length === 0 ? 0 : keys[keys.length - 1] + 1;
+    keys.push(pieces.number(least, MOST_NUMBER, "opening key above the one before"));
+    pieces.end();
+    if (keys.length > MOST_OPENING) pieces.fail(`at most ${MOST_OPENING} opening keys are due`);
+  }
+  return keys;
+}
+
+function readWhole(text) {
+  const lines = text.split("\n");
+  const trace = takeHeader(lines);
+  let number = trace.head + trace.opening.length + 1;
+  for (; lines[number - 1] !== "end"; number++) {
+    const pieces = new Pieces(lines[number - 1] ?? "", number);
+    const word = pieces.oneOf(["event", "chain", "refused"], 'line of a trace ("event", "chain", "refused" or "end")');
+    if (word === "event") takeEvent(pieces, trace);
+    else if (word === "chain") takeChain(pieces);
+    else {
+      takeRefusal(pieces, trace);
+      break;
+    }
+  }
+  const isEnded = lines.length === number + 1 && lines[number] === "";
+  if (!isEnded) throw new TraceFault(number, "the last line, and one newline, end a trace");
+}
+
+function faultOfTrace(text) {
+  try {
+    readWhole(text);
+    return null;
+  } catch (fault) {
+    if (!(fault instanceof TraceFault)) throw fault;
+    return fault.message;
+  }
+}
+return { faultOfTrace };
+})();
+
+// page/files.js
+const $page_files = (() => {
+const { byId } = $page_dom;
+const { chooseExample } = $page_example;
+const { works } = $page_kept;
+const { askLong, LONG_TEXT } = $page_long_run;
+const { askNow, NO_ENGINE, page, show, takeScheduleOfTrace, takeTrace, tellFault } = $page_now;
+const { keepBefore, openText, takeName } = $page_work;
+const { askList } = $run_broken;
+const { faultOfTrace } = $run_check_trace;
+const { COUNTED } = $run_judged;
+const { scheduleOfTrace } = $run_schedule_text;
+const { Trace } = $run_trace;
+const REPLY_WIDTH = 60; // of a call in the picture of a report: what stands right of its bar
+
+function saveText(name, text) {
+  const link = document.createElement("a");
+  link.href = URL.createObjectURL(new Blob([text], { type: "text/plain" }));
+  link.download = name;
+  link.click();
+  URL.revokeObjectURL(link.href);
+}
+
+function kindOfFile(text) {
+  if (text.startsWith("listset-trace")) return "trace";
+  return text.startsWith("listset-report") ? "report" : "schedule";
+}
+
+function comparedTrace(engine, trace) {
+  if (engine === null) return "a trace from a file; its grammar was checked";
+  if (trace.refused !== null) return "a trace from a file; its grammar was checked, and it ends with a refused event";
+  const own = askList((...asked) => engine.ask(...asked), "listset_trace", trace.lacks, scheduleOfTrace(trace));
+  const given = trace.text.split("\n").filter((line) => !/^chain( |$)/.test(line));
+  const line = own.text.split("\n").findIndex((text, index) => text !== given[index]);
+  const engines = trace.lacks === null ? "the proved replayer" : "the engine";
+  if (line === -1) return `a trace from a file, and ${engines} gives the same for its schedule`;
+  const event = Math.max(line + 1 - trace.text.split("\n").findIndex((text) => text.startsWith("event ")), 1);
+  return `a trace from a file; ${engines} gives another, from its event ${event} on`;
+}
+
+async function openFile(file) {
+  const text = new TextDecoder().decode(new Uint8Array(await file.arrayBuffer()));
+  const kind = kindOfFile(text);
+  if (kind === "report") {
+    if (page.engine === null) return tellFault(page.faultLine, "", NO_ENGINE, !page.isRun);
+    await openReportBox();
+    return showReport(text, `The report in ${file.name}:`);
+  }
+  const name = works.newName(`from ${file.name}`);
+  if (kind === "schedule") return openText(text, 0, name);
+  openTrace(text, name);
+}
+
+function openTrace(text, name) {
+  const fault = faultOfTrace(text);
+  if (fault !== null) return tellFault(null, "", `this is no trace: ${fault}`);
+  keepBefore();
+  takeName(name, "");
+  chooseExample("");
+  takeTrace(new Trace(text), 0, "a trace from a file");
+  takeScheduleOfTrace();
+  page.source = comparedTrace(page.engine, page.trace);
   show();
 }
 
-// One line about what was just done or not done. The next event that is shown takes it away.
-function tell(text) {
-  byId("told").innerHTML = text;
+async function openReportBox() {
+  const box = byId("report-box");
+  if (box.open) return;
+  await new Promise((done) => {
+    box.addEventListener("toggle", done, { once: true });
+    box.open = true;
+  });
 }
 
-// Tells a fault of the text: the program's own line, and the cause in words. The run that is shown may be that of another text.
-function tellFault(line, cause, said, isOld = true) {
-  page.faultLine = line;
-  page.isRun = !isOld;
-  byId("stage").classList.toggle("old", isOld);
-  byId("old").hidden = !isOld;
-  byId("fault").textContent = cause in CAUSES ? `${said}: ${CAUSES[cause]}` : said;
+async function showReport(text, whose) {
+  byId("report").textContent = text;
+  byId("report-of").textContent = whose;
+  const checked = (await askLong("listset_check", text)).text.trim();
+  if (byId("report").textContent !== text) return;
+  byId("checked").textContent = checked;
+  if (text.length < LONG_TEXT) drawPicture(text);
+  else byId("picture-box").hidden = true;
 }
 
-function tellLine(text) {
-  const found = /^listset: line (\d+): (\w+)$/.exec(text);
-  if (found !== null) tellFault(Number(found[1]), found[2], text);
-  else tellFault(null, "", text);
+function drawPicture(text) {
+  const drawn = askNow("listset_show_svg", text).text;
+  byId("picture-box").hidden = !drawn.startsWith("<svg ");
+  if (byId("picture-box").hidden) return;
+  byId("picture").innerHTML = drawn;
+  const said = refusalIn(askNow("listset_show", text).text);
+  byId("picture-says").textContent = said;
+  const svg = byId("picture").firstElementChild;
+  svg.setAttribute("role", "img");
+  svg.setAttribute("aria-label", `the calls of the report${said === "" ? "" : `; ${said}`}`);
+  scrollToClash();
 }
 
-// Shows a trace at an event, or where a function of it says.
-function takeTrace(trace, at, source) {
-  const { refused } = trace;
-  Object.assign(page, { trace, state: new State(trace), source, lacks: trace.lacks });
-  document.body.classList.toggle("breaking", trace.lacks !== null);
-  endJudging();
-  if (refused === null) tellFault(null, "", "", false);
-  else tellFault(refused.line, refused.cause, `line ${refused.line}: ${refused.cause}`, false);
-  showHeader(trace);
-  goTo(typeof at === "function" ? at(trace) : at);
+const refusalIn = (text) => text.split("\n").filter((line) => line.startsWith("refused ") || line.startsWith(COUNTED)).join("; ");
+
+function scrollToClash() {
+  const box = byId("picture");
+  const clash = box.querySelector(".bar.clash");
+  const left = box.getBoundingClientRect().left - box.scrollLeft;
+  box.scrollLeft = clash === null ? 0 : clash.getBoundingClientRect().right + REPLY_WIDTH - left - box.clientWidth;
 }
 
-// The schedule of the trace that is shown, in the box.
-function takeScheduleOfTrace() {
-  page.text = page.begun = byId("schedule").value = scheduleOfTrace(page.trace);
-  byId("opening").value = page.trace.opening.join(" ");
-}
-
-// Runs a text by the engine, and then tells a line: its trace is shown, or the line about its first fault.
-function runText(text, at, told = "") {
-  stopPlay();
-  page.text = text;
-  byId("schedule").value = text;
-  byId("opening").value = openingIn(text).join(" ");
-  if (page.engine === null) return tellFault(null, "", NO_ENGINE);
-  const asked = eventsAsked(text);
-  if (asked >= MANY_EVENTS && page.lacks === null) return runLong(text, asked, at, told);
-  stopLong();
-  takeAnswer(askList(askNow, "listset_trace", page.lacks, text), text, at, told);
-}
-
-// Shows what the engine says of a text.
-function takeAnswer(answer, text, at, told) {
-  const source = page.lacks === null ? "run by the proved replayer" : "a run of a broken list";
-  if (answer.text.startsWith("listset-trace")) takeTrace(new Trace(answer.text, versionOf(text)), at, source);
-  else tellLine(answer.text.trim());
-  tell(works.isKept ? told : `${told} This browser keeps nothing: save the schedule before you leave the page.`);
-  showMarks();
-  keepSoon();
-  refreshReport();
-}
-
-// What the engine answers at once; a line about the trouble where it stopped.
-function askNow(name, ...texts) {
-  try {
-    return page.engine.ask(name, ...texts);
-  } catch (fault) {
-    return { status: 1, text: fault.message };
-  }
+async function showOwnReport(schedule) {
+  const { lacks } = page;
+  const answer = lacks === null ? await askLong("listset_replay", schedule) : askList(askNow, "listset_replay", lacks, schedule);
+  if (page.text !== schedule) return;
+  if (answer.status === 0) return showReport(answer.text, "The report of this schedule:");
+  byId("report").textContent = answer.text;
+  byId("report-of").textContent = "There is no report:";
+  byId("checked").textContent = "—";
+  if (lacks === null) drawPicture(schedule);
+  else byId("picture-box").hidden = true;
 }
 
 function refreshReport() {
   if (byId("report-box").open && page.engine !== null) showOwnReport(page.text);
 }
+return { saveText, comparedTrace, openFile, refreshReport };
+})();
 
-// What needs the engine is not there; the page says so, and why.
+// activities/courses.js
+const $activities_courses = (() => {
+const { BOOK, BOOK_NAME } = $made_book;
+const { learning } = $activities_kept_lessons;
+const { drawLearnMap, lessonPart } = $activities_learn_map;
+const { courseAddress, courseOfAddress } = $course_course_link;
+const { triedCourse } = $course_lesson;
+const { saveText } = $page_files;
+const { askNow, page } = $page_now;
+const { goToPlace } = $page_places;
+const { copied } = $page_visit;
+const { AddressFault } = $run_address;
+function takeCourseText(panel, text) {
+  const course = triedCourse(askNow, text);
+  const { faults, name, lessons } = course;
+  const lines = faults.map(({ line, fault }) => `line ${line}: ${fault}`);
+  lessonPart("faults").textContent = lines.length > 0 ? lines.join("\n") : `${name}: ${lessons.length} lessons, all good.`;
+  if (faults.length > 0) return false;
+  panel.takeCourse(course);
+  drawLearnMap();
+  return true;
+}
+
+async function openCourseOfAddress(letters) {
+  if (page.engine === null) throw new AddressFault("the address names a course of lessons, which cannot be run here");
+  const panel = learning.panel;
+  const text = await courseOfAddress(letters);
+  lessonPart("course-text").value = text;
+  if (!takeCourseText(panel, text)) {
+    drawLearnMap();
+    goToPlace("learn", "map");
+    lessonPart("write").open = true;
+    throw new AddressFault(`the course of the address has faults: ${lessonPart("faults").textContent.split("\n")[0]}`);
+  }
+  const first = panel.course.lessons.find(({ name }) => !panel.isSolved(name)) ?? panel.course.lessons[0];
+  panel.choose(first);
+  goToPlace("learn", "stage");
+  panel.begin();
+  return true;
+}
+
+async function copyCourseLink(panel) {
+  const address = await courseAddress(panel.course.text);
+  const tooLong = "This course is too long for a link: save it, and hand out the file.";
+  if (address === null) return (lessonPart("faults").textContent = tooLong);
+  const link = location.href.replace(/#.*$/, "") + address;
+  const box = lessonPart("link-text");
+  box.value = link;
+  box.hidden = false;
+  box.select();
+  const isCopied = await copied(link);
+  lessonPart("faults").textContent = `${isCopied ? "The link is copied" : "Copy the link below"}: it opens "${panel.course.name}".`;
+}
+
+function listenToCourses(panel) {
+  const box = lessonPart("course-text");
+  lessonPart("course").onchange = () => {
+    const name = lessonPart("course").value;
+    takeCourseText(panel, name === BOOK_NAME ? BOOK : panel.kept.courses.get(name));
+    box.value = panel.course.text;
+  };
+  lessonPart("write").ontoggle = () => {
+    if (box.value === "") box.value = panel.course.text;
+  };
+  lessonPart("file").onchange = async () => {
+    box.value = await lessonPart("file").files[0].text();
+    lessonPart("file").value = "";
+    lessonPart("write").open = true;
+    takeCourseText(panel, box.value);
+  };
+  lessonPart("try").onclick = () => takeCourseText(panel, box.value);
+  lessonPart("link").onclick = () => takeCourseText(panel, box.value) && copyCourseLink(panel);
+  lessonPart("save").onclick = () => saveText("lessons.course", box.value);
+}
+return { openCourseOfAddress, listenToCourses };
+})();
+
+// course/hand_in.js
+const $course_hand_in = (() => {
+const { CLASSICS, LACKING } = $made_classics;
+const { COURSE_TITLE } = $course_course_text;
+const { judged, missingIn, MOST_EVENTS } = $course_lesson;
+const { AddressFault, addressOf, readAddress } = $run_address;
+const { isTaskDone, NO_TASK, verdictOnLacking } = $run_broken;
+const { answerOfWord, exerciseOf, LEVELS, verdictOn } = $run_judged;
+const { eventsAsked, scheduleOfTrace, versionOf } = $run_schedule_text;
+const { Trace } = $run_trace;
+const HAND_IN_TITLE = /^listset-lessons [12]$/;
+
+function handInText(course, student, solutions, otherLines) {
+  const lines = solutions.map(({ name, schedule }) => `${name} ${addressOf(schedule, eventsAsked(schedule))}`);
+  return ["listset-lessons 2", `course ${course}`, `student ${student}`, ...lines, ...otherLines, "end", ""].join("\n");
+}
+
+function unmailed(text) {
+  const isCoded = /=3D/i.test(text); // quoted-printable: a line goes on behind =, and =3D is =
+  const lines = [];
+  let goesOn = false;
+  text.split(/\r\n|\r|\n/).forEach((given, index) => {
+    const bare = given.replace(/[\u200b\ufeff]/g, "").replaceAll("\u00a0", " ").replace(/^[\s>|]+/, "").trimEnd();
+    const line = isCoded ? bare.replace(/=$/, "") : bare;
+    if (goesOn) lines[lines.length - 1].line += line;
+    else lines.push({ line, number: index + 1 });
+    goesOn = isCoded && bare.endsWith("=");
+  });
+  const letterOf = (_, code) => String.fromCharCode(parseInt(code, 16));
+  const decoded = (line) => (isCoded ? line.replace(/=([0-9A-F]{2})/gi, letterOf) : line);
+  return lines.map(({ line, number }) => ({ line: decoded(line).replaceAll("&amp;", "&"), number }));
+}
+
+function textsIn(text) {
+  const found = [];
+  const given = text.split(/\r\n|\r|\n/);
+  for (const { line, number } of unmailed(text)) {
+    const last = found.at(-1);
+    if (line === COURSE_TITLE) found.push({ kind: "course", number, lines: [] });
+    else if (HAND_IN_TITLE.test(line)) found.push({ kind: "hand-in", number, version: Number(line.at(-1)), lines: [] });
+    else if (last?.kind === "hand-in" && !last.isEnded && line === "end") last.isEnded = true;
+    else if (last?.kind === "hand-in" && !last.isEnded && line !== "") last.lines.push({ line, number });
+  }
+  for (const [index, course] of found.entries()) {
+    if (course.kind !== "course") continue;
+    course.text = given.slice(course.number - 1, (found[index + 1]?.number ?? given.length + 1) - 1).join("\n");
+  }
+  return found;
+}
+
+const isBegin = (line) => /^(student|course|judge|break) /.test(line) || /^[a-z][a-z0-9-]* +(\S*#|<?https?:)/.test(line);
+const lacksWords = (line) =>
+  /^judge /.test(line) ? line.split(" ").length < 4 : !/^(student|course) /.test(line) && !line.includes("#");
+const isPiece = (line) => !line.includes(" ") || /^\S*[.,=&]\S* /.test(line);
+
+function readHandIn({ lines, version, isEnded, number }) {
+  const parts = [];
+  const faults = [];
+  for (const given of lines) {
+    const last = parts.at(-1);
+    const isName = /^[a-z][a-z0-9-]*$/.test(given.line) && (last === undefined || !lacksWords(last.line));
+    if (isBegin(given.line) || isName) parts.push({ ...given });
+    else if (last !== undefined && lacksWords(last.line)) last.line += ` ${given.line}`;
+    else if (last !== undefined && isPiece(given.line)) last.line += given.line;
+    else faults.push({ line: given.number, fault: `"${given.line.slice(0, 40)}" is no line of a solution` });
+  }
+  const valueOf = (word) => parts.find(({ line }) => line.startsWith(`${word} `))?.line.slice(word.length + 1) ?? null;
+  if (version === 2 && !isEnded) faults.push({ line: number, fault: 'the text is cut: the line "end" is missing' });
+  const solutions = parts.filter(({ line }) => !/^(student|course) /.test(line));
+  return { course: valueOf("course"), student: valueOf("student"), solutions, faults };
+}
+
+function readSchedule(link) {
+  try {
+    const { text } = readAddress(link.slice(link.indexOf("#")).replace(/>$/, ""));
+    return text === null ? { fault: "the address is not that of a schedule" } : { schedule: text };
+  } catch (fault) {
+    if (!(fault instanceof AddressFault)) throw fault;
+    return { fault: fault.message };
+  }
+}
+
+function judgedPart(ask, lessons, line) {
+  const [word, ...words] = line.split(/ +/);
+  if (word === "judge") return judgedOrder(ask, words);
+  if (word === "break") return judgedBreak(ask, words);
+  const lesson = lessons.find(({ name }) => name === word);
+  const not = (says) => ({ task: lesson?.name ?? null, isSolved: false, says });
+  if (lesson === undefined) return not(`there is no lesson ${JSON.stringify(word.slice(0, 60))}`);
+  if (words.length === 0 || !words[0].includes("#")) return not("the address of a schedule is missing, from # on");
+  if (words.length > 1) return not("something stands behind the address");
+  const { schedule, fault } = readSchedule(words[0]);
+  if (fault !== undefined) return not(fault);
+  const verdict = judged(ask, lesson, schedule);
+  if (!verdict.isSolved) return not(missingIn(verdict));
+  return { task: lesson.name, isSolved: true, says: "", schedule, isVeryAnswer: schedule === lesson.solution };
+}
+
+function judgedOrder(ask, [run = "", level = "", word = "", ...more]) {
+  const task = `judge ${run} ${level}`;
+  const not = (says) => ({ task, isSolved: false, says });
+  if (!Object.hasOwn(LEVELS, level)) return not(`a level is due, one of ${Object.keys(LEVELS).join(", ")}`);
+  if (more.length > 0) return not("something stands behind the order");
+  const { schedule, fault } = run.includes("#") ? readSchedule(run) : scheduleOfExample(ask, run);
+  if (fault !== undefined) return not(fault);
+  const report = ask("listset_replay", schedule);
+  if (report.status !== 0) return not(`the schedule is refused: ${report.text.trim()}`);
+  const answer = answerOfWord(exerciseOf(report.text, level), word);
+  if (answer === null) return not("the order is due, as 0-true,2-true,1-false");
+  const { isRight, says } = verdictOn(ask, answer);
+  return { task, isSolved: isRight === true, says: isRight === true ? "" : says };
+}
+
+function judgedBreak(ask, [name = "", link = "", ...more]) {
+  const task = `break ${name}`;
+  const not = (says) => ({ task, isSolved: false, says });
+  if (!Object.hasOwn(LACKING, name) || name === NO_TASK) return not("there is no such list to break");
+  if (!link.includes("#")) return not("the address of a schedule is due, from # on");
+  if (more.length > 0) return not("something stands behind the address");
+  const { schedule, fault } = readSchedule(link);
+  if (fault !== undefined) return not(fault);
+  if (eventsAsked(schedule) > MOST_EVENTS) return not(`at most ${MOST_EVENTS} events are due`);
+  const verdict = verdictOnLacking(ask, name, schedule);
+  if (!isTaskDone(name, verdict)) return not(verdict.says);
+  return { task, isSolved: true, says: "", schedule, ofExample: exampleBy(ask, name, schedule) };
+}
+
+function exampleBy(ask, name, schedule) {
+  const shown = (example) => {
+    const text = ask("listset_example", example).text;
+    return scheduleOfTrace(new Trace(ask("listset_trace_lacking", name, text).text, versionOf(text)));
+  };
+  return Object.keys(CLASSICS).find((example) => CLASSICS[example].lacks.includes(name) && shown(example) === schedule) ?? null;
+}
+
+function scheduleOfExample(ask, name) {
+  const { status, text } = ask("listset_example", name);
+  return status === 0 ? { schedule: text } : { fault: `there is no example ${JSON.stringify(name.slice(0, 60))}` };
+}
+return { handInText, textsIn, readHandIn, judgedPart };
+})();
+
+// activities/lessons.js
+const $activities_lessons = (() => {
+const { BOOK, BOOK_NAME } = $made_book;
+const { LISTS } = $made_rows;
+const { brokenLines } = $activities_broken_kept;
+const { listenToCourses } = $activities_courses;
+const { JUDGED } = $activities_judging;
+const { KeptLessons, learning } = $activities_kept_lessons;
+const { drawStrip, lessonPart } = $activities_learn_map;
+const { handInText } = $course_hand_in;
+const { conditionTexts, judged, missingIn, MOST_EVENTS, OTHER_SET, triedCourse, unjudged } = $course_lesson;
+const { setAble, setHidden } = $page_dom;
+const { isText, keepWork, keptUnder, works } = $page_kept;
+const { askNow, on, page } = $page_now;
+const { copied } = $page_visit;
+const { forgetBefore, openText, openWork } = $page_work;
+const { escaped, tag } = $run_markup;
+const { eventsAsked, scheduleOfTrace } = $run_schedule_text;
+class LessonsOnPage {
+  constructor() {
+    this.kept = new KeptLessons();
+    this.trace = undefined; // the one that was judged last
+    this.ticks = new Set(); // the conditions that were met since the lesson was begun
+    this.verdict = null;
+    this.listen();
+    lessonPart("student").value = this.kept.student;
+    const text = this.kept.courses.get(this.kept.course) ?? BOOK;
+    const course = triedCourse(askNow, text);
+    this.takeCourse(course.faults.length === 0 ? course : triedCourse(askNow, BOOK));
+  }
+
+  listen() {
+    lessonPart("list").onchange = () => this.choose(this.course.lessons.find(({ name }) => name === lessonPart("list").value));
+    lessonPart("start").onclick = () => this.begin();
+    lessonPart("go-on").onclick = () => openWork(this.ownWork());
+    lessonPart("own").onclick = () => this.open(this.own.solutions.get(this.lesson.name), "Your solution.");
+    lessonPart("open").onclick = () => this.open(this.lesson.solution, "");
+    lessonPart("judge").onclick = () => this.judge();
+    lessonPart("hint").onclick = () => this.tellHint();
+    lessonPart("answer").onclick = () => this.tellAnswer();
+    lessonPart("next").onclick = () => this.goOn();
+    lessonPart("hand-in").onclick = () => this.handIn();
+    lessonPart("student").onchange = () => {
+      this.kept.student = lessonPart("student").value.trim();
+      this.save();
+    };
+    on("shown", () => this.look());
+  }
+
+
+  takeCourse(course) {
+    this.course = course;
+    if (course.name !== BOOK_NAME) this.kept.courses.set(course.name, course.text);
+    this.kept.course = course.name;
+    this.own = this.kept.ofCourse(course.name);
+    const names = [BOOK_NAME, ...[...this.kept.courses.keys()].filter((name) => name !== BOOK_NAME)];
+    lessonPart("course").replaceChildren(...names.map((name) => new Option(name, name)));
+    lessonPart("course").value = course.name;
+    this.choose(course.lessons.find(({ name }) => name === this.own.chosen) ?? course.lessons[0]);
+  }
+
+  choose(lesson) {
+    this.lesson = lesson;
+    this.own.chosen = lesson.name;
+    this.trace = undefined;
+    this.hasAsked = false; // for what is missing, or for the hint: then the answer may be asked for
+    this.ticks.clear();
+    const { title, list, lacks, threads, opening, question, hint, teaches, answer } = lesson;
+    const keys = opening.length === 0 ? "" : `, opens with ${opening.join(", ")}`;
+    const set = `${LISTS[list].name}${lacks === null ? "" : " without one check"}, ${threads} threads${keys}`;
+    lessonPart("title").innerHTML = `${escaped(title)} <small>${set}</small>`;
+    lessonPart("question").textContent = question;
+    lessonPart("hint-fold").textContent = hint;
+    lessonPart("hint").hidden = hint === "";
+    lessonPart("lines").textContent = answer.join(", ");
+    lessonPart("answer").hidden = answer.length === 0;
+    lessonPart("teaches").textContent = teaches;
+    ["hint", "answer"].forEach((name) => this.setFold(name, false));
+    this.look();
+  }
+
+  setFold(name, isOpen) {
+    lessonPart(`${name}-fold`).hidden = !isOpen;
+    lessonPart(name).setAttribute("aria-expanded", String(isOpen));
+  }
+
+  workName() {
+    return this.course.name === BOOK_NAME ? `lesson ${this.lesson.name}` : `lesson ${this.lesson.name} of ${this.course.name}`;
+  }
+
+  ownWork() {
+    const name = this.workName();
+    const isTry = (other) => other === name || (other.startsWith(`${name} `) && /^\d+$/.test(other.slice(name.length + 1)));
+    return [...works.byName.keys()].findLast(isTry) ?? null;
+  }
+
+  ownWorkOf(text) {
+    const name = works.nameOf(text, this.lesson.lacks);
+    return name?.startsWith(this.workName()) ? name : null;
+  }
+
+  open(schedule, told) {
+    openText(schedule, eventsAsked(schedule), works.newName(this.workName()), told, this.lesson.lacks);
+  }
+
+  begin() {
+    this.ticks.clear();
+    keepWork();
+    const isKept = this.ownWork() !== null;
+    this.open(this.lesson.begun, isKept ? "Your try before is kept: Go on with mine leads back to it." : "");
+    forgetBefore(); // Undo stops at the start
+  }
+
+  goOn() {
+    this.choose(this.course.lessons[this.course.lessons.indexOf(this.lesson) + 1]);
+    this.begin();
+    lessonPart("judge").focus();
+  }
+
+  tellHint() {
+    this.hasAsked = true;
+    this.setFold("hint", lessonPart("hint-fold").hidden);
+    this.drawButtons();
+  }
+
+  tellAnswer() {
+    this.setFold("answer", lessonPart("answer-fold").hidden);
+    this.own.looked.add(this.lesson.name);
+    this.trace = undefined;
+    this.look();
+  }
+
+
+  look() {
+    const { trace } = page;
+    if (trace === this.trace) return this.drawButtons();
+    this.trace = trace;
+    const { name, solution } = this.lesson;
+    const schedule = this.isOfLesson(trace) ? scheduleOfTrace(trace) : null;
+    this.verdict = schedule === null ? unjudged(OTHER_SET) : judged(askNow, this.lesson, schedule);
+    for (const { says, isMet } of this.verdict.conditions) if (isMet) this.ticks.add(says);
+    const { solutions, looked } = this.own;
+    this.verdict.isShown = looked.has(name) && schedule === solution && schedule !== solutions.get(name);
+    if (this.verdict.isSolved && !this.verdict.isShown && !solutions.has(name)) this.take(schedule);
+    this.save();
+    this.drawList();
+    this.drawButtons();
+    this.drawVerdict(verdictText(this.verdict, schedule === this.lesson.begun));
+  }
+
+  isOfLesson({ kind, lacks, threads, quota, opening, total, refused }) {
+    const { lesson } = this;
+    const isList = kind === lesson.list && lacks === lesson.lacks;
+    const isSame = isList && threads === lesson.threads && quota === lesson.quota && refused === null;
+    return isSame && total <= MOST_EVENTS && opening.length === lesson.opening.length && opening.join() === lesson.opening.join();
+  }
+
+  take(schedule) {
+    this.own.solutions.set(this.lesson.name, schedule);
+    lessonPart("text").hidden = true;
+    lessonPart("told").textContent = "";
+  }
+
+  judge() {
+    const { verdict } = this;
+    if (verdict.reason !== OTHER_SET) this.hasAsked = true;
+    this.drawButtons();
+    this.drawVerdict(verdict.isSolved ? verdictText(verdict, false) : wrongText(verdict), "wrong");
+  }
+
+  save() {
+    if (this.kept.save()) return;
+    lessonPart("told").textContent = "This browser keeps nothing: hand in before you leave the page.";
+  }
+
+
+  isSolved(name) {
+    return this.own.solutions.has(name);
+  }
+
+  drawList() {
+    const { lessons } = this.course;
+    const textOf = ({ name, title }, index) => `${this.isSolved(name) ? "✓ " : ""}${index + 1} ${title}`;
+    lessonPart("list").replaceChildren(...lessons.map((lesson, index) => new Option(textOf(lesson, index), lesson.name)));
+    lessonPart("list").value = this.lesson.name;
+    drawStrip();
+  }
+
+  drawButtons() {
+    const { lesson, course } = this;
+    const own = this.ownWork();
+    const mine = own === null || works.byName.get(own).text === page.text ? null : own;
+    setHidden(lessonPart("go-on"), mine === null, lessonPart("start"));
+    setHidden(lessonPart("own"), !this.isSolved(lesson.name), lessonPart("start"));
+    setHidden(lessonPart("next"), !this.isSolved(lesson.name) || lesson === course.lessons.at(-1), lessonPart("start"));
+    const isTold = this.isSolved(lesson.name) || this.own.looked.has(lesson.name);
+    setAble("lesson-answer", isTold || this.hasAsked);
+    lessonPart("answer").title = isTold || this.hasAsked ? "" : "after a Check or the hint";
+    lessonPart("teaches-fold").hidden = !isTold || lesson.teaches === "";
+  }
+
+  drawVerdict(text, kind = "") {
+    const isRight = this.verdict.isSolved && !this.verdict.isShown;
+    lessonPart("verdict").className = isRight ? "right" : kind;
+    lessonPart("next").classList.toggle("primary", isRight);
+    lessonPart("judge").classList.toggle("primary", !isRight);
+    const says = conditionTexts(this.lesson);
+    const now = new Set(this.verdict.conditions.filter(({ isMet }) => isMet).map((condition) => condition.says));
+    const lineOf = (said) => {
+      const kind = now.has(said) ? "met" : this.ticks.has(said) ? "was-met" : "unmet";
+      const more = kind === "was-met" ? " <small>(met before, not by this schedule)</small>" : "";
+      return tag("li", { class: kind }, kind === "unmet" ? "○ " : "✓ ", escaped(said), more);
+    };
+    lessonPart("conditions").innerHTML = says.map(lineOf).join("");
+    if (lessonPart("verdict").textContent !== text) lessonPart("verdict").textContent = text; // a reader hears it once
+  }
+
+  async handIn() {
+    const lessons = this.course.lessons.filter(({ name }) => this.isSolved(name));
+    const solutions = lessons.map(({ name }) => ({ name, schedule: this.own.solutions.get(name) }));
+    const orders = Object.values(keptUnder(JUDGED) ?? {}).filter(isText);
+    const broken = brokenLines().map(([, line]) => line);
+    const box = lessonPart("text");
+    box.value = handInText(this.course.name, lessonPart("student").value.trim() || "?", solutions, [...orders, ...broken]);
+    box.hidden = false;
+    box.focus();
+    box.select();
+    const solved = `${solutions.length} solution${solutions.length === 1 ? "" : "s"}`;
+    const count = `${solved}, ${orders.length} judged orders and ${broken.length} broken lists`;
+    const isCopied = await copied(box.value);
+    lessonPart("told").textContent = isCopied ? `The text with ${count} is copied.` : `Copy this text: it has ${count}.`;
+  }
+}
+
+function startLessons() {
+  learning.panel = new LessonsOnPage();
+  listenToCourses(learning.panel);
+}
+
+function wrongText(verdict) {
+  if (verdict.reason === OTHER_SET) return "Nothing is tried yet: press Start over, and go on from there.";
+  const line = verdict.conditions.find(({ isMet }) => !isMet)?.missing ?? null;
+  const missing = missingIn(verdict)?.replace("missing: ", "Missing: ");
+  const parts = [missing, line === null ? "" : `Not there yet: ${line}.`, verdict.deadEnd ?? ""];
+  return parts.filter((part) => part !== "").join(" ");
+}
+
+function verdictText({ isSolved, isShown, reason, conditions }, isStart) {
+  if (isSolved) return isShown ? "This is the answer that was shown. Find another one." : "Solved.";
+  if (reason === OTHER_SET) return "Press Start over. A solution shows all of this:";
+  if (reason !== null) return reason;
+  return isStart || conditions.length === 0 ? "A solution shows all of this:" : "Not solved yet: Check tells what is missing.";
+}
+return { startLessons };
+})();
+
+// data/book_code.js
+const $data_book_code = (() => {
+const CHANGES = ["add", "remove"];
+
+const READS = [
+  { of: ["contains"], text: "contains(key):  no lock, no retry" },
+  { of: ["contains"], text: "  curr = curr.next, from the head", rows: [20] },
+  { of: ["contains"], text: "  while curr.key < key: go on", rows: [21] },
+  { of: ["contains"], text: "  return key is there and unmarked", rows: [22] },
+  { of: ["ceiling"], text: "ceiling(key):" },
+  { of: ["ceiling"], text: "  curr = curr.next, from the head", rows: [23] },
+  { of: ["ceiling"], text: "  while curr.key < key: go on", rows: [24] },
+  { of: ["ceiling"], text: "  if marked: start again; return curr.key", rows: [25] },
+];
+
+const BOOK_CODE = {
+  coarse: [
+    { text: "lock the list", rows: [1] },
+    { text: "pred = head; curr = pred.next", rows: [2] },
+    { text: "while curr.key < key:", rows: [3] },
+    { text: "    pred = curr; curr = curr.next", rows: [4] },
+    { of: ["add"], text: "add, if curr.key ≠ key:" },
+    { of: ["add"], text: "    node = new Node(key, next = curr)", rows: [5, 6] },
+    { of: ["add"], text: "    pred.next = node", rows: [7] },
+    { of: ["remove"], text: "remove, if curr.key = key:" },
+    { of: ["remove"], text: "    pred.next = curr.next", rows: [8, 9] },
+    { text: "unlock the list; return", rows: [10] },
+  ],
+  fine: [
+    { text: "lock head; pred = head", rows: [1] },
+    { text: "curr = pred.next", rows: [2] },
+    { text: "loop: lock curr, pred still locked", rows: [3] },
+    { text: "    if curr.key ≥ key: leave the loop", rows: [4] },
+    { text: "    unlock pred", rows: [5] },
+    { text: "    pred = curr; curr = curr.next", rows: [6] },
+    { of: ["add"], text: "add, if curr.key ≠ key:" },
+    { of: ["add"], text: "    node = new Node(key, next = curr)", rows: [7, 8] },
+    { of: ["add"], text: "    pred.next = node", rows: [9] },
+    { of: ["remove"], text: "remove, if curr.key = key:" },
+    { of: ["remove"], text: "    pred.next = curr.next", rows: [10, 11] },
+    { text: "unlock curr; unlock pred; return", rows: [12, 13] },
+  ],
+  optimistic: [
+    { text: "pred = head; curr = pred.next", rows: [1] },
+    { text: "while curr.key < key:", rows: [2] },
+    { text: "    pred = curr; curr = curr.next", rows: [3] },
+    { text: "lock pred; lock curr", rows: [4, 5] },
+    { text: "validate: walk from the head again", rows: [6] },
+    { text: "    until pred is met, else not valid", rows: [7] },
+    { text: "    pred.next = curr? else not valid", rows: [8] },
+    { of: ["add"], text: "add, if curr.key ≠ key:" },
+    { of: ["add"], text: "    node = new Node(key, next = curr)", rows: [9, 10] },
+    { of: ["add"], text: "    pred.next = node", rows: [11] },
+    { of: ["remove"], text: "remove, if curr.key = key:" },
+    { of: ["remove"], text: "    pred.next = curr.next", rows: [12, 13] },
+    { text: "unlock pred; unlock curr", rows: [14, 15] },
+    { text: "if not valid: start again; return", isPlain: true },
+  ],
+  lazy: [
+    { of: CHANGES, text: "pred = head; curr = pred.next", rows: [1] },
+    { of: CHANGES, text: "while curr.key < key:", rows: [2] },
+    { of: CHANGES, text: "    pred = curr; curr = curr.next", rows: [3] },
+    { of: CHANGES, text: "lock pred; lock curr", rows: [4, 5] },
+    { of: CHANGES, text: "validate: pred unmarked, leads to curr", rows: [6] },
+    { of: CHANGES, text: "    and curr unmarked", rows: [7] },
+    { of: ["add"], text: "add, if curr.key ≠ key:" },
+    { of: ["add"], text: "    node = new Node(key, next = curr)", rows: [8, 9] },
+    { of: ["add"], text: "    pred.next = node", rows: [10] },
+    { of: ["remove"], text: "remove, if curr.key = key:" },
+    { of: ["remove"], text: "    mark curr", rows: [11] },
+    { of: ["remove"], text: "    pred.next = curr.next", rows: [12] },
+    { of: CHANGES, text: "unlock curr; unlock pred", rows: [13, 14] },
+    { of: CHANGES, text: "if not valid: start again; return", isPlain: true },
+    ...READS,
+  ],
+  "lock-free": [
+    { of: CHANGES, text: "find: pred = head; curr = pred.next", rows: [1] },
+    { of: CHANGES, text: "    succ, marked = curr.next", rows: [2] },
+    { of: CHANGES, text: "    marked? CAS pred.next: curr → succ", rows: [3] },
+    { of: CHANGES, text: "    if curr.key < key: go one node on", rows: [4] },
+    { of: ["add"], text: "add, if curr.key ≠ key:" },
+    { of: ["add"], text: "    node = new Node(key, next = curr)", rows: [5, 6] },
+    { of: ["add"], text: "    CAS pred.next: curr → node (retry)", rows: [7] },
+    { of: ["remove"], text: "remove, if curr.key = key:" },
+    { of: ["remove"], text: "    succ = curr.next", rows: [8] },
+    { of: ["remove"], text: "    CAS curr.next: set the mark (retry)", rows: [9] },
+    { of: ["remove"], text: "    CAS pred.next: curr → succ, once", rows: [10] },
+    ...READS,
+  ],
+};
+
+const IDEAS = {
+  coarse: "One lock for the whole list",
+  fine: "A lock in each node, taken hand over hand",
+  optimistic: "Walk without locks, lock two nodes, look again",
+  lazy: "A mark says: removed. Reads take no lock",
+  "lock-free": "No lock at all: compare-and-swap of link and mark",
+};
+return { BOOK_CODE, IDEAS };
+})();
+
+// run/seed.js
+const $run_seed = (() => {
+const { AddressFault } = $run_address;
+const { Trace } = $run_trace;
+const KINDS = ["coarse", "fine", "optimistic", "lazy", "lock-free"];
+const TRIES = 200;
+const MOST_TRIED_CALLS = 8; // of a run with more calls the first is taken
+const MOST_SEEN = 60; // events that are told apart by eye
+
+const seedOf = (kind, number, { threads = 2, calls = 5, keys = 2 } = {}) => `${kind}.${threads}.${calls}.${keys}.${number}`;
+
+function partsOfSeed(seed) {
+  const [kind, ...values] = seed.split(".");
+  const [threads, calls, keys, number] = values.map(Number);
+  return { kind, threads, calls, keys, number };
+}
+
+function scheduleOfSeed(ask, seed) {
+  const { kind, threads, calls, keys, number } = partsOfSeed(seed);
+  const tries = calls > MOST_TRIED_CALLS ? 1 : TRIES;
+  let text = "";
+  for (let tried = 0; tried < tries; tried++) {
+    const answer = ask("listset_gen", [kind, threads, 4, calls, keys, number * TRIES + tried].join("\0"));
+    if (answer.status !== 0) throw new AddressFault(`the address names no run: ${answer.text.trim()}`);
+    text = answer.text;
+    if (isWorthIt(new Trace(ask("listset_trace", text).text))) break;
+  }
+  return joined(text);
+}
+
+function isWorthIt({ calls, changes, total }) {
+  const puts = changes.some(({ put }) => put !== undefined) && changes.some(({ took }) => took !== undefined);
+  const isBeside = (one, other) => one.thread !== other.thread && one.begun < other.ended && other.begun < one.ended;
+  const beside = calls.filter((one) => calls.some((other) => isBeside(one, other)));
+  const isTold = beside.some(({ changes: own, operation, reply }) => !own && (operation === "contains" || reply === "false"));
+  return puts && isTold && total <= MOST_SEEN && calls.every(({ ended }) => ended !== null);
+}
+
+function joined(text) {
+  const lines = [];
+  for (const line of text.trimEnd().split("\n")) {
+    const [thread, steps] = /^go (\d+) (\d+)$/.exec(line)?.slice(1) ?? [];
+    const [before, count] = /^go (\d+) (\d+)$/.exec(lines.at(-1) ?? "")?.slice(1) ?? [];
+    if (thread !== undefined && thread === before) lines[lines.length - 1] = `go ${thread} ${Number(count) + Number(steps)}`;
+    else lines.push(line);
+  }
+  return `${lines.join("\n")}\n`;
+}
+
+function anotherSeed(before, kind = null) {
+  const list = kind ?? KINDS[Math.floor(Math.random() * KINDS.length)];
+  const number = 1 + Math.floor(Math.random() * 9999);
+  const seed = seedOf(list, number);
+  return seed === before ? seedOf(list, (number % 9999) + 1) : seed;
+}
+return { seedOf, partsOfSeed, scheduleOfSeed, anotherSeed };
+})();
+
+// activities/watch.js
+const $activities_watch = (() => {
+const { CLASSICS } = $made_classics;
+const { LISTS } = $made_rows;
+const { IDEAS } = $data_book_code;
+const { byId } = $page_dom;
+const { works } = $page_kept;
+const { askNow, isJudging, page } = $page_now;
+const { openText } = $page_work;
+const { escaped, tag } = $run_markup;
+const { anotherSeed, partsOfSeed, scheduleOfSeed, seedOf } = $run_seed;
+const seeds = { shown: null };
+
+const FIRST = { example: "marked-in-chain", from: 15, to: 20 };
+
+const kindsOfExamples = () => {
+  const kinds = {};
+  for (const option of byId("example-options").children) kinds[option.value] = /\((.+)\)$/.exec(option.textContent)[1];
+  return kinds;
+};
+
+function questionsByList(more = "", isDone = () => false) {
+  const kinds = kindsOfExamples();
+  const columns = Object.entries(LISTS).map(([kind, { name }]) => {
+    const items = Object.keys(kinds).filter((example) => kinds[example] === kind).map((example) => {
+      const here = example === page.example && more === "" ? { "aria-current": "true" } : {};
+      const given = { href: `#example=${example}${more}`, ...(isDone(example) ? { class: "done" } : {}), ...here };
+      return tag("li", {}, tag("a", given, escaped(CLASSICS[example].question), tag("small", {}, example)));
+    });
+    return tag("section", {}, tag("div", {}, tag("h3", {}, name), tag("p", {}, IDEAS[kind])), tag("ul", {}, ...items));
+  });
+  return tag("div", { class: "by-list" }, ...columns);
+}
+
+function seedForm(id, verb) {
+  const options = Object.entries(LISTS).map(([kind, { name }]) => tag("option", { value: kind }, name));
+  const number = `<input id="${id}-number" type="number" min="1" max="999999999" placeholder="any">`;
+  const parts = [
+    tag("label", {}, "list ", tag("select", { id: `${id}-list` }, ...options)),
+    tag("label", {}, "number ", number),
+    tag("button", { id: `${id}-go`, class: "primary" }, verb),
+  ];
+  return tag("div", { class: "start-row" }, ...parts);
+}
+
+function listenToSeedForm(id, more) {
+  byId(`${id}-go`).onclick = () => {
+    const kind = byId(`${id}-list`).value;
+    const number = Number(byId(`${id}-number`).value);
+    location.hash = `#seed=${number > 0 ? seedOf(kind, number) : anotherSeed(seeds.shown, kind)}${more}`;
+  };
+}
+
+const WATCH_HEAD = `<h1>Watch a list at work</h1><p class="lead">Each question is a short run of two or three threads. Step through it,
+  say what happens next, and go another way at any moment.</p>`;
+const WATCH_MORE = `<h2>Another run, as many as you like</h2><p class="lead">A number makes a run, the same for everyone.</p>`;
+
+function drawWatchMap(isBelow = false) {
+  const head = isBelow ? '<h2 class="h1">More questions</h2>' : WATCH_HEAD;
+  const more = tag("div", { class: "of-engine" }, WATCH_MORE, seedForm("watch-seed", "Watch a run"));
+  byId("map-watch").innerHTML = `${head}${questionsByList()}${more}`;
+  listenToSeedForm("watch-seed", "");
+}
+
+
+function openSeed(seed, count) {
+  const text = scheduleOfSeed((...words) => askNow(...words), seed);
+  Object.assign(seeds, { shown: seed, text });
+  openText(text, count, works.newName(`run ${partsOfSeed(seed).number}`));
+}
+
+const seedAddress = (count) => (seeds.shown !== null && page.text === seeds.text ? `#seed=${seeds.shown}&event=${count}` : null);
+
+function showTaskOfWatch() {
+  const isSeed = seedAddress(0) !== null && page.example === "";
+  const more = isJudging() ? "&judge" : "";
+  byId("seed-box").hidden = !isSeed;
+  if (isSeed) drawSeedBox(more);
+  const names = Object.keys(kindsOfExamples());
+  const at = names.indexOf(page.example);
+  const to = (index) => (at >= 0 && names[index] !== undefined ? `#example=${names[index]}${more}` : null);
+  return { before: to(at - 1), all: more === "" ? ["#watch", "All questions"] : ["#judge", "All runs"], next: to(at + 1) };
+}
+
+function drawSeedBox(more) {
+  const { kind, number } = partsOfSeed(seeds.shown);
+  byId("seed-number").textContent = number;
+  if (document.activeElement !== byId("seed-input")) byId("seed-input").value = number;
+  byId("seed-another").href = `#seed=${anotherSeed(seeds.shown, kind)}${more}`;
+  byId("seed-judge").href = `#seed=${seeds.shown}&judge`;
+  byId("seed-judge").hidden = more !== "";
+  byId("seed-open").onclick = () => {
+    const wanted = Number(byId("seed-input").value);
+    if (wanted > 0) location.hash = `#seed=${seedOf(kind, wanted)}${more}`;
+  };
+}
+return { FIRST, questionsByList, seedForm, listenToSeedForm, drawWatchMap, openSeed, seedAddress, showTaskOfWatch };
+})();
+
+// activities/judge_map.js
+const $activities_judge_map = (() => {
+const { JUDGED } = $activities_judging;
+const { listenToSeedForm, questionsByList, seedForm } = $activities_watch;
+const { byId } = $page_dom;
+const { keptUnder } = $page_kept;
+function drawJudgeMap() {
+  const judged = Object.keys(keptUnder(JUDGED) ?? {});
+  const isDone = (example) => judged.some((run) => run.startsWith(`${example} `));
+  byId("map-judge").innerHTML = `<h1>Judge a run yourself</h1><p class="lead">You see a run without its replies. Say what each call
+    answers, and put a point where it takes effect. The proved <code>check</code> judges your order: any order that explains the run
+    is right.</p><h2>A run of its own for everyone</h2>${seedForm("judge-seed", "Judge a run")}<h2>Or one that turns on something</h2>
+    ${questionsByList("&judge", isDone)}`;
+  listenToSeedForm("judge-seed", "&judge");
+}
+return { drawJudgeMap };
+})();
+
+// activities/read.js
+const $activities_read = (() => {
+const { byId } = $page_dom;
+const { escaped, tag } = $run_markup;
+const PAGES = [
+  ["how-it-works.html", "How it works", "The five lists, from one lock to none, each with the runs that show why."],
+  ["classic.html", "The examples", "Eighteen runs with their question, what they turn on, and what goes wrong without it."],
+  ["tables.html", "The tables", "Each list row by row: what a step reads, writes, and where it goes on."],
+];
+const TERMS = {
+  event: "One step of one thread: it reads or writes one word, or begins a call.",
+  schedule: "Who makes the next step, from the first event to the last. It is the whole input of a run.",
+  history: "The calls with their begin and their answer. Two calls that overlap have no order of their own.",
+  "takes effect": "The one moment, between begin and answer, at which a call stands in the order.",
+  order: "The calls one after the other. It explains a run when a plain set, asked in this order, answers the same.",
+  row: "A line of the list's table: what the thread does next. The numbers are those of the tables.",
+  "pred, curr": "What a walk holds: the node behind which it stands, and the next one.",
+  marked: "A node that is removed and may still be in the chain.",
+  quota: "How many keys a thread may put in. Each wants a node of its own; then add answers full.",
+  claim: "A report that may be false. Is there an order, or none?",
+  counting: "Proves that no order explains a report: a key was put in and taken out in numbers that do not fit.",
+  refused: "check names the first call of an order that could not answer so there.",
+};
+
+function drawReadMap() {
+  const cards = PAGES.map(([href, name, says], index) => {
+    const parts = [tag("span", { class: "number" }, index + 1), tag("b", {}, name), tag("small", {}, escaped(says))];
+    return tag("li", {}, tag("a", { href }, ...parts));
+  });
+  const terms = Object.entries(TERMS).map(([term, says]) => `<div><dt>${term}</dt><dd>${escaped(says)}</dd></div>`);
+  const isAlone = document.body.dataset.alone !== undefined; // the page is one file, without the others beside it
+  const pages = isAlone ? "" : tag("ul", { class: "cards" }, ...cards);
+  const words = tag("dl", { class: "words card" }, ...terms);
+  const heads = ["Read", "The words", "What is proved, and what is not"].map((text, at) => tag(at === 0 ? "h1" : "h2", {}, text));
+  byId("map-read").innerHTML = [heads[0], pages, heads[1], words, heads[2]].join("");
+  const box = byId("proved").querySelector("details");
+  const copy = document.createElement("div");
+  copy.className = "proved";
+  copy.innerHTML = box.innerHTML.replace(/<summary>.*?<\/summary>/, "");
+  byId("map-read").append(copy);
+}
+return { drawReadMap };
+})();
+
+// draw/code_column.js
+const $draw_code_column = (() => {
+const { LISTS } = $made_rows;
+const { BOOK_CODE, IDEAS } = $data_book_code;
+const { chipOf, escaped, tag } = $run_markup;
+const KEYWORDS = /\b(while|if|else|return|loop|until|unlock|lock|find|validate|CAS|mark|new|add|remove|contains|ceiling)\b/g;
+
+function linesFor(kind, operations) {
+  const calls = operations.length === 0 ? ["add", "remove", "contains"] : operations;
+  return BOOK_CODE[kind].filter(({ of }) => of === undefined || of.some((name) => calls.includes(name)));
+}
+
+const operationsOf = (trace) => [...new Set(trace.calls.map(({ operation }) => operation))];
+
+function drawLine(line, number, { made, next }) {
+  const { text, rows = [] } = line;
+  const isMade = rows.includes(made);
+  const threads = next.filter(({ row }) => rows.includes(row)).map(({ thread }) => thread);
+  const depth = text.match(/^ */)[0].length;
+  const words = escaped(text.trim()).replace(KEYWORDS, "<b>$1</b>");
+  const kind = ["code-line", rows.length === 0 && !line.isPlain ? "heads" : "", isMade ? "made" : "", threads.length > 0 ? "next" : ""];
+  const names = threads.map((thread) => `t${thread}`).join(" and ");
+  const told = threads.length > 0 ? tag("span", { class: "unseen" }, `, next of ${names}`) : "";
+  return tag(
+    "li",
+    { class: kind.filter((word) => word !== "").join(" "), ...(rows.length > 0 ? { title: `row ${rows.join(", ")} of the table` } : {}) },
+    tag("span", { class: "who", "aria-hidden": "true" }, threads.slice(0, 3).map(chipOf).join("")),
+    tag("code", { style: `padding-left:${depth * 0.45}em` }, words, told),
+  );
+}
+
+function drawCode({ trace, state, event, before }) {
+  const { kind } = trace;
+  const made = event === null || event.deed === "begin" ? null : before.pc;
+  const next = state.threads.map((held, thread) => ({ thread, row: held.pc })).filter(({ row }) => row !== 0);
+  const lines = linesFor(kind, operationsOf(trace));
+  const known = new Set(lines.flatMap(({ rows = [] }) => rows));
+  const lost = next.filter(({ row }) => !known.has(row)).map(({ thread }) => chipOf(thread));
+  const own = lost.length === 0 ? "" : tag("p", { class: "note" }, `${lost.join(" ")} at a step that the whole list has not.`);
+  const lacks = trace.lacks === null ? "" : tag("p", { class: "lacks" }, "The code of the whole list. One check of it is missing here.");
+  const items = lines.map((line, index) => drawLine(line, index + 1, { made, next }));
+  const head = tag("div", { class: "code-head" }, tag("h2", {}, LISTS[kind].name), tag("p", {}, IDEAS[kind]));
+  return `${head}${lacks}${tag("ol", { class: "book-code", "aria-label": `the algorithm of ${LISTS[kind].name}` }, ...items)}${own}`;
+}
+return { drawCode };
+})();
+
+// page/save_picture.js
+const $page_save_picture = (() => {
+const { byId } = $page_dom;
+const { saveText } = $page_files;
+const { isJudging } = $page_now;
+const DRAWN_BY = ["fill", "stroke", "stroke-width", "stroke-dasharray", "fill-opacity", "stroke-opacity", "opacity", "font-family",
+  "font-size", "font-weight", "font-style", "text-anchor", "paint-order", "text-decoration-line"];
+
+function drawnOut(svg) {
+  const copy = svg.cloneNode(true);
+  const parts = [...svg.querySelectorAll("*")];
+  [...copy.querySelectorAll("*")].forEach((part, index) => {
+    const style = getComputedStyle(parts[index]);
+    for (const name of DRAWN_BY) part.style.setProperty(name, style.getPropertyValue(name));
+  });
+  return copy;
+}
+
+function wholePicture() {
+  const places = isJudging() ? ["list", "judge-bars"] : ["list", "calls", "contents"];
+  const drawings = places.map((id) => byId(id).querySelector("svg")).filter((svg) => svg !== null && svg.clientWidth > 0);
+  const boxes = drawings.map((svg) => ({ svg, width: svg.clientWidth, height: svg.clientHeight }));
+  const width = Math.max(...boxes.map((box) => box.width));
+  let y = 0;
+  const placed = boxes.map(({ svg, width: own, height }) => {
+    const copy = drawnOut(svg);
+    Object.entries({ x: 0, y, width: own, height }).forEach(([name, value]) => copy.setAttribute(name, value));
+    y += height + 8;
+    return new XMLSerializer().serializeToString(copy);
+  });
+  const ground = `<rect width="100%" height="100%" fill="${getComputedStyle(document.body).backgroundColor}"/>`;
+  const frame = `width="${width}" height="${y}" viewBox="0 0 ${width} ${y}"`;
+  return `<svg xmlns="http://www.w3.org/2000/svg" ${frame}>${ground}${placed.join("")}</svg>\n`;
+}
+
+const savePicture = () => saveText("page.svg", wholePicture());
+return { wholePicture, savePicture };
+})();
+
+// page/controls.js
+const $page_controls = (() => {
+const { HISTORY_LEFT } = $draw_history;
+const { byId } = $page_dom;
+const { openFile, refreshReport, saveText } = $page_files;
+const { keepUnder, keptUnder } = $page_kept;
+const { toggleKeys, toggleLecture } = $page_keys;
+const { cancelLong } = $page_long_run;
+const { chooseInList } = $page_menu;
+const { page, show, tell } = $page_now;
+const { isAtWork, where } = $page_places;
+const { changeSpeed, goByHand, togglePlay, wantsLessMotion } = $page_play;
+const { savePicture } = $page_save_picture;
+const { showMarks, watchEditor } = $page_view;
+const { copyLink, keepSoon } = $page_visit;
+const { newSchedule, redo, runBox, runWithOpening, undo } = $page_work;
+const { escaped } = $run_markup;
+function clickHistory(event) {
+  const drawn = byId("calls").firstElementChild.getBoundingClientRect();
+  goByHand(page.scale.first - 1 + Math.ceil((event.clientX - drawn.left - HISTORY_LEFT) / page.scale.step));
+}
+
+const tooltipOf = (target) => target.closest("g, svg")?.querySelector(":scope > title")?.textContent ?? "";
+
+function tellTitle(event) {
+  const said = tooltipOf(event.target);
+  if (said !== "") tell(escaped(said));
+}
+
+function listenToDrawings() {
+  byId("turns").onclick = (event) => event.target.dataset.event && goByHand(Number(event.target.dataset.event));
+  byId("list").onclick = tellTitle;
+  byId("history").onclick = (event) => {
+    const said = tooltipOf(event.target);
+    clickHistory(event);
+    tell(escaped(said));
+  };
+  byId("all-threads").onclick = () => {
+    page.allThreads = !page.allThreads;
+    show();
+  };
+  for (const name of ["table-box", "listing-box", "turns-box"]) byId(name).ontoggle = show;
+}
+
+function stopUnable(event) {
+  if (event.target.closest?.('[aria-disabled="true"]') == null) return;
+  event.stopPropagation();
+  event.preventDefault();
+}
+
+function skipToRun() {
+  const first = { map: `#map-${where.activity} a, [data-activity=compare] #sides-turns button`, stage: isAtWork() ? "#moves button" : "#next" };
+  document.querySelector(first[where.screen])?.focus();
+}
+
+function listenToBar() {
+  byId("first").onclick = () => goByHand(0);
+  byId("back").onclick = () => goByHand(page.count - 1);
+  byId("next").onclick = () => goByHand(page.count + 1);
+  byId("last").onclick = () => goByHand(page.trace.total);
+  byId("play").onclick = togglePlay;
+  byId("speed").onchange = changeSpeed;
+  byId("speed").value = wantsLessMotion() ? "slow" : "medium";
+  byId("slider").oninput = () => goByHand(Number(byId("slider").value));
+  byId("keys").onclick = toggleKeys;
+  byId("skip").onclick = skipToRun;
+  byId("lecture").onclick = toggleLecture;
+  byId("link-here").onclick = copyLink;
+  byId("long-cancel").onclick = cancelLong;
+}
+
+function listenToSettings() {
+  const kept = keptUnder(SETTINGS) ?? {};
+  byId("hides").checked = page.hides = kept.hides !== false;
+  byId("single-keys").checked = kept.letters !== false;
+  const keep = () => keepUnder(SETTINGS, { hides: page.hides, letters: byId("single-keys").checked });
+  byId("single-keys").onchange = keep;
+  byId("hides").onchange = () => {
+    page.hides = byId("hides").checked;
+    keep();
+    show();
+  };
+}
+const SETTINGS = "listset-settings";
+
+function listenToWork() {
+  const box = byId("schedule");
+  byId("examples").onchange = () => chooseInList(byId("examples").value);
+  byId("run").onclick = runBox;
+  byId("opening").onchange = runWithOpening;
+  byId("undo").onclick = undo;
+  byId("redo").onclick = redo;
+  byId("link").onclick = copyLink;
+  byId("new").onclick = () => newSchedule(byId("new-list").value, byId("new-threads").value, byId("new-quota").value);
+  box.onscroll = showMarks;
+  watchEditor();
+  box.oninput = () => {
+    showMarks();
+    keepSoon();
+  };
+  box.onkeydown = (event) => {
+    if (event.key === "Enter" && (event.ctrlKey || event.metaKey)) runBox();
+  };
+}
+
+function listenToFiles() {
+  byId("report-box").ontoggle = refreshReport;
+  byId("file").onchange = () => openFile(byId("file").files[0]).then(() => (byId("file").value = ""));
+  byId("save-schedule").onclick = () => saveText("page.schedule", byId("schedule").value);
+  byId("save-trace").onclick = () => saveText("page.trace", page.trace.text);
+  byId("save-picture").onclick = savePicture;
+}
+
+function placeParts() {
+  const narrow = matchMedia("(max-width: 940px)");
+  const place = () => {
+    for (const name of ["schedule-box", "new-box", "files-box", "threads-box", "lesson-goal"]) byId(name).open = !narrow.matches;
+  };
+  narrow.addEventListener("change", place);
+  place();
+}
+
+function placeMoves(isBelow) {
+  const wanted = byId(isBelow ? "moves-wide" : "moves-narrow");
+  if (byId("moves-box").parentElement === wanted) return;
+  const focused = document.activeElement;
+  wanted.append(byId("moves-box"));
+  if (wanted.contains(focused)) focused.focus();
+}
+return { listenToDrawings, stopUnable, listenToBar, listenToSettings, listenToWork, listenToFiles, placeParts, placeMoves };
+})();
+
+// activities/open.js
+const $activities_open = (() => {
+const { TRACES } = $made_traces;
+const { drawBreakMap, openLevel, showTaskOfBreak } = $activities_break_map;
+const { openCompare } = $activities_compare;
+const { openCourseOfAddress } = $activities_courses;
+const { drawJudgeMap } = $activities_judge_map;
+const { beginJudging } = $activities_judging;
+const { learning } = $activities_kept_lessons;
+const { drawLearnMap, drawStrip, openLesson, showTaskOfLearn } = $activities_learn_map;
+const { drawReadMap } = $activities_read;
+const { drawWatchMap, FIRST, openSeed, seedAddress, showTaskOfWatch } = $activities_watch;
+const { drawCode } = $draw_code_column;
+const { placeMoves } = $page_controls;
+const { byId } = $page_dom;
+const { exampleNames, exampleText } = $page_example;
+const { keepWork, works } = $page_kept;
+const { fillWorks, pickExample, pickKept } = $page_menu;
+const { goTo, isJudging, page, tell } = $page_now;
+const { goToPlace, isAtMap, isAtWork, setView, showStage, where } = $page_places;
+const { startPlay, stopPlay, wantsLessMotion } = $page_play;
+const { showMarks } = $page_view;
+const { visit } = $page_visit;
+const { forgetBefore, openText, openWork } = $page_work;
+const { AddressFault, readAddress } = $run_address;
+const { escaped } = $run_markup;
+const MAPS = { watch: drawWatchMap, learn: drawLearnMap, judge: drawJudgeMap, break: drawBreakMap, read: drawReadMap };
+const TASKS = { watch: showTaskOfWatch, learn: showTaskOfLearn, break: showTaskOfBreak, judge: showTaskOfWatch };
+const WANTS_ENGINE = { learn: "a lesson", judge: "runs to judge", break: "a broken list", compare: "two lists side by side" };
+const ALL_QUESTIONS = { before: null, all: ["#watch", "All questions"], next: null };
+
+
+function needEngine(what) {
+  if (page.engine === null) throw new AddressFault(`the address names ${what}, which cannot be run here`);
+}
+
+function showMap(activity) {
+  stopPlay();
+  MAPS[activity]();
+  goToPlace(activity, "map");
+  document.title = `${document.querySelector(`nav [data-to=${activity}]`).firstChild.textContent.trim()}: list sets, step by step`;
+  scrollTo(0, 0);
+  return true;
+}
+
+function openPlace([activity, value], { text, event }) {
+  if (activity in WANTS_ENGINE) needEngine(WANTS_ENGINE[activity]);
+  if (activity === "compare") return openCompare(null);
+  if (value === "") return showMap(activity);
+  goToPlace(activity, "stage");
+  return activity === "learn" ? openLesson(value, text, event) : openLevel(Number(value));
+}
+
+function openSeedOfAddress({ seed, event, isJudged }) {
+  needEngine("a run by its number");
+  openSeed(seed, event);
+  if (isJudged) beginJudging();
+  return true;
+}
+
+function openRun(wanted) {
+  if (wanted.example !== null && !exampleNames().includes(wanted.example)) {
+    throw new AddressFault(`the address names the example "${wanted.example}", which there is not`);
+  }
+  const isOpened = openVisited(wanted);
+  if (wanted.isJudged) beginJudging();
+  return isOpened;
+}
+
+async function openAddress() {
+  try {
+    const wanted = readAddress(location.hash);
+    setView(wanted.view);
+    if (wanted.course !== null) return await openCourseOfAddress(wanted.course);
+    if (wanted.place !== null) return openPlace(wanted.place, wanted);
+    if (wanted.sides !== null) return openSidesOfAddress(wanted.sides);
+    if (wanted.example === null && wanted.text === null && wanted.seed === null) return false;
+    leaveMapOfRuns();
+    return wanted.seed !== null ? openSeedOfAddress(wanted) : openRun(wanted);
+  } catch (fault) {
+    if (!(fault instanceof AddressFault)) throw fault;
+    tell(`<b class="bad">${escaped(fault.message)}</b>`);
+    return false;
+  }
+}
+
+function openSidesOfAddress(sides) {
+  needEngine("two lists side by side");
+  return openCompare(sides);
+}
+
+function leaveMapOfRuns() {
+  if (!isAtMap()) return;
+  drawWatchMap(true);
+  goToPlace(where.activity, "stage");
+}
+
+function openVisited({ example, text, event, lacks }) {
+  const wanted = example === null ? text : exampleText(example);
+  if (example === null && page.engine === null) throw new AddressFault("the address names a schedule, which cannot be run here");
+  if (wanted === page.text && page.isRun && page.example === (example ?? "") && page.lacks === lacks) goTo(event);
+  else if (example !== null) pickExample(example, event);
+  else openLink(text, event, lacks);
+  return true;
+}
+
+function openLink(text, event, lacks) {
+  const own = works.nameOf(text, lacks);
+  const kept = works.byName.size;
+  if (own === null) {
+    const told = "Opened from a link. What you change of it is kept under a name of its own";
+    const others = kept === 0 ? "" : `; your ${kept} other works stay under Open`;
+    openText(text, event, works.newName("from a link"), `${told}${others}.`, lacks);
+  } else {
+    openText(text, event, own, "", lacks);
+    page.begun = "";
+  }
+}
+
+async function followAddress(event) {
+  clearTimeout(visit.timer);
+  keepWork();
+  const { state } = event;
+  if (typeof state?.text === "string") openVisited({ example: null, text: state.text, event: state.count, lacks: state.lacks });
+  else await openAddress();
+  visit.text = page.text;
+}
+
+
+function showBeforehand() {
+  works.load();
+  const [, name, event] = /^#example=([a-z-]+)(?:&event=(\d+))?$/.exec(location.hash) ?? [];
+  const isPlain = location.hash === "" && works.byName.size === 0;
+  if (isPlain) pickKept(FIRST.example, FIRST.from);
+  else if (Object.hasOwn(TRACES, name)) pickKept(name, Number(event ?? 0));
+  else return false;
+  document.body.dataset.ready = "soon";
+  return true;
+}
+
+function firstVisit() {
+  goToPlace("watch", "stage");
+  const isTold = byId("told").textContent !== "";
+  const isMoved = page.example === FIRST.example && page.count !== FIRST.from; // by the reader, while the engine came
+  pickExample(FIRST.example, isMoved ? page.count : FIRST.from);
+  if (isMoved) return;
+  if (isTold || wantsLessMotion()) goTo(FIRST.to);
+  else startPlay(FIRST.to);
+}
+
+async function openFirst() {
+  works.load();
+  fillWorks();
+  const isNamed = await openAddress();
+  visit.isRead = true;
+  const said = byId("told").innerHTML;
+  const last = [...works.byName.keys()].at(-1);
+  if (!isNamed && last !== undefined && page.engine !== null) openWork(last);
+  else if (!isNamed) firstVisit();
+  else bringBack();
+  if (!isNamed) tell(said);
+  forgetBefore();
+}
+
+function bringBack() {
+  const kept = works.byName.get(page.name);
+  if (kept === undefined || kept.text !== page.text || kept.box === kept.text) return;
+  byId("schedule").value = kept.box;
+  showMarks();
+}
+
+
+function showPlace(moment) {
+  showStage();
+  byId("book-code").innerHTML = drawCode(moment);
+  if (isAtMap()) return;
+  if (where.activity === "learn") drawStrip();
+  const task = TASKS[where.activity]?.() ?? ALL_QUESTIONS;
+  for (const name of ["before", "next"]) {
+    byId(`task-${name}`).hidden = task[name] === null;
+    if (task[name] !== null) byId(`task-${name}`).href = task[name];
+  }
+  [byId("task-all").hash, byId("task-all").textContent] = task.all;
+  byId("moves-title").textContent = isAtWork() ? "Your move" : "Go another way";
+  placeMoves(isAtWork());
+  markExample();
+}
+
+function markExample() {
+  const here = `#example=${page.example}`;
+  for (const link of byId("map-watch").querySelectorAll("a[href^='#example']")) {
+    if (link.getAttribute("href") === here) link.setAttribute("aria-current", "true");
+    else link.removeAttribute("aria-current");
+  }
+}
+
+function addressHere(address) {
+  if (where.activity === "learn" && address !== null) return `#learn=${learning.panel.lesson.name}&${address.slice(1)}`;
+  const own = page.lacks === null && page.example === "" ? (seedAddress(page.count) ?? address) : address;
+  return own === null || !isJudging() ? own : `${own}&judge`;
+}
+return { openVisited, followAddress, showBeforehand, openFirst, showPlace, addressHere };
+})();
+
+// main.js
+const $main = (() => {
+const { listenToBreaking, showBreaking } = $activities_break_level;
+const { fillBreaks } = $activities_break_map;
+const { drawCompare, listenToSides, pressForSides, showSides } = $activities_compare;
+const { drawJudging, endJudging, listenToJudging } = $activities_judging;
+const { drawStrip } = $activities_learn_map;
+const { startLessons } = $activities_lessons;
+const { addressHere, followAddress, openFirst, showBeforehand, showPlace } = $activities_open;
+const { drawReadMap } = $activities_read;
+const { drawWatchMap } = $activities_watch;
+const { Engine } = $engine_engine;
+const { listenToBar, listenToDrawings, listenToFiles, listenToSettings, listenToWork, placeParts, stopUnable } = $page_controls;
+const { byId } = $page_dom;
+const { fillExamples } = $page_example;
+const { refreshReport } = $page_files;
+const { keysOf, pressKey } = $page_keys;
+const { fillWorks, showQuestion } = $page_menu;
+const { drawMovesNow } = $page_moves;
+const { on, page, show, takeTrace } = $page_now;
+const { showBar, showMarks, showRun } = $page_view;
+const { keepNow, keepSoon, visit } = $page_visit;
+const { showHeader } = $page_work;
+const { Trace } = $run_trace;
+const EMPTY_TRACE = "listset-trace 1\nlist lazy\nthreads 2\nquota 4\nend\n";
+
+function listen() {
+  listenToBar();
+  listenToDrawings();
+  listenToWork();
+  listenToFiles();
+  listenToSettings();
+  listenToJudging();
+  listenToBreaking();
+  listenToSides();
+  placeParts();
+  keysOf.compare = pressForSides;
+  visit.naming = addressHere;
+  document.addEventListener("click", stopUnable, true);
+  document.addEventListener("keydown", pressKey);
+  window.addEventListener("resize", show);
+  window.addEventListener("popstate", followAddress);
+  window.addEventListener("pagehide", keepNow);
+}
+
+function connect() {
+  on("shown", showBar, showQuestion, showBreaking, showRun, drawJudging, drawMovesNow, showMarks, keepSoon, showPlace, showSides);
+  on("taken", endJudging, showHeader);
+  on("ran", showMarks, keepSoon, refreshReport);
+  on("kept", fillWorks);
+}
+
 function tellNoEngine(cause) {
   document.body.classList.add("no-engine");
   byId("no-engine").hidden = false;
@@ -248,19 +8512,42 @@ function tellNoEngine(cause) {
   byId("schedule").readOnly = true;
 }
 
-async function startPage() {
-  listen();
-  takeTrace(new Trace(EMPTY_TRACE), 0, "");
-  showBeforehand();
+async function startEngine() {
   try {
     page.engine = await Engine.start();
   } catch (fault) {
     tellNoEngine(fault.message);
   }
-  fillExamples();
-  if (page.engine !== null) startOthers();
-  await openFirst();
-  document.body.dataset.ready = "yes";
 }
 
-startPage();
+function fillMaps() {
+  fillExamples();
+  if (page.engine !== null) {
+    fillBreaks();
+    startLessons();
+    drawStrip();
+  }
+  drawWatchMap(true);
+  drawReadMap();
+  drawCompare();
+}
+
+async function startPage() {
+  connect();
+  listen();
+  if (!showBeforehand()) takeTrace(new Trace(EMPTY_TRACE), 0, "");
+  await startEngine();
+  fillMaps();
+  try {
+    await openFirst();
+  } finally {
+    document.body.dataset.ready = "yes";
+  }
+}
+
+if (typeof document !== "undefined") startPage(); // in node there is none
+return {  };
+})();
+
+return Object.assign({}, $made_classics, $made_rows, $page_dom, $run_faults, $run_markup, $run_trace, $run_judged, $run_schedule_text, $run_state, $run_sentences, $page_now, $page_kept, $activities_broken_kept, $data_levels, $made_traces, $page_example, $engine_engine, $engine_worker, $page_long_run, $page_play, $run_broken, $page_run_text, $draw_glide, $draw_history, $draw_list, $made_code, $draw_listing, $draw_room, $draw_table, $draw_threads, $page_places, $page_view, $run_moments, $course_goal_words, $course_course_text, $run_draft, $course_lesson, $page_work, $page_menu, $run_address, $activities_break_map, $draw_judged, $activities_judging, $activities_break_level, $page_steps, $page_moves, $page_keys, $page_visit, $run_sides, $activities_compare, $made_book, $activities_kept_lessons, $activities_learn_map, $course_course_link, $run_check_trace, $page_files, $activities_courses, $course_hand_in, $activities_lessons, $data_book_code, $run_seed, $activities_watch, $activities_judge_map, $activities_read, $draw_code_column, $page_save_picture, $page_controls, $activities_open);
+})();

@@ -1,6 +1,9 @@
 // Which labels of registers and which nodes an arrow of a drawn list crosses: by the numbers in the drawing.
 "use strict";
 
+const { inPage } = require("../in_node.js");
+
+const SIGN_WIDTH = inPage("SIGN_WIDTH");
 const LABEL_HEIGHT = 12; // above the line on which it is written; below it are 3
 const CURVE_POINTS = 24;
 
@@ -58,3 +61,5 @@ function crossedLabels(drawing) {
     x > Number(left) && x < Number(left) + SIGN_WIDTH * text.length && y > Number(line) - LABEL_HEIGHT && y < Number(line) + 3;
   return labels.filter((found) => arrows.some((point) => isIn(point, found))).map((found) => found[3]);
 }
+
+module.exports = { crossedLabels, crossedNodes };

@@ -4,11 +4,8 @@
 
 const fs = require("fs");
 const path = require("path");
-const { inPage, loadScripts, startedEngine } = require("../in_node.js");
+const { inPage, startedEngine } = require("../in_node.js");
 
-const SCRIPTS = ["rows", "classics", "trace", "check_trace", "schedule_text", "state", "address", "svg", "draw_history",
-  "sentences", "draw_list", "judge_answer", "break_it", "run", "goal_words", "lesson_text", "judge_lesson", "hand_in", "files"];
-loadScripts(...SCRIPTS.map((name) => `${name}.js`));
 const LACKING = inPage("LACKING");
 const NAMES = Object.keys(LACKING);
 const TOP = path.join(__dirname, "..", "..");

@@ -4,8 +4,11 @@
 const TEXT = 4.5;
 const EDGE = 3;
 const GROUNDS_OF = {
-  ink: ["paper", "wash", "press", "now", "new", "bad-wash"],
-  soft: ["paper", "wash", "now"],
+  ink: ["paper", "wash", "press", "now", "new", "bad-wash", "ground", "go-wash", "made"],
+  soft: ["paper", "wash", "now", "ground", "press"],
+  go: ["paper", "go-wash"],
+  wait: ["wait-wash", "paper"],
+  paper: ["go", "ink"],
   pale: ["paper", "wash", "now"],
   bad: ["paper", "wash", "now"],
 };
@@ -75,3 +78,5 @@ function contrastsInBars(sheet, scheme, colours) {
     return texts.flatMap((text) => grounds.map((ground) => inBar(text, ground)));
   });
 }
+
+module.exports = { contrastsOf };

@@ -4,13 +4,12 @@
 const fs = require("fs");
 const path = require("path");
 const vm = require("vm");
+const { inPage } = require("../in_node.js");
 
 const folder = path.dirname(__dirname);
-const PARTS = ["engine", "rows", "classics", "calls", "trace", "check_trace", "schedule_text", "state", "tests/cases"];
-for (const file of PARTS.map((part) => `${part}.js`)) {
-  vm.runInThisContext(fs.readFileSync(path.join(folder, file), "utf8"), { filename: file });
-}
-const inPage = (words) => vm.runInThisContext(words);
+const run = (file) => vm.runInThisContext(fs.readFileSync(path.join(folder, file), "utf8"), { filename: file });
+run("engine.js");
+run("tests/cases.js");
 
 function check(result, name, isGood) {
   if (isGood) result.passed++;
@@ -56,9 +55,9 @@ function keysAtLast(trace) {
 async function main() {
   const cases = JSON.parse(fs.readFileSync(process.argv[2], "utf8"));
   const engine = await inPage("Engine").start();
-  const result = await inPage("compared")(engine, cases);
+  const result = await vm.runInThisContext("compared")(engine, cases);
   const module = fs.readFileSync(path.join(folder, "listset.wasm")).toString("base64");
-  check(result, "engine.js has the bytes of listset.wasm", inPage("ENGINE") === module);
+  check(result, "engine.js has the bytes of listset.wasm", vm.runInThisContext("ENGINE") === module);
   checkTraces(result, engine, cases);
   process.stdout.write(JSON.stringify(result));
 }

@@ -252,6 +252,7 @@ const PARTS = {
   "broken lists": driveBreaking,
   views: driveViews,
   "a student's work": driveWork,
+  "places and addresses": drivePlaceForms,
   "the same on a narrow screen": () => onScreen(390, 844, driveNarrow),
   "and on a wide one": () => onScreen(1920, 1080, driveWide),
   "a million events": driveMillion,
@@ -298,7 +299,7 @@ async function onScreen(width, height, deed) {
 // Gives the page another size, and waits until it has placed its parts.
 async function resize(width, height) {
   Object.assign(frame, { width, height });
-  const place = width <= 940 ? "moves-narrow" : "moves-wide";
+  const place = inPage("isAtWork()") ? "moves-wide" : "moves-narrow";
   await until(() => part("moves-box").parentElement.id === place);
   await sleep(200);
 }

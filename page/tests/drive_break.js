@@ -35,6 +35,7 @@ function driveBreaking() {
   const names = inPage("Object.keys(LACKING)");
   check("there is a way to break each", names.length === 14 && [...names].sort().join() === Object.keys(DEEDS).sort().join());
   for (const name of names) driveBreak(name);
+  driveHints();
   driveDoubt();
   driveBrokenExample();
   driveKeptBroken();
@@ -46,22 +47,40 @@ function driveBreaking() {
 // Nothing tells what the list lacks before it is broken; then the verdict and the departure do.
 function driveBreak(name) {
   pick(`break: ${name}`);
-  check(`${name} is opened: ${breakText("title")}`, breakText("title").endsWith(" lacks one check:") && !part("break-box").hidden);
+  check(`${name} is opened: ${breakText("title")}`, /^(Level|To think)/.test(breakText("title")) && !part("break-box").hidden);
   const shown = ["break-box", "title", "source", "told"].map((id) => part(id).innerText).join(" ") + inPage("ownAddress()");
   check(`${name} is not named: ${shown}`, !shown.toLowerCase().split(/[^a-z-]+/).includes(name));
-  check(`${name} begins whole: ${breakText("verdict")}`, breakText("verdict") === "Explained: this schedule does not break it.");
+  check(`${name} begins whole: ${breakText("verdict")}`, breakText("verdict") === "Nothing has answered yet.");
   check("its departure is not told", part("break-departs").hidden);
   for (const deed of DEEDS[name].split(", ")) doDeed(deed);
   const isCounted = !inPage("UNCOUNTED").includes(name);
-  const wanted = isCounted ? "Broken: " : "Not by its points: ";
+  const wanted = isCounted ? "Broken!" : "Refused by its points";
   check(`${name}: ${breakText("verdict")}`, breakText("verdict").startsWith(wanted) && textOf("fault") === "");
+  if (name === "mark-in-contains") return;
+  check("it is asked first", part("break-departs").hidden);
+  const word = inPage(`wordOf(${JSON.stringify(name)})`);
+  const option = [...part("break-options").children].find((one) => one.textContent === word);
+  option.click();
   check(`${name} departs: ${textOf("break-departs")}`, !part("break-departs").hidden && breakText("here") !== breakText("whole"));
   part("break-event").click();
   check("one can go there", textOf("where").startsWith(`${breakText("event")} of `));
   const line = breakText("line");
   check(`${name} is kept: ${line}`, name === "mark-in-contains" ? line === "" : line.includes(`: break ${name} #list=`));
   part("undo").click();
-  check(`${name}: a deed before it: ${breakText("verdict")}`, !isCounted || !breakText("verdict").startsWith("Not"));
+  check(`${name}: a deed before it: ${breakText("verdict")}`, !isCounted || !breakText("verdict").startsWith("Refused"));
+}
+
+// Three hints, one by one, and no more.
+function driveHints() {
+  pick("break: second-walk");
+  const hints = part("break-hints");
+  for (let count = 0; count < 3; count++) {
+    check(`${count} hints are told`, hints.children.length === count && textOf("break-hint") === `Hint ${count + 1} of 3`);
+    part("break-hint").click();
+  }
+  check("there are no more", hints.children.length === 3 && textOf("break-hint") === "No more hints" && !isAble("break-hint"));
+  pick("break: same-node");
+  check("another level begins without", hints.children.length === 0 && isAble("break-hint"));
 }
 
 // "Not by its points" opens Judge yourself with this report: another order may be right, and that none is right is not proved.
@@ -87,8 +106,9 @@ function driveBrokenExample() {
   part("without-box").open = true;
   part("see-broken").click();
   const verdict = breakText("verdict");
-  check(`the run without the check: ${verdict}`, verdict.startsWith("Broken: 5 was put in once and never taken out"));
-  check("it can be stepped", textOf("where") === "event 34 of 34" && inPage("page.trace.lacks") === "second-walk");
+  check(`the run without the check is not told: ${verdict}`, verdict === "Step on, and look.");
+  const isBefore = / of 34$/.test(textOf("where")) && textOf("where") !== "event 34 of 34";
+  check("it can be stepped", isBefore && inPage("page.trace.lacks") === "second-walk");
   pick("behind-the-walk");
   check("an example that shows no check offers none", part("see-broken").hidden);
 }
@@ -105,13 +125,13 @@ function driveLackingLesson() {
   for (const deed of DEEDS["second-lock"].split(", ")) doDeed(deed);
   check(`it is solved: ${textOf("lesson-verdict")}`, textOf("lesson-verdict") === "Solved.");
   pick("break: lock");
-  check("another list is not the lesson's", textOf("lesson-verdict").startsWith("Press Start."));
+  check("another list is not the lesson's", textOf("lesson-verdict").startsWith("Press Start over."));
   typeChoice(part("lesson-course"), inPage("BOOK_NAME"));
 }
 
 // What was broken has a tick, is handed in, and its address opens it again without a name.
 function driveKeptBroken() {
-  const options = [...part("break-options").children].filter((option) => option.textContent.startsWith("✓ "));
+  const options = [...part("break-options-list").children].filter((option) => option.textContent.startsWith("✓ "));
   check(`so many have a tick: ${options.length}`, options.length === 13);
   part("lesson-hand-in").click();
   const handed = part("lesson-text").value.split("\n").filter((line) => line.startsWith("break "));
@@ -123,5 +143,5 @@ function driveKeptBroken() {
   pick("snip");
   const { text, event, lacks } = inPage(`readAddress(${JSON.stringify(address)})`);
   inPage(`openVisited({ example: null, text: ${JSON.stringify(text)}, event: ${event}, lacks: ${JSON.stringify(lacks)} })`);
-  check("and opens it", inPage("page.trace.lacks") === "mark" && breakText("verdict").startsWith("Broken: "));
+  check("and opens it", inPage("page.trace.lacks") === "mark" && breakText("verdict") === "Broken, as shown.");
 }

@@ -18,6 +18,7 @@ function driveExamplesLess() {
 // Loads the page anew in a browser that refuses to compile the module.
 async function loadWithoutEngine() {
   const before = frame.contentDocument;
+  frame.contentWindow.history.replaceState(null, "", "#example=failed-tries&event=0");
   frame.contentWindow.location.reload();
   while (frame.contentDocument === before || frame.contentDocument === null) await sleep(0);
   frame.contentWindow.WebAssembly.compile = () => Promise.reject(new Error("WebAssembly is turned off"));
@@ -28,7 +29,7 @@ async function loadWithoutEngine() {
 // No button stands there that would do nothing; what is there does what it says.
 function driveLeftOut() {
   for (const details of frame.contentDocument.querySelectorAll("details")) details.open = true;
-  const gone = ["lesson-box", "judge-begin", "moves-box", "run", "opening", "new-box", "report-part", "sides-box"];
+  const gone = ["lesson-box", "judge-begin", "moves-box", "run", "opening", "new", "report-box", "sides-box", "nav-learn", "nav-break"];
   check(`what needs the engine is not there: ${gone.filter(isSeen)}`, !gone.some(isSeen));
   const there = ["examples", "bar", "list", "history", "order", "threads", "listing", "table", "schedule", "file", "save-trace"];
   check(`the rest is: ${there.filter((name) => !isSeen(name))}`, there.every(isSeen));

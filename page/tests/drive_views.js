@@ -3,19 +3,24 @@
 
 const isSeen = (id) => part(id).getClientRects().length > 0;
 
-// Controls, list and history of an example stand on one screen, at any of its events.
+// Controls, list and history of an example stand on one screen, at any of its events, and the controls at one height.
 function driveOneScreen() {
   const below = [];
+  const moved = [];
   lessonPart("box").open = false;
   for (const name of inPage("exampleNames()")) {
     pick(name);
+    const tops = new Set();
     for (let count = 0; count <= inPage("page.trace.total"); count++) {
       goToEvent(count);
+      tops.add(Math.round(part("bar").getBoundingClientRect().top + frame.contentWindow.scrollY));
       frame.contentWindow.scrollTo(0, 0);
-      const bottom = Math.max(...["history", "moves-box"].map((id) => part(id).getBoundingClientRect().bottom));
+      const bottom = Math.max(...["calls"].map((id) => part(id).getBoundingClientRect().bottom));
       if (bottom > frame.contentWindow.innerHeight) below.push(`${name}, event ${count}: ${bottom}`);
     }
+    if (tops.size > 1) moved.push(`${name}: ${[...tops]}`);
   }
+  check(`controls that jump: ${moved}`, moved.length === 0);
   check(`below the screen: ${below.slice(0, 5)}`, below.length === 0);
 }
 
@@ -43,7 +48,7 @@ async function driveViews() {
   await showView("#example=snip&event=16&view=history", "event 16 ");
   check("the history alone", !isSeen("list") && isSeen("calls"));
   await showView("#example=snip&event=12", "event 12 ");
-  check("and all again", isSeen("list") && isSeen("calls") && isSeen("lessons"));
+  check("and all again", isSeen("list") && isSeen("calls") && isSeen("top"));
   drivePicture();
   driveHiding();
   if (frame.clientWidth === 1300) driveOneScreen();
@@ -124,7 +129,7 @@ function driveSides() {
   frame.contentWindow.location.hash = "";
   inPage("shownSides").sides = null;
   part("sides-box").open = false;
-  inPage("openSides({ sides: 'coarse.lazy', calls: '0.add.5,0.remove.5,1.contains.5', turns: '0.0' })");
+  inPage("openCompare(readAddress('#sides=coarse.lazy&calls=0.add.5,0.remove.5,1.contains.5&turns=0.0').sides)");
   const turn = (thread) => part("sides-turns").querySelector(`[data-thread="${thread}"]`);
   check("two lists are shown", part("sides-pictures").querySelectorAll("section").length === 2);
   check("at the turns of the address", textOf("sides-where") === "turn 2 of 2");
@@ -185,6 +190,6 @@ function driveHeight() {
   check(`no fold is open on a narrow screen, but ${open}`, open.length === 0);
   const isFinger = frame.contentWindow.matchMedia("(pointer: coarse)").matches;
   const height = documentElement.scrollHeight;
-  check(`the page is ${height} pixels tall`, height <= (isFinger ? 1800 : 1600));
+  check(`the page is ${height} pixels tall`, height <= (isFinger ? 2600 : 2300));
   check("and not wider than the screen", documentElement.scrollWidth <= documentElement.clientWidth);
 }

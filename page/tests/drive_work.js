@@ -272,30 +272,10 @@ async function driveLabels() {
   check(`a link: ${told()}`, /^(Copy this link|The link is copied): .*#example=marked-in-chain&event=23$/.test(told()));
 }
 
-// What the lessons use of the page.
-function driveInterface() {
-  inPage("globalThis.shows = 0, thePage.addEventListener('shown', () => shows++)");
-  const text = [...TWO_ADDS, ""].join("\n");
-  inPage(`thePage.openText(${JSON.stringify(text)}, 13)`);
-  check("a text is opened at an event", textOf("where") === "event 13 of 16" && inPage("thePage.currentEvent()") === 13);
-  check("its text", inPage("thePage.currentText()") === text);
-  check("its trace", inPage("thePage.currentTrace().calls.length") === 2);
-  check("it was drawn once", inPage("shows") === 1);
-  press("End");
-  check("and again", inPage("shows") === 2);
-  const address = inPage("thePage.addressOf(thePage.currentText(), 13)");
-  check(`its address: ${address}`, address === "#list=lazy&threads=2&quota=4&s=b0.add.5,g0.11,b1.add.7,g1.3&event=13");
-  check("the engine is asked", inPage("thePage.isAble() && thePage.ask('listset_replay', thePage.currentText()).status") === 0);
-  runSchedule([...TWO_ADDS, "go 1"]);
-  check("a refused text is not the one that is shown", inPage("thePage.currentText()") === "" && inPage("shows") === 2);
-  part("undo").click();
-  check("undo leads back", inPage("thePage.currentText()") === text);
-}
-
 function drivePlaces() {
-  const isNarrow = frame.clientWidth <= 940;
+  const isAtWork = inPage("isAtWork()");
   const where = part("moves-box").parentElement.id;
-  check(`the steps stand in ${where}`, where === (isNarrow ? "moves-narrow" : "moves-wide"));
+  check(`the steps stand in ${where}`, where === (isAtWork ? "moves-wide" : "moves-narrow"));
   const wide = frame.contentDocument.documentElement;
   check("nothing is wider than the page", wide.scrollWidth <= wide.clientWidth);
   part("lesson-box").open = part("table-box").open = true;
@@ -354,7 +334,6 @@ async function driveWork() {
   driveLimit();
   await drivePlay();
   await driveTold();
-  driveInterface();
   drivePlaces();
   await driveForEveryone();
 }

@@ -5,10 +5,15 @@ const place = location.search.slice(1); // where the results are taken
 const post = (told) => fetch(place, { method: "POST", mode: "no-cors", body: JSON.stringify(told) });
 const frame = document.getElementById("page");
 const result = { passed: 0, failed: [] };
-const inPage = (words) => frame.contentWindow.eval(words);
 const part = (id) => frame.contentDocument.getElementById(id);
 const textOf = (id) => part(id).textContent;
 const sleep = (milliseconds) => new Promise((done) => setTimeout(done, milliseconds));
+
+// What some words mean in the page: an expression of the names that its modules export.
+function inPage(words) {
+  const names = frame.contentWindow.eval("listsets");
+  return new frame.contentWindow.Function(...Object.keys(names), `return (${words});`)(...Object.values(names));
+}
 
 function check(name, isGood) {
   if (isGood) result.passed++;

@@ -6,11 +6,8 @@ const { spawnSync } = require("child_process");
 const fs = require("fs");
 const os = require("os");
 const path = require("path");
-const { inPage, loadScripts, startedEngine } = require("../in_node.js");
+const { inPage, startedEngine } = require("../in_node.js");
 
-const SCRIPTS = ["rows", "classics", "trace", "schedule_text", "state", "address", "svg", "draw_history", "run", "goal_words",
-  "lesson_text", "judge_lesson", "judge_answer", "break_it", "hand_in", "book"];
-loadScripts(...SCRIPTS.map((name) => `${name}.js`));
 const [textsIn, readHandIn, handInText, triedCourse] = ["textsIn", "readHandIn", "handInText", "triedCourse"].map(inPage);
 const PAGE = path.join(__dirname, "..");
 const BOOK = path.join(PAGE, "book.course");
@@ -179,7 +176,7 @@ goal
   const bad = said(folder, own.replace("go 0 11", "go 0 12"));
   check(
     `its answer is refused: ${bad.lines}`,
-    bad.status === 1 && bad.lines[0].includes("line 3: first: its answer does not solve it: Line 6"),
+    bad.status === 1 && bad.lines[0].includes('line 12: first: its answer is refused at "go 0 12": the thread has no call open'),
   );
   const handed = "listset-lessons 2\ncourse Mine\nstudent Ada\nfirst #list=lazy&threads=2&quota=4&s=b0.add.5,g0.11&event=12\nend\n";
   const both = said(folder, own, handed);

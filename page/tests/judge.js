@@ -2,10 +2,8 @@
 // checks passed, and what failed, as JSON.
 "use strict";
 
-const { inPage, loadScripts, startedEngine } = require("../in_node.js");
+const { inPage, startedEngine } = require("../in_node.js");
 
-const SCRIPTS = ["rows", "trace", "schedule_text", "state", "address", "svg", "draw_history", "sentences", "judge_answer", "sides"];
-loadScripts(...SCRIPTS.map((name) => `${name}.js`));
 const [exerciseOf, answerOfWord, wordOfAnswer, verdictOn] = ["exerciseOf", "answerOfWord", "wordOfAnswer", "verdictOn"].map(inPage);
 const [reportOfAnswer, OwnAnswer, repliesOf, LEVELS] = ["reportOfAnswer", "OwnAnswer", "repliesOf", "LEVELS"].map(inPage);
 const result = { passed: 0, failed: [] };

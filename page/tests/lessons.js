@@ -5,11 +5,8 @@
 
 const fs = require("fs");
 const path = require("path");
-const { inPage, loadScripts, startedEngine } = require("../in_node.js");
+const { inPage, startedEngine } = require("../in_node.js");
 
-const SCRIPTS = ["rows", "trace", "schedule_text", "state", "address", "judge_answer", "break_it", "run", "goal_words", "lesson_text",
-  "judge_lesson", "book", "course_link"];
-loadScripts(...SCRIPTS.map((name) => `${name}.js`));
 const [readCourse, triedCourse, judged] = ["readCourse", "triedCourse", "judged"].map(inPage);
 const [missingIn, lessonText] = ["missingIn", "lessonText"].map(inPage);
 const TEXT = fs.readFileSync(path.join(__dirname, "..", "book.course"), "utf8");
@@ -23,6 +20,8 @@ function check(name, isGood) {
 
 const scheduleOf = (lesson, events) => lessonText(lesson, events.split(",").map(inPage("longLine")));
 
+const SPLIT = ["one-lock"]; // whose conditions have been split since: a schedule meets all of them where it met all before
+
 // The conditions as the text has them are those that the code had.
 function checkRecorded(ask, { lessons }) {
   const lines = fs.readFileSync(path.join(__dirname, "recorded.txt"), "utf8").trimEnd().split("\n");
@@ -32,7 +31,8 @@ function checkRecorded(ask, { lessons }) {
     const lesson = lessons.find((one) => one.name === name);
     const trace = new (inPage("Trace"))(ask("listset_trace", scheduleOf(lesson, events)).text);
     const found = inPage("conditionsOf")(lesson.goal, new (inPage("Run"))(trace)).map(({ isMet }) => Number(isMet)).join("");
-    check(`${name}: ${events} meets ${found}, and met ${bits}`, found === bits);
+    const isAsBefore = SPLIT.includes(name) ? found.includes("0") === bits.includes("0") : found === bits;
+    check(`${name}: ${events} meets ${found}, and met ${bits}`, isAsBefore);
     met += bits.replaceAll("0", "").length;
     const { isSolved } = judged(ask, lesson, scheduleOf(lesson, events));
     check(`${name}: ${events} is solved: ${isSolved}`, isSolved === (!bits.includes("0") && trace.refused === null));
@@ -58,6 +58,22 @@ function checkBook(ask, { name, lessons, faults }) {
   }
 }
 
+// Of each lesson the wrong try that comes first to mind, and how its dead end begins.
+const LIKELY = {
+  "one-lock": { lines: ["go 0 out"], deadEnd: "The add of thread 0 has answered before that of thread 1." },
+  "hand-over-hand": { lines: ["go 0 out", "go 1 out"], deadEnd: "Both have answered" },
+  "two-at-once": { lines: ["go 0 out"], deadEnd: "The remove has answered: thread 0 has its two locks no more." },
+  "changed-link": { lines: ["go 0 out"], deadEnd: "The remove has answered true without such a failure." },
+  "lost-pred": { lines: ["go 0 out"], deadEnd: "The add has answered true, and its second walk did not miss pred" },
+  "marked-in-chain": { lines: ["go 1 out", "begin 0 contains 5", "go 0 out"], deadEnd: "That remove has ended" },
+  "stopped-thread": { lines: ["go 0 out"], deadEnd: "The remove of thread 0 has answered" },
+  "over-removed-nodes": { lines: ["go 0 out"], deadEnd: "This contains has answered" },
+  "in-anothers-step": { lines: ["go 0 out"], deadEnd: "This contains has answered true" },
+  "left-to-others": { lines: ["go 1 out"], deadEnd: "This remove has taken its node out itself" },
+  "not-wait-free": { lines: ["go 0 out"], deadEnd: "That add has answered" },
+  "ceiling-in-anothers-step": { lines: ["go 0 out"], deadEnd: "This ceiling has answered 7" },
+};
+
 // What is said of a wrong try: the first condition that is missing, and a way that leads nowhere, as the text tells of it.
 function checkTries(ask, { lessons }) {
   const lesson = lessons.find(({ name }) => name === "in-anothers-step");
@@ -70,6 +86,11 @@ function checkTries(ask, { lessons }) {
     const verdict = judged(ask, lesson, scheduleOf(lesson, events));
     check(`${events}: ${missingIn(verdict)}`, missingIn(verdict).startsWith(missing));
     check(`${events}: ${verdict.deadEnd}`, deadEnd === null ? verdict.deadEnd === null : verdict.deadEnd?.startsWith(deadEnd));
+  }
+  for (const { name, start, lacks, ...rest } of lessons) {
+    const draft = inPage("scheduleOfDraft")(ask, lessonText({ ...rest, start }, [...start, ...LIKELY[name].lines]), lacks);
+    const { isSolved, deadEnd } = judged(ask, lessons.find((one) => one.name === name), draft.text);
+    check(`${name}: the most likely wrong try: ${deadEnd}`, !isSolved && deadEnd?.startsWith(LIKELY[name].deadEnd) === true);
   }
   for (const one of lessons) check(`${one.name}: a solution is no dead end`, judged(ask, one, one.solution).deadEnd === null);
 }
@@ -146,14 +167,15 @@ function checkDrafts(ask, { lessons }) {
   const [plain, own] = [lessons, course.lessons].map((all) => all.find(({ name }) => name === "marked-in-chain"));
   check(`a draft is its schedule: ${JSON.stringify(course.faults)}`, drafted !== TEXT && own.solution === plain.solution);
   const [{ fault }] = triedCourse(ask, TEXT.replace("  go 1 7\n", "  go 1 to 99\n")).faults;
-  check(`one that is refused: ${fault}`, fault.startsWith("marked-in-chain: its answer is refused: listset: line 7: Idle"));
+  const refused = 'marked-in-chain: its answer is refused at "go 1 to 99": the thread has no call open';
+  check(`one that is refused: ${fault}`, fault.startsWith(refused));
 }
 
 // A lesson that is read is also tried.
 function checkTrials(ask) {
   const trials = [
-    ["  begin 0 add 5\n", "  begin 0 ad 5\n", "one-lock: its start is refused: the schedule is refused: listset: line 5: Event"],
-    ["  go 0 7\n", "  go 0 70\n", "one-lock: its answer does not solve it: Line 14 of the schedule is refused: Idle."],
+    ["  begin 0 add 5\n", "  begin 0 ad 5\n", "one-lock: its start is refused at \"begin 0 ad 5\": a line is to be"],
+    ["  go 0 7\n", "  go 0 70\n", "one-lock: its answer is refused at \"go 0 70\": the thread has no call open"],
     ["  go 2 1\n  go 0 1\n", "  go 2 1\n", "one-lock: its answer does not solve it: missing: That of thread 0 tries"],
     ["begin 1 remove 5\nquestion", "begin 1 remove 5\n  go 1 7\n  begin 0 contains 5\n  go 0 3\nquestion",
       "marked-in-chain: its start meets the goal already"],
@@ -161,9 +183,20 @@ function checkTrials(ask) {
   for (const [from, to, says] of trials) {
     const { faults } = triedCourse(ask, TEXT.replace(from, to));
     check(`${says}: ${JSON.stringify(faults)}`, faults.length === 1 && faults[0].fault.startsWith(says));
+    const named = /at "([^"]+)"/.exec(says)?.[1];
+    const line = TEXT.replace(from, to).split("\n")[faults[0].line - 1];
+    check(`it is told by its line, "${line}"`, named === undefined ? line.startsWith("lesson ") : line.trim() === named);
   }
   const other = `\ufeff${TEXT.replaceAll("\n  ", "\n\t").replaceAll("\n", "\r\n")}`;
   check("CRLF, a mark of order and tabs are no fault", triedCourse(ask, other).faults.length === 0);
+}
+
+// The course that page/README.md shows is one.
+function checkReadme(ask) {
+  const readme = fs.readFileSync(path.join(__dirname, "..", "README.md"), "utf8");
+  const text = readme.slice(readme.indexOf("    listset-course 1")).split("\n\n")[0].replace(/^ {4}/gm, "");
+  const { lessons, faults } = triedCourse(ask, `${text}\n`);
+  check(`the course of README.md: ${JSON.stringify(faults)}`, lessons.length === 1 && faults.length === 0);
 }
 
 async function checkLinks(ask) {
@@ -194,6 +227,7 @@ async function main() {
   checkFaults();
   checkTrials(ask);
   checkDrafts(ask, course);
+  checkReadme(ask);
   await checkLinks(ask);
   process.stdout.write(JSON.stringify(result));
 }

@@ -2,16 +2,16 @@
 // examples, addresses, and what is kept beside the page.
 "use strict";
 
+const { createHash } = require("crypto");
 const fs = require("fs");
 const path = require("path");
 const vm = require("vm");
-const { inPage, loadScripts, startedEngine } = require("../in_node.js");
+const { inPage, startedEngine } = require("../in_node.js");
+const { crossedLabels, crossedNodes } = require("./arrows.js");
+const { contrastsOf } = require("./colours.js");
+const { TURNS } = require("./turns.js");
 
 const folder = path.dirname(__dirname);
-const DRAWING = ["svg", "draw_history", "sentences", "draw_list"];
-const TESTED = ["check_trace", "schedule_text", "address", "sides", "tests/turns", "tests/colours", "tests/arrows"];
-const PARTS = ["rows", "code", "classics", "traces", "trace", "state", ...DRAWING, "draw_threads", "draw_listing", ...TESTED];
-loadScripts(...PARTS.map((part) => `${part}.js`));
 const result = { passed: 0, failed: [] };
 
 function check(name, isGood) {
@@ -24,19 +24,18 @@ const traceOf = (engine, schedule) =>
 const withoutTags = (text) => text.replace(/<[^>]*>/g, "");
 
 function checkTurns(engine) {
-  const turns = inPage("TURNS");
   const classics = inPage("CLASSICS");
   const names = engine.ask("listset_examples", "").text.trimEnd().split("\n").map((line) => line.split(" ")[0]);
   check("docs/CLASSIC.md has the examples", Object.keys(classics).join() === names.join());
   for (const name of names) {
     const { question, turnsOn, without, turns: events } = classics[name];
-    const isTold = events.length > 1 && events.every((event) => event in turns[name]);
+    const isTold = events.length > 1 && events.every((event) => event in TURNS[name]);
     check(`${name}: there is a word for each event at which it turns`, isTold);
     check(`${name}: it has a question, and what it turns on`, question.endsWith("?") && turnsOn.length > 40);
     check(`${name}: what is said of it leads to nothing below it`, turnsOn.endsWith(".") && without.endsWith("."));
     const trace = traceOf(engine, engine.ask("listset_example", name).text);
     const state = new (inPage("State"))(trace);
-    for (const [event, words] of Object.entries(turns[name])) {
+    for (const [event, words] of Object.entries(TURNS[name])) {
       const sentence = withoutTags(inPage("sentenceOf")(inPage("momentAt")(state, Number(event))));
       check(`${name}, event ${event}: "${words}" is not in "${sentence}"`, sentence.includes(words));
     }
@@ -85,9 +84,12 @@ function checkValidations(sentences, header) {
   check("and leads to a reply", lazy.pop() === "t1 reads n2.link: tail. The validation holds. It will answer false.");
 }
 
-const refusalOf = (hash) => {
+const RUN_17 = "9e6e9361cbb54bb9"; // the sum of the schedule of #seed=lazy.2.5.2.17
+const refusalOf = (hash) => refusalBy(() => inPage("readAddress")(hash));
+
+const refusalBy = (deed) => {
   try {
-    inPage("readAddress")(hash);
+    deed();
     return "";
   } catch (fault) {
     return fault.message;
@@ -106,6 +108,65 @@ function checkDocs(engine) {
       const events = lines.map(lengthOf).reduce((sum, length) => sum + length);
       check(`${page}.html: ${example ?? text} has no event ${event}`, event <= events);
     }
+  }
+}
+
+// A trace that goes on where another one ends is the one that is read from its start; so is the state.
+function checkGoingOn(engine, texts) {
+  for (const schedule of texts) {
+    const whole = traceOf(engine, schedule);
+    const [Trace, State, scheduleOfTrace] = ["Trace", "State", "scheduleOfTrace"].map(inPage);
+    let [trace, state] = [null, null];
+    for (let count = 0; count <= whole.total; count++) {
+      const text = engine.ask("listset_trace", scheduleOfTrace(whole, count)).text;
+      const next = new Trace(text, whole.version, trace);
+      state = next.before === null ? new State(next) : state.goOn(next);
+      trace = next;
+      state.moveTo(count);
+    }
+    const plain = new State(whole);
+    plain.moveTo(whole.total);
+    const read = ({ calls, changes, starred, starts, order }) => JSON.stringify({ calls, changes, starred, starts, order });
+    const held = ({ threads, nodes, lock }) => JSON.stringify({ threads, nodes, lock });
+    check(`read step by step: ${schedule.slice(0, 100)}`, trace.before !== null && read(trace) === read(whole));
+    check(`made step by step: ${schedule.slice(0, 100)}`, held(state) === held(plain));
+    check("a trace that goes another way is read anew", new Trace(whole.text.replace(" saw ", "  saw "), whole.version, trace).before === null);
+    const line = "begin 0 add 9";
+    const own = inPage("scheduleAndLine")(whole, whole.total, line, scheduleOfTrace(whole));
+    check("a line more, of the text that was run", own === inPage("scheduleAndLine")(whole, whole.total, line));
+  }
+}
+
+// A number is the same run for everyone: small enough to be judged, with calls that overlap; the one of README.md stays as it is.
+function checkSeeds(engine) {
+  const ask = (name, ...texts) => engine.ask(name, ...texts);
+  for (const kind of Object.keys(inPage("LISTS"))) {
+    for (const number of [1, 2, 17, 999999999]) {
+      const text = inPage("scheduleOfSeed")(ask, inPage("seedOf")(kind, number));
+      const { refused, total, calls } = traceOf(engine, text);
+      check(`run ${number} of ${kind}: ${total} events`, refused === null && total > 20 && total <= 60 && calls.length === 5);
+      check(`run ${number} of ${kind} again`, inPage("scheduleOfSeed")(ask, inPage("seedOf")(kind, number)) === text);
+    }
+  }
+  const own = inPage("scheduleOfSeed")(ask, "lazy.2.5.2.17");
+  const sum = createHash("sha256").update(own).digest("hex").slice(0, 16);
+  check(`run 17 is another than it was: ${sum}`, sum === RUN_17);
+  const many = inPage("scheduleOfSeed")(ask, "coarse.64.99.99.1");
+  check("a large run is there at once", many.includes("threads 64\n"));
+  const fault = refusalBy(() => inPage("scheduleOfSeed")(ask, "lazy.0.5.2.1"));
+  check(`a run without threads is told: ${fault}`, fault.startsWith("the address names no run: "));
+}
+
+// Each form of address in README.md is one, and is opened in a browser (drive_places.js).
+function checkForms() {
+  const table = fs.readFileSync(path.join(folder, "README.md"), "utf8").split("| Address |")[1].split("\n\n")[0];
+  const forms = [...table.matchAll(/^\|([^|]*)\|/gm)].flatMap(([, cell]) => [...cell.matchAll(/`([^`]+)`/g)].map(([, form]) => form));
+  const driven = fs.readFileSync(path.join(__dirname, "drive_places.js"), "utf8");
+  check("README.md has the forms of addresses", forms.length > 15);
+  for (const form of forms) {
+    const base = form.startsWith("#") ? form : `#list=lazy&threads=2&quota=4${form === "&judge" ? "&s=b0.add.5" : ""}${form}`;
+    check(`${form} is an address: ${refusalOf(base.replace("..", "A"))}`, refusalOf(base.replace("..", "A")) === "");
+    check(`${form} is opened in a browser`, form.startsWith("#course") || driven.includes(form));
   }
 }
 
@@ -160,17 +221,17 @@ function checkArrows(engine, texts) {
       state.moveTo(index + 1);
       const drawing = inPage("drawList")(state, event, 860);
       labels += drawing.split('class="pointer').length - 1;
-      const found = [...inPage("crossedLabels")(drawing), ...inPage("crossedNodes")(drawing)];
+      const found = [...crossedLabels(drawing), ...crossedNodes(drawing)];
       return found.map((what) => `${what} at event ${index + 1}`);
     });
     check(`arrows cross labels or nodes (${crossed.slice(0, 5)}) of ${text.slice(0, 200)}`, crossed.length === 0);
   }
   check("labels were drawn", labels > 1000);
   const drawn = '<path d="M0 0 L200 0" marker-end="x"></path><text class="pointer thread-0" x="50" y="5">▲ t0 curr</text>';
-  check("an arrow over a label is seen", inPage("crossedLabels")(drawn).join() === "▲ t0 curr");
+  check("an arrow over a label is seen", crossedLabels(drawn).join() === "▲ t0 curr");
   const nodeAt = (x) => `<rect x="${x}" y="-20" width="90" height="40" rx="5" class="box"></rect><text class="key">${x}</text>`;
   const over = `${nodeAt(0)}${nodeAt(100)}<path d="M50 0 L250 0" marker-end="x"></path>`;
-  check("an arrow over another node is seen", inPage("crossedNodes")(over).join() === "100");
+  check("an arrow over another node is seen", crossedNodes(over).join() === "100");
 }
 
 // Five threads that add, remove and look, one to three steps each in turn, on each list.
@@ -228,7 +289,7 @@ function wrongLine(trace, event, held, met) {
 // Every colour of a text on every ground on which it stands, in light and in dark, and the edges of the controls.
 function checkColours() {
   const sheet = ["page.css", "drawings.css"].map((name) => fs.readFileSync(path.join(folder, name), "utf8")).join("");
-  const contrasts = inPage("contrastsOf")(sheet);
+  const contrasts = contrastsOf(sheet);
   check("colours were found", contrasts.length > 60);
   for (const { name, contrast, least } of contrasts) check(`${name}: a contrast of ${contrast.toFixed(2)}`, contrast >= least);
 }
@@ -241,9 +302,10 @@ function checkOlder() {
     "[[1, 2, 3].findLast((it) => it < 3), [1].findLast((it) => it > 1)]",
     "[Object.hasOwn({ a: 1 }, 'a'), Object.hasOwn({}, 'toString'), Object.keys([7]).join()]",
   ].map((words) => `${words}.map(String).join()`);
-  const text = fs.readFileSync(path.join(folder, "older.js"), "utf8");
+  const text = fs.readFileSync(path.join(folder, "src", "older.js"), "utf8");
   const told = (...before) => vm.runInNewContext([...before, `[${asked}].join("; ")`].join("\n"), {});
-  check(`older.js: ${told(without, text)}`, told(without, text) === told() && told() === "2,1,undefined,b,undefined; 2,undefined; true,false,0");
+  const wanted = "2,1,undefined,b,undefined; 2,undefined; true,false,0";
+  check(`older.js: ${told(without, text)}`, told(without, text) === told() && told() === wanted);
 }
 
 async function main() {
@@ -256,6 +318,9 @@ async function main() {
   checkOlder();
   const texts = names.map((name) => engine.ask("listset_example", name).text);
   checkAddresses(engine, texts);
+  checkForms();
+  checkGoingOn(engine, texts);
+  checkSeeds(engine);
   checkDocs(engine);
   const crowds = crowded(engine);
   checkArrows(engine, [...texts, ...crowds]);

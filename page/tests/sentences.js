@@ -3,10 +3,8 @@
 // takes out is so in the chain.
 "use strict";
 
-const { inPage, loadScripts, startedEngine } = require("../in_node.js");
+const { inPage, startedEngine } = require("../in_node.js");
 
-const PARTS = ["rows", "classics", "trace", "state", "svg", "draw_history", "sentences", "schedule_text"];
-loadScripts(...PARTS.map((part) => `${part}.js`));
 const RUNS = 60; // of each list
 const LEAST = 100000; // sentences in all
 const result = { passed: 0, failed: [] };

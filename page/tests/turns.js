@@ -90,3 +90,5 @@ const TURNS = {
     28: "answers nothing; it took effect at event 11, a step of t1",
   },
 };
+
+module.exports = { TURNS };

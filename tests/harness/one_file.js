@@ -12,7 +12,7 @@ async function main([page]) {
   if (/<(script|link|img)\b[^>]*\b(src|href)=/.test(text)) throw new Error("the page asks for other files");
   const scripts = [...text.matchAll(/<script>\n([^]*?)<\/script>/g)].map(([, words]) => words);
   for (const part of WANTED) vm.runInThisContext(scripts.find((words) => words.includes(`\n${part}`)));
-  const engine = await vm.runInThisContext("Engine").start();
+  const engine = await vm.runInThisContext("listsets.Engine").start();
   const { text: said, status } = engine.ask("listset_replay", fs.readFileSync(0, "utf8"));
   process.stdout.write(said);
   process.exitCode = status;

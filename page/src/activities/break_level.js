@@ -1,0 +1,193 @@
+// Break, a level: a story and three hints, the verdict on the schedule, and once the list is broken the question what it lacks. Only
+// when that is answered it is told where the whole list departs. A break that was shown, and not found, does not count.
+import { CLASSICS, LACKING } from "../../made/classics.js";
+import { addressOfLevel, fillBreaks, numberOf, openLevel, ORDER, titleOfLevel, wordOf } from "./break_map.js";
+import { brokenLines, isNamed, isShownBreak, keepBrokenLine, keepNamed, noteShown } from "./broken_kept.js";
+import { beginJudging } from "./judging.js";
+import { BREAK_LEVELS, GRADES } from "../data/levels.js";
+import { byId, redraw, setAble, setHidden } from "../page/dom.js";
+import { exampleText } from "../page/example.js";
+import { askNow, goTo, page } from "../page/now.js";
+import { goByHand } from "../page/play.js";
+import { openLacking } from "../page/work.js";
+import { addressOf } from "../run/address.js";
+import { departureOf, isTaskDone, isToldOf, NO_TASK, UNCOUNTED, verdictOnLacking } from "../run/broken.js";
+import { escaped, tag } from "../run/markup.js";
+import { scheduleOfTrace, versionOf } from "../run/schedule_text.js";
+import { Trace } from "../run/trace.js";
+
+const MOST_BROKEN = 1000; // events of a run that is judged
+const level = { lacks: null, trace: null, hints: 0, wrong: new Set() };
+
+export function showBreaking() {
+  const { trace } = page;
+  byId("break-box").hidden = trace.lacks === null;
+  document.body.classList.remove("won");
+  if (trace.lacks === null) byId("break-win").hidden = true;
+  if (trace.lacks === null) return;
+  if (level.trace === trace) return drawLevel(trace, page.verdict);
+  level.trace = trace;
+  page.verdict = verdictOfRun(trace);
+  if (isTaskDone(trace.lacks, page.verdict)) keepBroken(trace);
+  drawBreaking(trace, page.verdict);
+}
+
+function verdictOfRun(trace) {
+  if (trace.refused !== null) return { kind: "refused", says: "The schedule is refused: take the red line out first." };
+  if (trace.total > MOST_BROKEN) return { kind: "refused", says: `Judged are at most ${MOST_BROKEN} events: this run has ${trace.total}.` };
+  return verdictOnLacking(askNow, trace.lacks, scheduleOfTrace(trace));
+}
+
+function keepBroken(trace) {
+  const schedule = scheduleOfTrace(trace);
+  const address = addressOf(schedule, trace.total);
+  const isKept = brokenLines().some(([name]) => name === trace.lacks);
+  if (address === null || isKept || isShownBreak(trace.lacks, schedule)) return;
+  keepBrokenLine(trace.lacks, `break ${trace.lacks} ${address}`);
+  fillBreaks();
+}
+
+function drawBreaking(trace, verdict) {
+  const { lacks } = trace;
+  drawDeparture(isToldOf(lacks, verdict));
+  drawLevel(trace, verdict);
+  document.body.classList.toggle("refuted", verdict.kind === "broken");
+  const line = Object.fromEntries(brokenLines())[lacks];
+  byId("break-line").innerHTML = line === undefined ? "" : `Kept, and handed in with the lessons: <code>${escaped(line)}</code>`;
+}
+
+// What the list lacks is told by the comparison of its run with that of the whole list, once it is broken and named.
+function drawDeparture(isBroken) {
+  const found = isBroken && isNamed(page.lacks) ? departureOf(askNow, page.trace) : null;
+  byId("break-departs").hidden = found === null;
+  if (found === null) return;
+  byId("break-event").textContent = `event ${found.event}`;
+  byId("break-event").dataset.event = found.event;
+  byId("break-here").innerHTML = found.here;
+  byId("break-whole").innerHTML = found.whole;
+}
+
+// ---- the state of a level
+
+const TO_DO = "· Go on until no order of the calls explains what they answered.";
+const HOLDS = "Not broken yet.";
+const won = (says, why) => ({ kind: "won", says, why });
+const holds = (says, why = "") => ({ kind: "holds", says, why });
+
+// The state of a level as the reader sees it: nothing answered yet, holds, won, or shown.
+function stateOf(trace, verdict) {
+  const { lacks } = trace;
+  const isPoints = verdict.kind === "points";
+  if (verdict.kind === "refused") return holds(verdict.says);
+  if (isToldOf(lacks, verdict) && isShownBreak(lacks, scheduleOfTrace(trace))) return stateOfShown();
+  if (isPoints && lacks === NO_TASK) {
+    return holds("Refused by its points, and not broken.", "Another order explains these replies. Why is there always one?");
+  }
+  if (isPoints && UNCOUNTED.includes(lacks)) return won("Refused by its points.", "Counting cannot tell more of this list.");
+  if (isToldOf(lacks, verdict)) return won("Broken!", countOf(verdict));
+  const isAnswered = trace.calls.some(({ ended }) => ended !== null);
+  if (!isAnswered) return { kind: "", says: "Nothing has answered yet.", why: "Let a thread begin a call, and go on." };
+  const explained = "An order explains all answers so far.";
+  return holds(HOLDS, isPoints ? "Its own order is refused, but another one may explain the answers." : explained);
+}
+
+// What counting tells: of the list, since no set is this.
+const countOf = ({ says }) => says.replace(/^Broken: /, "").replace(/and the set (has|lacks) it/, "and the list $1 it");
+
+function stateOfShown() {
+  const says = page.count === page.trace.total ? "Broken, as shown." : "Step on, and look.";
+  return { kind: "shown", says, why: "This way was shown: it does not count. Find one of your own." };
+}
+
+// ---- what is drawn
+
+function drawLevel(trace, verdict) {
+  const name = trace.lacks;
+  if (level.lacks !== name) Object.assign(level, { lacks: name, hints: 0, wrong: new Set() });
+  const { story, grade } = BREAK_LEVELS[name];
+  const shown = stateOf(trace, verdict);
+  const isWon = shown.kind === "won";
+  byId("break-story").textContent = story;
+  byId("break-title").textContent = titleOfLevel(name);
+  byId("break-question").textContent = GRADES[grade] === undefined ? "" : TO_DO;
+  byId("break-state").className = shown.kind;
+  if (byId("break-verdict").textContent !== shown.says) byId("break-verdict").textContent = shown.says; // a reader hears it once
+  byId("break-why").textContent = shown.why;
+  byId("break-judge").hidden = verdict.kind !== "points";
+  drawHints(name, isWon);
+  byId("break-win").hidden = !isWon;
+  document.body.classList.toggle("won", isWon);
+  if (isWon) drawWin(trace);
+}
+
+function drawHints(name, isWon) {
+  const { hints } = BREAK_LEVELS[name];
+  const isLeft = level.hints < hints.length;
+  setHidden(byId("break-hint"), isWon, byId("break-again"));
+  byId("break-hint").textContent = isLeft ? `Hint ${level.hints + 1} of ${hints.length}` : "No more hints";
+  setAble("break-hint", isLeft);
+  const items = hints.slice(0, level.hints).map((hint) => tag("li", {}, escaped(hint)));
+  if (byId("break-hints").children.length !== items.length) byId("break-hints").innerHTML = items.join("");
+}
+
+function drawWin({ lacks, total, calls }) {
+  const { shortest } = BREAK_LEVELS[lacks];
+  const own = `${total} events, ${calls.length} ${calls.length === 1 ? "call" : "calls"}`;
+  const isShorter = shortest !== null && total < shortest[0];
+  const best = shortest === null ? "" : isShorter ? `Shorter than the known one, of ${shortest[0]}.` : `The known one has ${shortest[0]}.`;
+  byId("break-count").innerHTML = `You did it with <b>${own}</b>. ${best}`;
+  const next = ORDER[ORDER.indexOf(lacks) + 1];
+  byId("break-next").hidden = next === undefined;
+  if (next !== undefined) byId("break-next").href = addressOfLevel(next);
+  byId("break-next").classList.toggle("primary", isNamed(lacks));
+  drawAsk(lacks);
+}
+
+// What it lacks is asked, of the checks of its list.
+function drawAsk(name) {
+  const kin = ORDER.filter((other) => LACKING[other] === LACKING[name]);
+  const words = [...new Set([...kin.map(wordOf), ...(BREAK_LEVELS[name].others ?? [])])].sort();
+  const isTold = isNamed(name);
+  const button = (word) => {
+    const kind = isTold ? "right" : level.wrong.has(word) ? "wrong" : "";
+    const unable = kind === "" ? {} : { "aria-disabled": "true" };
+    return tag("button", { "data-word": word, class: kind, ...unable }, escaped(word));
+  };
+  redraw(byId("break-options"), words.filter((word) => !isTold || word === wordOf(name)).map(button).join(""));
+  if (isTold) byId("break-told").textContent = "Right. That check is missing.";
+  else if (level.wrong.size === 0) byId("break-told").textContent = "";
+}
+
+function answerAsk(word) {
+  const name = page.lacks;
+  if (word === wordOf(name)) keepNamed(name);
+  else level.wrong.add(word);
+  drawBreaking(page.trace, page.verdict);
+  if (!isNamed(name)) byId("break-told").textContent = "No, it does that. Look for the line of the code at which it does something else.";
+}
+
+// ---- what the buttons do
+
+// An example's schedule on the broken list of its kind, as far as that list can go on with it: one event before it departs.
+function openWithoutCheck() {
+  const [name] = CLASSICS[page.example].lacks;
+  const example = exampleText(page.example);
+  const trace = new Trace(askNow("listset_trace_lacking", name, example).text, versionOf(example));
+  const schedule = scheduleOfTrace(trace);
+  noteShown(name, schedule);
+  openLacking(name, schedule, "The same schedule, on a list without the check. Step on.");
+  const departs = departureOf(askNow, page.trace);
+  if (departs !== null) goTo(departs.event - 1);
+}
+
+export function listenToBreaking() {
+  byId("see-broken").onclick = openWithoutCheck;
+  byId("break-judge").onclick = beginJudging;
+  byId("break-event").onclick = () => goByHand(Number(byId("break-event").dataset.event));
+  byId("break-again").onclick = () => openLevel(numberOf(page.lacks));
+  byId("break-options").onclick = ({ target }) => target.dataset.word !== undefined && answerAsk(target.dataset.word);
+  byId("break-hint").onclick = () => {
+    level.hints = Math.min(level.hints + 1, BREAK_LEVELS[page.lacks].hints.length);
+    drawLevel(page.trace, page.verdict);
+  };
+}

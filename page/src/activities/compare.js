@@ -1,0 +1,168 @@
+// Compare: two lists side by side, under one program of calls, with some programs to begin with.
+import { LISTS } from "../../made/rows.js";
+import { drawCalls, drawContents, scaleOf } from "../draw/history.js";
+import { drawList } from "../draw/list.js";
+import { byId, redraw } from "../page/dom.js";
+import { toggleLecture } from "../page/keys.js";
+import { askNow, page } from "../page/now.js";
+import { goToPlace, where } from "../page/places.js";
+import { copied, keepAddressOf } from "../page/visit.js";
+import { addressOf, readAddress } from "../run/address.js";
+import { chipOf, escaped, tag } from "../run/markup.js";
+import { momentAt, sentenceOf } from "../run/sentences.js";
+import { ProgramFault, programText, readProgram, Sides } from "../run/sides.js";
+
+const PRESETS = [
+  ["Who waits?", "#sides=coarse.lazy&quota=4&calls=0.add.5,1.contains.5&turns=0.0.0.0.1.1.1"],
+  ["Two removes of neighbours", "#sides=fine.optimistic&quota=4&opening=3.5.7&calls=0.remove.3,1.remove.7&turns=0.0.0.1.1.1"],
+  ["A reader beside a writer", "#sides=lazy.lock-free&quota=4&opening=3.5.7&calls=0.remove.5,1.contains.5&turns=0.0.0.0.0.1.1"],
+];
+
+export function drawCompare() {
+  byId("sides-presets").innerHTML = PRESETS.map(([name, href]) => tag("a", { class: "button", href }, escaped(name))).join(" ");
+}
+
+// Opens what an address says of two lists; of one that names none what was shown before, or the first program.
+export function openCompare(named) {
+  goToPlace("compare", "map");
+  if (named === null && shownSides.sides !== null) drawSides();
+  else openSides(named ?? readAddress(PRESETS[0][1]).sides);
+  return true;
+}
+
+const sidesPart = (name) => byId(`sides-${name}`);
+
+export const shownSides = { sides: null, at: 0, quota: 4, opening: [] }; // at: how many turns are shown
+
+// Begins at the first turn, with the program that stands there.
+function beginSides(turns = []) {
+  try {
+    const program = readProgram(sidesPart("program").value);
+    const opening = sidesPart("opening").value.split(/[\s,]+/).filter((key) => key !== "");
+    const kinds = ["one", "other"].map((name) => sidesPart(name).value);
+    Object.assign(shownSides, { sides: new Sides(askNow, kinds, { program, quota: shownSides.quota, opening }), at: 0, opening });
+    for (const thread of turns) if (!shownSides.sides.turn(thread)) break;
+    shownSides.at = shownSides.sides.turns.length;
+    sidesPart("told").textContent = "";
+    drawSides();
+  } catch (fault) {
+    if (!(fault instanceof ProgramFault)) throw fault;
+    sidesPart("told").textContent = fault.message;
+  }
+}
+
+// Goes on from the turns that are shown; what came after them is dropped.
+function turnOf(thread) {
+  const { sides, at } = shownSides;
+  const turns = sides.turns.slice(0, at);
+  if (at < sides.turns.length) beginSides(turns);
+  const isMade = shownSides.sides.turn(thread);
+  shownSides.at = shownSides.sides.turns.length;
+  drawSides();
+  if (!isMade) sidesPart("told").innerHTML = `${chipOf(thread)} has made all its calls in both.`;
+}
+
+function drawSide(side, thread, place) {
+  const count = side.counts[shownSides.at];
+  const moment = momentAt(side.state, count);
+  const hasWaited = shownSides.at > 0 && count === side.counts[shownSides.at - 1];
+  const said = hasWaited ? `${chipOf(thread)} has answered, and waits for the other.` : sentenceOf(moment);
+  const width = Math.max(320, sidesPart("pictures").clientWidth / (innerWidth < 940 ? 1 : 2) - 48);
+  const scale = scaleOf(side.trace, count, width, page.hides);
+  side.said = said;
+  return tag(
+    "section",
+    { "aria-label": LISTS[side.kind].name },
+    tag("h3", {}, `${LISTS[side.kind].name} <small>${count} events</small>`),
+    tag("p", { class: hasWaited ? "said waits" : "said" }, said),
+    tag("div", { class: "scrolls" }, drawSideList(side, moment.event, width, place)),
+    tag("div", { class: "scrolls" }, drawCalls(side.trace, scale), drawContents(side.trace, scale)),
+    tag("p", { class: "note" }, tag("a", { class: "button", href: addressOf(side.schedule, count) ?? "#" }, "Watch this run")),
+  );
+}
+
+function drawSideList({ state }, event, width, place) {
+  const most = page.view === "lecture" ? 300 : 250;
+  return drawList(state, event, width, most, { width: 0, height: 0 }, `side-${place}`);
+}
+
+// A turn by its digit; an arrow, and a presenter's key, goes on and back.
+export function pressForSides(event) {
+  const { sides, at } = shownSides;
+  const by = { ArrowRight: 1, PageDown: 1, ArrowLeft: -1, PageUp: -1, Home: -Infinity, End: Infinity }[event.key];
+  if (sides === null) return;
+  if (by !== undefined) {
+    event.preventDefault();
+    shownSides.at = Math.min(Math.max(at + by, 0), sides.turns.length);
+    drawSides();
+  } else if (/^[0-9]$/.test(event.key) && byId("single-keys").checked && Number(event.key) < sides.program.length) {
+    turnOf(Number(event.key));
+  }
+}
+
+function drawSides() {
+  const { sides, at } = shownSides;
+  const buttons = sides.program.map((_, thread) => tag("button", { "data-thread": thread }, `${chipOf(thread)} next step`));
+  redraw(sidesPart("turns"), buttons.join(" "));
+  Object.assign(sidesPart("slider"), { max: sides.turns.length, value: at });
+  const words = `turn ${at} of ${sides.turns.length}`;
+  sidesPart("slider").setAttribute("aria-valuetext", words);
+  sidesPart("where").textContent = words;
+  sidesPart("pictures").innerHTML = sides.sides.map((side, place) => drawSide(side, sides.turns[at - 1], place)).join("");
+  sidesPart("heard").innerHTML = sides.sides.map((side) => `${LISTS[side.kind].name}: ${side.said}`).join(" ");
+  keepAddressOf("compare", addressOfSides());
+}
+
+// Draws the lists anew where they are shown, as in another size or view.
+export function showSides() {
+  if (where.activity === "compare" && shownSides.sides !== null) drawSides();
+}
+
+// The address of what is shown, from # on.
+export function addressOfSides() {
+  const { sides, quota, opening } = shownSides;
+  const calls = sides.program.flatMap((own, thread) => own.map((call) => `${thread}.${call.replace(" ", ".")}`));
+  const parts = [`sides=${sides.sides.map(({ kind }) => kind).join(".")}`, `quota=${quota}`];
+  if (opening.length > 0) parts.push(`opening=${opening.join(".")}`);
+  return `#${[...parts, `calls=${calls.join()}`, `turns=${sides.turns.join(".")}`].join("&")}`;
+}
+
+// Opens what an address says of two lists.
+function openSides({ sides, calls, turns = "", quota = "4", opening = "" }) {
+  const program = [];
+  for (const call of (calls ?? "").split(",").filter((one) => one !== "")) {
+    const [thread, operation, key] = call.split(".");
+    (program[Number(thread)] ??= []).push(`${operation} ${key}`);
+  }
+  [sidesPart("one").value, sidesPart("other").value] = sides.split(".");
+  sidesPart("program").value = programText(Array.from(program, (own) => own ?? []));
+  sidesPart("opening").value = opening.replaceAll(".", " ");
+  shownSides.quota = Number(quota);
+  beginSides(turns.split(".").filter((thread) => thread !== "").map(Number));
+}
+
+async function copySides() {
+  const link = location.href.replace(/#.*$/, "") + addressOfSides();
+  const isCopied = await copied(link);
+  sidesPart("told").innerHTML = `${isCopied ? "The link is copied" : "Copy this link"}: <code>${escaped(link)}</code>`;
+}
+
+export function listenToSides() {
+  for (const name of ["one", "other"]) {
+    sidesPart(name).append(...Object.entries(LISTS).map(([kind, { name: words }]) => new Option(words, kind)));
+    sidesPart(name).onchange = () => beginSides();
+  }
+  sidesPart("other").value = "lock-free";
+  sidesPart("begin").onclick = () => beginSides();
+  sidesPart("link").onclick = copySides;
+  sidesPart("lecture").onclick = toggleLecture;
+  sidesPart("back").onclick = () => pressForSides({ key: "ArrowLeft", preventDefault() {} });
+  sidesPart("turns").onclick = ({ target }) => {
+    const thread = target.closest("[data-thread]")?.dataset.thread;
+    if (thread !== undefined) turnOf(Number(thread));
+  };
+  sidesPart("slider").oninput = () => {
+    shownSides.at = Number(sidesPart("slider").value);
+    drawSides();
+  };
+}

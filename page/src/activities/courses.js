@@ -1,0 +1,76 @@
+// Courses on the page: one is chosen, opened from a file or a link, written, tried, and handed out as a link or a file.
+import { BOOK, BOOK_NAME } from "../../made/book.js";
+import { learning } from "./kept_lessons.js";
+import { drawLearnMap, lessonPart } from "./learn_map.js";
+import { courseAddress, courseOfAddress } from "../course/course_link.js";
+import { triedCourse } from "../course/lesson.js";
+import { saveText } from "../page/files.js";
+import { askNow, page } from "../page/now.js";
+import { goToPlace } from "../page/places.js";
+import { copied } from "../page/visit.js";
+import { AddressFault } from "../run/address.js";
+
+// Takes the text of a course: its lessons are shown, or its faults by their lines. Whether it is one.
+function takeCourseText(panel, text) {
+  const course = triedCourse(askNow, text);
+  const { faults, name, lessons } = course;
+  const lines = faults.map(({ line, fault }) => `line ${line}: ${fault}`);
+  lessonPart("faults").textContent = lines.length > 0 ? lines.join("\n") : `${name}: ${lessons.length} lessons, all good.`;
+  if (faults.length > 0) return false;
+  panel.takeCourse(course);
+  drawLearnMap();
+  return true;
+}
+
+// Opens the course that an address has, at its first lesson that is not solved.
+export async function openCourseOfAddress(letters) {
+  if (page.engine === null) throw new AddressFault("the address names a course of lessons, which cannot be run here");
+  const panel = learning.panel;
+  const text = await courseOfAddress(letters);
+  lessonPart("course-text").value = text;
+  if (!takeCourseText(panel, text)) {
+    drawLearnMap();
+    goToPlace("learn", "map");
+    lessonPart("write").open = true;
+    throw new AddressFault(`the course of the address has faults: ${lessonPart("faults").textContent.split("\n")[0]}`);
+  }
+  const first = panel.course.lessons.find(({ name }) => !panel.isSolved(name)) ?? panel.course.lessons[0];
+  panel.choose(first);
+  goToPlace("learn", "stage");
+  panel.begin();
+  return true;
+}
+
+async function copyCourseLink(panel) {
+  const address = await courseAddress(panel.course.text);
+  const tooLong = "This course is too long for a link: save it, and hand out the file.";
+  if (address === null) return (lessonPart("faults").textContent = tooLong);
+  const link = location.href.replace(/#.*$/, "") + address;
+  const box = lessonPart("link-text");
+  box.value = link;
+  box.hidden = false;
+  box.select();
+  const isCopied = await copied(link);
+  lessonPart("faults").textContent = `${isCopied ? "The link is copied" : "Copy the link below"}: it opens "${panel.course.name}".`;
+}
+
+export function listenToCourses(panel) {
+  const box = lessonPart("course-text");
+  lessonPart("course").onchange = () => {
+    const name = lessonPart("course").value;
+    takeCourseText(panel, name === BOOK_NAME ? BOOK : panel.kept.courses.get(name));
+    box.value = panel.course.text;
+  };
+  lessonPart("write").ontoggle = () => {
+    if (box.value === "") box.value = panel.course.text;
+  };
+  lessonPart("file").onchange = async () => {
+    box.value = await lessonPart("file").files[0].text();
+    lessonPart("file").value = "";
+    lessonPart("write").open = true;
+    takeCourseText(panel, box.value);
+  };
+  lessonPart("try").onclick = () => takeCourseText(panel, box.value);
+  lessonPart("link").onclick = () => takeCourseText(panel, box.value) && copyCourseLink(panel);
+  lessonPart("save").onclick = () => saveText("lessons.course", box.value);
+}

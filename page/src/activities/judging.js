@@ -1,0 +1,210 @@
+// The panel in which the reader judges the run that is shown: it stands in the place of the history and of the order. The bars on
+// which points are put, the replies, the verdict. Of a broken list the report alone is judged, as a claim.
+import { CLASSICS } from "../../made/classics.js";
+import { drawJudged, drawOwnOrder, judgeScale, momentOfReport } from "../draw/judged.js";
+import { byId, redraw } from "../page/dom.js";
+import { keepUnder, keptUnder } from "../page/kept.js";
+import { askNow, isJudging, page, show, tell } from "../page/now.js";
+import { addressOf } from "../run/address.js";
+import { exerciseOf, LEVELS, MOST_JUDGED, OwnAnswer, repliesOf, verdictOn, wordOfAnswer } from "../run/judged.js";
+import { callText, chipOf, escaped } from "../run/markup.js";
+
+export const JUDGED = "listset-judged"; // in the browser's storage: of each run and level the order that was right
+
+const HALF_STEPS = { ArrowLeft: -0.5, ArrowDown: -0.5, ArrowRight: 0.5, ArrowUp: 0.5 };
+const SLIDER_KEYS = { ...HALF_STEPS, PageDown: -5, PageUp: 5, Home: -Infinity, End: Infinity };
+const judgePart = (name) => byId(`judge-${name}`);
+
+class Judging {
+  // Begins an exercise of this level about the run that is shown. At the third the report may be that of a broken list.
+  begin(level) {
+    if (page.lacks !== null) return this.take(exerciseOf(page.verdict.report, "claim", false));
+    const broken = page.example === "" ? null : page.engine.ask("listset_broken_example", page.example);
+    const isBroken = level === "claim" && broken?.status === 0 && Math.random() < 0.5;
+    const report = isBroken ? broken.text : page.engine.ask("listset_replay", page.text).text;
+    this.take(exerciseOf(report, level, !isBroken));
+  }
+
+  take(exercise) {
+    page.exercise = exercise;
+    Object.assign(this, { exercise, answer: new OwnAnswer(exercise) });
+    Object.assign(this, { held: null, verdict: null, tries: 0, moment: 0, told: LEVELS[exercise.level].task });
+    document.body.classList.toggle("claim", exercise.level === "claim");
+    document.body.classList.add("judging");
+    if (page.lacks === null) judgePart("level").value = exercise.level;
+    show();
+  }
+
+  end() {
+    page.exercise = null;
+    document.body.classList.remove("judging", "claim");
+  }
+
+  // ---- what the reader does
+
+  callAt(event) {
+    const id = event.target.closest("[data-call]")?.dataset.call;
+    return id === undefined ? null : this.exercise.calls[Number(id)];
+  }
+
+  grasp(event) {
+    const call = this.callAt(event);
+    if (call === null) return;
+    event.preventDefault();
+    judgePart("bars").setPointerCapture(event.pointerId);
+    this.held = call;
+    this.drag(event);
+  }
+
+  drag(event) {
+    const left = judgePart("bars").firstElementChild.getBoundingClientRect().left;
+    this.place(this.held, this.scale.momentAt(event.clientX - left));
+  }
+
+  place(call, at) {
+    this.answer.place(call, at);
+    this.changed();
+    judgePart("bars").querySelector(`[data-call="${call.id}"]`).focus();
+  }
+
+  press(event) {
+    const call = this.callAt(event);
+    const by = SLIDER_KEYS[event.key];
+    if (call === null || event.ctrlKey || event.altKey || event.metaKey) return;
+    if (event.key === "Delete" || event.key === "Backspace") {
+      this.answer.take(call);
+      this.changed();
+    } else if (by === undefined) return;
+    else this.place(call, this.answer.points.has(call.id) ? this.answer.points.get(call.id).at + by : call.begun);
+    event.preventDefault();
+  }
+
+  say(call, reply) {
+    this.answer.say(call, reply);
+    this.changed();
+  }
+
+  // An answer that was changed is judged when the reader asks for it.
+  changed() {
+    this.verdict = null;
+    this.draw();
+  }
+
+  judge(isNone) {
+    this.answer.isNone = isNone;
+    this.verdict = verdictOn(askNow, this.answer);
+    if (this.verdict.isRight === false) this.tries++;
+    if (this.verdict.isRight && this.exercise.isWhole) this.keep();
+    this.answer.isNone = false;
+    this.draw();
+  }
+
+  // What is handed in of a run that was judged right: it goes with the solutions of the lessons.
+  keep() {
+    const run = page.example === "" ? addressOf(page.text, page.count) : page.example;
+    this.line = `judge ${run} ${this.exercise.level} ${wordOfAnswer(this.answer)}`;
+    if (run !== null) keepUnder(JUDGED, { ...keptUnder(JUDGED), [`${run} ${this.exercise.level}`]: this.line });
+  }
+
+  // ---- what is drawn
+
+  draw() {
+    const { level, calls } = this.exercise;
+    this.count = page.count;
+    this.scale = judgeScale(this.exercise, Math.max(300, judgePart("bars").clientWidth));
+    judgePart("task").textContent = this.told;
+    judgePart("none").hidden = level !== "claim";
+    redraw(judgePart("bars"), drawJudged(this));
+    const asked = level === "replies" ? calls.filter((call) => call.ended !== null) : [];
+    redraw(judgePart("replies"), asked.map((call) => this.replyBox(call)));
+    judgePart("order").innerHTML = drawOwnOrder(this.answer);
+    this.drawMoment();
+    this.drawVerdict();
+  }
+
+  replyBox(call) {
+    const choice = document.createElement("select");
+    choice.dataset.call = call.id;
+    choice.append(new Option("?", ""), ...repliesOf(this.exercise, call).map((reply) => new Option(reply, reply)));
+    choice.value = this.answer.replies.get(call.id) ?? "";
+    choice.onchange = () => this.say(call, choice.value === "" ? undefined : choice.value);
+    const box = document.createElement("label");
+    box.innerHTML = `${chipOf(call.thread)} ${callText(call)} answers `;
+    box.append(choice);
+    return box;
+  }
+
+  // Of a claim there is no run to step through: its own moments are told, one by one.
+  drawMoment() {
+    const slider = judgePart("moment");
+    const said = momentOfReport(this.exercise, this.moment);
+    Object.assign(slider, { max: this.exercise.last, value: this.moment });
+    slider.setAttribute("aria-valuetext", said.replace(/<[^>]*>/g, ""));
+    judgePart("said").innerHTML = said;
+  }
+
+  drawVerdict() {
+    const { verdict, tries } = this;
+    const kind = { true: "right", false: "wrong" }[verdict?.isRight] ?? "";
+    judgePart("verdict").className = kind;
+    judgePart("verdict").textContent = verdict?.says ?? "";
+    judgePart("tries").textContent = tries === 0 ? "" : `${tries} ${tries === 1 ? "try" : "tries"} refused`;
+    judgePart("hint").textContent = kind === "wrong" && tries >= 2 && this.exercise.level !== "claim" ? hintOfRun() : "";
+    const isKept = kind === "right" && this.exercise.isWhole;
+    judgePart("line").innerHTML = isKept ? `Kept, and handed in with the lessons: <code>${escaped(this.line)}</code>` : "";
+    const drawn = verdict?.report == null ? "" : askNow("listset_show_svg", verdict.report).text;
+    judgePart("picture-box").hidden = !drawn.startsWith("<svg ");
+    judgePart("picture").innerHTML = judgePart("picture-box").hidden ? "" : drawn;
+  }
+}
+
+export const judging = new Judging();
+export const drawJudging = () => isJudging() && judging.draw();
+
+// Another run is shown: the exercise was about the one before.
+export function endJudging() {
+  if (!isJudging()) return;
+  judging.end();
+  if (byId("judge").contains(document.activeElement)) byId("judge-begin").focus();
+}
+
+// After two wrong tries: the events at which it turns; of a run that is no example, those that change the set.
+function hintOfRun() {
+  const turns = CLASSICS[page.example]?.turns;
+  if (turns !== undefined) return `It turns at the events ${turns.join(", ")}.`;
+  const changes = page.trace.changes.map(({ number }) => number);
+  return changes.length === 0 ? "No event changes the set." : `The set changes at the events ${changes.join(", ")}.`;
+}
+
+export function beginJudging() {
+  const { trace } = page;
+  if (page.engine === null) return tell("The engine is not here: nothing can be judged.");
+  if (!page.isRun || trace.refused !== null) return tell("A run with a refused event is not judged: take the red line out first.");
+  if (trace.calls.length === 0) return tell("There is no call to judge yet.");
+  if (trace.total > MOST_JUDGED) return tell(`Judged are runs of at most ${MOST_JUDGED} events: this one has ${trace.total}.`);
+  tell("");
+  judging.begin(judgePart("level").value);
+  judgePart("level").focus();
+}
+
+export function listenToJudging() {
+  byId("judge-begin").onclick = beginJudging;
+  judgePart("level").append(...Object.keys(LEVELS).map((level) => new Option(level, level)));
+  judgePart("level").value = "replies";
+  judgePart("level").onchange = judgePart("again").onclick = () => judging.begin(judgePart("level").value);
+  judgePart("ask").onclick = () => judging.judge(false);
+  judgePart("none").onclick = () => judging.judge(true);
+  judgePart("moment").oninput = () => {
+    judging.moment = Number(judgePart("moment").value);
+    judging.draw();
+  };
+  judgePart("end").onclick = () => {
+    endJudging();
+    show();
+  };
+  const bars = judgePart("bars");
+  bars.onpointerdown = (event) => judging.grasp(event);
+  bars.onpointermove = (event) => judging.held !== null && judging.drag(event);
+  bars.onpointerup = bars.onpointercancel = () => (judging.held = null);
+  bars.onkeydown = (event) => judging.press(event);
+}

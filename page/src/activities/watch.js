@@ -1,0 +1,101 @@
+// Watch: the examples by their question, grouped by list; what comes before and after; a run by its number.
+import { CLASSICS } from "../../made/classics.js";
+import { LISTS } from "../../made/rows.js";
+import { IDEAS } from "../data/book_code.js";
+import { byId } from "../page/dom.js";
+import { works } from "../page/kept.js";
+import { askNow, isJudging, page } from "../page/now.js";
+import { openText } from "../page/work.js";
+import { escaped, tag } from "../run/markup.js";
+import { anotherSeed, partsOfSeed, scheduleOfSeed, seedOf } from "../run/seed.js";
+
+const seeds = { shown: null };
+
+// The first example, and the events that a first visit plays: as long as one looks at a picture, and then it waits for the reader.
+export const FIRST = { example: "marked-in-chain", from: 15, to: 20 };
+
+const kindsOfExamples = () => {
+  const kinds = {};
+  for (const option of byId("example-options").children) kinds[option.value] = /\((.+)\)$/.exec(option.textContent)[1];
+  return kinds;
+};
+
+// Cards by list, each a question and a link; `more` is what the address has behind the example, and `isDone` gives a tick.
+export function questionsByList(more = "", isDone = () => false) {
+  const kinds = kindsOfExamples();
+  const columns = Object.entries(LISTS).map(([kind, { name }]) => {
+    const items = Object.keys(kinds).filter((example) => kinds[example] === kind).map((example) => {
+      const here = example === page.example && more === "" ? { "aria-current": "true" } : {};
+      const given = { href: `#example=${example}${more}`, ...(isDone(example) ? { class: "done" } : {}), ...here };
+      return tag("li", {}, tag("a", given, escaped(CLASSICS[example].question), tag("small", {}, example)));
+    });
+    return tag("section", {}, tag("div", {}, tag("h3", {}, name), tag("p", {}, IDEAS[kind])), tag("ul", {}, ...items));
+  });
+  return tag("div", { class: "by-list" }, ...columns);
+}
+
+export function seedForm(id, verb) {
+  const options = Object.entries(LISTS).map(([kind, { name }]) => tag("option", { value: kind }, name));
+  const number = `<input id="${id}-number" type="number" min="1" max="999999999" placeholder="any">`;
+  const parts = [
+    tag("label", {}, "list ", tag("select", { id: `${id}-list` }, ...options)),
+    tag("label", {}, "number ", number),
+    tag("button", { id: `${id}-go`, class: "primary" }, verb),
+  ];
+  return tag("div", { class: "start-row" }, ...parts);
+}
+
+export function listenToSeedForm(id, more) {
+  byId(`${id}-go`).onclick = () => {
+    const kind = byId(`${id}-list`).value;
+    const number = Number(byId(`${id}-number`).value);
+    location.hash = `#seed=${number > 0 ? seedOf(kind, number) : anotherSeed(seeds.shown, kind)}${more}`;
+  };
+}
+
+const WATCH_HEAD = `<h1>Watch a list at work</h1><p class="lead">Each question is a short run of two or three threads. Step through it,
+  say what happens next, and go another way at any moment.</p>`;
+const WATCH_MORE = `<h2>Another run, as many as you like</h2><p class="lead">A number makes a run, the same for everyone.</p>`;
+
+// As a map of its own, or below the run that is shown.
+export function drawWatchMap(isBelow = false) {
+  const head = isBelow ? '<h2 class="h1">More questions</h2>' : WATCH_HEAD;
+  const more = tag("div", { class: "of-engine" }, WATCH_MORE, seedForm("watch-seed", "Watch a run"));
+  byId("map-watch").innerHTML = `${head}${questionsByList()}${more}`;
+  listenToSeedForm("watch-seed", "");
+}
+
+// ---- the task above the stage
+
+export function openSeed(seed, count) {
+  const text = scheduleOfSeed((...words) => askNow(...words), seed);
+  Object.assign(seeds, { shown: seed, text });
+  openText(text, count, works.newName(`run ${partsOfSeed(seed).number}`));
+}
+
+// The address of the run by its number, while its text is the one that is shown.
+export const seedAddress = (count) => (seeds.shown !== null && page.text === seeds.text ? `#seed=${seeds.shown}&event=${count}` : null);
+
+export function showTaskOfWatch() {
+  const isSeed = seedAddress(0) !== null && page.example === "";
+  const more = isJudging() ? "&judge" : "";
+  byId("seed-box").hidden = !isSeed;
+  if (isSeed) drawSeedBox(more);
+  const names = Object.keys(kindsOfExamples());
+  const at = names.indexOf(page.example);
+  const to = (index) => (at >= 0 && names[index] !== undefined ? `#example=${names[index]}${more}` : null);
+  return { before: to(at - 1), all: more === "" ? ["#watch", "All questions"] : ["#judge", "All runs"], next: to(at + 1) };
+}
+
+function drawSeedBox(more) {
+  const { kind, number } = partsOfSeed(seeds.shown);
+  byId("seed-number").textContent = number;
+  if (document.activeElement !== byId("seed-input")) byId("seed-input").value = number;
+  byId("seed-another").href = `#seed=${anotherSeed(seeds.shown, kind)}${more}`;
+  byId("seed-judge").href = `#seed=${seeds.shown}&judge`;
+  byId("seed-judge").hidden = more !== "";
+  byId("seed-open").onclick = () => {
+    const wanted = Number(byId("seed-input").value);
+    if (wanted > 0) location.hash = `#seed=${seedOf(kind, wanted)}${more}`;
+  };
+}

@@ -1,0 +1,172 @@
+// The goals of lessons, in words. A goal is a list of lines, each of which finds something in the run (a call, a step, a time in
+// which a thread rests) and gives it a name, or asks for a number of such things, or for more of one that has a name. A line
+// `say ..` is a condition as the student reads it: it is met where all lines above it can be met at once. book.course has a list.
+import { isFailedStep, isFailedTry, isInChain, isMarkSeen, isReadOfLink, isWithin, locksOf, nodeOf } from "../run/moments.js";
+
+export class GoalFault extends Error {
+  constructor(line, fault) {
+    super(fault);
+    this.line = line; // from 1, among the lines of the goal
+  }
+}
+
+const isRising = (one, other) => one !== null && other !== null && one < other;
+const endOf = (found) => (found.event ? found.event.number : (found.ended ?? Infinity));
+const answeredKey = (call) => Number(call.reply?.slice("at-".length));
+const hasSmaller = (call, { keys }) => [...keys].some((key) => call.key <= key && key < answeredKey(call));
+
+// What a clause asks for: its words, where X is a name that was given above and N a number, and the test of what is found.
+const CALL_CLAUSES = [
+  [/^(add|remove|contains|ceiling)$/, (call, [operation]) => call.operation === operation],
+  [/^key (\d+)$/, (call, [key]) => call.key === Number(key)],
+  [/^answers a key$/, (call) => call.reply?.startsWith("at-") === true],
+  [/^answers (true|false|full|nothing|at-\d+)$/, (call, [reply]) => call.reply === reply],
+  [/^ended$/, (call) => call.ended !== null],
+  [/^open$/, (call) => call.ended === null],
+  [/^begins after ([A-Z]\w*)$/, (call, [other]) => other.begun < call.begun],
+  [/^takes effect after ([A-Z]\w*)$/, (call, [other]) => isRising(other.at, call.at)],
+  [/^ends during ([A-Z]\w*)$/, (call, [other]) => other.begun < endOf(call) && endOf(call) < (other.ended ?? Infinity)],
+  [/^within ([A-Z]\w*)$/, (call, [rest]) => isWithin(call, rest)],
+  [/^its key always in the set$/, (call, _, run) => run.ofCall(call).every(({ keys }) => keys.has(call.key))],
+  [/^a smaller key always in the set$/, (call, _, run) => run.ofCall(call).every((moment) => hasSmaller(call, moment))],
+  [/^its node in the chain at its end$/, (call, _, run) => run.lastOf(call)?.chain.includes(run.nodeOf(call)) === true],
+];
+const STEP_CLAUSES = [
+  [/^row (\d+)$/, (step, [row]) => step.row === Number(row)],
+  [/^to row (\d+)$/, (step, [row]) => step.thread.pc === Number(row)],
+  [/^without a reply$/, (step) => step.thread.reply === "none"],
+  [/^fails$/, (step) => isFailedStep(step)],
+  [/^tries in vain a lock of (\d+)$/, (step, [thread]) => isFailedTry(step) && step.event.saw === `t${thread}`],
+  [/^sees a mark$/, (step) => isMarkSeen(step)],
+  [/^reads a link$/, (step) => isReadOfLink(step)],
+  [/^in the chain$/, (step) => isInChain(step)],
+  [/^out of the chain$/, (step) => !isInChain(step)],
+  [/^holding (\d+)$/, (step, [count]) => locksOf(step, step.event.thread) === Number(count)],
+  [/^last$/, (step) => step.event.answer !== undefined],
+  [/^pred leads to curr$/, (step) => step.linkOfPred === step.thread.curr],
+  [/^at another node than ([A-Z]\w*)$/, (step, [other]) => nodeOf(step.event) !== nodeOf(other.event)],
+  [/^after ([A-Z]\w*)$/, (step, [other]) => step.event.number > endOf(other)],
+  [/^by another thread than ([A-Z]\w*)$/, (step, [other]) => step.event.thread !== (other.event ?? other).thread],
+  [/^in ([A-Z]\w*)$/, (step, [rest]) => rest.others.includes(step)],
+  [/^takes out the node of ([A-Z]\w*)$/, (step, [call], run) => run.isTakenOut(run.nodeOf(call), step)],
+];
+const REST_CLAUSES = [[/^holding (\d+)$/, (rest, [count]) => locksOf(rest.step, rest.step.event.thread) === Number(count)]];
+export const CLAUSES = { call: CALL_CLAUSES, step: STEP_CLAUSES, rest: REST_CLAUSES };
+// What a name in a clause is to stand for.
+const NAMED = { "begins after": "call", "takes effect after": "call", "ends during": "call", within: "rest", in: "rest",
+  "at another node than": "step", "takes out the node of": "call" };
+const GOAL_FORMS = '"call C of 0: ..", "step S in C: ..", "rest R of 0", "3 steps of 1: ..", "all calls ended", "say .."';
+const GOAL_LINE = /^(?:(call|step|rest) ([A-Z]\w*)|(\d+) (call|step)s?)(?: (of|in) (\w+))?(?:: (.+))?$/;
+
+// One line of a goal, in the light of the names that stand above it.
+function readGoalLine(text, number, names) {
+  const fail = (fault) => {
+    throw new GoalFault(number, fault);
+  };
+  if (text.startsWith("say ")) return { says: text.slice("say ".length).trim() };
+  if (text === "all calls ended") return { isWhole: (run) => run.calls.every((call) => call.ended !== null) };
+  const parts = GOAL_LINE.exec(text) ?? fail(`"${text}" is no line of a goal, as ${GOAL_FORMS}`);
+  const [, kind, name, count, kinds, join, whose, clauses = ""] = parts;
+  const sort = kind ?? kinds;
+  const known = (word) => names.get(word) ?? fail(`nothing above is named ${word}`);
+  if (join === "in" && known(whose) !== "call") fail(`${whose} is no call`);
+  if (join === "of" && !/^\d+$/.test(whose)) fail(`${whose} is no thread`);
+  const isNew = name !== undefined && !names.has(name);
+  if (name !== undefined && !isNew && names.get(name) !== sort) fail(`${name} is a ${names.get(name)}`);
+  if (name !== undefined && !isNew && join !== undefined) fail(`${name} is found above: "${kind} ${name}: .." asks for more of it`);
+  if (sort === "rest" && isNew && join !== "of") fail('a rest is that of a thread: "rest R of 0"');
+  if (sort !== "step" && join === "in") fail(`a ${sort} is "of" a thread`);
+  const tests = clausesIn(clauses).map((clause) => readClause(sort, clause, known, fail));
+  if (isNew) names.set(name, sort);
+  return { sort, name, isNew, count: count === undefined ? null : Number(count), join, whose, tests, clauses: clausesIn(clauses) };
+}
+
+const clausesIn = (text) => text.split(",").map((clause) => clause.trim()).filter((clause) => clause !== "");
+
+// The forms of clauses as they are told: X is a name that was given above, and N a number.
+function formOf([pattern]) {
+  const bare = pattern.source.replace(/^\^|\$$/g, "").replaceAll("([A-Z]\\w*)", "X").replace(/\\d\+/g, "N");
+  return bare.replace(/\(([^)]*)\)/g, "$1");
+}
+
+const formsOf = (sort) => CLAUSES[sort].map(formOf).join(", ");
+
+function readClause(sort, clause, known, fail) {
+  const isOf = ([pattern]) => pattern.test(clause);
+  const [words, test] = CLAUSES[sort].find(isOf) ?? fail(`"${clause}" is no clause of a ${sort}, which are ${formsOf(sort)}`);
+  const given = words.exec(clause).slice(1);
+  for (const word of given.filter((one) => /^[A-Z]/.test(one))) {
+    const [found, wanted] = [known(word), NAMED[clause.slice(0, clause.lastIndexOf(" "))]];
+    if (wanted !== undefined && found !== wanted) fail(`${word} is a ${found}, and a ${wanted} is due there`);
+  }
+  return (found, run, bound) => test(found, given.map((word) => bound.get(word) ?? word), run);
+}
+
+export function readGoal(lines) {
+  const names = new Map();
+  const read = lines.map((line, index) => readGoalLine(line, index + 1, names));
+  if (read.at(-1)?.says === undefined) throw new GoalFault(lines.length, 'a goal ends with a line "say .."');
+  return read;
+}
+
+// What a line may find: where its name is taken already, just that.
+function foundBy(line, run, bound) {
+  if (line.name !== undefined && !line.isNew) return [bound.get(line.name)];
+  const thread = line.join === "of" ? Number(line.whose) : null;
+  if (line.sort === "rest") return run.restsOf(thread);
+  if (line.sort === "call") return run.calls.filter((call) => thread === null || call.thread === thread);
+  const steps = line.join === "in" ? run.ofCall(bound.get(line.whose)) : run.moments;
+  return steps.filter(({ event }) => event.deed !== "begin" && (thread === null || event.thread === thread));
+}
+
+// Whether all lines can be met at once: tried one after another.
+function canMeet(lines, run, bound = new Map(), at = 0) {
+  if (at === lines.length) return true;
+  const line = lines[at];
+  if (line.says !== undefined) return canMeet(lines, run, bound, at + 1);
+  if (line.isWhole !== undefined) return line.isWhole(run) && canMeet(lines, run, bound, at + 1);
+  const fits = foundBy(line, run, bound).filter((found) => line.tests.every((test) => test(found, run, bound)));
+  if (line.count !== null) return fits.length >= line.count && canMeet(lines, run, bound, at + 1);
+  return fits.some((found) => canMeet(lines, run, new Map(bound).set(line.name, found), at + 1));
+}
+
+// The conditions of a goal in a run, each { says, isMet }, and of one that is not met the first of its lines that is missing, in words.
+export function conditionsOf(goal, run) {
+  const ends = goal.map(({ says }, index) => ({ says, index })).filter(({ says }) => says !== undefined);
+  return ends.map(({ says, index }) => {
+    const isMet = canMeet(goal.slice(0, index), run);
+    return { says, isMet, missing: isMet ? null : missingLine(goal, index, run) };
+  });
+}
+
+// Of a condition that ends before a line of a goal, and has several lines, the first one that is missing; else null.
+function missingLine(goal, end, run) {
+  const begin = goal.findLastIndex(({ says }, index) => says !== undefined && index < end) + 1;
+  if (end - begin < 2) return null;
+  let at = begin;
+  while (canMeet(goal.slice(0, at + 1), run)) at++;
+  return lineInWords(goal, at);
+}
+
+// A line in words, as "an add of thread 0, answers true": a name stands for what it was given to.
+function lineInWords(goal, at) {
+  const line = goal[at];
+  if (line.isWhole !== undefined) return "all calls have answered";
+  const nouns = new Map();
+  for (const above of goal.slice(0, at)) if (above.isNew) nouns.set(above.name, `the ${nounOf(above, nouns)}`);
+  const noun = nounOf(line, nouns);
+  const article = /^[aeiou]/.test(noun) ? "an" : "a";
+  const counted = line.count === 1 ? `${article} ${noun}` : `${line.count} times a ${noun}`;
+  const subject = line.count !== null ? counted : line.isNew ? `${article} ${noun}` : nouns.get(line.name);
+  const told = (clause) => clause.replace(/\b[A-Z]\w*/g, (name) => nouns.get(name) ?? name).replace(/(lock of) (\d+)/, "$1 thread $2");
+  return [subject, ...line.clauses.filter((clause) => !isOperation(clause) || !line.isNew).map(told)].join(", ");
+}
+
+const isOperation = (clause) => /^(add|remove|contains|ceiling)$/.test(clause);
+
+function nounOf({ sort, join, whose, clauses }, nouns) {
+  if (sort === "rest") return `time in which thread ${whose} makes no step`;
+  const noun = sort === "step" ? "step" : (clauses.find(isOperation) ?? "call");
+  if (join === undefined) return noun;
+  return join === "of" ? `${noun} of thread ${whose}` : `${noun} in ${nouns.get(whose)}`;
+}

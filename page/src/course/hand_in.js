@@ -1,0 +1,163 @@
+// A text that is handed in: a title, the course and the student, and a line for each solution: the name of its lesson, a space and
+// the address of a schedule (or a whole link that ends with it), an order that was judged right, or what breaks a list.
+//
+//     listset-lessons 2
+//     course The twelve lessons of the five lists
+//     student Ada
+//     marked-in-chain #list=lazy&threads=2&quota=4&opening=5&s=b1.remove.5,g1.7,b0.contains.5,g0.3&event=12
+//     judge snip points 2-true,0-true,1-true
+//     break mark-in-add #list=lock-free&threads=2&quota=2&opening=3.7&s=b0.add.5,g0.5&event=6
+//     end
+//
+// It comes by mail as often as not: lines may be quoted, folded or coded as mail does that, and others may stand around the text.
+// One file may have the texts of a whole class, and courses too.
+import { CLASSICS, LACKING } from "../../made/classics.js";
+import { COURSE_TITLE } from "./course_text.js";
+import { judged, missingIn, MOST_EVENTS } from "./lesson.js";
+import { AddressFault, addressOf, readAddress } from "../run/address.js";
+import { isTaskDone, NO_TASK, verdictOnLacking } from "../run/broken.js";
+import { answerOfWord, exerciseOf, LEVELS, verdictOn } from "../run/judged.js";
+import { eventsAsked, scheduleOfTrace, versionOf } from "../run/schedule_text.js";
+import { Trace } from "../run/trace.js";
+
+const HAND_IN_TITLE = /^listset-lessons [12]$/;
+
+// The text with these solutions, each with the name of its lesson and its schedule, and these lines about runs that were judged and
+// lists that were broken.
+export function handInText(course, student, solutions, otherLines) {
+  const lines = solutions.map(({ name, schedule }) => `${name} ${addressOf(schedule, eventsAsked(schedule))}`);
+  return ["listset-lessons 2", `course ${course}`, `student ${student}`, ...lines, ...otherLines, "end", ""].join("\n");
+}
+
+// The lines of a text without what mail has done to them, each with the number of its first line.
+function unmailed(text) {
+  const isCoded = /=3D/i.test(text); // quoted-printable: a line goes on behind =, and =3D is =
+  const lines = [];
+  let goesOn = false;
+  text.split(/\r\n|\r|\n/).forEach((given, index) => {
+    const bare = given.replace(/[\u200b\ufeff]/g, "").replaceAll("\u00a0", " ").replace(/^[\s>|]+/, "").trimEnd();
+    const line = isCoded ? bare.replace(/=$/, "") : bare;
+    if (goesOn) lines[lines.length - 1].line += line;
+    else lines.push({ line, number: index + 1 });
+    goesOn = isCoded && bare.endsWith("=");
+  });
+  const letterOf = (_, code) => String.fromCharCode(parseInt(code, 16));
+  const decoded = (line) => (isCoded ? line.replace(/=([0-9A-F]{2})/gi, letterOf) : line);
+  return lines.map(({ line, number }) => ({ line: decoded(line).replaceAll("&amp;", "&"), number }));
+}
+
+// The texts that a file has, by their titles: courses as they stand, and what was handed in.
+export function textsIn(text) {
+  const found = [];
+  const given = text.split(/\r\n|\r|\n/);
+  for (const { line, number } of unmailed(text)) {
+    const last = found.at(-1);
+    if (line === COURSE_TITLE) found.push({ kind: "course", number, lines: [] });
+    else if (HAND_IN_TITLE.test(line)) found.push({ kind: "hand-in", number, version: Number(line.at(-1)), lines: [] });
+    else if (last?.kind === "hand-in" && !last.isEnded && line === "end") last.isEnded = true;
+    else if (last?.kind === "hand-in" && !last.isEnded && line !== "") last.lines.push({ line, number });
+  }
+  for (const [index, course] of found.entries()) {
+    if (course.kind !== "course") continue;
+    course.text = given.slice(course.number - 1, (found[index + 1]?.number ?? given.length + 1) - 1).join("\n");
+  }
+  return found;
+}
+
+// Whether a line begins a part of a text that is handed in, whether a part lacks words, and whether a line may go on with one.
+const isBegin = (line) => /^(student|course|judge|break) /.test(line) || /^[a-z][a-z0-9-]* +(\S*#|<?https?:)/.test(line);
+const lacksWords = (line) =>
+  /^judge /.test(line) ? line.split(" ").length < 4 : !/^(student|course) /.test(line) && !line.includes("#");
+const isPiece = (line) => !line.includes(" ") || /^\S*[.,=&]\S* /.test(line);
+
+// What was handed in: the course and the student, or null, the parts with the numbers of their lines, and the faults.
+export function readHandIn({ lines, version, isEnded, number }) {
+  const parts = [];
+  const faults = [];
+  for (const given of lines) {
+    const last = parts.at(-1);
+    const isName = /^[a-z][a-z0-9-]*$/.test(given.line) && (last === undefined || !lacksWords(last.line));
+    if (isBegin(given.line) || isName) parts.push({ ...given });
+    else if (last !== undefined && lacksWords(last.line)) last.line += ` ${given.line}`;
+    else if (last !== undefined && isPiece(given.line)) last.line += given.line;
+    else faults.push({ line: given.number, fault: `"${given.line.slice(0, 40)}" is no line of a solution` });
+  }
+  const valueOf = (word) => parts.find(({ line }) => line.startsWith(`${word} `))?.line.slice(word.length + 1) ?? null;
+  if (version === 2 && !isEnded) faults.push({ line: number, fault: 'the text is cut: the line "end" is missing' });
+  const solutions = parts.filter(({ line }) => !/^(student|course) /.test(line));
+  return { course: valueOf("course"), student: valueOf("student"), solutions, faults };
+}
+
+// The schedule of a link or an address, or its fault.
+function readSchedule(link) {
+  try {
+    const { text } = readAddress(link.slice(link.indexOf("#")).replace(/>$/, ""));
+    return text === null ? { fault: "the address is not that of a schedule" } : { schedule: text };
+  } catch (fault) {
+    if (!(fault instanceof AddressFault)) throw fault;
+    return { fault: fault.message };
+  }
+}
+
+// What is said of a part: the task, whether it is solved, and why not.
+export function judgedPart(ask, lessons, line) {
+  const [word, ...words] = line.split(/ +/);
+  if (word === "judge") return judgedOrder(ask, words);
+  if (word === "break") return judgedBreak(ask, words);
+  const lesson = lessons.find(({ name }) => name === word);
+  const not = (says) => ({ task: lesson?.name ?? null, isSolved: false, says });
+  if (lesson === undefined) return not(`there is no lesson ${JSON.stringify(word.slice(0, 60))}`);
+  if (words.length === 0 || !words[0].includes("#")) return not("the address of a schedule is missing, from # on");
+  if (words.length > 1) return not("something stands behind the address");
+  const { schedule, fault } = readSchedule(words[0]);
+  if (fault !== undefined) return not(fault);
+  const verdict = judged(ask, lesson, schedule);
+  if (!verdict.isSolved) return not(missingIn(verdict));
+  return { task: lesson.name, isSolved: true, says: "", schedule, isVeryAnswer: schedule === lesson.solution };
+}
+
+// Of a line `judge RUN LEVEL ORDER`: the order is judged by `check`. The run is an example or the address of a schedule.
+function judgedOrder(ask, [run = "", level = "", word = "", ...more]) {
+  const task = `judge ${run} ${level}`;
+  const not = (says) => ({ task, isSolved: false, says });
+  if (!Object.hasOwn(LEVELS, level)) return not(`a level is due, one of ${Object.keys(LEVELS).join(", ")}`);
+  if (more.length > 0) return not("something stands behind the order");
+  const { schedule, fault } = run.includes("#") ? readSchedule(run) : scheduleOfExample(ask, run);
+  if (fault !== undefined) return not(fault);
+  const report = ask("listset_replay", schedule);
+  if (report.status !== 0) return not(`the schedule is refused: ${report.text.trim()}`);
+  const answer = answerOfWord(exerciseOf(report.text, level), word);
+  if (answer === null) return not("the order is due, as 0-true,2-true,1-false");
+  const { isRight, says } = verdictOn(ask, answer);
+  return { task, isSolved: isRight === true, says: isRight === true ? "" : says };
+}
+
+// Of a line `break NAME SCHEDULE`: whether counting refutes the run of the list that lacks this check, or, where counting never can,
+// its order is refused.
+function judgedBreak(ask, [name = "", link = "", ...more]) {
+  const task = `break ${name}`;
+  const not = (says) => ({ task, isSolved: false, says });
+  if (!Object.hasOwn(LACKING, name) || name === NO_TASK) return not("there is no such list to break");
+  if (!link.includes("#")) return not("the address of a schedule is due, from # on");
+  if (more.length > 0) return not("something stands behind the address");
+  const { schedule, fault } = readSchedule(link);
+  if (fault !== undefined) return not(fault);
+  if (eventsAsked(schedule) > MOST_EVENTS) return not(`at most ${MOST_EVENTS} events are due`);
+  const verdict = verdictOnLacking(ask, name, schedule);
+  if (!isTaskDone(name, verdict)) return not(verdict.says);
+  return { task, isSolved: true, says: "", schedule, ofExample: exampleBy(ask, name, schedule) };
+}
+
+// The example whose own schedule this is, on the broken list, as the page shows it without the check; or null.
+function exampleBy(ask, name, schedule) {
+  const shown = (example) => {
+    const text = ask("listset_example", example).text;
+    return scheduleOfTrace(new Trace(ask("listset_trace_lacking", name, text).text, versionOf(text)));
+  };
+  return Object.keys(CLASSICS).find((example) => CLASSICS[example].lacks.includes(name) && shown(example) === schedule) ?? null;
+}
+
+function scheduleOfExample(ask, name) {
+  const { status, text } = ask("listset_example", name);
+  return status === 0 ? { schedule: text } : { fault: `there is no example ${JSON.stringify(name.slice(0, 60))}` };
+}

@@ -1,0 +1,99 @@
+// What a lesson says of a schedule: whether it is a solution, which conditions of the goal its run meets, and why none is looked
+// at. A lesson is tried when it is read: its start does not reach its goal, and its answer does.
+import { lessonText, readCourse } from "./course_text.js";
+import { conditionsOf } from "./goal_words.js";
+import { askList, TO_BREAK, verdictOnLacking } from "../run/broken.js";
+import { scheduleOfDraft } from "../run/draft.js";
+import { CAUSES } from "../run/faults.js";
+import { Run } from "../run/moments.js";
+import { eventsAsked, versionOf } from "../run/schedule_text.js";
+import { HEADER_LINES, Trace } from "../run/trace.js";
+
+export const MOST_EVENTS = 1000; // of a solution
+export const OTHER_SET = "The list, the number of threads, the quota and the opening keys are to be those of the lesson.";
+
+// The lines of a schedule that tell its set: list, threads, quota and opening keys.
+export const setOf = (schedule) => schedule.split("\n").slice(1).filter((line) => !/^(begin|go) /.test(line)).join("\n");
+
+// The run of a schedule by the engine, or why there is none: `ask` gives what a function of the engine says of a text.
+function runOfSchedule(ask, schedule, lacks) {
+  const made = askList(ask, "listset_trace", lacks, schedule).text;
+  if (!made.startsWith("listset-trace")) return { trace: null, fault: `the schedule is refused: ${made.trim()}` };
+  const trace = new Trace(made, versionOf(schedule));
+  if (trace.refused === null) return { trace, fault: null };
+  return { trace: null, fault: `line ${trace.refused.line} of the schedule is refused: ${trace.refused.cause}` };
+}
+
+export const unjudged = (reason) => ({ isSolved: false, reason, conditions: [], deadEnd: null });
+
+// Judges a schedule of a lesson that was tried.
+export function judged(ask, lesson, schedule) {
+  if (setOf(schedule) !== setOf(lesson.begun)) return unjudged(OTHER_SET);
+  if (eventsAsked(schedule) > MOST_EVENTS) return unjudged(`A solution has at most ${MOST_EVENTS} events.`);
+  const { trace, fault } = runOfSchedule(ask, schedule, lesson.lacks);
+  if (trace === null) return unjudged(`${fault[0].toUpperCase()}${fault.slice(1)}.`);
+  const run = new Run(trace);
+  const conditions = conditionsOfLesson(ask, lesson, schedule, run);
+  const isSolved = conditions.every(({ isMet }) => isMet);
+  return { isSolved, reason: null, conditions, deadEnd: isSolved ? null : deadEndIn(lesson, run) };
+}
+
+// What a solution shows, as the student reads it: the conditions of the goal, and of a broken list that the schedule breaks it.
+export const conditionTexts = ({ goal, lacks }) =>
+  [...goal.map(({ says }) => says), lacks === null ? undefined : TO_BREAK].filter((says) => says !== undefined);
+
+function conditionsOfLesson(ask, { goal, lacks }, schedule, run) {
+  const conditions = conditionsOf(goal, run);
+  if (lacks === null) return conditions;
+  return [...conditions, { says: TO_BREAK, isMet: verdictOnLacking(ask, lacks, schedule).kind === "broken" }];
+}
+
+// What the lesson's text says of a run that leads nowhere, or null.
+function deadEndIn(lesson, run) {
+  const met = lesson.deadEnds.map((lines) => conditionsOf(lines, run)[0]).find(({ isMet }) => isMet);
+  return met?.says ?? null;
+}
+
+// Why a schedule that was judged is no solution: why it was not looked at, or the first condition that it does not meet.
+export function missingIn({ reason, conditions }) {
+  const missing = conditions.find(({ isMet }) => !isMet);
+  return reason ?? (missing === undefined ? null : `missing: ${missing.says}`);
+}
+
+// Tries a lesson, which then has the schedules of its start and of its answer: what is wrong with it and at which line, or null.
+function troubleOf(ask, lesson) {
+  const start = scheduleOfDraft(ask, lessonText(lesson, lesson.start), lesson.lacks);
+  if (start.fault !== null) return refusedLine(lesson, "start", start.fault);
+  lesson.begun = start.text;
+  const begin = runOfSchedule(ask, start.text, lesson.lacks);
+  if (begin.trace === null) return refusedLine(lesson, "start", begin.fault);
+  const met = conditionsOfLesson(ask, lesson, start.text, new Run(begin.trace));
+  if (met.every(({ isMet }) => isMet)) return { line: lesson.line, says: "its start meets the goal already" };
+  lesson.solution = null;
+  if (lesson.answer.length === 0) return null;
+  const answer = scheduleOfDraft(ask, lessonText(lesson, [...lesson.start, ...lesson.answer]), lesson.lacks);
+  if (answer.fault !== null) return refusedLine(lesson, "answer", answer.fault);
+  lesson.solution = answer.text;
+  const verdict = judged(ask, lesson, answer.text);
+  if (verdict.isSolved) return null;
+  if (verdict.reason !== null) return refusedLine(lesson, "answer", verdict.reason);
+  return { line: lesson.line, says: `its answer does not solve it: ${missingIn(verdict)}` };
+}
+
+// A fault of the schedule of a start or an answer, told by the line of the course and in words.
+function refusedLine(lesson, part, fault) {
+  const [, number, cause] = /line (\d+)(?: of the schedule is refused)?: (\w+)/i.exec(fault) ?? [];
+  const given = lesson.events[Number(number) - HEADER_LINES - lesson.opening.length - 1];
+  if (given === undefined || !(cause in CAUSES)) return { line: lesson.line, says: `its ${part} is refused: ${fault}` };
+  return { line: given.number, says: `its ${part} is refused at "${given.line}": ${CAUSES[cause]}` };
+}
+
+// A course that is read and, where its text has no fault, tried: its name, its lessons, and all faults by their lines.
+export function triedCourse(ask, text) {
+  const { name, lessons, faults } = readCourse(text);
+  for (const lesson of faults.length === 0 ? lessons : []) {
+    const fault = troubleOf(ask, lesson);
+    if (fault !== null) faults.push({ line: fault.line, fault: `${lesson.name}: ${fault.says}` });
+  }
+  return { name, lessons, text, faults: faults.sort((one, other) => one.line - other.line) };
+}

@@ -1,0 +1,105 @@
+// Draws the listing: the proved code of the open calls, each thread at its line. A call that has no loop of its own is made by the
+// interpreter: of it the rows of the table.
+import { CODE, CODE_OF } from "../../made/code.js";
+import { LISTS } from "../../made/rows.js";
+import { callText, chipOf, escaped, tag } from "../run/markup.js";
+
+// The steps of these functions that make a row, each with its function.
+function stepsAt(functions, row) {
+  return functions.flatMap((code) => code.steps.filter(({ rows }) => rows.includes(row)).map((step) => ({ code, ...step })));
+}
+
+// The functions of a call: of the file that has a line for each of its rows. Null where none has.
+export function codeOf(kind, { operation }) {
+  const { rows } = LISTS[kind].calls[operation];
+  const file = CODE_OF[kind].find((name) => rows.every((row) => stepsAt(CODE[name], row).length > 0));
+  return file === undefined ? null : { file, functions: CODE[file] };
+}
+
+// The line at which a thread stands. Where several make its row, that which comes where its call has come to: at its beginning, or
+// with a reply, or in the function that made the row before, or that called this one.
+export function stepOf(functions, held) {
+  let found = stepsAt(functions, held.pc);
+  const came = stepsAt(functions, held.came).map(({ code }) => code.name);
+  const tests = [
+    ({ begins = false }) => begins === (held.came === 0),
+    ({ answers = false }) => answers === (held.reply !== "none"),
+    ({ code }) => came.includes(code.name),
+    ({ code }) => code.calls.some(([, name]) => came.includes(name)),
+  ];
+  for (const test of tests) if (found.length > 1 && found.some(test)) found = found.filter(test);
+  return found[0];
+}
+
+// The lines that have called the function of a step, from call to call.
+function callersOf(functions, name) {
+  const calls = functions.flatMap((code) => code.calls.map(([line, called]) => ({ line, called, name: code.name })));
+  const direct = calls.filter(({ called }) => called === name);
+  return [...direct.map(({ line }) => line), ...direct.flatMap((caller) => callersOf(functions, caller.name))];
+}
+
+const rowText = (kind, number) => {
+  const { step, then, book } = LISTS[kind].rows[number];
+  return `row ${number}: ${escaped(step)} <span class="then">→ ${escaped(then)}</span> <small>${escaped(book)}</small>`;
+};
+
+// What is said at a line of the threads that stand there, by their rows.
+function standingText(kind, threads) {
+  const rows = [...new Set(threads.map(({ held }) => held.pc))];
+  const chips = (row) => threads.filter(({ held }) => held.pc === row).map(({ thread }) => chipOf(thread)).join(" ");
+  return rows.map((row) => tag("p", {}, `${chips(row)} ${rowText(kind, row)}`)).join("");
+}
+
+function lineItem(number, text, isSaid, kind, threads) {
+  const here = threads.filter(({ step }) => step.line === number);
+  const inside = threads.filter(({ callers }) => callers.includes(number));
+  const shown = [tag("i", {}, number), tag("code", isSaid ? { class: "said-of-it" } : {}, escaped(text)), standingText(kind, here)];
+  const isOfEvent = here.some(({ isMoved }) => isMoved);
+  if (here.length > 0) return tag("li", { class: isOfEvent ? "here moved" : "here", "aria-current": "step" }, ...shown);
+  return tag("li", inside.length > 0 ? { class: "inside" } : {}, ...shown);
+}
+
+// A function, and the threads that stand in it or in what it calls. What is said of it ends where its body begins.
+function functionOf(code, kind, threads) {
+  const lines = code.text.trimStart().split("\n");
+  const body = lines.indexOf("{");
+  const items = lines.map((text, index) => lineItem(code.first + index, text, index < body, kind, threads));
+  return tag("ol", { class: "code" }, ...items);
+}
+
+// The code of a file, and the calls that are in it.
+function fileOf(file, functions, kind, threads) {
+  const calls = threads.map(({ thread, held }) => `${chipOf(thread)} ${callText(held.call)}`).join(" ");
+  return tag("section", {}, tag("h3", {}, `${calls} <small>${file}</small>`), ...functions.map((code) => functionOf(code, kind, threads)));
+}
+
+// The rows of a call, as the table has them.
+function rowsOf(kind, { thread, held }) {
+  const items = LISTS[kind].calls[held.call.operation].rows.map((number) => {
+    const given = number === held.pc ? { class: "here", "aria-current": "step" } : {};
+    return tag("li", given, rowText(kind, number));
+  });
+  const head = tag("h3", {}, `${chipOf(thread)} ${callText(held.call)} <small>by the interpreter, row by row</small>`);
+  return tag("section", {}, head, tag("ol", { class: "rows" }, ...items));
+}
+
+export function drawListing({ trace, state, event }) {
+  const { kind } = trace;
+  const open = state.threads.map((held, thread) => ({ held, thread })).filter(({ held }) => held.pc !== 0);
+  if (open.length === 0) return tag("p", { class: "note" }, "No call is open.");
+  const byFile = new Map();
+  for (const one of open) {
+    const file = codeOf(kind, one.held.call)?.file;
+    byFile.set(file, [...(byFile.get(file) ?? []), one]);
+  }
+  const byRows = (byFile.get(undefined) ?? []).map((one) => rowsOf(kind, one));
+  byFile.delete(undefined);
+  const parts = [...byFile].map(([file, threads]) => {
+    const standing = threads.map(({ held, thread }) => {
+      const step = stepOf(CODE[file], held);
+      return { held, thread, step, callers: callersOf(CODE[file], step.code.name), isMoved: thread === event?.thread };
+    });
+    return fileOf(file, CODE[file], kind, standing);
+  });
+  return tag("div", { class: "listings" }, ...parts, ...byRows);
+}

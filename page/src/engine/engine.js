@@ -1,0 +1,99 @@
+// The engine: the proved replayer as the WebAssembly module listset.wasm. Text in, text out.
+
+export const FIRST_ROOM = 1 << 22; // bytes handed to the engine for its answer, at first
+export const LARGE_MEMORY = 1 << 28; // past so many bytes an instance is not used again
+
+export class Engine {
+  constructor(module) {
+    this.module = module;
+    this.instance = null;
+  }
+
+  static async start() {
+    return new Engine(await WebAssembly.compile(await engineBytes()));
+  }
+
+  // What an export says of the texts that it takes: the exit status of the program, and what it prints. Those left out are empty.
+  ask(name, ...texts) {
+    const encoder = new TextEncoder();
+    return this.askBytes(name, ...texts.map((text) => encoder.encode(text)));
+  }
+
+  askBytes(name, ...given) {
+    if (this.instance === null || this.instance.exports.memory.buffer.byteLength > LARGE_MEMORY) {
+      this.instance = new WebAssembly.Instance(this.module, {});
+    }
+    try {
+      return answerOf(this.instance.exports, name, given);
+    } catch (fault) {
+      this.instance = null; // after a trap the memory is not looked at again
+      throw new Error(`the engine stopped: ${fault.message}`);
+    }
+  }
+}
+
+// The bytes of the module. A page that is opened as a file may fetch nothing, and takes them from engine.js; a page that is one file
+// has that script in it.
+async function engineBytes() {
+  if (typeof ENGINE === "undefined" && location.protocol === "file:") await loadScript("engine.js");
+  if (typeof ENGINE !== "undefined") return Uint8Array.from(atob(ENGINE), (letter) => letter.charCodeAt(0));
+  const answer = await fetch("listset.wasm");
+  if (!answer.ok) throw new Error(`listset.wasm: ${answer.status} ${answer.statusText}`);
+  return answer.arrayBuffer();
+}
+
+function loadScript(src) {
+  return new Promise((done, fail) => {
+    const onerror = () => fail(new Error(`${src} is not beside the page`));
+    document.head.append(Object.assign(document.createElement("script"), { src, onload: done, onerror }));
+  });
+}
+
+// The words for the options of listset_show, as texts: of those that are not given, nothing.
+export function optionWords({ from, to, width }) {
+  return wordsOf([from, to, width].map((text) => (text === undefined ? "" : `=${text}`)));
+}
+
+// Words as an export takes them.
+export function wordsOf(words) {
+  return words.join("\0");
+}
+
+// Asks once, and a second time with the room that the answer needs.
+export function answerOf(engine, name, given) {
+  const texts = textsOf(engine, engine[name].length, given);
+  let answer = answerInRoom(engine, name, texts, FIRST_ROOM);
+  if (answer.bytes === null) answer = answerInRoom(engine, name, texts, answer.length);
+  texts.forEach(([block]) => engine.page_free(block));
+  if (answer.bytes === null) throw new Error("two answers to one text");
+  return { status: answer.status, text: new TextDecoder().decode(answer.bytes), bytes: answer.bytes };
+}
+
+// Each text in memory, as its block and its length: as many as a function with so many parameters takes. The last three
+// parameters are the room's block and length, and the status.
+export function textsOf(engine, parameters, given) {
+  return Array.from({ length: (parameters - 3) / 2 }, (_, at) => {
+    const text = given[at] ?? new Uint8Array(0);
+    const block = blockOf(engine, text.length);
+    new Uint8Array(engine.memory.buffer, Number(block), text.length).set(text);
+    return [block, BigInt(text.length)];
+  });
+}
+
+export function answerInRoom(engine, name, texts, room) {
+  const out = blockOf(engine, room);
+  const status = blockOf(engine, 1);
+  const count = Number(engine[name](...texts.flat(), out, BigInt(room), status));
+  const memory = engine.memory.buffer;
+  const bytes = count <= room ? new Uint8Array(memory, Number(out), count).slice() : null;
+  const said = new Uint8Array(memory, Number(status), 1)[0];
+  engine.page_free(out);
+  engine.page_free(status);
+  return { bytes, length: count, status: said };
+}
+
+export function blockOf(engine, length) {
+  const block = engine.page_alloc(BigInt(Math.max(length, 1)));
+  if (!block) throw new Error("no memory");
+  return block;
+}

@@ -1,0 +1,136 @@
+// What the buttons, the slider, the box of the schedule and the history do.
+import { HISTORY_LEFT } from "../draw/history.js";
+import { byId } from "./dom.js";
+import { openFile, refreshReport, saveText } from "./files.js";
+import { keepUnder, keptUnder } from "./kept.js";
+import { toggleKeys, toggleLecture } from "./keys.js";
+import { cancelLong } from "./long_run.js";
+import { chooseInList } from "./menu.js";
+import { page, show, tell } from "./now.js";
+import { isAtWork, where } from "./places.js";
+import { changeSpeed, goByHand, togglePlay, wantsLessMotion } from "./play.js";
+import { savePicture } from "./save_picture.js";
+import { showMarks, watchEditor } from "./view.js";
+import { copyLink, keepSoon } from "./visit.js";
+import { newSchedule, redo, runBox, runWithOpening, undo } from "./work.js";
+import { escaped } from "../run/markup.js";
+
+function clickHistory(event) {
+  const drawn = byId("calls").firstElementChild.getBoundingClientRect();
+  goByHand(page.scale.first - 1 + Math.ceil((event.clientX - drawn.left - HISTORY_LEFT) / page.scale.step));
+}
+
+// What a tooltip says, where a finger or the mouse is put on a part of a drawing.
+const tooltipOf = (target) => target.closest("g, svg")?.querySelector(":scope > title")?.textContent ?? "";
+
+function tellTitle(event) {
+  const said = tooltipOf(event.target);
+  if (said !== "") tell(escaped(said));
+}
+
+export function listenToDrawings() {
+  byId("turns").onclick = (event) => event.target.dataset.event && goByHand(Number(event.target.dataset.event));
+  byId("list").onclick = tellTitle;
+  byId("history").onclick = (event) => {
+    const said = tooltipOf(event.target);
+    clickHistory(event);
+    tell(escaped(said));
+  };
+  byId("all-threads").onclick = () => {
+    page.allThreads = !page.allThreads;
+    show();
+  };
+  for (const name of ["table-box", "listing-box", "turns-box"]) byId(name).ontoggle = show;
+}
+
+// What cannot be pressed now does nothing.
+export function stopUnable(event) {
+  if (event.target.closest?.('[aria-disabled="true"]') == null) return;
+  event.stopPropagation();
+  event.preventDefault();
+}
+
+// Past the links of the frame, for whoever comes by the key Tab: to the step, to the first move of a lesson or level, or to the first
+// link of a map.
+function skipToRun() {
+  const first = { map: `#map-${where.activity} a, [data-activity=compare] #sides-turns button`, stage: isAtWork() ? "#moves button" : "#next" };
+  document.querySelector(first[where.screen])?.focus();
+}
+
+export function listenToBar() {
+  byId("first").onclick = () => goByHand(0);
+  byId("back").onclick = () => goByHand(page.count - 1);
+  byId("next").onclick = () => goByHand(page.count + 1);
+  byId("last").onclick = () => goByHand(page.trace.total);
+  byId("play").onclick = togglePlay;
+  byId("speed").onchange = changeSpeed;
+  byId("speed").value = wantsLessMotion() ? "slow" : "medium";
+  byId("slider").oninput = () => goByHand(Number(byId("slider").value));
+  byId("keys").onclick = toggleKeys;
+  byId("skip").onclick = skipToRun;
+  byId("lecture").onclick = toggleLecture;
+  byId("link-here").onclick = copyLink;
+  byId("long-cancel").onclick = cancelLong;
+}
+
+// What the reader has set is kept: whether what is to come is hidden, and whether single letters are keys.
+export function listenToSettings() {
+  const kept = keptUnder(SETTINGS) ?? {};
+  byId("hides").checked = page.hides = kept.hides !== false;
+  byId("single-keys").checked = kept.letters !== false;
+  const keep = () => keepUnder(SETTINGS, { hides: page.hides, letters: byId("single-keys").checked });
+  byId("single-keys").onchange = keep;
+  byId("hides").onchange = () => {
+    page.hides = byId("hides").checked;
+    keep();
+    show();
+  };
+}
+const SETTINGS = "listset-settings";
+
+export function listenToWork() {
+  const box = byId("schedule");
+  byId("examples").onchange = () => chooseInList(byId("examples").value);
+  byId("run").onclick = runBox;
+  byId("opening").onchange = runWithOpening;
+  byId("undo").onclick = undo;
+  byId("redo").onclick = redo;
+  byId("link").onclick = copyLink;
+  byId("new").onclick = () => newSchedule(byId("new-list").value, byId("new-threads").value, byId("new-quota").value);
+  box.onscroll = showMarks;
+  watchEditor();
+  box.oninput = () => {
+    showMarks();
+    keepSoon();
+  };
+  box.onkeydown = (event) => {
+    if (event.key === "Enter" && (event.ctrlKey || event.metaKey)) runBox();
+  };
+}
+
+export function listenToFiles() {
+  byId("report-box").ontoggle = refreshReport;
+  byId("file").onchange = () => openFile(byId("file").files[0]).then(() => (byId("file").value = ""));
+  byId("save-schedule").onclick = () => saveText("page.schedule", byId("schedule").value);
+  byId("save-trace").onclick = () => saveText("page.trace", page.trace.text);
+  byId("save-picture").onclick = savePicture;
+}
+
+// Where there is room for one column alone, the steps stand below the history, and what is not needed at first is folded.
+export function placeParts() {
+  const narrow = matchMedia("(max-width: 940px)");
+  const place = () => {
+    for (const name of ["schedule-box", "new-box", "files-box", "threads-box", "lesson-goal"]) byId(name).open = !narrow.matches;
+  };
+  narrow.addEventListener("change", place);
+  place();
+}
+
+// At work the moves stand right below the list, else below the history.
+export function placeMoves(isBelow) {
+  const wanted = byId(isBelow ? "moves-wide" : "moves-narrow");
+  if (byId("moves-box").parentElement === wanted) return;
+  const focused = document.activeElement;
+  wanted.append(byId("moves-box"));
+  if (wanted.contains(focused)) focused.focus();
+}

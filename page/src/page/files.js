@@ -1,0 +1,130 @@
+// Files: a schedule, a trace or a report that is opened; a schedule and a trace that are saved. And the box of the report.
+import { byId } from "./dom.js";
+import { chooseExample } from "./example.js";
+import { works } from "./kept.js";
+import { askLong, LONG_TEXT } from "./long_run.js";
+import { askNow, NO_ENGINE, page, show, takeScheduleOfTrace, takeTrace, tellFault } from "./now.js";
+import { keepBefore, openText, takeName } from "./work.js";
+import { askList } from "../run/broken.js";
+import { faultOfTrace } from "../run/check_trace.js";
+import { COUNTED } from "../run/judged.js";
+import { scheduleOfTrace } from "../run/schedule_text.js";
+import { Trace } from "../run/trace.js";
+
+const REPLY_WIDTH = 60; // of a call in the picture of a report: what stands right of its bar
+
+export function saveText(name, text) {
+  const link = document.createElement("a");
+  link.href = URL.createObjectURL(new Blob([text], { type: "text/plain" }));
+  link.download = name;
+  link.click();
+  URL.revokeObjectURL(link.href);
+}
+
+// What a file is, by its first line. A file without a known title is taken for a schedule, so that the engine names its fault.
+function kindOfFile(text) {
+  if (text.startsWith("listset-trace")) return "trace";
+  return text.startsWith("listset-report") ? "report" : "schedule";
+}
+
+// Of a trace from a file: whether the engine's trace of its schedule has the same bytes.
+export function comparedTrace(engine, trace) {
+  if (engine === null) return "a trace from a file; its grammar was checked";
+  if (trace.refused !== null) return "a trace from a file; its grammar was checked, and it ends with a refused event";
+  const own = askList((...asked) => engine.ask(...asked), "listset_trace", trace.lacks, scheduleOfTrace(trace));
+  const given = trace.text.split("\n").filter((line) => !/^chain( |$)/.test(line));
+  const line = own.text.split("\n").findIndex((text, index) => text !== given[index]);
+  const engines = trace.lacks === null ? "the proved replayer" : "the engine";
+  if (line === -1) return `a trace from a file, and ${engines} gives the same for its schedule`;
+  const event = Math.max(line + 1 - trace.text.split("\n").findIndex((text) => text.startsWith("event ")), 1);
+  return `a trace from a file; ${engines} gives another, from its event ${event} on`;
+}
+
+// Opens a file, by what its first line says that it is.
+export async function openFile(file) {
+  const text = new TextDecoder().decode(new Uint8Array(await file.arrayBuffer()));
+  const kind = kindOfFile(text);
+  if (kind === "report") {
+    if (page.engine === null) return tellFault(page.faultLine, "", NO_ENGINE, !page.isRun);
+    await openReportBox();
+    return showReport(text, `The report in ${file.name}:`);
+  }
+  const name = works.newName(`from ${file.name}`);
+  if (kind === "schedule") return openText(text, 0, name);
+  openTrace(text, name);
+}
+
+function openTrace(text, name) {
+  const fault = faultOfTrace(text);
+  if (fault !== null) return tellFault(null, "", `this is no trace: ${fault}`);
+  keepBefore();
+  takeName(name, "");
+  chooseExample("");
+  takeTrace(new Trace(text), 0, "a trace from a file");
+  takeScheduleOfTrace();
+  page.source = comparedTrace(page.engine, page.trace);
+  show();
+}
+
+// Unfolds the box of the report, and waits until that is told: a box that is unfolded shows the schedule's own report first.
+async function openReportBox() {
+  const box = byId("report-box");
+  if (box.open) return;
+  await new Promise((done) => {
+    box.addEventListener("toggle", done, { once: true });
+    box.open = true;
+  });
+}
+
+// Shows a report, and what `check` says of it.
+async function showReport(text, whose) {
+  byId("report").textContent = text;
+  byId("report-of").textContent = whose;
+  const checked = (await askLong("listset_check", text)).text.trim();
+  if (byId("report").textContent !== text) return;
+  byId("checked").textContent = checked;
+  if (text.length < LONG_TEXT) drawPicture(text);
+  else byId("picture-box").hidden = true;
+}
+
+// The picture of a report or of a schedule as `listset show` draws it, and what it says is refused.
+function drawPicture(text) {
+  const drawn = askNow("listset_show_svg", text).text;
+  byId("picture-box").hidden = !drawn.startsWith("<svg ");
+  if (byId("picture-box").hidden) return;
+  byId("picture").innerHTML = drawn;
+  const said = refusalIn(askNow("listset_show", text).text);
+  byId("picture-says").textContent = said;
+  const svg = byId("picture").firstElementChild;
+  svg.setAttribute("role", "img");
+  svg.setAttribute("aria-label", `the calls of the report${said === "" ? "" : `; ${said}`}`);
+  scrollToClash();
+}
+
+// The lines of a picture that say why its order is refused, or which event is, and that no order explains the report.
+const refusalIn = (text) => text.split("\n").filter((line) => line.startsWith("refused ") || line.startsWith(COUNTED)).join("; ");
+
+// Brings the first call that clashes into sight, with its reply, where the picture is wider than its place.
+function scrollToClash() {
+  const box = byId("picture");
+  const clash = box.querySelector(".bar.clash");
+  const left = box.getBoundingClientRect().left - box.scrollLeft;
+  box.scrollLeft = clash === null ? 0 : clash.getBoundingClientRect().right + REPLY_WIDTH - left - box.clientWidth;
+}
+
+// The report of the schedule that is shown, or the line about its first fault.
+async function showOwnReport(schedule) {
+  const { lacks } = page;
+  const answer = lacks === null ? await askLong("listset_replay", schedule) : askList(askNow, "listset_replay", lacks, schedule);
+  if (page.text !== schedule) return;
+  if (answer.status === 0) return showReport(answer.text, "The report of this schedule:");
+  byId("report").textContent = answer.text;
+  byId("report-of").textContent = "There is no report:";
+  byId("checked").textContent = "—";
+  if (lacks === null) drawPicture(schedule);
+  else byId("picture-box").hidden = true;
+}
+
+export function refreshReport() {
+  if (byId("report-box").open && page.engine !== null) showOwnReport(page.text);
+}

@@ -1,0 +1,93 @@
+// "Go on from here": at any event, steps of any thread, or a call that it begins, in place of what came next.
+import { LISTS } from "../../made/rows.js";
+import { byId, redraw } from "./dom.js";
+import { page } from "./now.js";
+import { oneStep, stepsToEnd, stepsToRow } from "./steps.js";
+import { goOn } from "./work.js";
+import { callText, chipOf, colourOf } from "../run/markup.js";
+import { CALL_WORDS, MOST_NUMBER } from "../run/trace.js";
+
+const chosenCalls = {}; // of each thread, the call that was last chosen for it
+const chosenRows = {}; // and the row to which it is to go
+const chosenOf = (thread) => (chosenCalls[thread] ??= { operation: "add", key: "5" });
+
+// The moves from the event that is shown, and what they drop.
+export function drawMovesNow({ trace, state }) {
+  drawMoves(state, page.engine !== null);
+  const isLater = page.count < trace.total;
+  byId("moves-note").textContent = isLater ? `From event ${page.count} on; what comes after it is dropped.` : "";
+}
+
+// One row of controls for each thread.
+function drawMoves(state, isAble) {
+  const rows = state.threads.map((held, thread) => {
+    const row = document.createElement("div");
+    row.className = "row";
+    row.dataset.thread = thread;
+    row.classList.add(colourOf(thread));
+    row.setAttribute("role", "group");
+    row.setAttribute("aria-label", `thread ${thread}`);
+    row.innerHTML = chipOf(thread);
+    row.append(...(held.pc !== 0 ? stepControls(state, thread) : beginControls(thread)));
+    row.querySelectorAll("button, select, input").forEach((control) => (control.dataset.of = thread));
+    if (!isAble) row.querySelectorAll("button, select, input").forEach((control) => (control.disabled = true));
+    return row;
+  });
+  redraw(byId("moves"), rows);
+}
+
+function buttonOf(text, deed, title, onclick) {
+  const button = document.createElement("button");
+  Object.assign(button, { textContent: text, title, onclick });
+  button.setAttribute("aria-label", `${text}, thread ${title.match(/\d+/)[0]}`);
+  button.dataset.deed = deed;
+  return button;
+}
+
+// The row that was chosen for the thread, where its call can make it; else the one after that at which it stands.
+export function rowFor(state, thread) {
+  const held = state.threads[thread];
+  const { rows } = LISTS[state.trace.kind].calls[held.call.operation];
+  if (rows.includes(chosenRows[thread])) return chosenRows[thread];
+  return rows[(rows.indexOf(held.pc) + 1) % rows.length];
+}
+
+function stepControls(state, thread) {
+  const { calls, rows } = LISTS[state.trace.kind];
+  const held = state.threads[thread];
+  const row = document.createElement("select");
+  for (const number of calls[held.call.operation].rows) row.append(new Option(`${number} ${rows[number].step}`, number));
+  row.value = rowFor(state, thread);
+  row.dataset.deed = "row";
+  row.setAttribute("aria-label", `row of thread ${thread}`);
+  row.onchange = () => (chosenRows[thread] = Number(row.value));
+  const next = document.createElement("small");
+  next.textContent = `next: ${rows[held.pc]?.step ?? ""}`;
+  const untilRow = document.createElement("span");
+  const goUntil = () => stepsToRow(thread, Number(row.value));
+  untilRow.append(buttonOf("until row", "until", `thread ${thread} until it stands at this row (the keys r ${thread})`, goUntil), row);
+  const call = document.createElement("span");
+  Object.assign(call, { className: "call", textContent: callText(held.call) });
+  return [
+    call,
+    buttonOf("one step", "one", `go ${thread} 1 (the key ${thread})`, () => oneStep(thread)),
+    buttonOf("to its end", "end", `thread ${thread} to the end of its call (the keys e ${thread})`, () => stepsToEnd(thread)),
+    untilRow,
+    next,
+  ];
+}
+
+function beginControls(thread) {
+  const chosen = chosenOf(thread);
+  const operation = document.createElement("select");
+  for (const word of CALL_WORDS) operation.append(new Option(word));
+  operation.value = chosen.operation;
+  operation.setAttribute("aria-label", `call of thread ${thread}`);
+  operation.onchange = () => (chosen.operation = operation.value);
+  const key = document.createElement("input");
+  Object.assign(key, { type: "number", min: 0, max: MOST_NUMBER, value: chosen.key });
+  key.setAttribute("aria-label", `key of thread ${thread}'s call`);
+  key.oninput = () => (chosen.key = key.value);
+  const begin = () => goOn(`begin ${thread} ${chosen.operation} ${chosen.key}`);
+  return [operation, key, buttonOf("begin", "begin", `begin ${thread} ..`, begin)];
+}

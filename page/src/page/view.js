@@ -1,0 +1,171 @@
+// Draws what the page shows of a moment: the sentence, the list, the history, the tables and the marks in the text.
+import { LISTS } from "../../made/rows.js";
+import { glide } from "../draw/glide.js";
+import { drawCalls, drawContents, drawOrder, scaleOf } from "../draw/history.js";
+import { arranged, drawList, NODE_WIDTH } from "../draw/list.js";
+import { drawListing } from "../draw/listing.js";
+import { roomOf } from "../draw/room.js";
+import { drawTable } from "../draw/table.js";
+import { drawThreads, MOST_ROWS } from "../draw/threads.js";
+import { byId, setAble } from "./dom.js";
+import { hiddenOutcomes, isJudging, page } from "./now.js";
+import { isAtWork } from "./places.js";
+import { momentAt, sentenceOf } from "../run/sentences.js";
+
+const LINE_HEIGHT = 21;
+
+// The list, the threads, the tables and the history.
+export function showRun(moment) {
+  showList(moment);
+  scrollToTouched();
+  showThreads(moment.event);
+  showTable(moment);
+  showListing(moment);
+  if (!isJudging()) showHistory(moment.event);
+  scrollToLine(moment.event);
+}
+
+// The list, in the room that the whole run takes; what moves glides there from the event beside this one.
+const glided = { trace: null, count: 0 };
+
+function showList({ state, event }) {
+  const { trace, count } = page;
+  const wide = byId("list").clientWidth;
+  if (wide === 0) return; // it is not there: a map is shown, or the history alone
+  const sizeAt = (number) => arranged(state, momentAt(state, number).event);
+  const room = roomOf(trace, sizeAt, arranged(state, event), wide, isAtWork());
+  state.moveTo(count);
+  const isNear = glided.trace === trace && Math.abs(glided.count - count) === 1 && byId("speed").value !== "fast";
+  Object.assign(glided, { trace, count });
+  const draw = () => (byId("list").innerHTML = drawList(state, event, wide, listHeight(), room));
+  glide(byId("list"), draw, isNear);
+}
+
+const MOST_MEASURED = 300; // events of a run whose sentences are measured
+const sentences = { trace: null, wide: 0 };
+
+// The sentence has the room of the longest one of its run, so that nothing below it moves.
+function keepRoomForSentences(state, count) {
+  const box = byId("said");
+  const { trace } = page;
+  if (box.clientWidth === 0 || (sentences.trace === trace && sentences.wide === box.clientWidth)) return;
+  Object.assign(sentences, { trace, wide: box.clientWidth });
+  box.style.minHeight = "";
+  if (trace.total > MOST_MEASURED) return;
+  const lengthOf = (sentence) => sentence.replace(/<[^>]*>/g, "").length;
+  const all = Array.from({ length: trace.total + 1 }, (_, number) => sentenceOf(momentAt(state, number)));
+  state.moveTo(count);
+  box.innerHTML = all.reduce((one, other) => (lengthOf(other) > lengthOf(one) ? other : one));
+  box.style.minHeight = `${box.offsetHeight + 1}px`; // (that is rounded)
+}
+
+// The names, the question, the sentence and the bar above the picture.
+export function showBar(moment) {
+  const { trace, count } = page;
+  const { total } = trace;
+  const name = `${LISTS[trace.kind].name}${trace.lacks === null ? "" : " without one check"}`;
+  byId("title").textContent = `${name}, ${trace.threads} thread${trace.threads > 1 ? "s" : ""}`;
+  document.title = `${page.example === "" ? page.name : page.example}, event ${count}: ${name}`;
+  byId("source").textContent = page.source;
+  keepRoomForSentences(moment.state, count);
+  byId("said").innerHTML = sentenceOf(moment, hiddenOutcomes());
+  const slider = byId("slider");
+  Object.assign(slider, { max: total, value: count });
+  slider.setAttribute("aria-valuetext", `event ${count} of ${total}: ${byId("said").textContent}`);
+  byId("where").textContent = `event ${count} of ${total}`;
+  for (const name of ["first", "back"]) setAble(name, count > 0);
+  for (const name of ["next", "last"]) setAble(name, count < total);
+}
+
+function showThreads(event) {
+  const many = page.trace.threads > MOST_ROWS;
+  byId("threads").innerHTML = drawThreads(page.state, event, page.allThreads, hiddenOutcomes().includes("reply"));
+  byId("all-threads").hidden = !many;
+  byId("all-threads").textContent = page.allThreads ? "only those with an open call" : `show all ${page.trace.threads}`;
+}
+
+// The table of the list's rows, while it is unfolded.
+function showTable(moment) {
+  const which = page.lacks === null ? "" : ", which lacks nothing";
+  byId("table-title").textContent = `The table of ${LISTS[page.trace.kind].name}${which}`;
+  if (byId("table-box").open) byId("table").innerHTML = drawTable(moment);
+}
+
+// The code of the open calls, while it is unfolded, scrolled to the line of the thread that has moved.
+function showListing(moment) {
+  if (!byId("listing-box").open) return;
+  const box = byId("listing");
+  box.innerHTML = drawListing(moment);
+  const line = box.querySelector(".moved") ?? box.querySelector(".here");
+  if (line === null) return;
+  const y = line.offsetTop - box.offsetTop;
+  if (y < box.scrollTop + 40 || y > box.scrollTop + box.clientHeight - 80) box.scrollTop = y - box.clientHeight / 2;
+}
+
+function showHistory(event) {
+  const { trace, count, hides } = page;
+  const scale = scaleOf(trace, count, Math.max(300, byId("history").clientWidth), hides);
+  byId("calls").innerHTML = drawCalls(trace, scale);
+  byId("contents").innerHTML = drawContents(trace, scale);
+  byId("order").innerHTML = drawOrder(trace, count, hides);
+  page.scale = scale;
+  const box = byId("calls");
+  if (event === null || box.scrollHeight <= box.clientHeight) return;
+  const y = scale.y(event.thread);
+  if (y < box.scrollTop + 20 || y > box.scrollTop + box.clientHeight - 20) box.scrollTop = y - box.clientHeight / 2;
+}
+
+// Where the page is as wide as a table, controls, list and history stand on one screen: what is above and below the list leaves so
+// many pixels for it.
+function listHeight() {
+  if (page.view === "list" || page.view === "history" || innerWidth <= 940) return Infinity;
+  if (page.view === "lecture") return Math.max(200, innerHeight / 1.5 - 345 - byId("question-box").clientHeight);
+  const isAtWork = byId("moves-box").parentElement.id === "moves-wide";
+  const below = isJudging() ? 430 : byId("bar").clientHeight + 76 + 42 * Math.min(page.trace.threads, 6) + (isAtWork ? 0 : 30);
+  return Math.max(isJudging() ? 190 : 260, innerHeight - byId("list").getBoundingClientRect().top - scrollY - below);
+}
+
+// Keeps the node of the event in sight where the list is wider than the page.
+function scrollToTouched() {
+  const box = byId("list");
+  const touched = box.querySelector("[data-hot]");
+  if (touched === null) return;
+  const drawn = box.firstElementChild;
+  const x = (Number(touched.dataset.hot) + NODE_WIDTH / 2) * (drawn.clientWidth / drawn.viewBox.baseVal.width);
+  if (x < box.scrollLeft + 60 || x > box.scrollLeft + box.clientWidth - 60) box.scrollLeft = x - box.clientWidth / 2;
+}
+
+// Whether the box of the schedule is in sight. If it is not, nothing is asked of its layout: that of 10,000 lines takes 0.3 s.
+const editor = { isSeen: true };
+
+export function watchEditor() {
+  const look = ([{ isIntersecting }]) => {
+    editor.isSeen = isIntersecting;
+    if (!isIntersecting || page.trace === null) return;
+    scrollToLine(page.count > 0 ? page.trace.event(page.count) : null);
+    showMarks();
+  };
+  new IntersectionObserver(look).observe(byId("editor"));
+}
+
+function scrollToLine(event) {
+  const box = byId("schedule");
+  if (!editor.isSeen || event === null || document.activeElement === box || box.value !== page.text) return;
+  const y = LINE_HEIGHT * (event.line - 1);
+  if (y < box.scrollTop || y > box.scrollTop + box.clientHeight - 2 * LINE_HEIGHT) box.scrollTop = y - box.clientHeight / 2;
+}
+
+// Marks the line of the event and the line with a fault, while the box has the text that was run.
+export function showMarks() {
+  const box = byId("schedule");
+  const isStale = box.value !== page.text;
+  const top = editor.isSeen ? box.scrollTop : 0;
+  const mark = (line, kind) => `<div class="${kind}" style="top:${6 + LINE_HEIGHT * (line - 1) - top}px"></div>`;
+  const event = page.count > 0 ? page.trace.event(page.count) : null;
+  const lines = [];
+  if (event !== null && page.isRun) lines.push(mark(event.line, "event"));
+  if (page.faultLine !== null) lines.push(mark(page.faultLine, "bad"));
+  byId("marks").innerHTML = isStale ? "" : lines.join("");
+  byId("run").classList.toggle("stale", isStale);
+  byId("run").textContent = isStale ? "Run the changes" : "Run";
+}

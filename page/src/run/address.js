@@ -1,0 +1,124 @@
+// The address of a schedule, as #list=lazy&threads=2&quota=4&s=b0.add.5,g0.11&event=12, of an example, as #example=snip&event=17,
+// of a course of lessons, as #course=.. with its text packed, or of two lists side by side. With &view=lecture, list or history it
+// shows only that; with &lacks=3 the schedule is run on the third broken list, whose name would tell too much.
+// #watch, #learn, #judge, #break, #compare and #read are the maps of the activities; #learn=one-lock a lesson, also with a schedule behind
+// it, #break=3 a level, #seed=lazy.2.4.2.17 the run of a number, and &judge asks the reader to judge it.
+// An address is made a text again; whether that is a schedule says the engine.
+import { LACKING } from "../../made/classics.js";
+
+export const LONGEST_ADDRESS = 30000; // characters; a longer schedule has no address
+const SHORT_WORDS = { begin: "b", go: "g" };
+const LONG_WORDS = { b: "begin", g: "go" };
+const SHORT_EVENT = String.raw`(b\d+\.[a-z]+\.\d+|g\d+\.\d+)`;
+const ADDRESS_PARTS = {
+  example: /^[a-z-]+$/,
+  list: /^[A-Za-z-]+$/,
+  threads: /^\d+$/,
+  quota: /^\d+$/,
+  version: /^\d+$/,
+  opening: /^\d+(\.\d+)*$/,
+  s: new RegExp(`^(${SHORT_EVENT}(,${SHORT_EVENT})*)?$`),
+  event: /^\d+$/,
+  lacks: /^\d+$/,
+  view: /^(lecture|list|history)$/,
+  course: /^[A-Za-z0-9_-]+$/,
+  sides: /^(coarse|fine|optimistic|lazy|lock-free)\.(coarse|fine|optimistic|lazy|lock-free)$/,
+  calls: /^(\d\d?\.[a-z]+\.\d+(,|$))+$/,
+  turns: /^(\d\d?(\.\d\d?)*)?$/,
+  watch: /^$/,
+  learn: /^[a-z0-9-]*$/,
+  judge: /^$/,
+  break: /^\d*$/,
+  compare: /^$/,
+  read: /^$/,
+  seed: /^(coarse|fine|optimistic|lazy|lock-free)\.\d{1,2}\.\d{1,2}\.\d{1,2}\.\d{1,9}$/,
+};
+
+export class AddressFault extends Error {}
+
+// The version that a text needs: the second has ceilings and opening keys.
+const neededVersion = (lines) => (lines.some((line) => /^(opening |begin \d+ ceiling )/.test(line)) ? 2 : 1);
+
+// The address of a text at an event, or null where it has none: it is no text of a schedule's form, or too long.
+export function addressOf(text, event, lacks = null) {
+  if (text.length > 2 * LONGEST_ADDRESS) return null; // an address has more than half of the letters
+  const [title, list, threads, quota, ...lines] = text.split("\n").slice(0, -1);
+  const isOpening = (line) => line.startsWith("opening ");
+  const opening = lines.filter(isOpening).map((line) => line.slice("opening ".length));
+  const events = lines.filter((line) => !isOpening(line)).map(shortLine);
+  const version = title?.split(" ")[1];
+  const parts = [`list=${list?.split(" ")[1]}`, `threads=${threads?.split(" ")[1]}`, `quota=${quota?.split(" ")[1]}`];
+  if (version !== String(neededVersion(lines))) parts.push(`version=${version}`);
+  if (opening.length > 0) parts.push(`opening=${opening.join(".")}`);
+  parts.push(`s=${events.join()}`, `event=${event}`);
+  if (lacks !== null) parts.push(`lacks=${Object.keys(LACKING).indexOf(lacks) + 1}`);
+  const address = `#${parts.join("&")}`;
+  return address.length <= LONGEST_ADDRESS && isAddressOf(address, text) ? address : null;
+}
+
+const shortLine = (line) => {
+  const [word, ...values] = line.split(" ");
+  return `${SHORT_WORDS[word] ?? word}${values.join(".")}`;
+};
+
+export const longLine = (short) => `${LONG_WORDS[short[0]]} ${short.slice(1).replaceAll(".", " ")}`;
+
+function isAddressOf(address, text) {
+  try {
+    return readAddress(address).text === text;
+  } catch (fault) {
+    if (!(fault instanceof AddressFault)) throw fault;
+    return false;
+  }
+}
+
+export const exampleAddress = (name, event) => `#example=${name}&event=${event}`;
+
+// What an address names: an example, a text, a course or two lists, each null where it names none; the event, the list that lacks a
+// check, and the view.
+export function readAddress(hash) {
+  const { view = null, course = null, lacks: number, seed = null, ...rest } = partsOf(hash);
+  const { place, isJudged, parts } = placeOf(rest, seed);
+  const lacks = number === undefined ? null : Object.keys(LACKING)[number - 1];
+  if (lacks === undefined) throw new AddressFault(`there is no broken list ${number}`);
+  const own = { view, course, sides: null, lacks, place, seed, isJudged };
+  const named = { example: parts.example ?? null, text: null, event: Number(parts.event ?? 0), ...own };
+  if (parts.sides !== undefined) return { ...named, sides: parts };
+  const ofSchedule = Object.keys(parts).filter((name) => name !== "event" && name !== "example");
+  if (named.example !== null && ofSchedule.length > 0) {
+    throw new AddressFault(`the address names an example, and has "${ofSchedule[0]}" too`);
+  }
+  if (ofSchedule.length > 0) named.text = textOfParts(parts);
+  return named;
+}
+
+// The activity that an address names, with its value; whether its run is to be judged; and the parts of the run.
+function placeOf(parts, seed) {
+  const isRun = seed !== null || parts.example !== undefined || parts.list !== undefined;
+  const name = ["watch", "learn", "judge", "break", "compare", "read"].find((one) => parts[one] !== undefined);
+  if (name === undefined) return { place: null, isJudged: false, parts };
+  const { [name]: value, ...others } = parts;
+  const isJudged = name === "judge" && isRun;
+  return { place: isJudged ? null : [name, value], isJudged, parts: others };
+}
+
+function partsOf(hash) {
+  const parts = {};
+  for (const [name, value] of new URLSearchParams(hash.replace(/^#/, ""))) {
+    if (!Object.hasOwn(ADDRESS_PARTS, name)) throw new AddressFault(`the address has a part "${name}", which is none`);
+    if (name in parts) throw new AddressFault(`the address has "${name}" twice`);
+    if (!ADDRESS_PARTS[name].test(value)) throw new AddressFault(`"${value.slice(0, 60)}" is no ${name} of an address`);
+    parts[name] = value;
+  }
+  return parts;
+}
+
+function textOfParts(parts) {
+  const missing = ["list", "threads", "quota"].find((name) => parts[name] === undefined);
+  if (missing !== undefined) throw new AddressFault(`the address has no "${missing}"`);
+  const opening = (parts.opening?.split(".") ?? []).map((key) => `opening ${key}`);
+  const events = (parts.s ? parts.s.split(",") : []).map(longLine);
+  const lines = [...opening, ...events];
+  const title = `listset-schedule ${parts.version ?? neededVersion(lines)}`;
+  return [title, `list ${parts.list}`, `threads ${parts.threads}`, `quota ${parts.quota}`, ...lines, ""].join("\n");
+}

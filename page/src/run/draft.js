@@ -1,0 +1,39 @@
+// Drafts: schedules in which a line may say `go T out` or `go T to ROW`, on whole lists and broken ones.
+import { Trace } from "./trace.js";
+
+export const MOST_TRIED = 1000; // steps of a thread that does not come to where it is sent, to see for what it waits
+const DRAFT_LINE = /^go \d+ (?:out|to \d+)$/m;
+
+// The schedule of a text in which a line may say `go T out` or `go T to ROW`, as the engine writes it; or the engine's line about
+// the first fault. A text without such a line is its own schedule. The engine knows drafts of whole lists alone.
+export function scheduleOfDraft(ask, text, lacks = null) {
+  if (!DRAFT_LINE.test(text)) return { text, fault: null };
+  if (lacks !== null) return scheduleOfLackingDraft(ask, lacks, text);
+  const made = ask("listset_draft", text.replace(/^listset-(?:schedule|draft) [12]$/m, "listset-draft 2"));
+  return made.status === 0 ? { text: made.text, fault: null } : { text: null, fault: made.text.trim() };
+}
+
+// How many steps of a thread, after the lines of this schedule, end its call or lead to a row; or why none do, as the engine says
+// it of a draft. What such a list does says its trace.
+function stepsOfLacking(ask, lacks, lines, [thread, row]) {
+  const fault = (cause) => ({ count: null, fault: `listset: line ${lines.length + 1}: ${cause}` });
+  const { text } = ask("listset_trace_lacking", lacks, `${[...lines, `go ${thread} ${MOST_TRIED}`].join("\n")}\n`);
+  if (!text.startsWith("listset-trace")) return { count: null, fault: text.trim() };
+  const steps = new Trace(text).events().filter(({ line }) => line === lines.length + 1);
+  const end = steps.findIndex(({ answer }) => answer !== undefined);
+  const at = row === undefined ? end : steps.findIndex(({ answer, changes }) => answer === undefined && changes.pc === Number(row));
+  if (at !== -1) return { count: at + 1, fault: null };
+  return fault(end !== -1 || steps.length === 0 ? "Idle" : "Waits");
+}
+
+// The schedule of a text in which a line may say `go T out` or `go T to ROW`, of steps on such a list.
+function scheduleOfLackingDraft(ask, lacks, text) {
+  const lines = [];
+  for (const line of text.split("\n").slice(0, -1)) {
+    const asked = /^go (\d+) (?:out|to (\d+))$/.exec(line);
+    const { count, fault } = asked === null ? { count: null, fault: null } : stepsOfLacking(ask, lacks, lines, asked.slice(1));
+    if (fault !== null) return { text: null, fault };
+    lines.push(asked === null ? line : `go ${asked[1]} ${count}`);
+  }
+  return { text: [...lines, ""].join("\n"), fault: null };
+}

@@ -1,0 +1,19 @@
+// Elements as text, and the words that all drawings and sentences use.
+
+const SIGNS = { "&": "&amp;", "<": "&lt;", ">": "&gt;", '"': "&quot;" };
+export const escaped = (text) => String(text).replace(/[&<>"]/g, (sign) => SIGNS[sign]);
+
+// An element with its attributes, whose values are escaped, and what is in it, which is not.
+export function tag(name, attributes, ...content) {
+  const given = Object.entries(attributes).map(([attribute, value]) => ` ${attribute}="${escaped(value)}"`);
+  return `<${name}${given.join("")}>${content.join("")}</${name}>`;
+}
+
+export const label = (attributes, text) => tag("text", attributes, escaped(text));
+export const title = (text) => tag("title", {}, escaped(text));
+export const colourOf = (thread) => `thread-${thread % 8}`;
+export const chipOf = (thread) => tag("span", { class: `chip ${colourOf(thread)}` }, `t${thread}`);
+export const keyText = (key) => String(key).replace("-inf", "−∞").replace("+inf", "+∞");
+export const said = (value) => (value.endsWith("*") ? `${value.slice(0, -1)}, marked` : keyText(value));
+export const callText = (call) => `${call.operation}(${call.key})`;
+export const openReply = "true"; // an open call that stands in the order has changed the set

@@ -1,0 +1,95 @@
+// Two lists side by side: one program of calls, and each list with a schedule of its own. A turn of a thread makes its next step in
+// both; one whose call has answered waits for the other, and then both begin the next call. Each is a run by the engine.
+import { titleOf } from "./schedule_text.js";
+import { State } from "./state.js";
+import { Trace } from "./trace.js";
+
+const MOST_TURNS = 500;
+
+export class ProgramFault extends Error {}
+
+// A program as text: a line for each thread, as "0: add 5, remove 5".
+export function readProgram(text) {
+  const program = [];
+  for (const line of text.split("\n").filter((one) => one.trim() !== "")) {
+    const [, thread, calls] = /^\s*t?(\d+)\s*:\s*(.+?)\s*$/.exec(line) ?? [];
+    const isLine = thread !== undefined && Number(thread) < 64;
+    if (!isLine) throw new ProgramFault(`"${line.slice(0, 60)}" is no line as "0: add 5, remove 5"`);
+    for (const call of calls.split(",").map((one) => one.trim())) {
+      const [, operation, key] = /^(add|remove|contains|ceiling) (\d+)$/.exec(call) ?? [];
+      if (key === undefined) throw new ProgramFault(`"${call.slice(0, 40)}" is no call as "add 5"`);
+      (program[Number(thread)] ??= []).push(`${operation} ${key}`);
+    }
+  }
+  if (program.length === 0) throw new ProgramFault('a program has lines as "0: add 5, remove 5"');
+  return Array.from(program, (calls) => calls ?? []);
+}
+
+export function programText(program) {
+  const lines = program.map((calls, thread) => (calls.length === 0 ? "" : `${thread}: ${calls.join(", ")}\n`));
+  return lines.join("");
+}
+
+// The calls of each thread of a run.
+const programOf = (trace) => trace.callsOf.map((calls) => calls.map(({ operation, key }) => `${operation} ${key}`));
+
+// One of the lists: the lines of its schedule, its run, and how many of its events there were after each turn.
+class Side {
+  constructor(ask, kind, { program, quota, opening }) {
+    Object.assign(this, { ask, kind, lines: [], counts: [0] });
+    const set = [titleOf(2), `list ${kind}`, `threads ${program.length}`, `quota ${quota}`];
+    this.head = [...set, ...opening.map((key) => `opening ${key}`)];
+    this.run();
+  }
+
+  get schedule() {
+    return [...this.head, ...this.lines, ""].join("\n");
+  }
+
+  run() {
+    const { text } = this.ask("listset_trace", this.schedule);
+    if (!text.startsWith("listset-trace")) throw new ProgramFault(text.trim());
+    this.trace = new Trace(text, 2);
+    this.state = new State(this.trace);
+    this.state.moveTo(this.trace.total);
+  }
+
+  isOpen(thread) {
+    return this.state.threads[thread].pc !== 0;
+  }
+
+  // Makes an event more, where there is a line for it; else waits.
+  take(line) {
+    if (line !== null) {
+      this.lines.push(line);
+      this.run();
+    }
+    this.counts.push(this.trace.total);
+  }
+}
+
+export class Sides {
+  constructor(ask, kinds, { program, quota, opening }) {
+    this.program = program;
+    this.turns = [];
+    this.sides = kinds.map((kind) => new Side(ask, kind, { program, quota, opening }));
+  }
+
+  // What a turn of the thread makes in each list: a line of its schedule, or null where it waits; null where all is done.
+  linesOf(thread) {
+    if (thread >= this.program.length) return null;
+    const isOpen = this.sides.map((side) => side.isOpen(thread));
+    if (isOpen.includes(true)) return isOpen.map((open) => (open ? `go ${thread} 1` : null));
+    const next = this.program[thread]?.[this.sides[0].trace.callsOf[thread].length];
+    return next === undefined ? null : this.sides.map(() => `begin ${thread} ${next}`);
+  }
+
+  // Makes a turn of the thread; false where there is none.
+  turn(thread) {
+    const lines = this.linesOf(thread);
+    if (lines === null || this.turns.length === MOST_TURNS) return false;
+    this.sides.forEach((side, at) => side.take(lines[at]));
+    this.turns.push(thread);
+    return true;
+  }
+}

@@ -1,0 +1,129 @@
+// The words, the threads and the chain after so many events of a trace. No step is computed here: each event's line says
+// what was written and what its thread holds then.
+import { firstOpeningNode } from "./trace.js";
+
+// Where a thread's call stands: the row that it made last (0: none), and its registers.
+const BEGUN = { came: 0, pred: "head", curr: "head", succ: "head", node: "head", pkey: "-inf", ckey: "-inf", reply: "none" };
+const AT_REST = { pc: 0, used: 0, call: null, ...BEGUN };
+export const linkTarget = (link) => link.replace("*", "");
+export const keyNumber = (key) => (key === "-inf" ? -1 : key === "+inf" ? Infinity : Number(key));
+
+const MOST_UNDONE = 20000; // events that can be gone back; what lies further back is made again from the start
+
+export class State {
+  constructor(trace) {
+    this.trace = trace;
+    this.begin();
+  }
+
+  begin() {
+    const { trace } = this;
+    this.count = 0;
+    this.lock = "free"; // the list's own lock
+    this.nodes = openingNodes(trace);
+    this.threads = Array.from({ length: trace.threads }, () => ({ ...AT_REST }));
+    this.undo = [];
+  }
+
+  // The state of a trace that goes on where this one's ends: what was made is not made again.
+  goOn(trace) {
+    this.trace = trace;
+    return this;
+  }
+
+  // Goes to the state after `count` events, on or back.
+  moveTo(count) {
+    if (count < this.count - this.undo.length) this.begin();
+    while (this.count < count) this.apply(this.trace.event(++this.count), count - this.count < MOST_UNDONE);
+    while (this.count > count) {
+      this.count--;
+      for (const [holder, name, before] of this.undo.pop().reverse()) holder[name] = before;
+    }
+  }
+
+  // Makes an event; it can be gone back where it is kept.
+  apply(event, isKept) {
+    const done = [];
+    const set = (holder, name, value) => {
+      if (isKept) done.push([holder, name, holder[name]]);
+      holder[name] = value;
+    };
+    const thread = this.threads[event.thread];
+    if (event.deed === "begin") {
+      for (const name in BEGUN) set(thread, name, BEGUN[name]);
+      set(thread, "call", event.call);
+    } else set(thread, "came", thread.pc);
+    for (const name in event.changes) set(thread, name, event.changes[name]);
+    if (event.deed === "store" || (event.deed === "exchange" && event.saw === event.from)) this.write(event, set);
+    if (!isKept) this.undo = [];
+    else if (this.undo.push(done) > 2 * MOST_UNDONE) this.undo.splice(0, MOST_UNDONE);
+  }
+
+  write(event, set) {
+    const [owner, field] = event.word.split(".");
+    if (owner === "list") return set(this, field, event.to);
+    const node = (this.nodes[owner] ??= newNode());
+    set(node, field, event.to);
+    if (field !== "link" || !node.reached) return;
+    const target = (this.nodes[linkTarget(event.to)] ??= newNode());
+    if (!target.reached) set(target, "reached", true);
+  }
+
+  // The lock words that are taken, by the thread that has them, as { t0: ["head.lock"] }: those of nodes by rising keys.
+  locks() {
+    const held = {};
+    const add = (lock, word) => lock !== "free" && (held[lock] ??= []).push(word);
+    add(this.lock, "list.lock");
+    const locked = Object.entries(this.nodes).filter(([, node]) => node.lock !== "free");
+    locked.sort(([, one], [, other]) => keyNumber(one.key) - keyNumber(other.key));
+    for (const [name, node] of locked) add(node.lock, `${name}.lock`);
+    return held;
+  }
+
+  // The nodes from the head to the tail, as the link words lead.
+  chain() {
+    const found = new Set(["head"]);
+    for (let name = "head"; name !== "tail"; ) {
+      name = linkTarget(this.nodes[name].link);
+      if (found.has(name) || !(name in this.nodes)) break;
+      found.add(name);
+    }
+    return [...found];
+  }
+}
+
+// The nodes of the opening keys, from the head to the tail.
+function openingNodes(trace) {
+  const first = firstOpeningNode(trace);
+  const nameOf = (index) => (index < trace.opening.length ? `n${first + index}` : "tail");
+  const nodes = {
+    head: { key: "-inf", link: nameOf(0), lock: "free", reached: true },
+    tail: { key: "+inf", link: "tail", lock: "free", reached: true },
+  };
+  trace.opening.forEach((key, index) => {
+    nodes[nameOf(index)] = { key: String(key), link: nameOf(index + 1), lock: "free", reached: true };
+  });
+  return nodes;
+}
+
+// A slot in the beginning. It is `reached` once a node that is reached has led to it: up to then it is a thread's own.
+const newNode = () => ({ key: "-inf", link: "head", lock: "free", reached: false });
+export const isWritten = (node) => node.key !== "-inf" || node.link !== "head" || node.lock !== "free";
+export const ownerOf = (trace, name) => Math.floor((Number(name.slice(1)) - 2) / trace.quota);
+
+// The contents of the set from event `first` to `last`: the keys, rising, and the events from which and up to which they stand.
+export function contentsIn(trace, first, last) {
+  const keys = new Set(trace.opening);
+  const part = (from) => ({ from, to: last + 1, keys: [...keys].sort((one, other) => one - other) });
+  const toggle = (event) => (event.put !== undefined ? keys.add(event.put) : keys.delete(event.took));
+  const before = trace.changes.filter((event) => event.number < first);
+  before.forEach(toggle);
+  const parts = [part(first)];
+  for (const event of trace.changes.slice(before.length)) {
+    if (event.number > last) break;
+    toggle(event);
+    parts[parts.length - 1].to = event.number;
+    parts.push(part(event.number));
+  }
+  return parts;
+}

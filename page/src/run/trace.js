@@ -1,0 +1,145 @@
+// A trace (the text of `listset trace`) as the engine prints it. One pass finds its lines, its calls and what changes the set; an
+// event is read when it is asked for. A trace from a file is checked before (check_trace.js).
+
+export const HEADER_LINES = 4;
+const END = "end\n"; // the last line, if no event is refused
+export const NODE_REGISTERS = ["pred", "curr", "succ", "node"];
+export const KEY_REGISTERS = ["pkey", "ckey"];
+export const CALL_WORDS = ["add", "remove", "contains", "ceiling"];
+export const MOST_NUMBER = 4294967295;
+
+export class Trace {
+  // The version is that of the schedule's text: the one that is given, and the second where there are opening keys or a ceiling.
+  // If the trace goes on where another one ends, what was read of that is taken over, with its calls; that one is not used any more.
+  constructor(text, version = 1, before = null) {
+    const [, kind, lacks = null, threads, quota] =
+      /^listset-trace 1\nlist (\S+)\n(?:lacks (\S+)\n)?threads (\d+)\nquota (\d+)\n/.exec(text);
+    Object.assign(this, { text, version, kind, lacks, threads: Number(threads), quota: Number(quota) });
+    this.opening = [];
+    this.starts = []; // of each event, where its line begins
+    this.calls = [];
+    this.callsOf = Array.from({ length: this.threads }, () => []);
+    this.changes = []; // the events that change the set
+    this.starred = []; // the numbers of those whose line tells of a mark
+    this.refused = null;
+    this.before = before !== null && goesOn(this, before) ? before : null;
+    if (this.before === null) this.scan(0);
+    else this.takeOver();
+    if (this.opening.length > 0) this.version = 2;
+    this.order = orderOf(this.calls);
+  }
+
+  get total() {
+    return this.starts.length;
+  }
+
+  takeOver() {
+    const { opening, starts, calls, callsOf, changes, starred, text } = this.before;
+    const own = { opening, starts: [...starts], calls: [...calls], changes: [...changes], starred: [...starred] };
+    Object.assign(this, own, { callsOf: callsOf.map((some) => [...some]) });
+    this.scan(text.length - END.length);
+  }
+
+  scan(from) {
+    const { text } = this;
+    for (let at = from; at < text.length; ) {
+      const end = text.indexOf("\n", at);
+      const line = text.slice(at, end);
+      if (line.startsWith("event ")) this.note(line, this.starts.push(at));
+      else if (line.startsWith("opening ")) this.opening.push(Number(line.slice("opening ".length)));
+      else if (line.startsWith("refused ")) this.refused = { line: Number(line.split(" ")[2]), cause: line.split(" ")[3] };
+      at = end + 1;
+    }
+  }
+
+  // Notes what the line of an event says of its call and of the set.
+  note(line, number) {
+    if (line.includes("*")) this.starred.push(number);
+    if (line.includes(" begin ")) this.noteCall(line.split(" "), number);
+    const isChange = line.includes(" put ") || line.includes(" took ");
+    const isAnswer = line.includes(" answer ");
+    if (!isChange && !isAnswer) return;
+    const event = this.event(number);
+    if (isChange) {
+      this.changes.push(event);
+      Object.assign(event.call, { at: number, changes: true });
+    }
+    if (isAnswer) Object.assign(event.call, { at: event.at, ended: number, reply: event.answer });
+  }
+
+  noteCall([, , , , , thread, , operation, key], begun) {
+    const call = { id: this.calls.length, thread: Number(thread), operation, key: Number(key), begun };
+    if (operation === "ceiling") this.version = 2;
+    Object.assign(call, { ended: null, at: null, changes: false, reply: null });
+    this.calls.push(call);
+    this.callsOf[call.thread].push(call);
+  }
+
+  // The call of a thread that is open at an event, or ends there.
+  callAt(thread, number) {
+    const calls = this.callsOf[thread];
+    let [least, most] = [0, calls.length - 1];
+    while (least < most) {
+      const middle = (least + most + 1) >> 1;
+      if (calls[middle].begun <= number) least = middle;
+      else most = middle - 1;
+    }
+    return calls[least];
+  }
+
+  lineOf(number) {
+    const start = this.starts[number - 1];
+    return this.text.slice(start, this.text.indexOf("\n", start));
+  }
+
+  // The event of this number, from 1: what its line tells.
+  event(number) {
+    const pieces = this.lineOf(number).split(" ");
+    const event = { number, line: Number(pieces[3]), thread: Number(pieces[5]), deed: pieces[6], changes: {} };
+    event.call = this.callAt(event.thread, number);
+    let at = event.deed === "begin" ? 11 : 8;
+    if (event.deed !== "begin") event.word = pieces[7];
+    if (event.deed === "store") event.to = pieces[at++];
+    for (; pieces[at] !== "pc"; at += 2) event[pieces[at]] = pieces[at + 1];
+    for (; at < pieces.length; at += 2) tellIn(event, pieces[at], pieces[at + 1]);
+    return event;
+  }
+
+  // All events, of a short trace.
+  events() {
+    return this.starts.map((_, index) => this.event(index + 1));
+  }
+}
+
+// What the end of an event's line tells: the row and the registers of its thread, a change of the set, an answer and its moment.
+function tellIn(event, name, value) {
+  if (name === "answer") event.answer = value;
+  else if (name === "put" || name === "took" || name === "at") event[name] = Number(value);
+  else if (name === "pc" || name === "used") event.changes[name] = Number(value);
+  else if (name !== "call") event.changes[name] = value;
+}
+
+// Whether a trace begins with all events of one that has ended.
+function goesOn({ text, version }, before) {
+  return before.version === version && before.text.endsWith(`\n${END}`) && text.startsWith(before.text.slice(0, -END.length));
+}
+
+// The nodes of the opening keys come after the slots of all threads.
+export const firstOpeningNode = (trace) => 2 + trace.threads * trace.quota;
+
+// How many events from the first on two traces have in common, where they are of sets that open alike.
+export function eventsInCommon(one, other) {
+  const header = ({ kind, threads, quota, opening }) => [kind, threads, quota, ...opening].join();
+  if (header(one) !== header(other)) return 0;
+  const most = Math.min(one.total, other.total);
+  const deedOf = (trace, number) => trace.lineOf(number).replace(/^event \d+ line \d+/, "");
+  let count = 0;
+  while (count < most && deedOf(one, count + 1) === deedOf(other, count + 1)) count++;
+  return count;
+}
+
+// The calls that stand in the order: by their moments, at one moment the call that changes the set first, then by number.
+function orderOf(calls) {
+  const placed = calls.filter((call) => call.at !== null);
+  return placed.sort((one, other) => one.at - other.at || Number(other.changes) - Number(one.changes) || one.id - other.id);
+}

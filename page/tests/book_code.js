@@ -1,0 +1,32 @@
+// The lines of the algorithm beside the picture: each row of a list stands on one of them, and the calls of a line make its rows.
+"use strict";
+
+const { inPage } = require("../in_node.js");
+
+const result = { passed: 0, failed: [] };
+const check = (name, isGood) => (isGood ? result.passed++ : result.failed.push(name));
+
+const BOOK_CODE = inPage("BOOK_CODE");
+for (const [kind, { calls, rows }] of Object.entries(inPage("LISTS"))) {
+  const lines = BOOK_CODE[kind];
+  for (const row of Object.keys(rows).map(Number)) {
+    const of = lines.filter((line) => (line.rows ?? []).includes(row));
+    check(`${kind}: row ${row} stands on ${of.length} lines`, of.length === 1);
+  }
+  for (const [call, own] of Object.entries(calls)) {
+    const made = lines.filter((line) => line.of === undefined || line.of.includes(call)).flatMap((line) => line.rows ?? []);
+    check(`${kind}, ${call}: rows ${own.rows} are not ${made}`, own.rows.every((row) => made.includes(row)));
+    const isMore = made.filter((row) => !own.rows.includes(row));
+    check(`${kind}, ${call}: it makes no row ${isMore}`, isMore.length === 0);
+    const count = lines.filter((line) => line.of === undefined || line.of.includes(call)).length;
+    check(`${kind}, ${call}: ${count} lines`, count >= 3 && count <= 15);
+  }
+}
+const [levels, words] = ["BREAK_LEVELS", "LACKS_IN_WORDS"].map(inPage);
+const lacking = inPage("LACKING");
+check("each broken list is a level", Object.keys(levels).sort().join() === Object.keys(lacking).sort().join());
+for (const [name, { hints, lacks }] of Object.entries(levels)) {
+  check(`${name} has three hints and a sentence`, hints.length === 3 && (lacks ?? words[name]) !== undefined);
+}
+console.log(JSON.stringify(result));
+process.exit(result.failed.length === 0 ? 0 : 1);
