@@ -62,6 +62,10 @@ size_t listset_replay(const char *schedule, size_t length, char *room, size_t si
 /* The report of recorded calls. */
 size_t listset_report(const char *calls, size_t length, char *room, size_t size, uint8_t *status);
 
+/* `ok N calls` if some order explains recorded calls, with the status LISTSET_OK; `not linearizable`, with the few calls that show it,
+   and the status LISTSET_WRONG_TEXT, if none does. */
+size_t listset_judge(const char *calls, size_t length, char *room, size_t size, uint8_t *status);
+
 /* `ok` where the order of a report explains its calls, else the first fault. */
 size_t listset_check(const char *report, size_t length, char *room, size_t size, uint8_t *status);
 

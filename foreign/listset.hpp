@@ -1,6 +1,6 @@
 // Sorted-list sets and their judge for C++17, over listset.h, which tells what each function says and what the caller owes.
 //
-//     listset::said verdict = listset::check(report);
+//     listset::said verdict = listset::judge_text(calls);
 //     if (!verdict.is_ok()) std::cerr << verdict.text;
 //
 //     listset::seat mine = listset::open(listset::list::lazy, 2, 1000), other = mine.split();
@@ -13,7 +13,9 @@
 #include "listset.h"
 
 #include <atomic>
+#include <deque>
 #include <initializer_list>
+#include <mutex>
 #include <optional>
 #include <stdexcept>
 #include <string>
@@ -57,6 +59,7 @@ inline said of_text(listset_function *function, std::string_view given) {
 
 inline said replay(std::string_view schedule) { return of_text(listset_replay, schedule); }
 inline said report(std::string_view calls) { return of_text(listset_report, calls); }
+inline said judge_text(std::string_view calls) { return of_text(listset_judge, calls); }
 inline said check(std::string_view report) { return of_text(listset_check, report); }
 inline said draft(std::string_view draft) { return of_text(listset_draft, draft); }
 inline said example(std::string_view name) { return of_text(listset_example, name); }
@@ -188,6 +191,56 @@ inline seat open(list kind, uint32_t seats, uint32_t quota, const std::vector<ui
   seat::tell(listset_open(static_cast<uint8_t>(kind), seats, quota, sets++, first, keys.size(), &made.raw));
   return made;
 }
+
+// A set that threads share without a seat for each, with a pool of seats: a call takes one that no other call uses, or waits for one.
+// What is proved is of seats: a seat's calls keep their order. Two calls of one thread may go by two seats.
+class shared {
+  struct alignas(128) place {
+    std::mutex lock;
+    seat mine;
+  };
+  std::deque<place> places;
+
+  // Makes a call from a seat: a thread begins to look for a free one at its own place.
+  template <typename Call> auto by(Call call) {
+    static std::atomic<size_t> threads{0};
+    thread_local const size_t mine = threads++;
+    for (size_t tried = 0; tried < places.size(); tried++) {
+      place &it = places[(mine + tried) % places.size()];
+      if (std::unique_lock<std::mutex> held(it.lock, std::try_to_lock); held) return call(it.mine);
+    }
+    place &it = places[mine % places.size()];
+    std::lock_guard<std::mutex> held(it.lock);
+    return call(it.mine);
+  }
+
+public:
+  // As many calls go on at once as there are seats, 1 to 64.
+  shared(list kind, uint32_t seats, uint32_t quota, const std::vector<uint32_t> &keys = {}) {
+    places.emplace_back().mine = open(kind, seats, quota, keys);
+    while (places.size() < seats) places.emplace_back().mine = places.front().mine.split();
+  }
+
+  // Puts the key in, if it was not there; full if each seat has used its quota.
+  added add(uint32_t key) {
+    added answer = by([&](seat &it) { return it.add(key); });
+    for (auto at = places.begin(); answer == added::full && at != places.end(); ++at) {
+      std::lock_guard<std::mutex> held(at->lock);
+      answer = at->mine.add(key);
+    }
+    return answer;
+  }
+
+  bool remove(uint32_t key) { return by([&](seat &it) { return it.remove(key); }); }
+  bool contains(uint32_t key) { return by([&](seat &it) { return it.contains(key); }); }
+  std::optional<uint32_t> ceiling(uint32_t key) { return by([&](seat &it) { return it.ceiling(key); }); }
+
+  // Ends the set, which no call uses any more, and gives its keys. If it throws, for want of memory, it may be called again.
+  std::vector<uint32_t> close() {
+    for (; places.size() > 1; places.pop_back()) places.front().mine.gather(std::move(places.back().mine));
+    return places.front().mine.close();
+  }
+};
 
 } // namespace listset
 #endif

@@ -2,8 +2,8 @@
 
     import listset
 
-    report = listset.report(calls)        # of recorded calls
-    listset.check(report)                 # nothing where its order explains them
+    listset.judge_text(calls)             # of recorded calls; raises Wrong if no order explains them
+    report = listset.replay(schedule)
     print(listset.show(report, width=60))
 
 A text is str or bytes. Where the exit status of the program `listset` would not be 0, `Wrong` is raised with it, and with what the
@@ -95,6 +95,11 @@ def replay(schedule):
 def report(calls):
     """The report of recorded calls."""
     return _asked("report", calls)
+
+
+def judge_text(calls):
+    """`ok N calls` if some order explains recorded calls. If none does, `Wrong` has the few calls that show it."""
+    return _asked("judge", calls)
 
 
 def check(report):

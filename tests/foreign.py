@@ -12,7 +12,7 @@ import sys
 
 from harness.cases import TOP, Wrong, given, lacking, needs, test_on, usable
 
-FOREIGN, EXAMPLES = TOP / "foreign", TOP / "examples" / "schedules"
+FOREIGN, EXAMPLES, FORMS = TOP / "foreign", TOP / "examples" / "schedules", TOP / "examples" / "in-a-test"
 TESTS, PREFIX = FOREIGN / "tests", pathlib.Path(os.environ.get("LISTSET_PREFIX", FOREIGN / "out"))
 TAKES_TURNS = True  # (each has more threads than there are processors)
 SECONDS = 600  # for each compiler and each program
@@ -46,6 +46,11 @@ class Installed:
         self.room, self.library, self.share = room, PREFIX / "lib", PREFIX / "share" / "listset"
         self.include = f"-I{PREFIX / 'include'}"
 
+    def proof(self):
+        """What the library says of its proof."""
+        is_unproved = "without a proof" in (self.library / "pkgconfig" / "listset.pc").read_text()
+        return "proof missing" if is_unproved else "proof checked"
+
     def works(self, sanitizer):
         """Whether the compiler and this machine have a sanitizer."""
         source, made = self.room / "small.c", self.room / "small"
@@ -69,7 +74,7 @@ class Installed:
             flags = well("pkg-config", "--cflags", "--libs", "listset", env=how).split()
         return [*flags, f"-Wl,-rpath,{self.library}"]
 
-    def page(self, language, ending, name="listset.?.?check"):
+    def page(self, language, ending, name="listset.{1,3}judge"):
         """The file of the program of docs/FOREIGN.md that calls the function of this name."""
         found = re.findall(rf"^```{language}\n(.*?)^```$", (TOP / "docs" / "FOREIGN.md").read_text(), re.M | re.S)
         found = [it for it in found if re.search(name, it)]
@@ -80,12 +85,13 @@ class Installed:
         return made
 
     def first_program(self, language, *words, **how):
-        """What comes of a first program on a report that is right, and on one that is refused."""
-        for name, status, says in (("snip.report", 0, ""), ("snip.broken.report", 1, "refused ")):
-            with open(EXAMPLES / name) as report:
-                done = ran(words, stdin=report, **how)
+        """What comes of a first program on calls that an order explains, and on some that none does."""
+        refused = (TOP / "examples" / "recorders" / "both-true.calls").read_text()
+        right = refused.replace("call 1 add 5 2 - 3 true", "call 1 add 5 2 - 3 false")
+        for text, status, says in ((right, 0, "ok 3 calls\n"), (refused, 1, "not linearizable\n")):
+            done = ran(words, stdin=None, input=text, **how)
             if done.returncode != status or not done.stdout.startswith(says):
-                raise Wrong(f"the program in {language} of docs/FOREIGN.md on {name}: {done}")
+                raise Wrong(f"the program in {language} of docs/FOREIGN.md on {text}: {done}")
 
 
 test = test_on(Installed)
@@ -150,7 +156,7 @@ def c(it):
 @test
 def cpp(it):
     made, first, how = it.room / "made", it.room / "first", [MEMORY] if it.works(MEMORY) else []
-    for name in ("judge.cpp", "sets.cpp"):
+    for name in ("judge.cpp", "sets.cpp", "judged.cpp"):
         well("g++", "-std=c++17", *WARN, *how, TESTS / name, *it.flags(), "-pthread", "-o", made)
         well(made)
     well("g++", "-std=c++17", *WARN, it.page("cpp", "cpp", "listset::open"), *it.flags(), "-pthread", "-o", first)
@@ -173,11 +179,31 @@ def rust(it):
     manifest.write_text(f"[package]\nname = 'first'\nversion = '0.0.0'\nedition = '2021'\n\n{needs}")
     well(*cargo, "build", *target, "--manifest-path", manifest)
     it.first_program("rust", it.room / "target" / "debug" / "first")
+    first = ["my_set_is_linearizable", "--", "--nocapture"]
+    how = {"env": {**os.environ, "LISTSET_LIB": str(it.library)}}
+    is_judged(well(*cargo, "test", "--locked", *target, "--manifest-path", FORMS / "rust" / "Cargo.toml", *first, **how), it.proof())
+
+
+@needs("go", "pkg-config", "gcc")
+@test
+def go(it):
+    how = {**os.environ, "PKG_CONFIG_PATH": str(it.library / "pkgconfig"), "LD_LIBRARY_PATH": str(it.library), "GOPROXY": "off"}
+    shutil.copytree(FORMS / "go", it.room / "go")
+    first = ["go", "test", "-tags", "listset", "-run", "TestIsLinearizable", "-v"]
+    is_judged(well(*first, cwd=it.room / "go", env={**how, "GOCACHE": str(it.room / "cache")}), it.proof())
+
+
+def is_judged(said, proof):
+    """That a set of one's own was judged by the library."""
+    if f"; judge: liblistset, {proof}" not in said:
+        raise Wrong(f"the library was no judge: {said[-2000:]}")
 
 
 @test
 def python(it):
     how = {"env": {**os.environ, "PYTHONPATH": str(it.share)}}
     well(sys.executable, "-B", TESTS / "judge.py", EXAMPLES, **how)
+    first = [sys.executable, "-B", "-m", "unittest", "test_sets.Sets.test_my_set_is_linearizable"]
+    is_judged(well(*first, cwd=FORMS / "python", **how), it.proof())
     well(sys.executable, "-B", TESTS / "sets.py", **how)
     it.first_program("python", sys.executable, "-B", it.page("python", "py"), **how)

@@ -10,7 +10,7 @@ CALL = "lset_words/src/lib.rt", "Call", ["Add", "Remove", "Contains", "Ceiling"]
 REPLY = "lset_words/src/lib.rt", "Reply", ["True", "False", "Full", "At", "Nothing"]
 CALL_WORD = "lset_text/src/words.rt", "CallWord", ["Add", "Remove", "Contains", "Ceiling"]
 EXCHANGE = "lset_session/specs/SessionText.antt", "Exchange", ["made", "bad", "bye", "too_long", "at_limit"]
-HELD = "ffi_c/src/held.rt", "Held", ["Coarse", "Fine", "Optimistic", "Lazy", "LockFree", "Closed", "Nothing"]
+HELD = "ffi_sets/src/held.rt", "Held", ["Coarse", "Fine", "Optimistic", "Lazy", "LockFree", "Closed", "Nothing"]
 WHY = "lset_session/src/sessions.rt", "Why", ["Quit", "End", "Long", "Limit", "ReadFault", "WriteFault"]
 REQUEST = "lset_session/src/requests.rt", "Request", ["Call", "Quit", "Bad"]
 TROUBLE = "tool_base/src/trouble.rt", "Trouble", [
@@ -34,9 +34,9 @@ LAST_ROWS = [
     ("tool_run/specs/Running.antt", "EndsRun asked trouble = ⊥", [TROUBLE, WORK]),
     ("tool_run/specs/Running.antt", "EndsLife opening trouble = ⊥", [TROUBLE, WORK]),
     ("tool_serve/specs/Serving.antt", "EndsServer other line old new = ⊥", [TROUBLE]),
-    ("ffi_c/specs/Calls.antt", "at_of r a = a", [REPLY]),
-    *(("ffi_c/specs/Sets.antt", f"{it}_in h = None", [HELD]) for it in ("table", "set", "number", "seat", "kind", "keys")),
-    ("ffi_c/specs/Sets.antt", "spare_in h = []", [HELD]),
+    ("ffi_sets/specs/Calls.antt", "at_of r a = a", [REPLY]),
+    *(("ffi_sets/specs/Sets.antt", f"{it}_in h = None", [HELD]) for it in ("table", "set", "number", "seat", "kind", "keys")),
+    ("ffi_sets/specs/Sets.antt", "spare_in h = []", [HELD]),
 ]
 
 

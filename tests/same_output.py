@@ -44,7 +44,8 @@ def words_of_texts():
         yield from ([*words.split(), str(file.relative_to(TOP))] for words in ["replay", "trace", "trace --chain", *OF_BOTH])
     for file in files_of("examples/schedules/**/*.report"):
         yield from ([*words.split(), str(file.relative_to(TOP))] for words in ["check", *OF_BOTH])
-    yield from (["report", str(file.relative_to(TOP))] for file in files_of("tests/transcripts/data/recorded/*.calls"))
+    for file in files_of("tests/transcripts/data/recorded/*.calls"):
+        yield from ([words, str(file.relative_to(TOP))] for words in ["report", "judge"])
     yield from (["draft", str(file.relative_to(TOP))] for file in files_of("tests/transcripts/data/drafts/*.draft"))
 
 

@@ -57,6 +57,12 @@ def judges_recorded_calls():
     listset.check(listset.report(calls))
     assert wrong(listset.check, listset.report(calls.replace("key 5\n", ""))) == (1, "WrongSet")
     assert wrong(listset.report, calls.replace("1 3 6", "1 - 6")) == (1, "Point")
+    assert listset.judge_text(calls) == listset.judge_text(calls.replace("1 3 6", "1 - 6").encode()) == "ok 2 calls\n"
+    try:
+        listset.judge_text(calls.replace("key 5\n", ""))
+        raise AssertionError("a key is left out")
+    except listset.Wrong as fault:
+        assert fault.status == 1 and fault.text.startswith("not linearizable\n"), fault
 
 
 def main():

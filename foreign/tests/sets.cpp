@@ -44,7 +44,33 @@ static bool is_right(list kind) {
   return seats[0].close() == due;
 }
 
+// The same behind one set, of fewer seats than threads.
+static bool is_right_shared(list kind) {
+  listset::shared set(kind, 3, 2000);
+  std::vector<std::thread> threads;
+  for (uint32_t at = 0; at < 4; at++)
+    threads.emplace_back([&set, at] {
+      for (uint32_t key = at; key < 4000; key += 4) set.add(key);
+      for (uint32_t key = at; key < 4000; key += 4)
+        if (key % 3 == 0) set.remove(key);
+    });
+  for (std::thread &thread : threads) thread.join();
+  std::vector<uint32_t> due;
+  for (uint32_t key = 0; key < 4000; key++)
+    if (key % 3 != 0) due.push_back(key);
+  return set.contains(1) && set.ceiling(3) == 4u && set.close() == due;
+}
+
+static void expect_shared() {
+  for (list kind : {list::coarse, list::fine, list::optimistic, list::lazy, list::lock_free}) expect(is_right_shared(kind), "shared keys");
+  listset::shared few(list::lazy, 2, 1, {5});
+  expect(few.add(1) == added::is_new && few.add(2) == added::is_new && few.add(3) == added::full, "each seat's quota is used");
+  expect(few.add(1) == added::not_new && few.close() == std::vector<uint32_t>({1, 2, 5}), "shared, closed");
+  expect(thrown([] { listset::shared(list::lazy, 65, 1); }) == LISTSET_BAD_SEATS, "too many shared seats");
+}
+
 int main() {
+  expect_shared();
   for (list kind : {list::coarse, list::fine, list::optimistic, list::lazy, list::lock_free}) expect(is_right(kind), "keys of a list");
   seat mine = listset::open(list::lazy, 2, 1, {5, 9}), split = mine.split(), other = listset::open(list::lazy, 1, 1), none;
   expect(thrown([&] { mine.split(); }) == LISTSET_NO_MORE, "no seat is left");

@@ -21,7 +21,7 @@ static const struct {
     {"replay", listset_replay, listset_replay},
     {"report", listset_report, listset_report},
     {"check", listset_check, listset_check},
-    {"report", listset_report, listset_report},
+    {"judge", listset_judge, listset_judge},
     {"draft", listset_draft, listset_draft},
     {"trace", listset_trace, listset_trace_with_chains},
 };

@@ -20,6 +20,7 @@ ghost use Rattle.tool_base.specs.Generating.{Generates};
 ghost use Rattle.tool_draft.specs.Drafting.{Drafts};
 ghost use Rattle.tool_trace.specs.Tracing.{Traces};
 ghost use Rattle.tool_examples.specs.Exampling.{Exampled};
+ghost use Rattle.tool_judge.specs.Judging.{Judges};
 ghost use Rattle.tool_broken.specs.BrokenTools as broken;
 ghost use Rattle.ffi_page.specs.Page.{Hands, OfText, MakesBroken, OfWords, ShowsBy, ShowsBrokenBy};
 
@@ -31,6 +32,7 @@ use tool_base::{checked, faults_told, replayed, reported};
 use tool_broken::{replayed_broken, traced_broken};
 use tool_draft::drafted;
 use tool_examples::{exampled, exampled_by};
+use tool_judge::judge_bytes;
 use tool_trace::traced;
 
 /// What `listset replay` prints of the schedule whose text is given: its report, or the line about the first fault of the
@@ -59,6 +61,21 @@ pub extern "C" fn listset_report(
     ensures { Hands (OfText Reports text.now) room.old room.new status.new result }
 {
     hand(alloc, reported(alloc, text), room, status)
+}
+
+/// What `listset judge` prints of the recorded calls whose text is given: `ok N calls` if some order explains them, and `not
+/// linearizable` with the calls that show it and status 1 if none does; or the line about the first fault of the text, or about one
+/// that is too long.
+#[unsafe(no_mangle)]
+pub extern "C" fn listset_judge(
+    alloc: Global,
+    text: &[u8],
+    room: &mut [u8],
+    status: &mut u8,
+) -> usize
+    ensures { Hands (OfText Judges text.now) room.old room.new status.new result }
+{
+    hand(alloc, judge_bytes(alloc, text), room, status)
 }
 
 /// What `listset check` prints of the report whose text is given: `ok`, or the first fault of its order with status 1; or

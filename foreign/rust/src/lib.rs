@@ -1,4 +1,4 @@
-//! Sorted-list sets that threads share ([`open`], [`Seat`]), and their judge in one's own process: a text in, a text out. Both are
+//! Sorted-list sets that threads share ([`open`], [`Seat`], [`Shared`]), and their judge in one's own process: a text in, a text out. Both are
 //! the functions of `liblistset.a`, of which it is proved what they do.
 //!
 //! ```
@@ -17,8 +17,10 @@ use std::fmt::{self, Display};
 
 mod calls;
 mod sets;
+mod shared;
 
 pub use sets::{open, Added, Fault, List, Seat};
+pub use shared::Shared;
 
 use calls::{of_room, of_text, of_two_texts};
 
@@ -63,6 +65,11 @@ pub fn replay(schedule: impl AsRef<[u8]>) -> Result<String, Wrong> {
 /// The report of recorded calls.
 pub fn report(calls: impl AsRef<[u8]>) -> Result<String, Wrong> {
     of_text(calls::listset_report, calls.as_ref())
+}
+
+/// `ok N calls` if some order explains recorded calls; else the few calls that show that none does.
+pub fn judge_text(calls: impl AsRef<[u8]>) -> Result<String, Wrong> {
+    of_text(calls::listset_judge, calls.as_ref())
 }
 
 /// Whether the order of a report explains its calls; else the first fault.

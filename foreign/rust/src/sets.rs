@@ -124,7 +124,7 @@ pub struct Seat {
     raw: Raw,
 }
 
-// SAFETY: the crate ffi_c proves that what a seat holds may go to another thread.
+// SAFETY: the crate ffi_sets proves that what a seat holds may go to another thread.
 unsafe impl Send for Seat {}
 
 /// Opens a set with so many seats, each of which may put in as many keys as the quota says, and with keys that rise. The seat has

@@ -3,7 +3,7 @@
 use std::collections::BTreeSet;
 use std::thread::scope;
 
-use listset::{open, Added, Fault, List, Seat};
+use listset::{open, Added, Fault, List, Seat, Shared};
 
 const LISTS: [List; 5] = [List::Coarse, List::Fine, List::Optimistic, List::Lazy, List::LockFree];
 const THREADS: u32 = 4;
@@ -50,6 +50,34 @@ fn each_list_keeps_what_its_threads_put_in() {
         }
         assert_eq!(all.close().map_err(|it| it.1).unwrap(), Vec::from_iter(left), "{list:?}");
     }
+}
+
+#[test]
+fn more_threads_than_seats_share_a_set() {
+    for list in LISTS {
+        let set = Shared::open(list, 2, 16_384, &[]).unwrap();
+        let run = |thread: u32| {
+            let own = thread * OWN..(thread + 1) * OWN;
+            for key in own.clone().cycle().take(CALLS as usize) {
+                assert_eq!((set.add(key), set.contains(key), set.ceiling(key)), (Added::True, true, Some(key)));
+                assert!(set.remove(key) && !set.remove(key));
+            }
+            own.filter(|key| key % 3 == 0).for_each(|key| assert_eq!(set.add(key), Added::True));
+        };
+        let run = &run;
+        scope(|threads| (0..THREADS).for_each(|thread| _ = threads.spawn(move || run(thread))));
+        let due: Vec<u32> = (0..THREADS * OWN).filter(|key| key % 3 == 0).collect();
+        assert_eq!(set.close().map_err(|it| it.1).unwrap(), due, "{list:?}");
+    }
+}
+
+#[test]
+fn a_shared_set_uses_the_quota_of_each_seat() {
+    let set = Shared::open(List::Lazy, 2, 1, &[5]).unwrap();
+    assert_eq!([1, 2, 3, 1].map(|key| set.add(key)), [Added::True, Added::True, Added::Full, Added::False]);
+    assert_eq!(set.close().map_err(|it| it.1).unwrap(), [1, 2, 5]);
+    assert_eq!(Shared::open(List::Lazy, 65, 1, &[]).err(), Some(Fault::Seats));
+    assert_eq!(Shared::open(List::Lazy, 0, 1, &[]).err(), Some(Fault::Seats));
 }
 
 #[test]

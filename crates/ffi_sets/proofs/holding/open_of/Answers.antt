@@ -1,0 +1,22 @@
+use Rattle.std.proofs.Common.{◌≡◌, ◌∙◌, ◌<◌, IfSome, length, ap, sym, subst, arith}
+use Rattle.std.proofs.lemmas.List.FromFn.{length-map-range_with_len}
+use Rattle.lset_live.specs.Seats.{new_seat}
+use Rattle.ffi_sets.specs.Facts.{AreOf}
+use Rattle.ffi_sets.proofs.Adding.{opened_are}
+use Rattle.ffi_sets.proofs.holding.open_of.Goals as goal
+
+pub invariant_of-result : goal.invariant_of-result
+invariant_of-result g c =
+    let set = sym c.in-Ok.ensures.ok in
+    let rest = c.pop-seat.new.self.items in
+    let are = opened_are c.in_ok-set.set c.args.seats rest c.pop-seat.result
+    (sym c.pop-seat.ensures.items ∙ c.in_ok-set.ensures.opened.1) in
+    record {
+      seat_of = subst (λ v. IfSome c.pop-seat.result (λ s. s.set ≡ v)) set are.0;
+      spare_of = subst (λ v. AreOf v rest) set are.1;
+    }
+
+pub returns-clause-seat : goal.returns-clause-seat
+returns-clause-seat g c =
+    let many = ap length c.in_ok-set.ensures.opened.1 ∙ length-map-range_with_len (new_seat c.in_ok-set.set) 0 c.args.seats in
+    c.pop-seat.ensures.variant.1 (omega (arith, many, c.in_ok-set.ensures.within.within.some))

@@ -1,0 +1,61 @@
+//! What is done with seats of C, and the number that C is answered.
+ghost use Rattle.std.specs.Prelude.{◌≡◌, ◌⊎◌, true, false};
+ghost use Rattle.ffi_sets.specs.Calls.{HasMade, code_of};
+ghost use Rattle.ffi_sets.specs.Sets.{number_of_fault};
+
+use crate::codes::{BAD_KEYS, BAD_QUOTA, BAD_SEATS, DONE, NO_SEAT, OUT_OF_MEMORY};
+use crate::each::call_held;
+use crate::held::Held;
+use crate::seat::{CSeat, put, take};
+use lset_live::OpenFault;
+use lset_words::{Call, Reply};
+use std::alloc::Global;
+
+pub fn reply_code(reply: Option<Reply>) -> u8
+    ensures { result ≡ code_of reply }
+{
+    match reply {
+        Some(Reply::False) => 0,
+        Some(Reply::True) => 1,
+        Some(Reply::Full) => 2,
+        Some(Reply::At(_)) => 3,
+        Some(Reply::Nothing) => 4,
+        None => NO_SEAT,
+    }
+}
+
+pub fn fault_code(fault: OpenFault) -> u8
+    ensures { result ≡ number_of_fault fault }
+{
+    match fault {
+        OpenFault::Seats => BAD_SEATS,
+        OpenFault::Quota => BAD_QUOTA,
+        OpenFault::Opening => BAD_KEYS,
+        OpenFault::Memory => OUT_OF_MEMORY,
+    }
+}
+
+pub fn made(alloc: Global, seat: &mut CSeat, call: Call) -> u8
+    ensures { HasMade seat.old.full seat.old.held call result seat.new.full seat.new.held }
+{
+    let Some(mut held) = take(alloc, seat) else {
+        return NO_SEAT;
+    };
+    let reply = call_held(&mut held, call);
+    put(seat, held);
+    reply_code(reply)
+}
+
+/// Has the empty seat hold this, in a box of its own. `OUT_OF_MEMORY` where there is none.
+pub fn put_new(alloc: Global, seat: &mut CSeat, held: Held) -> u8
+    requires { seat.old.full ≡ false }
+    ensures { ((result ≡ 0) × (seat.new.full ≡ true) × (seat.new.held ≡ held)) ⊎ ((result ≡ 13) × (seat.new.full ≡ false)) }
+{
+    match Box::new(alloc, held) {
+        Ok(boxed) => {
+            put(seat, boxed);
+            DONE
+        }
+        Err(_) => OUT_OF_MEMORY,
+    }
+}

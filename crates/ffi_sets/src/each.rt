@@ -1,0 +1,127 @@
+//! The same of whatever a seat of C holds, list by list.
+ghost use Rattle.std.specs.Prelude.{◌≡◌, ◌<◌, [], true, false, IsSome, IfOk, IfErr, MatchOption, MatchResult, length};
+ghost use Rattle.ffi_sets.specs.Sets.{AreAtFront, AreGiven, Gathers, HasClosed, IsBoth, IsKept, IsOneSeat, IsOpenedAs, HasNoneToSplit, RefusesToClose};
+ghost use Rattle.ffi_sets.specs.Sets.{gathers, keys_in, seat_in, set_in, spare_in};
+ghost use Rattle.lset_live.specs.Seats.{RefusesOpening};
+ghost use Rattle.ffi_sets.specs.Calls.{HasCalledHeld};
+ghost use Rattle.ffi_sets.specs.declared.held.Held.TheVariants.{Closed};
+
+use crate::codes::{NO_MORE, NO_SEAT};
+use crate::held::Held;
+use crate::holding::open_of;
+use lset_live::OpenFault;
+use lset_words::{Call, Reply};
+use std::alloc::Global;
+
+/// Opens a set of the list with this number; `None` where there is no such list.
+pub fn open_held(
+    alloc: Global,
+    kind: u8,
+    seats: u32,
+    quota: u32,
+    number: u64,
+    keys: &[u32],
+) -> Result<Option<Held>, OpenFault>
+    ensures opened { IfOk result (λ h. MatchOption h (4 < kind) (IsOpenedAs kind (record { threads = seats; quota = quota; keys = keys.now }) number)) }
+    ensures refused { IfErr result (λ f. (kind < 5) × RefusesOpening (record { threads = seats; quota = quota; keys = keys.now }) f) }
+{
+    Ok(Some(match kind {
+        0 => Held::Coarse(open_of(alloc, seats, quota, number, keys)?),
+        1 => Held::Fine(open_of(alloc, seats, quota, number, keys)?),
+        2 => Held::Optimistic(open_of(alloc, seats, quota, number, keys)?),
+        3 => Held::Lazy(open_of(alloc, seats, quota, number, keys)?),
+        4 => Held::LockFree(open_of(alloc, seats, quota, number, keys)?),
+        _ => return Ok(None),
+    }))
+}
+
+/// What a seat of C holds makes a call.
+pub fn call_held(held: &mut Held, call: Call) -> Option<Reply>
+    ensures { HasCalledHeld held.old call result held.new }
+{
+    match held {
+        Held::Coarse(of) => of.call(call),
+        Held::Fine(of) => of.call(call),
+        Held::Optimistic(of) => of.call(call),
+        Held::Lazy(of) => of.call(call),
+        Held::LockFree(of) => of.call(call),
+        Held::Closed(_) | Held::Nothing => None,
+    }
+}
+
+/// Splits a seat off; else the code why not.
+pub fn split_held(held: &mut Held, alloc: Global) -> Result<Held, u8>
+    ensures split { MatchResult result (λ h. (seat_in held.new ≡ seat_in held.old) × IsOneSeat (seat_in h) (spare_in h) × IsBoth held.new h held.old)
+        (λ n. IsKept held.old held.new × HasNoneToSplit (spare_in held.old) n) }
+{
+    Ok(match held {
+        Held::Coarse(of) => Held::Coarse(of.split(alloc)?),
+        Held::Fine(of) => Held::Fine(of.split(alloc)?),
+        Held::Optimistic(of) => Held::Optimistic(of.split(alloc)?),
+        Held::Lazy(of) => Held::Lazy(of.split(alloc)?),
+        Held::LockFree(of) => Held::LockFree(of.split(alloc)?),
+        Held::Closed(_) | Held::Nothing => return Err(NO_MORE),
+    })
+}
+
+/// Takes a seat of the same set in; gives it back where they are not two seats of one list and number.
+pub fn gather_held(alloc: Global, into: &mut Held, from: Held) -> Option<Held>
+    requires { Gathers into.old from }
+    ensures { MatchOption result ((gathers into.old from ≡ true) × IsSome (seat_in into.new) × IsBoth into.old from into.new)
+        (λ back. (gathers into.old from ≡ false) × (into.new ≡ into.old) × (back ≡ from)) }
+{
+    Some(match (into, from) {
+        (Held::Coarse(into), Held::Coarse(from)) => Held::Coarse(into.gather(alloc, from)?),
+        (Held::Fine(into), Held::Fine(from)) => Held::Fine(into.gather(alloc, from)?),
+        (Held::Optimistic(into), Held::Optimistic(from)) => Held::Optimistic(into.gather(
+            alloc, from,
+        )?),
+        (Held::Lazy(into), Held::Lazy(from)) => Held::Lazy(into.gather(alloc, from)?),
+        (Held::LockFree(into), Held::LockFree(from)) => Held::LockFree(into.gather(alloc, from)?),
+        (_, from) => from,
+    })
+}
+
+/// Closes the set where all its seats are within, and gives its keys; else what is held, with the code why not.
+pub fn close_held(alloc: Global, held: Held) -> Result<Vec<u32>, (Held, u8)>
+    ensures closed { IfOk result (λ keys. HasClosed held (Closed keys)) }
+    ensures refused { IfErr result (λ r. RefusesToClose (set_in held) (seat_in held) (spare_in held) r.1 × IsKept held r.0) }
+{
+    match held {
+        Held::Coarse(of) => of
+            .close(alloc)
+            .map_err(|(of, code)| (Held::Coarse(of), code)),
+        Held::Fine(of) => of.close(alloc).map_err(|(of, code)| (Held::Fine(of), code)),
+        Held::Optimistic(of) => of
+            .close(alloc)
+            .map_err(|(of, code)| (Held::Optimistic(of), code)),
+        Held::Lazy(of) => of.close(alloc).map_err(|(of, code)| (Held::Lazy(of), code)),
+        Held::LockFree(of) => of
+            .close(alloc)
+            .map_err(|(of, code)| (Held::LockFree(of), code)),
+        other => Err((other, NO_SEAT)),
+    }
+}
+
+/// Puts the keys at the front of the room where it is long enough, and gives how many they are.
+fn put_keys(keys: &[u32], room: &mut [u32]) -> usize
+    ensures count { result ≡ length keys.now }
+    ensures given { AreAtFront keys.now room.old room.new }
+{
+    let count = keys.len();
+    if count <= room.len() {
+        room[..count].copy_from_slice(keys);
+    }
+    count
+}
+
+/// The keys of a closed set, at the front of the room where it is long enough; gives how many they are, or `usize::MAX` where it
+/// is no closed set.
+pub fn keys_held(held: &Held, room: &mut [u32]) -> usize
+    ensures { AreGiven (keys_in held.now) room.old room.new result }
+{
+    match held {
+        Held::Closed(keys) => put_keys(keys, room),
+        _ => usize::MAX,
+    }
+}

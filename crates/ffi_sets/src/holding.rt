@@ -1,0 +1,205 @@
+//! What is done with a seat of a set.
+ghost use Rattle.std.specs.Prelude.{◌≡◌, ◌↔◌, ◌≤◌, [], Some, true, false, IfOk, IfErr, IsSome, IsTrue};
+ghost use Rattle.std.specs.Prelude.{MatchOption, MatchResult, vec_capacity};
+ghost use Rattle.std.specs.Arc.{arc_value};
+ghost use Rattle.lset_words.specs.Words.{Opens, sizes};
+ghost use Rattle.lset_live.specs.Closes.{most_keys};
+ghost use Rattle.lset_live.specs.Seats.{RefusesOpening};
+ghost use Rattle.ffi_sets.specs.Calls.{HasCalledOf};
+ghost use Rattle.ffi_sets.specs.Facts.{AreOf};
+ghost use Rattle.ffi_sets.specs.Sets.{AddUp, AreLeft, HasNoneToSplit, IsOneSeat, IsWhole, OpensWith, RefusesToClose};
+ghost use Rattle.ffi_sets.specs.Sets.{are_two, count_of, record_of};
+
+use crate::codes::{NO_MORE, OUT_OF_MEMORY, SEATS_OUT};
+use crate::held::Of;
+use crate::yielding::Yielding;
+use lset_live::{Bounded, Countless, LiveSet, OpenFault, Seat, open_with};
+use lset_words::{Call, Reply};
+use std::alloc::Global;
+use std::mem::replace;
+use std::sync::Arc;
+
+/// Opens a set, and gives one seat of it, with all others to be split off.
+pub fn open_of<M: Bounded>(
+    alloc: Global,
+    seats: u32,
+    quota: u32,
+    number: u64,
+    keys: &[u32],
+) -> Result<Of<M>, OpenFault>
+    ensures set { IfOk result (λ o. OpensWith (record { threads = seats; quota = quota; keys = keys.now }) (Some (arc_value o.set)) o.seat o.spare.items) }
+    ensures number { IfOk result (λ o. o.number ≡ number) }
+    ensures seat { IfOk result (λ o. IsSome o.seat) }
+    ensures opens { IfOk result (λ o. Opens (record { threads = seats; quota = quota; keys = keys.now })) }
+    ensures refused { IfErr result (RefusesOpening (record { threads = seats; quota = quota; keys = keys.now })) }
+{
+    let (set, mut spare) = open_with::<M>(alloc, seats, quota, keys)?;
+    let Ok(set) = Arc::new(alloc, set) else {
+        return Err(OpenFault::Memory);
+    };
+    let seat = spare.pop();
+    Ok(Of {
+        set,
+        number,
+        seat,
+        spare,
+    })
+}
+
+/// Gathers the seats into the one.
+fn gathered<M: Bounded>(set: &LiveSet<M>, seat: Seat<M>, spare: Vec<Seat<M>>) -> Seat<M>
+    requires seat { seat.set ≡ set.now }
+    requires spare { AreOf set.now spare.items }
+    ensures set { result.set ≡ set.now }
+    ensures held { result.held ≡ count_of (Some seat) spare.items }
+    ensures past { Some result.past ≡ record_of (Some seat) spare.items }
+{
+    let mut into = seat;
+    for other in spare {
+        set.gather(&mut into, other);
+    }
+    into
+}
+
+/// Closes the set, of which these are all seats, and puts its keys into the room.
+fn keys_left<M: Bounded>(
+    set: LiveSet<M>,
+    seat: Seat<M>,
+    spare: Vec<Seat<M>>,
+    room: Vec<u32>,
+) -> Vec<u32>
+    requires seat { seat.set ≡ set }
+    requires spare { AreOf set spare.items }
+    requires all { count_of (Some seat) spare.items ≡ set.shape.threads }
+    requires room { (room.items ≡ []) × (most_keys (sizes set.shape) ≤ vec_capacity room) }
+    ensures { AreLeft set (count_of (Some seat) spare.items) (record_of (Some seat) spare.items) result.items }
+{
+    let seat = gathered(&set, seat, spare);
+    let Ok(closed) = set.close(seat) else {
+        unreachable!()
+    };
+    let Ok(keys) = closed.keys_in(room) else {
+        unreachable!()
+    };
+    keys
+}
+
+impl<M: Bounded> Of<M> {
+    /// Makes a call. `None` where there is no seat, or the call did not end.
+    pub fn call(&mut self, call: Call) -> Option<Reply>
+        ensures set { arc_value self.new.set ≡ arc_value self.old.set }
+        ensures number { self.new.number ≡ self.old.number }
+        ensures spare { self.new.spare.items ≡ self.old.spare.items }
+        ensures called { HasCalledOf M.table (arc_value self.old.set) self.old.seat call result self.new.seat }
+    {
+        let seat = self.seat.take()?;
+        let (seat, reply) = self
+            .set
+            .call_within::<Yielding, Countless>(seat, call, &Yielding::new())?;
+        self.seat = Some(seat);
+        Some(reply)
+    }
+
+    /// Splits a seat off. Else the code why not: none is left, or memory was refused (the set has as many owners as can be counted).
+    pub fn split(&mut self, alloc: Global) -> Result<Of<M>, u8>
+        ensures set { arc_value self.new.set ≡ arc_value self.old.set }
+        ensures number { self.new.number ≡ self.old.number }
+        ensures seat { self.new.seat ≡ self.old.seat }
+        ensures split { MatchResult result (λ o. (arc_value o.set ≡ arc_value self.old.set) × (o.number ≡ self.old.number)
+            × IsOneSeat o.seat o.spare.items × AddUp self.new.seat self.new.spare.items o.seat o.spare.items self.old.seat self.old.spare.items)
+            (λ n. (self.new.spare.items ≡ self.old.spare.items) × HasNoneToSplit self.old.spare.items n) }
+    {
+        let Ok(set) = Arc::try_clone(&self.set) else {
+            return Err(OUT_OF_MEMORY);
+        };
+        let Some(seat) = self.spare.pop() else {
+            return Err(NO_MORE);
+        };
+        let spare = Vec::new(alloc);
+        Ok(Of {
+            set,
+            number: self.number,
+            seat: Some(seat),
+            spare,
+        })
+    }
+
+    /// Takes a seat of the same set in, with all that is to be split off either; gives it back where they have two numbers, or one
+    /// has no seat.
+    pub fn gather(&mut self, alloc: Global, from: Of<M>) -> Option<Of<M>>
+        requires { self.old.number ≡ from.number → arc_value self.old.set ≡ arc_value from.set }
+        ensures { MatchOption result ((are_two self.old.number from.number self.old.seat from.seat ≡ true) × IsSome self.new.seat
+            × (arc_value self.new.set ≡ arc_value self.old.set) × (self.new.number ≡ self.old.number)
+            × (arc_value self.new.set ≡ arc_value from.set) × (self.new.number ≡ from.number)
+            × AddUp self.old.seat self.old.spare.items from.seat from.spare.items self.new.seat self.new.spare.items)
+            (λ back. (are_two self.old.number from.number self.old.seat from.seat ≡ false) × (self.new ≡ self.old) × (back ≡ from)) }
+    {
+        if self.number != from.number || self.seat.is_none() || from.seat.is_none() {
+            return Some(from);
+        }
+        let Of {
+            set: _other,
+            number: _,
+            seat: taken,
+            spare: left,
+        } = from;
+        let (Some(seat), Some(taken)) = (self.seat.take(), taken) else {
+            unreachable!()
+        };
+        let spare = replace(&mut self.spare, Vec::new(alloc));
+        let mut seat = gathered(&self.set, seat, spare);
+        self.set.gather(&mut seat, gathered(&self.set, taken, left));
+        self.seat = Some(seat);
+        None
+    }
+
+    /// Whether all seats of the set are within.
+    fn has_all(&self) -> bool
+        ensures { IsTrue result ↔ IsWhole (arc_value self.now.set) self.now.seat self.now.spare.items }
+    {
+        let Some(seat) = &self.seat else {
+            return false;
+        };
+        let Some(others) = self.set.seats().checked_sub(seat.held()) else {
+            return false;
+        };
+        others as usize == self.spare.len()
+    }
+
+    /// Closes the set if all its seats are within, and gives its keys. Else all comes back with `SEATS_OUT`; and with `OUT_OF_MEMORY`
+    /// if there is no room for as many keys as there can be, or the set's own memory has another owner, which it has in no run.
+    pub fn close(self, alloc: Global) -> Result<Vec<u32>, (Of<M>, u8)>
+        ensures closed { IfOk result (λ keys. AreLeft (arc_value self.set) (count_of self.seat self.spare.items)
+            (record_of self.seat self.spare.items) keys.items) }
+        ensures refused { IfErr result (λ r. RefusesToClose (Some (arc_value self.set)) self.seat self.spare.items r.1
+            × (arc_value r.0.set ≡ arc_value self.set) × (r.0.number ≡ self.number)
+            × (r.0.seat ≡ self.seat) × (r.0.spare.items ≡ self.spare.items)) }
+    {
+        if !self.has_all() {
+            return Err((self, SEATS_OUT));
+        }
+        let Ok(room) = Vec::with_capacity(alloc, self.set.most_keys()) else {
+            return Err((self, OUT_OF_MEMORY));
+        };
+        let Of {
+            set,
+            number,
+            seat,
+            spare,
+        } = self;
+        let Some(seat) = seat else { unreachable!() };
+        match Arc::try_unwrap(set) {
+            Ok(set) => Ok(keys_left(set, seat, spare, room)),
+            Err(set) => {
+                let seat = Some(seat);
+                let kept = Of {
+                    set,
+                    number,
+                    seat,
+                    spare,
+                };
+                Err((kept, OUT_OF_MEMORY))
+            }
+        }
+    }
+}

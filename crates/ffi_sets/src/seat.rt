@@ -1,0 +1,76 @@
+//! A seat as C keeps it: a box behind a pointer.
+ghost use Rattle.std.specs.Prelude.{◌≡◌, true, false, MatchOption};
+ghost use Rattle.ffi_sets.specs.Owned.{seat_owns};
+ghost use Rattle.ffi_sets.specs.declared.held.Held.{Held};
+ghost use Rattle.ffi_sets.specs.contracts.held.Held.{the_row};
+
+use crate::held::Held;
+use crate::loose::Loose;
+use std::alloc::Global;
+use std::marker::Model;
+use std::mem::replace;
+
+/// A seat as C keeps it. Where it is full it owns a box, whose value is `held`; only an empty one is let go of.
+#[derive(Drop)]
+#[repr(C)]
+pub struct CSeat {
+    pub full: bool,
+    pub at: *mut u8,
+    pub ghost held: { Held } by { the_row.coded },
+}
+
+impl Model for CSeat {
+    ghost also_owns = { λ s. seat_owns s.full s.at s.held };
+}
+
+impl CSeat {
+    pub fn none() -> CSeat
+        ensures { result.full ≡ false }
+    {
+        CSeat {
+            full: false,
+            at: std::ptr::null_mut(),
+        }
+    }
+
+    fn of_loose(held: Loose<Held, Global>) -> CSeat
+        ensures { (result.full ≡ true) × (result.held ≡ held.value) }
+    {
+        let Loose { at, alloc: _ } = held;
+        CSeat {
+            full: true,
+            at: at as *mut u8,
+        }
+    }
+
+    fn into_loose(self, alloc: Global) -> Option<Loose<Held, Global>>
+        ensures { MatchOption result (self.full ≡ false) (λ l. (self.full ≡ true) × (l.value ≡ self.held)) }
+    {
+        let CSeat { full, at } = self;
+        if full {
+            Some(Loose {
+                at: at as *mut Held,
+                alloc,
+            })
+        } else {
+            None
+        }
+    }
+}
+
+/// Takes out what the seat holds, and leaves it empty.
+pub fn take(alloc: Global, seat: &mut CSeat) -> Option<Box<Held>>
+    ensures told { MatchOption result (seat.old.full ≡ false) (λ b. (seat.old.full ≡ true) × (b.value ≡ seat.old.held)) }
+    ensures left { seat.new.full ≡ false }
+{
+    let held = replace(seat, CSeat::none()).into_loose(alloc)?;
+    Some(held.into_box())
+}
+
+/// Has the empty seat hold this.
+pub fn put(seat: &mut CSeat, held: Box<Held>)
+    requires { seat.old.full ≡ false }
+    ensures { (seat.new.full ≡ true) × (seat.new.held ≡ held.value) }
+{
+    *seat = CSeat::of_loose(Loose::of(held));
+}

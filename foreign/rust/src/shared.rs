@@ -1,0 +1,84 @@
+//! A set that threads share without a seat for each.
+
+use std::sync::atomic::{AtomicUsize, Ordering};
+use std::sync::{Mutex, MutexGuard, PoisonError};
+
+use crate::{open, Added, Fault, List, Seat};
+
+/// A set behind `&self`, with a pool of seats: a call takes one that no other call uses, or waits for one.
+///
+/// What is proved is of seats: a seat's calls keep their order. Two calls of one thread may go by two seats.
+///
+/// ```
+/// use listset::{Added, List, Shared};
+///
+/// let set = Shared::open(List::LockFree, 4, 1000, &[])?;
+/// std::thread::scope(|threads| {
+///     threads.spawn(|| set.add(9));
+///     assert_eq!(set.add(7), Added::True);
+/// });
+/// assert_eq!(set.close().map_err(|it| it.1)?, [7, 9]);
+/// # Ok::<(), listset::Fault>(())
+/// ```
+#[derive(Debug)]
+pub struct Shared {
+    seats: Vec<Mutex<Seat>>,
+}
+
+impl Shared {
+    /// Opens a set with so many seats, each of which may put in as many keys as the quota says, and with keys that rise. As many calls
+    /// go on at once as there are seats.
+    pub fn open(list: List, seats: u32, quota: u32, keys: &[u32]) -> Result<Shared, Fault> {
+        let mut first = open(list, seats, quota, keys)?;
+        let mut all: Vec<Seat> = (1..seats).map(|_| first.split()).collect::<Result<_, _>>()?;
+        all.push(first);
+        Ok(Shared { seats: all.into_iter().map(Mutex::new).collect() })
+    }
+
+    /// Puts the key in, if it was not there; full if each seat has used its quota.
+    pub fn add(&self, key: u32) -> Added {
+        match self.by(|seat| seat.add(key)) {
+            Added::Full => self.seats.iter().map(|it| taken(it).add(key)).find(|it| *it != Added::Full).unwrap_or(Added::Full),
+            other => other,
+        }
+    }
+
+    /// Takes the key out, if it was there.
+    pub fn remove(&self, key: u32) -> bool {
+        self.by(|seat| seat.remove(key))
+    }
+
+    /// Whether the key is there.
+    pub fn contains(&self, key: u32) -> bool {
+        self.by(|seat| seat.contains(key))
+    }
+
+    /// The least key at or above this one, if there is one.
+    pub fn ceiling(&self, key: u32) -> Option<u32> {
+        self.by(|seat| seat.ceiling(key))
+    }
+
+    /// Ends the set, and gives the keys that are left; else the seat that has all others within it is given back.
+    pub fn close(self) -> Result<Vec<u32>, (Seat, Fault)> {
+        let mut seats = self.seats.into_iter().map(|it| it.into_inner().unwrap_or_else(PoisonError::into_inner));
+        let mut all = seats.next().expect("a set has a seat");
+        for seat in seats {
+            all.gather(seat).expect("they are seats of one set");
+        }
+        all.close()
+    }
+
+    /// Makes a call from a seat: a thread begins to look for a free one at its own place.
+    fn by<T>(&self, call: impl FnOnce(&mut Seat) -> T) -> T {
+        static THREADS: AtomicUsize = AtomicUsize::new(0);
+        thread_local!(static MINE: usize = THREADS.fetch_add(1, Ordering::Relaxed));
+        let mine = MINE.with(|it| *it) % self.seats.len();
+        let (before, from) = self.seats.split_at(mine);
+        let free = from.iter().chain(before).find_map(|it| it.try_lock().ok());
+        call(&mut free.unwrap_or_else(|| taken(&self.seats[mine])))
+    }
+}
+
+fn taken(seat: &Mutex<Seat>) -> MutexGuard<'_, Seat> {
+    seat.lock().unwrap_or_else(PoisonError::into_inner)
+}
